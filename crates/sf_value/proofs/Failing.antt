@@ -1,0 +1,26 @@
+-- Steps that fail, and the code's readers of numbers.
+use Rattle.std.proofs.Common.{◌≡◌, ℕ, suc, ◌-◌, ◌≤◌, ◌<◌, List, [], ◌∷◌, length, take, drop, get_or, Result, Ok, sym, ap, subst, ◌∙◌, arith}
+use Rattle.sf_value.specs.declared.read.Failure.{Failure}
+use Rattle.sf_value.specs.declared.read.Failure.TheVariants.{Bad, Wide}
+use Rattle.sf_value.specs.Scan.{Stop, ◌>>=◌, positive_at, integer_at, narrow, minus}
+use Rattle.sf_value.specs.Gives.{Fails}
+use Rattle.sf_value.proofs.Capped.{take_whole}
+use Rattle.sf_value.proofs.Integers.{PositiveSound, positive_sound}
+
+-- what fails at the first step fails
+pub fails_then : {X Y : Type 0} (e : Failure) (r : Result X Stop) (f : X → Result Y Stop) → Fails e r → Fails e (r >>= f)
+fails_then (Bad n) r f h = (h.0, ap (λ x. x >>= f) h.1, h.2)
+fails_then (Wide n) r f h = (h.0, ap (λ x. x >>= f) h.1, h.2)
+
+positive_is : (s : List ℕ) (m : ℕ) (after : List ℕ) → positive_at s ≡ Ok (m, after) → 0 < m
+positive_is s m after e = (subst (PositiveSound s) e (positive_sound s)).0
+
+-- a minus and a number after it
+pub minus_is : (s : List ℕ) (m : ℕ) (after : List ℕ) → 1 ≤ length s → get_or s 0 0 ≡ 45 → positive_at (take (length s - 1) (drop 1 s)) ≡ Ok (m, after)
+    → (0 < m) × (integer_at s ≡ narrow s (minus m) after)
+minus_is [] m after h d e = absurd (omega arith)
+minus_is (c ∷ rest) m after h d e =
+    let len : suc (length rest) - 1 ≡ length rest = omega arith in
+    let all : take (suc (length rest) - 1) rest ≡ rest = rw len (take_whole rest) in
+    let e' : positive_at rest ≡ Ok (m, after) = ap positive_at (sym all) ∙ e in
+    (positive_is rest m after e', subst (λ x. integer_at (x ∷ rest) ≡ narrow (x ∷ rest) (minus m) after) (sym d) (ap (λ o. o >>= (λ n. narrow (45 ∷ rest) (minus n.0) n.1)) e'))

@@ -1,0 +1,200 @@
+-- Reading whole numbers.
+use Rattle.std.proofs.Common.{◌≡◌, ℕ, zero, suc, ◌+◌, ◌-◌, ◌≤◌, ◌<◌, ℤ, pos, negsuc, Bool, true, false, cond, List, [], ◌∷◌, ◌++◌, length, Ok, Err, refl, sym, ap, subst, ◌∙◌, arith, append-nil, length-append}
+use Rattle.std.specs.Prelude.{⊤, ◌==◌, nat_lt, ◌&&◌}
+use Rattle.std.proofs.lemmas.Bool.Decides.{nat_tests}
+use Rattle.std.specs.Char.{is_ascii_digit}
+use Rattle.sf_value.specs.Digits.{BeginsNoDigit, value_after, digits_at, after_digits}
+use Rattle.sf_value.specs.Scan.{bad, fault, Scanned, ◌>>=◌, positive_at, integer_at, narrow, minus}
+use Rattle.sf_value.specs.Reading.{Cause, wide}
+use Rattle.sf_value.specs.Values.{is_narrow}
+use Rattle.sf_value.specs.Spelling.{natural, integer}
+use Rattle.sf_value.proofs.Numbers.{natural_small}
+use Rattle.sf_value.proofs.Digits.{AllDigits, natural_after, value_after_pos, numeral, digits_at-append, after_digits-append, cut, run_longest}
+use Rattle.sf_value.proofs.Readers.{Language, IsReader, Sound, Completes, Within, NoneBefore, never_grows}
+use Rattle.std.proofs.lemmas.Bool.{false≢true}
+
+-- a digit other than 0
+abbrev starts : ℕ → Bool
+starts c = nat_lt 48 c && is_ascii_digit c
+
+starts_low : (c : ℕ) → starts c ≡ true → 48 < c
+starts_low c h = grind (arith, nat_tests)
+
+starts_high : (c : ℕ) → starts c ≡ true → c < 58
+starts_high c h = grind (arith, nat_tests)
+
+starts_from : (c : ℕ) → 49 ≤ c → c < 58 → starts c ≡ true
+starts_from c l h = grind (arith, nat_tests)
+
+not_minus : (c : ℕ) → 48 < c → (c == 45) ≡ false
+not_minus c h = grind (arith, nat_tests)
+
+not_zero : (c : ℕ) → 48 < c → (c == 48) ≡ false
+not_zero c h = grind (arith, nat_tests)
+
+abbrev pub PositiveSound : List ℕ → Scanned ℕ → Type 0
+PositiveSound s (Ok p) = (0 < p.0) × (s ≡ natural p.0 ++ p.1) × BeginsNoDigit p.1
+PositiveSound s (Err (bad r)) = r ≡ s
+PositiveSound s (Err (fault c r)) = ⊥
+
+one_digit : (c : ℕ) → 48 < c → c < 58 → natural (c - 48) ≡ c ∷ []
+one_digit c l h = let same : 48 + (c - 48) ≡ c = omega arith in natural_small (c - 48) (omega arith) ∙ rw same refl
+
+positive_sound_at : (c : ℕ) (s : List ℕ) (b : Bool) → starts c ≡ b → PositiveSound (c ∷ s) (cond b (Ok (value_after (c - 48) (digits_at s), after_digits s)) (Err (bad (c ∷ s))))
+positive_sound_at c s true e =
+    let low = starts_low c e in
+    let high = starts_high c e in
+    let k = cut s in
+    let is : natural (value_after (c - 48) (digits_at s)) ≡ c ∷ digits_at s = natural_after (c - 48) (digits_at s) (omega arith) k.0 ∙ ap (λ x. x ++ digits_at s) (one_digit c low high) in
+    (value_after_pos (c - 48) (digits_at s) (omega arith), ap (λ x. c ∷ x) k.1 ∙ ap (λ x. x ++ after_digits s) (sym is), k.2)
+positive_sound_at c s false e = refl
+
+pub positive_sound : (s : List ℕ) → PositiveSound s (positive_at s)
+positive_sound [] = refl
+positive_sound (c ∷ s) = positive_sound_at c s (starts c) refl
+
+positive_digits : (c : ℕ) (ds more : List ℕ) → 49 ≤ c → c < 58 → AllDigits ds → BeginsNoDigit more → positive_at (c ∷ (ds ++ more)) ≡ Ok (value_after (c - 48) ds, more)
+positive_digits c ds more l h a b = rw (starts_from c l h, digits_at-append ds more a b, after_digits-append ds more a b) refl
+
+positive_read : (n : ℕ) (more : List ℕ) → 0 < n → BeginsNoDigit more → positive_at (natural n ++ more) ≡ Ok (n, more)
+positive_read n more h b =
+    let r = numeral n h in
+    ap (λ x. positive_at (x ++ more)) r.is ∙ positive_digits r.head r.tail more r.low r.high r.digits b ∙ ap (λ x. Ok (x, more)) r.value
+
+AllDigits_front : (f m : List ℕ) → AllDigits (f ++ m) → AllDigits f
+AllDigits_front [] m a = tt
+AllDigits_front (c ∷ f) m a = (a.0, AllDigits_front f m a.1)
+
+positive_within : (s : List ℕ) (o : Scanned ℕ) → PositiveSound s o → Within s o
+positive_within s (Ok p) h = let e = ap length h.1 in omega (arith, e, length-append (natural p.0) p.1)
+positive_within s (Err (bad r)) h = let e = ap length h in omega arith
+positive_within s (Err (fault c r)) h = tt
+
+positive_longest : (n : ℕ) (f more back : List ℕ) → 0 < n → natural n ≡ f ++ more → Within back (positive_at (f ++ back))
+positive_longest n [] more back h e = positive_within back (positive_at back) (positive_sound back)
+positive_longest n (d ∷ f) more back h e =
+    let r = numeral n h in
+    let g : r.head ∷ r.tail ≡ d ∷ (f ++ more) = sym r.is ∙ e in
+    let hd : r.head ≡ d = cc in
+    let tl : r.tail ≡ f ++ more = cc in
+    let a : AllDigits f = AllDigits_front f more (subst AllDigits tl r.digits) in
+    let low : 49 ≤ d = omega (arith, r.low, hd) in
+    let high : d < 58 = omega (arith, r.high, hd) in
+    rw (starts_from d low high) (run_longest f back a)
+
+plain_at : (c : ℕ) (t : List ℕ) (n : ℕ) (more : List ℕ) → 48 < c → positive_at (c ∷ t) ≡ Ok (n, more) → integer_at (c ∷ t) ≡ narrow (c ∷ t) (pos n) more
+plain_at c t n more l e = rw (not_minus c l, not_zero c l) (ap (λ o. o >>= (λ m. narrow (c ∷ t) (pos m.0) m.1)) e)
+
+-- a number is read where it stands alone
+pub integer_read : (z : ℤ) (more : List ℕ) → BeginsNoDigit more → integer_at (integer z ++ more) ≡ narrow (integer z ++ more) z more
+integer_read (pos zero) more b = rw (natural_small 0 (omega arith)) refl
+integer_read (pos (suc n)) more b =
+    let r = numeral (suc n) (omega arith) in
+    subst (λ x. integer_at (x ++ more) ≡ narrow (x ++ more) (pos (suc n)) more) (sym r.is)
+    (plain_at r.head (r.tail ++ more) (suc n) more (omega (arith, r.low)) (subst (λ x. positive_at (x ++ more) ≡ Ok (suc n, more)) r.is (positive_read (suc n) more (omega arith) b)))
+integer_read (negsuc n) more b =
+    let e : suc n - 1 ≡ n = omega arith in
+    ap (λ o. o >>= (λ m. narrow (45 ∷ (natural (suc n) ++ more)) (minus m.0) m.1)) (positive_read (suc n) more (omega arith) b)
+    ∙ ap (λ k. narrow (45 ∷ (natural (suc n) ++ more)) (negsuc k) more) e
+
+pub shown_alone : (v : ℤ) (before : List ℕ) (z : ℤ) → before ≡ [] → z ≡ v → integer v ≡ before ++ (integer z ++ [])
+shown_alone v before z b e = ap integer (sym e) ∙ sym (append-nil (integer z)) ∙ ap (λ x. x ++ (integer z ++ [])) (sym b)
+
+-- whole numbers, of which those outside signed 64 bits have a fault
+abbrev pub integers : Language ℤ
+integers = record {
+  Fit = λ _. ⊤;
+  text = integer;
+  Fault = λ n before c z. (before ≡ []) × (c ≡ wide) × (z ≡ n) × (is_narrow n ≡ false);
+  some = pos 0;
+  some_fit = tt;
+  shown = λ v before c z f. ([], shown_alone v before z f.0 f.2);
+}
+
+narrow_sound : (s : List ℕ) (z : ℤ) (rest : List ℕ) → s ≡ integer z ++ rest → BeginsNoDigit rest → (b : Bool) → is_narrow z ≡ b → Sound integers s (cond b (Ok (z, rest)) (Err (fault wide s)))
+narrow_sound s z rest e d true n = record { fit = tt; cut = e; clean = λ before c w f. false≢true (sym f.3 ∙ n) }
+narrow_sound s z rest e d false n = record { value = z; fit = tt; before = []; number = z; more = rest; at = (refl, refl, refl, n); cut = refl; is = e; ends = d }
+
+sound_minus : (s : List ℕ) (o : Scanned ℕ) → PositiveSound s o → Sound integers (45 ∷ s) (o >>= (λ n. narrow (45 ∷ s) (minus n.0) n.1))
+sound_minus s (Ok p) h =
+    let e : suc (p.0 - 1) ≡ p.0 = omega arith in
+    narrow_sound (45 ∷ s) (minus p.0) p.1 (ap (λ x. 45 ∷ x) h.1 ∙ ap (λ k. 45 ∷ (natural k ++ p.1)) (sym e)) h.2 (is_narrow (minus p.0)) refl
+sound_minus s (Err (bad r)) h = record { value = negsuc 0; fit = tt; front = 45 ∷ []; more = natural 1; cut = ap (λ x. 45 ∷ x) (sym h); good = refl }
+sound_minus s (Err (fault c r)) h = absurd h
+
+sound_plus : (s : List ℕ) (o : Scanned ℕ) → PositiveSound s o → Sound integers s (o >>= (λ n. narrow s (pos n.0) n.1))
+sound_plus s (Ok p) h = narrow_sound s (pos p.0) p.1 h.1 h.2 (is_narrow (pos p.0)) refl
+sound_plus s (Err (bad r)) h = record { value = pos 0; fit = tt; front = []; more = natural 0; cut = sym h; good = refl }
+sound_plus s (Err (fault c r)) h = absurd h
+
+same_byte : (x c : ℕ) → (x == c) ≡ true → x ≡ c
+same_byte x c h = grind (arith, nat_tests)
+
+sound_zero : (c : ℕ) (s : List ℕ) (b : Bool) → (c == 48) ≡ b → Sound integers (c ∷ s) (cond b (Ok (pos 0, s)) (positive_at (c ∷ s) >>= (λ n. narrow (c ∷ s) (pos n.0) n.1)))
+sound_zero c s true e = record {
+  fit = tt;
+  cut = ap (λ x. x ∷ s) (same_byte c 48 e) ∙ ap (λ x. x ++ s) (sym (natural_small 0 (omega arith)));
+  clean = λ before k w f. false≢true (sym f.3);
+}
+sound_zero c s false e = sound_plus (c ∷ s) (positive_at (c ∷ s)) (positive_sound (c ∷ s))
+
+sound_sign : (c : ℕ) (s : List ℕ) (b : Bool) → (c == 45) ≡ b → Sound integers (c ∷ s) (cond b (positive_at s >>= (λ n. narrow (c ∷ s) (minus n.0) n.1)) (cond (c == 48) (Ok (pos 0, s)) (positive_at (c ∷ s) >>= (λ n. narrow (c ∷ s) (pos n.0) n.1))))
+sound_sign c s true e = subst (λ x. Sound integers (x ∷ s) (positive_at s >>= (λ n. narrow (x ∷ s) (minus n.0) n.1))) (sym (same_byte c 45 e)) (sound_minus s (positive_at s) (positive_sound s))
+sound_sign c s false e = sound_zero c s (c == 48) refl
+
+integer_sound : (s : List ℕ) → Sound integers s (integer_at s)
+integer_sound [] = record { value = pos 0; fit = tt; front = []; more = natural 0; cut = refl; good = refl }
+integer_sound (c ∷ s) = sound_sign c s (c == 45) refl
+
+narrow_completes : (s : List ℕ) (z : ℤ) (more : List ℕ) → length more ≤ length s → (b : Bool) → is_narrow z ≡ b → Completes integers z more (cond b (Ok (z, more)) (Err (fault wide s)))
+narrow_completes s z more h true n = (refl, refl)
+narrow_completes s z more h false n = (h, ([], z, (refl, refl, refl, n)))
+
+integer_complete : (s more : List ℕ) (v : ℤ) → ⊤ → BeginsNoDigit more → s ≡ integer v ++ more → Completes integers v more (integer_at s)
+integer_complete s more v _ b e =
+    let full = integer v ++ more in
+    subst (λ x. Completes integers v more (integer_at x)) (sym e) (subst (λ o. Completes integers v more o) (sym (integer_read v more b)) (narrow_completes full v more (omega (arith, length-append (integer v) more)) (is_narrow v) refl))
+
+narrow_within : (back s : List ℕ) (g : ℕ → ℤ) (o : Scanned ℕ) → Within back o → Within back (o >>= (λ n. narrow s (g n.0) n.1))
+narrow_within back s g (Ok p) h = each (is_narrow (g p.0))
+  where
+    each : (b : Bool) → Within back (cond b (Ok (g p.0, p.1)) (Err (fault wide s)))
+    each true = h
+    each false = tt
+narrow_within back s g (Err (bad r)) h = h
+narrow_within back s g (Err (fault c r)) h = tt
+
+longest_at : (z : ℤ) (f more back : List ℕ) → integer z ≡ f ++ more → Within back (integer_at (f ++ back))
+longest_at z [] more back e = never_grows integers back (integer_at back) (integer_sound back)
+longest_at (pos zero) (d ∷ []) more back e =
+    let g : 48 ∷ [] ≡ d ∷ more = sym (natural_small 0 (omega arith)) ∙ e in
+    let is : 48 ≡ d = cc in
+    subst (λ x. Within back (integer_at (x ∷ back))) is (omega arith)
+longest_at (pos zero) (d ∷ x ∷ f) more back e =
+    let g : 48 ∷ [] ≡ d ∷ x ∷ (f ++ more) = sym (natural_small 0 (omega arith)) ∙ e in absurd (cc)
+longest_at (pos (suc n)) (d ∷ f) more back e =
+    let r = numeral (suc n) (omega arith) in
+    let g : r.head ∷ r.tail ≡ d ∷ (f ++ more) = sym r.is ∙ e in
+    let hd : r.head ≡ d = cc in
+    let low : 48 < d = omega (arith, r.low, hd) in
+    rw (not_minus d low, not_zero d low) (narrow_within back (d ∷ (f ++ back)) pos (positive_at (d ∷ (f ++ back))) (positive_longest (suc n) (d ∷ f) more back (omega arith) e))
+longest_at (negsuc n) (d ∷ f) more back e =
+    let hd : 45 ≡ d = cc in
+    let tl : natural (suc n) ≡ f ++ more = cc in
+    subst (λ x. Within back (integer_at (x ∷ (f ++ back)))) hd (narrow_within back (45 ∷ (f ++ back)) minus (positive_at (f ++ back)) (positive_longest (suc n) f more back (omega arith) tl))
+
+integer_first : (s before more : List ℕ) (v : ℤ) (c : Cause) (z : ℤ) → ⊤ → (before ≡ []) × (c ≡ wide) × (z ≡ v) × (is_narrow v ≡ false) → s ≡ before ++ (integer z ++ more) → BeginsNoDigit more → NoneBefore {A = ℤ} (length (integer z ++ more)) (integer_at s)
+integer_first s before more v c z _ f e b =
+    let g : s ≡ integer z ++ more = e ∙ ap (λ x. x ++ (integer z ++ more)) f.0 in
+    let n : is_narrow z ≡ false = ap is_narrow f.2 ∙ f.3 in
+    let full = integer z ++ more in
+    let stops : integer_at s ≡ Err (fault wide full) = ap integer_at g ∙ integer_read z more b ∙ ap (λ k. cond k (Ok (z, more)) (Err (fault wide full))) n in
+    subst (λ o. NoneBefore {A = ℤ} (length full) o) (sym stops) (omega arith)
+
+pub integers_reader : IsReader integers integer_at
+integers_reader = record {
+  sound = integer_sound;
+  complete = integer_complete;
+  longest = λ s f more back v _ e g. subst (λ x. Within back (integer_at x)) (sym g) (longest_at v f more back e);
+  first = integer_first;
+}

@@ -1,0 +1,10 @@
+pub mod Numbers
+pub mod Digits
+pub mod Readers
+pub mod Integers
+pub mod EachKind
+pub mod Settled
+pub mod Unique
+pub mod Capped
+pub mod Failing
+pub mod ReadAnswers

@@ -1,0 +1,8 @@
+-- The type that a `Ty` stands for.
+use Rattle.sf_value.specs.Values.{Kind, int_kind}
+use Rattle.sf_value.specs.declared.ty.TyForm.{TyForm}
+use Rattle.sf_value.specs.declared.ty.TyForm.TheVariants.{Int}
+
+-- what a form means
+abbrev pub kind_of : TyForm → Kind
+kind_of Int = int_kind

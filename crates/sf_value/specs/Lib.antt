@@ -1,0 +1,11 @@
+pub mod Values
+pub mod Spelling
+pub mod Digits
+pub mod Reading
+pub mod Codes
+pub mod View
+pub mod KindCodes
+pub mod KindView
+pub mod Scan
+pub mod Gives
+pub mod Refuses

@@ -1,0 +1,44 @@
+-- Reading a value from the front of bytes.
+use Rattle.std.specs.Prelude.{ℕ, ◌-◌, ◌==◌, ℤ, pos, negsuc, nat_lt, if◌then◌else◌, ◌&&◌, List, [], ◌∷◌, Result, Ok, Err}
+use Rattle.std.specs.Char.{is_ascii_digit}
+use Rattle.sf_value.specs.Values.{Kind, int_kind, Data, number, is_narrow}
+use Rattle.sf_value.specs.Digits.{value_after, digits_at, after_digits}
+use Rattle.sf_value.specs.Reading.{Cause, wide}
+
+-- why reading stops, with the bytes from the place on
+pub data Stop : Type 0 where
+  bad : List ℕ → Stop
+  fault : Cause → List ℕ → Stop
+
+-- a value and the bytes after it
+abbrev pub Scanned : Type 0 → Type 0
+Scanned A = Result (A × List ℕ) Stop
+
+infixl 10 ◌>>=◌
+abbrev pub ◌>>=◌ : {A B : Type 0} → Result A Stop → (A → Result B Stop) → Result B Stop
+(Ok x) >>= f = f x
+(Err e) >>= f = Err e
+
+-- a number that doesn't begin with 0
+abbrev pub positive_at : List ℕ → Scanned ℕ
+positive_at [] = Err (bad [])
+positive_at (c ∷ s) = if nat_lt 48 c && is_ascii_digit c then Ok (value_after (c - 48) (digits_at s), after_digits s) else Err (bad (c ∷ s))
+
+-- a number within signed 64 bits
+abbrev pub narrow : List ℕ → ℤ → List ℕ → Scanned ℤ
+narrow from z rest = if is_narrow z then Ok (z, rest) else Err (fault wide from)
+
+-- a positive number after a minus
+abbrev pub minus : ℕ → ℤ
+minus n = negsuc (n - 1)
+
+-- a minus and a positive number, a zero, or a positive number
+abbrev pub integer_at : List ℕ → Scanned ℤ
+integer_at [] = Err (bad [])
+integer_at (c ∷ s) = if c == 45 then (positive_at s >>= λ n. narrow (c ∷ s) (minus n.0) n.1)
+    else (if c == 48 then Ok (pos 0, s) else (positive_at (c ∷ s) >>= λ n. narrow (c ∷ s) (pos n.0) n.1))
+
+unfoldable pub value_at : Kind → List ℕ → Scanned Data
+value_at int_kind s = do
+  n ← integer_at s
+  Ok (number n.0, n.1)

@@ -1,0 +1,8 @@
+-- The data that a `Value` stands for.
+use Rattle.sf_value.specs.Values.{Data, number}
+use Rattle.sf_value.specs.declared.value.Form.{Form}
+use Rattle.sf_value.specs.declared.value.Form.TheVariants.{Int}
+
+-- what a form means
+abbrev pub data_of : Form → Data
+data_of (Int z) = number z

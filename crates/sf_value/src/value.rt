@@ -1,0 +1,32 @@
+//! Values.
+use std::marker::Model;
+
+/// A value, whose numbers are within signed 64 bits.
+#[derive(Drop)]
+pub struct Value {
+    pub(crate) form: Form,
+}
+
+/// What a value is made of.
+#[derive(Drop)]
+pub enum Form {
+    /// A whole number.
+    Int(i64),
+}
+
+impl Model for Value {
+    ghost use Rattle.sf_value.specs.Values.{Data, HasNarrowNumbers};
+    ghost use Rattle.std.specs.Prelude.{List};
+    ghost use Rattle.std.specs.Coded.{code_by, codes};
+    ghost use Rattle.sf_value.specs.Codes.{Mark, marks_of, data_from, data_from-marks_of};
+
+    ghost Value = { Data };
+
+    ghost coded = { code_by (List Mark) (Prim.hlevel codes) marks_of data_from data_from-marks_of };
+
+    ghost use Rattle.sf_value.specs.View.{data_of};
+
+    ghost view = { λ a. data_of a.form };
+
+    ghost invariant = { λ a. HasNarrowNumbers (data_of a.form) };
+}

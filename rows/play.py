@@ -1,0 +1,95 @@
+"""Plays the worked rows of rows.json with an executable `sfplay`, each with and without --plain.
+
+    python3 rows/play.py --exe PATH [--only NAME] [--timeout SECONDS]
+
+The last line is `N passed, M failed`.
+"""
+
+import argparse
+import json
+import os
+import subprocess
+import sys
+import tempfile
+
+HERE = os.path.dirname(os.path.abspath(__file__))
+
+
+def text_of(given):
+    """A text, or pairs of a text and how often it stands."""
+    if isinstance(given, str):
+        return given.encode("utf-8")
+    return b"".join(text.encode("utf-8") * times for text, times in given)
+
+
+def play_live(words, row):
+    """Each input line only after the output line of the one before it."""
+    player = subprocess.Popen(words, stdin=subprocess.PIPE, stdout=subprocess.PIPE, stderr=subprocess.PIPE)
+    output = b""
+    for line, _ in zip(text_of(row["input"]).splitlines(True), row["output"].splitlines(True)):
+        player.stdin.write(line)
+        player.stdin.flush()
+        output += player.stdout.readline()
+    player.stdin.close()
+    output += player.stdout.read()
+    errors = player.stderr.read()
+    return output, errors, player.wait()
+
+
+def play(words, row, timeout):
+    if row.get("live"):
+        return play_live(words, row)
+    with tempfile.TemporaryFile() as held:
+        held.write(text_of(row["input"]))
+        held.seek(0)
+        source = os.open(row["input_from"], os.O_RDONLY) if "input_from" in row else held.fileno()
+        sink = open(row["output_to"], "wb") if "output_to" in row else subprocess.PIPE
+        done = subprocess.run(words, stdin=source, stdout=sink, stderr=subprocess.PIPE, timeout=timeout)
+    return done.stdout or b"", done.stderr, done.returncode
+
+
+def faults(row, output, errors, status):
+    found = []
+    if status != row["status"]:
+        found.append(f"status {status}, wanted {row['status']}")
+    if row["output"] is not None and output != row["output"].encode("utf-8"):
+        found.append(f"output {output[-300:]!r}, wanted {row['output'][-300:]!r}")
+    if row["errors"] is None and not errors:
+        found.append("nothing on standard error")
+    if row["errors"] is not None and errors != row["errors"].encode("utf-8"):
+        found.append(f"standard error {errors[-300:]!r}, wanted {row['errors']!r}")
+    return found
+
+
+def main():
+    parser = argparse.ArgumentParser()
+    parser.add_argument("--exe", required=True)
+    parser.add_argument("--only")
+    parser.add_argument("--timeout", type=float, default=120)
+    options = parser.parse_args()
+    with open(os.path.join(HERE, "rows.json"), encoding="utf-8") as file:
+        rows = json.load(file)
+    passed = failed = 0
+    with tempfile.TemporaryDirectory() as place:
+        for row in rows:
+            if options.only and row["name"] != options.only:
+                continue
+            network = os.path.join(place, "absent" if row["network"] is None else "network")
+            if row["network"] is not None:
+                with open(network, "wb") as file:
+                    file.write(text_of(row["network"]))
+            for mode in ([], ["--plain"]):
+                words = [os.path.abspath(options.exe), network, *row["arguments"], *mode]
+                try:
+                    found = faults(row, *play(words, row, options.timeout))
+                except subprocess.TimeoutExpired:
+                    found = [f"no answer in {options.timeout:g} seconds"]
+                passed, failed = passed + (not found), failed + bool(found)
+                if found:
+                    print(f"row '{row['name']}' {' '.join(mode)}: {'; '.join(found)}")
+    print(f"{passed} passed, {failed} failed")
+    return 1 if failed else 0
+
+
+if __name__ == "__main__":
+    sys.exit(main())
