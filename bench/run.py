@@ -7,7 +7,6 @@ The best of the rounds counts. The baseline is built with `rustc -O`.
 
 import argparse
 import os
-import resource
 import subprocess
 import sys
 import tempfile
@@ -16,16 +15,30 @@ import time
 HERE = os.path.dirname(os.path.abspath(__file__))
 
 
-def run(words, source, sink):
-    """Seconds and peak memory in KiB of one run."""
+def seconds_of(words, source, sink):
+    """How long one run takes."""
     with open(source, "rb") as taken, open(sink, "wb") as given:
         began = time.perf_counter()
-        child = subprocess.Popen(words, stdin=taken, stdout=given)
-        _, status, used = os.wait4(child.pid, 0)
+        done = subprocess.run(words, stdin=taken, stdout=given)
         seconds = time.perf_counter() - began
-    if status:
-        sys.exit(f"{words[0]} ended with status {status}")
-    return seconds, used.ru_maxrss
+    if done.returncode:
+        sys.exit(f"{words[0]} ended with status {done.returncode}")
+    return seconds
+
+
+def peak_of(words, source):
+    """The peak memory of one run in KiB, read while its input is still open."""
+    player = subprocess.Popen(words, stdin=subprocess.PIPE, stdout=subprocess.DEVNULL)
+    with open(source, "rb") as taken:
+        while piece := taken.read(1 << 16):
+            player.stdin.write(piece)
+    player.stdin.flush()
+    time.sleep(0.3)
+    with open(f"/proc/{player.pid}/status") as status:
+        peak = next(int(line.split()[1]) for line in status if line.startswith("VmHWM:"))
+    player.stdin.close()
+    player.wait()
+    return peak
 
 
 def main():
@@ -41,14 +54,14 @@ def main():
         with open(at("lines"), "w") as file:
             file.write("0 1\n")
             file.writelines(f"{1 + n % 50} {n * 7919 % 1000003 - 500000}\n" for n in range(1, options.lines))
-        subprocess.run(["rustc", "-O", "-o", at("baseline"), os.path.join(HERE, "baseline.rs")], check=True)
+        subprocess.run(["rustc", "--edition", "2021", "-O", "-o", at("baseline"), os.path.join(HERE, "baseline.rs")], check=True)
         players = {"baseline": [at("baseline")], "sfplay": [os.path.abspath(options.exe), at("network")]}
-        best, peak = {}, {}
+        best = {}
         for _ in range(options.rounds):
             for name, words in players.items():
-                seconds, memory = run(words, at("lines"), at(name + ".out"))
+                seconds = seconds_of(words, at("lines"), at(name + ".out"))
                 best[name] = min(seconds, best.get(name, seconds))
-                peak[name] = max(memory, peak.get(name, 0))
+        peak = {name: peak_of(words, at("lines")) for name, words in players.items()}
         with open(at("baseline.out"), "rb") as one, open(at("sfplay.out"), "rb") as other:
             if one.read() != other.read():
                 sys.exit("the two outputs differ")

@@ -1,0 +1,97 @@
+-- Templates by their names.
+use Rattle.std.proofs.Common.{◌≡◌, ℕ, suc, ◌+◌, ◌<◌, length, List, [], ◌∷◌, Bool, true, false, cond, nat_lt, Option, Some, None, slice_get, position, map, not, ap, ◌∙◌, sym, refl, subst, arith, String, string_bytes, codes, unwrap_or}
+use Rattle.std.specs.List.{position_or_len, position_from}
+use Rattle.std.specs.Str.{bytes_eq}
+use Rattle.indexmap.specs.IndexSet.{IndexSet, index_of_by}
+use Rattle.std.proofs.lemmas.Iterator.Adapters.{position_from-zero}
+use Rattle.std.proofs.lemmas.List.{length-map}
+use Rattle.std.proofs.lemmas.Option.{slice_get_within}
+use Rattle.sf_value.specs.Values.{Name}
+use Rattle.sf_term.specs.Trees.{Template, Templates}
+use Rattle.sf_mean.specs.Networks.{template_named}
+use Rattle.sf_mean.specs.Networks.{main_of as main_in}
+use Rattle.sf_term.specs.declared.program.Program.{Program}
+use Rattle.sf_term.specs.Headers.{Header}
+use Rattle.sf_term.specs.Arena.{headers_of, template_in, templates_of}
+use Rattle.sf_check.specs.declared.checked.Checked.{Checked}
+use Rattle.sf_check.specs.Accepting.{program_of, main_of, no_main}
+use Rattle.sf_check.specs.Names.{names, names_in, program_names}
+use Rattle.sf_check.proofs.Templates.{template_at}
+
+-- where a test passes on the images of a list's items
+position_or_len-map : {X Y : Type 0} (f : X → Y) (p : Y → Bool) (xs : List X) → position_or_len p (map f xs) ≡ position_or_len (λ x. p (f x)) xs
+position_or_len-map f p [] = refl
+position_or_len-map f p (x ∷ xs) = ap (λ n. cond (not (p (f x))) (1 + n) 0) (position_or_len-map f p xs)
+
+pub position-map : {X Y : Type 0} (f : X → Y) (p : Y → Bool) (xs : List X) → position p (map f xs) ≡ position (λ x. p (f x)) xs
+position-map f p xs = (λ i. cond (nat_lt (position_or_len-map f p xs i) (length-map xs f i)) (Some (position_or_len-map f p xs i)) None)
+
+-- What the place of a name says.
+pub record IsNamedAt (x : Name) (ts : Templates) (i : ℕ) : Type 0 where
+  pub template : Template
+  pub at : slice_get ts i ≡ Some template
+  pub named : template_named x ts ≡ Some template
+
+module _ (x : Name) where
+  abbrev Places : Templates → ℕ → Option ℕ → Type 0
+  Places ts k None = template_named x ts ≡ None
+  Places ts k (Some i) = (j : ℕ) × (i ≡ k + j) × IsNamedAt x ts j
+
+  later : (t : Template) (ts : Templates) (k : ℕ) (o : Option ℕ) → bytes_eq x t.name ≡ false → Places ts (k + 1) o → Places (t ∷ ts) k o
+  later t ts k None e h = ap (λ b. cond b (Some t) (template_named x ts)) e ∙ h
+  later t ts k (Some i) e h = (suc h.0, omega (arith, h.1), record { template = h.2.template; at = h.2.at; named = ap (λ b. cond b (Some t) (template_named x ts)) e ∙ h.2.named })
+
+  places : (ts : Templates) (k : ℕ) → Places ts k (position_from (bytes_eq x) k (names ts))
+  places [] k = refl
+  places (t ∷ ts) k = by (bytes_eq x t.name) refl (places ts (k + 1))
+    where
+      by : (b : Bool) → bytes_eq x t.name ≡ b → Places ts (k + 1) (position_from (bytes_eq x) (k + 1) (names ts)) → Places (t ∷ ts) k (position_from (bytes_eq x) k (names (t ∷ ts)))
+      by true e rest = subst (λ b. Places (t ∷ ts) k (cond b (Some k) (position_from (bytes_eq x) (k + 1) (names ts)))) (sym e) (0, omega arith, record { template = t; at = refl; named = ap (λ b. cond b (Some t) (template_named x ts)) e })
+      by false e rest = subst (λ b. Places (t ∷ ts) k (cond b (Some k) (position_from (bytes_eq x) (k + 1) (names ts)))) (sym e) (later t ts k _ e rest)
+
+  placed : (ts : Templates) → Places ts 0 (position (bytes_eq x) (names ts))
+  placed ts = subst (Places ts 0) (sym (position_from-zero (bytes_eq x) (names ts))) (places ts 0)
+
+  pub named_at : (ts : Templates) (i : ℕ) → position (bytes_eq x) (names ts) ≡ Some i → IsNamedAt x ts i
+  named_at ts i e =
+      let h = subst (Places ts 0) e (placed ts) in
+      subst (IsNamedAt x ts) (omega (arith, h.1)) h.2
+
+  pub none_named : (ts : Templates) → position (bytes_eq x) (names ts) ≡ None → template_named x ts ≡ None
+  none_named ts e = subst (Places ts 0) e (placed ts)
+
+-- the place of a name in a set
+pub place_in : {Y S : Type 0} (set : IndexSet (String Y) S) (x : Name) (ns : List Name) → names_in set ≡ ns → index_of_by (λ k. bytes_eq x (string_bytes k)) set ≡ position (bytes_eq x) ns
+place_in set x ns e = sym (position-map string_bytes (bytes_eq x) set.keys) ∙ ap (position (bytes_eq x)) e
+
+-- the template at the place of a name
+module _ (p : Program) (x : Name) (i : ℕ) (place : position (bytes_eq x) (program_names p) ≡ Some i) where
+  pub named_within : i < length (headers_of p)
+  named_within =
+      let there = named_at x (templates_of p) i place in
+      let within = slice_get_within (templates_of p) i there.template there.at in
+      let count = length-map (headers_of p) (template_in p) in
+      omega arith
+
+  pub named_is : (h : Header) → slice_get (headers_of p) i ≡ Some h → Some (template_in p h) ≡ template_named x (templates_of p)
+  named_is h at =
+      let there = named_at x (templates_of p) i place in
+      sym (template_at p i h at) ∙ there.at ∙ sym there.named
+
+-- ## `main`
+
+module _ (c : Checked) where
+  pub main_within : c.main < length (headers_of (program_of c))
+  main_within = named_within (program_of c) (codes "main") c.main c.main_found
+
+  main_there : (t : Template) → main_in (templates_of (program_of c)) ≡ Some t → main_of c ≡ t
+  unfolding main_of
+  main_there t e = ap (λ o. unwrap_or o no_main) e
+
+  pub main_named : main_in (templates_of (program_of c)) ≡ Some (main_of c)
+  main_named =
+      let there = named_at (codes "main") (templates_of (program_of c)) c.main c.main_found in
+      there.named ∙ ap Some (sym (main_there there.template there.named))
+
+  pub main_is : (h : Header) → slice_get (headers_of (program_of c)) c.main ≡ Some h → template_in (program_of c) h ≡ main_of c
+  main_is h at = sym (main_there (template_in (program_of c) h) (sym (named_is (program_of c) (codes "main") c.main c.main_found h at)))

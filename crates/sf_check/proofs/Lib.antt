@@ -1,0 +1,6 @@
+pub mod Types
+pub mod Terms
+pub mod Templates
+pub mod Naming
+pub mod Finding
+pub mod Accepted

@@ -1,0 +1,23 @@
+use Rattle.std.proofs.Common.{codes, ◌∙◌, sym}
+use Rattle.sf_term.specs.Arena.{templates_of}
+use Rattle.sf_check.specs.Names.{program_names}
+use Rattle.sf_check.proofs.Accepted.{accepted_by}
+use Rattle.sf_check.proofs.Finding.{place_in, named_at, none_named}
+use Rattle.sf_check.proofs.checker.examined.Goals as goal
+
+pub returns-in-Some-clause-main : goal.returns-in-Some-clause-main
+returns-in-Some-clause-main c =
+    sym (place_in c.in_ok-names.names (codes "main") (program_names c.args.program.now) c.in_ok-names.ensures.names) ∙ sym c.in-Some.ensures.index
+
+pub returns-in-Some-clause-accepted : goal.returns-in-Some-clause-accepted
+returns-in-Some-clause-accepted c =
+    let p = c.args.program.now in
+    let there = sym (place_in c.in_ok-names.names (codes "main") (program_names p) c.in_ok-names.ensures.names) ∙ sym c.in-Some.ensures.index in
+    let found = named_at (codes "main") (templates_of p) c.in-Some.main there in
+    accepted_by p found.template c.in_ok-names.ensures.different c.in_ok-check_templates.ensures.ok found.named
+
+pub returns-in-None-clause-refused : goal.returns-in-None-clause-refused
+returns-in-None-clause-refused c =
+    let p = c.args.program.now in
+    let there = sym (place_in c.in_ok-names.names (codes "main") (program_names p) c.in_ok-names.ensures.names) ∙ sym c.in-None.ensures.index in
+    (c.in_ok-names.ensures.different, c.in_ok-check_templates.ensures.ok, none_named (codes "main") (templates_of p) there)

@@ -1,0 +1,12 @@
+use Rattle.std.proofs.Common.{arith, length, ap}
+use Rattle.sf_check.proofs.Templates.{header_at, one_more_typed, all_typed}
+use Rattle.sf_check.proofs.typing.check_templates.Goals as goal
+
+pub loop-template-preserved : goal.loop-template-preserved
+loop-template-preserved c =
+    one_more_typed c.args.program.now c.loop-template.template-index c.loop-template.invariant c.template-item.result (header_at c.args.program.now _ _ _ c.templates-template-items.ensures.templates (omega arith) c.template-item.is) c.in_ok-check_template.ensures.ok
+
+pub returns-clause-ok : goal.returns-clause-ok
+returns-clause-ok c =
+    let e = ap length c.templates-template-items.ensures.templates in
+    all_typed c.args.program.now c.loop-template.template-index c.loop-template.invariant (omega arith)

@@ -1,0 +1,21 @@
+-- What was accepted.
+use Rattle.std.specs.Prelude.{[], unwrap_or}
+use Rattle.sf_value.specs.Values.{int_kind}
+use Rattle.sf_term.specs.declared.form.Bare.TheVariants.{Identity}
+use Rattle.sf_term.specs.declared.program.Program.{Program}
+use Rattle.sf_term.specs.Trees.{Template, primitive, bare}
+use Rattle.sf_term.specs.Arena.{templates_of}
+use Rattle.sf_mean.specs.Networks.{main_of as main_in}
+use Rattle.sf_check.specs.declared.checked.Checked.{Checked}
+
+-- the program that was accepted
+abbrev pub program_of : Checked → Program
+program_of c = c.program
+
+-- what stands for `main` where there is none
+abbrev pub no_main : Template
+no_main = record { name = []; input = int_kind; output = int_kind; body = primitive (bare Identity) }
+
+-- the template that is run, `main`
+unfoldable pub main_of : Checked → Template
+main_of c = unwrap_or (main_in (templates_of (program_of c))) no_main

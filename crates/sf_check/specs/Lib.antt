@@ -1,0 +1,4 @@
+pub mod Accepting
+pub mod Names
+pub mod Breaking
+pub mod Refusing

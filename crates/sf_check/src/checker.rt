@@ -1,0 +1,61 @@
+//! The checker.
+ghost use Rattle.std.specs.Prelude.{◌≡◌, Some, IfOk, IfErr, OnOk, MatchResult, ⊤, position, bytes_eq, codes};
+ghost use Rattle.sf_term.specs.Arena.{templates_of};
+ghost use Rattle.sf_mean.specs.Typing.{Accepted};
+ghost use Rattle.sf_check.specs.Accepting.{program_of};
+ghost use Rattle.sf_check.specs.Names.{names_in, program_names};
+ghost use Rattle.sf_check.specs.Refusing.{Refuses};
+
+use crate::checked::Checked;
+use crate::names::template_names;
+use crate::refusal::CheckRefusal;
+use crate::typing::check_templates;
+use indexmap::IndexSet;
+use sf_term::Program;
+use std::alloc::Global;
+
+/// The names of a network's templates, and which of them is `main`.
+#[derive(Drop)]
+struct Found {
+    names: IndexSet<String>,
+    main: usize,
+}
+
+/// What an accepted network has, or the first rule that is broken.
+fn examined(alloc: Global, program: &Program) -> Result<Found, CheckRefusal>
+    ensures accepted { OnOk result (Accepted (templates_of program.now)) }
+    ensures named { IfOk result (λ found. names_in found.names ≡ program_names program.now) }
+    ensures main { IfOk result (λ found. position (bytes_eq (codes "main")) (program_names program.now) ≡ Some found.main) }
+    ensures refused { IfErr result (λ e. Refuses program.now e) }
+{
+    let names = template_names(alloc, program)?;
+    check_templates(alloc, program)?;
+    match names.get_index_of("main") {
+        Some(main) => Ok(Found { names, main }),
+        None => Err(CheckRefusal::NoMain),
+    }
+}
+
+/// Accepts a network whose templates have different names and terms of their headers' types, and one of which is `main`.
+///
+/// # Errors
+/// The first rule that is broken, with its place, and the program: names are looked at first (`DuplicateName`), then the
+/// types of each template in the order of the text (`Mismatch`), then `main` (`NoMain`). `Memory` says nothing of it.
+pub fn check(alloc: Global, program: Program) -> Result<Checked, (CheckRefusal, Program)>
+    ensures accepted { OnOk result (Accepted (templates_of program)) }
+    ensures kept { IfOk result (λ checked. program_of checked ≡ program) }
+    ensures handed_back { IfErr result (λ refused. refused.1 ≡ program) }
+    // The rule is broken at the place.
+    ensures refused { IfErr result (λ refused. Refuses program refused.0) }
+    // A network that keeps all rules is refused for want of memory alone.
+    ensures only { Accepted (templates_of program) → MatchResult result (λ _. ⊤) (λ refused. refused.0 ≡ CheckRefusal.Memory) }
+{
+    match examined(alloc, &program) {
+        Ok(found) => Ok(Checked {
+            program,
+            names: found.names,
+            main: found.main,
+        }),
+        Err(refusal) => Err((refusal, program)),
+    }
+}

@@ -1,0 +1,78 @@
+-- What starts and steps answer, and what they leave.
+use Rattle.std.specs.Prelude.{◌≡◌, ◌≢◌, ℕ, ◌≤◌, [], Option, IfSome, Result, Ok, Err}
+use Rattle.sf_value.specs.Values.{Data, HasKind}
+use Rattle.sf_value.specs.declared.fault.ValueFault.{ValueFault}
+use Rattle.sf_value.specs.declared.fault.Fault.{Fault}
+use Rattle.sf_value.specs.declared.fault.Fault.TheVariants.{Value, Large, Memory}
+use Rattle.sf_term.specs.Trees.{Template}
+use Rattle.sf_mean.specs.Lives.{Life, closure, empty, time}
+use Rattle.sf_mean.specs.Meaning.{Network, Outcome, gave, faulted, Cost, count, height, Gives}
+use Rattle.sf_engine.specs.declared.engine.Engine.{Engine}
+use Rattle.sf_engine.specs.declared.engine.Sample.{Sample}
+use Rattle.sf_engine.specs.declared.engine.EngineError.{EngineError}
+use Rattle.sf_engine.specs.declared.engine.EngineError.TheVariants.{NotStarted, Started, BadStep, WrongType, Fault as Faulted}
+use Rattle.sf_engine.specs.Histories.{after_start, after_step, CanWait}
+use Rattle.sf_engine.specs.Running.{Runs, IsStopped}
+
+-- `main` has this outcome at the end of a history, at a cost
+abbrev pub GivesOutcome : Network → Template → Life → Outcome → Cost → Type 0
+GivesOutcome n m L o k = Gives n (closure m.body empty) L o k
+
+-- no outcome at the end of a history has a cost within the limits of a sample
+abbrev pub IsTooLarge : Network → Template → Life → Type 0
+IsTooLarge n m L = (o : Outcome) (k : Cost) → GivesOutcome n m L o k → count k ≤ 100000 → height k ≤ 800 → ⊥
+
+-- The sample at the end of a history, with the engine after it.
+pub data Sampled (n : Network) (m : Template) (L : Life) : Result Sample EngineError → Engine → Type 0 where
+  gave_value : {s : Sample} {k : Cost} {e : Engine}
+      → GivesOutcome n m L (gave s.value []) k → s.time ≡ time L → Runs e n m L
+      → Sampled n m L (Ok s) e
+  had_fault : {x : ValueFault} {k : Cost} {e : Engine}
+      → GivesOutcome n m L (faulted x) k → IsStopped e (Value x)
+      → Sampled n m L (Err (Faulted (Value x))) e
+  was_large : {e : Engine}
+      → IsTooLarge n m L → IsStopped e Large
+      → Sampled n m L (Err (Faulted Large)) e
+  had_no_memory : {e : Engine}
+      → IsStopped e Memory
+      → Sampled n m L (Err (Faulted Memory)) e
+
+-- A start at a history: its refusals in their order, which leave the engine at that history, or the first sample.
+pub data Starts (n : Network) (m : Template) (L : Life) (x : Data) : Result Sample EngineError → Engine → Type 0 where
+  was_started : {e : Engine}
+      → L ≢ [] → Runs e n m L
+      → Starts n m L x (Err Started) e
+  has_wrong_type : {e : Engine}
+      → L ≡ [] → ¬ HasKind x m.input → Runs e n m L
+      → Starts n m L x (Err WrongType) e
+  starts : {r : Result Sample EngineError} {e : Engine}
+      → L ≡ [] → HasKind x m.input → Sampled n m (after_start x) r e
+      → Starts n m L x r e
+
+-- A step at a history: its refusals in their order, which leave the engine at that history, or the next sample.
+pub data Advances (n : Network) (m : Template) (L : Life) (d : ℕ) (x : Option Data) : Result Sample EngineError → Engine → Type 0 where
+  was_not_started : {e : Engine}
+      → L ≡ [] → Runs e n m L
+      → Advances n m L d x (Err NotStarted) e
+  has_bad_wait : {e : Engine}
+      → L ≢ [] → ¬ CanWait (time L) d → Runs e n m L
+      → Advances n m L d x (Err BadStep) e
+  has_wrong_type : {e : Engine}
+      → L ≢ [] → CanWait (time L) d → ¬ IfSome x (λ v. HasKind v m.input) → Runs e n m L
+      → Advances n m L d x (Err WrongType) e
+  advances : {r : Result Sample EngineError} {e : Engine}
+      → L ≢ [] → CanWait (time L) d → IfSome x (λ v. HasKind v m.input) → Sampled n m (after_step L d x) r e
+      → Advances n m L d x r e
+
+-- The value at the end of a history, with the engine after it, which is still to be stopped after a fault.
+pub data Gave (n : Network) (m : Template) (L : Life) : Result Data Fault → Engine → Type 0 where
+  and_value : {y : Data} {k : Cost} {e : Engine}
+      → GivesOutcome n m L (gave y []) k → Runs e n m L
+      → Gave n m L (Ok y) e
+  and_fault : {x : ValueFault} {k : Cost} {e : Engine}
+      → GivesOutcome n m L (faulted x) k
+      → Gave n m L (Err (Value x)) e
+  and_large : {e : Engine}
+      → IsTooLarge n m L
+      → Gave n m L (Err Large) e
+  and_no_memory : {e : Engine} → Gave n m L (Err Memory) e

@@ -1,0 +1,226 @@
+//! Engines.
+ghost use Rattle.std.specs.Prelude.{◌≤◌, IfOk};
+ghost use Rattle.sf_law.specs.Plans.{IsPlainPlan};
+
+use sf_check::Checked;
+use sf_law::{Plan, plain};
+use sf_state::State;
+use sf_step::{Meter, step};
+use sf_value::{Fault, Ty, Value, has_type};
+use std::alloc::{AllocError, Global};
+use thiserror::Error;
+
+/// How a network is run.
+#[derive(Clone, Copy, Debug, PartialEq, Eq)]
+pub enum Mode {
+    /// As it was written.
+    Plain,
+    /// Rewritten to do less work. For now this is `Plain`.
+    Optimised,
+}
+
+/// What a network gives at one time.
+#[derive(Drop)]
+pub struct Sample {
+    /// Milliseconds since the start.
+    pub time: u64,
+    /// The output.
+    pub value: Value,
+}
+
+/// Why there is no sample. All but `Fault` are refusals, which change nothing.
+#[derive(Clone, Copy, Debug, PartialEq, Eq, Error)]
+pub enum EngineError {
+    /// An earlier sample had this fault.
+    #[error("stopped: {0}")]
+    Stopped(Fault),
+    /// There was no start.
+    #[error("not started")]
+    NotStarted,
+    /// There was a start.
+    #[error("already started")]
+    Started,
+    /// A step isn't 1 to 3,600,000 milliseconds long, or goes past 4,000,000,000,000,000.
+    #[error("bad step")]
+    BadStep,
+    /// The value hasn't the type of the network's input.
+    #[error("wrong type")]
+    WrongType,
+    /// The sample has this fault. The engine is stopped.
+    #[error(transparent)]
+    Fault(Fault),
+}
+
+/// A network that is run sample by sample, up to the first fault.
+///
+/// It keeps the allocator that it was made with.
+#[derive(Drop)]
+pub struct Engine {
+    alloc: Global,
+    plan: Plan,
+    input: Ty,
+    state: State,
+    time: u64,
+    last: Option<Value>,
+    stopped: Option<Fault>,
+    ghost within: { time ≤ 4000000000000000 },
+}
+
+const LONGEST_STEP: u64 = 3_600_000;
+
+const LAST_TIME: u64 = 4_000_000_000_000_000;
+
+impl Engine {
+    ghost use Rattle.std.specs.Prelude.{◌≡◌, ◌≢◌, ◌+◌, ◌≤◌, ◌↔◌, ℕ, [], ◌∷◌, IfOk, IfErr, IsTrue};
+    ghost use Rattle.sf_value.specs.declared.fault.Fault.{Fault};
+    ghost use Rattle.sf_term.specs.Trees.{Template};
+    ghost use Rattle.sf_mean.specs.Lives.{Life, step};
+    ghost use Rattle.sf_mean.specs.Meaning.{Network};
+    ghost use Rattle.sf_mean.specs.Networks.{network_of};
+    ghost use Rattle.sf_check.specs.Accepting.{program_of, main_of};
+    ghost use Rattle.sf_engine.specs.Histories.{IsHistory, CanWait};
+    ghost use Rattle.sf_engine.specs.Running.{Runs, IsStopped, StopsWith, time_of};
+    ghost use Rattle.sf_engine.specs.Sampling.{Gave, Sampled, Starts, Advances};
+
+    /// An engine before its start. For want of memory it hands the network back.
+    pub fn new(alloc: Global, checked: Checked, mode: Mode) -> Result<Engine, Checked>
+        ensures runs { IfOk result (λ e. Runs e (network_of (program_of checked)) (main_of checked) []) }
+        ensures handed_back { IfErr result (λ c. c ≡ checked) }
+    {
+        let Ok(plan) = planned(alloc, &checked, mode) else {
+            return Err(checked);
+        };
+        let Ok(input) = checked.input().clone_in(alloc) else {
+            return Err(checked);
+        };
+        let state = State::unborn(plan.main());
+        Ok(Engine {
+            alloc,
+            plan,
+            input,
+            state,
+            time: 0,
+            last: None,
+            stopped: None,
+        })
+    }
+
+    /// The first sample, at time 0.
+    ///
+    /// Refusals, in this order: `Stopped`, `Started`, `WrongType`.
+    pub fn start(&mut self, value: Value) -> Result<Sample, EngineError>
+        ensures running { (n : Network) (m : Template) (L : Life) → Runs self.old n m L →
+            Starts n m L value result self.new }
+        ensures stopped { (f : Fault) → IsStopped self.old f → StopsWith f result self.new }
+    {
+        if let Some(fault) = self.stopped {
+            return Err(EngineError::Stopped(fault));
+        }
+        if self.is_started() {
+            return Err(EngineError::Started);
+        }
+        if !has_type(&value, &self.input) {
+            return Err(EngineError::WrongType);
+        }
+        self.sample(0, value)
+    }
+
+    /// The next sample, `dt` milliseconds after the one before. Without a value the input is unchanged.
+    ///
+    /// Refusals, in this order: `Stopped`, `NotStarted`, `BadStep`, `WrongType`.
+    pub fn step(&mut self, dt: u64, value: Option<Value>) -> Result<Sample, EngineError>
+        ensures running { (n : Network) (m : Template) (L : Life) → Runs self.old n m L →
+            Advances n m L dt value result self.new }
+        ensures stopped { (f : Fault) → IsStopped self.old f → StopsWith f result self.new }
+    {
+        if let Some(fault) = self.stopped {
+            return Err(EngineError::Stopped(fault));
+        }
+        let Some(last) = &self.last else {
+            return Err(EngineError::NotStarted);
+        };
+        if !self.can_wait(dt) {
+            return Err(EngineError::BadStep);
+        }
+        let input = match value {
+            Some(given) => {
+                if !has_type(&given, &self.input) {
+                    return Err(EngineError::WrongType);
+                }
+                given
+            }
+            None => match last.clone_in(self.alloc) {
+                Ok(last) => last,
+                Err(_) => return Err(self.stop(Fault::Memory)),
+            },
+        };
+        self.sample(dt, input)
+    }
+
+    /// Whether there was a start.
+    pub fn is_started(&self) -> bool
+        ensures { (n : Network) (m : Template) (L : Life) → Runs self.now n m L → (IsTrue result ↔ (L ≢ [])) }
+    {
+        self.last.is_some()
+    }
+
+    /// Whether a step may be so long.
+    fn can_wait(&self, dt: u64) -> bool
+        ensures { IsTrue result ↔ CanWait (time_of self.now) dt }
+    {
+        1 <= dt && dt <= LONGEST_STEP && self.time + dt <= LAST_TIME
+    }
+
+    /// The sample at the next step of the history.
+    fn sample(&mut self, dt: u64, input: Value) -> Result<Sample, EngineError>
+        requires { time_of self.old + dt ≤ 4000000000000000 }
+        ensures { (n : Network) (m : Template) (L : Life) → Runs self.old n m L → IsHistory m.input (step dt input ∷ L) →
+            Sampled n m (step dt input ∷ L) result self.new }
+    {
+        match self.advance(dt, input) {
+            Ok(value) => Ok(Sample {
+                time: self.time,
+                value,
+            }),
+            Err(fault) => Err(self.stop(fault)),
+        }
+    }
+
+    /// The value at the next step of the history.
+    fn advance(&mut self, dt: u64, input: Value) -> Result<Value, Fault>
+        requires { time_of self.old + dt ≤ 4000000000000000 }
+        ensures { (n : Network) (m : Template) (L : Life) → Runs self.old n m L → IsHistory m.input (step dt input ∷ L) →
+            Gave n m (step dt input ∷ L) result self.new }
+    {
+        let kept = input.clone_in(self.alloc)?;
+        let value = step(
+            &mut self.state,
+            &self.plan,
+            self.alloc,
+            dt,
+            input,
+            &mut Meter::new(),
+        )?;
+        self.time += dt;
+        self.last = Some(kept);
+        Ok(value)
+    }
+
+    /// Stops the engine.
+    fn stop(&mut self, fault: Fault) -> EngineError
+        ensures error { result ≡ EngineError.Fault fault }
+        ensures stopped { IsStopped self.new fault }
+    {
+        self.stopped = Some(fault);
+        EngineError::Fault(fault)
+    }
+}
+
+/// The plan of a network in a mode.
+fn planned(alloc: Global, checked: &Checked, mode: Mode) -> Result<Plan, AllocError>
+    ensures { IfOk result (λ p. IsPlainPlan checked.now p) }
+{
+    match mode {
+        Mode::Plain | Mode::Optimised => plain(alloc, checked),
+    }
+}

@@ -1,0 +1,12 @@
+pub mod Before
+pub mod Cuts
+pub mod Faults
+pub mod Numbers
+pub mod Pieces
+pub mod Places
+pub mod Readable
+pub mod Runs
+pub mod Scans
+pub mod Tables
+pub mod Texts
+pub mod Words

@@ -1,0 +1,27 @@
+ghost use Rattle.std.specs.Prelude.{◌≡◌, ◌+◌, ◌≤◌, ◌<◌, ◌^◌, length, fold};
+ghost use Rattle.sf_lex.specs.Tokens.{place_step};
+
+use crate::token::Place;
+
+/// The place behind these bytes, which begin at the place.
+pub(crate) fn after(place: Place, passed: &[u8]) -> Place
+    requires line { place.line + length passed.now < 2 ^ 32 }
+    requires column { place.column + length passed.now < 2 ^ 32 }
+    ensures { result ≡ fold place_step place passed.now }
+{
+    let mut place = place;
+    for b in passed {
+        if *b == b'\n' {
+            place = Place {
+                line: place.line + 1,
+                column: 1,
+            };
+        } else {
+            place = Place {
+                line: place.line,
+                column: place.column + 1,
+            };
+        }
+    }
+    place
+}

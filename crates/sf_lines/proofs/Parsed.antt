@@ -1,0 +1,203 @@
+-- What the parts of a line make of it.
+use Rattle.std.proofs.Common.{◌≡◌, ◌≢◌, ◌↔◌, ℕ, suc, ◌+◌, ◌-◌, ◌<◌, ◌≤◌, min, Bool, true, false, List, [], ◌∷◌, ◌++◌, length, take, drop, get_or, codes, Some, None, Result, Ok, Err, refl, sym, ◌∙◌, ap, subst, arith}
+use Rattle.std.specs.Prelude.{IsTrue, IfOk, IfErr, not, nat_eq}
+use Rattle.std.specs.Cmp.Lexicographic.{pointwise, same_text, other_text}
+use Rattle.std.specs.Char.{is_ascii_digit}
+use Rattle.std.proofs.lemmas.Bool.{false≢true}
+use Rattle.std.proofs.lemmas.Bool.Decides.{nat_tests}
+use Rattle.sf_value.specs.Values.{Kind, Data}
+use Rattle.sf_value.specs.Digits.{BeginsNoDigit, value_after, digits_at, after_digits}
+use Rattle.sf_value.specs.Spelling.{natural}
+use Rattle.sf_value.specs.Reading.{Refusal, bad_value, out_of_range, Reads}
+use Rattle.sf_value.specs.Refuses.{Refuses}
+use Rattle.sf_value.specs.declared.read.ReadRefusal.{ReadRefusal}
+use Rattle.sf_value.specs.declared.read.ReadRefusal.TheVariants as read
+use Rattle.sf_value.proofs.Numbers.{natural_small}
+use Rattle.sf_value.proofs.Digits.{digit_low, digit_high, digit_from, natural_after, cut}
+use Rattle.sf_lines.specs.declared.refusal.LineRefusal.{LineRefusal}
+use Rattle.sf_lines.specs.declared.refusal.LineRefusal.TheVariants.{Memory}
+use Rattle.sf_lines.specs.Refusals.{refusal_from}
+use Rattle.sf_lines.specs.Asking.{Form, blank, sampled, repeated, HasForm, empty, comment, with_value, unchanged, advance, step_of, step_refusal, value_refusal, asked_at, Says, untimely, unread, read, again}
+use Rattle.sf_lines.specs.declared.reader.Command.{Command}
+use Rattle.sf_lines.specs.Commands.{asked_of}
+use Rattle.sf_lines.specs.Parsing.{step_cap, NumberThen, BeginsNoNumber, StepThen, BeginsNoStep}
+use Rattle.sf_lines.proofs.Capped.{take_whole}
+use Rattle.sf_lines.proofs.Forms.{natural-cut, natural-head, no_digit}
+
+-- a value that is not read is refused, unless memory runs out
+pub read_failed : (k : Kind) (bytes : List ℕ) (e : ReadRefusal) (r : LineRefusal) → Refuses k bytes e → r ≡ refusal_from e → r ≢ Memory → (why : Refusal) × Reads k bytes (Err why) × (r ≡ value_refusal why)
+read_failed k bytes (read.BadValue n) r h e some = (bad_value n, h, e)
+read_failed k bytes (read.OutOfRange n) r h e some = (out_of_range n, h, e)
+read_failed k bytes read.Memory r h e some = absurd (some e)
+
+-- the first of some bytes, and the others
+pub first_is : (bytes : List ℕ) (c : ℕ) → 1 ≤ length bytes → get_or bytes 0 0 ≡ c → bytes ≡ c ∷ take (length bytes - 1) (drop 1 bytes)
+first_is [] c h e = absurd (omega arith)
+first_is (b ∷ bytes) c h e =
+    let len : suc (length bytes) - 1 ≡ length bytes = omega arith in
+    let all : take (suc (length bytes) - 1) bytes ≡ bytes = rw len (take_whole bytes) in
+    rw all (ap (λ x. x ∷ bytes) e)
+
+pub none_empty : (bytes : List ℕ) → length bytes < 1 → BeginsNoNumber bytes
+none_empty bytes h d rest e =
+    let n = natural-head d in
+    let f : bytes ≡ n.head ∷ (n.tail ++ rest) = e ∙ ap (λ x. x ++ rest) n.is in
+    let g = ap length f in
+    omega arith
+
+pub none_other : (bytes : List ℕ) (c : ℕ) (more : List ℕ) → bytes ≡ c ∷ more → is_ascii_digit c ≡ false → BeginsNoNumber bytes
+none_other bytes c more b no_digit_there d rest e =
+    let n = natural-head d in
+    let f : c ∷ more ≡ n.head ∷ (n.tail ++ rest) = sym b ∙ e ∙ ap (λ x. x ++ rest) n.is in
+    let same : c ≡ n.head = cc in
+    false≢true (sym no_digit_there ∙ ap is_ascii_digit same ∙ digit_from n.head n.low n.high)
+
+pub number_zero : (bytes rest : List ℕ) → bytes ≡ 48 ∷ rest → NumberThen bytes 0 rest
+number_zero bytes rest e = record {
+  number = 0;
+  capped = refl;
+  cut = e ∙ ap (λ x. x ++ rest) (sym (natural_small 0 (omega arith)));
+  ends = λ some. absurd (omega arith);
+}
+
+pub number_some : (bytes : List ℕ) (c : ℕ) (rest : List ℕ) (n : ℕ) (more : List ℕ) → bytes ≡ c ∷ rest → c ≢ 48 → is_ascii_digit c ≡ true → n ≡ min (value_after (c - 48) (digits_at rest)) step_cap → more ≡ after_digits rest → NumberThen bytes n more
+number_some bytes c rest n more b other digit e f =
+    let low = digit_low c digit in
+    let high = digit_high c digit in
+    let k = cut rest in
+    let same : 48 + (c - 48) ≡ c = omega arith in
+    let one : natural (c - 48) ≡ c ∷ [] = natural_small (c - 48) (omega arith) ∙ ap (λ x. x ∷ []) same in
+    let is : natural (value_after (c - 48) (digits_at rest)) ≡ c ∷ digits_at rest = natural_after (c - 48) (digits_at rest) (omega arith) k.0 ∙ ap (λ x. x ++ digits_at rest) one in
+    record {
+      number = value_after (c - 48) (digits_at rest);
+      capped = e;
+      cut = b ∙ ap (λ x. c ∷ x) k.1 ∙ ap (λ x. x ++ after_digits rest) (sym is) ∙ ap (λ x. natural (value_after (c - 48) (digits_at rest)) ++ x) (sym f);
+      ends = λ some. subst BeginsNoDigit (sym f) k.2;
+    }
+
+-- another byte than a space behind the number
+pub no_step : (bytes : List ℕ) (n : ℕ) (rest : List ℕ) → NumberThen bytes n rest → ((value : List ℕ) → rest ≡ 32 ∷ value → ⊥) → BeginsNoStep bytes
+no_step bytes n rest h other d value e = other value (natural-cut h.number d rest (32 ∷ value) h.ends (no_digit d value) (sym h.cut ∙ e)).1
+
+pub no_step_empty : (bytes : List ℕ) (n : ℕ) (rest : List ℕ) → NumberThen bytes n rest → length rest < 1 → BeginsNoStep bytes
+no_step_empty bytes n rest h none = no_step bytes n rest h (λ value e. let f = ap length e in omega arith)
+
+pub no_step_other : (bytes : List ℕ) (n : ℕ) (rest : List ℕ) (c : ℕ) (more : List ℕ) → NumberThen bytes n rest → rest ≡ c ∷ more → c ≢ 32 → BeginsNoStep bytes
+no_step_other bytes n rest c more h b other = no_step bytes n rest h (λ value e. let same : c ≡ 32 = cc in other same)
+
+pub no_step_none : (bytes : List ℕ) → BeginsNoNumber bytes → BeginsNoStep bytes
+no_step_none bytes none d rest e = none d (32 ∷ rest) e
+
+pub step_then : (bytes : List ℕ) (n : ℕ) (rest value : List ℕ) → NumberThen bytes n rest → rest ≡ 32 ∷ value → StepThen bytes n value
+step_then bytes n rest value h e = record {
+  step = h.number;
+  capped = h.capped;
+  cut = h.cut ∙ ap (λ x. natural h.number ++ x) e;
+}
+
+-- a line without a step has no form but the blank one
+pub formless_none : (bytes : List ℕ) → (HasForm bytes blank → ⊥) → BeginsNoStep bytes → (form : Form) → HasForm bytes form → ⊥
+formless_none bytes some none form h = at bytes form h some none
+  where
+    at : (bytes : List ℕ) (form : Form) → HasForm bytes form → (HasForm bytes blank → ⊥) → BeginsNoStep bytes → ⊥
+    at _ _ empty some none = some empty
+    at _ _ comment some none = some comment
+    at _ _ (with_value {value = value} {d = d} e n) some none = none d value e
+    at _ _ (unchanged {d = d} e n) some none = none d (codes "=") e
+
+-- a step of 0 with the input unchanged
+pub formless_zero : (bytes : List ℕ) (n : ℕ) (value : List ℕ) → (HasForm bytes blank → ⊥) → StepThen bytes n value → value ≡ codes "=" → n ≡ 0 → (form : Form) → HasForm bytes form → ⊥
+formless_zero bytes n value some s is zero_step form h = at bytes form h some s
+  where
+    at : (bytes : List ℕ) (form : Form) → HasForm bytes form → (HasForm bytes blank → ⊥) → StepThen bytes n value → ⊥
+    at _ _ empty some s = some empty
+    at _ _ comment some s = some comment
+    at _ _ (with_value {value = other} {d = d} e other_value) some s =
+        let same = natural-cut s.step d (32 ∷ value) (32 ∷ other) (no_digit s.step value) (no_digit d other) (sym s.cut ∙ e) in
+        let rests = same.1 in
+        let values : other ≡ codes "=" = cc in
+        other_value values
+    at _ _ (unchanged {d = d} e positive) some s =
+        let same = natural-cut s.step d (32 ∷ value) (codes " =") (no_digit s.step value) (no_digit d (codes "=")) (sym s.cut ∙ e) in
+        let steps = same.0 in
+        let capped = s.capped in
+        omega arith
+
+-- a time step up to the cap has the refusal of the step itself
+pub step_refusal-capped : (s : Bool) (n d : ℕ) → n ≡ min d step_cap → step_refusal s n ≡ step_refusal s d
+step_refusal-capped false n d e = let P : n ≡ 0 → d ≡ 0 = λ z. omega arith in grind (arith, nat_tests)
+step_refusal-capped true n d e = grind (arith, nat_tests)
+
+-- and is that step, where it isn't refused
+pub timely_step : (s : Bool) (n d : ℕ) → n ≡ min d step_cap → step_refusal s n ≡ None → n ≡ d
+timely_step false n d e h = grind (arith, nat_tests)
+timely_step true n d e h = grind (arith, nat_tests)
+
+-- a line of no bytes is blank
+pub blank_empty : (bytes : List ℕ) → length bytes < 1 → HasForm bytes blank
+blank_empty [] h = empty
+blank_empty (b ∷ bytes) h = absurd (omega arith)
+
+-- and so is a comment, and no other line
+pub blank_comment : (bytes : List ℕ) (c : ℕ) (more : List ℕ) → bytes ≡ c ∷ more → (c ≡ 35 → HasForm bytes blank) × (HasForm bytes blank → c ≡ 35)
+blank_comment bytes c more e = (
+  λ is. subst (λ x. HasForm x blank) (ap (λ x. x ∷ more) (sym is) ∙ sym e) comment,
+  λ h. at bytes h e,
+)
+  where
+    at : (bytes : List ℕ) → HasForm bytes blank → bytes ≡ c ∷ more → c ≡ 35
+    at _ empty e = cc
+    at _ comment e = cc
+
+-- what the test of a line for a blank one told
+pub not_blank : (b : Bool) (P : Type 0) → b ≡ false → (IsTrue b ↔ P) → P → ⊥
+not_blank b P e h p = false≢true (sym e ∙ h.1 p)
+
+-- what the test of a value for `=` told
+pub differs : (value other : List ℕ) → other ≡ codes "=" → true ≡ not (pointwise nat_eq value other) → value ≢ codes "="
+differs value other e test = at (pointwise nat_eq value other) refl test
+  where
+    at : (b : Bool) → b ≡ pointwise nat_eq value other → true ≡ not b → value ≢ codes "="
+    at true is h = absurd (false≢true (sym h))
+    at false is h = λ same. other_text value other is (same ∙ sym e)
+
+pub equals : (value other : List ℕ) → other ≡ codes "=" → false ≡ not (pointwise nat_eq value other) → value ≡ codes "="
+equals value other e test = at (pointwise nat_eq value other) refl test
+  where
+    at : (b : Bool) → b ≡ pointwise nat_eq value other → false ≡ not b → value ≡ codes "="
+    at true is h = same_text value other is ∙ e
+    at false is h = absurd (false≢true h)
+
+pub step_positive : (n d : ℕ) → n ≡ min d step_cap → 0 < n → 0 < d
+step_positive n d e h = omega arith
+
+-- a refused time step refuses the line
+pub says_untimely : (s : Bool) (k : Kind) (bytes : List ℕ) (form : Form) (n d : ℕ) (r : LineRefusal) → n ≡ min d step_cap → HasForm bytes form → step_of form ≡ Some d → Some r ≡ step_refusal s n → Says s k bytes (Err r)
+says_untimely s k bytes form n d r e h is refused = untimely h is (sym (step_refusal-capped s n d e) ∙ sym refused)
+
+-- a command of a value at a time step
+abbrev pub IsCommandAt : Kind → ℕ → List ℕ → Command → Type 0
+IsCommandAt k n value c = (x : Data) × Reads k value (Ok x) × (asked_of c ≡ asked_at n x)
+
+abbrev pub IsRefusalOf : Kind → List ℕ → LineRefusal → Type 0
+IsRefusalOf k value e = e ≢ Memory → (r : Refusal) × Reads k value (Err r) × (e ≡ value_refusal r)
+
+module _ (s : Bool) (k : Kind) (bytes : List ℕ) (n d : ℕ) (value : List ℕ) where
+  pub says_command : n ≡ min d step_cap → HasForm bytes (sampled d value) → None ≡ step_refusal s n → (result : Result Command LineRefusal) → IfOk result (IsCommandAt k n value) → IfOk result (λ c. Says s k bytes (Ok (asked_of c)))
+  says_command e h timely (Ok c) is =
+      let same : n ≡ d = timely_step s n d e (sym timely) in
+      let asked : asked_at d is.0 ≡ asked_of c = ap (λ t. asked_at t is.0) (sym same) ∙ sym is.2 in
+      subst (λ a. Says s k bytes (Ok a)) asked (read h (sym (step_refusal-capped s n d e) ∙ sym timely) is.1)
+  says_command e h timely (Err r) is = is
+
+  pub says_failure : n ≡ min d step_cap → HasForm bytes (sampled d value) → None ≡ step_refusal s n → (result : Result Command LineRefusal) → IfErr result (IsRefusalOf k value) → IfErr result (λ r. r ≢ Memory → Says s k bytes (Err r))
+  says_failure e h timely (Ok c) is = is
+  says_failure e h timely (Err r) is = λ some.
+      let why = is some in
+      subst (λ a. Says s k bytes (Err a)) (sym why.2) (unread why.0 h (sym (step_refusal-capped s n d e) ∙ sym timely) why.1)
+
+-- a step with the input unchanged
+pub says_again : (s : Bool) (k : Kind) (bytes : List ℕ) (n d : ℕ) → n ≡ min d step_cap → HasForm bytes (repeated d) → None ≡ step_refusal s n → Says s k bytes (Ok (advance n None))
+says_again s k bytes n d e h timely =
+    let same : n ≡ d = timely_step s n d e (sym timely) in
+    subst (λ t. Says s k bytes (Ok (advance t None))) (sym same) (again h (sym (step_refusal-capped s n d e) ∙ sym timely))

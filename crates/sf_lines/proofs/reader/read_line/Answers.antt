@@ -1,0 +1,37 @@
+use Rattle.std.proofs.Common.{refl}
+use Rattle.sf_lines.specs.Asking.{formless, silent}
+use Rattle.sf_lines.proofs.Parsed.{says_untimely, says_command, says_failure, says_again}
+use Rattle.sf_lines.proofs.reader.read_line.Goals as goal
+
+pub returns-in-None-clause-refused : goal.returns-in-None-clause-refused
+returns-in-None-clause-refused c = λ _. formless c.in-None.ensures
+
+pub returns-in-Some-Blank-clause-ok : goal.returns-in-Some-Blank-clause-ok
+returns-in-Some-Blank-clause-ok c = silent (rw c.in-Some-Blank.field-0-is at c.in-Some-Blank.ensures)
+
+pub returns-in-Some-clause-refused : goal.returns-in-Some-clause-refused
+returns-in-Some-clause-refused c =
+    let parts = rw c.in-Some-Sampled.field-0-is at c.in-Some-Sampled.ensures in
+    λ _. says_untimely _ _ _ _ c.in-Some-Sampled.step parts.0 _ parts.1 parts.2 refl c.in-Some.ensures
+
+pub returns-in-None-refusal_of_step-clause-ok : goal.returns-in-None-refusal_of_step-clause-ok
+returns-in-None-refusal_of_step-clause-ok c =
+    let parts = rw c.in-Some-Sampled.field-0-is at c.in-Some-Sampled.ensures in
+    says_command _ _ _ c.in-Some-Sampled.step parts.0 _ parts.1 parts.2 c.in-None-refusal_of_step.ensures c.sample_at.result c.sample_at.ensures.ok
+
+pub returns-in-None-refusal_of_step-clause-refused :
+    goal.returns-in-None-refusal_of_step-clause-refused
+returns-in-None-refusal_of_step-clause-refused c =
+    let parts = rw c.in-Some-Sampled.field-0-is at c.in-Some-Sampled.ensures in
+    says_failure _ _ _ c.in-Some-Sampled.step parts.0 _ parts.1 parts.2 c.in-None-refusal_of_step.ensures c.sample_at.result c.sample_at.ensures.err
+
+pub returns-in-Some-refusal_of_step-clause-refused :
+    goal.returns-in-Some-refusal_of_step-clause-refused
+returns-in-Some-refusal_of_step-clause-refused c =
+    let parts = rw c.in-Some-Repeated.field-0-is at c.in-Some-Repeated.ensures in
+    λ _. says_untimely _ _ _ _ c.in-Some-Repeated.step parts.0 _ parts.1 parts.2 refl c.in-Some-refusal_of_step.ensures
+
+pub returns-in-None-refusal_of_step-2-clause-ok : goal.returns-in-None-refusal_of_step-2-clause-ok
+returns-in-None-refusal_of_step-2-clause-ok c =
+    let parts = rw c.in-Some-Repeated.field-0-is at c.in-Some-Repeated.ensures in
+    says_again _ _ _ c.in-Some-Repeated.step parts.0 parts.1 parts.2 c.in-None-refusal_of_step-2.ensures

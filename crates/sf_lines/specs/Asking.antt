@@ -1,0 +1,58 @@
+-- The grammar of input lines, and what a line asks for.
+use Rattle.std.specs.Prelude.{◌≡◌, ◌≢◌, ℕ, zero, suc, ◌<◌, ◌==◌, Bool, true, false, nat_lt, if◌then◌else◌, List, [], ◌∷◌, ◌++◌, codes, Option, Some, None, Result, Ok, Err}
+use Rattle.sf_value.specs.Values.{Kind, Data}
+use Rattle.sf_value.specs.Spelling.{natural}
+use Rattle.sf_value.specs.Reading.{Refusal, bad_value, out_of_range, Reads}
+use Rattle.sf_lines.specs.declared.refusal.LineRefusal.{LineRefusal}
+use Rattle.sf_lines.specs.declared.refusal.LineRefusal.TheVariants.{BadLine, NotStarted, Started, BadStep, BadValue, OutOfRange}
+
+-- The parts of a line: nothing, or a comment; a time step in milliseconds and the bytes of a value; a time step
+-- with the input unchanged.
+pub data Form : Type 0 where
+  blank : Form
+  sampled : ℕ → List ℕ → Form
+  repeated : ℕ → Form
+
+-- a line has these parts
+pub data HasForm : List ℕ → Form → Type 0 where
+  empty : HasForm [] blank
+  comment : {rest : List ℕ} → HasForm (35 ∷ rest) blank
+  with_value : {line value : List ℕ} {d : ℕ} → line ≡ natural d ++ (codes " " ++ value) → value ≢ codes "=" → HasForm line (sampled d value)
+  unchanged : {line : List ℕ} {d : ℕ} → line ≡ natural d ++ codes " =" → 0 < d → HasForm line (repeated d)
+
+-- What a line asks for: nothing; a start with this value; a step of so many milliseconds, with this input or,
+-- without one, the input unchanged.
+pub data Asked : Type 0 where
+  nothing : Asked
+  start : Data → Asked
+  advance : ℕ → Option Data → Asked
+
+-- the time step of a line
+abbrev pub step_of : Form → Option ℕ
+step_of blank = None
+step_of (sampled d value) = Some d
+step_of (repeated d) = Some d
+
+-- The refusal of a time step: 0 is the start, which comes once and first; a step has at most 3,600,000 milliseconds.
+abbrev pub step_refusal : Bool → ℕ → Option LineRefusal
+step_refusal false d = if d == 0 then None else Some NotStarted
+step_refusal true d = if d == 0 then Some Started else (if nat_lt 3600000 d then Some BadStep else None)
+
+-- the refusal of the bytes of a value
+abbrev pub value_refusal : Refusal → LineRefusal
+value_refusal (bad_value n) = BadValue
+value_refusal (out_of_range n) = OutOfRange
+
+-- a value at a time step
+abbrev pub asked_at : ℕ → Data → Asked
+asked_at zero x = start x
+asked_at (suc d) x = advance (suc d) (Some x)
+
+-- What a line asks for, or the refusal that comes first: of its form, of its time step, of its value.
+pub data Says (started : Bool) (input : Kind) : List ℕ → Result Asked LineRefusal → Type 0 where
+  formless : {line : List ℕ} → ((form : Form) → HasForm line form → ⊥) → Says started input line (Err BadLine)
+  silent : {line : List ℕ} → HasForm line blank → Says started input line (Ok nothing)
+  untimely : {line : List ℕ} {form : Form} {d : ℕ} {r : LineRefusal} → HasForm line form → step_of form ≡ Some d → step_refusal started d ≡ Some r → Says started input line (Err r)
+  unread : {line value : List ℕ} {d : ℕ} (r : Refusal) → HasForm line (sampled d value) → step_refusal started d ≡ None → Reads input value (Err r) → Says started input line (Err (value_refusal r))
+  read : {line value : List ℕ} {d : ℕ} {x : Data} → HasForm line (sampled d value) → step_refusal started d ≡ None → Reads input value (Ok x) → Says started input line (Ok (asked_at d x))
+  again : {line : List ℕ} {d : ℕ} → HasForm line (repeated d) → step_refusal started d ≡ None → Says started input line (Ok (advance d None))

@@ -1,0 +1,9 @@
+-- What a command asks for.
+use Rattle.sf_lines.specs.declared.reader.Command.{Command}
+use Rattle.sf_lines.specs.declared.reader.Command.TheVariants.{Nothing, Start, Step}
+use Rattle.sf_lines.specs.Asking.{Asked, nothing, start, advance}
+
+abbrev pub asked_of : Command → Asked
+asked_of Nothing = nothing
+asked_of (Start x) = start x
+asked_of (Step dt input) = advance dt input

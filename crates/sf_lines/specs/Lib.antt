@@ -1,0 +1,10 @@
+pub mod Lines
+pub mod Limits
+pub mod Cutting
+pub mod Standing
+pub mod Refusals
+pub mod Names
+pub mod Written
+pub mod Asking
+pub mod Commands
+pub mod Parsing

@@ -1,0 +1,10 @@
+-- The refusal of a line whose value is not read.
+use Rattle.sf_value.specs.declared.read.ReadRefusal.{ReadRefusal}
+use Rattle.sf_value.specs.declared.read.ReadRefusal.TheVariants as read
+use Rattle.sf_lines.specs.declared.refusal.LineRefusal.{LineRefusal}
+use Rattle.sf_lines.specs.declared.refusal.LineRefusal.TheVariants.{BadValue, OutOfRange, Memory}
+
+abbrev pub refusal_from : ReadRefusal → LineRefusal
+refusal_from (read.BadValue place) = BadValue
+refusal_from (read.OutOfRange place) = OutOfRange
+refusal_from read.Memory = Memory

@@ -1,0 +1,22 @@
+//! The lines of an input and of an output.
+//!
+//! An input line is empty or a comment behind `#`, `DT VALUE`, a time step in milliseconds and a value, or `DT =`,
+//! a step with the input unchanged. An output line is `> T VALUE`, a sample, `! T FAULT`, the fault of a sample, or
+//! `! line N REFUSAL`, the refusal of an input line.
+#![tactic(auto)]
+
+mod cutter;
+mod laws;
+mod reader;
+mod refusal;
+mod short;
+#[cfg(test)]
+mod tests;
+mod writer;
+
+pub use cutter::{Cut, Cutter};
+pub use laws::one_answer;
+pub use reader::{Command, read_line};
+pub use refusal::LineRefusal;
+pub use short::ShortLine;
+pub use writer::{write_fault, write_refusal, write_sample};

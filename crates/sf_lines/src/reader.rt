@@ -1,0 +1,202 @@
+//! Input lines.
+ghost use Rattle.std.specs.Prelude.{◌≡◌, ◌≢◌, ◌≤◌, ◌<◌, ◌+◌, ◌*◌, ℕ, IfOk, IfErr, IsTrue, ◌↔◌, MatchOption, min, Ok, Err};
+ghost use Rattle.sf_value.specs.Values.{Data};
+ghost use Rattle.sf_value.specs.Digits.{value_after, digits_at, after_digits};
+ghost use Rattle.sf_value.specs.Reading.{Refusal, Reads};
+ghost use Rattle.sf_lines.specs.declared.refusal.LineRefusal.TheVariants.{Memory};
+ghost use Rattle.sf_lines.specs.Asking.{Form, blank, HasForm, step_refusal, value_refusal, asked_at, Says};
+ghost use Rattle.sf_lines.specs.Commands.{asked_of};
+ghost use Rattle.sf_lines.specs.Parsing.{step_cap, NumberThen, BeginsNoNumber, StepThen, BeginsNoStep, HasParts};
+
+use crate::refusal::LineRefusal;
+use sf_value::{Ty, Value, read_value};
+use std::alloc::Global;
+
+/// What an input line asks for.
+#[derive(Drop)]
+pub enum Command {
+    /// Nothing: the line is empty or a comment.
+    Nothing,
+    /// A start with this value.
+    Start(Value),
+    /// A step of so many milliseconds, 1 to 3,600,000. Without a value the input is unchanged.
+    Step { dt: u64, input: Option<Value> },
+}
+
+/// The parts of a line, its time step up to the cap.
+#[derive(Clone, Copy)]
+pub(crate) enum Parts<'a> {
+    Blank,
+    Sampled(u64, &'a [u8]),
+    Repeated(u64),
+}
+
+/// The command of an input line, its line feed apart, where an engine has started or not and its input has this type.
+///
+/// The form of a line is looked at first, then its time step, then its value: `BadLine`; `NotStarted` or `Started`;
+/// `BadStep`; `BadValue` or `OutOfRange`. `Memory` is answered only where memory runs out.
+pub fn read_line(
+    alloc: Global,
+    bytes: &[u8],
+    started: bool,
+    ty: &Ty,
+) -> Result<Command, LineRefusal>
+    ensures ok { IfOk result (λ c. Says started ty.now bytes.now (Ok (asked_of c))) }
+    ensures refused { IfErr result (λ e. e ≢ Memory → Says started ty.now bytes.now (Err e)) }
+{
+    match parts_of(bytes) {
+        None => Err(LineRefusal::BadLine),
+        Some(Parts::Blank) => Ok(Command::Nothing),
+        Some(Parts::Sampled(step, value)) => match refusal_of_step(started, step) {
+            Some(refusal) => Err(refusal),
+            None => sample_at(alloc, step, value, ty),
+        },
+        Some(Parts::Repeated(step)) => match refusal_of_step(started, step) {
+            Some(refusal) => Err(refusal),
+            None => Ok(Command::Step {
+                dt: step,
+                input: None,
+            }),
+        },
+    }
+}
+
+/// The start or the step with a value.
+fn sample_at(alloc: Global, step: u64, value: &[u8], ty: &Ty) -> Result<Command, LineRefusal>
+    ensures ok { IfOk result (λ c. (x : Data) × Reads ty.now value.now (Ok x)
+        × (asked_of c ≡ asked_at step x)) }
+    ensures err { IfErr result (λ e. e ≢ Memory →
+        (r : Refusal) × Reads ty.now value.now (Err r) × (e ≡ value_refusal r)) }
+{
+    match read_value(alloc, ty, value) {
+        Ok(x) => {
+            if step == 0 {
+                Ok(Command::Start(x))
+            } else {
+                Ok(Command::Step {
+                    dt: step,
+                    input: Some(x),
+                })
+            }
+        }
+        Err(refusal) => Err(LineRefusal::from(refusal)),
+    }
+}
+
+const LONGEST_STEP: u64 = 3_600_000;
+
+/// The refusal of a time step.
+fn refusal_of_step(started: bool, step: u64) -> Option<LineRefusal>
+    ensures { result ≡ step_refusal started step }
+{
+    if !started {
+        if step == 0 {
+            None
+        } else {
+            Some(LineRefusal::NotStarted)
+        }
+    } else if step == 0 {
+        Some(LineRefusal::Started)
+    } else if step > LONGEST_STEP {
+        Some(LineRefusal::BadStep)
+    } else {
+        None
+    }
+}
+
+/// The parts of a line, where it has a form.
+fn parts_of(bytes: &[u8]) -> Option<Parts<'_>>
+    ensures { MatchOption result
+        ((form : Form) → HasForm bytes.now form → ⊥)
+        (HasParts bytes.now) }
+{
+    if is_blank(bytes) {
+        return Some(Parts::Blank);
+    }
+    match step_at(bytes) {
+        None => None,
+        Some((step, value)) => {
+            if value != b"=".as_slice() {
+                Some(Parts::Sampled(step, value))
+            } else if step > 0 {
+                Some(Parts::Repeated(step))
+            } else {
+                None
+            }
+        }
+    }
+}
+
+/// Whether a line is empty or a comment.
+fn is_blank(bytes: &[u8]) -> bool
+    ensures { IsTrue result ↔ HasForm bytes.now blank }
+{
+    match bytes {
+        [] => true,
+        [c, ..] => *c == b'#',
+    }
+}
+
+/// The time step at the front, up to the cap, and what is after the space behind it.
+fn step_at(bytes: &[u8]) -> Option<(u64, &[u8])>
+    ensures { MatchOption result (BeginsNoStep bytes.now) (λ x. StepThen bytes.now x.0 x.1.now) }
+{
+    match number_at(bytes) {
+        None => None,
+        Some((step, rest)) => match rest {
+            [] => None,
+            [c, value @ ..] => {
+                if *c == b' ' {
+                    Some((step, value))
+                } else {
+                    None
+                }
+            }
+        },
+    }
+}
+
+/// The number at the front, up to the cap, and what is after it.
+fn number_at(bytes: &[u8]) -> Option<(u64, &[u8])>
+    ensures { MatchOption result (BeginsNoNumber bytes.now) (λ x. NumberThen bytes.now x.0 x.1.now) }
+{
+    match bytes {
+        [] => None,
+        [c, rest @ ..] => {
+            if *c == b'0' {
+                Some((0, rest))
+            } else if c.is_ascii_digit() {
+                Some(digits_after((*c - b'0') as u64, rest))
+            } else {
+                None
+            }
+        }
+    }
+}
+
+/// The number that the digits at the front make after a first digit, up to the cap, and what is after them.
+fn digits_after(first: u64, bytes: &[u8]) -> (u64, &[u8])
+    requires { first < 10 }
+    ensures number { result.0 ≡ min (value_after first (digits_at bytes.now)) step_cap }
+    ensures rest { result.1.now ≡ after_digits bytes.now }
+{
+    let mut n = first;
+    let mut left = bytes;
+    while let [c, rest @ ..] = left {
+        if !c.is_ascii_digit() {
+            break;
+        }
+        n = grown(n, *c - b'0');
+        left = rest;
+    }
+    (n, left)
+}
+
+/// One more digit, up to the cap.
+fn grown(n: u64, digit: u8) -> u64
+    requires capped { n ≤ step_cap }
+    requires digit { digit < 10 }
+    ensures { result ≡ min (n * 10 + digit) step_cap }
+{
+    (n * 10 + digit as u64).min(LONGEST_STEP + 1)
+}

@@ -1,0 +1,102 @@
+//! Output lines.
+ghost use Rattle.std.specs.Prelude.{◌≡◌, ◌++◌, ◌≤◌, length, OnOk, OnErr, take, vec_len};
+ghost use Rattle.sf_lines.specs.Names.{fault_name, refusal_name, value_fault_name};
+ghost use Rattle.sf_lines.specs.Written.{sample_line, fault_line, refusal_line};
+
+use crate::refusal::LineRefusal;
+use crate::short::ShortLine;
+use sf_value::{Fault, Value, ValueFault, write_natural, write_value};
+use std::alloc::AllocError;
+
+/// Appends the line of a sample, `> T VALUE`, at a time in milliseconds. An error leaves what was there.
+pub fn write_sample(time: u64, value: &Value, out: &mut Vec<u8>) -> Result<(), AllocError>
+    ensures ok { OnOk result (out.new.items ≡ out.old.items ++ sample_line time value.now) }
+    ensures err { OnErr result (out.new.items ≡ out.old.items) }
+{
+    let start = out.len();
+    let written = append_sample(time, value, out);
+    if written.is_err() {
+        out.truncate(start);
+    }
+    written
+}
+
+/// The line of a fault, `! T FAULT`, at a time in milliseconds.
+#[tactic(auto, using(crate::proofs::Sizes::natural_size))]
+pub fn write_fault(time: u64, fault: Fault) -> ShortLine
+    ensures { result ≡ fault_line time fault }
+{
+    let mut line = ShortLine::new();
+    line.put(b"! ");
+    line.put_natural(time);
+    line.put(b" ");
+    line.put(name_of_fault(fault));
+    line.put(b"\n");
+    line
+}
+
+/// The line of a refusal, `! line N REFUSAL`, of the input line with this number from 1.
+#[tactic(auto, using(crate::proofs::Sizes::natural_size))]
+pub fn write_refusal(line: u64, refusal: LineRefusal) -> ShortLine
+    ensures { result ≡ refusal_line line refusal }
+{
+    let mut text = ShortLine::new();
+    text.put(b"! line ");
+    text.put_natural(line);
+    text.put(b" ");
+    text.put(name_of_refusal(refusal));
+    text.put(b"\n");
+    text
+}
+
+// An error leaves a part of the line behind what was there.
+fn append_sample(time: u64, value: &Value, out: &mut Vec<u8>) -> Result<(), AllocError>
+    ensures ok { OnOk result (out.new.items ≡ out.old.items ++ sample_line time value.now) }
+    ensures err { OnErr result (take (vec_len out.old) out.new.items ≡ out.old.items) }
+{
+    out.extend_from_slice(b"> ")?;
+    write_natural(time, out)?;
+    out.extend_from_slice(b" ")?;
+    write_value(value, out)?;
+    out.extend_from_slice(b"\n")
+}
+
+fn name_of_fault(fault: Fault) -> &'static [u8]
+    ensures name { result.now ≡ fault_name fault }
+    ensures short { length result.now ≤ 12 }
+{
+    match fault {
+        Fault::Value(fault) => name_of_value_fault(fault),
+        Fault::Large => b"Large",
+        Fault::Memory => b"Memory",
+    }
+}
+
+fn name_of_value_fault(fault: ValueFault) -> &'static [u8]
+    ensures name { result.now ≡ value_fault_name fault }
+    ensures short { length result.now ≤ 12 }
+{
+    match fault {
+        ValueFault::Overflow => b"Overflow",
+        ValueFault::DivideByZero => b"DivideByZero",
+        ValueFault::Clash => b"Clash",
+        ValueFault::Function => b"Function",
+    }
+}
+
+fn name_of_refusal(refusal: LineRefusal) -> &'static [u8]
+    ensures name { result.now ≡ refusal_name refusal }
+    ensures short { length result.now ≤ 12 }
+{
+    match refusal {
+        LineRefusal::BadLine => b"BadLine",
+        LineRefusal::LineTooLong => b"LineTooLong",
+        LineRefusal::TooManyLines => b"TooManyLines",
+        LineRefusal::NotStarted => b"NotStarted",
+        LineRefusal::Started => b"Started",
+        LineRefusal::BadStep => b"BadStep",
+        LineRefusal::BadValue => b"BadValue",
+        LineRefusal::OutOfRange => b"OutOfRange",
+        LineRefusal::Memory => b"Memory",
+    }
+}

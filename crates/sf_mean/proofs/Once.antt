@@ -1,0 +1,52 @@
+-- One outcome at most.
+use Rattle.std.proofs.Common.{◌≡◌, List, ◌∷◌, refl, sym, ap, ◌∙◌, subst}
+use mathlib.Core.Path.{ap₂, subst₂}
+use Rattle.sf_value.specs.Values.{Data}
+use Rattle.sf_value.specs.declared.fault.ValueFault.{ValueFault}
+use Rattle.sf_value.specs.declared.fault.ValueFault.TheVariants.{Overflow}
+use Rattle.sf_expr.specs.Evaluation.{Evaluated, answer, failed}
+use Rattle.sf_term.specs.Trees.{Term}
+use Rattle.sf_mean.specs.Lives.{Step, Life, Process, Environment}
+use Rattle.sf_mean.specs.Meaning.{Network, Outcome, faulted, combined, value_in, Cost, both_costs, over, Made, nothing_made, right_life, join_value, Gives, gives, Outputs, not_begun, and_gave, Sample, of_constants, of_form, Form, of_primitive, of_join, Next, goes_on, stops}
+
+-- two outcomes are one, at one cost
+abbrev pub Same : Outcome → Outcome → Cost → Cost → Type 0
+Same a b c d = (a ≡ b) × (c ≡ d)
+
+abbrev answered : {A : Type 0} → A → Evaluated A → A
+answered x (answer a) = a
+answered x (failed f) = x
+
+abbrev fault_of : {A : Type 0} → Evaluated A → ValueFault
+fault_of (answer a) = Overflow
+fault_of (failed f) = f
+
+module _ (n : Network) where
+  mutual
+    pub once : {P : Process} {L : Life} {a b : Outcome} {c d : Cost} → Gives n P L a c → Gives n P L b d → Same a b c d
+    once (gives A B) (gives A' B') = once_sample B B'
+
+    pub onces : {P : Process} {L : Life} {ys zs : List Data} → Outputs n P L ys → Outputs n P L zs → ys ≡ zs
+    onces not_begun not_begun = refl
+    onces (and_gave A B) (and_gave A' B') = ap₂ (λ y ys. y ∷ ys) (ap value_in (once_sample B B').0) (onces A A')
+
+    pub once_sample : {P : Process} {s : Step} {L : Life} {a b : Outcome} {c d : Cost} → Sample n P s L a c → Sample n P s L b d → Same a b c d
+    once_sample (of_constants h) (of_constants h') = (ap (λ q. faulted (fault_of q)) (sym h ∙ h'), refl)
+    once_sample (of_constants h) (of_form h' F) = absurd cc
+    once_sample (of_form h F) (of_constants h') = absurd cc
+    once_sample (of_form {t = t} {e = e} {s = s} {L = L} {m = m} h F) (of_form {o = b} {c = d} h' F') =
+        let N : Made → Type 0 = λ m. Form n t e m s L b d in
+        once_form F (subst N (ap (answered nothing_made) (sym h' ∙ h)) F')
+
+    pub once_form : {t : Term} {e : Environment} {m : Made} {s : Step} {L : Life} {a b : Outcome} {c d : Cost} → Form n t e m s L a c → Form n t e m s L b d → Same a b c d
+    once_form (of_primitive h) (of_primitive h') = (sym h ∙ h', refl)
+    once_form (of_join {j = j} {g = g} {e = e} {s = s} {L = L} A B C) (of_join {ys = zs} {o = q} {o' = b} {c' = d} A' B' C') =
+        let e1 = onces A A' in
+        let e2 = once B B' in
+        let N : Outcome → List Data → Type 0 = λ q l. Next n q g e (right_life j (s ∷ L) (value_in q ∷ l)) b d in
+        let e3 = once_next C (subst₂ N (sym e2.0) (sym e1) C') in
+        (ap₂ (combined (join_value j)) e2.0 e3.0, ap₂ (λ x y. over (both_costs x y)) e2.1 e3.1)
+
+    pub once_next : {q : Outcome} {t : Term} {e : Environment} {L : Life} {a b : Outcome} {c d : Cost} → Next n q t e L a c → Next n q t e L b d → Same a b c d
+    once_next (goes_on A) (goes_on B) = once A B
+    once_next stops stops = (refl, refl)

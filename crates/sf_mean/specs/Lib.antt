@@ -1,0 +1,5 @@
+pub mod Lives
+pub mod Formulas
+pub mod Meaning
+pub mod Networks
+pub mod Typing

@@ -1,0 +1,61 @@
+-- Lives and processes.
+use Rattle.std.specs.Prelude.{ℕ, ◌+◌, ◌≤◌, List, [], ◌∷◌, ⊤}
+use Rattle.sf_value.specs.Values.{Data}
+use Rattle.sf_term.specs.Trees.{Term}
+use Rattle.sf_expr.specs.Evaluation.{Scope, no_names}
+
+-- A step: the time since the step before, and the input. The time of the first step isn't looked at.
+pub data Step : Type 0 where
+  step : ℕ → Data → Step
+
+-- the time since the step before
+abbrev pub wait_of : Step → ℕ
+wait_of (step d x) = d
+
+-- the input
+abbrev pub input_of : Step → Data
+input_of (step d x) = x
+
+-- A life is a list of steps, the newest first.
+abbrev pub Life : Type 0
+Life = List Step
+
+-- the time that has passed since the first step
+abbrev pub time : Life → ℕ
+time [] = 0
+time (s ∷ []) = 0
+time (s ∷ r ∷ L) = time (r ∷ L) + wait_of s
+
+-- each step but the first stands 1 to 3,600,000 milliseconds after the one before
+abbrev pub HasWaits : Life → Type 0
+HasWaits [] = ⊤
+HasWaits (s ∷ []) = ⊤
+HasWaits (s ∷ r ∷ L) = (1 ≤ wait_of s) × (wait_of s ≤ 3600000) × HasWaits (r ∷ L)
+
+-- the bounds of lives
+pub record IsLife (L : Life) : Type 0 where
+  pub waits : HasWaits L
+  pub lasts : time L ≤ 4000000000000000
+
+-- What names stand for.
+pub data Environment : Type 0 where
+  empty : Environment
+
+-- A process: a term with the names around it.
+pub data Process : Type 0 where
+  closure : Term → Environment → Process
+
+-- the scope of expressions
+abbrev pub scope_of : Environment → Scope
+scope_of empty = no_names
+
+-- the same times, with these inputs
+abbrev pub relay : Life → List Data → Life
+relay [] ys = []
+relay (s ∷ L) [] = []
+relay (s ∷ L) (y ∷ ys) = step (wait_of s) y ∷ relay L ys
+
+-- the input of the first step, where s stands after L
+abbrev pub first_input : Step → Life → Data
+first_input s [] = input_of s
+first_input s (r ∷ L) = first_input r L

@@ -1,0 +1,137 @@
+-- What processes give on lives, and at what cost.
+use Rattle.std.specs.Prelude.{◌≡◌, ℕ, suc, ◌+◌, ◌<◌, max, List, [], ◌∷◌, ◌++◌, pos, ◌⊎◌}
+use Rattle.sf_value.specs.Values.{Name, Data, number}
+use Rattle.sf_value.specs.declared.fault.ValueFault.{ValueFault}
+use Rattle.sf_expr.specs.Evaluation.{Evaluated, answer, failed}
+use Rattle.sf_term.specs.declared.form.Join.{Join}
+use Rattle.sf_term.specs.declared.form.Join.TheVariants.{InSequence}
+use Rattle.sf_term.specs.Trees.{Primitive, Term, primitive, joined, Templates}
+use Rattle.sf_mean.specs.Lives.{Step, input_of, Life, Process, closure, Environment, scope_of, relay, first_input as input_at_first}
+use Rattle.sf_mean.specs.Formulas.{formula}
+
+-- A network: its templates. What its stored functions answer will stand beside them.
+pub record Network : Type 0 where
+  pub templates : Templates
+
+-- ## Outcomes and costs
+
+-- What the probes recorded, in order: names with values.
+abbrev pub Readings : Type 0
+Readings = List (Name × Data)
+
+-- The outcome of a step is a value with its readings, or a fault.
+pub data Outcome : Type 0 where
+  gave : Data → Readings → Outcome
+  faulted : ValueFault → Outcome
+
+-- the outcome of two parts, the first before the second: the first fault, or a value made of both with the readings of both
+abbrev pub combined : (Data → Data → Data) → Outcome → Outcome → Outcome
+combined f (gave y r) (gave z q) = gave (f y z) (r ++ q)
+combined f (gave y r) (faulted x) = faulted x
+combined f (faulted x) o = faulted x
+
+-- the value of an outcome (a fault has none that is looked at)
+abbrev pub value_in : Outcome → Data
+value_in (gave y r) = y
+value_in (faulted x) = number (pos 0)
+
+-- an answer, as an outcome with these readings
+abbrev pub as_outcome : Evaluated Data → Readings → Outcome
+as_outcome (answer v) r = gave v r
+as_outcome (failed x) r = faulted x
+
+-- How many terms a sample steps, and how many stand one inside another.
+pub data Cost : Type 0 where
+  cost : (count height : ℕ) → Cost
+
+abbrev pub count : Cost → ℕ
+count (cost n h) = n
+
+abbrev pub height : Cost → ℕ
+height (cost n h) = h
+
+-- no term
+abbrev pub no_cost : Cost
+no_cost = cost 0 0
+
+-- the cost of two parts
+abbrev pub both_costs : Cost → Cost → Cost
+both_costs a b = cost (count a + count b) (max (height a) (height b))
+
+-- a term that counts, over what it steps
+abbrev pub over : Cost → Cost
+over c = cost (suc (count c)) (suc (height c))
+
+-- a term that steps no other
+abbrev pub one_term : Cost
+one_term = over no_cost
+
+-- the terms in the text of a term
+abbrev pub text_cost : Term → Cost
+text_cost (primitive p) = one_term
+text_cost (joined j f g) = over (both_costs (text_cost f) (text_cost g))
+
+-- What a form's constants give.
+pub data Made : Type 0 where
+  nothing_made : Made
+
+-- What stands before a form's parts, evaluated at its first step. A primitive's constants are in its formula.
+abbrev pub make : Network → Term → Environment → Data → Evaluated Made
+make n t e x = answer nothing_made
+
+-- what the left part of a join lives
+abbrev pub left_life : Join → Life → Life
+left_life InSequence L = L
+
+-- what the right part lives, where the left one gave the values ys
+abbrev pub right_life : Join → Life → List Data → Life
+right_life InSequence L ys = relay L ys
+
+-- the value of a join, from those of its parts
+abbrev pub join_value : Join → Data → Data → Data
+join_value InSequence y z = z
+
+-- ## The meaning
+
+mutual
+  -- The outcome at the newest step of a life and the cost of that step. Each proper prefix of the life gives a value.
+  pub data Gives (n : Network) : Process → Life → Outcome → Cost → Type 0 where
+    gives : {P : Process} {s : Step} {L : Life} {ys : List Data} {o : Outcome} {c : Cost}
+        → Outputs n P L ys → Sample n P s L o c → Gives n P (s ∷ L) o c
+
+  -- The values at the steps of a life, the newest first.
+  pub data Outputs (n : Network) : Process → Life → List Data → Type 0 where
+    not_begun : {P : Process} → Outputs n P [] []
+    and_gave : {P : Process} {s : Step} {L : Life} {y : Data} {r : Readings} {ys : List Data} {c : Cost}
+        → Outputs n P L ys → Sample n P s L (gave y r) c → Outputs n P (s ∷ L) (y ∷ ys)
+
+  -- One step. Constants stand before the parts; their fault is the outcome of the first step, at which all terms in the text count.
+  pub data Sample (n : Network) : Process → Step → Life → Outcome → Cost → Type 0 where
+    of_constants : {t : Term} {e : Environment} {s : Step} {x : ValueFault}
+        → make n t e (input_of s) ≡ failed x
+        → Sample n (closure t e) s [] (faulted x) (text_cost t)
+    of_form : {t : Term} {e : Environment} {s : Step} {L : Life} {m : Made} {o : Outcome} {c : Cost}
+        → make n t e (input_at_first s L) ≡ answer m
+        → Form n t e m s L o c
+        → Sample n (closure t e) s L o c
+
+  -- One step of each form, with what it was made with.
+  pub data Form (n : Network) : Term → Environment → Made → Step → Life → Outcome → Cost → Type 0 where
+    -- a primitive gives its formula
+    of_primitive : {p : Primitive} {e : Environment} {m : Made} {s : Step} {L : Life} {o : Outcome}
+        → as_outcome (formula p (scope_of e) s L) [] ≡ o
+        → Form n (primitive p) e m s L o one_term
+    -- left before right, each on its own life
+    of_join : {j : Join} {f g : Term} {e : Environment} {m : Made} {s : Step} {L : Life} {ys : List Data} {o o' : Outcome} {c c' : Cost}
+        → Outputs n (closure f e) (left_life j L) ys
+        → Gives n (closure f e) (left_life j (s ∷ L)) o c
+        → Next n o g e (right_life j (s ∷ L) (value_in o ∷ ys)) o' c'
+        → Form n (joined j f g) e m s L (combined (join_value j) o o') (over (both_costs c c'))
+
+  -- The part that stands next. After a fault it isn't stepped, and the terms in its text count.
+  pub data Next (n : Network) : Outcome → Term → Environment → Life → Outcome → Cost → Type 0 where
+    goes_on : {t : Term} {e : Environment} {L : Life} {y : Data} {r : Readings} {o : Outcome} {c : Cost}
+        → Gives n (closure t e) L o c
+        → Next n (gave y r) t e L o c
+    stops : {t : Term} {e : Environment} {L : Life} {x : ValueFault}
+        → Next n (faulted x) t e L (faulted x) (text_cost t)

@@ -1,0 +1,20 @@
+-- Networks by their templates.
+use Rattle.std.specs.Prelude.{◌≡◌, cond, List, [], ◌∷◌, Option, Some, None, bytes_eq, codes}
+use Rattle.sf_value.specs.Values.{Name}
+use Rattle.sf_term.specs.declared.program.Program.{Program}
+use Rattle.sf_term.specs.Trees.{Template, Templates}
+use Rattle.sf_term.specs.Arena.{templates_of}
+use Rattle.sf_mean.specs.Meaning.{Network}
+
+-- the network of a program
+abbrev pub network_of : Program → Network
+network_of p = record { templates = templates_of p }
+
+-- the first template of a name
+abbrev pub template_named : Name → Templates → Option Template
+template_named x [] = None
+template_named x (t ∷ ts) = cond (bytes_eq x t.name) (Some t) (template_named x ts)
+
+-- the template that a network runs
+abbrev pub main_of : Templates → Option Template
+main_of ts = template_named (codes "main") ts

@@ -1,0 +1,7 @@
+pub mod Known
+pub mod Asked
+pub mod Samples
+pub mod Steps
+pub mod Refusing
+pub mod Running
+pub mod Once

@@ -1,0 +1,6 @@
+pub mod Counting
+pub mod Statuses
+pub mod Refusals
+pub mod Scripts
+pub mod Telling
+pub mod Playing

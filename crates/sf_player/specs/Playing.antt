@@ -1,0 +1,168 @@
+-- What a player has played.
+use Rattle.std.specs.Prelude.{◌≡◌, ℕ, ◌+◌, ◌*◌, ◌≤◌, List, [], ◌++◌, length, take, Option, Some, None, Result, Ok, Err, ⊤}
+use Rattle.sf_value.specs.declared.fault.Fault.TheVariants.{Large, Memory as NoMemory}
+use Rattle.std.specs.Io.KnownBytes.{Appends}
+use Rattle.sf_value.specs.Values.{Kind}
+use Rattle.sf_term.specs.Trees.{Template, Templates}
+use Rattle.sf_mean.specs.Lives.{time}
+use Rattle.sf_mean.specs.Meaning.{Network}
+use Rattle.sf_mean.specs.Networks.{main_of}
+use Rattle.sf_mean.specs.Typing.{Accepted}
+use Rattle.sf_text.specs.Spelling.{IsNetworkText}
+use Rattle.sf_engine.specs.declared.engine.Engine.{Engine}
+use Rattle.sf_engine.specs.declared.engine.Sample.{Sample}
+use Rattle.sf_engine.specs.declared.engine.EngineError.{EngineError}
+use Rattle.sf_engine.specs.declared.engine.EngineError.TheVariants.{Stopped, NotStarted, Started, BadStep, WrongType, Fault as Faulted}
+use Rattle.sf_engine.specs.Running.{Runs}
+use Rattle.sf_engine.specs.Sampling.{IsTooLarge}
+use Rattle.sf_lines.specs.Lines.{lines_of}
+use Rattle.sf_lines.specs.Limits.{limit_refusal}
+use Rattle.sf_lines.specs.Cutting.{pending, line_of, lines_taken}
+use Rattle.sf_lines.specs.Standing.{CutterStands}
+use Rattle.sf_lines.specs.Asking.{Asked}
+use Rattle.sf_lines.specs.Written.{fault_line, refusal_line}
+use Rattle.sf_lines.specs.declared.cutter.Cutter.{Cutter}
+use Rattle.sf_lines.specs.declared.refusal.LineRefusal.TheVariants.{Memory as MemoryRefusal}
+use Rattle.sf_player.specs.Scripts.{Moment, at_start, life_after, IsSample, sample_faulted, line_refused, goes_on, ends, Asks, Replies, Reaches}
+use Rattle.sf_player.specs.Telling.{Stops}
+use Rattle.sf_player.specs.Counting.{WritesFront}
+use Rattle.sf_player.specs.declared.end.PlayEnd.{PlayEnd}
+use Rattle.sf_player.specs.declared.end.PlayEnd.TheVariants.{Done, Fault as PlayFault, BadLine, WriteFault}
+use Rattle.sf_player.specs.declared.player.Player.{Player}
+use Rattle.sf_player.specs.declared.player.Stop.{Stop}
+
+-- a sample or its fault, and no refusal
+abbrev pub IsSampled : Result Sample EngineError → Type 0
+IsSampled (Ok s) = ⊤
+IsSampled (Err (Faulted f)) = ⊤
+IsSampled (Err (Stopped f)) = ⊥
+IsSampled (Err NotStarted) = ⊥
+IsSampled (Err Started) = ⊥
+IsSampled (Err BadStep) = ⊥
+IsSampled (Err WrongType) = ⊥
+
+-- how far a cutter has come in its stream
+abbrev pub weight : Cutter → ℕ
+weight c = 65537 * lines_taken c + length (pending c)
+
+module _ (n : Network) (m : Template) where
+  -- A player is at a moment of a run.
+  pub record IsAt (p : Player) (now : Moment) : Type 0 where
+    pub runs : Runs p.engine n m now.lived
+    pub input : p.input ≡ m.input
+    pub time : p.time ≡ time now.lived
+    pub taken : p.taken ≡ now.taken
+
+  -- What a line that ends a run writes, and how the run ends.
+  pub data Halts (now : Moment) (line : List ℕ) : List ℕ → PlayEnd → Type 0 where
+    faults : {text : List ℕ} → Replies n m now line text (ends sample_faulted) → Halts now line text PlayFault
+    refuses : {text : List ℕ} → Replies n m now line text (ends line_refused) → Halts now line text BadLine
+    lacks_memory : {a : Asked} → Asks n m now line a → IsSample a
+        → Halts now line (fault_line (time (life_after a now.lived)) NoMemory) PlayFault
+    is_too_large : {a : Asked} → Asks n m now line a → IsSample a → IsTooLarge n m (life_after a now.lived)
+        → Halts now line (fault_line (time (life_after a now.lived)) Large) PlayFault
+    lacks_memory_for_itself : Halts now line (refusal_line (now.taken + 1) MemoryRefusal) BadLine
+
+  -- A line was played: its text was gathered, and the player is at the moment behind it.
+  pub record GoesOn (now : Moment) (line : List ℕ) (old new : Player) : Type 0 where
+    pub text : List ℕ
+    pub later : Moment
+    pub replies : Replies n m now line text (goes_on later)
+    pub at : IsAt new later
+    pub said : new.out.items ≡ old.out.items ++ text
+    pub cutter : new.cutter ≡ old.cutter
+
+  -- A line ends the run: nothing was gathered.
+  pub record EndsRun (now : Moment) (line : List ℕ) (old : Player) (s : Stop) (new : Player) : Type 0 where
+    pub halts : Halts now line s.line s.end
+    pub said : new.out.items ≡ old.out.items
+
+  -- What comes of a line.
+  abbrev pub Answers : Moment → List ℕ → Player → Option Stop → Player → Type 0
+  Answers now line old None new = GoesOn now line old new
+  Answers now line old (Some s) new = EndsRun now line old s new
+
+  -- So much was read, and so much written but for what is gathered.
+  pub record Played (read written : List ℕ) (p : Player) : Type 0 where
+    pub lines : List (List ℕ)
+    pub now : Moment
+    pub stands : CutterStands p.cutter read lines
+    pub reaches : Reaches n m at_start lines (written ++ p.out.items) now
+    pub at : IsAt p now
+
+  -- So much was read and said, but for a last line. Whatever follows, the run ends with it.
+  abbrev pub Halted : List ℕ → List ℕ → Stop → Type 0
+  Halted read said s = (left : List ℕ) → Stops n m (lines_of (read ++ left)) (said ++ s.line) s.end
+
+  -- Bytes were played.
+  pub record PlayedMore (read written : List ℕ) (old : Player) (bytes : List ℕ) (new : Player) : Type 0 where
+    pub played : Played (read ++ bytes) written new
+    pub further : weight old.cutter + length bytes ≤ weight new.cutter
+
+  -- What comes of a part of a piece.
+  abbrev pub Advances : List ℕ → List ℕ → Player → List ℕ → Result ℕ Stop → Player → Type 0
+  Advances read written old piece (Ok used) new = PlayedMore read written old (take used piece) new
+  Advances read written old piece (Err s) new = Halted (read ++ piece) (written ++ new.out.items) s
+
+  -- What comes of a piece.
+  abbrev pub Feeds : List ℕ → List ℕ → Player → List ℕ → Option Stop → Player → Type 0
+  Feeds read written old piece None new = PlayedMore read written old piece new
+  Feeds read written old piece (Some s) new = Halted (read ++ piece) (written ++ new.out.items) s
+
+  -- What comes of the end of the input.
+  abbrev pub Finishes : List ℕ → List ℕ → Option Stop → Player → Type 0
+  Finishes read written None new = Stops n m (lines_of read) (written ++ new.out.items) Done
+  Finishes read written (Some s) new = Stops n m (lines_of read) ((written ++ new.out.items) ++ s.line) s.end
+
+-- A player has played something.
+pub record IsPlaying (p : Player) : Type 0 where
+  pub n : Network
+  pub m : Template
+  pub read : List ℕ
+  pub written : List ℕ
+  pub played : Played n m read written p
+
+-- A player is at a moment, and its cutter has a line within the limits.
+pub record AwaitsLine (p : Player) : Type 0 where
+  pub n : Network
+  pub m : Template
+  pub now : Moment
+  pub at : IsAt n m p now
+  pub within : limit_refusal now.taken (line_of p.cutter) ≡ None
+
+-- the line of a stop
+abbrev pub line_in : Option Stop → List ℕ
+line_in None = []
+line_in (Some s) = s.line
+
+-- Nothing is gathered any more, and all else is as it was.
+pub record IsCleared (old new : Player) : Type 0 where
+  pub empty : new.out.items ≡ []
+  pub cutter : new.cutter ≡ old.cutter
+  pub engine : new.engine ≡ old.engine
+  pub input : new.input ≡ old.input
+  pub time : new.time ≡ old.time
+  pub taken : new.taken ≡ old.taken
+
+-- What comes of writing what is gathered and the line of a stop, and how the run ends by it.
+pub data WritesOut (old : Player) (before after : Option (List ℕ)) : Option Stop → Option PlayEnd → Player → Type 0 where
+  runs_on : {new : Player} → Appends before after old.out.items → IsCleared old new → WritesOut old before after None None new
+  ended : {s : Stop} {new : Player} → Appends before after (old.out.items ++ s.line) → WritesOut old before after (Some s) (Some s.end) new
+  failed : {o : Option Stop} {new : Player} → WritesFront before after (old.out.items ++ line_in o) → WritesOut old before after o (Some WriteFault) new
+
+-- A player has played nothing.
+pub record IsFresh (p : Player) : Type 0 where
+  pub n : Network
+  pub m : Template
+  pub played : Played n m [] [] p
+  pub empty : p.out.items ≡ []
+
+-- An engine at the start of an accepted network, and the type of its inputs.
+pub record IsPrepared (net : List ℕ) (e : Engine) (k : Kind) : Type 0 where
+  pub templates : Templates
+  pub main : Template
+  pub text : IsNetworkText net templates
+  pub accepted : Accepted templates
+  pub runs_main : main_of templates ≡ Some main
+  pub runs : Runs e (record { templates = templates }) main []
+  pub input : k ≡ main.input

@@ -1,0 +1,104 @@
+-- What is written for an input, line by line.
+use Rattle.std.specs.Prelude.{◌≡◌, ◌≢◌, ℕ, ◌+◌, Bool, true, false, List, [], ◌∷◌, ◌++◌, Some, None, Ok, Err}
+use Rattle.sf_value.specs.Values.{Data}
+use Rattle.sf_value.specs.declared.fault.ValueFault.{ValueFault}
+use Rattle.sf_value.specs.declared.fault.Fault.TheVariants.{Value, Large}
+use Rattle.sf_term.specs.Trees.{Template}
+use Rattle.sf_mean.specs.Lives.{Life, time, closure, empty}
+use Rattle.sf_mean.specs.Meaning.{Network, Readings, Outcome, gave, faulted, Cost, Gives}
+use Rattle.sf_engine.specs.Histories.{after_start, after_step}
+use Rattle.sf_lines.specs.Limits.{limit_refusal}
+use Rattle.sf_lines.specs.Asking.{Asked, nothing, start, advance, Says}
+use Rattle.sf_lines.specs.Written.{sample_line, fault_line, refusal_line}
+use Rattle.sf_lines.specs.declared.refusal.LineRefusal.{LineRefusal}
+
+-- Where a run is: how many lines it has taken, and what its network has lived.
+pub record Moment : Type 0 where
+  pub taken : ℕ
+  pub lived : Life
+
+-- a run before its first line
+abbrev pub at_start : Moment
+at_start = record { taken = 0; lived = [] }
+
+-- whether the first sample was
+abbrev pub has_begun : Life → Bool
+has_begun [] = false
+has_begun (s ∷ L) = true
+
+-- the life after what a line asks for
+abbrev pub life_after : Asked → Life → Life
+life_after nothing L = L
+life_after (start x) L = after_start x
+life_after (advance d x) L = after_step L d x
+
+-- whether a line asks for a sample
+abbrev pub IsSample : Asked → Type 0
+IsSample a = a ≢ nothing
+
+-- How a script ends: with the input, with a sample's fault, or with a refused line.
+pub data Ending : Type 0 where
+  input_ended : Ending
+  sample_faulted : Ending
+  line_refused : Ending
+
+-- What a line leads to: the run goes on from a moment, or ends.
+pub data Turn : Type 0 where
+  goes_on : Moment → Turn
+  ends : Ending → Turn
+
+module _ (n : Network) (m : Template) where
+  -- What a line asks for at a moment, where the limits and the grammar refuse it nothing.
+  pub record Asks (now : Moment) (line : List ℕ) (a : Asked) : Type 0 where
+    pub within : limit_refusal now.taken line ≡ None
+    pub says : Says (has_begun now.lived) m.input line (Ok a)
+
+  -- What one line gives: its text, and what it leads to.
+  pub data Replies (now : Moment) (line : List ℕ) : List ℕ → Turn → Type 0 where
+    -- too many lines, or one too long
+    past_limits : {r : LineRefusal}
+        → limit_refusal now.taken line ≡ Some r
+        → Replies now line (refusal_line (now.taken + 1) r) (ends line_refused)
+    -- a line that is refused
+    refused : {r : LineRefusal}
+        → limit_refusal now.taken line ≡ None → Says (has_begun now.lived) m.input line (Err r)
+        → Replies now line (refusal_line (now.taken + 1) r) (ends line_refused)
+    -- an empty line or a comment
+    quiet : Asks now line nothing
+        → Replies now line [] (goes_on (record now { taken = now.taken + 1 }))
+    -- a sample: its value, its fault, or that it has no outcome
+    gives_value : {a : Asked} {L : Life} {y : Data} {r : Readings} {c : Cost}
+        → Asks now line a → IsSample a → life_after a now.lived ≡ L
+        → Gives n (closure m.body empty) L (gave y r) c
+        → Replies now line (sample_line (time L) y) (goes_on (record { taken = now.taken + 1; lived = L }))
+    gives_fault : {a : Asked} {L : Life} {x : ValueFault} {c : Cost}
+        → Asks now line a → IsSample a → life_after a now.lived ≡ L
+        → Gives n (closure m.body empty) L (faulted x) c
+        → Replies now line (fault_line (time L) (Value x)) (ends sample_faulted)
+    gives_none : {a : Asked} {L : Life}
+        → Asks now line a → IsSample a → life_after a now.lived ≡ L
+        → ((o : Outcome) (c : Cost) → Gives n (closure m.body empty) L o c → ⊥)
+        → Replies now line (fault_line (time L) Large) (ends sample_faulted)
+
+  -- The text that lines give from a moment on, after which the run goes on from another.
+  pub data Reaches (now : Moment) : List (List ℕ) → List ℕ → Moment → Type 0 where
+    no_line : Reaches now [] [] now
+    one_more : {lines : List (List ℕ)} {line said text : List ℕ} {between later : Moment}
+        → Reaches now lines said between → Replies between line text (goes_on later)
+        → Reaches now (lines ++ line ∷ []) (said ++ text) later
+
+  -- The script of lines from a moment on: all text that they give, and how it ends.
+  pub data Script (now : Moment) (lines : List (List ℕ)) : List ℕ → Ending → Type 0 where
+    to_the_end : {text : List ℕ} {later : Moment}
+        → Reaches now lines text later → Script now lines text input_ended
+    up_to : {front : List (List ℕ)} {line said text : List ℕ} {between : Moment} {e : Ending} (others : List (List ℕ))
+        → Reaches now front said between → Replies between line text (ends e) → lines ≡ front ++ line ∷ others
+        → Script now lines (said ++ text) e
+
+  -- Two scripts of lines with the same front agree on what it gives: both begin with its text and go on by the scripts
+  -- of the lines behind it, or both end in it and are the same.
+  pub data Agree (now : Moment) (front others more : List (List ℕ)) : List ℕ → Ending → List ℕ → Ending → Type 0 where
+    both_go_on : {said x y : List ℕ} {later : Moment} {d e : Ending}
+        → Reaches now front said later → Script later others x d → Script later more y e
+        → Agree now front others more (said ++ x) d (said ++ y) e
+    both_end : {x : List ℕ} {e : Ending} → Agree now front others more x e x e

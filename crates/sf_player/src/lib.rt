@@ -1,0 +1,21 @@
+//! Plays the lines of an input through a network.
+#![tactic(auto)]
+
+mod counted;
+mod end;
+mod laws;
+mod network;
+mod options;
+mod player;
+mod refusal;
+mod session;
+
+pub use counted::Counted;
+pub use end::PlayEnd;
+pub use laws::{one_script, prefix_law};
+pub use options::Options;
+pub use refusal::NetRefusal;
+pub use session::play;
+
+#[cfg(test)]
+mod tests;

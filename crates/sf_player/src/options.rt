@@ -1,0 +1,8 @@
+//! How a network is played.
+
+/// How a network is played.
+#[derive(Clone, Copy, Debug, PartialEq, Eq)]
+pub struct Options {
+    /// Whether the network runs as it was written. Otherwise it may be rewritten to do less work.
+    pub plain: bool,
+}

@@ -1,0 +1,216 @@
+//! The player.
+ghost use Rattle.std.specs.Prelude.{◌≡◌, ◌≢◌, ℕ, ◌+◌, ◌*◌, ◌<◌, ◌≤◌, ◌^◌, ◌-◌, length, List, [], ◌++◌, IfOk, IfErr, IsTrue, take};
+ghost use Rattle.sf_value.specs.declared.fault.Fault.{Fault};
+ghost use Rattle.sf_lines.specs.declared.refusal.LineRefusal.{LineRefusal};
+ghost use Rattle.sf_lines.specs.Written.{fault_line, refusal_line};
+ghost use Rattle.sf_player.specs.Statuses.{is_said};
+
+use crate::counted::Counted;
+use crate::end::PlayEnd;
+use sf_engine::{Engine, EngineError, Sample};
+use sf_lines::{
+    Command, Cut, Cutter, LineRefusal, ShortLine, read_line, write_fault, write_refusal,
+    write_sample,
+};
+use sf_value::{Fault, Ty};
+use std::alloc::{AllocError, Global};
+use std::io::Write;
+
+/// How a run ends, and the line that says so.
+#[derive(Drop)]
+pub(crate) struct Stop {
+    end: PlayEnd,
+    line: ShortLine,
+    ghost said: { IsTrue (is_said end) },
+}
+
+/// A run of a network over an input. What is to be written is gathered.
+#[derive(Drop)]
+pub(crate) struct Player {
+    alloc: Global,
+    cutter: Cutter,
+    engine: Engine,
+    input: Ty,
+    time: u64,
+    taken: u32,
+    out: Vec<u8>,
+    ghost few: { taken ≤ 1000000 },
+    ghost slow: { time ≤ 3600000 * taken },
+}
+
+impl Player {
+    ghost use Rattle.sf_term.specs.Trees.{Template};
+    ghost use Rattle.sf_mean.specs.Lives.{time};
+    ghost use Rattle.sf_mean.specs.Meaning.{Network};
+    ghost use Rattle.sf_engine.specs.Running.{Runs};
+    ghost use Rattle.sf_engine.specs.Sampling.{Sampled};
+    ghost use Rattle.sf_lines.specs.Asking.{Asked};
+    ghost use Rattle.sf_lines.specs.Cutting.{line_of};
+    ghost use Rattle.sf_player.specs.Scripts.{Moment, life_after, IsSample, Asks};
+    ghost use Rattle.sf_player.specs.Counting.{inner_of, failures_of, MayCountWrites};
+    ghost use Rattle.sf_player.specs.Playing.{IsSampled, IsAt, AwaitsLine, Answers, Played, IsPlaying, Advances, Feeds, Finishes, WritesOut};
+
+    /// A run at its start.
+    pub(crate) fn new(alloc: Global, engine: Engine, input: Ty) -> Result<Player, AllocError>
+        ensures { IfOk result (λ p. (n : Network) (m : Template) → Runs engine n m []
+            → input ≡ m.input → Played n m [] [] p × (p.out.items ≡ [])) }
+    {
+        let cutter = Cutter::new(alloc)?;
+        Ok(Player {
+            alloc,
+            cutter,
+            engine,
+            input,
+            time: 0,
+            taken: 0,
+            out: Vec::new(alloc),
+        })
+    }
+
+    /// Plays a piece of the input.
+    pub(crate) fn feed(&mut self, piece: &[u8]) -> Option<Stop>
+        requires { IsPlaying self.old }
+        ensures { (n : Network) (m : Template) (read written : List ℕ)
+            → Played n m read written self.old
+            → Feeds n m read written self.old piece.now result self.new }
+    {
+        let mut at = 0;
+        while at < piece.len() {
+            match self.advance(&piece[at..]) {
+                Ok(used) => at += used,
+                Err(stop) => return Some(stop),
+            }
+        }
+        None
+    }
+
+    /// Plays what is left at the end of the input.
+    pub(crate) fn finish(&mut self) -> Option<Stop>
+        requires { IsPlaying self.old }
+        ensures { (n : Network) (m : Template) (read written : List ℕ)
+            → Played n m read written self.old → Finishes n m read written result self.new }
+    {
+        match self.cutter.finish() {
+            Ok(Cut::Line(_)) => self.play_line(),
+            Ok(Cut::Part) => None,
+            Err(_) => unreachable!(),
+        }
+    }
+
+    /// Plays a line of the piece, if it completes one, or else its bytes. How many bytes were played.
+    fn advance(&mut self, piece: &[u8]) -> Result<usize, Stop>
+        requires { IsPlaying self.old }
+        ensures within { IfOk result (λ used. used ≤ length piece.now) }
+        ensures some { IfOk result (λ used. length piece.now ≢ 0 → 0 < used) }
+        ensures advances { (n : Network) (m : Template) (read written : List ℕ)
+            → Played n m read written self.old
+            → Advances n m read written self.old piece.now result self.new }
+    {
+        match self.cutter.take(piece) {
+            Ok(Cut::Line(used)) => match self.play_line() {
+                None => Ok(used),
+                Some(stop) => Err(stop),
+            },
+            Ok(Cut::Part) => Ok(piece.len()),
+            Err(refusal) => Err(self.refuse(refusal)),
+        }
+    }
+
+    /// Plays the cutter's complete line.
+    fn play_line(&mut self) -> Option<Stop>
+        requires { AwaitsLine self.old }
+        ensures { (n : Network) (m : Template) (now : Moment) → IsAt n m self.old now
+            → Answers n m now (line_of self.old.cutter) self.old result self.new }
+    {
+        let started = self.engine.is_started();
+        match read_line(self.alloc, self.cutter.line(), started, &self.input) {
+            Ok(Command::Nothing) => {
+                self.taken += 1;
+                None
+            }
+            Ok(Command::Start(value)) => {
+                let sampled = self.engine.start(value);
+                self.say(0, sampled)
+            }
+            Ok(Command::Step { dt, input }) => {
+                let time = self.time + dt;
+                let sampled = self.engine.step(dt, input);
+                self.say(time, sampled)
+            }
+            Err(refusal) => Some(self.refuse(refusal)),
+        }
+    }
+
+    /// Gathers the line of a sample at a time.
+    fn say(&mut self, sample_time: u64, sampled: Result<Sample, EngineError>) -> Option<Stop>
+        requires few { self.old.taken < 1000000 }
+        requires slow { sample_time ≤ 3600000 * (self.old.taken + 1) }
+        requires sampled { IsSampled sampled }
+        ensures { (n : Network) (m : Template) (now : Moment) (line : List ℕ) (a : Asked)
+            → Asks n m now line a → IsSample a
+            → Sampled n m (life_after a now.lived) sampled self.old.engine
+            → sample_time ≡ time (life_after a now.lived) → self.old.taken ≡ now.taken
+            → self.old.input ≡ m.input → Answers n m now line self.old result self.new }
+    {
+        match sampled {
+            Ok(sample) => match write_sample(sample.time, &sample.value, &mut self.out) {
+                Ok(()) => {
+                    self.time = sample_time;
+                    self.taken += 1;
+                    None
+                }
+                Err(_) => Some(fault_stop(sample_time, Fault::Memory)),
+            },
+            Err(EngineError::Fault(fault)) => Some(fault_stop(sample_time, fault)),
+            Err(_) => unreachable!(),
+        }
+    }
+
+    /// The refusal of the next line.
+    fn refuse(&self, refusal: LineRefusal) -> Stop
+        ensures end { result.end ≡ PlayEnd.BadLine }
+        ensures line { result.line ≡ refusal_line (self.now.taken + 1) refusal }
+    {
+        Stop {
+            end: PlayEnd::BadLine,
+            line: write_refusal(u64::from(self.taken) + 1, refusal),
+        }
+    }
+
+    /// Writes what is gathered, and then the line of a stop. How the run ends, if it does.
+    pub(crate) fn write_out<W: Write>(
+        &mut self,
+        stop: Option<Stop>,
+        writer: &mut Counted<W>,
+    ) -> Option<PlayEnd>
+        requires { failures_of writer.old < 2 ^ 64 - 1 }
+        ensures writes { WritesOut self.old (W.contents (inner_of writer.old))
+            (W.contents (inner_of writer.new)) stop result self.new }
+        ensures failures { MayCountWrites result (failures_of writer.old) (failures_of writer.new) }
+    {
+        if !writer.put(self.out.as_slice()) {
+            return Some(PlayEnd::WriteFault);
+        }
+        self.out.clear();
+        match stop {
+            None => None,
+            Some(stop) => {
+                if !writer.put(stop.line.as_bytes()) {
+                    return Some(PlayEnd::WriteFault);
+                }
+                Some(stop.end)
+            }
+        }
+    }
+}
+
+/// The fault of the sample at a time.
+fn fault_stop(time: u64, fault: Fault) -> Stop
+    ensures end { result.end ≡ PlayEnd.Fault }
+    ensures line { result.line ≡ fault_line time fault }
+{
+    Stop {
+        end: PlayEnd::Fault,
+        line: write_fault(time, fault),
+    }
+}

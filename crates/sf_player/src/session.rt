@@ -1,0 +1,100 @@
+//! Runs from a network's text and an input to an output.
+ghost use Rattle.std.specs.Prelude.{◌≡◌, ℕ, ◌-◌, ◌<◌, ◌^◌, List, [], Option, ◌≢◌};
+ghost use Rattle.std.specs.Io.KnownBytes.{IsAtEnd};
+ghost use Rattle.sf_term.specs.Trees.{Template};
+ghost use Rattle.sf_mean.specs.Meaning.{Network};
+ghost use Rattle.sf_player.specs.Counting.{inner_of, failures_of, CountsReads, CountsWrites};
+ghost use Rattle.sf_player.specs.Telling.{Told, Plays};
+ghost use Rattle.sf_player.specs.Playing.{Played, IsFresh};
+
+use crate::counted::Counted;
+use crate::end::PlayEnd;
+use crate::network::prepare;
+use crate::options::Options;
+use crate::player::Player;
+use sf_lines::{LineRefusal, write_refusal};
+use std::alloc::Global;
+use std::io::{Read, Write};
+
+/// Plays the lines of an input through the network that a text is, and writes what its meaning gives for them.
+///
+/// The network is read and accepted first; where it is refused, nothing is read or written. Each sample gives
+/// `> T VALUE`; the first fault or refused line, `! T FAULT` or `! line N REFUSAL`, ends the run. All output of a line
+/// is written and flushed before more is read.
+pub fn play<R: Read, W: Write>(
+    alloc: Global,
+    net: &[u8],
+    reader: &mut Counted<R>,
+    writer: &mut Counted<W>,
+    options: Options,
+) -> PlayEnd
+    requires reads { failures_of reader.old < 2 ^ 64 - 1 }
+    requires writes { failures_of writer.old < 2 ^ 64 - 1 }
+    // What was read and written, by the meaning of the network.
+    ensures told { Plays net.now (R.remaining (inner_of reader.old))
+        (R.remaining (inner_of reader.new)) (W.contents (inner_of writer.old))
+        (W.contents (inner_of writer.new)) result }
+    ensures end { result ≡ PlayEnd.Done → IsAtEnd (R.remaining (inner_of reader.new)) }
+    ensures reader { CountsReads result (failures_of reader.old) (failures_of reader.new) }
+    ensures writer { CountsWrites result (failures_of writer.old) (failures_of writer.new) }
+{
+    match prepare(alloc, net, options) {
+        Err(refusal) => PlayEnd::Network(refusal),
+        Ok((engine, input)) => match Player::new(alloc, engine, input) {
+            Ok(player) => run(player, reader, writer),
+            Err(_) => refuse_lines(writer),
+        },
+    }
+}
+
+/// Plays an input from its start.
+fn run<R: Read, W: Write>(
+    player: Player,
+    reader: &mut Counted<R>,
+    writer: &mut Counted<W>,
+) -> PlayEnd
+    requires fresh { IsFresh player }
+    requires reads { failures_of reader.old < 2 ^ 64 - 1 }
+    requires writes { failures_of writer.old < 2 ^ 64 - 1 }
+    ensures told { (n : Network) (m : Template) → Played n m [] [] player → Told n m
+        (R.remaining (inner_of reader.old)) (R.remaining (inner_of reader.new))
+        (W.contents (inner_of writer.old)) (W.contents (inner_of writer.new)) result }
+    ensures end { result ≡ PlayEnd.Done → IsAtEnd (R.remaining (inner_of reader.new)) }
+    ensures reader { CountsReads result (failures_of reader.old) (failures_of reader.new) }
+    ensures writer { CountsWrites result (failures_of writer.old) (failures_of writer.new) }
+{
+    let mut player = player;
+    let mut buf = [0u8; 8192];
+    loop {
+        let Some(size) = reader.read_some(&mut buf) else {
+            return PlayEnd::ReadFault;
+        };
+        if size == 0 {
+            let stop = player.finish();
+            if let Some(end) = player.write_out(stop, writer) {
+                return end;
+            }
+            return PlayEnd::Done;
+        }
+        let stop = player.feed(&buf[..size]);
+        if let Some(end) = player.write_out(stop, writer) {
+            return end;
+        }
+    }
+}
+
+/// Says that there is no memory for lines.
+fn refuse_lines<W: Write>(writer: &mut Counted<W>) -> PlayEnd
+    requires { failures_of writer.old < 2 ^ 64 - 1 }
+    ensures told { (n : Network) (m : Template) (input : Option (List ℕ)) → Told n m input input
+        (W.contents (inner_of writer.old)) (W.contents (inner_of writer.new)) result }
+    ensures end { result ≢ PlayEnd.Done }
+    ensures reader { (count : ℕ) → CountsReads result count count }
+    ensures writer { CountsWrites result (failures_of writer.old) (failures_of writer.new) }
+{
+    if writer.put(write_refusal(1, LineRefusal::Memory).as_bytes()) {
+        PlayEnd::BadLine
+    } else {
+        PlayEnd::WriteFault
+    }
+}

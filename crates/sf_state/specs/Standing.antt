@@ -1,0 +1,58 @@
+-- What states stand for.
+use Rattle.std.specs.Prelude.{◌≡◌, List, [], ◌∷◌}
+use Rattle.sf_value.specs.Values.{Data}
+use Rattle.sf_expr.specs.Evaluation.{answer}
+use Rattle.sf_term.specs.declared.form.Join.{Join}
+use Rattle.sf_term.specs.declared.node.TermId.{TermId}
+use Rattle.sf_term.specs.declared.program.Program.{Program}
+use Rattle.sf_term.specs.Trees.{Primitive, Term, primitive, joined}
+use Rattle.sf_term.specs.Arena.{tree}
+use Rattle.sf_mean.specs.Lives.{Step, Life, Process, closure, Environment, empty, scope_of, first_input}
+use Rattle.sf_mean.specs.Meaning.{Made, make, left_life, right_life, Outputs}
+use Rattle.sf_mean.specs.Networks.{network_of}
+use Rattle.sf_prim.specs.declared.prim_state.PrimState.{PrimState}
+use Rattle.sf_prim.specs.Keeping.{Keeps}
+use Rattle.sf_state.specs.declared.state.State.{State}
+use Rattle.sf_state.specs.declared.state.State.TheVariants.{Unborn, Live as Alive}
+use Rattle.sf_state.specs.declared.state.Live.{Live}
+use Rattle.sf_state.specs.declared.state.Live.TheVariants.{Prim as LPrim, Join' as LJoin'}
+use Rattle.sf_state.specs.declared.state.Process.{Process as SProcess}
+use Rattle.sf_state.specs.declared.state.Process.TheVariants.{Closure as SClosure}
+use Rattle.sf_state.specs.declared.state.Env.{Env}
+use Rattle.sf_state.specs.declared.state.Env.TheVariants.{Empty as SEmpty}
+
+mutual
+  -- A part of a network stands for a process and the life that it has led. No state stores the life.
+  pub data Stands (p : Program) : State → Process → Life → Type 0 where
+    unborn : {q : SProcess} {P : Process} → IsProcess p q P → Stands p (Unborn q) P []
+    alive : {l : Live} {P : Process} {L : Life} → Settles p l P L → Stands p (Alive l) P L
+
+  -- a live part stands for a process and a life that has begun
+  pub data Settles (p : Program) : Live → Process → Life → Type 0 where
+    settles : {l : Live} {P : Process} {s : Step} {L : Life} → Ready p l P (first_input s L) (s ∷ L) → Settles p l P (s ∷ L)
+
+  -- A live part, with what its form was made with; x is the input of its first step, past or to come.
+  pub data Ready (p : Program) : Live → Process → Data → Life → Type 0 where
+    ready : {l : Live} {t : Term} {e : Environment} {m : Made} {x : Data} {L : Life} {ys : List Data}
+        → make (network_of p) t e x ≡ answer m → Outputs (network_of p) (closure t e) L ys → Lives p l t e m L
+        → Ready p l (closure t e) x L
+
+  -- The same by the forms.
+  pub data Lives (p : Program) : Live → Term → Environment → Made → Life → Type 0 where
+    lives_primitive : {i : PrimState} {q : Primitive} {e : Environment} {m : Made} {L : Life}
+        → Keeps i q (scope_of e) L
+        → Lives p (LPrim i) (primitive q) e m L
+    -- each part on its own life
+    lives_join : {at at' : _} {j : Join} {a b : State} {f g : Term} {e : Environment} {m : Made} {L : Life} {ys : List Data}
+        → Outputs (network_of p) (closure f e) (left_life j L) ys
+        → Stands p a (closure f e) (left_life j L)
+        → Stands p b (closure g e) (right_life j L ys)
+        → Lives p (LJoin' j at a at' b) (joined j f g) e m L
+
+  -- what can be run
+  pub data IsProcess (p : Program) : SProcess → Process → Type 0 where
+    is_closure : {t : TermId} {names : Env} {e : Environment} → IsNames p names e → IsProcess p (SClosure t names) (closure (tree p t) e)
+
+  -- what names stand for
+  pub data IsNames (p : Program) : Env → Environment → Type 0 where
+    is_empty : IsNames p SEmpty empty

@@ -1,0 +1,92 @@
+-- Each form is its parts, one after another.
+use Rattle.std.proofs.Common.{◌≡◌, ℕ, ◌≤◌, List, [], ◌∷◌, refl, sym, ap, ◌∙◌, subst, arith}
+use Rattle.sf_value.specs.Values.{Data}
+use Rattle.sf_expr.specs.Evaluation.{Evaluated, answer, failed as no_answer}
+use Rattle.sf_term.specs.declared.form.Join.{Join}
+use Rattle.sf_term.specs.declared.form.Join.TheVariants.{InSequence}
+use Rattle.sf_term.specs.Trees.{Term, primitive, joined}
+use Rattle.sf_mean.specs.Lives.{Step, step, Life, Process, closure, Environment, first_input}
+use Rattle.sf_mean.specs.Meaning.{Network, Readings, Outcome, gave, faulted, combined, value_in, Cost, count, height, both_costs, text_cost, Made, make, left_life, right_life, join_value, Gives, gives, Outputs, and_gave, Sample, of_constants, of_form, Form, of_primitive, of_join, Next, goes_on, stops}
+use Rattle.sf_mean.proofs.Once.{once, onces}
+use Rattle.sf_step.specs.Routing.{left_input, right_input}
+use Rattle.sf_step.specs.Sampling.{Rel}
+use Rattle.sf_step.proofs.Parts.{Single, single, Over, counted, Then, then_on, then_stop, Alike}
+
+-- ## Joins
+
+-- the left part's step, before its life
+pub left_and : (j : Join) (d : ℕ) (x : Data) (L : Life) → step d (left_input j x) ∷ left_life j L ≡ left_life j (step d x ∷ L)
+left_and InSequence d x L = refl
+
+-- the right part's step, before its life
+pub right_and : (j : Join) (d : ℕ) (x y : Data) (L : Life) (ys : List Data) → step d (right_input j x y) ∷ right_life j L ys ≡ right_life j (step d x ∷ L) (y ∷ ys)
+right_and InSequence d x y L ys = refl
+
+-- before the first step
+pub left_none : (j : Join) → left_life j [] ≡ []
+left_none InSequence = refl
+
+pub right_none : (j : Join) → right_life j [] [] ≡ []
+right_none InSequence = refl
+
+abbrev made_in : Made → Evaluated Made → Made
+made_in m (answer n) = n
+made_in m (no_answer x) = m
+
+module _ (n : Network) where
+  pub single_gives : (P : Process) (L : Life) → Single (Gives n P L)
+  single_gives P L = single (λ a b j k G H. once n G H)
+
+  -- a process that gave a value gives it among its outputs
+  pub gave_outputs : {P : Process} {s : Step} {L : Life} {ys : List Data} {y : Data} {r : Readings} {c : Cost} → Outputs n P L ys → Gives n P (s ∷ L) (gave y r) c → Outputs n P (s ∷ L) (y ∷ ys)
+  gave_outputs O (gives O' S) = and_gave O S
+
+  -- ## A form, made with its constants
+
+  sample_form : {t : Term} {e : Environment} {m : Made} (s : Step) (L : Life) {o : Outcome} {k : Cost} → make n t e (first_input s L) ≡ answer m → Sample n (closure t e) s L o k → Form n t e m s L o k
+  sample_form s L h (of_constants h') = absurd cc
+  sample_form {t} {e} {m} s L {o} {k} h (of_form h' F) = subst (λ (m : Made). Form n t e m s L o k) (ap (made_in m) (sym h' ∙ h)) F
+
+  gives_form : {t : Term} {e : Environment} {m : Made} (s : Step) (L : Life) {o : Outcome} {k : Cost} → make n t e (first_input s L) ≡ answer m → Gives n (closure t e) (s ∷ L) o k → Form n t e m s L o k
+  gives_form s L h (gives O S) = sample_form s L h S
+
+  pub form_alike : {t : Term} {e : Environment} {m : Made} (s : Step) (L : Life) {ys : List Data} → make n t e (first_input s L) ≡ answer m → Outputs n (closure t e) L ys → Alike (Form n t e m s L) (Gives n (closure t e) (s ∷ L))
+  form_alike s L h O = record { to = λ o k F. gives O (of_form h F); back = λ o k G. gives_form s L h G }
+
+  -- a join is its parts
+  abbrev pub JoinRel : Join → Term → Term → Environment → Step → Life → List Data → Rel
+  JoinRel j f g e s L ys = Over (Then (Gives n (closure f e) (left_life j (s ∷ L))) (join_value j) (text_cost g) (λ y. Gives n (closure g e) (right_life j (s ∷ L) (y ∷ ys))))
+
+  module _ (j : Join) (f g : Term) (e : Environment) (m : Made) (s : Step) (L : Life) (ys : List Data) (O : Outputs n (closure f e) (left_life j L) ys) where
+    join_to : (o : Outcome) (k : Cost) → JoinRel j f g e s L ys o k → Form n (joined j f g) e m s L o k
+    join_to o k (counted (then_on G H)) = of_join O G (goes_on H)
+    join_to o k (counted (then_stop G)) = of_join O G stops
+
+    next_then : (q : Outcome) {o : Outcome} {k l : Cost} → Gives n (closure f e) (left_life j (s ∷ L)) q k → Next n q g e (right_life j (s ∷ L) (value_in q ∷ ys)) o l
+        → Then (Gives n (closure f e) (left_life j (s ∷ L))) (join_value j) (text_cost g) (λ y. Gives n (closure g e) (right_life j (s ∷ L) (y ∷ ys))) (combined (join_value j) q o) (both_costs k l)
+    next_then (gave y r) G (goes_on H) = then_on G H
+    next_then (faulted x) G stops = then_stop G
+
+    join_back : (o : Outcome) (k : Cost) → Form n (joined j f g) e m s L o k → JoinRel j f g e s L ys o k
+    join_back o k (of_join {ys = zs} {o = q} {o' = q'} {c' = l} O' G N) =
+        counted (next_then q G (subst (λ (ys : List Data). Next n q g e (right_life j (s ∷ L) (value_in q ∷ ys)) q' l) (onces n O' O) N))
+
+    pub join_alike : Alike (JoinRel j f g e s L ys) (Form n (joined j f g) e m s L)
+    join_alike = record { to = join_to; back = join_back }
+
+  -- ## Each outcome costs a term
+
+  form_counts : {t : Term} {e : Environment} {m : Made} {s : Step} {L : Life} {o : Outcome} {k : Cost} → Form n t e m s L o k → (1 ≤ count k) × (1 ≤ height k)
+  form_counts (of_primitive h) = (omega arith, omega arith)
+  form_counts (of_join O G N) = (omega arith, omega arith)
+
+  pub text_counts : (t : Term) → (1 ≤ count (text_cost t)) × (1 ≤ height (text_cost t))
+  text_counts (primitive p) = (omega arith, omega arith)
+  text_counts (joined j f g) = (omega arith, omega arith)
+
+  sample_counts : {P : Process} {s : Step} {L : Life} {o : Outcome} {k : Cost} → Sample n P s L o k → (1 ≤ count k) × (1 ≤ height k)
+  sample_counts (of_constants {t = t} h) = text_counts t
+  sample_counts (of_form h F) = form_counts F
+
+  pub counts : {P : Process} {L : Life} {o : Outcome} {k : Cost} → Gives n P L o k → (1 ≤ count k) × (1 ≤ height k)
+  counts (gives O S) = sample_counts S

@@ -1,0 +1,118 @@
+-- Parts that are stepped one after another.
+use Rattle.std.proofs.Common.{◌≡◌, ℕ, ◌+◌, ◌≤◌, [], ◌++◌, Result, Ok, Err, refl, sym, ap, ◌∙◌, subst, append_assoc, arith}
+use Rattle.std.specs.Prelude.{IsErrAnd}
+use Rattle.sf_value.specs.Values.{Data}
+use Rattle.sf_value.specs.declared.fault.ValueFault.{ValueFault}
+use Rattle.sf_value.specs.declared.fault.Fault.{Fault}
+use Rattle.sf_value.specs.declared.fault.Fault.TheVariants.{Memory}
+use Rattle.sf_mean.specs.Meaning.{Readings, Outcome, gave, faulted, combined, value_in, Cost, count, height, no_cost, both_costs, over}
+use Rattle.sf_step.specs.declared.meter.Meter.{Meter}
+use Rattle.sf_step.specs.Meters.{entered_of}
+use Rattle.sf_step.specs.Sampling.{Rel, Ticks, readings, Spent, Fails, faults, large, memory, Answers, answers, fails}
+
+-- one outcome at most
+pub data Single (R : Rel) : Type 0 where
+  single : ((a b : Outcome) (j k : Cost) → R a j → R b k → (a ≡ b) × (j ≡ k)) → Single R
+
+-- a term that counts
+pub data Over (R : Rel) : Outcome → Cost → Type 0 where
+  counted : {o : Outcome} {k : Cost} → R o k → Over R o (over k)
+
+-- one part and then another; after a fault the other isn't stepped, and its text costs this
+pub data Then (R : Rel) (f : Data → Data → Data) (stop : Cost) (S : Data → Rel) : Outcome → Cost → Type 0 where
+  then_on : {y : Data} {r : Readings} {o : Outcome} {k l : Cost} → R (gave y r) k → S y o l → Then R f stop S (combined f (gave y r) o) (both_costs k l)
+  then_stop : {x : ValueFault} {k : Cost} → R (faulted x) k → Then R f stop S (faulted x) (both_costs k stop)
+
+-- the two relations have the same outcomes
+pub record Alike (R S : Rel) : Type 0 where
+  pub to : (o : Outcome) (k : Cost) → R o k → S o k
+  pub back : (o : Outcome) (k : Cost) → S o k → R o k
+
+-- ## Costs
+
+-- what a term costs, from what its parts cost
+pub over_spent : {m n n' : Meter} {depth inside : ℕ} {k : Cost} {r : Readings} → Ticks m n depth inside → Spent n n' inside k r → Spent m n' depth (over k) r
+unfolding readings
+over_spent t s = record { entered = let a = t.entered in let b = s.entered in omega arith; high = let a = t.high in let b = s.high in let c = t.below in omega arith; recorded = s.recorded }
+
+-- a term that steps no other
+pub one_spent : {m n : Meter} {depth inside : ℕ} → Ticks m n depth inside → Spent m n depth (over no_cost) []
+unfolding readings
+one_spent t = record { entered = let a = t.entered in omega arith; high = let a = t.high in let c = t.below in omega arith; recorded = refl }
+
+-- two parts
+pub both_spent : {m n n' : Meter} {depth : ℕ} {k l : Cost} {r q : Readings} → Spent m n depth k r → Spent n n' depth l q → Spent m n' depth (both_costs k l) (r ++ q)
+both_spent {m = m} {r = r} {q = q} s s' = record {
+  entered = let a = s.entered in let b = s'.entered in omega arith;
+  high = let a = s.high in let b = s'.high in omega arith;
+  recorded = s'.recorded ∙ ap (λ l. l ++ q) s.recorded ∙ append_assoc (readings m) r q;
+}
+
+-- ## Failures
+
+pub fails_alike : {R S : Rel} {f : Fault} {m n : Meter} {depth : ℕ} → Alike R S → Fails R f m n depth → Fails S f m n depth
+fails_alike a (faults G e h) = faults (a.to _ _ G) e h
+fails_alike a (large h) = large (λ o k G. h o k (a.back o k G))
+fails_alike a memory = memory
+
+-- a term that counts, whose parts fail
+pub over_fails : {R : Rel} {f : Fault} {m n n' : Meter} {depth inside : ℕ} → Ticks m n depth inside → Fails R f n n' inside → Fails (Over R) f m n' depth
+over_fails t (faults G e h) = faults (counted G) (let a = t.entered in omega arith) (let a = t.high in let b = t.below in omega arith)
+over_fails {R} {f} {m} {n} {n'} {depth} {inside} t (large h) = large go
+  where
+    go : (o : Outcome) (k : Cost) → Over R o k → entered_of m + count k ≤ 100000 → depth + height k ≤ 800 → ⊥
+    go o k (counted G) a b = h _ _ G (let c = t.entered in omega arith) (let c = t.below in omega arith)
+over_fails t memory = memory
+
+-- the first part fails
+pub then_fails : {R : Rel} {g : Data → Data → Data} {stop : Cost} {S : Data → Rel} {f : Fault} {m n : Meter} {depth : ℕ} → Fails R f m n depth → Fails (Then R g stop S) f m n depth
+then_fails (faults G e h) = faults (then_stop G) (omega arith) (omega arith)
+then_fails {R} {g} {stop} {S} {f} {m} {n} {depth} (large h) = large go
+  where
+    go : (o : Outcome) (k : Cost) → Then R g stop S o k → entered_of m + count k ≤ 100000 → depth + height k ≤ 800 → ⊥
+    go o k (then_on G H) a b = h _ _ G (omega arith) (omega arith)
+    go o k (then_stop G) a b = h _ _ G (omega arith) (omega arith)
+then_fails memory = memory
+
+one : {R : Rel} {a b : Outcome} {j k : Cost} → Single R → R a j → R b k → (a ≡ b) × (j ≡ k)
+one (single f) G H = f _ _ _ _ G H
+
+-- the first part gives a value, and the other one fails
+module _ {R : Rel} {g : Data → Data → Data} {stop : Cost} (S : Data → Rel) {y : Data} {r : Readings} {k1 : Cost} (u : Single R) (G1 : R (gave y r) k1) where
+  pub rest_fails : {f : Fault} {m n n' : Meter} {depth : ℕ} → Spent m n depth k1 r → Fails (S y) f n n' depth → Fails (Then R g stop S) f m n' depth
+  rest_fails s (faults G e h) = faults (then_on G1 G) (let a = s.entered in omega arith) (let a = s.high in omega arith)
+  rest_fails {f} {m} {n} {n'} {depth} s (large h) = large go
+    where
+      go : (o : Outcome) (k : Cost) → Then R g stop S o k → entered_of m + count k ≤ 100000 → depth + height k ≤ 800 → ⊥
+      go o k (then_on {y = z} {o = o'} {l = l} G H) a b =
+          let e = one u G G1 in
+          let c = ap count e.1 in let d = ap height e.1 in let i = s.entered in
+          h o' l (subst (λ v. S v o' l) (ap value_in e.0) H) (omega arith) (omega arith)
+      go o k (then_stop G) a b = let e = (one u G G1).0 in cc
+  rest_fails s memory = memory
+
+-- ## Exits
+
+-- a value, at its cost
+pub record Answered {A : Type 0} (view : A → Data) (after : A → Type 0) (R : Rel) (a : A) (m n : Meter) (depth : ℕ) : Type 0 where
+  pub k : Cost
+  pub r : Readings
+  pub given : R (gave (view a) r) k
+  pub spent : Spent m n depth k r
+  pub holds : after a
+
+pub answered : {A : Type 0} {view : A → Data} {after : A → Type 0} {R : Rel} {a : A} {m n : Meter} {depth : ℕ} → Answers view after R (Ok a) m n depth → Answered view after R a m n depth
+answered (answers G s h) = record { k = _; r = _; given = G; spent = s; holds = h }
+
+-- an error is a failure
+pub failed : {A : Type 0} {view : A → Data} {after : A → Type 0} {R : Rel} {f : Fault} {m n : Meter} {depth : ℕ} → Answers view after R (Err f) m n depth → Fails R f m n depth
+failed (fails h) = h
+
+-- a `?` that passes a failure on
+pub pass_exit : {A : Type 0} {view : A → Data} {after : A → Type 0} {R : Rel} {m n : Meter} {depth : ℕ} {f : Fault} (r : Result A Fault) → IsErrAnd r (λ e. e ≡ f) → Fails R f m n depth → Answers view after R r m n depth
+pass_exit (Ok a) e h = absurd e
+pass_exit {R = R} {m = m} {n = n} {depth = depth} (Err q) e h = fails (subst (λ (f : Fault). Fails R f m n depth) (sym e) h)
+
+-- a `?` where memory runs out
+pub memory_exit : {A : Type 0} {view : A → Data} {after : A → Type 0} {R : Rel} {m n : Meter} {depth : ℕ} (r : Result A Fault) → IsErrAnd r (λ e. e ≡ Memory) → Answers view after R r m n depth
+memory_exit r e = pass_exit r e memory

@@ -1,0 +1,14 @@
+use Rattle.std.proofs.Common.{refl, arith, inl, inr}
+use Rattle.sf_step.specs.Sampling.{ticked, refused}
+use Rattle.sf_step.proofs.meter.Meter.tick.Goals as goal
+use Rattle.sf_step.proofs.meter.Meter.tick.Goals.{then-self-ge-MOST_NODES-via-then-self-ge-MOST_NODES, then-self-ge-MOST_NODES-via-else-self-ge-MOST_NODES+then-depth-ge-MOST_HEIGHT}
+
+pub returns-then-self-ge-MOST_NODES-clause-ticked : goal.returns-then-self-ge-MOST_NODES-clause-ticked
+returns-then-self-ge-MOST_NODES-clause-ticked c =
+    elim c.then-self-ge-MOST_NODES.branch [ then-self-ge-MOST_NODES-via-then-self-ge-MOST_NODES w ↦ refused (inl (omega arith)) | then-self-ge-MOST_NODES-via-else-self-ge-MOST_NODES+then-depth-ge-MOST_HEIGHT w ↦ refused (inr (omega arith)) ]
+
+pub returns-then-self-inside-clause-ticked : goal.returns-then-self-inside-clause-ticked
+returns-then-self-inside-clause-ticked c = ticked record { entered = refl; high = omega arith; below = refl }
+
+pub returns-else-self-inside-clause-ticked : goal.returns-else-self-inside-clause-ticked
+returns-else-self-inside-clause-ticked c = ticked record { entered = refl; high = omega arith; below = refl }

@@ -1,0 +1,81 @@
+use Rattle.sf_step.proofs.Parts.{pass_exit, memory_exit}
+use Rattle.sf_step.proofs.Exits.{ticked_by, closure_of, tick_fails, join_left_fails, join_right_fails, join_steps, state_unborn, state_unborn_fails, state_live, state_live_fails, start_opened, start_open_fails}
+use Rattle.sf_step.proofs.sample.+step.Goals as goal
+
+-- ## step_join
+
+pub step_join-returns-in_err-first-clause-answers : goal.step_join-returns-in_err-first-clause-answers
+step_join-returns-in_err-first-clause-answers t c = λ m depth t P L R. memory_exit _ c.from_residual.ensures.1
+
+pub step_join-returns-in_err-one-clause-answers : goal.step_join-returns-in_err-one-clause-answers
+step_join-returns-in_err-one-clause-answers t c = λ m depth t P L R.
+    pass_exit _ c.from_residual-in_err-one.ensures.1 (join_left_fails c.args.program.now c.args.join c.args.left.value c.args.right.value c.args.meter.now c.step_state.new.meter c.args.inside c.args.dt c.args.input c.in_ok-first.first c.in_ok-first.ensures.0
+    c.in_err-one.field-0.0 (rw c.into_inner.ensures at c.in_err-one.ensures.answers) m depth t P L R)
+
+pub step_join-returns-in_err-two-clause-answers : goal.step_join-returns-in_err-two-clause-answers
+step_join-returns-in_err-two-clause-answers t c = λ m depth t P L R.
+    pass_exit _ c.from_residual-in_err-two.ensures.1 (join_right_fails c.args.program.now c.args.join c.args.left.value c.args.right.value c.args.meter.now c.step_state.new.meter c.args.inside c.args.dt c.args.input c.in_ok-first.first c.in_ok-first.ensures.0
+    c.in_ok-one.one c.in_ok-one.output _ (c.right_input-second.ensures _ _ c.in_ok-first.ensures.1).0 (rw c.into_inner.ensures at c.in_ok-one.ensures.answers)
+    c.step_state-2.new.meter c.in_err-two.field-0.0 (rw c.into_inner-2.ensures at c.in_err-two.ensures.answers) m depth t P L R)
+
+pub step_join-returns-in_err-value-clause-answers : goal.step_join-returns-in_err-value-clause-answers
+step_join-returns-in_err-value-clause-answers t c = λ m depth t P L R. memory_exit _ c.from_residual-in_err-value.ensures.1
+
+pub step_join-returns-in_err-earlier-clause-answers : goal.step_join-returns-in_err-earlier-clause-answers
+step_join-returns-in_err-earlier-clause-answers t c = λ m depth t P L R. memory_exit _ c.from_residual-in_err-earlier.ensures.1
+
+pub step_join-returns-in_err-later-clause-answers : goal.step_join-returns-in_err-later-clause-answers
+step_join-returns-in_err-later-clause-answers t c = λ m depth t P L R. memory_exit _ c.from_residual-in_err-later.ensures.1
+
+pub step_join-returns-clause-answers : goal.step_join-returns-clause-answers
+step_join-returns-clause-answers t c =
+    join_steps c.args.program.now c.args.join c.args.left.value c.args.right.value c.args.meter.now c.step_state.new.meter c.args.inside c.args.dt c.args.input c.in_ok-first.first c.in_ok-first.ensures.0
+    c.in_ok-earlier.earlier.value c.in_ok-one.output _ (c.right_input-second.ensures _ _ c.in_ok-first.ensures.1).0
+    (rw (c.into_inner.ensures, ← c.in_ok-earlier.ensures.ok) at c.in_ok-one.ensures.answers)
+    c.step_state-2.new.meter c.in_ok-later.later.value c.in_ok-two.last c.in_ok-value.value
+    (c.in_ok-value.ensures _ _ (c.right_input-second.ensures _ _ c.in_ok-first.ensures.1).1)
+    (rw (c.into_inner-2.ensures, ← c.in_ok-later.ensures.ok) at c.in_ok-two.ensures.answers)
+
+-- ## step_live
+
+pub step_live-returns-in-Prim-clause-answers : goal.step_live-returns-in-Prim-clause-answers
+step_live-returns-in-Prim-clause-answers t c = rw c.in-Prim.is (c.step_prim.ensures c.args.program.now c.args.meter.now c.args.inside)
+
+pub step_live-returns-in-Join-clause-answers : goal.step_live-returns-in-Join-clause-answers
+step_live-returns-in-Join-clause-answers t c = rw c.in-Join.is c.step_join.ensures.answers
+
+-- ## start
+
+pub start-returns-in_err-inside-clause-answers : goal.start-returns-in_err-inside-clause-answers
+start-returns-in_err-inside-clause-answers t c = λ P Q. pass_exit _ c.from_residual.ensures.1 (tick_fails c.args.program.now P _ c.in_err-inside.ensures.ticked)
+
+pub start-returns-in_err-live-clause-answers : goal.start-returns-in_err-live-clause-answers
+start-returns-in_err-live-clause-answers t c = λ P Q.
+    let q = closure_of c.args.process in
+    pass_exit _ c.from_residual-in_err-live.ensures.1 (start_open_fails c.args.program.now q.term q.names _ c.in_err-live.field-0.0 (ticked_by c.in_ok-inside.ensures.ticked) (rw q.is at c.in_err-live.ensures) P (rw q.is at Q))
+
+pub start-returns-clause-answers : goal.start-returns-clause-answers
+start-returns-clause-answers t c = λ P Q.
+    let q = closure_of c.args.process in
+    start_opened c.args.program.now q.term q.names c.in_ok-live.live c.args.dt c.args.input _ (ticked_by c.in_ok-inside.ensures.ticked) (rw q.is at c.in_ok-live.ensures) c.step_live.ensures.answers P (rw q.is at Q)
+
+-- ## step_state
+
+pub step_state-returns-in_err-begun-in-Unborn-clause-answers : goal.step_state-returns-in_err-begun-in-Unborn-clause-answers
+step_state-returns-in_err-begun-in-Unborn-clause-answers t c = λ P L A.
+    pass_exit _ c.from_residual.ensures.1 (state_unborn_fails c.args.program.now c.in-Unborn.process _ c.in_err-begun-in-Unborn.field-0.0 c.in_err-begun-in-Unborn.ensures.answers P L (rw c.in-Unborn.is at A))
+
+pub step_state-returns-in_ok-begun-in-Unborn-clause-answers : goal.step_state-returns-in_ok-begun-in-Unborn-clause-answers
+step_state-returns-in_ok-begun-in-Unborn-clause-answers t c = λ P L A.
+    state_unborn c.args.program.now c.in-Unborn.process _ c.in_ok-begun-in-Unborn.begun c.in_ok-begun-in-Unborn.value c.in_ok-begun-in-Unborn.ensures.answers P L (rw c.in-Unborn.is at A)
+
+pub step_state-returns-in_err-inside-in-Live-clause-answers : goal.step_state-returns-in_err-inside-in-Live-clause-answers
+step_state-returns-in_err-inside-in-Live-clause-answers t c = λ P L A. pass_exit _ c.from_residual-in_err-inside-in-Live.ensures.1 (tick_fails c.args.program.now P _ c.in_err-inside-in-Live.ensures.ticked)
+
+pub step_state-returns-in_err-later-in-Live-clause-answers : goal.step_state-returns-in_err-later-in-Live-clause-answers
+step_state-returns-in_err-later-in-Live-clause-answers t c = λ P L A.
+    pass_exit _ c.from_residual-in_err-later-in-Live.ensures.1 (state_live_fails c.args.program.now c.in-Live.live _ c.in_err-later-in-Live.field-0.0 (ticked_by c.in_ok-inside-in-Live.ensures.ticked) c.in_err-later-in-Live.ensures.answers P L (rw c.in-Live.is at A))
+
+pub step_state-returns-in_ok-later-in-Live-clause-answers : goal.step_state-returns-in_ok-later-in-Live-clause-answers
+step_state-returns-in_ok-later-in-Live-clause-answers t c = λ P L A.
+    state_live c.args.program.now c.in-Live.live c.in_ok-later-in-Live.later _ c.in_ok-later-in-Live.value (ticked_by c.in_ok-inside-in-Live.ensures.ticked) c.in_ok-later-in-Live.ensures.answers P L (rw c.in-Live.is at A)

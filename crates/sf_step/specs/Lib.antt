@@ -1,0 +1,4 @@
+pub mod Meters
+pub mod Routing
+pub mod Sampling
+pub mod Stepping

@@ -1,0 +1,11 @@
+-- What meters count.
+use Rattle.std.specs.Prelude.{ℕ}
+use Rattle.sf_step.specs.declared.meter.Meter.{Meter}
+
+-- how many nodes
+abbrev pub entered_of : Meter → ℕ
+entered_of m = m.entered
+
+-- how many nodes one inside another
+abbrev pub height_of : Meter → ℕ
+height_of m = m.height

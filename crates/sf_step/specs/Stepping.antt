@@ -1,0 +1,28 @@
+-- What one sample answers.
+use Rattle.std.specs.Prelude.{◌≡◌, ◌≤◌, [], Result, Ok, Err}
+use Rattle.sf_value.specs.Values.{Data}
+use Rattle.sf_value.specs.declared.fault.ValueFault.{ValueFault}
+use Rattle.sf_value.specs.declared.fault.Fault.{Fault}
+use Rattle.sf_value.specs.declared.fault.Fault.TheVariants.{Value, Large, Memory}
+use Rattle.sf_term.specs.declared.program.Program.{Program}
+use Rattle.sf_mean.specs.Lives.{Life, Process}
+use Rattle.sf_mean.specs.Meaning.{Outcome, gave, faulted, Cost, count, height, Gives}
+use Rattle.sf_mean.specs.Networks.{network_of}
+use Rattle.sf_state.specs.declared.state.State.{State}
+use Rattle.sf_state.specs.Standing.{Stands}
+use Rattle.sf_step.specs.declared.meter.Meter.{Meter}
+use Rattle.sf_step.specs.Meters.{entered_of, height_of}
+
+-- A sample answers what P gives on L. The new state stands for P on L, and the meter counted exactly the meaning's terms;
+-- at a fault it counted no more. Large is answered only where P gives nothing within the numbers of nodes that are allowed.
+pub data Steps (p : Program) (P : Process) (L : Life) : Result Data Fault → State → Meter → Type 0 where
+  stepped : {v : Data} {k : Cost} {s : State} {m : Meter}
+      → Gives (network_of p) P L (gave v []) k → entered_of m ≡ count k → height_of m ≡ height k → Stands p s P L
+      → Steps p P L (Ok v) s m
+  faulted_so : {x : ValueFault} {k : Cost} {s : State} {m : Meter}
+      → Gives (network_of p) P L (faulted x) k → entered_of m ≤ count k → height_of m ≤ height k
+      → Steps p P L (Err (Value x)) s m
+  too_large : {s : State} {m : Meter}
+      → ((o : Outcome) (k : Cost) → Gives (network_of p) P L o k → count k ≤ 100000 → height k ≤ 800 → ⊥)
+      → Steps p P L (Err Large) s m
+  no_memory : {s : State} {m : Meter} → Steps p P L (Err Memory) s m

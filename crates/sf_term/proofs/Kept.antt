@@ -1,0 +1,276 @@
+-- What builders keep of a program.
+use Rattle.std.proofs.Common.{◌≡◌, ℕ, zero, suc, max, ◌+◌, ◌<◌, ◌≤◌, List, [], ◌∷◌, ◌++◌, length, get_or, map, Bool, true, false, cond, Result, Ok, Err, OnErr, refl, sym, ◌∙◌, ap, subst, arith, ◌⊎◌, inl, inr, All}
+use mathlib.Core.Path.{ap₂}
+use Rattle.std.proofs.lemmas.List.{length-append, map-append, get_or_past}
+use Rattle.std.proofs.lemmas.Bool.{cases_lt}
+use Rattle.sf_expr.specs.declared.spot.Spot.{Spot}
+use Rattle.sf_expr.specs.declared.exprs.ExprId.{ExprId}
+use Rattle.sf_expr.specs.declared.exprs.Exprs.{Exprs}
+use Rattle.sf_expr.specs.Expressions.{Expression}
+use Rattle.sf_expr.specs.Arena.{expression, count_of, Holds, spot_at as value_spot_at, Keeps as KeepsExpressions, Adds as AddsToExpressions, IsUnchanged as ExpressionsUnchanged}
+use Rattle.sf_expr.proofs.Entered.{below_holds, holds_below, few_expressions, adds_keeps as expressions_kept, unchanged_keeps as unchanged_expressions_kept}
+use Rattle.sf_term.specs.declared.node.TermId.{TermId}
+use Rattle.sf_term.specs.declared.node.Primitive.TheVariants as primitives
+use Rattle.sf_term.specs.declared.node.Node.{Node}
+use Rattle.sf_term.specs.declared.node.Node.TheVariants as nodes
+use Rattle.sf_term.specs.declared.node.Entry.{Entry}
+use Rattle.sf_term.specs.declared.program.Program.{Program}
+use Rattle.sf_term.specs.Trees.{Term, Template, primitive, joined, bare, with_value, depth}
+use Rattle.sf_term.specs.Headers.{Header, bodies_end}
+use Rattle.sf_term.specs.Entries.{made_over, needs, needs_expressions, identity_entry, entry_at, terms, term_at}
+use Rattle.sf_term.specs.Arena.{id_number, expressions_of, term_count, expression_count, HoldsTerm, HoldsExpression, tree, expression_at, entry_of, spot_at, expression_spot_at, made_in, headers_of, template_in, Builds, builds_bare, builds_with_value, builds_joined, PartsBelow, HoldsParts, KeepsTrees, Keeps, AddsTerm, AddsExpression, AddsTemplate, IsUnchanged}
+use Rattle.sf_term.proofs.Entered.{term-other, term-pushed, entry-other, entry-pushed, term-built, term-same}
+
+-- what a node needs is there where its parts are held
+pub parts_needed : (p : Program) (n : Node) → HoldsParts p n → (needs n ≤ length p.terms.items) × (needs_expressions n ≤ count_of p.expressions)
+unfolding HoldsTerm HoldsExpression
+parts_needed p (nodes.Primitive (primitives.Bare k)) h = (omega arith, omega arith)
+parts_needed p (nodes.Primitive (primitives.WithValue k e)) h = (omega arith, omega (arith, holds_below p.expressions e h))
+parts_needed p (nodes.Joined j a b) h = (omega arith, omega arith)
+
+-- a node stands for the term at its id
+pub builds : (p : Program) (t : TermId) → Builds p (entry_of p t).node (tree p t)
+unfolding entry_of tree expression_at term_at
+builds p t = subst (λ u. Builds p (entry_at p.terms.items t.0).node u) (sym (term-built p.expressions p.terms.items t.0 p.arena)) (of_node (entry_at p.terms.items t.0).node)
+  where
+    of_node : (n : Node) → Builds p n (made_over p.expressions (terms p.expressions p.terms.items) n)
+    of_node (nodes.Primitive (primitives.Bare k)) = builds_bare
+    of_node (nodes.Primitive (primitives.WithValue k e)) = builds_with_value
+    of_node (nodes.Joined j a b) = builds_joined
+
+-- the parts of a node stand before it
+pub parts_below : (p : Program) (t : TermId) → PartsBelow (entry_of p t).node (id_number t)
+unfolding entry_of
+parts_below p t = of_node (entry_at p.terms.items t.0).node (p.arena.in_order t.0)
+  where
+    of_node : (n : Node) → needs n ≤ t.0 → PartsBelow n t.0
+    of_node (nodes.Primitive q) h = tt
+    of_node (nodes.Joined j a b) h = (omega arith, omega arith)
+
+-- the templates are the same where the trees are
+templates-same : (old new : Program) (hs : List Header) → bodies_end hs ≤ length old.terms.items → KeepsTrees old new → map (template_in new) hs ≡ map (template_in old) hs
+unfolding HoldsTerm
+templates-same old new [] h k = refl
+templates-same old new (t ∷ ts) h k =
+    ap₂ (λ (b : Term) (us : List Template). record { name = t.name; input = t.input; output = t.output; body = b } ∷ us) (k.trees t.body (omega arith)) (templates-same old new ts (omega arith) k)
+
+keeps_of : (old new : Program) → KeepsTrees old new → headers_of new ≡ headers_of old → Keeps old new
+unfolding headers_of
+keeps_of old new k e = record {
+  trees = k;
+  templates = ap (λ hs. map (template_in new) hs) e ∙ templates-same old new old.templates.items old.bodies k;
+  spots = ap (λ hs. map (λ (h : Header). h.spot) hs) e;
+}
+
+-- the trees stay where an entry is put behind
+pushed_keeps : (old new : Program) (entry : Entry) → new.expressions ≡ old.expressions → new.terms.items ≡ old.terms.items ++ entry ∷ [] → KeepsTrees old new
+unfolding HoldsTerm HoldsExpression tree spot_at expression_at expression_spot_at
+pushed_keeps old new entry same grown = record {
+  terms = λ t h. omega (arith, ap length grown, length-append old.terms.items (entry ∷ []));
+  trees = λ t h.
+      ap₂ (λ x es. term_at x es t.0) same grown ∙ term-other old.expressions old.terms.items entry t.0 (λ e. omega arith);
+  spots = λ t h.
+      ap (λ es. (entry_at es t.0).spot) grown ∙ ap (λ (n : Entry). n.spot) (entry-other old.terms.items entry t.0 (λ e. omega arith));
+  expressions = λ e h. subst (λ x. Holds x e) (sym same) h;
+  values = λ e h. ap (λ x. expression x e) same;
+  value_spots = λ e h. ap (λ x. value_spot_at x e) same;
+}
+
+-- an entry put behind adds its term
+pub adds_pushed : (old new : Program) (entry : Entry) (id : TermId) → new.expressions ≡ old.expressions → new.terms.items ≡ old.terms.items ++ entry ∷ [] → headers_of new ≡ headers_of old → id.0 ≡ length old.terms.items → entry.depth ≡ depth (made_in old entry.node) → entry.depth ≤ 64 → AddsTerm old new id (made_in old entry.node) entry.spot
+unfolding HoldsTerm tree spot_at made_in term_count expression_count
+adds_pushed old new entry id same grown headers at measured shallow = record {
+  within = omega (arith, long);
+  is = ap₂ (λ x es. term_at x es id.0) same grown ∙ term-pushed old.expressions old.terms.items entry id.0 at;
+  spotted = ap (λ es. (entry_at es id.0).spot) grown ∙ ap (λ (n : Entry). n.spot) (entry-pushed old.terms.items entry id.0 at);
+  shallow = omega arith;
+  kept = keeps_of old new (pushed_keeps old new entry same grown) headers;
+  term_counted = long;
+  expression_counted = ap count_of same;
+}
+  where
+    long : length new.terms.items ≡ length old.terms.items + 1
+    long = ap length grown ∙ omega (arith, length-append old.terms.items (entry ∷ []))
+
+-- the trees stay where the expressions grow
+grown_keeps : (old new : Program) → KeepsExpressions old.expressions new.expressions → new.terms.items ≡ old.terms.items → KeepsTrees old new
+unfolding HoldsTerm HoldsExpression tree spot_at expression_at expression_spot_at
+grown_keeps old new k e = record {
+  terms = λ t h. omega (arith, ap length e);
+  trees = λ t h. ap (λ es. term_at new.expressions es t.0) e ∙ term-same old.expressions new.expressions old.terms.items t.0 k old.arena.closed;
+  spots = λ t h. ap (λ es. (entry_at es t.0).spot) e;
+  expressions = λ x h. k.holds x h;
+  values = λ x h. k.trees x h;
+  value_spots = λ x h. k.spots x h;
+}
+
+-- what is added to the expressions is added to the program
+pub adds_expression : (old new : Program) (id : ExprId) (e : Expression) (s : Spot) → AddsToExpressions old.expressions new.expressions id e s → new.terms.items ≡ old.terms.items → headers_of new ≡ headers_of old → AddsExpression old new id e s
+unfolding HoldsExpression expression_at expression_spot_at term_count expression_count
+adds_expression old new id e s a same headers = record {
+  within = a.within;
+  is = a.is;
+  spotted = a.spotted;
+  kept = keeps_of old new (grown_keeps old new (expressions_kept old.expressions new.expressions id e s a) same) headers;
+  term_counted = ap length same;
+  expression_counted = a.count;
+}
+
+-- the same expressions are kept
+same_kept : (x y : Exprs) → y ≡ x → KeepsExpressions x y
+same_kept x y e = subst (λ z. KeepsExpressions x z) (sym e) (record { holds = λ i h. h; trees = λ i h. refl; spots = λ i h. refl })
+
+pub bodies_end-append : (hs : List Header) (h : Header) → bodies_end (hs ++ h ∷ []) ≡ max (bodies_end hs) (suc h.body.0)
+bodies_end-append [] h = omega arith
+bodies_end-append (t ∷ ts) h = omega (arith, bodies_end-append ts h)
+
+-- the bodies of templates, of which it may be that one more was put behind
+pub bodies_put : (old new : List Header) (h : Header) (put : Bool) (n : ℕ) → new ≡ cond put (old ++ h ∷ []) old → bodies_end old ≤ n → h.body.0 < n → bodies_end new ≤ n
+bodies_put old new h true n e a b = omega (arith, ap bodies_end e, bodies_end-append old h)
+bodies_put old new h false n e a b = omega (arith, ap bodies_end e)
+
+-- a template put behind
+pub adds_template : (old new : Program) (h : Header) → new.expressions ≡ old.expressions → new.terms.items ≡ old.terms.items → headers_of new ≡ headers_of old ++ h ∷ [] → HoldsTerm old h.body → AddsTemplate old new (template_in old h) h.spot
+unfolding term_count expression_count headers_of HoldsTerm
+adds_template old new h same terms headers held = record {
+  templates =
+      ap (λ hs. map (template_in new) hs) headers
+      ∙ templates-same old new (old.templates.items ++ h ∷ []) (omega (arith, bodies_end-append old.templates.items h, old.bodies)) kept
+      ∙ map-append (template_in old) old.templates.items (h ∷ []);
+  spots = ap (λ hs. map (λ (h : Header). h.spot) hs) headers ∙ map-append (λ (h : Header). h.spot) old.templates.items (h ∷ []);
+  kept = kept;
+  term_counted = ap length terms;
+  expression_counted = ap count_of same;
+}
+  where
+    kept : KeepsTrees old new
+    kept = grown_keeps old new (same_kept old.expressions new.expressions same) terms
+
+-- what shows the same
+pub unchanged : (old new : Program) → ExpressionsUnchanged old.expressions new.expressions → new.terms.items ≡ old.terms.items → headers_of new ≡ headers_of old → IsUnchanged old new
+unfolding term_count expression_count tree spot_at expression_at expression_spot_at
+unchanged old new x terms headers = record {
+  term_counted = ap length terms;
+  expression_counted = x.count;
+  trees = λ t. ap (λ es. term_at new.expressions es t.0) terms ∙ term-same old.expressions new.expressions old.terms.items t.0 (unchanged_expressions_kept old.expressions new.expressions x) old.arena.closed;
+  spots = λ t. ap (λ es. (entry_at es t.0).spot) terms;
+  values = λ e. x.trees e;
+  value_spots = λ e. x.spots e;
+  headers = headers;
+}
+
+pub same_expressions : (x : Exprs) → ExpressionsUnchanged x x
+same_expressions x = record { count = refl; trees = λ i. refl; spots = λ i. refl }
+
+-- an unchanged program keeps what it held
+pub unchanged_keeps : (old new : Program) → IsUnchanged old new → Keeps old new
+unfolding HoldsTerm HoldsExpression term_count expression_count
+unchanged_keeps old new u = keeps_of old new (record {
+  terms = λ t h. omega (arith, u.term_counted);
+  trees = λ t h. u.trees t;
+  spots = λ t h. u.spots t;
+  expressions = λ e h. below_holds new.expressions e (omega (arith, holds_below old.expressions e h, u.expression_counted));
+  values = λ e h. u.values e;
+  value_spots = λ e h. u.value_spots e;
+}) u.headers
+
+pub keeps_trees_trans : (a b c : Program) → KeepsTrees a b → KeepsTrees b c → KeepsTrees a c
+keeps_trees_trans a b c f g = record {
+  terms = λ t h. g.terms t (f.terms t h);
+  trees = λ t h. g.trees t (f.terms t h) ∙ f.trees t h;
+  spots = λ t h. g.spots t (f.terms t h) ∙ f.spots t h;
+  expressions = λ e h. g.expressions e (f.expressions e h);
+  values = λ e h. g.values e (f.expressions e h) ∙ f.values e h;
+  value_spots = λ e h. g.value_spots e (f.expressions e h) ∙ f.value_spots e h;
+}
+
+pub keeps_trans : (a b c : Program) → Keeps a b → Keeps b c → Keeps a c
+keeps_trans a b c f g = record {
+  trees = keeps_trees_trans a b c f.trees g.trees;
+  templates = g.templates ∙ f.templates;
+  spots = g.spots ∙ f.spots;
+}
+
+-- no program has more than 100,000 terms or 100,000 expressions
+pub few_terms : (p : Program) → term_count p ≤ 100000
+unfolding term_count
+few_terms p = p.arena.few
+
+pub few_program_expressions : (p : Program) → expression_count p ≤ 100000
+unfolding expression_count
+few_program_expressions p = few_expressions p.expressions
+
+-- no more than 64 terms and expressions stand one inside another
+pub tree_shallow : (p : Program) (t : TermId) → depth (tree p t) ≤ 64
+unfolding tree
+tree_shallow p t = omega (arith, p.arena.measured t.0, p.arena.shallow t.0)
+
+-- what holds in any case holds where there is an error
+pub on_any_err : {A E P : Type 0} (r : Result A E) → P → OnErr r P
+on_any_err (Ok x) p = tt
+on_any_err (Err e) p = p
+
+-- a program holds what stands below its count
+pub holds_below_count : (p : Program) (t : TermId) → HoldsTerm p t → id_number t < term_count p
+unfolding HoldsTerm term_count
+holds_below_count p t h = h
+
+pub below_count_holds : (p : Program) (t : TermId) → id_number t < term_count p → HoldsTerm p t
+unfolding HoldsTerm term_count
+below_count_holds p t h = h
+
+-- the parts of a node are held
+pub parts_held : (p : Program) (t : TermId) → HoldsParts p (entry_of p t).node
+unfolding entry_of HoldsTerm HoldsExpression
+parts_held p t = of_node (entry_at p.terms.items t.0).node (p.arena.in_order t.0) (p.arena.closed t.0) within
+  where
+    within : (needs (entry_at p.terms.items t.0).node ≡ 0) ⊎ (t.0 < length p.terms.items)
+    within = elim (cases_lt t.0 (length p.terms.items)) [ inl h ↦ inr h | inr h ↦ inl (ap (λ (n : Entry). needs n.node) (get_or_past p.terms.items t.0 identity_entry h)) ]
+
+    of_node : (n : Node) → needs n ≤ t.0 → needs_expressions n ≤ count_of p.expressions → (needs n ≡ 0) ⊎ (t.0 < length p.terms.items) → HoldsParts p n
+    of_node (nodes.Primitive (primitives.Bare k)) b x w = tt
+    of_node (nodes.Primitive (primitives.WithValue k e)) b x w = below_holds p.expressions e (omega arith)
+    of_node (nodes.Joined j a c) b x (inl z) = absurd (omega arith)
+    of_node (nodes.Joined j a c) b x (inr h) = (omega arith, omega arith)
+
+bodies_within : (p : Program) (hs : List Header) → bodies_end hs ≤ length p.terms.items → (k : ℕ) (d : Header) → k < length hs → HoldsTerm p (get_or hs k d).body
+unfolding HoldsTerm
+bodies_within p [] b k d h = absurd (omega arith)
+bodies_within p (h ∷ hs) b zero d q = omega arith
+bodies_within p (h ∷ hs) b (suc k) d q = bodies_within p hs (omega arith) k d (omega arith)
+
+-- the bodies of the templates are held
+pub bodies_held : (p : Program) → All (λ (h : Header). HoldsTerm p h.body) (headers_of p)
+unfolding headers_of
+bodies_held p = bodies_within p p.templates.items p.bodies
+
+-- the terms that nodes stand for
+pub is_bare : {p : Program} {k : _} {t : Term} → Builds p (nodes.Primitive (primitives.Bare k)) t → t ≡ primitive (bare k)
+is_bare builds_bare = refl
+
+pub is_with_value : {p : Program} {k : _} {e : ExprId} {t : Term} → Builds p (nodes.Primitive (primitives.WithValue k e)) t → t ≡ primitive (with_value k (expression_at p e))
+is_with_value builds_with_value = refl
+
+pub is_joined : {p : Program} {j : _} {a b : TermId} {t : Term} → Builds p (nodes.Joined j a b) t → t ≡ joined j (tree p a) (tree p b)
+is_joined builds_joined = refl
+
+-- the expressions of a program, seen by themselves
+pub expression_in : (p : Program) (e : ExprId) → expression (expressions_of p) e ≡ expression_at p e
+unfolding expressions_of expression_at
+expression_in p e = refl
+
+pub expression_spot_in : (p : Program) (e : ExprId) → value_spot_at (expressions_of p) e ≡ expression_spot_at p e
+unfolding expressions_of expression_spot_at
+expression_spot_in p e = refl
+
+pub count_in : (p : Program) → count_of (expressions_of p) ≡ expression_count p
+unfolding expressions_of expression_count
+count_in p = refl
+
+pub holds_in : (p : Program) (e : ExprId) → HoldsExpression p e → Holds (expressions_of p) e
+unfolding expressions_of HoldsExpression
+holds_in p e h = h
+
+pub in_holds : (p : Program) (e : ExprId) → Holds (expressions_of p) e → HoldsExpression p e
+unfolding expressions_of HoldsExpression
+in_holds p e h = h

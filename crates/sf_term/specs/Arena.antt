@@ -1,0 +1,156 @@
+-- Programs, seen by their trees.
+use Rattle.std.specs.Prelude.{◌≡◌, ℕ, ◌+◌, ◌<◌, ◌≤◌, List, [], ◌∷◌, ◌++◌, length, map}
+use Rattle.sf_expr.specs.declared.spot.Spot.{Spot}
+use Rattle.sf_expr.specs.declared.exprs.ExprId.{ExprId}
+use Rattle.sf_expr.specs.declared.exprs.Exprs.{Exprs}
+use Rattle.sf_expr.specs.Expressions.{Expression}
+use Rattle.sf_expr.specs.Arena.{expression, count_of, Holds, spot_at as expression_spot_in}
+use Rattle.sf_term.specs.declared.form.Bare.{Bare}
+use Rattle.sf_term.specs.declared.form.WithValue.{WithValue}
+use Rattle.sf_term.specs.declared.form.Join.{Join}
+use Rattle.sf_term.specs.declared.node.TermId.{TermId}
+use Rattle.sf_term.specs.declared.node.Primitive.TheVariants as primitives
+use Rattle.sf_term.specs.declared.node.Node.{Node}
+use Rattle.sf_term.specs.declared.node.Node.TheVariants as nodes
+use Rattle.sf_term.specs.declared.node.Entry.{Entry}
+use Rattle.sf_term.specs.declared.program.Program.{Program}
+use Rattle.sf_term.specs.Trees.{Term, primitive, joined, bare, with_value, depth, Template, Templates}
+use Rattle.sf_term.specs.Headers.{Header}
+use Rattle.sf_term.specs.Entries.{entry_at, term_at, terms, made_over}
+
+-- the number of an id
+abbrev pub id_number : TermId → ℕ
+id_number id = id.0
+
+-- the expressions of a program
+unfoldable pub expressions_of : Program → Exprs
+expressions_of p = p.expressions
+
+-- how many terms a program holds
+unfoldable pub term_count : Program → ℕ
+term_count p = length p.terms.items
+
+-- how many expressions a program holds
+unfoldable pub expression_count : Program → ℕ
+expression_count p = count_of p.expressions
+
+-- a program holds a term under an id
+unfoldable pub HoldsTerm : Program → TermId → Type 0
+HoldsTerm p t = t.0 < length p.terms.items
+
+-- a program holds an expression under an id
+unfoldable pub HoldsExpression : Program → ExprId → Type 0
+HoldsExpression p e = Holds p.expressions e
+
+-- the term at an id; the identity where the program holds none
+unfoldable pub tree : Program → TermId → Term
+tree p t = term_at p.expressions p.terms.items t.0
+
+-- the expression at an id; the number 0 where the program holds none
+unfoldable pub expression_at : Program → ExprId → Expression
+expression_at p e = expression p.expressions e
+
+-- the entry at an id
+unfoldable pub entry_of : Program → TermId → Entry
+entry_of p t = entry_at p.terms.items t.0
+
+-- where the term at an id stands in the text
+unfoldable pub spot_at : Program → TermId → Spot
+spot_at p t = (entry_at p.terms.items t.0).spot
+
+-- where the expression at an id stands in the text
+unfoldable pub expression_spot_at : Program → ExprId → Spot
+expression_spot_at p e = expression_spot_in p.expressions e
+
+-- the term that a node makes in a program
+unfoldable pub made_in : Program → Node → Term
+made_in p node = made_over p.expressions (terms p.expressions p.terms.items) node
+
+-- the templates of a program, whose bodies are ids, in order
+unfoldable pub headers_of : Program → List Header
+headers_of p = p.templates.items
+
+-- a template with the tree of its body
+abbrev pub template_in : Program → Header → Template
+template_in p h = record { name = h.name; input = h.input; output = h.output; body = tree p h.body }
+
+-- the templates of a program, in order
+abbrev pub templates_of : Program → Templates
+templates_of p = map (template_in p) (headers_of p)
+
+-- where the names of the templates stand in the text, in order
+abbrev pub spots_of : Program → List Spot
+spots_of p = map (λ (h : Header). h.spot) (headers_of p)
+
+-- A node with the ids of its parts stands for a term with their trees.
+pub data Builds (p : Program) : Node → Term → Type 0 where
+  builds_bare : {k : Bare} → Builds p (nodes.Primitive (primitives.Bare k)) (primitive (bare k))
+  builds_with_value : {k : WithValue} {e : ExprId} → Builds p (nodes.Primitive (primitives.WithValue k e)) (primitive (with_value k (expression_at p e)))
+  builds_joined : {j : Join} {a b : TermId} → Builds p (nodes.Joined j a b) (joined j (tree p a) (tree p b))
+
+-- the ids of a node's parts, as numbers, are below a number
+abbrev pub PartsBelow : Node → ℕ → Type 0
+PartsBelow (nodes.Primitive q) n = Unit {0}
+PartsBelow (nodes.Joined j a b) n = (id_number a < n) × (id_number b < n)
+
+-- the parts of a node are held
+abbrev pub HoldsParts : Program → Node → Type 0
+HoldsParts p (nodes.Primitive (primitives.Bare k)) = Unit {0}
+HoldsParts p (nodes.Primitive (primitives.WithValue k e)) = HoldsExpression p e
+HoldsParts p (nodes.Joined j a b) = HoldsTerm p a × HoldsTerm p b
+
+-- Terms and expressions that a program held are there as they were.
+pub record KeepsTrees (old new : Program) : Type 0 where
+  pub terms : (t : TermId) → HoldsTerm old t → HoldsTerm new t
+  pub trees : (t : TermId) → HoldsTerm old t → tree new t ≡ tree old t
+  pub spots : (t : TermId) → HoldsTerm old t → spot_at new t ≡ spot_at old t
+  pub expressions : (e : ExprId) → HoldsExpression old e → HoldsExpression new e
+  pub values : (e : ExprId) → HoldsExpression old e → expression_at new e ≡ expression_at old e
+  pub value_spots : (e : ExprId) → HoldsExpression old e → expression_spot_at new e ≡ expression_spot_at old e
+
+-- All that a program held is there as it was, and it has the same templates.
+pub record Keeps (old new : Program) : Type 0 where
+  pub trees : KeepsTrees old new
+  pub templates : templates_of new ≡ templates_of old
+  pub spots : spots_of new ≡ spots_of old
+
+-- a term was added under an id
+pub record AddsTerm (old new : Program) (id : TermId) (t : Term) (s : Spot) : Type 0 where
+  pub within : HoldsTerm new id
+  pub is : tree new id ≡ t
+  pub spotted : spot_at new id ≡ s
+  pub shallow : depth t ≤ 64
+  pub kept : Keeps old new
+  pub term_counted : term_count new ≡ term_count old + 1
+  pub expression_counted : expression_count new ≡ expression_count old
+
+-- an expression was added under an id
+pub record AddsExpression (old new : Program) (id : ExprId) (e : Expression) (s : Spot) : Type 0 where
+  pub within : HoldsExpression new id
+  pub is : expression_at new id ≡ e
+  pub spotted : expression_spot_at new id ≡ s
+  pub kept : Keeps old new
+  pub term_counted : term_count new ≡ term_count old
+  pub expression_counted : expression_count new ≡ expression_count old + 1
+
+-- a template was added behind the others, with the place of its name
+pub record AddsTemplate (old new : Program) (template : Template) (s : Spot) : Type 0 where
+  pub templates : templates_of new ≡ templates_of old ++ template ∷ []
+  pub spots : spots_of new ≡ spots_of old ++ s ∷ []
+  pub kept : KeepsTrees old new
+  pub term_counted : term_count new ≡ term_count old
+  pub expression_counted : expression_count new ≡ expression_count old
+
+-- two programs show the same
+pub record IsUnchanged (old new : Program) : Type 0 where
+  pub term_counted : term_count new ≡ term_count old
+  pub expression_counted : expression_count new ≡ expression_count old
+  pub trees : (t : TermId) → tree new t ≡ tree old t
+  pub spots : (t : TermId) → spot_at new t ≡ spot_at old t
+  pub values : (e : ExprId) → expression_at new e ≡ expression_at old e
+  pub value_spots : (e : ExprId) → expression_spot_at new e ≡ expression_spot_at old e
+  pub headers : headers_of new ≡ headers_of old
+
+-- a program is a copy of another: it shows the same
+abbrev pub IsCopy : Program → Program → Type 0
+IsCopy p copy = IsUnchanged p copy

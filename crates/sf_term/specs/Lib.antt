@@ -1,0 +1,5 @@
+pub mod Trees
+pub mod Headers
+pub mod Entries
+pub mod Arena
+pub mod Refusals

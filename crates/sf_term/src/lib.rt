@@ -1,0 +1,16 @@
+//! Networks: terms and templates, in an arena.
+#![tactic(auto)]
+
+mod form;
+mod node;
+mod program;
+mod refusal;
+mod template;
+#[cfg(test)]
+mod tests;
+
+pub use form::{Bare, Join, WithValue};
+pub use node::{Node, Primitive, TermId};
+pub use program::Program;
+pub use refusal::BuildRefusal;
+pub use template::Template;

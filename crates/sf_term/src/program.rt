@@ -1,0 +1,257 @@
+//! Programs: terms and templates, in an arena.
+ghost use Rattle.std.specs.Prelude.{◌≡◌, ◌<◌, ◌≤◌, ◌↔◌, IfOk, OnOk, OnErr, [], length, string_bytes, All};
+ghost use Rattle.sf_expr.specs.Expressions.{literal, int_literal};
+ghost use Rattle.sf_lex.specs.Words.{IsName};
+ghost use Rattle.sf_term.specs.Trees.{depth as depth_of, primitive, bare as bare_form};
+ghost use Rattle.sf_term.specs.Trees.{with_value as form_with_value, joined as joined_form};
+ghost use Rattle.sf_term.specs.Headers.{bodies_end};
+ghost use Rattle.sf_term.specs.Entries.{IsArena};
+
+use crate::form::{Bare, Join, WithValue};
+use crate::node::{Entry, Node, Primitive, TermId};
+use crate::refusal::BuildRefusal;
+use crate::template::{Template, clone_all};
+use sf_expr::{ExprId, Exprs, Spot};
+use sf_lex::is_name;
+use sf_value::Ty;
+use std::alloc::{AllocError, Global};
+
+/// Terms, with their expressions, and templates: at most 100,000 terms and 100,000 expressions, of which at most 64
+/// stand one inside another.
+#[derive(Drop)]
+pub struct Program {
+    expressions: Exprs,
+    terms: Vec<Entry>,
+    templates: Vec<Template>,
+    ghost arena: { IsArena expressions terms.items },
+    ghost bodies: { bodies_end templates.items ≤ length terms.items },
+}
+
+impl Program {
+    ghost use Rattle.sf_term.specs.Arena.{term_count, expression_count, HoldsTerm, HoldsExpression};
+    ghost use Rattle.sf_term.specs.Arena.{tree, expression_at, entry_of, spot_at, made_in, id_number};
+    ghost use Rattle.sf_term.specs.Arena.{expressions_of, headers_of, Builds, PartsBelow, HoldsParts};
+    ghost use Rattle.sf_term.specs.Arena.{AddsTerm, AddsExpression, AddsTemplate, IsUnchanged, IsCopy};
+
+    /// No term, no expression and no template.
+    #[tactic(auto, unfolding(crate::specs::Arena::term_count, crate::specs::Arena::expression_count, crate::specs::Arena::headers_of))]
+    pub fn new(alloc: Global) -> Program
+        ensures terms { term_count result ≡ 0 }
+        ensures expressions { expression_count result ≡ 0 }
+        ensures templates { headers_of result ≡ [] }
+    {
+        Program {
+            expressions: Exprs::new(alloc),
+            terms: Vec::new(alloc),
+            templates: Vec::new(alloc),
+        }
+    }
+
+    #[tactic(auto, unfolding(crate::specs::Arena::entry_of))]
+    fn entry(&self, id: TermId) -> Entry
+        ensures { result ≡ entry_of self.now id }
+    {
+        match self.terms.get(id.0 as usize) {
+            Some(entry) => *entry,
+            None => Entry {
+                node: Node::Primitive(Primitive::Bare(Bare::Identity)),
+                depth: 1,
+                spot: Spot::NONE,
+            },
+        }
+    }
+
+    /// How many terms and expressions stand one inside another in the term at an id.
+    #[tactic(auto, using(crate::proofs::Kept::tree_shallow), unfolding(crate::specs::Arena::entry_of, crate::specs::Arena::tree))]
+    pub fn depth(&self, id: TermId) -> u32
+        ensures value { result ≡ depth_of (tree self.now id) }
+        ensures bound { result ≤ 64 }
+    {
+        self.entry(id).depth
+    }
+
+    #[tactic(auto, unfolding(crate::specs::Arena::made_in, crate::specs::Arena::tree, crate::specs::Arena::expression_at, crate::specs::Entries::term_at))]
+    fn depth_with(&self, node: Node) -> u32
+        ensures { result ≡ depth_of (made_in self.now node) }
+    {
+        match node {
+            Node::Primitive(Primitive::Bare(_)) => 1,
+            Node::Primitive(Primitive::WithValue(_, value)) => 1 + self.expressions.depth(value),
+            Node::Joined(_, first, second) => 1 + self.depth(first).max(self.depth(second)),
+        }
+    }
+
+    #[tactic(auto, unfolding(crate::specs::Arena::term_count))]
+    fn add(&mut self, node: Node, spot: Spot) -> Result<TermId, BuildRefusal>
+        requires { HoldsParts self.old node }
+        ensures ok { IfOk result (λ id. AddsTerm self.old self.new id (made_in self.old node) spot) }
+        ensures many { result ≡ Err BuildRefusal.TooMany ↔ 100000 ≤ term_count self.old }
+        ensures deep { let whole = made_in self.old node in
+            result ≡ Err BuildRefusal.TooDeep ↔ (term_count self.old < 100000) × (64 < depth_of whole) }
+        ensures no_name { ¬ (result ≡ Err BuildRefusal.BadName) }
+        ensures err { OnErr result (IsUnchanged self.old self.new) }
+    {
+        let count = self.terms.len();
+        if 100_000 <= count {
+            return Err(BuildRefusal::TooMany);
+        }
+        let depth = self.depth_with(node);
+        if 64 < depth {
+            return Err(BuildRefusal::TooDeep);
+        }
+        match self.terms.push(Entry { node, depth, spot }) {
+            Ok(()) => Ok(TermId(count as u32)),
+            Err(_) => Err(BuildRefusal::Memory),
+        }
+    }
+
+    /// Adds a number to the expressions. Refused with `TooMany` where 100,000 expressions are there, and with
+    /// `Memory`. A refused call changes nothing.
+    #[tactic(auto, unfolding(crate::specs::Arena::expression_count))]
+    pub fn int(&mut self, n: i64, spot: Spot) -> Result<ExprId, BuildRefusal>
+        ensures ok { IfOk result (λ id. AddsExpression self.old self.new id (literal (int_literal n)) spot) }
+        ensures many { result ≡ Err BuildRefusal.TooMany ↔ 100000 ≤ expression_count self.old }
+        ensures not_deep { ¬ (result ≡ Err BuildRefusal.TooDeep) }
+        ensures no_name { ¬ (result ≡ Err BuildRefusal.BadName) }
+        ensures err { OnErr result (IsUnchanged self.old self.new) }
+    {
+        match self.expressions.int(n, spot) {
+            Ok(id) => Ok(id),
+            Err(refusal) => Err(BuildRefusal::from(refusal)),
+        }
+    }
+
+    /// Adds a primitive without constants. Refused with `TooMany` where 100,000 terms are there, and with `Memory`.
+    /// A refused call changes nothing.
+    #[tactic(auto, unfolding(crate::specs::Arena::made_in))]
+    pub fn bare(&mut self, kind: Bare, spot: Spot) -> Result<TermId, BuildRefusal>
+        ensures ok { IfOk result (λ id. AddsTerm self.old self.new id (primitive (bare_form kind)) spot) }
+        ensures many { result ≡ Err BuildRefusal.TooMany ↔ 100000 ≤ term_count self.old }
+        ensures not_deep { ¬ (result ≡ Err BuildRefusal.TooDeep) }
+        ensures no_name { ¬ (result ≡ Err BuildRefusal.BadName) }
+        ensures err { OnErr result (IsUnchanged self.old self.new) }
+    {
+        self.add(Node::Primitive(Primitive::Bare(kind)), spot)
+    }
+
+    /// Adds a primitive with a value. Refused with `TooMany` where 100,000 terms are there, then with `TooDeep` where
+    /// more than 64 terms and expressions would stand one inside another, and with `Memory`. A refused call changes
+    /// nothing.
+    #[tactic(auto, unfolding(crate::specs::Arena::made_in, crate::specs::Arena::expression_at))]
+    pub fn with_value(
+        &mut self,
+        kind: WithValue,
+        value: ExprId,
+        spot: Spot,
+    ) -> Result<TermId, BuildRefusal>
+        requires { HoldsExpression self.old value }
+        ensures ok { let whole = primitive (form_with_value kind (expression_at self.old value)) in
+            IfOk result (λ id. AddsTerm self.old self.new id whole spot) }
+        ensures many { result ≡ Err BuildRefusal.TooMany ↔ 100000 ≤ term_count self.old }
+        ensures deep { let whole = primitive (form_with_value kind (expression_at self.old value)) in
+            result ≡ Err BuildRefusal.TooDeep ↔ (term_count self.old < 100000) × (64 < depth_of whole) }
+        ensures no_name { ¬ (result ≡ Err BuildRefusal.BadName) }
+        ensures err { OnErr result (IsUnchanged self.old self.new) }
+    {
+        self.add(Node::Primitive(Primitive::WithValue(kind, value)), spot)
+    }
+
+    /// Adds two terms joined. Refused with `TooMany` where 100,000 terms are there, then with `TooDeep` where more than
+    /// 64 terms and expressions would stand one inside another, and with `Memory`. A refused call changes nothing.
+    #[tactic(auto, unfolding(crate::specs::Arena::made_in, crate::specs::Arena::tree, crate::specs::Entries::term_at))]
+    pub fn joined(
+        &mut self,
+        join: Join,
+        first: TermId,
+        second: TermId,
+        spot: Spot,
+    ) -> Result<TermId, BuildRefusal>
+        requires first_held { HoldsTerm self.old first }
+        requires second_held { HoldsTerm self.old second }
+        ensures ok { let whole = joined_form join (tree self.old first) (tree self.old second) in
+            IfOk result (λ id. AddsTerm self.old self.new id whole spot) }
+        ensures many { result ≡ Err BuildRefusal.TooMany ↔ 100000 ≤ term_count self.old }
+        ensures deep { let whole = joined_form join (tree self.old first) (tree self.old second) in
+            result ≡ Err BuildRefusal.TooDeep ↔ (term_count self.old < 100000) × (64 < depth_of whole) }
+        ensures no_name { ¬ (result ≡ Err BuildRefusal.BadName) }
+        ensures err { OnErr result (IsUnchanged self.old self.new) }
+    {
+        self.add(Node::Joined(join, first, second), spot)
+    }
+
+    /// Puts a template behind the others. Refused with `BadName` where its name is no name of the language, and with
+    /// `Memory`. A refused call changes nothing.
+    pub fn template(
+        &mut self,
+        name: String,
+        spot: Spot,
+        input: Ty,
+        output: Ty,
+        body: TermId,
+    ) -> Result<(), BuildRefusal>
+        requires { HoldsTerm self.old body }
+        ensures ok { OnOk result (AddsTemplate self.old self.new
+            (record { name = string_bytes name; input = input; output = output; body = tree self.old body }) spot) }
+        ensures named { OnOk result (IsName (string_bytes name)) }
+        ensures bad_name { result ≡ Err BuildRefusal.BadName ↔ ¬ IsName (string_bytes name) }
+        ensures not_many { ¬ (result ≡ Err BuildRefusal.TooMany) }
+        ensures not_deep { ¬ (result ≡ Err BuildRefusal.TooDeep) }
+        ensures err { OnErr result (IsUnchanged self.old self.new) }
+    {
+        if !is_name(name.as_bytes()) {
+            return Err(BuildRefusal::BadName);
+        }
+        self.templates
+            .push(Template::new(name, spot, input, output, body))?;
+        Ok(())
+    }
+
+    /// A copy, which shows the same terms, expressions and templates under the same ids.
+    pub fn clone_in(&self, alloc: Global) -> Result<Program, AllocError>
+        ensures { IfOk result (λ copy. IsCopy self.now copy) }
+    {
+        let expressions = self.expressions.clone_in(alloc)?;
+        let terms = Vec::from_slice(alloc, &self.terms)?;
+        let templates = clone_all(alloc, &self.templates)?;
+        Ok(Program {
+            expressions,
+            terms,
+            templates,
+        })
+    }
+
+    /// The node at an id, with the ids of its parts; the identity at an id that the program does not hold.
+    #[tactic(auto, using(crate::proofs::Kept::builds, crate::proofs::Kept::parts_below, crate::proofs::Kept::parts_held))]
+    pub fn node(&self, id: TermId) -> Node
+        ensures builds { Builds self.now result (tree self.now id) }
+        ensures below { PartsBelow result (id_number id) }
+        ensures held { HoldsParts self.now result }
+    {
+        self.entry(id).node
+    }
+
+    /// Where the term at an id stands in the text; `Spot::NONE` at an id that the program does not hold.
+    #[tactic(auto, unfolding(crate::specs::Arena::entry_of, crate::specs::Arena::spot_at))]
+    pub fn spot(&self, id: TermId) -> Spot
+        ensures { result ≡ spot_at self.now id }
+    {
+        self.entry(id).spot
+    }
+
+    /// The expressions.
+    #[tactic(auto, unfolding(crate::specs::Arena::expressions_of))]
+    pub fn expressions(&self) -> &Exprs
+        ensures { result.now ≡ expressions_of self.now }
+    {
+        &self.expressions
+    }
+
+    /// The templates, in order.
+    #[tactic(auto, unfolding(crate::specs::Arena::headers_of))]
+    pub fn templates(&self) -> &[Template]
+        ensures templates { result.now ≡ headers_of self.now }
+        ensures held { All (λ h. HoldsTerm self.now h.body) result.now }
+    {
+        &self.templates
+    }
+}

@@ -1,0 +1,120 @@
+-- A template behind those that were read.
+use Rattle.std.proofs.Common.{◌≡◌, ℕ, ◌+◌, ◌-◌, ◌<◌, ◌≤◌, List, [], ◌∷◌, ◌++◌, length, take, drop, refl, sym, ◌∙◌, ap, append_assoc, subst, arith}
+use Rattle.std.specs.List.{All}
+use Rattle.std.proofs.lemmas.List.{length-append, length-drop, length-map, flat_map_more, take-append-drop, take_rest, drop_at, drop-map}
+use Rattle.std.proofs.lemmas.List.Elements.{All-append, All-cons, All-nil}
+use Rattle.std.proofs.lemmas.List.Sums.{sum_by_push}
+use Rattle.sf_term.specs.declared.program.Program.{Program}
+use Rattle.sf_term.specs.Trees.{Template, depth, terms_in, expressions_in}
+use Rattle.sf_term.specs.Arena.{templates_of, term_count, expression_count}
+use Rattle.sf_term.proofs.Kept.{few_terms, few_program_expressions}
+use Rattle.sf_lex.specs.declared.token.PlacedToken.{PlacedToken}
+use Rattle.sf_lex.specs.Tokens.{Tok, token_of}
+use Rattle.sf_text.specs.declared.stop.Stop.{Stop}
+use Rattle.sf_text.specs.declared.stop.Stop.TheVariants.{At as At', Memory}
+use Rattle.sf_text.specs.Spelling.{spell_template, spell_templates, terms_of, expressions_of}
+use Rattle.sf_text.specs.Reading.{Counts, template_at}
+use Rattle.sf_text.specs.Answers.{Stopped, Stops, toks, counts_of, FoundTemplate, AreNamed}
+use Rattle.sf_text.specs.Stopping.{Behind, StopsAfter}
+use Rattle.sf_text.proofs.Takes.{TookTemplate, template_takes}
+use Rattle.sf_text.proofs.Named.{named_behind}
+
+took : (old new : Program) (rest behind : List Tok) (f : FoundTemplate old new behind (template_at (counts_of old) rest)) → TookTemplate (counts_of old) rest f.template behind
+took old new rest behind f = template_takes (counts_of old) rest f.template behind (few_program_expressions old) f.is
+
+-- what is behind a template is shorter
+pub behind_shorter : (old new : Program) (rest behind : List Tok) → FoundTemplate old new behind (template_at (counts_of old) rest) → length behind < length rest
+behind_shorter old new rest behind f = let t = took old new rest behind f in omega (arith, simp length-append at (ap length t.spelled))
+
+pub behind_more : (tokens rest behind : List Tok) (old new : Program) → Behind tokens old rest → FoundTemplate old new behind (template_at (counts_of old) rest) → Behind tokens new behind
+behind_more tokens rest behind old new b f =
+    let t = took old new rest behind f in
+    let terms : terms_of (templates_of old ++ f.template ∷ []) ≡ terms_of (templates_of old) + terms_in f.template.body = sum_by_push (λ (t : Template). terms_in t.body) (templates_of old) f.template in
+    let expressions : expressions_of (templates_of old ++ f.template ∷ []) ≡ expressions_of (templates_of old) + expressions_in f.template.body = sum_by_push (λ (t : Template). expressions_in t.body) (templates_of old) f.template in
+    let all_terms : term_count new ≡ terms_of (templates_of new) =
+    f.terms ∙ ap (λ (c : Counts). c.terms + terms_in f.template.body) b.counted ∙ sym terms ∙ ap terms_of (sym f.templates) in
+    let all_expressions : expression_count new ≡ expressions_of (templates_of new) =
+    f.expressions ∙ ap (λ (c : Counts). c.expressions + expressions_in f.template.body) b.counted ∙ sym expressions ∙ ap expressions_of (sym f.templates) in
+    let shallow : Template → Type 0 = λ t. depth t.body ≤ 64 in
+    record {
+      spelled = b.spelled ∙ ap (λ r. spell_templates (templates_of old) ++ r) t.spelled ∙ sym (append_assoc (spell_templates (templates_of old)) (spell_template f.template) behind)
+          ∙ ap (λ xs. xs ++ behind) (flat_map_more spell_template [] (templates_of old) f.template) ∙ ap (λ ts. spell_templates ts ++ behind) (sym f.templates);
+      counted = rw (all_terms, all_expressions) refl;
+      limited = record {
+        shallow = subst (All shallow) (sym f.templates) (All-append shallow (templates_of old) (f.template ∷ []) b.limited.shallow (All-cons shallow f.template [] t.shallow (All-nil shallow)));
+        few_terms = omega (arith, few_terms new);
+        few_expressions = omega (arith, few_program_expressions new);
+      };
+      named = named_behind (spell_template f.template) behind (subst AreNamed t.spelled b.named);
+    }
+
+-- the templates in front of an index were read
+pub record At (tokens : List Tok) (p : Program) (at : ℕ) : Type 0 where
+  pub within : at ≤ length tokens
+  pub behind : Behind tokens p (drop at tokens)
+
+-- the end of a list, by its length
+ends : (xs front ys zs : List Tok) → xs ≡ front ++ (ys ++ zs) → drop (length xs - length zs) xs ≡ zs
+ends xs front ys zs same = drop-end
+  where
+    split : xs ≡ (front ++ ys) ++ zs
+    split = same ∙ sym (append_assoc front ys zs)
+
+    counted : length (front ++ ys) ≡ length xs - length zs
+    counted = omega (arith, simp length-append at (ap length split), length-append front ys)
+
+    drop-end : drop (length xs - length zs) xs ≡ zs
+    drop-end = ap (drop (length xs - length zs)) split ∙ drop_at (front ++ ys) zs (length xs - length zs) counted
+
+pub at_more : (tokens behind : List Tok) (at : ℕ) (old new : Program) → At tokens old at → FoundTemplate old new behind (template_at (counts_of old) (drop at tokens))
+    → At tokens new (length tokens - length behind)
+at_more tokens behind at old new a f =
+    let t = took old new (drop at tokens) behind f in
+    let whole : tokens ≡ take at tokens ++ (spell_template f.template ++ behind) = sym (take-append-drop at tokens) ∙ ap (λ r. take at tokens ++ r) t.spelled in
+    record {
+      within = omega arith;
+      behind = subst (Behind tokens new) (sym (ends tokens (take at tokens) (spell_template f.template) behind whole)) (behind_more tokens (drop at tokens) behind old new a.behind f);
+    }
+
+-- tokens from an index on, as a slice
+pub toks_from : (tokens : List PlacedToken) (at : ℕ) → toks (take (length tokens - at) (drop at tokens)) ≡ drop at (toks tokens)
+toks_from tokens at = ap toks (take_rest tokens at) ∙ sym (drop-map (λ (p : PlacedToken). token_of p.token) at tokens)
+
+-- after a template was read
+pub record Next (tokens behind : List PlacedToken) (at : ℕ) (new : Program) : Type 0 where
+  pub within : length behind ≤ length tokens
+  pub further : at < length tokens - length behind
+  pub templates : At (toks tokens) new (length tokens - length behind)
+
+pub next_at : (tokens behind : List PlacedToken) (at : ℕ) (old new : Program) → At (toks tokens) old at → at < length tokens
+    → FoundTemplate old new (toks behind) (template_at (counts_of old) (toks (take (length tokens - at) (drop at tokens)))) → Next tokens behind at new
+next_at tokens behind at old new a short found =
+    let f : FoundTemplate old new (toks behind) (template_at (counts_of old) (drop at (toks tokens))) =
+    subst (λ (ts : List Tok). FoundTemplate old new (toks behind) (template_at (counts_of old) ts)) (toks_from tokens at) found in
+    let m : length (toks tokens) ≡ length tokens = simp length-map in
+    let n : length (toks behind) ≡ length behind = simp length-map in
+    let s = behind_shorter old new (drop at (toks tokens)) (toks behind) f in
+    let d : length (drop at (toks tokens)) ≡ length (toks tokens) - at = length-drop at (toks tokens) in
+    let there : length (toks tokens) - length (toks behind) ≡ length tokens - length behind = omega arith in
+    record {
+      within = omega arith;
+      further = omega arith;
+      templates = subst (At (toks tokens) new) there (at_more (toks tokens) (toks behind) at old new a f);
+    }
+
+-- a template stops behind others
+pub stops_after : (tokens : List PlacedToken) (at : ℕ) (p : Program) (e : Stop) → At (toks tokens) p at → at < length tokens
+    → Stops e (template_at (counts_of p) (toks (take (length tokens - at) (drop at tokens)))) → StopsAfter e (toks tokens)
+stops_after tokens at p Memory a short stopped = tt
+stops_after tokens at p (At' fault left) a short stopped =
+    let m : length (toks tokens) ≡ length tokens = simp length-map in
+    let d : length (drop at (toks tokens)) ≡ length (toks tokens) - at = length-drop at (toks tokens) in
+    record {
+      read = templates_of p;
+      rest = drop at (toks tokens);
+      spelled = a.behind.spelled;
+      limited = a.behind.limited;
+      more = λ none. absurd (omega (arith, ap length none));
+      stopped = subst (λ (c : Counts). Stopped fault left (template_at c (drop at (toks tokens)))) a.behind.counted
+          (subst (λ (ts : List Tok). Stopped fault left (template_at (counts_of p) ts)) (toks_from tokens at) stopped);
+    }

@@ -1,0 +1,113 @@
+-- What the reading functions answer.
+use Rattle.std.specs.Prelude.{◌≡◌, ℕ, ◌+◌, List, [], ◌∷◌, ◌++◌, length, map, Result, Ok, Err}
+use Rattle.std.proofs.Common.{Bor}
+use Rattle.sf_value.specs.Values.{Name, Kind}
+use Rattle.sf_text.specs.declared.part.Named.{Named}
+use Rattle.sf_text.specs.declared.part.Types.{Types}
+use Rattle.sf_expr.specs.declared.exprs.ExprId.{ExprId}
+use Rattle.sf_expr.specs.Expressions.{Expression, size}
+use Rattle.sf_term.specs.declared.node.TermId.{TermId}
+use Rattle.sf_term.specs.declared.program.Program.{Program}
+use Rattle.sf_term.specs.Trees.{Term, Template, terms_in, expressions_in}
+use Rattle.sf_term.specs.Arena.{HoldsTerm, HoldsExpression, tree, expression_at, term_count, expression_count, templates_of, Keeps}
+use Rattle.sf_lex.specs.Words.{IsName}
+use Rattle.sf_lex.specs.Tokens.{Tok, name, token_of}
+use Rattle.sf_lex.specs.declared.token.PlacedToken.{PlacedToken}
+use Rattle.sf_term.specs.declared.refusal.BuildRefusal.{BuildRefusal}
+use Rattle.sf_term.specs.declared.refusal.BuildRefusal.TheVariants as refusals
+use Rattle.sf_text.specs.declared.stop.Fault.{Fault}
+use Rattle.sf_text.specs.declared.stop.Fault.TheVariants.{Unexpected, TooDeep, TooMany}
+use Rattle.sf_text.specs.declared.stop.Stop.{Stop}
+use Rattle.sf_text.specs.declared.stop.Stop.TheVariants.{At, Memory}
+use Rattle.sf_text.specs.Reading.{Read, got, stop, Counts}
+
+-- tokens without their places
+abbrev pub toks : List PlacedToken → List Tok
+toks tokens = map (λ (p : PlacedToken). token_of p.token) tokens
+
+-- reading stopped with this fault, so many tokens before the end
+pub record Stopped {A : Type 0} (fault : Fault) (left : ℕ) (read : Read A) : Type 0 where
+  pub at : List Tok
+  pub is : read ≡ stop fault at
+  pub counted : left ≡ length at
+
+-- reading stopped, where it was not for want of memory
+abbrev pub Stops : {A : Type 0} → Stop → Read A → Type 0
+Stops (At fault left) read = Stopped fault left read
+Stops Memory read = Unit {0}
+
+-- what was read, seen so, and the tokens behind it
+abbrev pub Reads : {X A : Type 0} → (X → A) → Result (X × Bor (List PlacedToken)) Stop → Read A → Type 0
+Reads view (Ok x) read = read ≡ got (view x.0) (toks x.1.now)
+Reads view (Err e) read = Stops e read
+
+abbrev pub name_in : Named → Name
+name_in h = h.name.now
+
+abbrev pub kinds_in : Types → Kind × Kind
+kinds_in s = (s.input, s.output)
+
+-- the tokens behind
+abbrev pub ReadsRest : Result (Bor (List PlacedToken)) Stop → Read (Unit {0}) → Type 0
+ReadsRest (Ok rest) read = read ≡ got tt (toks rest.now)
+ReadsRest (Err e) read = Stops e read
+
+-- an expression was read into the program
+pub record FoundExpression (old new : Program) (id : ExprId) (rest : List Tok) (read : Read Expression) : Type 0 where
+  pub value : Expression
+  pub is : read ≡ got value rest
+  pub held : HoldsExpression new id
+  pub tree : expression_at new id ≡ value
+  pub kept : Keeps old new
+  pub terms : term_count new ≡ term_count old
+  pub expressions : expression_count new ≡ expression_count old + size value
+
+abbrev pub ReadsExpression : Program → Program → Result (ExprId × Bor (List PlacedToken)) Stop → Read Expression → Type 0
+ReadsExpression old new (Ok x) read = FoundExpression old new x.0 (toks x.1.now) read
+ReadsExpression old new (Err e) read = Stops e read
+
+-- a term was read into the program
+pub record FoundTerm (old new : Program) (id : TermId) (rest : List Tok) (read : Read Term) : Type 0 where
+  pub term : Term
+  pub is : read ≡ got term rest
+  pub held : HoldsTerm new id
+  pub tree : tree new id ≡ term
+  pub kept : Keeps old new
+  pub terms : term_count new ≡ term_count old + terms_in term
+  pub expressions : expression_count new ≡ expression_count old + expressions_in term
+
+abbrev pub ReadsTerm : Program → Program → Result (TermId × Bor (List PlacedToken)) Stop → Read Term → Type 0
+ReadsTerm old new (Ok x) read = FoundTerm old new x.0 (toks x.1.now) read
+ReadsTerm old new (Err e) read = Stops e read
+
+-- how many terms and expressions a program has
+abbrev pub counts_of : Program → Counts
+counts_of p = record { terms = term_count p; expressions = expression_count p }
+
+-- why a program took no more of what begins so many tokens before the end
+abbrev pub stop_for : BuildRefusal → ℕ → Stop
+stop_for refusals.TooMany left = At TooMany left
+stop_for refusals.TooDeep left = At TooDeep left
+stop_for refusals.BadName left = At Unexpected left
+stop_for refusals.Memory left = Memory
+
+-- a name among tokens is a name of the language
+abbrev pub IsNamed : Tok → Type 0
+IsNamed (name n) = IsName n
+IsNamed _ = Unit {0}
+
+abbrev pub AreNamed : List Tok → Type 0
+AreNamed [] = Unit {0}
+AreNamed (t ∷ tokens) = IsNamed t × AreNamed tokens
+
+-- a template was read into the program, behind the others
+pub record FoundTemplate (old new : Program) (rest : List Tok) (read : Read Template) : Type 0 where
+  pub template : Template
+  pub is : read ≡ got template rest
+  pub templates : templates_of new ≡ templates_of old ++ template ∷ []
+  pub terms : term_count new ≡ term_count old + terms_in template.body
+  pub expressions : expression_count new ≡ expression_count old + expressions_in template.body
+
+abbrev pub ReadsTemplate : Program → Program → Result (Bor (List PlacedToken)) Stop → Read Template → Type 0
+ReadsTemplate old new (Ok rest) read = FoundTemplate old new (toks rest.now) read
+ReadsTemplate old new (Err e) read = Stops e read

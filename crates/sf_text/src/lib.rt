@@ -1,0 +1,19 @@
+//! Reads the text of a network.
+#![tactic(auto)]
+
+mod head;
+mod laws;
+mod network;
+mod part;
+mod place;
+mod refusal;
+mod stop;
+mod template;
+mod term;
+
+pub use laws::one_network;
+pub use network::read_network;
+pub use refusal::TextRefusal;
+
+#[cfg(test)]
+mod tests;

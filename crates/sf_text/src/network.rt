@@ -1,0 +1,72 @@
+//! Networks.
+ghost use Rattle.std.specs.Prelude.{◌≡◌, ◌≢◌, ◌≤◌, ◌-◌, ◌^◌, [], length, drop, IfOk, IfErr};
+ghost use Rattle.sf_term.specs.Arena.{templates_of};
+ghost use Rattle.sf_term.specs.Trees.{Templates};
+ghost use Rattle.sf_text.specs.Answers.{toks, AreNamed};
+ghost use Rattle.sf_text.specs.Spelling.{IsNetworkText};
+ghost use Rattle.sf_text.specs.Stopping.{Behind, ReadsTemplates, ReadsNetwork, IsBlankProgram, Refuses};
+
+use crate::part::opening;
+use crate::place::refusal_at;
+use crate::refusal::TextRefusal;
+use crate::stop::Stop;
+use crate::template::template;
+use sf_lex::{PlacedToken, tokens};
+use sf_term::Program;
+use std::alloc::Global;
+
+/// Reads templates up to the end.
+#[tactic(auto, using(crate::proofs::Behind::stops_after))]
+fn templates<'a>(
+    alloc: Global,
+    tokens: &'a [PlacedToken<'a>],
+    program: &mut Program,
+) -> Result<(), Stop>
+    requires named { AreNamed (toks tokens.now) }
+    requires blank { IsBlankProgram program.old }
+    ensures { ReadsTemplates result (toks tokens.now) program.new }
+{
+    let mut at = 0;
+    while at < tokens.len() {
+        let behind = template(alloc, &tokens[at..], program)?;
+        at = tokens.len() - behind.len();
+    }
+    Ok(())
+}
+
+/// Reads a network into a program without terms and templates.
+#[tactic(auto, using(crate::proofs::Whole::stops_opening, crate::proofs::Whole::opening_named, crate::proofs::Whole::reads_network))]
+fn network<'a>(
+    alloc: Global,
+    tokens: &'a [PlacedToken<'a>],
+    program: &mut Program,
+) -> Result<(), Stop>
+    requires named { AreNamed (toks tokens.now) }
+    requires blank { IsBlankProgram program.old }
+    ensures { ReadsNetwork result (toks tokens.now) program.new }
+{
+    let rest = opening(tokens)?;
+    templates(alloc, rest, program)
+}
+
+/// The network whose text this is: version 1, at most 1,048,576 bytes, 100,000 terms and 100,000 expressions, of which at
+/// most 64 stand one inside another. Faults of tokens come first; then the first in reading order.
+#[tactic(auto, using(crate::proofs::Whole::tokens_named, crate::proofs::Whole::text_read, crate::proofs::Whole::text_stops, crate::proofs::Whole::refused_none))]
+pub fn read_network(alloc: Global, bytes: &[u8]) -> Result<Program, TextRefusal>
+    // What is read is the network of the text.
+    ensures read { IfOk result (λ p. IsNetworkText bytes.now (templates_of p)) }
+    // What is refused has the fault at the place.
+    ensures fault { IfErr result (λ e. Refuses bytes.now e) }
+    // Nothing is refused that is the text of a network, but for want of memory.
+    ensures refused { IfErr result (λ e. e ≢ TextRefusal.Memory → (p : Templates) → IsNetworkText bytes.now p → ⊥) }
+{
+    let tokens = match tokens(alloc, bytes) {
+        Ok(tokens) => tokens,
+        Err(refusal) => return Err(TextRefusal::from(refusal)),
+    };
+    let mut program = Program::new(alloc);
+    match network(alloc, &tokens, &mut program) {
+        Ok(()) => Ok(program),
+        Err(stop) => Err(refusal_at(stop, &tokens, bytes)),
+    }
+}

@@ -1,0 +1,152 @@
+//! Single tokens, and what has a fixed shape.
+ghost use Rattle.std.specs.Prelude.{◌≡◌, ℕ, List, length};
+ghost use Rattle.sf_text.specs.Answers.{toks, Stops, Reads, ReadsRest, name_in, kinds_in};
+ghost use Rattle.sf_text.specs.Reading.{Read, stop, symbol_at, keyword_at, name_at, type_at, version_at, opening_at, heading_at, signature_at};
+ghost use Rattle.sf_text.specs.declared.stop.Fault.TheVariants.{Unexpected, Version};
+
+use crate::stop::{Fault, Stop};
+use sf_expr::Spot;
+use sf_lex::{Keyword, Place, PlacedToken, Symbol, Token};
+use sf_value::Ty;
+
+/// The place of a token as the place of what it begins.
+pub(crate) fn spot_of(place: Place) -> Spot {
+    Spot {
+        line: place.line,
+        column: place.column,
+    }
+}
+
+/// A fault at the first of these tokens, or at the end where there is none.
+pub(crate) fn stop_at(fault: Fault, tokens: &[PlacedToken]) -> Stop
+    ensures { result ≡ Stop.At fault (length tokens.now) }
+{
+    Stop::At(fault, tokens.len())
+}
+
+/// The tokens behind a symbol.
+pub(crate) fn symbol<'a>(
+    tokens: &'a [PlacedToken<'a>],
+    wanted: Symbol,
+) -> Result<&'a [PlacedToken<'a>], Stop>
+    ensures { ReadsRest result (symbol_at wanted (toks tokens.now)) }
+{
+    if let [first, rest @ ..] = tokens {
+        if let Token::Symbol(symbol) = &first.token {
+            if *symbol == wanted {
+                return Ok(rest);
+            }
+        }
+    }
+    Err(stop_at(Fault::Unexpected, tokens))
+}
+
+/// The tokens behind a word of the language.
+pub(crate) fn keyword<'a>(
+    tokens: &'a [PlacedToken<'a>],
+    wanted: Keyword,
+) -> Result<&'a [PlacedToken<'a>], Stop>
+    ensures { ReadsRest result (keyword_at wanted (toks tokens.now)) }
+{
+    if let [first, rest @ ..] = tokens {
+        if let Token::Keyword(keyword) = &first.token {
+            if *keyword == wanted {
+                return Ok(rest);
+            }
+        }
+    }
+    Err(stop_at(Fault::Unexpected, tokens))
+}
+
+/// A name and its place.
+#[derive(Clone, Copy, Debug)]
+pub(crate) struct Named<'a> {
+    pub(crate) name: &'a str,
+    pub(crate) spot: Spot,
+}
+
+/// A name, and the tokens behind it.
+fn name<'a>(tokens: &'a [PlacedToken<'a>]) -> Result<(Named<'a>, &'a [PlacedToken<'a>]), Stop>
+    ensures { Reads name_in result (name_at (toks tokens.now)) }
+{
+    if let [first, rest @ ..] = tokens {
+        if let Token::Name(name) = &first.token {
+            let spot = spot_of(first.place);
+            return Ok((Named { name: *name, spot }, rest));
+        }
+    }
+    Err(stop_at(Fault::Unexpected, tokens))
+}
+
+/// A type, and the tokens behind it.
+fn ty<'a>(tokens: &'a [PlacedToken<'a>]) -> Result<(Ty, &'a [PlacedToken<'a>]), Stop>
+    ensures { Reads (λ k. k) result (type_at (toks tokens.now)) }
+{
+    if let [first, rest @ ..] = tokens {
+        if let Token::Keyword(Keyword::Int) = &first.token {
+            return Ok((Ty::int(), rest));
+        }
+    }
+    Err(stop_at(Fault::Unexpected, tokens))
+}
+
+/// The tokens behind the only version.
+fn version<'a>(tokens: &'a [PlacedToken<'a>]) -> Result<&'a [PlacedToken<'a>], Stop>
+    ensures { ReadsRest result (version_at (toks tokens.now)) }
+{
+    if let [first, rest @ ..] = tokens {
+        if let Token::Number(number) = &first.token {
+            if *number == 1 {
+                return Ok(rest);
+            }
+            return Err(stop_at(Fault::Version, tokens));
+        }
+    }
+    Err(stop_at(Fault::Unexpected, tokens))
+}
+
+/// The tokens behind what stands in front of a network's templates.
+#[tactic(auto, unfolding(crate::specs::Reading::opening_at))]
+pub(crate) fn opening<'a>(tokens: &'a [PlacedToken<'a>]) -> Result<&'a [PlacedToken<'a>], Stop>
+    ensures { ReadsRest result (opening_at (toks tokens.now)) }
+{
+    let rest = keyword(tokens, Keyword::Network)?;
+    let rest = version(rest)?;
+    symbol(rest, Symbol::Semicolon)
+}
+
+/// A template's name, and the tokens behind its empty list of parameters.
+#[tactic(auto, unfolding(crate::specs::Reading::heading_at))]
+pub(crate) fn heading<'a>(
+    tokens: &'a [PlacedToken<'a>],
+) -> Result<(Named<'a>, &'a [PlacedToken<'a>]), Stop>
+    ensures { Reads name_in result (heading_at (toks tokens.now)) }
+{
+    let rest = keyword(tokens, Keyword::Template)?;
+    let (heading, rest) = name(rest)?;
+    let rest = symbol(rest, Symbol::Open)?;
+    let rest = symbol(rest, Symbol::Close)?;
+    Ok((heading, rest))
+}
+
+/// The types of a template's inputs and outputs.
+#[derive(Drop)]
+pub(crate) struct Types {
+    pub(crate) input: Ty,
+    pub(crate) output: Ty,
+}
+
+/// The types of a template's inputs and outputs, and the tokens behind them.
+#[tactic(auto, unfolding(crate::specs::Reading::signature_at))]
+pub(crate) fn signature<'a>(
+    tokens: &'a [PlacedToken<'a>],
+) -> Result<(Types, &'a [PlacedToken<'a>]), Stop>
+    ensures { Reads kinds_in result (signature_at (toks tokens.now)) }
+{
+    let rest = symbol(tokens, Symbol::Colon)?;
+    let (input, rest) = ty(rest)?;
+    let rest = symbol(rest, Symbol::Leads)?;
+    let (output, rest) = ty(rest)?;
+    let rest = symbol(rest, Symbol::Equals)?;
+    Ok((Types { input, output }, rest))
+}

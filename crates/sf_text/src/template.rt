@@ -1,0 +1,31 @@
+//! Templates.
+ghost use Rattle.sf_text.specs.Answers.{toks, AreNamed, ReadsTemplate, counts_of};
+ghost use Rattle.sf_text.specs.Reading.{template_at};
+
+use crate::part::{heading, signature, symbol};
+use crate::stop::Stop;
+use crate::term::{refused, term};
+use sf_lex::{PlacedToken, Symbol};
+use sf_term::Program;
+use std::alloc::Global;
+
+/// Reads a template into the program, and answers the tokens behind it.
+#[tactic(auto, unfolding(crate::specs::Reading::template_at))]
+pub(crate) fn template<'a>(
+    alloc: Global,
+    tokens: &'a [PlacedToken<'a>],
+    program: &mut Program,
+) -> Result<&'a [PlacedToken<'a>], Stop>
+    requires { AreNamed (toks tokens.now) }
+    ensures { ReadsTemplate program.old program.new result (template_at (counts_of program.old) (toks tokens.now)) }
+{
+    let (heading, rest) = heading(tokens)?;
+    let (types, rest) = signature(rest)?;
+    let (body, rest) = term(rest, program, 64)?;
+    let rest = symbol(rest, Symbol::Semicolon)?;
+    let name = String::from_str(alloc, heading.name)?;
+    match program.template(name, heading.spot, types.input, types.output, body) {
+        Ok(()) => Ok(rest),
+        Err(refusal) => Err(refused(refusal, tokens)),
+    }
+}

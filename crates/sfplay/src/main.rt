@@ -1,0 +1,87 @@
+//! Plays the lines of standard input through a network.
+#![tactic(auto)]
+
+use clap::{Arg, ArgAction, ArgMatches, Command, Error};
+use sf_player::{Counted, Options, PlayEnd, play};
+use std::alloc::Global;
+use std::fs::File;
+use std::io::Read;
+use std::process::ExitCode;
+use std::rt::{Env, Files};
+use std::{env, io};
+
+/// The exit status where the words of the command line are refused, or ask for help.
+const WORDS_REFUSED: u8 = 2;
+/// The exit status where the network can't be read.
+const UNREADABLE: u8 = 6;
+/// One byte more than a network's text may have.
+const MOST_READ: u64 = 1_048_577;
+
+/// What the words of the command line ask for.
+fn matches<'a>(alloc: Global, words: &'a [String]) -> Result<ArgMatches<'a>, Error> {
+    let net = Arg::new(alloc, "NET").required(true).action(ArgAction::Set);
+    let plain = Arg::new(alloc, "plain")
+        .long("plain")
+        .action(ArgAction::SetTrue);
+    Command::new(alloc, "sfplay")
+        .arg(net)?
+        .arg(plain)?
+        .try_get_matches_from(words)
+}
+
+/// The words of the command line.
+fn words<R: Env + Alloc<A = Global>>(rt: &R) -> io::Result<Vec<String>> {
+    let mut words = Vec::new(rt.alloc());
+    for word in env::args(rt)? {
+        words.push(word)?;
+    }
+    Ok(words)
+}
+
+/// The text of a network in a file, up to one byte more than it may have.
+fn network<R: Files + Alloc<A = Global>>(rt: &R, path: &str) -> io::Result<Vec<u8>> {
+    let mut text = Vec::new(rt.alloc());
+    File::open(rt, path)?
+        .take(MOST_READ)
+        .read_to_end(&mut text)?;
+    Ok(text)
+}
+
+fn main(rt: HostRuntime) -> ExitCode {
+    let alloc = rt.alloc();
+    let Ok(words) = words(&rt) else {
+        return ExitCode::from(WORDS_REFUSED);
+    };
+    let matches = match matches(alloc, words.as_slice()) {
+        Ok(matches) => matches,
+        Err(error) => {
+            let _ = eprintln!(&rt; "{error}");
+            return ExitCode::from(WORDS_REFUSED);
+        }
+    };
+    let Some(path) = matches.get_str("NET") else {
+        return ExitCode::from(WORDS_REFUSED);
+    };
+    let options = Options {
+        plain: matches.get_flag("plain"),
+    };
+    let Ok(net) = network(&rt, path) else {
+        let _ = eprintln!(&rt; "sfplay: read fault");
+        return ExitCode::from(UNREADABLE);
+    };
+    let mut reader = Counted::new(rt.reader());
+    let mut writer = Counted::new(io::writer(&rt));
+    let end = play(alloc, net.as_slice(), &mut reader, &mut writer, options);
+    report(&rt, end);
+    ExitCode::from(end.status())
+}
+
+/// Says on standard error why there is no whole script, where the output doesn't.
+fn report<R: Eprint>(rt: &R, end: PlayEnd) {
+    let _ = match end {
+        PlayEnd::Done | PlayEnd::Fault | PlayEnd::BadLine => Ok(()),
+        PlayEnd::Network(refusal) => eprintln!(rt; "sfplay: {refusal}"),
+        PlayEnd::ReadFault => eprintln!(rt; "sfplay: read fault"),
+        PlayEnd::WriteFault => eprintln!(rt; "sfplay: write fault"),
+    };
+}
