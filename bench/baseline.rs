@@ -1,5 +1,22 @@
-//! The job of the network `iPre 7`, by hand: each line's input one sample later, at its time.
+//! The jobs of two networks by hand, one line at a time: `previous` is `iPre 7`, `total` a running total by feedback.
 use std::io::{self, BufRead, BufWriter, Write};
+
+enum Job {
+    Previous(i64),
+    Total(i64),
+}
+
+impl Job {
+    fn answer(&mut self, value: i64) -> Option<i64> {
+        match self {
+            Job::Previous(before) => Some(std::mem::replace(before, value)),
+            Job::Total(total) => {
+                *total = total.checked_add(value)?;
+                Some(*total)
+            }
+        }
+    }
+}
 
 fn number(text: &[u8]) -> Option<i64> {
     let digits = text.strip_prefix(b"-").unwrap_or(text);
@@ -12,9 +29,13 @@ fn number(text: &[u8]) -> Option<i64> {
 }
 
 fn main() -> io::Result<()> {
+    let mut job = match std::env::args().nth(1).as_deref() {
+        Some("total") => Job::Total(0),
+        _ => Job::Previous(7),
+    };
     let mut input = io::stdin().lock();
     let mut output = BufWriter::new(io::stdout().lock());
-    let (mut line, mut count, mut time, mut before) = (Vec::new(), 0u64, 0u64, None);
+    let (mut line, mut count, mut time, mut is_started) = (Vec::new(), 0u64, 0u64, false);
     loop {
         line.clear();
         if input.read_until(b'\n', &mut line)? == 0 {
@@ -31,13 +52,17 @@ fn main() -> io::Result<()> {
         };
         let step = number(&text[..space]).and_then(|step| u64::try_from(step).ok());
         let value = number(&text[space + 1..]);
-        let (Some(step), Some(value), true) = (step, value, (before.is_none()) == (step == Some(0))) else {
+        let (Some(step), Some(value), true) = (step, value, is_started == (step != Some(0))) else {
             writeln!(output, "! line {count} BadLine")?;
             break;
         };
         time += step;
-        writeln!(output, "> {time} {}", before.unwrap_or(7))?;
-        before = Some(value);
+        is_started = true;
+        let Some(answer) = job.answer(value) else {
+            writeln!(output, "! {time} Overflow")?;
+            break;
+        };
+        writeln!(output, "> {time} {answer}")?;
     }
     output.flush()
 }

@@ -1,8 +1,10 @@
-"""Times `sfplay` on `iPre 7` with 1,000,000 lines beside the same job by hand in plain Rust, and prints the ratio and the peak memory of both.
+"""Times `sfplay` on two networks with 1,000,000 lines beside the same jobs by hand in plain Rust.
 
     python3 bench/run.py [--exe PATH] [--lines N] [--rounds N]
 
-The best of the rounds counts. The baseline is built with `rustc -O`.
+The networks are `iPre 7` and a running total by feedback. Printed are the time and the peak memory of both programs, the
+ratio of the times (the best of the rounds counts), and the processor time that `sfplay` spends on the first and on the
+last tenth of the lines. The baseline is built with `rustc -O`.
 """
 
 import argparse
@@ -10,9 +12,15 @@ import os
 import subprocess
 import sys
 import tempfile
+import threading
 import time
 
 HERE = os.path.dirname(os.path.abspath(__file__))
+NETWORKS = {"previous": "iPre 7", "total": "loopPre(0, arr (x, total) => ((x + total), (x + total)))"}
+
+
+def input_lines(count):
+    return ["0 1\n"] + [f"{1 + n % 50} {n * 7919 % 1000003 - 500000}\n" for n in range(1, count)]
 
 
 def seconds_of(words, source, sink):
@@ -41,33 +49,65 @@ def peak_of(words, source):
     return peak
 
 
+def processor_seconds(pid):
+    with open(f"/proc/{pid}/schedstat") as file:
+        return int(file.read().split()[0]) / 1e9
+
+
+def seconds_of_tenths(words, lines):
+    """The processor time that one run spends on each tenth of its lines, with all its output read before the next."""
+    player = subprocess.Popen(words, stdin=subprocess.PIPE, stdout=subprocess.PIPE)
+    tenth, times = len(lines) // 10, []
+    for at in range(0, 10 * tenth, tenth):
+        began = processor_seconds(player.pid)
+        piece = "".join(lines[at : at + tenth]).encode("ascii")
+        writer = threading.Thread(target=lambda: (player.stdin.write(piece), player.stdin.flush()))
+        writer.start()
+        awaited = tenth
+        while awaited > 0:
+            awaited -= os.read(player.stdout.fileno(), 1 << 16).count(b"\n")
+        writer.join()
+        times.append(processor_seconds(player.pid) - began)
+    player.stdin.close()
+    player.wait()
+    return times
+
+
+def compare(name, exe, place, options):
+    """Times one network beside its baseline."""
+    at = lambda part: os.path.join(place, part)
+    with open(at(name), "w") as file:
+        file.write(f"network 1;\ntemplate main(): Int ~> Int = {NETWORKS[name]};\n")
+    players = {"baseline": [at("baseline"), name], "sfplay": [exe, at(name)]}
+    best = {}
+    for _ in range(options.rounds):
+        for player, words in players.items():
+            seconds = seconds_of(words, at("lines"), at(player + ".out"))
+            best[player] = min(seconds, best.get(player, seconds))
+    with open(at("baseline.out"), "rb") as one, open(at("sfplay.out"), "rb") as other:
+        if one.read() != other.read():
+            sys.exit(f"{name}: the two outputs differ")
+    for player, words in players.items():
+        print(f"{name}: {player}: {best[player]:.3f} s, {peak_of(words, at('lines'))} KiB at the peak, {options.lines} lines")
+    print(f"{name}: ratio: {best['sfplay'] / best['baseline']:.2f}")
+    runs = [seconds_of_tenths(players["sfplay"], input_lines(options.lines)) for _ in range(options.rounds)]
+    first, last = min(run[0] for run in runs), min(run[-1] for run in runs)
+    print(f"{name}: sfplay, first tenth: {first:.4f} s, last tenth: {last:.4f} s of the processor")
+
+
 def main():
     parser = argparse.ArgumentParser()
     parser.add_argument("--exe", default=os.path.join(HERE, "..", "crates", "sfplay", "out", "sfplay"))
     parser.add_argument("--lines", type=int, default=1_000_000)
-    parser.add_argument("--rounds", type=int, default=3)
+    parser.add_argument("--rounds", type=int, default=5)
     options = parser.parse_args()
     with tempfile.TemporaryDirectory() as place:
-        at = lambda name: os.path.join(place, name)
-        with open(at("network"), "w") as file:
-            file.write("network 1;\ntemplate main(): Int ~> Int = iPre 7;\n")
-        with open(at("lines"), "w") as file:
-            file.write("0 1\n")
-            file.writelines(f"{1 + n % 50} {n * 7919 % 1000003 - 500000}\n" for n in range(1, options.lines))
-        subprocess.run(["rustc", "--edition", "2021", "-O", "-o", at("baseline"), os.path.join(HERE, "baseline.rs")], check=True)
-        players = {"baseline": [at("baseline")], "sfplay": [os.path.abspath(options.exe), at("network")]}
-        best = {}
-        for _ in range(options.rounds):
-            for name, words in players.items():
-                seconds = seconds_of(words, at("lines"), at(name + ".out"))
-                best[name] = min(seconds, best.get(name, seconds))
-        peak = {name: peak_of(words, at("lines")) for name, words in players.items()}
-        with open(at("baseline.out"), "rb") as one, open(at("sfplay.out"), "rb") as other:
-            if one.read() != other.read():
-                sys.exit("the two outputs differ")
-        for name in players:
-            print(f"{name}: {best[name]:.3f} s, {peak[name]} KiB at the peak, {options.lines} lines")
-        print(f"ratio: {best['sfplay'] / best['baseline']:.2f}")
+        with open(os.path.join(place, "lines"), "w") as file:
+            file.writelines(input_lines(options.lines))
+        baseline = os.path.join(place, "baseline")
+        subprocess.run(["rustc", "--edition", "2021", "-O", "-o", baseline, os.path.join(HERE, "baseline.rs")], check=True)
+        for name in NETWORKS:
+            compare(name, os.path.abspath(options.exe), place, options)
 
 
 if __name__ == "__main__":

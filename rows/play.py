@@ -1,4 +1,4 @@
-"""Plays the worked rows of rows.json with an executable `sfplay`, each with and without --plain.
+"""Plays the worked rows of rows.json and the networks of examples/ with an executable `sfplay`, each with and without --plain.
 
     python3 rows/play.py --exe PATH [--only NAME] [--timeout SECONDS]
 
@@ -13,6 +13,7 @@ import sys
 import tempfile
 
 HERE = os.path.dirname(os.path.abspath(__file__))
+EXAMPLES = os.path.join(HERE, "..", "examples")
 
 
 def text_of(given):
@@ -20,6 +21,14 @@ def text_of(given):
     if isinstance(given, str):
         return given.encode("utf-8")
     return b"".join(text.encode("utf-8") * times for text, times in given)
+
+
+def example(name):
+    """An example as a row: NAME.net is played on NAME.in and writes NAME.out, whose last line tells the status."""
+    network, lines, output = (open(os.path.join(EXAMPLES, name + end), encoding="utf-8").read() for end in (".net", ".in", ".out"))
+    last = output.splitlines()[-1]
+    status = 4 if last.startswith("! line ") else 3 if last.startswith("! ") else 0
+    return {"name": f"example {name}", "network": network, "arguments": [], "input": lines, "output": output, "errors": "", "status": status}
 
 
 def play_live(words, row):
@@ -69,6 +78,7 @@ def main():
     options = parser.parse_args()
     with open(os.path.join(HERE, "rows.json"), encoding="utf-8") as file:
         rows = json.load(file)
+    rows += [example(name[: -len(".net")]) for name in sorted(os.listdir(EXAMPLES)) if name.endswith(".net")]
     passed = failed = 0
     with tempfile.TemporaryDirectory() as place:
         for row in rows:

@@ -8,8 +8,8 @@ use Rattle.std.proofs.lemmas.List.{length-map}
 use Rattle.std.proofs.lemmas.Option.{slice_get_within}
 use Rattle.sf_value.specs.Values.{Name}
 use Rattle.sf_term.specs.Trees.{Template, Templates}
-use Rattle.sf_mean.specs.Networks.{template_named}
-use Rattle.sf_mean.specs.Networks.{main_of as main_in}
+use Rattle.sf_mean.specs.Networks.{template_named, main_of as main_in}
+use Rattle.sf_mean.specs.Typing.{IsTyped, Accepted}
 use Rattle.sf_term.specs.declared.program.Program.{Program}
 use Rattle.sf_term.specs.Headers.{Header}
 use Rattle.sf_term.specs.Arena.{headers_of, template_in, templates_of}
@@ -17,6 +17,7 @@ use Rattle.sf_check.specs.declared.checked.Checked.{Checked}
 use Rattle.sf_check.specs.Accepting.{program_of, main_of, no_main}
 use Rattle.sf_check.specs.Names.{names, names_in, program_names}
 use Rattle.sf_check.proofs.Templates.{template_at}
+use Rattle.sf_check.proofs.Accepted.{settled_accepted}
 
 -- where a test passes on the images of a list's items
 position_or_len-map : {X Y : Type 0} (f : X → Y) (p : Y → Bool) (xs : List X) → position_or_len p (map f xs) ≡ position_or_len (λ x. p (f x)) xs
@@ -95,3 +96,12 @@ module _ (c : Checked) where
 
   pub main_is : (h : Header) → slice_get (headers_of (program_of c)) c.main ≡ Some h → template_in (program_of c) h ≡ main_of c
   main_is h at = sym (main_there (template_in (program_of c) h) (sym (named_is (program_of c) (codes "main") c.main c.main_found h at)))
+
+  pub now_accepted : Accepted (templates_of (program_of c))
+  now_accepted = settled_accepted (templates_of (program_of c)) (main_of c) main_named c.accepted
+
+  -- the template that is run is typed
+  pub main_typed : IsTyped (main_of c)
+  main_typed =
+      let there = named_at (codes "main") (templates_of (program_of c)) c.main c.main_found in
+      subst IsTyped (sym (main_there there.template there.named)) (now_accepted.typed c.main there.template there.at)

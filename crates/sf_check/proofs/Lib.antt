@@ -1,6 +1,8 @@
 pub mod Types
+pub mod Broken
 pub mod Terms
 pub mod Templates
 pub mod Naming
-pub mod Finding
+pub mod Settled
 pub mod Accepted
+pub mod Finding

@@ -9,9 +9,8 @@ use Rattle.sf_term.specs.Trees.{Template}
 use Rattle.sf_term.specs.Arena.{headers_of, template_in, templates_of, spots_of}
 use Rattle.sf_mean.specs.Typing.{IsTyped}
 use Rattle.sf_check.specs.declared.refusal.CheckRefusal.{CheckRefusal}
-use Rattle.sf_check.specs.declared.refusal.CheckRefusal.TheVariants.{DuplicateName, Mismatch, NoMain, Memory}
 use Rattle.sf_check.specs.Names.{program_names}
-use Rattle.sf_check.specs.Breaking.{AreTyped, RefusesTemplate, RefusesTypes}
+use Rattle.sf_check.specs.Breaking.{AreTyped, BreaksIn, IsFirstBreak}
 
 pub lt_or_eq : (m n : ℕ) → m < n + 1 → (m < n) ⊎ (m ≡ n)
 lt_or_eq m n h = grind arith
@@ -44,8 +43,5 @@ module _ (p : Program) (n : ℕ) (typed : (i : ℕ) (t : Template) → i < n →
       let count = length-map (headers_of p) (template_in p) in
       typed i t (omega arith) at
 
-  pub template_breaks : (h : Header) → slice_get (headers_of p) n ≡ Some h → (e : CheckRefusal) → RefusesTemplate p (template_in p h) e → RefusesTypes p e
-  template_breaks h here (Mismatch spot) broken = record { place = n; template = template_in p h; at = template_at p n h here; typed = typed; broken = broken }
-  template_breaks h here (DuplicateName spot) broken = broken
-  template_breaks h here NoMain broken = broken
-  template_breaks h here Memory broken = broken
+  pub template_breaks : (h : Header) → slice_get (headers_of p) n ≡ Some h → (e : CheckRefusal) → BreaksIn p (template_in p h) e → IsFirstBreak p e
+  template_breaks h here e broken = record { place = n; template = template_in p h; at = template_at p n h here; typed = typed; broken = broken }

@@ -7,7 +7,7 @@ use Rattle.sf_term.specs.declared.program.Program.{Program}
 use Rattle.sf_term.specs.Trees.{Templates}
 use Rattle.sf_term.specs.Arena.{templates_of, spots_of}
 use Rattle.sf_check.specs.declared.refusal.CheckRefusal.{CheckRefusal}
-use Rattle.sf_check.specs.declared.refusal.CheckRefusal.TheVariants.{DuplicateName, Mismatch, NoMain, Memory}
+use Rattle.sf_check.specs.declared.refusal.CheckRefusal.TheVariants.{UnknownName, DuplicateName, Mismatch, TypeTooLarge, NoMain, Memory}
 
 -- the names of templates, in order
 abbrev pub names : Templates → List Name
@@ -41,7 +41,9 @@ pub record IsFirstRepeat (p : Program) (spot : Spot) : Type 0 where
 
 -- what a refusal says of names
 abbrev pub RefusesName : Program → CheckRefusal → Type 0
+RefusesName p (UnknownName spot) = ⊥
 RefusesName p (DuplicateName spot) = IsFirstRepeat p spot
 RefusesName p (Mismatch spot) = ⊥
+RefusesName p (TypeTooLarge spot) = ⊥
 RefusesName p NoMain = ⊥
 RefusesName p Memory = ⊤

@@ -2,7 +2,8 @@
 ghost use Rattle.std.specs.Prelude.{◌≡◌, Some, position, bytes_eq, codes, option_map};
 ghost use Rattle.sf_term.specs.Arena.{tree, template_in, templates_of};
 ghost use Rattle.sf_mean.specs.Networks.{main_of as main_in, template_named};
-ghost use Rattle.sf_mean.specs.Typing.{Accepted};
+ghost use Rattle.sf_mean.specs.Typing.{Takes, Accepted};
+ghost use Rattle.sf_expr.specs.Typing.{Fits};
 ghost use Rattle.sf_check.specs.Names.{names_in, program_names};
 
 use indexmap::IndexSet;
@@ -26,7 +27,7 @@ impl Checked {
     /// The program that was accepted. It has a template `main`.
     pub fn program(&self) -> &Program
         ensures program { result.now ≡ program_of self.now }
-        ensures accepted { ∥ Accepted (templates_of (program_of self.now)) ∥₁ }
+        ensures accepted { Accepted (templates_of (program_of self.now)) }
         ensures main { main_in (templates_of (program_of self.now)) ≡ Some (main_of self.now) }
     {
         &self.program
@@ -49,7 +50,9 @@ impl Checked {
 
     /// The term of `main`.
     pub fn main(&self) -> TermId
-        ensures { tree (program_of self.now) result ≡ (main_of self.now).body }
+        ensures term { tree (program_of self.now) result ≡ (main_of self.now).body }
+        ensures typed { Takes (main_of self.now).body (main_of self.now).input (main_of self.now).output }
+        ensures fits { Fits (main_of self.now).input }
     {
         self.main_template().body()
     }

@@ -39,13 +39,16 @@ fn examined(alloc: Global, program: &Program) -> Result<Found, CheckRefusal>
 /// Accepts a network whose templates have different names and terms of their headers' types, and one of which is `main`.
 ///
 /// # Errors
-/// The first rule that is broken, with its place, and the program: names are looked at first (`DuplicateName`), then the
-/// types of each template in the order of the text (`Mismatch`), then `main` (`NoMain`). `Memory` says nothing of it.
+/// The first rule that is broken, with its place, and the program: the names of templates are looked at first
+/// (`DuplicateName`), then each template in the order of the text, then `main` (`NoMain`). In a template a form's own rule
+/// is looked at after its parts, but before a part what is needed to type it: that the input is of pairs, the names of a
+/// pattern and then whether it fits, the value of a loop (`UnknownName`, `DuplicateName`, `Mismatch`, `TypeTooLarge`).
+/// The header's output comes last (`Mismatch` at the template's term). `Memory` says nothing of the network.
 pub fn check(alloc: Global, program: Program) -> Result<Checked, (CheckRefusal, Program)>
     ensures accepted { OnOk result (Accepted (templates_of program)) }
     ensures kept { IfOk result (λ checked. program_of checked ≡ program) }
     ensures handed_back { IfErr result (λ refused. refused.1 ≡ program) }
-    // The rule is broken at the place.
+    // The first rule that is broken, in the order of the text, at its place.
     ensures refused { IfErr result (λ refused. Refuses program refused.0) }
     // A network that keeps all rules is refused for want of memory alone.
     ensures only { Accepted (templates_of program) → MatchResult result (λ _. ⊤) (λ refused. refused.0 ≡ CheckRefusal.Memory) }

@@ -20,7 +20,7 @@ use Rattle.sf_engine.specs.declared.engine.EngineError.{EngineError}
 use Rattle.sf_engine.specs.declared.engine.EngineError.TheVariants.{Fault as Faulted}
 use Rattle.sf_engine.specs.Histories.{newest_input, last_input, after_start, BeginsAtZero, IsHistory, CanWait}
 use Rattle.sf_engine.specs.Running.{Runs, IsStopped, time_of}
-use Rattle.sf_engine.specs.Sampling.{Advances, advances, Gave, and_value, and_fault, and_large, and_no_memory, Sampled, gave_value, had_fault, was_large, had_no_memory}
+use Rattle.sf_engine.specs.Sampling.{Advances, advances, Sampled, gave_value, had_fault, was_large, had_no_memory}
 
 time-step : (d : ℕ) (x : Data) (L : Life) → BeginsAtZero (step d x ∷ L) → time (step d x ∷ L) ≡ time L + d
 time-step d x [] h = sym h ∙ sym (zero-add d)
@@ -42,25 +42,25 @@ goes_to {o = o} {e = e} {n = n} {m = m} {L = L} {d = d} {x = x} R H plan input s
   history = H;
 }
 
--- what a step answers is the value at the end of the history
-pub gave_of : {p : Program} {n : Network} {m : Template} {L : Life} {r : Result Data Fault} {s : State} {t : Meter} {e : Engine}
-    → network_of p ≡ n → Steps p (closure m.body empty) L r s t
-    → ((y : Data) → r ≡ Ok y → Stands p s (closure m.body empty) L → Runs e n m L)
-    → Gave n m L r e
-gave_of {m = m} {L = L} q (stepped {v = v} {k = k} G entered high S) f = and_value (subst (λ n. Gives n (closure m.body empty) L (gave v []) k) q G) (f v refl S)
-gave_of {m = m} {L = L} q (faulted_so {x = x} {k = k} G entered high) f = and_fault (subst (λ n. Gives n (closure m.body empty) L (faulted x) k) q G)
-gave_of {m = m} {L = L} q (too_large none) f = and_large (λ o k G few low. none o k (subst (λ n. Gives n (closure m.body empty) L o k) (sym q) G) few low)
-gave_of q no_memory f = and_no_memory
-
 -- a value is the sample's
-pub sampled_value : {n : Network} {m : Template} {L : Life} {y : Data} {e : Engine} {s : Sample} → Gave n m L (Ok y) e → s.time ≡ e.time → s.value ≡ y → Sampled n m L (Ok s) e
-sampled_value {n = n} {m = m} {L = L} (and_value {k = k} G R) at value = gave_value (subst (λ v. Gives n (closure m.body empty) L (gave v []) k) (sym value) G) (at ∙ R.time) R
+pub sampled_value : {p : Program} {n : Network} {m : Template} {L : Life} {y : Data} {s : State} {t : Meter} {e : Engine} {z : Sample}
+    → network_of p ≡ n → Steps p (closure m.body empty) L (Ok y) s t
+    → (Stands p s (closure m.body empty) L → Runs e n m L)
+    → z.time ≡ e.time → z.value ≡ y → Sampled n m L (Ok z) e
+sampled_value {n = n} {m = m} {L = L} {y = y} q (stepped {k = k} G entered high S) f at value =
+    gave_value
+    (subst (λ v. Gives n (closure m.body empty) L (gave v []) k) (sym value) (subst (λ n. Gives n (closure m.body empty) L (gave y []) k) q G))
+    (at ∙ (f S).time)
+    (f S)
 
 -- a fault stops the engine
-pub sampled_fault : {n : Network} {m : Template} {L : Life} {f : Fault} {o e : Engine} → Gave n m L (Err f) o → IsStopped e f → Sampled n m L (Err (Faulted f)) e
-sampled_fault (and_fault G) stopped = had_fault G stopped
-sampled_fault (and_large none) stopped = was_large none stopped
-sampled_fault and_no_memory stopped = had_no_memory stopped
+pub sampled_fault : {p : Program} {n : Network} {m : Template} {L : Life} {f : Fault} {s : State} {t : Meter} {e : Engine}
+    → network_of p ≡ n → Steps p (closure m.body empty) L (Err f) s t → IsStopped e f → Sampled n m L (Err (Faulted f)) e
+sampled_fault {m = m} {L = L} q (faulted_so {x = x} {k = k} G entered high) stopped =
+    had_fault (subst (λ n. Gives n (closure m.body empty) L (faulted x) k) q G) stopped
+sampled_fault {m = m} {L = L} q (too_large none) stopped =
+    was_large (λ o k G few low. none o k (subst (λ n. Gives n (closure m.body empty) L o k) (sym q) G) few low) stopped
+sampled_fault q no_memory stopped = had_no_memory stopped
 
 -- an engine that hasn't started has no history
 pub no_history : (b : Bool) (L : Life) → b ≡ false → (IsTrue b ↔ (L ≢ [])) → L ≡ []

@@ -2,7 +2,6 @@
 use Rattle.std.specs.Prelude.{◌≡◌, ◌≢◌, ℕ, ◌≤◌, [], Option, IfSome, Result, Ok, Err}
 use Rattle.sf_value.specs.Values.{Data, HasKind}
 use Rattle.sf_value.specs.declared.fault.ValueFault.{ValueFault}
-use Rattle.sf_value.specs.declared.fault.Fault.{Fault}
 use Rattle.sf_value.specs.declared.fault.Fault.TheVariants.{Value, Large, Memory}
 use Rattle.sf_term.specs.Trees.{Template}
 use Rattle.sf_mean.specs.Lives.{Life, closure, empty, time}
@@ -63,16 +62,3 @@ pub data Advances (n : Network) (m : Template) (L : Life) (d : ℕ) (x : Option 
   advances : {r : Result Sample EngineError} {e : Engine}
       → L ≢ [] → CanWait (time L) d → IfSome x (λ v. HasKind v m.input) → Sampled n m (after_step L d x) r e
       → Advances n m L d x r e
-
--- The value at the end of a history, with the engine after it, which is still to be stopped after a fault.
-pub data Gave (n : Network) (m : Template) (L : Life) : Result Data Fault → Engine → Type 0 where
-  and_value : {y : Data} {k : Cost} {e : Engine}
-      → GivesOutcome n m L (gave y []) k → Runs e n m L
-      → Gave n m L (Ok y) e
-  and_fault : {x : ValueFault} {k : Cost} {e : Engine}
-      → GivesOutcome n m L (faulted x) k
-      → Gave n m L (Err (Value x)) e
-  and_large : {e : Engine}
-      → IsTooLarge n m L
-      → Gave n m L (Err Large) e
-  and_no_memory : {e : Engine} → Gave n m L (Err Memory) e

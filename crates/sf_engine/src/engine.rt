@@ -1,6 +1,7 @@
 //! Engines.
-ghost use Rattle.std.specs.Prelude.{◌≤◌, IfOk};
+ghost use Rattle.std.specs.Prelude.{◌≡◌, ◌≤◌, IfOk, None, Some};
 ghost use Rattle.sf_law.specs.Plans.{IsPlainPlan};
+ghost use Rattle.sf_engine.specs.Keeping.{IsReady};
 
 use sf_check::Checked;
 use sf_law::{Plan, plain};
@@ -64,6 +65,7 @@ pub struct Engine {
     last: Option<Value>,
     stopped: Option<Fault>,
     ghost within: { time ≤ 4000000000000000 },
+    ghost ready: { stopped ≡ None → ∥ IsReady plan state input last ∥₁ },
 }
 
 const LONGEST_STEP: u64 = 3_600_000;
@@ -71,7 +73,8 @@ const LONGEST_STEP: u64 = 3_600_000;
 const LAST_TIME: u64 = 4_000_000_000_000_000;
 
 impl Engine {
-    ghost use Rattle.std.specs.Prelude.{◌≡◌, ◌≢◌, ◌+◌, ◌≤◌, ◌↔◌, ℕ, [], ◌∷◌, IfOk, IfErr, IsTrue};
+    ghost use Rattle.std.specs.Prelude.{◌≡◌, ◌≢◌, ◌+◌, ◌≤◌, ◌↔◌, ℕ, [], ◌∷◌, None, IfOk, IfErr, IsTrue};
+    ghost use Rattle.sf_value.specs.Values.{HasKind};
     ghost use Rattle.sf_value.specs.declared.fault.Fault.{Fault};
     ghost use Rattle.sf_term.specs.Trees.{Template};
     ghost use Rattle.sf_mean.specs.Lives.{Life, step};
@@ -80,7 +83,7 @@ impl Engine {
     ghost use Rattle.sf_check.specs.Accepting.{program_of, main_of};
     ghost use Rattle.sf_engine.specs.Histories.{IsHistory, CanWait};
     ghost use Rattle.sf_engine.specs.Running.{Runs, IsStopped, StopsWith, time_of};
-    ghost use Rattle.sf_engine.specs.Sampling.{Gave, Sampled, Starts, Advances};
+    ghost use Rattle.sf_engine.specs.Sampling.{Sampled, Starts, Advances};
 
     /// An engine before its start. For want of memory it hands the network back.
     pub fn new(alloc: Global, checked: Checked, mode: Mode) -> Result<Engine, Checked>
@@ -94,6 +97,7 @@ impl Engine {
             return Err(checked);
         };
         let state = State::unborn(plan.main());
+        let _main = checked.main();
         Ok(Engine {
             alloc,
             plan,
@@ -151,7 +155,7 @@ impl Engine {
             }
             None => match last.clone_in(self.alloc) {
                 Ok(last) => last,
-                Err(_) => return Err(self.stop(Fault::Memory)),
+                Err(_) => return Err(stop(&mut self.stopped, Fault::Memory)),
             },
         };
         self.sample(dt, input)
@@ -173,47 +177,44 @@ impl Engine {
 
     /// The sample at the next step of the history.
     fn sample(&mut self, dt: u64, input: Value) -> Result<Sample, EngineError>
-        requires { time_of self.old + dt ≤ 4000000000000000 }
+        requires time { time_of self.old + dt ≤ 4000000000000000 }
+        requires going { self.old.stopped ≡ None }
+        requires typed { ∥ HasKind input self.old.input ∥₁ }
         ensures { (n : Network) (m : Template) (L : Life) → Runs self.old n m L → IsHistory m.input (step dt input ∷ L) →
             Sampled n m (step dt input ∷ L) result self.new }
     {
-        match self.advance(dt, input) {
-            Ok(value) => Ok(Sample {
-                time: self.time,
-                value,
-            }),
-            Err(fault) => Err(self.stop(fault)),
-        }
-    }
-
-    /// The value at the next step of the history.
-    fn advance(&mut self, dt: u64, input: Value) -> Result<Value, Fault>
-        requires { time_of self.old + dt ≤ 4000000000000000 }
-        ensures { (n : Network) (m : Template) (L : Life) → Runs self.old n m L → IsHistory m.input (step dt input ∷ L) →
-            Gave n m (step dt input ∷ L) result self.new }
-    {
-        let kept = input.clone_in(self.alloc)?;
-        let value = step(
+        let Ok(kept) = input.clone_in(self.alloc) else {
+            return Err(stop(&mut self.stopped, Fault::Memory));
+        };
+        let mut meter = Meter::new();
+        match step(
             &mut self.state,
             &self.plan,
             self.alloc,
             dt,
             input,
-            &mut Meter::new(),
-        )?;
-        self.time += dt;
-        self.last = Some(kept);
-        Ok(value)
+            &mut meter,
+        ) {
+            Ok(value) => {
+                self.time += dt;
+                self.last = Some(kept);
+                Ok(Sample {
+                    time: self.time,
+                    value,
+                })
+            }
+            Err(fault) => Err(stop(&mut self.stopped, fault)),
+        }
     }
+}
 
-    /// Stops the engine.
-    fn stop(&mut self, fault: Fault) -> EngineError
-        ensures error { result ≡ EngineError.Fault fault }
-        ensures stopped { IsStopped self.new fault }
-    {
-        self.stopped = Some(fault);
-        EngineError::Fault(fault)
-    }
+/// Keeps the fault that stops an engine.
+fn stop(stopped: &mut Option<Fault>, fault: Fault) -> EngineError
+    ensures error { result ≡ EngineError.Fault fault }
+    ensures stopped { stopped.new ≡ Some fault }
+{
+    *stopped = Some(fault);
+    EngineError::Fault(fault)
 }
 
 /// The plan of a network in a mode.

@@ -1,3 +1,9 @@
+pub mod Sound
+pub mod Bound
 pub mod Grown
 pub mod Entered
 pub mod Typed
+pub mod Division
+pub mod Evaluating
+pub mod Apart
+pub mod Judged

@@ -1,16 +1,21 @@
--- The types of the expressions of an arena.
-use Rattle.std.proofs.Common.{◌≡◌, refl, IsTrue}
-use Rattle.sf_value.specs.Values.{is_narrow, int_kind}
-use Rattle.sf_expr.specs.declared.exprs.ExprNode.TheVariants.{Int}
+-- The expressions of an arena that nodes stand for.
+use Rattle.std.proofs.Common.{◌≡◌, refl}
+use Rattle.sf_expr.specs.declared.exprs.ExprId.{ExprId}
+use Rattle.sf_expr.specs.declared.exprs.NameId.{NameId}
+use Rattle.sf_expr.specs.declared.exprs.ExprNode.TheVariants as nodes
 use Rattle.sf_expr.specs.declared.exprs.Exprs.{Exprs}
-use Rattle.sf_expr.specs.Expressions.{Expression, literal, int_literal}
-use Rattle.sf_expr.specs.Typing.{Names, int_has, HasType, literal_has}
-use Rattle.sf_expr.specs.Arena.{Builds, builds_int}
+use Rattle.sf_expr.specs.declared.operator.Operator.{Operator}
+use Rattle.sf_expr.specs.Expressions.{Expression, variable, literal, int_literal, paired, operation}
+use Rattle.sf_expr.specs.Arena.{expression, name_at, Builds, builds_int, builds_name, builds_pair, builds_operation}
 
--- the expression that a number stands for
-pub is_int : {x : Exprs} {z : _} {e : Expression} → Builds x (Int z) e → e ≡ literal (int_literal z)
+pub is_int : {x : Exprs} {z : _} {e : Expression} → Builds x (nodes.Int z) e → e ≡ literal (int_literal z)
 is_int builds_int = refl
 
--- a narrow number has its type
-pub number_typed : {x : Exprs} {names : Names} {z : _} {e : Expression} → Builds x (Int z) e → IsTrue (is_narrow z) → HasType names e int_kind
-number_typed builds_int h = literal_has (int_has h)
+pub is_name : {x : Exprs} {n : NameId} {e : Expression} → Builds x (nodes.Name n) e → e ≡ variable (name_at x n)
+is_name builds_name = refl
+
+pub is_pair : {x : Exprs} {a b : ExprId} {e : Expression} → Builds x (nodes.Pair a b) e → e ≡ paired (expression x a) (expression x b)
+is_pair builds_pair = refl
+
+pub is_operation : {x : Exprs} {op : Operator} {a b : ExprId} {e : Expression} → Builds x (nodes.Operation a op b) e → e ≡ operation (expression x a) op (expression x b)
+is_operation builds_operation = refl

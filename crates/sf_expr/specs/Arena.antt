@@ -1,13 +1,19 @@
 -- Arenas of expressions, seen by their trees.
 use Rattle.std.specs.Prelude.{◌≡◌, ℕ, ◌+◌, ◌<◌, length}
+use Rattle.sf_value.specs.Values.{Name}
 use Rattle.sf_expr.specs.declared.spot.Spot.{Spot}
+use Rattle.sf_expr.specs.declared.operator.Operator.{Operator}
 use Rattle.sf_expr.specs.declared.exprs.ExprId.{ExprId}
+use Rattle.sf_expr.specs.declared.exprs.NameId.{NameId}
+use Rattle.sf_expr.specs.declared.exprs.FunctionId.{FunctionId}
 use Rattle.sf_expr.specs.declared.exprs.ExprNode.{ExprNode}
-use Rattle.sf_expr.specs.declared.exprs.ExprNode.TheVariants.{Int}
-use Rattle.sf_expr.specs.declared.exprs.Entry.{Entry}
+use Rattle.sf_expr.specs.declared.exprs.ExprNode.TheVariants as nodes
 use Rattle.sf_expr.specs.declared.exprs.Exprs.{Exprs}
-use Rattle.sf_expr.specs.Expressions.{Expression, literal, int_literal}
-use Rattle.sf_expr.specs.Entries.{entry_at, expression_at, made_over, expressions}
+use Rattle.sf_expr.specs.declared.entry.Stored.{Stored}
+use Rattle.sf_expr.specs.declared.entry.Entry.{Entry}
+use Rattle.sf_expr.specs.Expressions.{Expression, variable, literal, int_literal, paired, operation, Function, function}
+use Rattle.sf_expr.specs.Patterns.{PlacedPattern, pattern_of}
+use Rattle.sf_expr.specs.Entries.{entry_at, expression_at, expressions, made_over, node_of, name_in, function_entry}
 
 -- the number of an id
 abbrev pub id_number : ExprId → ℕ
@@ -17,9 +23,17 @@ id_number id = id.0
 unfoldable pub count_of : Exprs → ℕ
 count_of x = length x.entries.items
 
+-- how many functions an arena holds
+unfoldable pub function_count : Exprs → ℕ
+function_count x = length x.functions.items
+
 -- an arena holds an expression under an id
 unfoldable pub Holds : Exprs → ExprId → Type 0
 Holds x id = id.0 < length x.entries.items
+
+-- an arena holds a function under an id
+unfoldable pub HoldsFunction : Exprs → FunctionId → Type 0
+HoldsFunction x f = f.0 < length x.functions.items
 
 -- the expression at an id; the number 0 where the arena holds none
 unfoldable pub expression : Exprs → ExprId → Expression
@@ -29,37 +43,92 @@ expression x id = expression_at x.entries.items id.0
 unfoldable pub entry_of : Exprs → ExprId → Entry
 entry_of x id = entry_at x.entries.items id.0
 
+-- the node at an id, with the ids of its parts; the number 0 where the arena holds none
+unfoldable pub node_at : Exprs → ExprId → ExprNode
+node_at x id = node_of (entry_at x.entries.items id.0).stored id
+
+-- the name at an id of names; the empty one where the arena holds none
+unfoldable pub name_at : Exprs → NameId → Name
+name_at x n = name_in (entry_at x.entries.items n.0).stored
+
 -- where the expression at an id stands in the text
 unfoldable pub spot_at : Exprs → ExprId → Spot
 spot_at x id = (entry_at x.entries.items id.0).spot
 
--- the expression that a node makes in an arena
-unfoldable pub made_in : Exprs → ExprNode → Expression
-made_in x node = made_over (expressions x.entries.items) node
+-- the pattern of the function at an id; the one that binds nothing where the arena holds none
+unfoldable pub pattern_at : Exprs → FunctionId → PlacedPattern
+pattern_at x f = (function_entry x.functions.items f.0).pattern
+
+-- the id of the body of the function at an id
+unfoldable pub body_at : Exprs → FunctionId → ExprId
+body_at x f = (function_entry x.functions.items f.0).body
+
+-- the function at an id
+abbrev pub function_at : Exprs → FunctionId → Function
+function_at x f = function (pattern_of (pattern_at x f)) (expression x (body_at x f))
+
+-- the expression that what is stored makes in an arena
+unfoldable pub made_in : Exprs → Stored → Expression
+made_in x stored = made_over (expressions x.entries.items) stored
 
 -- A node with the ids of its parts stands for an expression with their trees.
 pub data Builds (x : Exprs) : ExprNode → Expression → Type 0 where
-  builds_int : {z : _} → Builds x (Int z) (literal (int_literal z))
+  builds_int : {z : _} → Builds x (nodes.Int z) (literal (int_literal z))
+  builds_name : {n : NameId} → Builds x (nodes.Name n) (variable (name_at x n))
+  builds_pair : {a b : ExprId} → Builds x (nodes.Pair a b) (paired (expression x a) (expression x b))
+  builds_operation : {op : Operator} {a b : ExprId} → Builds x (nodes.Operation a op b) (operation (expression x a) op (expression x b))
 
--- what an arena held is there as it was
+-- the ids of a node's parts, as numbers, are below a number
+abbrev pub PartsBelow : ExprNode → ℕ → Type 0
+PartsBelow (nodes.Int z) n = Unit {0}
+PartsBelow (nodes.Name x) n = Unit {0}
+PartsBelow (nodes.Pair a b) n = (id_number a < n) × (id_number b < n)
+PartsBelow (nodes.Operation a op b) n = (id_number a < n) × (id_number b < n)
+
+-- the parts of a node are held
+abbrev pub HoldsParts : Exprs → ExprNode → Type 0
+HoldsParts x (nodes.Int z) = Unit {0}
+HoldsParts x (nodes.Name n) = Unit {0}
+HoldsParts x (nodes.Pair a b) = Holds x a × Holds x b
+HoldsParts x (nodes.Operation a op b) = Holds x a × Holds x b
+
+-- What an arena held is there as it was.
 pub record Keeps (old new : Exprs) : Type 0 where
   pub holds : (i : ExprId) → Holds old i → Holds new i
   pub trees : (i : ExprId) → Holds old i → expression new i ≡ expression old i
   pub spots : (i : ExprId) → Holds old i → spot_at new i ≡ spot_at old i
+  pub functions : (f : FunctionId) → HoldsFunction old f → HoldsFunction new f
+  pub patterns : (f : FunctionId) → HoldsFunction old f → pattern_at new f ≡ pattern_at old f
+  pub bodies : (f : FunctionId) → HoldsFunction old f → body_at new f ≡ body_at old f
+  pub meanings : (f : FunctionId) → HoldsFunction old f → function_at new f ≡ function_at old f
 
 -- an expression was added under an id, and what was there stands
 pub record Adds (old new : Exprs) (id : ExprId) (e : Expression) (s : Spot) : Type 0 where
   pub within : Holds new id
   pub is : expression new id ≡ e
   pub spotted : spot_at new id ≡ s
-  pub kept : (i : ExprId) → Holds old i → Holds new i × (expression new i ≡ expression old i) × (spot_at new i ≡ spot_at old i)
+  pub kept : Keeps old new
   pub count : count_of new ≡ count_of old + 1
+  pub functions : function_count new ≡ function_count old
+
+-- a function was added under an id, and what was there stands
+pub record AddsFunction (old new : Exprs) (f : FunctionId) (p : PlacedPattern) (b : ExprId) : Type 0 where
+  pub within : HoldsFunction new f
+  pub pattern : pattern_at new f ≡ p
+  pub body : body_at new f ≡ b
+  pub is : function_at new f ≡ function (pattern_of p) (expression old b)
+  pub kept : Keeps old new
+  pub count : count_of new ≡ count_of old
+  pub functions : function_count new ≡ function_count old + 1
 
 -- two arenas show the same at each id
 pub record IsUnchanged (old new : Exprs) : Type 0 where
   pub count : count_of new ≡ count_of old
+  pub functions : function_count new ≡ function_count old
   pub trees : (i : ExprId) → expression new i ≡ expression old i
   pub spots : (i : ExprId) → spot_at new i ≡ spot_at old i
+  pub patterns : (f : FunctionId) → pattern_at new f ≡ pattern_at old f
+  pub bodies : (f : FunctionId) → body_at new f ≡ body_at old f
 
 -- an arena is a copy of another: it shows the same at each id
 abbrev pub IsCopy : Exprs → Exprs → Type 0

@@ -1,18 +1,59 @@
 -- Expressions as trees.
-use Rattle.std.specs.Prelude.{ℕ, ℤ}
+use Rattle.std.specs.Prelude.{ℕ, suc, ◌+◌, max, ℤ, List, [], ◌∷◌, ◌++◌}
+use Rattle.sf_value.specs.Values.{Name}
+use Rattle.sf_expr.specs.declared.operator.Operator.{Operator}
+
+-- A pattern binds nothing, a name, or the two parts of a pair.
+pub data Pattern : Type 0 where
+  unnamed : Pattern
+  named : Name → Pattern
+  both : Pattern → Pattern → Pattern
 
 -- values that stand in the text
 pub data Literal : Type 0 where
   int_literal : ℤ → Literal
 
--- expressions
+-- expressions: names, literals, pairs, and operators between their operands
 pub data Expression : Type 0 where
+  variable : Name → Expression
   literal : Literal → Expression
+  paired : Expression → Expression → Expression
+  operation : Expression → Operator → Expression → Expression
+
+-- A function `p => e`.
+pub data Function : Type 0 where
+  function : Pattern → Expression → Function
+
+-- how many patterns stand one inside another
+abbrev pub pattern_depth : Pattern → ℕ
+pattern_depth unnamed = 1
+pattern_depth (named x) = 1
+pattern_depth (both p q) = suc (max (pattern_depth p) (pattern_depth q))
 
 -- how many expressions stand one inside another
 abbrev pub depth : Expression → ℕ
+depth (variable x) = 1
 depth (literal l) = 1
+depth (paired i j) = suc (max (depth i) (depth j))
+depth (operation i o j) = suc (max (depth i) (depth j))
+
+-- how deep the pattern and the expression of a function are
+abbrev pub function_depth : Function → ℕ
+function_depth (function p i) = max (pattern_depth p) (depth i)
 
 -- how many expressions an expression is made of
 abbrev pub size : Expression → ℕ
+size (variable x) = 1
 size (literal l) = 1
+size (paired i j) = suc (size i + size j)
+size (operation i o j) = suc (size i + size j)
+
+-- how many expressions stand in a function
+abbrev pub function_size : Function → ℕ
+function_size (function p i) = size i
+
+-- the names of a pattern, from left to right
+abbrev pub names_in : Pattern → List Name
+names_in unnamed = []
+names_in (named x) = x ∷ []
+names_in (both p q) = names_in p ++ names_in q

@@ -1,7 +1,15 @@
 pub mod Expressions
+pub mod Patterns
+pub mod PatternCodes
+pub mod PatternView
+pub mod PatternFalls
 pub mod Evaluation
 pub mod Typing
+pub mod Soundness
+pub mod Scopes
 pub mod Folded
 pub mod Entries
 pub mod Arena
 pub mod Answers
+pub mod Refusals
+pub mod Laws

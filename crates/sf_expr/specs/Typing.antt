@@ -1,16 +1,47 @@
 -- The types of expressions.
-use Rattle.std.specs.Prelude.{IsTrue}
-use Rattle.sf_value.specs.Values.{Kind, int_kind, is_narrow}
-use Rattle.sf_expr.specs.Expressions.{Literal, int_literal, Expression, literal}
+use Rattle.std.specs.Prelude.{◌≡◌, ◌≢◌, ◌≤◌, List, [], ◌∷◌, Option, Some, None, cond, bytes_eq, All, ⊤}
+use Rattle.sf_value.specs.Values.{Name, Kind, int_kind, pair_kind, nodes, HasKind}
+use Rattle.sf_expr.specs.declared.operator.Operator.{Operator}
+use Rattle.sf_expr.specs.Expressions.{Pattern, unnamed, named, both, names_in, Literal, Expression, variable, literal, paired, operation, Function, function}
+use Rattle.sf_expr.specs.Evaluation.{literal_value}
 
--- The names that an expression may use, with their types.
-pub data Names : Type 0 where
-  no_names : Names
+-- The names that an expression may use with their types, the innermost first.
+abbrev pub Names : Type 0
+Names = List (Name × Kind)
 
--- a literal has a type: numbers are within signed 64 bits
-pub data LiteralHas : Literal → Kind → Type 0 where
-  int_has : {z : _} → IsTrue (is_narrow z) → LiteralHas (int_literal z) int_kind
+-- the type of a name
+abbrev pub type_of_name : Name → Names → Option Kind
+type_of_name x [] = None
+type_of_name x (r ∷ rs) = cond (bytes_eq x r.0) (Some r.1) (type_of_name x rs)
 
--- an expression has a type, where the names have types
-pub data HasType (names : Names) : Expression → Kind → Type 0 where
-  literal_has : {l : Literal} {k : Kind} → LiteralHas l k → HasType names (literal l) k
+-- a type that is met has at most 256 nodes
+abbrev pub Fits : Kind → Type 0
+Fits t = nodes t ≤ 256
+
+-- all names are different
+abbrev pub AllDifferent : List Name → Type 0
+AllDifferent [] = ⊤
+AllDifferent (x ∷ xs) = All (λ y. x ≢ y) xs × AllDifferent xs
+
+-- A pattern for a type adds names to those around it.
+pub data Adds : Pattern → Kind → Names → Names → Type 0 where
+  adds_nothing : {t : Kind} {R : Names} → Adds unnamed t R R
+  adds_name : {x : Name} {t : Kind} {R : Names} → Adds (named x) t R ((x, t) ∷ R)
+  adds_both : {p q : Pattern} {t u : Kind} {R S T : Names} → Adds p t R S → Adds q u S T → Adds (both p q) (pair_kind t u) R T
+
+-- A pattern is bound: it adds its names, which are different.
+pub record Binds (p : Pattern) (t : Kind) (R S : Names) : Type 0 where
+  pub adds : Adds p t R S
+  pub apart : AllDifferent (names_in p)
+
+-- An expression has a type, where the names have types. Each type has at most 256 nodes.
+pub data HasType (R : Names) : Expression → Kind → Type 0 where
+  variable_has : {x : Name} {t : Kind} → type_of_name x R ≡ Some t → Fits t → HasType R (variable x) t
+  literal_has : {l : Literal} {t : Kind} → HasKind (literal_value l) t → HasType R (literal l) t
+  pair_has : {i j : Expression} {t u : Kind} → HasType R i t → HasType R j u → Fits (pair_kind t u) → HasType R (paired i j) (pair_kind t u)
+  operation_has : {i j : Expression} {op : Operator} → HasType R i int_kind → HasType R j int_kind → HasType R (operation i op j) int_kind
+
+-- A function takes one type to another.
+pub data FunctionTakes (R : Names) : Function → Kind → Kind → Type 0 where
+  function_takes : {S : Names} {p : Pattern} {i : Expression} {t u : Kind}
+      → Fits t → Binds p t R S → HasType S i u → FunctionTakes R (function p i) t u

@@ -1,10 +1,21 @@
-use crate::exprs::{ExprId, ExprNode, ExprRefusal, Exprs};
+ghost use Rattle.std.specs.Prelude.{IfOk};
+ghost use Rattle.sf_expr.specs.Arena.{Holds};
+
+use crate::exprs::{ExprId, ExprNode, ExprRefusal, Exprs, FunctionId};
 use crate::fault::EvalFault;
+use crate::operator::Operator;
+use crate::pat::{Pat, PatForm};
+use crate::scope::Scope;
 use crate::spot::Spot;
-use crate::{TypeRefusal, eval, type_of};
-use sf_value::{Form, Ty, ValueFault, same_type};
+use crate::typing::{TypeRefusal, TypeScope, function_type, type_of};
+use crate::{apply, eval, typed_expression};
+use sf_value::{Form, Ty, Value, ValueFault, has_type, same, same_type};
 use std::alloc::{AllocError, AllocFailed, Global};
 use std::test::Fail;
+
+fn at(column: u32) -> Spot {
+    Spot { line: 1, column }
+}
 
 fn three_numbers(alloc: Global) -> Result<(Exprs, ExprId, ExprId, ExprId), ExprRefusal> {
     let mut exprs = Exprs::new(alloc);
@@ -52,40 +63,323 @@ fn more_than_100000_are_refused(rt: HostRuntime) -> Result<(), Fail> {
     for n in 0..100_000i64 {
         exprs.int(n, Spot::NONE)?;
     }
+    let x = String::from_str(alloc, "x")?;
     assert_eq!(rt; exprs.int(5, Spot::NONE), Err(ExprRefusal::TooMany));
+    assert_eq!(rt; exprs.name(x, Spot::NONE), Err(ExprRefusal::TooMany));
     assert_eq!(rt; exprs.len(), 100_000);
     Ok(())
 }
 
+/// Numbers of so many expressions one inside another.
+fn nested(exprs: &mut Exprs, depth: u32) -> Result<ExprId, ExprRefusal>
+    ensures { IfOk result (λ id. Holds exprs.new id) }
+{
+    if depth <= 1 {
+        return exprs.int(1, Spot::NONE);
+    }
+    let left = nested(exprs, depth - 1)?;
+    let right = exprs.int(2, Spot::NONE)?;
+    exprs.operation(left, Operator::Plus, right, Spot::NONE)
+}
+
 #[test]
-fn numbers_have_values_and_types(rt: HostRuntime) -> Result<(), Fail> {
+fn depth_64_is_the_last(rt: HostRuntime) -> Result<(), Fail> {
     let alloc = rt.alloc();
-    let (exprs, first, least, _) = three_numbers(alloc)?;
-    let Form::Int(n) = eval(alloc, &exprs, first)?.into_form();
-    assert_eq!(rt; n, 7);
-    let Form::Int(n) = eval(alloc, &exprs, least)?.into_form();
-    assert_eq!(rt; n, i64::MIN);
-    assert!(rt; same_type(&type_of(alloc, &exprs, first)?, &Ty::int()));
+    let mut exprs = Exprs::new(alloc);
+    let whole = nested(&mut exprs, 64)?;
+    assert_eq!(rt; exprs.depth(whole), 64);
+    let deep = exprs.function(Pat::unnamed(), whole)?;
+    assert_eq!(rt; exprs.function_depth(deep), 64);
+    let mut pattern = Pat::unnamed();
+    for _ in 1..65 {
+        pattern = Pat::both(alloc, pattern, Pat::unnamed())?;
+    }
+    assert_eq!(rt; pattern.depth(), 65);
+    assert_eq!(rt; exprs.function(pattern, whole), Err(ExprRefusal::TooDeep));
+    assert_eq!(rt; nested(&mut exprs, 65), Err(ExprRefusal::TooDeep));
+    Ok(())
+}
+
+/// `(x, (x - 1))`, whose parts stand at the columns 2 and 5.
+fn beside_itself(alloc: Global) -> Result<(Exprs, ExprId), Fail>
+    ensures { IfOk result (λ (exprs, id). Holds exprs id) }
+{
+    let mut exprs = Exprs::new(alloc);
+    let x = exprs.name(String::from_str(alloc, "x")?, at(2))?;
+    let again = exprs.name(String::from_str(alloc, "x")?, at(6))?;
+    let one = exprs.int(1, at(10))?;
+    let less = exprs.operation(again, Operator::Minus, one, at(5))?;
+    let pair = exprs.pair(x, less, at(1))?;
+    Ok((exprs, pair))
+}
+
+#[test]
+fn trees_are_read_as_they_were_built(rt: HostRuntime) -> Result<(), Fail> {
+    let alloc = rt.alloc();
+    let (exprs, pair) = beside_itself(alloc)?;
+    assert_eq!(rt; exprs.len(), 5);
+    assert_eq!(rt; exprs.depth(pair), 3);
+    assert_eq!(rt; exprs.spot(pair), at(1));
+    let ExprNode::Pair(x, less) = exprs.node(pair) else {
+        return Err(Fail::new("no pair"));
+    };
+    let ExprNode::Name(name) = exprs.node(x) else {
+        return Err(Fail::new("no name"));
+    };
+    assert_eq!(rt; exprs.name_of(name), "x");
+    assert_eq!(rt; exprs.spot(x), at(2));
+    let ExprNode::Operation(left, Operator::Minus, right) = exprs.node(less) else {
+        return Err(Fail::new("no difference"));
+    };
+    assert_eq!(rt; exprs.spot(left), at(6));
+    assert_eq!(rt; exprs.node(right), ExprNode::Int(1));
+    Ok(())
+}
+
+/// `(a, (b, _))`, whose names stand at the columns 2 and 6.
+fn three_parts(alloc: Global) -> Result<Pat, Fail> {
+    let a = Pat::name(String::from_str(alloc, "a")?, at(2));
+    let b = Pat::name(String::from_str(alloc, "b")?, at(6));
+    Ok(Pat::both(alloc, a, Pat::both(alloc, b, Pat::unnamed())?)?)
+}
+
+#[test]
+fn functions_are_read_as_they_were_built(rt: HostRuntime) -> Result<(), Fail> {
+    let alloc = rt.alloc();
+    let (mut exprs, pair) = beside_itself(alloc)?;
+    let function = exprs.function(three_parts(alloc)?, pair)?;
+    assert_eq!(rt; exprs.len(), 5);
+    assert_eq!(rt; exprs.body(function), pair);
+    assert_eq!(rt; exprs.function_depth(function), 3);
+    let copy = exprs.pattern(function).clone_in(alloc)?;
+    assert_eq!(rt; copy.depth(), 3);
+    let PatForm::Both(first, _) = copy.form() else {
+        return Err(Fail::new("no pair"));
+    };
+    let PatForm::Name(name, spot) = first.form() else {
+        return Err(Fail::new("no name"));
+    };
+    assert_eq!(rt; name.as_str(), "a");
+    assert_eq!(rt; *spot, at(2));
+    Ok(())
+}
+
+/// What an expression without names is worth.
+fn worth(alloc: Global, exprs: &Exprs, id: ExprId) -> Result<Result<Value, EvalFault>, Fail> {
+    let names = TypeScope::new(alloc);
+    type_of(alloc, exprs, id, &names)?;
+    let scope = Scope::new(alloc);
+    Ok(eval(alloc, exprs, id, &scope))
+}
+
+/// What an operator makes of two numbers.
+fn computed(
+    alloc: Global,
+    left: i64,
+    operator: Operator,
+    right: i64,
+) -> Result<Result<i64, EvalFault>, Fail> {
+    let mut exprs = Exprs::new(alloc);
+    let a = exprs.int(left, Spot::NONE)?;
+    let b = exprs.int(right, Spot::NONE)?;
+    let whole = exprs.operation(a, operator, b, Spot::NONE)?;
+    match worth(alloc, &exprs, whole)? {
+        Ok(value) => match value.into_form() {
+            Form::Int(n) => Ok(Ok(n)),
+            Form::Pair(_, _) => Err(Fail::new("a pair")),
+        },
+        Err(fault) => Ok(Err(fault)),
+    }
+}
+
+#[test]
+fn division_rounds_towards_minus_infinity(rt: HostRuntime) -> Result<(), Fail> {
+    let alloc = rt.alloc();
+    let (div, modulo) = (Operator::Divide, Operator::Modulo);
+    assert_eq!(rt; computed(alloc, 7, div, -2)?, Ok(-4));
+    assert_eq!(rt; computed(alloc, 7, modulo, -2)?, Ok(-1));
+    assert_eq!(rt; computed(alloc, -7, div, 2)?, Ok(-4));
+    assert_eq!(rt; computed(alloc, -7, modulo, 2)?, Ok(1));
+    assert_eq!(rt; computed(alloc, -7, div, -2)?, Ok(3));
+    assert_eq!(rt; computed(alloc, -7, modulo, -2)?, Ok(-1));
+    assert_eq!(rt; computed(alloc, i64::MIN, modulo, -1)?, Ok(0));
+    assert_eq!(rt; computed(alloc, 0, div, i64::MIN)?, Ok(0));
+    Ok(())
+}
+
+#[test]
+fn results_outside_64_bits_are_faults(rt: HostRuntime) -> Result<(), Fail> {
+    let alloc = rt.alloc();
+    let overflow = Err(EvalFault::Value(ValueFault::Overflow));
+    let zero = Err(EvalFault::Value(ValueFault::DivideByZero));
+    assert_eq!(rt; computed(alloc, i64::MAX, Operator::Plus, 1)?, overflow);
+    assert_eq!(rt; computed(alloc, -2, Operator::Minus, i64::MAX)?, overflow);
+    assert_eq!(rt;
+        computed(alloc, -1, Operator::Minus, i64::MAX)?,
+        Ok(i64::MIN)
+    );
+    assert_eq!(rt; computed(alloc, i64::MIN, Operator::Times, -1)?, overflow);
+    assert_eq!(rt; computed(alloc, i64::MIN, Operator::Divide, -1)?, overflow);
+    assert_eq!(rt; computed(alloc, 1, Operator::Divide, 0)?, zero);
+    assert_eq!(rt; computed(alloc, 1, Operator::Modulo, 0)?, zero);
+    Ok(())
+}
+
+#[test]
+fn the_first_fault_is_answered(rt: HostRuntime) -> Result<(), Fail> {
+    let alloc = rt.alloc();
+    let mut exprs = Exprs::new(alloc);
+    let one = exprs.int(1, Spot::NONE)?;
+    let nought = exprs.int(0, Spot::NONE)?;
+    let left = exprs.operation(one, Operator::Divide, nought, Spot::NONE)?;
+    let most = exprs.int(i64::MAX, Spot::NONE)?;
+    let two = exprs.int(2, Spot::NONE)?;
+    let right = exprs.operation(most, Operator::Times, two, Spot::NONE)?;
+    let pair = exprs.pair(left, right, Spot::NONE)?;
+    match worth(alloc, &exprs, pair)? {
+        Err(EvalFault::Value(ValueFault::DivideByZero)) => Ok(()),
+        _ => Err(Fail::new("another answer")),
+    }
+}
+
+/// What a function answers to a value of a type.
+fn answered(
+    alloc: Global,
+    exprs: &Exprs,
+    function: FunctionId,
+    from: &Ty,
+    value: &Value,
+) -> Result<Value, Fail> {
+    function_type(alloc, exprs, function, from, Spot::NONE)?;
+    if !has_type(value, from) {
+        return Err(Fail::new("a value of another type"));
+    }
+    Ok(apply(alloc, exprs, function, value)?)
+}
+
+/// A function of a pair: `(a, b) => (a operator b)`.
+fn of_both(alloc: Global, operator: Operator) -> Result<(Exprs, FunctionId), Fail> {
+    let mut exprs = Exprs::new(alloc);
+    let a = exprs.name(String::from_str(alloc, "a")?, at(14))?;
+    let b = exprs.name(String::from_str(alloc, "b")?, at(18))?;
+    let body = exprs.operation(a, operator, b, at(13))?;
+    let first = Pat::name(String::from_str(alloc, "a")?, at(6));
+    let second = Pat::name(String::from_str(alloc, "b")?, at(9));
+    let pattern = Pat::both(alloc, first, second)?;
+    let function = exprs.function(pattern, body)?;
+    Ok((exprs, function))
+}
+
+fn pair_of(alloc: Global, a: i64, b: i64) -> Result<Value, AllocError> {
+    Value::pair(alloc, Value::int(a), Value::int(b))
+}
+
+#[test]
+fn patterns_bind_the_parts(rt: HostRuntime) -> Result<(), Fail> {
+    let alloc = rt.alloc();
+    let (exprs, function) = of_both(alloc, Operator::Minus)?;
+    let numbers = Ty::pair(alloc, Ty::int(), Ty::int())?;
+    let seven_three = pair_of(alloc, 7, 3)?;
+    let four = answered(alloc, &exprs, function, &numbers, &seven_three)?;
+    assert!(rt; same(&four, &Value::int(4)));
+    assert!(rt;
+        same_type(
+            &function_type(alloc, &exprs, function, &numbers, at(1))?,
+            &Ty::int()
+        )
+    );
+    Ok(())
+}
+
+#[test]
+fn pairs_have_values_and_types(rt: HostRuntime) -> Result<(), Fail> {
+    let alloc = rt.alloc();
+    let mut exprs = Exprs::new(alloc);
+    let seven = exprs.int(7, Spot::NONE)?;
+    let least = exprs.int(i64::MIN, Spot::NONE)?;
+    let pair = exprs.pair(seven, least, Spot::NONE)?;
+    let value = worth(alloc, &exprs, pair)??;
+    assert!(rt; same(&value, &pair_of(alloc, 7, i64::MIN)?));
+    let numbers = Ty::pair(alloc, Ty::int(), Ty::int())?;
+    let ty = type_of(alloc, &exprs, pair, &TypeScope::new(alloc))?;
+    assert!(rt; same_type(&ty, &numbers));
+    Ok(())
+}
+
+fn refusal(answer: Result<Ty, TypeRefusal>) -> Option<TypeRefusal> {
+    answer.err()
+}
+
+#[test]
+fn refusals_have_their_places(rt: HostRuntime) -> Result<(), Fail> {
+    let alloc = rt.alloc();
+    let (exprs, function) = of_both(alloc, Operator::Plus)?;
+    let body = exprs.body(function);
+    let none = TypeScope::new(alloc);
+    let unknown = type_of(alloc, &exprs, body, &none);
+    assert_eq!(rt; refusal(unknown), Some(TypeRefusal::UnknownName(at(14))));
+    let number = function_type(alloc, &exprs, function, &Ty::int(), at(1));
+    assert_eq!(rt; refusal(number), Some(TypeRefusal::Mismatch(at(1))));
+    let numbers = Ty::pair(alloc, Ty::int(), Ty::int())?;
+    let nested = Ty::pair(alloc, numbers, Ty::int())?;
+    let deep = function_type(alloc, &exprs, function, &nested, at(1));
+    assert_eq!(rt; refusal(deep), Some(TypeRefusal::Mismatch(at(13))));
+    Ok(())
+}
+
+#[test]
+fn repeated_names_are_refused(rt: HostRuntime) -> Result<(), Fail> {
+    let alloc = rt.alloc();
+    let mut exprs = Exprs::new(alloc);
+    let body = exprs.int(1, at(20))?;
+    let first = Pat::name(String::from_str(alloc, "a")?, at(6));
+    let second = Pat::name(String::from_str(alloc, "a")?, at(9));
+    let pattern = Pat::both(alloc, first, second)?;
+    let function = exprs.function(pattern, body)?;
+    let answer = function_type(alloc, &exprs, function, &Ty::int(), at(1));
+    assert_eq!(rt; refusal(answer), Some(TypeRefusal::DuplicateName(at(9))));
+    Ok(())
+}
+
+#[test]
+fn types_of_more_than_256_are_refused(rt: HostRuntime) -> Result<(), Fail> {
+    let alloc = rt.alloc();
+    let mut exprs = Exprs::new(alloc);
+    let x = exprs.name(String::from_str(alloc, "x")?, at(7))?;
+    let again = exprs.name(String::from_str(alloc, "x")?, at(10))?;
+    let body = exprs.pair(x, again, at(6))?;
+    let function = exprs.function(Pat::name(String::from_str(alloc, "x")?, at(1)), body)?;
+    let mut from = Ty::int();
+    for _ in 0..7 {
+        let copy = from.clone_in(alloc)?;
+        from = Ty::pair(alloc, from, copy)?;
+    }
+    assert_eq!(rt; from.nodes(), 255);
+    let answer = function_type(alloc, &exprs, function, &from, at(1));
+    assert_eq!(rt; refusal(answer), Some(TypeRefusal::TypeTooLarge(at(6))));
     Ok(())
 }
 
 #[test]
 fn copies_are_the_same(rt: HostRuntime) -> Result<(), Fail> {
     let alloc = rt.alloc();
-    let (exprs, first, least, last) = three_numbers(alloc)?;
+    let (mut exprs, pair) = beside_itself(alloc)?;
+    let function = exprs.function(three_parts(alloc)?, pair)?;
     let mut copy = exprs.clone_in(alloc)?;
     let more = copy.int(9, Spot::NONE)?;
-    assert_eq!(rt; exprs.len(), 3);
-    assert_eq!(rt; copy.len(), 4);
-    assert_eq!(rt; copy.node(first), ExprNode::Int(7));
-    assert_eq!(rt; copy.node(least), ExprNode::Int(i64::MIN));
-    assert_eq!(rt; copy.node(last), ExprNode::Int(-1));
+    assert_eq!(rt; exprs.len(), 5);
+    assert_eq!(rt; copy.len(), 6);
+    assert_eq!(rt; copy.node(pair), exprs.node(pair));
+    assert_eq!(rt; copy.spot(pair), at(1));
     assert_eq!(rt; copy.node(more), ExprNode::Int(9));
+    assert_eq!(rt; copy.body(function), pair);
+    assert_eq!(rt; copy.pattern(function).depth(), 3);
     Ok(())
 }
 
 #[test]
 fn errors_become_faults(rt: HostRuntime) {
+    typed_expression();
     assert_eq!(rt;
         EvalFault::from(ValueFault::Overflow),
         EvalFault::Value(ValueFault::Overflow)
@@ -94,6 +388,15 @@ fn errors_become_faults(rt: HostRuntime) {
     assert_eq!(rt;
         EvalFault::from(AllocFailed { value: 1u8 }),
         EvalFault::Memory
+    );
+    assert_eq!(rt; TypeRefusal::from(AllocError), TypeRefusal::Memory);
+    assert_eq!(rt;
+        TypeRefusal::from(AllocFailed { value: 1u8 }),
+        TypeRefusal::Memory
+    );
+    assert_eq!(rt;
+        ExprRefusal::from(AllocFailed { value: 1u8 }),
+        ExprRefusal::Memory
     );
 }
 
@@ -111,11 +414,22 @@ fn errors_are_printed(rt: HostRuntime) -> Result<(), Fail> {
         "too many expressions, too many expressions one inside another, out of memory"
     );
     let faults = format!(in alloc;
-        "{}, {}, {}",
+        "{}, {}",
         EvalFault::Value(ValueFault::Overflow),
-        EvalFault::Memory,
+        EvalFault::Memory
+    )?;
+    assert_eq!(rt; faults.as_str(), "overflow, out of memory");
+    let types = format!(in alloc;
+        "{}, {}, {}, {}, {}",
+        TypeRefusal::UnknownName(at(1)),
+        TypeRefusal::DuplicateName(at(1)),
+        TypeRefusal::Mismatch(at(1)),
+        TypeRefusal::TypeTooLarge(at(1)),
         TypeRefusal::Memory
     )?;
-    assert_eq!(rt; faults.as_str(), "overflow, out of memory, out of memory");
+    assert_eq!(rt;
+        types.as_str(),
+        "unknown name, duplicate name, mismatch of types, type too large, out of memory"
+    );
     Ok(())
 }

@@ -1,28 +1,245 @@
 //! The types of expressions.
-ghost use Rattle.std.specs.Prelude.{◌≡◌, IfOk, IfErr};
-ghost use Rattle.sf_expr.specs.Typing.{HasType, no_names};
-ghost use Rattle.sf_expr.specs.Arena.{expression};
+ghost use Rattle.std.specs.Prelude.{◌≡◌, ◌++◌, [], ◌↔◌, IsTrue, OnOk, IfSome, IfNone, IfErr, Contains};
+ghost use Rattle.sf_value.specs.Values.{int_kind};
+ghost use Rattle.sf_expr.specs.Typing.{Fits, Adds, AllDifferent, type_of_name};
+ghost use Rattle.sf_expr.specs.Expressions.{names_in};
+ghost use Rattle.sf_expr.specs.Arena.{expression, function_at, pattern_at};
+ghost use Rattle.sf_expr.specs.Patterns.{pattern_of};
+ghost use Rattle.sf_expr.specs.Scopes.{names_of, names_seen};
+ghost use Rattle.sf_expr.specs.Refusals.{Types, TypesFunction, Judges, JudgesFunction, BindRefused, RepeatRefused};
+ghost use Rattle.sf_expr.specs.declared.typing.TypeRefusal.TheVariants.{Memory};
 
-use crate::exprs::{ExprId, ExprNode, Exprs};
-use sf_value::Ty;
-use std::alloc::Global;
+use crate::exprs::{ExprId, ExprNode, Exprs, FunctionId};
+use crate::pat::{Pat, PatForm};
+use crate::spot::Spot;
+use sf_value::{Ty, TyForm, TyRefusal};
+use smallvec::SmallVec;
+use std::alloc::{AllocError, AllocFailed, Global};
 use thiserror::Error;
 
-/// Why an expression got no type.
+/// Why an expression or a function got no type, with the place: of the name, or of the first token of the form whose
+/// rule is broken.
 #[derive(Clone, Copy, Debug, PartialEq, Eq, Error)]
 pub enum TypeRefusal {
+    /// A name is not there.
+    #[error("unknown name")]
+    UnknownName(Spot),
+    /// Two names of a pattern are the same; the place is that of the later one.
+    #[error("duplicate name")]
+    DuplicateName(Spot),
+    /// Types do not fit.
+    #[error("mismatch of types")]
+    Mismatch(Spot),
+    /// A type would be made of more than 256 types.
+    #[error("type too large")]
+    TypeTooLarge(Spot),
     /// Memory was wanting.
     #[error("out of memory")]
     Memory,
 }
 
-/// The type of an expression.
-#[tactic(auto, using(crate::proofs::Typed::number_typed))]
-pub fn type_of(_alloc: Global, exprs: &Exprs, id: ExprId) -> Result<Ty, TypeRefusal>
-    ensures ok { IfOk result (λ t. HasType no_names (expression exprs.now id) t) }
-    ensures err { IfErr result (λ e. e ≡ TypeRefusal.Memory) }
+impl From<AllocError> for TypeRefusal {
+    ghost from_gives = { λ _ e. e ≡ Memory };
+
+    fn from(_error: AllocError) -> TypeRefusal {
+        TypeRefusal::Memory
+    }
+}
+
+impl<T: Drop> From<AllocFailed<T>> for TypeRefusal {
+    ghost from_gives = { λ _ e. e ≡ Memory };
+
+    fn from(_error: AllocFailed<T>) -> TypeRefusal {
+        TypeRefusal::Memory
+    }
+}
+
+/// A name with its type.
+#[derive(Clone, Copy)]
+struct TypedName<'a> {
+    name: &'a str,
+    ty: &'a Ty,
+}
+
+/// The names that an expression may use, with their types, the innermost last.
+#[derive(Drop)]
+pub struct TypeScope<'a> {
+    names: SmallVec<Option<TypedName<'a>>, 4>,
+}
+
+impl<'a> TypeScope<'a> {
+    /// No name.
+    #[tactic(auto, using(crate::proofs::Bound::names_empty))]
+    pub fn new(alloc: Global) -> TypeScope<'a>
+        ensures { names_of result ≡ [] }
+    {
+        TypeScope {
+            names: SmallVec::new(alloc),
+        }
+    }
+
+    /// The type of a name; none where it is not there.
+    fn ty(&self, name: &str) -> Option<&'a Ty>
+        ensures found { IfSome result (λ t. type_of_name name.now (names_of self.now) ≡ Some t.now) }
+        ensures absent { IfNone result (type_of_name name.now (names_of self.now) ≡ None) }
+    {
+        let mut rest = self.names.as_slice();
+        while let [before @ .., last] = rest {
+            if let Some(typed) = last
+                && name == typed.name
+            {
+                return Some(typed.ty);
+            }
+            rest = before;
+        }
+        None
+    }
+
+    /// Puts the names of a pattern behind the names that are there, with the types of the parts of a type. Refused with
+    /// `Mismatch` at `at` where the pattern does not fit the type, and with `Memory`; only some of the names may be
+    /// there then.
+    fn bind(&mut self, pattern: &'a Pat, ty: &'a Ty, at: Spot) -> Result<(), TypeRefusal>
+        ensures ok { OnOk result (Adds (pattern_of pattern.now) ty.now (names_of self.old) (names_of self.new)) }
+        ensures err { IfErr result (λ r. BindRefused (pattern_of pattern.now) ty.now at r) }
+        ensures fits { Fits ty.now }
+    {
+        match (pattern.form(), ty.form()) {
+            (PatForm::Unnamed, _) => Ok(()),
+            (PatForm::Name(name, _), _) => {
+                let name = name.as_str();
+                self.names.push(Some(TypedName { name, ty }))?;
+                Ok(())
+            }
+            (PatForm::Both(first, second), TyForm::Pair(left, right)) => {
+                self.bind(first, left, at)?;
+                self.bind(second, right, at)
+            }
+            (PatForm::Both(_, _), TyForm::Int) => Err(TypeRefusal::Mismatch(at)),
+        }
+    }
+}
+
+/// Whether a name was seen.
+fn was_seen(seen: &[&str], name: &str) -> bool
+    ensures { IsTrue result ↔ Contains (names_seen seen.now) name.now }
+{
+    seen.contains(&name)
+}
+
+/// Puts the names of a pattern behind those that were seen. Refused with `DuplicateName` at the first name that was seen
+/// before, and with `Memory`; only some of the names may be there then.
+fn see<'a>(pattern: &'a Pat, seen: &mut SmallVec<&'a str, 4>) -> Result<(), TypeRefusal>
+    requires { AllDifferent (names_seen seen.old.items) }
+    ensures seen { OnOk result (names_seen seen.new.items ≡ names_seen seen.old.items ++ names_in (pattern_of pattern.now)) }
+    ensures apart { OnOk result (AllDifferent (names_seen seen.new.items)) }
+    ensures err { IfErr result (λ r. RepeatRefused (names_seen seen.old.items) pattern.now r) }
+{
+    match pattern.form() {
+        PatForm::Unnamed => {}
+        PatForm::Name(name, spot) => {
+            let name = name.as_str();
+            if was_seen(seen.as_slice(), name) {
+                return Err(TypeRefusal::DuplicateName(*spot));
+            }
+            seen.push(name)?;
+        }
+        PatForm::Both(first, second) => {
+            see(first, seen)?;
+            see(second, seen)?;
+        }
+    }
+    Ok(())
+}
+
+/// Whether two types are that of numbers.
+fn are_numbers(left: &Ty, right: &Ty) -> bool
+    ensures { IsTrue result ↔ (left.now ≡ int_kind) × (right.now ≡ int_kind) }
+{
+    matches!((left.form(), right.form()), (TyForm::Int, TyForm::Int))
+}
+
+/// The type of an expression, or the first refusal, parts first.
+fn judge(alloc: Global, exprs: &Exprs, id: ExprId, names: &TypeScope) -> Result<Ty, TypeRefusal>
+    ensures { Judges exprs.now (names_of names.now) id result }
 {
     match exprs.node(id) {
         ExprNode::Int(_) => Ok(Ty::int()),
+        ExprNode::Name(name) => match names.ty(exprs.name_of(name)) {
+            Some(ty) => {
+                let _nodes = ty.nodes();
+                Ok(ty.clone_in(alloc)?)
+            }
+            None => Err(TypeRefusal::UnknownName(exprs.spot(id))),
+        },
+        ExprNode::Pair(first, second) => {
+            let first = judge(alloc, exprs, first, names)?;
+            let second = judge(alloc, exprs, second, names)?;
+            match Ty::pair(alloc, first, second) {
+                Ok(ty) => Ok(ty),
+                Err(TyRefusal::TypeTooLarge) => Err(TypeRefusal::TypeTooLarge(exprs.spot(id))),
+                Err(TyRefusal::Memory) => Err(TypeRefusal::Memory),
+            }
+        }
+        ExprNode::Operation(left, _, right) => {
+            let left = judge(alloc, exprs, left, names)?;
+            let right = judge(alloc, exprs, right, names)?;
+            if are_numbers(&left, &right) {
+                Ok(Ty::int())
+            } else {
+                Err(TypeRefusal::Mismatch(exprs.spot(id)))
+            }
+        }
     }
+}
+
+/// The type of an expression, where names have these types, or why it has none.
+///
+/// Both operands are typed before a mismatch in either is answered. The place is that of an unknown name, else that of
+/// the first token of the form whose rule is broken.
+#[tactic(auto, using(crate::proofs::Judged::judged_types))]
+pub fn type_of(
+    alloc: Global,
+    exprs: &Exprs,
+    id: ExprId,
+    names: &TypeScope,
+) -> Result<Ty, TypeRefusal>
+    ensures typed { Types (names_of names.now) (expression exprs.now id) result }
+    ensures first { Judges exprs.now (names_of names.now) id result }
+{
+    judge(alloc, exprs, id, names)
+}
+
+/// The type that a function takes values of a type to, or the first refusal.
+fn judge_function(
+    alloc: Global,
+    exprs: &Exprs,
+    function: FunctionId,
+    from: &Ty,
+    at: Spot,
+) -> Result<Ty, TypeRefusal>
+    ensures { JudgesFunction exprs.now [] function from.now at result }
+{
+    let pattern = exprs.pattern(function);
+    see(pattern, &mut SmallVec::new(alloc))?;
+    let mut names = TypeScope::new(alloc);
+    names.bind(pattern, from, at)?;
+    judge(alloc, exprs, exprs.body(function), &names)
+}
+
+/// The type that a function takes values of a type to, where no other names are there, or why there is none.
+///
+/// `DuplicateName` where two names of its pattern are the same, with the place of the later one, then `Mismatch` at `at`
+/// where the pattern does not fit the type, then what its body is refused for.
+#[tactic(auto, using(crate::proofs::Judged::judged_types_function))]
+pub fn function_type(
+    alloc: Global,
+    exprs: &Exprs,
+    function: FunctionId,
+    from: &Ty,
+    at: Spot,
+) -> Result<Ty, TypeRefusal>
+    ensures typed { TypesFunction [] (function_at exprs.now function) from.now result }
+    ensures first { JudgesFunction exprs.now [] function from.now at result }
+{
+    judge_function(alloc, exprs, function, from, at)
 }

@@ -28,18 +28,19 @@ fn command_of(
 ) -> Result<(Option<u64>, Option<i64>), LineRefusal> {
     match read_line(alloc, line, started, &Ty::int())? {
         Command::Nothing => Ok((None, None)),
-        Command::Start(value) => Ok((Some(0), Some(number_of(value)))),
+        Command::Start(value) => Ok((Some(0), number_of(value))),
         Command::Step { dt, input: None } => Ok((Some(dt), None)),
         Command::Step {
             dt,
             input: Some(value),
-        } => Ok((Some(dt), Some(number_of(value)))),
+        } => Ok((Some(dt), number_of(value))),
     }
 }
 
-fn number_of(value: Value) -> i64 {
+fn number_of(value: Value) -> Option<i64> {
     match value.into_form() {
-        Form::Int(n) => n,
+        Form::Int(n) => Some(n),
+        Form::Pair(_, _) => None,
     }
 }
 
@@ -114,6 +115,41 @@ fn lines_are_refused(rt: HostRuntime) {
         command_of(alloc, false, b"0 9223372036854775808"),
         Err(LineRefusal::OutOfRange)
     );
+}
+
+#[test]
+fn pairs_are_read_and_written(rt: HostRuntime) -> Result<(), Fail> {
+    let alloc = rt.alloc();
+    let numbers = Ty::pair(alloc, Ty::int(), Ty::int())?;
+    let ty = Ty::pair(alloc, Ty::int(), numbers)?;
+    let mut out = Vec::new(alloc);
+    match read_line(alloc, b"16 (1,(-2,3))", true, &ty) {
+        Ok(
+            Command::Step {
+                dt,
+                input: Some(value),
+            },
+        ) => write_sample(dt, &value, &mut out)?,
+        _ => return Err(Fail::new("no step with a value")),
+    }
+    assert_eq!(rt; out.as_slice(), b"> 16 (1,(-2,3))\n".as_slice());
+    for line in [
+        b"16 1".as_slice(),
+        b"16 (1,2)",
+        b"16 ((1,2),3)",
+        b"16 (1,(2,3)",
+        b"16 (1,(2,3)))",
+        b"16 (1, (2,3))",
+        b"16 (1,(2,03))",
+    ] {
+        let refusal = read_line(alloc, line, true, &ty).err();
+        assert_eq!(rt; refusal, Some(LineRefusal::BadValue));
+    }
+    assert_eq!(rt;
+        read_line(alloc, b"16 (1,(9223372036854775808,3))", true, &ty).err(),
+        Some(LineRefusal::OutOfRange)
+    );
+    Ok(())
 }
 
 #[test]

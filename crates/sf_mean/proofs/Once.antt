@@ -1,13 +1,13 @@
 -- One outcome at most.
 use Rattle.std.proofs.Common.{◌≡◌, List, ◌∷◌, refl, sym, ap, ◌∙◌, subst}
 use mathlib.Core.Path.{ap₂, subst₂}
-use Rattle.sf_value.specs.Values.{Data}
+use Rattle.sf_value.specs.Values.{Data, first_of}
 use Rattle.sf_value.specs.declared.fault.ValueFault.{ValueFault}
 use Rattle.sf_value.specs.declared.fault.ValueFault.TheVariants.{Overflow}
 use Rattle.sf_expr.specs.Evaluation.{Evaluated, answer, failed}
 use Rattle.sf_term.specs.Trees.{Term}
-use Rattle.sf_mean.specs.Lives.{Step, Life, Process, Environment}
-use Rattle.sf_mean.specs.Meaning.{Network, Outcome, faulted, combined, value_in, Cost, both_costs, over, Made, nothing_made, right_life, join_value, Gives, gives, Outputs, not_begun, and_gave, Sample, of_constants, of_form, Form, of_primitive, of_join, Next, goes_on, stops}
+use Rattle.sf_mean.specs.Lives.{Step, input_of, Life, Process, closure, Environment, fed}
+use Rattle.sf_mean.specs.Meaning.{Network, Outcome, gave, faulted, changed, combined, value_in, Cost, both_costs, over, Made, nothing_made, right_life, join_value, with_side, Gives, gives, Outputs, not_begun, and_gave, Sample, of_constants, of_form, Form, of_primitive, of_join, of_side, of_loop, Next, goes_on, stops, Loops, no_loop, and_looped}
 
 -- two outcomes are one, at one cost
 abbrev pub Same : Outcome → Outcome → Cost → Cost → Type 0
@@ -46,7 +46,20 @@ module _ (n : Network) where
         let N : Outcome → List Data → Type 0 = λ q l. Next n q g e (right_life j (s ∷ L) (value_in q ∷ l)) b d in
         let e3 = once_next C (subst₂ N (sym e2.0) (sym e1) C') in
         (ap₂ (combined (join_value j)) e2.0 e3.0, ap₂ (λ x y. over (both_costs x y)) e2.1 e3.1)
+    once_form (of_side {d = d} {s = s} A) (of_side B) = let q = once A B in (ap (changed (with_side d (input_of s))) q.0, ap over q.1)
+    once_form (of_loop {t = t} {e = e} {v = v} {s = s} {L = L} A B) (of_loop {o = b} {c = d} A' B') =
+        let N : List Data → Type 0 = λ zs. Gives n (closure t e) (fed v (s ∷ L) zs) b d in
+        let q = once B (subst N (sym (once_loops A A')) B') in
+        (ap (changed first_of) q.0, ap over q.1)
 
     pub once_next : {q : Outcome} {t : Term} {e : Environment} {L : Life} {a b : Outcome} {c d : Cost} → Next n q t e L a c → Next n q t e L b d → Same a b c d
     once_next (goes_on A) (goes_on B) = once A B
     once_next stops stops = (refl, refl)
+
+    pub once_loops : {v : Data} {P : Process} {L : Life} {ys zs : List Data} → Loops n v P L ys → Loops n v P L zs → ys ≡ zs
+    once_loops no_loop no_loop = refl
+    once_loops (and_looped {v = v} {P = P} {s = s} {L = L} A B) (and_looped {z = z} {r = r} {c = d} A' B') =
+        let N : List Data → Type 0 = λ zs. Gives n P (fed v (s ∷ L) zs) (gave z r) d in
+        let e1 = once_loops A A' in
+        let q = once B (subst N (sym e1) B') in
+        ap₂ (λ y ys. y ∷ ys) (ap value_in q.0) e1

@@ -1,12 +1,12 @@
 -- What primitives give, by formulas over their whole life.
 use Rattle.std.specs.Prelude.{[], ◌∷◌}
 use Rattle.sf_value.specs.Values.{Data}
-use Rattle.sf_expr.specs.Evaluation.{Evaluated, answer, ◌>>=◌, Scope, eval}
+use Rattle.sf_expr.specs.Evaluation.{Evaluated, answer, ◌>>=◌, Scope, eval, apply}
 use Rattle.sf_term.specs.declared.form.Bare.{Bare}
 use Rattle.sf_term.specs.declared.form.Bare.TheVariants.{Identity}
 use Rattle.sf_term.specs.declared.form.WithValue.{WithValue}
 use Rattle.sf_term.specs.declared.form.WithValue.TheVariants.{Constant, InitialPre}
-use Rattle.sf_term.specs.Trees.{Primitive, bare, with_value}
+use Rattle.sf_term.specs.Trees.{Primitive, bare, with_value, arrow}
 use Rattle.sf_mean.specs.Lives.{Step, input_of, Life}
 
 -- In all of these, s is the newest step and L the steps before it.
@@ -29,3 +29,4 @@ value_formula InitialPre v s L = before v L
 abbrev pub formula : Primitive → Scope → Step → Life → Evaluated Data
 formula (bare k) scope s L = bare_formula k s L
 formula (with_value k e) scope s L = eval e scope >>= λ v. answer (value_formula k v s L)
+formula (arrow f) scope s L = apply f (input_of s) scope

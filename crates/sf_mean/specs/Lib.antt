@@ -3,3 +3,4 @@ pub mod Formulas
 pub mod Meaning
 pub mod Networks
 pub mod Typing
+pub mod Soundness

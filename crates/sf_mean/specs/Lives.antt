@@ -1,6 +1,6 @@
 -- Lives and processes.
 use Rattle.std.specs.Prelude.{ℕ, ◌+◌, ◌≤◌, List, [], ◌∷◌, ⊤}
-use Rattle.sf_value.specs.Values.{Data}
+use Rattle.sf_value.specs.Values.{Data, pair, second_of}
 use Rattle.sf_term.specs.Trees.{Term}
 use Rattle.sf_expr.specs.Evaluation.{Scope, no_names}
 
@@ -49,6 +49,11 @@ pub data Process : Type 0 where
 abbrev pub scope_of : Environment → Scope
 scope_of empty = no_names
 
+-- the same times, with another input made of each
+abbrev pub with_inputs : (Data → Data) → Life → Life
+with_inputs f [] = []
+with_inputs f (s ∷ L) = step (wait_of s) (f (input_of s)) ∷ with_inputs f L
+
 -- the same times, with these inputs
 abbrev pub relay : Life → List Data → Life
 relay [] ys = []
@@ -59,3 +64,18 @@ relay (s ∷ L) (y ∷ ys) = step (wait_of s) y ∷ relay L ys
 abbrev pub first_input : Step → Life → Data
 first_input s [] = input_of s
 first_input s (r ∷ L) = first_input r L
+
+-- what a part is fed with next, where it gave the values zs: the second part of the newest, or v before the first
+abbrev pub fed_back : Data → List Data → Data
+fed_back v [] = v
+fed_back v (z ∷ zs) = second_of z
+
+-- the values without the newest
+abbrev pub older : List Data → List Data
+older [] = []
+older (z ∷ zs) = zs
+
+-- each input beside the second part of the value before, or beside v at the first step
+abbrev pub fed : Data → Life → List Data → Life
+fed v [] zs = []
+fed v (s ∷ L) zs = step (wait_of s) (pair (input_of s) (fed_back v zs)) ∷ fed v L (older zs)

@@ -1,12 +1,17 @@
 -- What processes give on lives, and at what cost.
 use Rattle.std.specs.Prelude.{◌≡◌, ℕ, suc, ◌+◌, ◌<◌, max, List, [], ◌∷◌, ◌++◌, pos, ◌⊎◌}
-use Rattle.sf_value.specs.Values.{Name, Data, number}
+use Rattle.sf_value.specs.Values.{Name, Data, number, pair, first_of, second_of}
 use Rattle.sf_value.specs.declared.fault.ValueFault.{ValueFault}
-use Rattle.sf_expr.specs.Evaluation.{Evaluated, answer, failed}
+use Rattle.sf_expr.specs.Expressions.{Expression}
+use Rattle.sf_expr.specs.Evaluation.{Evaluated, answer, failed, ◌>>=◌, eval}
 use Rattle.sf_term.specs.declared.form.Join.{Join}
-use Rattle.sf_term.specs.declared.form.Join.TheVariants.{InSequence}
-use Rattle.sf_term.specs.Trees.{Primitive, Term, primitive, joined, Templates}
-use Rattle.sf_mean.specs.Lives.{Step, input_of, Life, Process, closure, Environment, scope_of, relay, first_input as input_at_first}
+use Rattle.sf_term.specs.declared.form.Join.TheVariants.{InSequence, InParallel, FannedOut}
+use Rattle.sf_term.specs.declared.form.Side.{Side}
+use Rattle.sf_term.specs.declared.form.Side.TheVariants.{First, Second}
+use Rattle.sf_term.specs.declared.form.Heading.{Heading}
+use Rattle.sf_term.specs.declared.form.Heading.TheVariants.{LoopPre}
+use Rattle.sf_term.specs.Trees.{Primitive, Term, primitive, joined, sided, headed, Templates}
+use Rattle.sf_mean.specs.Lives.{Step, input_of, Life, Process, closure, Environment, scope_of, with_inputs, relay, fed, first_input as input_at_first}
 use Rattle.sf_mean.specs.Formulas.{formula}
 
 -- A network: its templates. What its stored functions answer will stand beside them.
@@ -23,6 +28,11 @@ Readings = List (Name × Data)
 pub data Outcome : Type 0 where
   gave : Data → Readings → Outcome
   faulted : ValueFault → Outcome
+
+-- an outcome with another value
+abbrev pub changed : (Data → Data) → Outcome → Outcome
+changed f (gave y r) = gave (f y) r
+changed f (faulted x) = faulted x
 
 -- the outcome of two parts, the first before the second: the first fault, or a value made of both with the readings of both
 abbrev pub combined : (Data → Data → Data) → Outcome → Outcome → Outcome
@@ -70,26 +80,48 @@ one_term = over no_cost
 abbrev pub text_cost : Term → Cost
 text_cost (primitive p) = one_term
 text_cost (joined j f g) = over (both_costs (text_cost f) (text_cost g))
+text_cost (sided d t) = over (text_cost t)
+text_cost (headed h e t) = over (text_cost t)
 
--- What a form's constants give.
+-- What a form's constants give: nothing, or a value.
 pub data Made : Type 0 where
   nothing_made : Made
+  value_made : Data → Made
 
 -- What stands before a form's parts, evaluated at its first step. A primitive's constants are in its formula.
 abbrev pub make : Network → Term → Environment → Data → Evaluated Made
-make n t e x = answer nothing_made
+make n (primitive p) e x = answer nothing_made
+make n (joined j f g) e x = answer nothing_made
+make n (sided d t) e x = answer nothing_made
+make n (headed h i t) e x = eval i (scope_of e) >>= λ v. answer (value_made v)
 
 -- what the left part of a join lives
 abbrev pub left_life : Join → Life → Life
 left_life InSequence L = L
+left_life InParallel L = with_inputs first_of L
+left_life FannedOut L = L
 
 -- what the right part lives, where the left one gave the values ys
 abbrev pub right_life : Join → Life → List Data → Life
 right_life InSequence L ys = relay L ys
+right_life InParallel L ys = with_inputs second_of L
+right_life FannedOut L ys = L
 
 -- the value of a join, from those of its parts
 abbrev pub join_value : Join → Data → Data → Data
 join_value InSequence y z = z
+join_value InParallel y z = pair y z
+join_value FannedOut y z = pair y z
+
+-- the side of the input that the part is given
+abbrev pub side_of : Side → Data → Data
+side_of First x = first_of x
+side_of Second x = second_of x
+
+-- the input with the part's value on its side
+abbrev pub with_side : Side → Data → Data → Data
+with_side First x y = pair y (second_of x)
+with_side Second x y = pair (first_of x) y
 
 -- ## The meaning
 
@@ -127,6 +159,15 @@ mutual
         → Gives n (closure f e) (left_life j (s ∷ L)) o c
         → Next n o g e (right_life j (s ∷ L) (value_in o ∷ ys)) o' c'
         → Form n (joined j f g) e m s L (combined (join_value j) o o') (over (both_costs c c'))
+    -- one side goes through the part, the other is passed
+    of_side : {d : Side} {t : Term} {e : Environment} {m : Made} {s : Step} {L : Life} {o : Outcome} {c : Cost}
+        → Gives n (closure t e) (with_inputs (side_of d) (s ∷ L)) o c
+        → Form n (sided d t) e m s L (changed (with_side d (input_of s)) o) (over c)
+    -- `loopPre`: the second part of the output is the second part of the input one step later
+    of_loop : {i : Expression} {t : Term} {e : Environment} {v : Data} {s : Step} {L : Life} {zs : List Data} {o : Outcome} {c : Cost}
+        → Loops n v (closure t e) L zs
+        → Gives n (closure t e) (fed v (s ∷ L) zs) o c
+        → Form n (headed LoopPre i t) e (value_made v) s L (changed first_of o) (over c)
 
   -- The part that stands next. After a fault it isn't stepped, and the terms in its text count.
   pub data Next (n : Network) : Outcome → Term → Environment → Life → Outcome → Cost → Type 0 where
@@ -135,3 +176,11 @@ mutual
         → Next n (gave y r) t e L o c
     stops : {t : Term} {e : Environment} {L : Life} {x : ValueFault}
         → Next n (faulted x) t e L (faulted x) (text_cost t)
+
+  -- The values of a part that is fed with the second parts of its own values, and at first with v.
+  pub data Loops (n : Network) : Data → Process → Life → List Data → Type 0 where
+    no_loop : {v : Data} {P : Process} → Loops n v P [] []
+    and_looped : {v : Data} {P : Process} {s : Step} {L : Life} {z : Data} {r : Readings} {zs : List Data} {c : Cost}
+        → Loops n v P L zs
+        → Gives n P (fed v (s ∷ L) zs) (gave z r) c
+        → Loops n v P (s ∷ L) (z ∷ zs)

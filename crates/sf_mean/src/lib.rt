@@ -3,4 +3,4 @@
 
 mod laws;
 
-pub use laws::{one_outcome, prefix_law};
+pub use laws::{one_outcome, prefix_law, typed_process};

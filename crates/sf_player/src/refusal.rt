@@ -49,11 +49,17 @@ impl Display for NetRefusal {
     fn fmt<W: Write>(&self, f: &mut Formatter<W>) -> fmt::Result {
         match self {
             NetRefusal::Text(refusal) => write!(f, "{refusal}"),
+            NetRefusal::Check(CheckRefusal::UnknownName(spot)) => {
+                write!(f, "C1 UnknownName {}:{}", spot.line, spot.column)
+            }
             NetRefusal::Check(CheckRefusal::DuplicateName(spot)) => {
                 write!(f, "C2 DuplicateName {}:{}", spot.line, spot.column)
             }
             NetRefusal::Check(CheckRefusal::Mismatch(spot)) => {
                 write!(f, "C4 Mismatch {}:{}", spot.line, spot.column)
+            }
+            NetRefusal::Check(CheckRefusal::TypeTooLarge(spot)) => {
+                write!(f, "C9 TypeTooLarge {}:{}", spot.line, spot.column)
             }
             NetRefusal::Check(CheckRefusal::NoMain) => write!(f, "C7 NoMain 1:1"),
             NetRefusal::Check(CheckRefusal::Memory) | NetRefusal::Memory => write!(f, "Memory"),

@@ -1,6 +1,9 @@
 use super::{Counted, NetRefusal, Options, PlayEnd, one_script, play, prefix_law};
 use sf_check::CheckRefusal;
 use sf_expr::Spot;
+use sf_lex::Place;
+use sf_text::TextRefusal;
+use std::alloc::Global;
 use std::io::{self, Error, ErrorKind, Read, Write};
 use std::test::Fail;
 
@@ -182,13 +185,104 @@ fn refused_networks(rt: HostRuntime) -> Result<(), Fail> {
     Ok(())
 }
 
+/// The text of a network of one term.
+fn network_of(alloc: Global, types: &str, term: &str) -> Result<String, Fail> {
+    Ok(format!(in alloc; "network 1;\ntemplate main() : {types} = {term};\n")?)
+}
+
+#[test]
+fn played_terms(rt: HostRuntime) -> Result<(), Fail> {
+    let both = "(arr x => (1 div x) &&& arr x => (x - 9223372036854775807))";
+    let in_turn =
+        "((identity *** arr x => (1 div x)) >>> (arr x => (x * 9223372036854775807) *** identity))";
+    let rows = [
+        ("Int ~> (Int, Int)", both, "0 0\n", "! 0 DivideByZero\n"),
+        ("Int ~> (Int, Int)", both, "0 -2\n", "! 0 Overflow\n"),
+        (
+            "(Int, Int) ~> (Int, Int)",
+            in_turn,
+            "0 (2,0)\n",
+            "! 0 DivideByZero\n",
+        ),
+        (
+            "(Int, Int) ~> (Int, Int)",
+            in_turn,
+            "0 (2,1)\n",
+            "! 0 Overflow\n",
+        ),
+        (
+            "Int ~> (Int, Int)",
+            "arr x => ((x div -2), (x mod -2))",
+            "0 7\n",
+            "> 0 (-4,-1)\n",
+        ),
+        (
+            "Int ~> Int",
+            "loopPre(0, arr (x, s) => ((x + s), (x + s)))",
+            "0 1\n1 2\n1 3\n",
+            "> 0 1\n> 1 3\n> 2 6\n",
+        ),
+    ];
+    for (types, term, input, output) in rows {
+        let net = network_of(rt.alloc(), types, term)?;
+        let run = played(&rt, net.as_bytes(), input.as_bytes(), 5);
+        assert_eq!(rt; run.text.as_slice(), output.as_bytes());
+    }
+    Ok(())
+}
+
+/// How a refused network of one term is displayed.
+fn refusal_of(rt: &HostRuntime, types: &str, term: &str) -> Result<String, Fail> {
+    let net = network_of(rt.alloc(), types, term)?;
+    match played(rt, net.as_bytes(), b"0 1\n", 7).end {
+        PlayEnd::Network(refusal) => Ok(format!(in rt.alloc(); "{refusal}")?),
+        _ => Err(Fail::new("not refused")),
+    }
+}
+
+#[test]
+fn unknown_names(rt: HostRuntime) -> Result<(), Fail> {
+    let refusal = refusal_of(&rt, "Int ~> Int", "arr x => y")?;
+    assert_eq!(rt; refusal.as_str(), "C1 UnknownName 2:41");
+    Ok(())
+}
+
+#[test]
+fn large_types(rt: HostRuntime) -> Result<(), Fail> {
+    let alloc = rt.alloc();
+    let mut ty = String::from_str(alloc, "Int")?;
+    let mut term = String::from_str(alloc, "identity")?;
+    for _ in 0..8 {
+        ty = format!(in alloc; "({ty}, {ty})")?;
+        term = format!(in alloc; "({term} >>> (identity &&& identity))")?;
+    }
+    let types = format!(in alloc; "{ty} ~> Int")?;
+    let refusal = refusal_of(&rt, types.as_str(), "constant 0")?;
+    assert_eq!(rt; refusal.as_str(), "P4 TypeTooLarge 2:19");
+    let refusal = refusal_of(&rt, "Int ~> Int", term.as_str())?;
+    assert_eq!(rt; refusal.as_str(), "C9 TypeTooLarge 2:256");
+    Ok(())
+}
+
 #[test]
 fn displayed(rt: HostRuntime) -> Result<(), Fail> {
     let spot = Spot {
         line: 3,
         column: 10,
     };
+    let place = Place {
+        line: 3,
+        column: 10,
+    };
     let cases = [
+        (
+            NetRefusal::Text(TextRefusal::TypeTooLarge(place)),
+            "P4 TypeTooLarge 3:10",
+        ),
+        (
+            NetRefusal::Check(CheckRefusal::UnknownName(spot)),
+            "C1 UnknownName 3:10",
+        ),
         (
             NetRefusal::Check(CheckRefusal::DuplicateName(spot)),
             "C2 DuplicateName 3:10",
@@ -198,6 +292,10 @@ fn displayed(rt: HostRuntime) -> Result<(), Fail> {
             "C4 Mismatch 3:10",
         ),
         (NetRefusal::Check(CheckRefusal::NoMain), "C7 NoMain 1:1"),
+        (
+            NetRefusal::Check(CheckRefusal::TypeTooLarge(spot)),
+            "C9 TypeTooLarge 3:10",
+        ),
         (NetRefusal::Memory, "Memory"),
     ];
     for (refusal, text) in cases {

@@ -1,1 +1,2 @@
 pub mod Primitives
+pub mod Tested

@@ -1,52 +1,65 @@
+ghost use Rattle.sf_value.specs.Values.{int_kind};
+ghost use Rattle.sf_mean.specs.Typing.{PrimitiveTakes};
+ghost use Rattle.sf_prim.specs.Keeping.{primitive_over};
+
 use crate::prim_state::PrimState;
-use sf_expr::Spot;
-use sf_term::{Bare, Node, Program, TermId, WithValue};
+use sf_expr::{Pat, Spot};
+use sf_term::{Bare, Primitive, Program, WithValue};
 use sf_value::{Value, same};
 use std::alloc::Global;
 use std::test::Fail;
 
-/// A primitive term, before its first sample.
-fn born(alloc: Global, program: &Program, term: TermId) -> Result<PrimState, Fail> {
-    match program.node(term) {
-        Node::Primitive(primitive) => match PrimState::born(alloc, program, primitive) {
-            Ok(prim) => Ok(prim),
-            Err(_) => Err(Fail::new("no state")),
-        },
-        Node::Joined(_, _, _) => Err(Fail::new("no primitive")),
-    }
-}
-
-/// Whether the inputs 1, 2 and 3 give these values.
-fn gives(alloc: Global, prim: &mut PrimState, values: [i64; 3]) -> Result<bool, Fail> {
-    let mut input = 1;
-    for expected in values {
-        match prim.step(alloc, 1000, Value::int(input)) {
-            Ok(value) => {
-                if !same(&value, &Value::int(expected)) {
-                    return Ok(false);
-                }
-            }
-            Err(_) => return Err(Fail::new("no value")),
-        }
-        input = if input == 1 { 2 } else { 3 };
-    }
-    Ok(true)
+/// Whether a primitive on numbers gives these values to the inputs 1 and 2.
+fn gives(
+    alloc: Global,
+    program: &Program,
+    primitive: Primitive,
+    values: (i64, i64),
+) -> Result<bool, Fail>
+    requires { ∥ PrimitiveTakes (primitive_over program.now primitive) int_kind int_kind ∥₁ }
+{
+    let mut prim = PrimState::born(alloc, program, primitive)?;
+    let first = prim.step(program, alloc, 1000, Value::int(1))?;
+    let second = prim.step(program, alloc, 1000, Value::int(2))?;
+    Ok(same(&first, &Value::int(values.0)) && same(&second, &Value::int(values.1)))
 }
 
 #[test]
-fn primitives_give_their_values(rt: HostRuntime) -> Result<(), Fail> {
+fn identity_gives_its_inputs(rt: HostRuntime) -> Result<(), Fail> {
+    let alloc = rt.alloc();
+    let program = Program::new(alloc);
+    let identity = Primitive::Bare(Bare::Identity);
+    assert!(rt; gives(alloc, &program, identity, (1, 2))?);
+    Ok(())
+}
+
+#[test]
+fn a_constant_gives_its_value(rt: HostRuntime) -> Result<(), Fail> {
     let alloc = rt.alloc();
     let mut program = Program::new(alloc);
-    let same = program.bare(Bare::Identity, Spot::NONE)?;
     let seven = program.int(7, Spot::NONE)?;
-    let always = program.with_value(WithValue::Constant, seven, Spot::NONE)?;
+    let constant = Primitive::WithValue(WithValue::Constant, seven);
+    assert!(rt; gives(alloc, &program, constant, (7, 7))?);
+    Ok(())
+}
+
+#[test]
+fn a_previous_value_is_given(rt: HostRuntime) -> Result<(), Fail> {
+    let alloc = rt.alloc();
+    let mut program = Program::new(alloc);
     let eight = program.int(8, Spot::NONE)?;
-    let before = program.with_value(WithValue::InitialPre, eight, Spot::NONE)?;
-    let mut prim = born(alloc, &program, same)?;
-    assert!(rt; gives(alloc, &mut prim, [1, 2, 3])?);
-    let mut prim = born(alloc, &program, always)?;
-    assert!(rt; gives(alloc, &mut prim, [7, 7, 7])?);
-    let mut prim = born(alloc, &program, before)?;
-    assert!(rt; gives(alloc, &mut prim, [8, 1, 2])?);
+    let previous = Primitive::WithValue(WithValue::InitialPre, eight);
+    assert!(rt; gives(alloc, &program, previous, (8, 1))?);
+    Ok(())
+}
+
+#[test]
+fn an_arrow_gives_what_its_function_answers(rt: HostRuntime) -> Result<(), Fail> {
+    let alloc = rt.alloc();
+    let mut program = Program::new(alloc);
+    let nine = program.int(9, Spot::NONE)?;
+    let function = program.function(Pat::unnamed(), nine)?;
+    let arrow = Primitive::Arrow(function);
+    assert!(rt; gives(alloc, &program, arrow, (9, 9))?);
     Ok(())
 }

@@ -7,6 +7,7 @@ ghost use Rattle.sf_state.specs.Standing.{Stands, IsNames};
 
 use sf_prim::PrimState;
 use sf_term::{Join, TermId};
+use sf_value::Value;
 use std::alloc::{AllocError, Global};
 
 /// A part of a network, before its first sample or after it.
@@ -27,6 +28,19 @@ pub enum Live {
     Prim(PrimState),
     /// Two parts joined, the left one first.
     Join(Join, Box<State>, Box<State>),
+    /// A form with one part.
+    Wrap(Wrap, Box<State>),
+}
+
+/// A form with one part, with what it keeps.
+#[derive(Drop)]
+pub enum Wrap {
+    /// `first`.
+    First,
+    /// `second`.
+    Second,
+    /// `loopPre`, with the value that its part is fed with next, beside the input.
+    Loop(Value),
 }
 
 /// What can be run.

@@ -3,31 +3,41 @@ use Rattle.std.proofs.Common.{◌≡◌, ℕ, ◌≤◌, List, [], ◌∷◌, re
 use Rattle.sf_value.specs.Values.{Data}
 use Rattle.sf_expr.specs.Evaluation.{Evaluated, answer, failed as no_answer}
 use Rattle.sf_term.specs.declared.form.Join.{Join}
-use Rattle.sf_term.specs.declared.form.Join.TheVariants.{InSequence}
-use Rattle.sf_term.specs.Trees.{Term, primitive, joined}
-use Rattle.sf_mean.specs.Lives.{Step, step, Life, Process, closure, Environment, first_input}
-use Rattle.sf_mean.specs.Meaning.{Network, Readings, Outcome, gave, faulted, combined, value_in, Cost, count, height, both_costs, text_cost, Made, make, left_life, right_life, join_value, Gives, gives, Outputs, and_gave, Sample, of_constants, of_form, Form, of_primitive, of_join, Next, goes_on, stops}
-use Rattle.sf_mean.proofs.Once.{once, onces}
-use Rattle.sf_step.specs.Routing.{left_input, right_input}
+use Rattle.sf_term.specs.declared.form.Join.TheVariants.{InSequence, InParallel, FannedOut}
+use Rattle.sf_term.specs.Trees.{Term, primitive, joined, sided, headed}
+use Rattle.sf_mean.specs.Lives.{Step, step, Life, Process, closure, Environment, first_input, fed}
+use Rattle.sf_mean.specs.Meaning.{Network, Readings, Outcome, gave, faulted, combined, value_in, Cost, count, height, both_costs, text_cost, Made, make, left_life, right_life, join_value, Gives, gives, Outputs, and_gave, Sample, of_constants, of_form, Form, of_primitive, of_join, of_side, of_loop, Next, goes_on, stops, and_looped}
+use Rattle.sf_mean.proofs.Once.{once, onces, once_loops}
+use Rattle.sf_state.specs.declared.state.Wrap.{Wrap}
+use Rattle.sf_state.specs.Standing.{Wraps, wraps_first, wraps_second, wraps_loop}
+use Rattle.sf_step.specs.Routing.{left_input, right_input, part_input, wrap_value, kept_after}
 use Rattle.sf_step.specs.Sampling.{Rel}
-use Rattle.sf_step.proofs.Parts.{Single, single, Over, counted, Then, then_on, then_stop, Alike}
+use Rattle.sf_step.proofs.Parts.{Single, single, Over, counted, Then, then_on, then_stop, Changed, with_change, Alike}
 
 -- ## Joins
 
 -- the left part's step, before its life
 pub left_and : (j : Join) (d : ℕ) (x : Data) (L : Life) → step d (left_input j x) ∷ left_life j L ≡ left_life j (step d x ∷ L)
 left_and InSequence d x L = refl
+left_and InParallel d x L = refl
+left_and FannedOut d x L = refl
 
 -- the right part's step, before its life
 pub right_and : (j : Join) (d : ℕ) (x y : Data) (L : Life) (ys : List Data) → step d (right_input j x y) ∷ right_life j L ys ≡ right_life j (step d x ∷ L) (y ∷ ys)
 right_and InSequence d x y L ys = refl
+right_and InParallel d x y L ys = refl
+right_and FannedOut d x y L ys = refl
 
 -- before the first step
 pub left_none : (j : Join) → left_life j [] ≡ []
 left_none InSequence = refl
+left_none InParallel = refl
+left_none FannedOut = refl
 
 pub right_none : (j : Join) → right_life j [] [] ≡ []
 right_none InSequence = refl
+right_none InParallel = refl
+right_none FannedOut = refl
 
 abbrev made_in : Made → Evaluated Made → Made
 made_in m (answer n) = n
@@ -74,15 +84,49 @@ module _ (n : Network) where
     pub join_alike : Alike (JoinRel j f g e s L ys) (Form n (joined j f g) e m s L)
     join_alike = record { to = join_to; back = join_back }
 
+  -- ## Forms with one part
+
+  -- a form with one part is its part, with another value
+  abbrev pub WrapRel : Wrap → Term → Environment → ℕ → Data → Life → Rel
+  WrapRel w u e d x K = Over (Changed (wrap_value w x) (Gives n (closure u e) (step d (part_input w x) ∷ K)))
+
+  wrap_to : {w : Wrap} {t u : Term} {e : Environment} {m : Made} {L K : Life} (d : ℕ) (x : Data) → Wraps n w t e m L u K
+      → (o : Outcome) (k : Cost) → WrapRel w u e d x K o k → Form n t e m (step d x) L o k
+  wrap_to d x wraps_first o k (counted (with_change G)) = of_side G
+  wrap_to d x wraps_second o k (counted (with_change G)) = of_side G
+  wrap_to d x (wraps_loop O) o k (counted (with_change G)) = of_loop O G
+
+  wrap_back : {w : Wrap} {t u : Term} {e : Environment} {m : Made} {L K : Life} (d : ℕ) (x : Data) → Wraps n w t e m L u K
+      → (o : Outcome) (k : Cost) → Form n t e m (step d x) L o k → WrapRel w u e d x K o k
+  wrap_back d x wraps_first o k (of_side G) = counted (with_change G)
+  wrap_back d x wraps_second o k (of_side G) = counted (with_change G)
+  wrap_back d x (wraps_loop {t = t} {e = e} {v = v} {L = L} O) o k (of_loop {o = q} {c = c} O' G) =
+      counted (with_change (subst (λ (zs : List Data). Gives n (closure t e) (fed v (step d x ∷ L) zs) q c) (once_loops n O' O) G))
+
+  pub wrap_alike : {w : Wrap} {t u : Term} {e : Environment} {m : Made} {L K : Life} (d : ℕ) (x : Data) → Wraps n w t e m L u K
+      → Alike (WrapRel w u e d x K) (Form n t e m (step d x) L)
+  wrap_alike d x W = record { to = wrap_to d x W; back = wrap_back d x W }
+
+  -- what is kept after a value
+  pub wraps_on : {w : Wrap} {t u : Term} {e : Environment} {m : Made} {L K : Life} (d : ℕ) (x : Data) {y : Data} {r : Readings} {c : Cost} → Wraps n w t e m L u K
+      → Gives n (closure u e) (step d (part_input w x) ∷ K) (gave y r) c → Wraps n (kept_after w y) t e m (step d x ∷ L) u (step d (part_input w x) ∷ K)
+  wraps_on d x wraps_first G = wraps_first
+  wraps_on d x wraps_second G = wraps_second
+  wraps_on d x (wraps_loop O) G = wraps_loop (and_looped O G)
+
   -- ## Each outcome costs a term
 
   form_counts : {t : Term} {e : Environment} {m : Made} {s : Step} {L : Life} {o : Outcome} {k : Cost} → Form n t e m s L o k → (1 ≤ count k) × (1 ≤ height k)
   form_counts (of_primitive h) = (omega arith, omega arith)
   form_counts (of_join O G N) = (omega arith, omega arith)
+  form_counts (of_side G) = (omega arith, omega arith)
+  form_counts (of_loop O G) = (omega arith, omega arith)
 
   pub text_counts : (t : Term) → (1 ≤ count (text_cost t)) × (1 ≤ height (text_cost t))
   text_counts (primitive p) = (omega arith, omega arith)
   text_counts (joined j f g) = (omega arith, omega arith)
+  text_counts (sided d t) = (omega arith, omega arith)
+  text_counts (headed h i t) = (omega arith, omega arith)
 
   sample_counts : {P : Process} {s : Step} {L : Life} {o : Outcome} {k : Cost} → Sample n P s L o k → (1 ≤ count k) × (1 ≤ height k)
   sample_counts (of_constants {t = t} h) = text_counts t

@@ -1,3 +1,6 @@
 pub mod Parts
 pub mod Forms
 pub mod Exits
+pub mod Typed
+pub mod Routes
+pub mod Tested

@@ -5,7 +5,7 @@ use Rattle.sf_value.specs.Values.{Data}
 use Rattle.sf_value.specs.declared.fault.ValueFault.{ValueFault}
 use Rattle.sf_value.specs.declared.fault.Fault.{Fault}
 use Rattle.sf_value.specs.declared.fault.Fault.TheVariants.{Memory}
-use Rattle.sf_mean.specs.Meaning.{Readings, Outcome, gave, faulted, combined, value_in, Cost, count, height, no_cost, both_costs, over}
+use Rattle.sf_mean.specs.Meaning.{Readings, Outcome, gave, faulted, changed, combined, value_in, Cost, count, height, no_cost, both_costs, over}
 use Rattle.sf_step.specs.declared.meter.Meter.{Meter}
 use Rattle.sf_step.specs.Meters.{entered_of}
 use Rattle.sf_step.specs.Sampling.{Rel, Ticks, readings, Spent, Fails, faults, large, memory, Answers, answers, fails}
@@ -22,6 +22,10 @@ pub data Over (R : Rel) : Outcome → Cost → Type 0 where
 pub data Then (R : Rel) (f : Data → Data → Data) (stop : Cost) (S : Data → Rel) : Outcome → Cost → Type 0 where
   then_on : {y : Data} {r : Readings} {o : Outcome} {k l : Cost} → R (gave y r) k → S y o l → Then R f stop S (combined f (gave y r) o) (both_costs k l)
   then_stop : {x : ValueFault} {k : Cost} → R (faulted x) k → Then R f stop S (faulted x) (both_costs k stop)
+
+-- a part, with a value made of its value
+pub data Changed (f : Data → Data) (R : Rel) : Outcome → Cost → Type 0 where
+  with_change : {o : Outcome} {k : Cost} → R o k → Changed f R (changed f o) k
 
 -- the two relations have the same outcomes
 pub record Alike (R S : Rel) : Type 0 where
@@ -63,6 +67,15 @@ over_fails {R} {f} {m} {n} {n'} {depth} {inside} t (large h) = large go
     go : (o : Outcome) (k : Cost) → Over R o k → entered_of m + count k ≤ 100000 → depth + height k ≤ 800 → ⊥
     go o k (counted G) a b = h _ _ G (let c = t.entered in omega arith) (let c = t.below in omega arith)
 over_fails t memory = memory
+
+-- a part fails, and there is no value to change
+pub change_fails : {R : Rel} {g : Data → Data} {f : Fault} {m n : Meter} {depth : ℕ} → Fails R f m n depth → Fails (Changed g R) f m n depth
+change_fails (faults G e h) = faults (with_change G) e h
+change_fails {R} {g} {f} {m} {n} {depth} (large h) = large go
+  where
+    go : (o : Outcome) (k : Cost) → Changed g R o k → entered_of m + count k ≤ 100000 → depth + height k ≤ 800 → ⊥
+    go o k (with_change G) a b = h _ _ G a b
+change_fails memory = memory
 
 -- the first part fails
 pub then_fails : {R : Rel} {g : Data → Data → Data} {stop : Cost} {S : Data → Rel} {f : Fault} {m n : Meter} {depth : ℕ} → Fails R f m n depth → Fails (Then R g stop S) f m n depth

@@ -1,24 +1,64 @@
--- What the parts of a join take at one step.
-use Rattle.sf_value.specs.Values.{Data}
+-- What the parts of a form take at one step, and what its value is made of.
+use Rattle.sf_value.specs.Values.{Data, pair, first_of, second_of}
 use Rattle.sf_term.specs.declared.form.Join.{Join}
-use Rattle.sf_term.specs.declared.form.Join.TheVariants.{InSequence}
+use Rattle.sf_term.specs.declared.form.Join.TheVariants.{InSequence, InParallel, FannedOut}
+use Rattle.sf_state.specs.declared.state.Wrap.{Wrap}
+use Rattle.sf_state.specs.declared.state.Wrap.TheVariants.{First, Second, Loop}
 use Rattle.sf_step.specs.declared.routing.Route.{Route}
-use Rattle.sf_step.specs.declared.routing.Route.TheVariants.{Output}
+use Rattle.sf_step.specs.declared.routing.Route.TheVariants.{Output, Input}
 use Rattle.sf_step.specs.declared.routing.Saved.{Saved}
-use Rattle.sf_step.specs.declared.routing.Saved.TheVariants.{Nothing}
+use Rattle.sf_step.specs.declared.routing.Saved.TheVariants.{Nothing, Left}
+use Rattle.sf_step.specs.declared.routing.Passed.{Passed}
+use Rattle.sf_step.specs.declared.routing.Passed.TheVariants.{OnFirst, OnSecond, Fed}
+
+-- ## Joins
 
 -- the left part's input, from the join's
 abbrev pub left_input : Join → Data → Data
 left_input InSequence x = x
+left_input InParallel x = first_of x
+left_input FannedOut x = x
 
 -- the right part's input, from the join's and the left part's output
 abbrev pub right_input : Join → Data → Data → Data
 right_input InSequence x y = y
+right_input InParallel x y = second_of x
+right_input FannedOut x y = x
 
 -- where the right part's input comes from, at a join's input
 pub data Routes : Join → Data → Route → Type 0 where
   routes_output : {x : Data} → Routes InSequence x Output
+  routes_second : {x : Data} → Routes InParallel x (Input (second_of x))
+  routes_input : {x : Data} → Routes FannedOut x (Input x)
 
 -- what stands in a join's value beside the right part's output, at the left part's output
 pub data Saves : Join → Data → Saved → Type 0 where
   saves_nothing : {y : Data} → Saves InSequence y Nothing
+  saves_in_parallel : {y : Data} → Saves InParallel y (Left y)
+  saves_fanned_out : {y : Data} → Saves FannedOut y (Left y)
+
+-- ## Forms with one part
+
+-- the part's input, from the form's
+abbrev pub part_input : Wrap → Data → Data
+part_input First x = first_of x
+part_input Second x = second_of x
+part_input (Loop v) x = pair x v
+
+-- the form's value, from its input and the part's output
+abbrev pub wrap_value : Wrap → Data → Data → Data
+wrap_value First x y = pair y (second_of x)
+wrap_value Second x y = pair (first_of x) y
+wrap_value (Loop v) x y = first_of y
+
+-- what the form keeps, after the part's output
+abbrev pub kept_after : Wrap → Data → Wrap
+kept_after First y = First
+kept_after Second y = Second
+kept_after (Loop v) y = Loop (second_of y)
+
+-- what goes past the part, at the form's input
+pub data Passes : Wrap → Data → Passed → Type 0 where
+  passes_second : {x : Data} → Passes First x (OnSecond (second_of x))
+  passes_first : {x : Data} → Passes Second x (OnFirst (first_of x))
+  passes_nothing : {v x : Data} → Passes (Loop v) x Fed

@@ -1,6 +1,6 @@
 -- What the parts of a sample answer.
 use Rattle.std.specs.Prelude.{◌≡◌, ℕ, ◌+◌, ◌≤◌, max, [], ◌∷◌, ◌++◌, ◌⊎◌, Result, Ok, Err}
-use Rattle.sf_value.specs.Values.{Data}
+use Rattle.sf_value.specs.Values.{Kind, Data, HasKind}
 use Rattle.sf_value.specs.declared.fault.ValueFault.{ValueFault}
 use Rattle.sf_value.specs.declared.fault.Fault.{Fault}
 use Rattle.sf_value.specs.declared.fault.Fault.TheVariants.{Value, Large, Memory}
@@ -8,9 +8,11 @@ use Rattle.sf_expr.specs.declared.fault.EvalFault.{EvalFault}
 use Rattle.sf_expr.specs.declared.fault.EvalFault.TheVariants.{Value as EValue, Memory as EMemory}
 use Rattle.sf_term.specs.declared.program.Program.{Program}
 use Rattle.sf_term.specs.Trees.{Term}
-use Rattle.sf_mean.specs.Lives.{Step, Life, Process, closure, Environment, first_input}
+use Rattle.sf_mean.specs.Lives.{Step, input_of, Life, Process, closure, Environment, first_input}
 use Rattle.sf_mean.specs.Meaning.{Readings, Outcome, gave, faulted, Cost, count, height, text_cost, Gives}
 use Rattle.sf_mean.specs.Networks.{network_of}
+use Rattle.sf_mean.specs.Typing.{Takes}
+use Rattle.sf_mean.specs.Soundness.{LifeHas, ProcessTakes}
 use Rattle.sf_state.specs.declared.state.State.{State}
 use Rattle.sf_state.specs.declared.state.Live.{Live}
 use Rattle.sf_state.specs.declared.state.Process.{Process as SProcess}
@@ -84,3 +86,19 @@ pub data Opens (p : Program) (t : Term) (e : Environment) : Result Live Fault �
   opens : {l : Live} → ((x : Data) → Ready p l (closure t e) x []) → Opens p t e (Ok l)
   opens_with_fault : {x : ValueFault} → ((s : Step) → Gives (network_of p) (closure t e) (s ∷ []) (faulted x) (text_cost t)) → Opens p t e (Err (Value x))
   opens_without_memory : Opens p t e (Err Memory)
+
+-- ## Types
+
+-- A term has types.
+pub data HasTypes (t : Term) : Type 0 where
+  has_types : {a b : Kind} → Takes t a b → HasTypes t
+
+-- An input has the type of a process's inputs.
+pub data IsFirstFed (p : Program) (q : SProcess) (x : Data) : Type 0 where
+  is_first_fed : {P : Process} {a b : Kind}
+      → IsProcess p q P → ProcessTakes P a b → HasKind x a → IsFirstFed p q x
+
+-- A step's input has the type of the inputs before it.
+pub data IsLiveFed (p : Program) (l : Live) (s : Step) : Type 0 where
+  is_live_fed : {P : Process} {L : Life} {a b : Kind}
+      → Ready p l P (first_input s L) L → ProcessTakes P a b → LifeHas L a → HasKind (input_of s) a → IsLiveFed p l s

@@ -1,6 +1,6 @@
 -- What one sample answers.
 use Rattle.std.specs.Prelude.{◌≡◌, ◌≤◌, [], Result, Ok, Err}
-use Rattle.sf_value.specs.Values.{Data}
+use Rattle.sf_value.specs.Values.{Kind, Data, HasKind}
 use Rattle.sf_value.specs.declared.fault.ValueFault.{ValueFault}
 use Rattle.sf_value.specs.declared.fault.Fault.{Fault}
 use Rattle.sf_value.specs.declared.fault.Fault.TheVariants.{Value, Large, Memory}
@@ -8,10 +8,16 @@ use Rattle.sf_term.specs.declared.program.Program.{Program}
 use Rattle.sf_mean.specs.Lives.{Life, Process}
 use Rattle.sf_mean.specs.Meaning.{Outcome, gave, faulted, Cost, count, height, Gives}
 use Rattle.sf_mean.specs.Networks.{network_of}
+use Rattle.sf_mean.specs.Soundness.{LifeHas, ProcessTakes}
 use Rattle.sf_state.specs.declared.state.State.{State}
 use Rattle.sf_state.specs.Standing.{Stands}
 use Rattle.sf_step.specs.declared.meter.Meter.{Meter}
 use Rattle.sf_step.specs.Meters.{entered_of, height_of}
+
+-- An input has the type of the inputs before it: the state stands for a process that takes them.
+pub data IsFed (p : Program) (a : State) (x : Data) : Type 0 where
+  is_fed : {P : Process} {L : Life} {t u : Kind}
+      → Stands p a P L → ProcessTakes P t u → LifeHas L t → HasKind x t → IsFed p a x
 
 -- A sample answers what P gives on L. The new state stands for P on L, and the meter counted exactly the meaning's terms;
 -- at a fault it counted no more. Large is answered only where P gives nothing within the numbers of nodes that are allowed.

@@ -1,12 +1,19 @@
-//! What the parts of joins live.
-ghost use Rattle.std.specs.Prelude.{◌≡◌, IfOk};
-ghost use Rattle.sf_value.specs.Values.{Data};
+//! What the parts of forms take, and what values are made of.
+ghost use Rattle.std.specs.Prelude.{◌≡◌, [], IfOk};
+ghost use Rattle.sf_value.specs.Values.{Data, first_of, second_of};
+ghost use Rattle.sf_expr.specs.Expressions.{Expression};
 ghost use Rattle.sf_term.specs.declared.form.Join.{Join as JoinOf};
-ghost use Rattle.sf_mean.specs.Meaning.{join_value};
+ghost use Rattle.sf_term.specs.Trees.{Term, sided, headed};
+ghost use Rattle.sf_mean.specs.Lives.{Environment};
+ghost use Rattle.sf_mean.specs.Meaning.{Network, Made, value_made, join_value};
+ghost use Rattle.sf_state.specs.declared.state.Wrap.{Wrap as WrapOf};
+ghost use Rattle.sf_state.specs.Standing.{Wraps};
 ghost use Rattle.sf_step.specs.Routing.{left_input as left_of, right_input as right_of, Routes, Saves};
+ghost use Rattle.sf_step.specs.Routing.{part_input as part_of, wrap_value as wrapped, kept_after, Passes};
 
-use sf_term::Join;
-use sf_value::Value;
+use sf_state::Wrap;
+use sf_term::{Heading, Join, Side};
+use sf_value::{Form, Value};
 use std::alloc::{AllocError, Global};
 
 /// Where the right part's input comes from.
@@ -14,24 +21,58 @@ use std::alloc::{AllocError, Global};
 pub(crate) enum Route {
     /// The left part's output.
     Output,
+    /// The join's input.
+    Input(Value),
 }
 
 /// What the value is made of, beside the right part's output.
 #[derive(Drop)]
 pub(crate) enum Saved {
     Nothing,
+    /// The left part's output, which stands before it.
+    Left(Value),
+}
+
+/// What goes past the part of a form.
+#[derive(Drop)]
+pub(crate) enum Passed {
+    /// The first half of the input.
+    OnFirst(Value),
+    /// The second half of the input.
+    OnSecond(Value),
+    /// Nothing: the part's output feeds it at the next step.
+    Fed,
+}
+
+/// The two parts of a pair. What is no pair stands for both.
+fn halves(value: Value) -> (Value, Value)
+    ensures { (result.0 ≡ first_of value) × (result.1 ≡ second_of value) }
+{
+    match value.into_form() {
+        Form::Int(n) => (Value::int(n), Value::int(n)),
+        Form::Pair(first, second) => (Box::into_inner(first), Box::into_inner(second)),
+    }
 }
 
 /// The left part's input, and where the right part's will come from.
+#[tactic(auto, using(crate::specs::Routing::routes_output, crate::specs::Routing::routes_second, crate::specs::Routing::routes_input))]
 pub(crate) fn left_input(
     join: Join,
     input: Value,
-    _alloc: Global,
+    alloc: Global,
 ) -> Result<(Value, Route), AllocError>
     ensures { IfOk result (λ r. (r.0 ≡ left_of join input) × Routes join input r.1) }
 {
     match join {
         Join::InSequence => Ok((input, Route::Output)),
+        Join::InParallel => {
+            let (first, second) = halves(input);
+            Ok((first, Route::Input(second)))
+        }
+        Join::FannedOut => {
+            let copy = input.clone_in(alloc)?;
+            Ok((copy, Route::Input(input)))
+        }
     }
 }
 
@@ -43,14 +84,86 @@ pub(crate) fn right_input(route: Route, output: Value) -> (Value, Saved)
 {
     match route {
         Route::Output => (output, Saved::Nothing),
+        Route::Input(input) => (input, Saved::Left(output)),
     }
 }
 
 /// The value, from the right part's output.
-pub(crate) fn joined_value(saved: Saved, output: Value, _alloc: Global) -> Result<Value, AllocError>
+pub(crate) fn joined_value(saved: Saved, output: Value, alloc: Global) -> Result<Value, AllocError>
     ensures { IfOk result (λ v. (j : JoinOf) (y : Data) → Saves j y saved → v ≡ join_value j y output) }
 {
     match saved {
         Saved::Nothing => Ok(output),
+        Saved::Left(left) => Value::pair(alloc, left, output),
+    }
+}
+
+/// A part on one side of a pair, before its first step.
+pub(crate) fn on_side(side: Side) -> Wrap
+    ensures { (n : Network) (t : Term) (e : Environment) (m : Made) → Wraps n result (sided side t) e m [] t [] }
+{
+    match side {
+        Side::First => Wrap::First,
+        Side::Second => Wrap::Second,
+    }
+}
+
+/// A part with a value at its head, before its first step.
+pub(crate) fn with_head(heading: Heading, value: Value) -> Wrap
+    ensures { (n : Network) (i : Expression) (t : Term) (e : Environment) →
+        Wraps n result (headed heading i t) e (value_made value) [] t [] }
+{
+    match heading {
+        Heading::LoopPre => Wrap::Loop(value),
+    }
+}
+
+/// The part's input, and what goes past the part.
+#[tactic(auto, using(crate::specs::Routing::passes_second, crate::specs::Routing::passes_first, crate::specs::Routing::passes_nothing))]
+pub(crate) fn part_input(
+    wrap: Wrap,
+    input: Value,
+    alloc: Global,
+) -> Result<(Value, Passed), AllocError>
+    ensures { IfOk result (λ r. (r.0 ≡ part_of wrap input) × Passes wrap input r.1) }
+{
+    match wrap {
+        Wrap::First => {
+            let (first, second) = halves(input);
+            Ok((first, Passed::OnSecond(second)))
+        }
+        Wrap::Second => {
+            let (first, second) = halves(input);
+            Ok((second, Passed::OnFirst(first)))
+        }
+        Wrap::Loop(next) => {
+            let both = Value::pair(alloc, input, next)?;
+            Ok((both, Passed::Fed))
+        }
+    }
+}
+
+/// What the form keeps, and its value, from the part's output.
+pub(crate) fn wrap_value(
+    passed: Passed,
+    output: Value,
+    alloc: Global,
+) -> Result<(Wrap, Value), AllocError>
+    ensures { IfOk result (λ r. (w : WrapOf) (x : Data) → Passes w x passed →
+        (r.0 ≡ kept_after w output) × (r.1 ≡ wrapped w x output)) }
+{
+    match passed {
+        Passed::OnFirst(first) => {
+            let value = Value::pair(alloc, first, output)?;
+            Ok((Wrap::Second, value))
+        }
+        Passed::OnSecond(second) => {
+            let value = Value::pair(alloc, output, second)?;
+            Ok((Wrap::First, value))
+        }
+        Passed::Fed => {
+            let (value, next) = halves(output);
+            Ok((Wrap::Loop(next), value))
+        }
     }
 }

@@ -5,38 +5,46 @@ use Rattle.std.proofs.lemmas.List.{length-append, map-append, get_or_past}
 use Rattle.std.proofs.lemmas.Bool.{cases_lt}
 use Rattle.sf_expr.specs.declared.spot.Spot.{Spot}
 use Rattle.sf_expr.specs.declared.exprs.ExprId.{ExprId}
+use Rattle.sf_expr.specs.declared.exprs.FunctionId.{FunctionId}
 use Rattle.sf_expr.specs.declared.exprs.Exprs.{Exprs}
+use Rattle.sf_expr.specs.Patterns.{PlacedPattern}
 use Rattle.sf_expr.specs.Expressions.{Expression}
-use Rattle.sf_expr.specs.Arena.{expression, count_of, Holds, spot_at as value_spot_at, Keeps as KeepsExpressions, Adds as AddsToExpressions, IsUnchanged as ExpressionsUnchanged}
-use Rattle.sf_expr.proofs.Entered.{below_holds, holds_below, few_expressions, adds_keeps as expressions_kept, unchanged_keeps as unchanged_expressions_kept}
+use Rattle.sf_expr.specs.Arena.{expression, count_of, function_count, Holds, HoldsFunction as HoldsFunctionIn, function_at, pattern_at as pattern_at_in, body_at as body_at_in, spot_at as value_spot_at, Keeps as KeepsExpressions, Adds as AddsToExpressions, AddsFunction as AddsFunctionIn, IsUnchanged as ExpressionsUnchanged}
+use Rattle.sf_expr.proofs.Entered.{below_holds, holds_below, below_function, function_below, few_expressions, adds_keeps as expressions_kept, unchanged_keeps as unchanged_expressions_kept}
 use Rattle.sf_term.specs.declared.node.TermId.{TermId}
 use Rattle.sf_term.specs.declared.node.Primitive.TheVariants as primitives
 use Rattle.sf_term.specs.declared.node.Node.{Node}
 use Rattle.sf_term.specs.declared.node.Node.TheVariants as nodes
 use Rattle.sf_term.specs.declared.node.Entry.{Entry}
 use Rattle.sf_term.specs.declared.program.Program.{Program}
-use Rattle.sf_term.specs.Trees.{Term, Template, primitive, joined, bare, with_value, depth}
+use Rattle.sf_term.specs.Trees.{Term, Template, primitive, joined, sided, headed, bare, with_value, arrow, depth}
 use Rattle.sf_term.specs.Headers.{Header, bodies_end}
-use Rattle.sf_term.specs.Entries.{made_over, needs, needs_expressions, identity_entry, entry_at, terms, term_at}
-use Rattle.sf_term.specs.Arena.{id_number, expressions_of, term_count, expression_count, HoldsTerm, HoldsExpression, tree, expression_at, entry_of, spot_at, expression_spot_at, made_in, headers_of, template_in, Builds, builds_bare, builds_with_value, builds_joined, PartsBelow, HoldsParts, KeepsTrees, Keeps, AddsTerm, AddsExpression, AddsTemplate, IsUnchanged}
+use Rattle.sf_term.specs.Entries.{made_over, needs, needs_expressions, needs_functions, identity_entry, entry_at, terms, term_at}
+use Rattle.sf_term.specs.Arena.{id_number, expressions_of, term_count, expression_count, HoldsTerm, HoldsExpression, HoldsFunction, pattern_at, body_at, function_in, tree, expression_at, entry_of, spot_at, expression_spot_at, made_in, headers_of, template_in, Builds, builds_bare, builds_with_value, builds_arrow, builds_joined, builds_sided, builds_headed, PartsBelow, HoldsParts, KeepsTrees, Keeps, AddsTerm, AddsExpression, AddsFunction, AddsTemplate, IsUnchanged}
 use Rattle.sf_term.proofs.Entered.{term-other, term-pushed, entry-other, entry-pushed, term-built, term-same}
 
 -- what a node needs is there where its parts are held
-pub parts_needed : (p : Program) (n : Node) → HoldsParts p n → (needs n ≤ length p.terms.items) × (needs_expressions n ≤ count_of p.expressions)
-unfolding HoldsTerm HoldsExpression
-parts_needed p (nodes.Primitive (primitives.Bare k)) h = (omega arith, omega arith)
-parts_needed p (nodes.Primitive (primitives.WithValue k e)) h = (omega arith, omega (arith, holds_below p.expressions e h))
-parts_needed p (nodes.Joined j a b) h = (omega arith, omega arith)
+pub parts_needed : (p : Program) (n : Node) → HoldsParts p n → (needs n ≤ length p.terms.items) × (needs_expressions n ≤ count_of p.expressions) × (needs_functions n ≤ function_count p.expressions)
+unfolding HoldsTerm HoldsExpression HoldsFunction
+parts_needed p (nodes.Primitive (primitives.Bare k)) h = (omega arith, omega arith, omega arith)
+parts_needed p (nodes.Primitive (primitives.WithValue k e)) h = (omega arith, omega (arith, holds_below p.expressions e h), omega arith)
+parts_needed p (nodes.Primitive (primitives.Arrow f)) h = (omega arith, omega arith, omega (arith, function_below p.expressions f h))
+parts_needed p (nodes.Joined j a b) h = (omega arith, omega arith, omega arith)
+parts_needed p (nodes.Sided d a) h = (omega arith, omega arith, omega arith)
+parts_needed p (nodes.Headed q e a) h = (omega arith, omega (arith, holds_below p.expressions e h.0), omega arith)
 
 -- a node stands for the term at its id
 pub builds : (p : Program) (t : TermId) → Builds p (entry_of p t).node (tree p t)
-unfolding entry_of tree expression_at term_at
+unfolding entry_of tree expression_at pattern_at body_at term_at
 builds p t = subst (λ u. Builds p (entry_at p.terms.items t.0).node u) (sym (term-built p.expressions p.terms.items t.0 p.arena)) (of_node (entry_at p.terms.items t.0).node)
   where
     of_node : (n : Node) → Builds p n (made_over p.expressions (terms p.expressions p.terms.items) n)
     of_node (nodes.Primitive (primitives.Bare k)) = builds_bare
     of_node (nodes.Primitive (primitives.WithValue k e)) = builds_with_value
+    of_node (nodes.Primitive (primitives.Arrow f)) = builds_arrow
     of_node (nodes.Joined j a b) = builds_joined
+    of_node (nodes.Sided d a) = builds_sided
+    of_node (nodes.Headed h e a) = builds_headed
 
 -- the parts of a node stand before it
 pub parts_below : (p : Program) (t : TermId) → PartsBelow (entry_of p t).node (id_number t)
@@ -46,6 +54,8 @@ parts_below p t = of_node (entry_at p.terms.items t.0).node (p.arena.in_order t.
     of_node : (n : Node) → needs n ≤ t.0 → PartsBelow n t.0
     of_node (nodes.Primitive q) h = tt
     of_node (nodes.Joined j a b) h = (omega arith, omega arith)
+    of_node (nodes.Sided d a) h = omega arith
+    of_node (nodes.Headed q e a) h = omega arith
 
 -- the templates are the same where the trees are
 templates-same : (old new : Program) (hs : List Header) → bodies_end hs ≤ length old.terms.items → KeepsTrees old new → map (template_in new) hs ≡ map (template_in old) hs
@@ -64,7 +74,7 @@ keeps_of old new k e = record {
 
 -- the trees stay where an entry is put behind
 pushed_keeps : (old new : Program) (entry : Entry) → new.expressions ≡ old.expressions → new.terms.items ≡ old.terms.items ++ entry ∷ [] → KeepsTrees old new
-unfolding HoldsTerm HoldsExpression tree spot_at expression_at expression_spot_at
+unfolding HoldsTerm HoldsExpression HoldsFunction tree spot_at expression_at expression_spot_at pattern_at body_at
 pushed_keeps old new entry same grown = record {
   terms = λ t h. omega (arith, ap length grown, length-append old.terms.items (entry ∷ []));
   trees = λ t h.
@@ -74,6 +84,10 @@ pushed_keeps old new entry same grown = record {
   expressions = λ e h. subst (λ x. Holds x e) (sym same) h;
   values = λ e h. ap (λ x. expression x e) same;
   value_spots = λ e h. ap (λ x. value_spot_at x e) same;
+  functions = λ f h. subst (λ x. HoldsFunctionIn x f) (sym same) h;
+  patterns = λ f h. ap (λ x. pattern_at_in x f) same;
+  bodies = λ f h. ap (λ x. body_at_in x f) same;
+  meanings = λ f h. ap (λ x. function_at x f) same;
 }
 
 -- an entry put behind adds its term
@@ -94,14 +108,18 @@ adds_pushed old new entry id same grown headers at measured shallow = record {
 
 -- the trees stay where the expressions grow
 grown_keeps : (old new : Program) → KeepsExpressions old.expressions new.expressions → new.terms.items ≡ old.terms.items → KeepsTrees old new
-unfolding HoldsTerm HoldsExpression tree spot_at expression_at expression_spot_at
+unfolding HoldsTerm HoldsExpression HoldsFunction tree spot_at expression_at expression_spot_at pattern_at body_at
 grown_keeps old new k e = record {
   terms = λ t h. omega (arith, ap length e);
-  trees = λ t h. ap (λ es. term_at new.expressions es t.0) e ∙ term-same old.expressions new.expressions old.terms.items t.0 k old.arena.closed;
+  trees = λ t h. ap (λ es. term_at new.expressions es t.0) e ∙ term-same old.expressions new.expressions old.terms.items t.0 k old.arena.closed old.arena.functions_closed;
   spots = λ t h. ap (λ es. (entry_at es t.0).spot) e;
   expressions = λ x h. k.holds x h;
   values = λ x h. k.trees x h;
   value_spots = λ x h. k.spots x h;
+  functions = λ f h. k.functions f h;
+  patterns = λ f h. k.patterns f h;
+  bodies = λ f h. k.bodies f h;
+  meanings = λ f h. k.meanings f h;
 }
 
 -- what is added to the expressions is added to the program
@@ -116,9 +134,22 @@ adds_expression old new id e s a same headers = record {
   expression_counted = a.count;
 }
 
+-- a function that is added to the expressions is added to the program
+pub adds_function : (old new : Program) (f : FunctionId) (q : PlacedPattern) (b : ExprId) → AddsFunctionIn old.expressions new.expressions f q b → new.terms.items ≡ old.terms.items → headers_of new ≡ headers_of old → AddsFunction old new f q b
+unfolding HoldsFunction expression_at pattern_at body_at term_count expression_count
+adds_function old new f q b a same headers = record {
+  within = a.within;
+  pattern = a.pattern;
+  body = a.body;
+  is = a.is;
+  kept = keeps_of old new (grown_keeps old new a.kept same) headers;
+  term_counted = ap length same;
+  expression_counted = a.count;
+}
+
 -- the same expressions are kept
 same_kept : (x y : Exprs) → y ≡ x → KeepsExpressions x y
-same_kept x y e = subst (λ z. KeepsExpressions x z) (sym e) (record { holds = λ i h. h; trees = λ i h. refl; spots = λ i h. refl })
+same_kept x y e = subst (λ z. KeepsExpressions x z) (sym e) (record { holds = λ i h. h; trees = λ i h. refl; spots = λ i h. refl; functions = λ f h. h; patterns = λ f h. refl; bodies = λ f h. refl; meanings = λ f h. refl })
 
 pub bodies_end-append : (hs : List Header) (h : Header) → bodies_end (hs ++ h ∷ []) ≡ max (bodies_end hs) (suc h.body.0)
 bodies_end-append [] h = omega arith
@@ -148,19 +179,22 @@ adds_template old new h same terms headers held = record {
 
 -- what shows the same
 pub unchanged : (old new : Program) → ExpressionsUnchanged old.expressions new.expressions → new.terms.items ≡ old.terms.items → headers_of new ≡ headers_of old → IsUnchanged old new
-unfolding term_count expression_count tree spot_at expression_at expression_spot_at
+unfolding term_count expression_count tree spot_at expression_at expression_spot_at HoldsFunction pattern_at body_at
 unchanged old new x terms headers = record {
   term_counted = ap length terms;
   expression_counted = x.count;
-  trees = λ t. ap (λ es. term_at new.expressions es t.0) terms ∙ term-same old.expressions new.expressions old.terms.items t.0 (unchanged_expressions_kept old.expressions new.expressions x) old.arena.closed;
+  trees = λ t. ap (λ es. term_at new.expressions es t.0) terms ∙ term-same old.expressions new.expressions old.terms.items t.0 (unchanged_expressions_kept old.expressions new.expressions x) old.arena.closed old.arena.functions_closed;
   spots = λ t. ap (λ es. (entry_at es t.0).spot) terms;
   values = λ e. x.trees e;
   value_spots = λ e. x.spots e;
+  holds_functions = λ f h. below_function new.expressions f (omega (arith, function_below old.expressions f h, x.functions));
+  patterns = λ f. x.patterns f;
+  bodies = λ f. x.bodies f;
   headers = headers;
 }
 
 pub same_expressions : (x : Exprs) → ExpressionsUnchanged x x
-same_expressions x = record { count = refl; trees = λ i. refl; spots = λ i. refl }
+same_expressions x = record { count = refl; functions = refl; trees = λ i. refl; spots = λ i. refl; patterns = λ f. refl; bodies = λ f. refl }
 
 -- an unchanged program keeps what it held
 pub unchanged_keeps : (old new : Program) → IsUnchanged old new → Keeps old new
@@ -172,6 +206,10 @@ unchanged_keeps old new u = keeps_of old new (record {
   expressions = λ e h. below_holds new.expressions e (omega (arith, holds_below old.expressions e h, u.expression_counted));
   values = λ e h. u.values e;
   value_spots = λ e h. u.value_spots e;
+  functions = λ f h. u.holds_functions f h;
+  patterns = λ f h. u.patterns f;
+  bodies = λ f h. u.bodies f;
+  meanings = λ f h. rw (u.patterns f, u.bodies f, u.values (body_at old f)) refl;
 }) u.headers
 
 pub keeps_trees_trans : (a b c : Program) → KeepsTrees a b → KeepsTrees b c → KeepsTrees a c
@@ -182,6 +220,10 @@ keeps_trees_trans a b c f g = record {
   expressions = λ e h. g.expressions e (f.expressions e h);
   values = λ e h. g.values e (f.expressions e h) ∙ f.values e h;
   value_spots = λ e h. g.value_spots e (f.expressions e h) ∙ f.value_spots e h;
+  functions = λ i h. g.functions i (f.functions i h);
+  patterns = λ i h. g.patterns i (f.functions i h) ∙ f.patterns i h;
+  bodies = λ i h. g.bodies i (f.functions i h) ∙ f.bodies i h;
+  meanings = λ i h. g.meanings i (f.functions i h) ∙ f.meanings i h;
 }
 
 pub keeps_trans : (a b c : Program) → Keeps a b → Keeps b c → Keeps a c
@@ -221,17 +263,22 @@ below_count_holds p t h = h
 
 -- the parts of a node are held
 pub parts_held : (p : Program) (t : TermId) → HoldsParts p (entry_of p t).node
-unfolding entry_of HoldsTerm HoldsExpression
-parts_held p t = of_node (entry_at p.terms.items t.0).node (p.arena.in_order t.0) (p.arena.closed t.0) within
+unfolding entry_of HoldsTerm HoldsExpression HoldsFunction
+parts_held p t = of_node (entry_at p.terms.items t.0).node (p.arena.in_order t.0) (p.arena.closed t.0) (p.arena.functions_closed t.0) within
   where
     within : (needs (entry_at p.terms.items t.0).node ≡ 0) ⊎ (t.0 < length p.terms.items)
     within = elim (cases_lt t.0 (length p.terms.items)) [ inl h ↦ inr h | inr h ↦ inl (ap (λ (n : Entry). needs n.node) (get_or_past p.terms.items t.0 identity_entry h)) ]
 
-    of_node : (n : Node) → needs n ≤ t.0 → needs_expressions n ≤ count_of p.expressions → (needs n ≡ 0) ⊎ (t.0 < length p.terms.items) → HoldsParts p n
-    of_node (nodes.Primitive (primitives.Bare k)) b x w = tt
-    of_node (nodes.Primitive (primitives.WithValue k e)) b x w = below_holds p.expressions e (omega arith)
-    of_node (nodes.Joined j a c) b x (inl z) = absurd (omega arith)
-    of_node (nodes.Joined j a c) b x (inr h) = (omega arith, omega arith)
+    of_node : (n : Node) → needs n ≤ t.0 → needs_expressions n ≤ count_of p.expressions → needs_functions n ≤ function_count p.expressions → (needs n ≡ 0) ⊎ (t.0 < length p.terms.items) → HoldsParts p n
+    of_node (nodes.Primitive (primitives.Bare k)) b x f w = tt
+    of_node (nodes.Primitive (primitives.WithValue k e)) b x f w = below_holds p.expressions e (omega arith)
+    of_node (nodes.Primitive (primitives.Arrow g)) b x f w = below_function p.expressions g (omega arith)
+    of_node (nodes.Joined j a c) b x f (inl z) = absurd (omega arith)
+    of_node (nodes.Joined j a c) b x f (inr h) = (omega arith, omega arith)
+    of_node (nodes.Sided d a) b x f (inl z) = absurd (omega arith)
+    of_node (nodes.Sided d a) b x f (inr h) = omega arith
+    of_node (nodes.Headed q e a) b x f (inl z) = absurd (omega arith)
+    of_node (nodes.Headed q e a) b x f (inr h) = (below_holds p.expressions e (omega arith), omega arith)
 
 bodies_within : (p : Program) (hs : List Header) → bodies_end hs ≤ length p.terms.items → (k : ℕ) (d : Header) → k < length hs → HoldsTerm p (get_or hs k d).body
 unfolding HoldsTerm
@@ -251,8 +298,17 @@ is_bare builds_bare = refl
 pub is_with_value : {p : Program} {k : _} {e : ExprId} {t : Term} → Builds p (nodes.Primitive (primitives.WithValue k e)) t → t ≡ primitive (with_value k (expression_at p e))
 is_with_value builds_with_value = refl
 
+pub is_arrow : {p : Program} {f : FunctionId} {t : Term} → Builds p (nodes.Primitive (primitives.Arrow f)) t → t ≡ primitive (arrow (function_in p f))
+is_arrow builds_arrow = refl
+
 pub is_joined : {p : Program} {j : _} {a b : TermId} {t : Term} → Builds p (nodes.Joined j a b) t → t ≡ joined j (tree p a) (tree p b)
 is_joined builds_joined = refl
+
+pub is_sided : {p : Program} {d : _} {a : TermId} {t : Term} → Builds p (nodes.Sided d a) t → t ≡ sided d (tree p a)
+is_sided builds_sided = refl
+
+pub is_headed : {p : Program} {h : _} {e : ExprId} {a : TermId} {t : Term} → Builds p (nodes.Headed h e a) t → t ≡ headed h (expression_at p e) (tree p a)
+is_headed builds_headed = refl
 
 -- the expressions of a program, seen by themselves
 pub expression_in : (p : Program) (e : ExprId) → expression (expressions_of p) e ≡ expression_at p e
@@ -274,3 +330,23 @@ holds_in p e h = h
 pub in_holds : (p : Program) (e : ExprId) → Holds (expressions_of p) e → HoldsExpression p e
 unfolding expressions_of HoldsExpression
 in_holds p e h = h
+
+pub function_at_in : (p : Program) (f : FunctionId) → function_at (expressions_of p) f ≡ function_in p f
+unfolding expressions_of pattern_at body_at expression_at
+function_at_in p f = refl
+
+pub pattern_in : (p : Program) (f : FunctionId) → pattern_at_in (expressions_of p) f ≡ pattern_at p f
+unfolding expressions_of pattern_at
+pattern_in p f = refl
+
+pub body_in : (p : Program) (f : FunctionId) → body_at_in (expressions_of p) f ≡ body_at p f
+unfolding expressions_of body_at
+body_in p f = refl
+
+pub function_holds_in : (p : Program) (f : FunctionId) → HoldsFunction p f → HoldsFunctionIn (expressions_of p) f
+unfolding expressions_of HoldsFunction
+function_holds_in p f h = h
+
+pub in_holds_function : (p : Program) (f : FunctionId) → HoldsFunctionIn (expressions_of p) f → HoldsFunction p f
+unfolding expressions_of HoldsFunction
+in_holds_function p f h = h

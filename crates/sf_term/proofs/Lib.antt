@@ -1,3 +1,4 @@
 pub mod Entered
 pub mod Kept
 pub mod Refused
+pub mod Named

@@ -2,19 +2,23 @@
 use Rattle.std.specs.Prelude.{◌≡◌, ℕ, ◌+◌, ◌<◌, ◌≤◌, List, [], ◌∷◌, ◌++◌, length, map}
 use Rattle.sf_expr.specs.declared.spot.Spot.{Spot}
 use Rattle.sf_expr.specs.declared.exprs.ExprId.{ExprId}
+use Rattle.sf_expr.specs.declared.exprs.FunctionId.{FunctionId}
 use Rattle.sf_expr.specs.declared.exprs.Exprs.{Exprs}
-use Rattle.sf_expr.specs.Expressions.{Expression}
-use Rattle.sf_expr.specs.Arena.{expression, count_of, Holds, spot_at as expression_spot_in}
+use Rattle.sf_expr.specs.Expressions.{Expression, Function, function}
+use Rattle.sf_expr.specs.Patterns.{PlacedPattern, pattern_of}
+use Rattle.sf_expr.specs.Arena.{expression, count_of, Holds, HoldsFunction as HoldsFunctionIn, function_at, pattern_at as pattern_at_in, body_at as body_at_in, spot_at as expression_spot_in}
 use Rattle.sf_term.specs.declared.form.Bare.{Bare}
 use Rattle.sf_term.specs.declared.form.WithValue.{WithValue}
 use Rattle.sf_term.specs.declared.form.Join.{Join}
+use Rattle.sf_term.specs.declared.form.Side.{Side}
+use Rattle.sf_term.specs.declared.form.Heading.{Heading}
 use Rattle.sf_term.specs.declared.node.TermId.{TermId}
 use Rattle.sf_term.specs.declared.node.Primitive.TheVariants as primitives
 use Rattle.sf_term.specs.declared.node.Node.{Node}
 use Rattle.sf_term.specs.declared.node.Node.TheVariants as nodes
 use Rattle.sf_term.specs.declared.node.Entry.{Entry}
 use Rattle.sf_term.specs.declared.program.Program.{Program}
-use Rattle.sf_term.specs.Trees.{Term, primitive, joined, bare, with_value, depth, Template, Templates}
+use Rattle.sf_term.specs.Trees.{Term, primitive, joined, sided, headed, bare, with_value, arrow, depth, Template, Templates}
 use Rattle.sf_term.specs.Headers.{Header}
 use Rattle.sf_term.specs.Entries.{entry_at, term_at, terms, made_over}
 
@@ -42,6 +46,10 @@ HoldsTerm p t = t.0 < length p.terms.items
 unfoldable pub HoldsExpression : Program → ExprId → Type 0
 HoldsExpression p e = Holds p.expressions e
 
+-- a program holds a function under an id
+unfoldable pub HoldsFunction : Program → FunctionId → Type 0
+HoldsFunction p f = HoldsFunctionIn p.expressions f
+
 -- the term at an id; the identity where the program holds none
 unfoldable pub tree : Program → TermId → Term
 tree p t = term_at p.expressions p.terms.items t.0
@@ -50,9 +58,25 @@ tree p t = term_at p.expressions p.terms.items t.0
 unfoldable pub expression_at : Program → ExprId → Expression
 expression_at p e = expression p.expressions e
 
+-- the pattern of the function at an id; the one that binds nothing where the program holds none
+unfoldable pub pattern_at : Program → FunctionId → PlacedPattern
+pattern_at p f = pattern_at_in p.expressions f
+
+-- the id of the body of the function at an id
+unfoldable pub body_at : Program → FunctionId → ExprId
+body_at p f = body_at_in p.expressions f
+
+-- the function at an id
+abbrev pub function_in : Program → FunctionId → Function
+function_in p f = function (pattern_of (pattern_at p f)) (expression_at p (body_at p f))
+
 -- the entry at an id
 unfoldable pub entry_of : Program → TermId → Entry
 entry_of p t = entry_at p.terms.items t.0
+
+-- the term that a node makes in a program
+unfoldable pub made_in : Program → Node → Term
+made_in p node = made_over p.expressions (terms p.expressions p.terms.items) node
 
 -- where the term at an id stands in the text
 unfoldable pub spot_at : Program → TermId → Spot
@@ -61,10 +85,6 @@ spot_at p t = (entry_at p.terms.items t.0).spot
 -- where the expression at an id stands in the text
 unfoldable pub expression_spot_at : Program → ExprId → Spot
 expression_spot_at p e = expression_spot_in p.expressions e
-
--- the term that a node makes in a program
-unfoldable pub made_in : Program → Node → Term
-made_in p node = made_over p.expressions (terms p.expressions p.terms.items) node
 
 -- the templates of a program, whose bodies are ids, in order
 unfoldable pub headers_of : Program → List Header
@@ -86,20 +106,28 @@ spots_of p = map (λ (h : Header). h.spot) (headers_of p)
 pub data Builds (p : Program) : Node → Term → Type 0 where
   builds_bare : {k : Bare} → Builds p (nodes.Primitive (primitives.Bare k)) (primitive (bare k))
   builds_with_value : {k : WithValue} {e : ExprId} → Builds p (nodes.Primitive (primitives.WithValue k e)) (primitive (with_value k (expression_at p e)))
+  builds_arrow : {f : FunctionId} → Builds p (nodes.Primitive (primitives.Arrow f)) (primitive (arrow (function_in p f)))
   builds_joined : {j : Join} {a b : TermId} → Builds p (nodes.Joined j a b) (joined j (tree p a) (tree p b))
+  builds_sided : {d : Side} {a : TermId} → Builds p (nodes.Sided d a) (sided d (tree p a))
+  builds_headed : {h : Heading} {e : ExprId} {a : TermId} → Builds p (nodes.Headed h e a) (headed h (expression_at p e) (tree p a))
 
 -- the ids of a node's parts, as numbers, are below a number
 abbrev pub PartsBelow : Node → ℕ → Type 0
 PartsBelow (nodes.Primitive q) n = Unit {0}
 PartsBelow (nodes.Joined j a b) n = (id_number a < n) × (id_number b < n)
+PartsBelow (nodes.Sided d a) n = id_number a < n
+PartsBelow (nodes.Headed h e a) n = id_number a < n
 
 -- the parts of a node are held
 abbrev pub HoldsParts : Program → Node → Type 0
 HoldsParts p (nodes.Primitive (primitives.Bare k)) = Unit {0}
 HoldsParts p (nodes.Primitive (primitives.WithValue k e)) = HoldsExpression p e
+HoldsParts p (nodes.Primitive (primitives.Arrow f)) = HoldsFunction p f
 HoldsParts p (nodes.Joined j a b) = HoldsTerm p a × HoldsTerm p b
+HoldsParts p (nodes.Sided d a) = HoldsTerm p a
+HoldsParts p (nodes.Headed h e a) = HoldsExpression p e × HoldsTerm p a
 
--- Terms and expressions that a program held are there as they were.
+-- Terms, expressions and functions that a program held are there as they were.
 pub record KeepsTrees (old new : Program) : Type 0 where
   pub terms : (t : TermId) → HoldsTerm old t → HoldsTerm new t
   pub trees : (t : TermId) → HoldsTerm old t → tree new t ≡ tree old t
@@ -107,6 +135,10 @@ pub record KeepsTrees (old new : Program) : Type 0 where
   pub expressions : (e : ExprId) → HoldsExpression old e → HoldsExpression new e
   pub values : (e : ExprId) → HoldsExpression old e → expression_at new e ≡ expression_at old e
   pub value_spots : (e : ExprId) → HoldsExpression old e → expression_spot_at new e ≡ expression_spot_at old e
+  pub functions : (f : FunctionId) → HoldsFunction old f → HoldsFunction new f
+  pub patterns : (f : FunctionId) → HoldsFunction old f → pattern_at new f ≡ pattern_at old f
+  pub bodies : (f : FunctionId) → HoldsFunction old f → body_at new f ≡ body_at old f
+  pub meanings : (f : FunctionId) → HoldsFunction old f → function_in new f ≡ function_in old f
 
 -- All that a program held is there as it was, and it has the same templates.
 pub record Keeps (old new : Program) : Type 0 where
@@ -133,6 +165,16 @@ pub record AddsExpression (old new : Program) (id : ExprId) (e : Expression) (s 
   pub term_counted : term_count new ≡ term_count old
   pub expression_counted : expression_count new ≡ expression_count old + 1
 
+-- a function was added under an id
+pub record AddsFunction (old new : Program) (f : FunctionId) (q : PlacedPattern) (b : ExprId) : Type 0 where
+  pub within : HoldsFunction new f
+  pub pattern : pattern_at new f ≡ q
+  pub body : body_at new f ≡ b
+  pub is : function_in new f ≡ function (pattern_of q) (expression_at old b)
+  pub kept : Keeps old new
+  pub term_counted : term_count new ≡ term_count old
+  pub expression_counted : expression_count new ≡ expression_count old
+
 -- a template was added behind the others, with the place of its name
 pub record AddsTemplate (old new : Program) (template : Template) (s : Spot) : Type 0 where
   pub templates : templates_of new ≡ templates_of old ++ template ∷ []
@@ -149,6 +191,9 @@ pub record IsUnchanged (old new : Program) : Type 0 where
   pub spots : (t : TermId) → spot_at new t ≡ spot_at old t
   pub values : (e : ExprId) → expression_at new e ≡ expression_at old e
   pub value_spots : (e : ExprId) → expression_spot_at new e ≡ expression_spot_at old e
+  pub holds_functions : (f : FunctionId) → HoldsFunction old f → HoldsFunction new f
+  pub patterns : (f : FunctionId) → pattern_at new f ≡ pattern_at old f
+  pub bodies : (f : FunctionId) → body_at new f ≡ body_at old f
   pub headers : headers_of new ≡ headers_of old
 
 -- a program is a copy of another: it shows the same

@@ -2,4 +2,5 @@ pub mod Trees
 pub mod Headers
 pub mod Entries
 pub mod Arena
+pub mod Names
 pub mod Refusals

@@ -1,20 +1,25 @@
 -- Networks as trees.
-use Rattle.std.specs.Prelude.{ℕ, suc, ◌+◌, max, List}
+use Rattle.std.specs.Prelude.{ℕ, suc, ◌+◌, max, List, [], ◌∷◌}
 use Rattle.sf_value.specs.Values.{Name, Kind}
-use Rattle.sf_expr.specs.Expressions.{Expression, depth as expression_depth, size as expression_size}
+use Rattle.sf_expr.specs.Expressions.{Expression, Function, depth as expression_depth, size as expression_size, function_depth, function_size}
 use Rattle.sf_term.specs.declared.form.Bare.{Bare}
 use Rattle.sf_term.specs.declared.form.WithValue.{WithValue}
 use Rattle.sf_term.specs.declared.form.Join.{Join}
+use Rattle.sf_term.specs.declared.form.Side.{Side}
+use Rattle.sf_term.specs.declared.form.Heading.{Heading}
 
--- primitives: without constants, or with a value
+-- primitives: without constants, with a value, or with a function
 pub data Primitive : Type 0 where
   bare : Bare → Primitive
   with_value : WithValue → Expression → Primitive
+  arrow : Function → Primitive
 
--- terms: primitives, and two terms joined
+-- terms: primitives, two terms joined, a term on one side of a pair, a term with an expression at its head
 pub data Term : Type 0 where
   primitive : Primitive → Term
   joined : Join → Term → Term → Term
+  sided : Side → Term → Term
+  headed : Heading → Expression → Term → Term
 
 -- a template: its name, the types of its header and its term
 pub record Template : Type 0 where
@@ -27,23 +32,31 @@ pub record Template : Type 0 where
 abbrev pub Templates : Type 0
 Templates = List Template
 
--- how many expressions stand one inside another in a primitive
+-- how many expressions and patterns stand one inside another in a primitive
 abbrev pub primitive_depth : Primitive → ℕ
 primitive_depth (bare k) = 0
 primitive_depth (with_value k e) = expression_depth e
+primitive_depth (arrow f) = function_depth f
 
 -- how many terms and expressions stand one inside another
 abbrev pub depth : Term → ℕ
 depth (primitive p) = suc (primitive_depth p)
 depth (joined j f g) = suc (max (depth f) (depth g))
+depth (sided d t) = suc (depth t)
+depth (headed h e t) = suc (max (expression_depth e) (depth t))
 
 -- how many terms a term is made of
 abbrev pub terms_in : Term → ℕ
 terms_in (primitive p) = 1
 terms_in (joined j f g) = suc (terms_in f + terms_in g)
+terms_in (sided d t) = suc (terms_in t)
+terms_in (headed h e t) = suc (terms_in t)
 
 -- how many expressions stand in a term
 abbrev pub expressions_in : Term → ℕ
 expressions_in (primitive (bare k)) = 0
 expressions_in (primitive (with_value k e)) = expression_size e
+expressions_in (primitive (arrow f)) = function_size f
 expressions_in (joined j f g) = expressions_in f + expressions_in g
+expressions_in (sided d t) = expressions_in t
+expressions_in (headed h e t) = expression_size e + expressions_in t

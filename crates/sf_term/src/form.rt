@@ -21,4 +21,24 @@ pub enum WithValue {
 pub enum Join {
     /// `(s >>> t)`: the second on the outputs of the first.
     InSequence,
+    /// `(s *** t)`: each on its part of a pair.
+    InParallel,
+    /// `(s &&& t)`: both on the input.
+    FannedOut,
+}
+
+/// The part of a pair that a term is on.
+#[derive(Clone, Copy, Debug, PartialEq, Eq)]
+pub enum Side {
+    /// `first t`: the first, while the second passes.
+    First,
+    /// `second t`: the second, while the first passes.
+    Second,
+}
+
+/// A term with an expression at its head.
+#[derive(Clone, Copy, Debug, PartialEq, Eq)]
+pub enum Heading {
+    /// `loopPre(e, t)`: the second output is the second input one sample later, and the value is the first one.
+    LoopPre,
 }

@@ -2,6 +2,7 @@
 #![tactic(auto)]
 
 mod form;
+mod names;
 mod node;
 mod program;
 mod refusal;
@@ -9,7 +10,7 @@ mod template;
 #[cfg(test)]
 mod tests;
 
-pub use form::{Bare, Join, WithValue};
+pub use form::{Bare, Heading, Join, Side, WithValue};
 pub use node::{Node, Primitive, TermId};
 pub use program::Program;
 pub use refusal::BuildRefusal;

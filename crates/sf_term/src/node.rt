@@ -1,7 +1,7 @@
 //! Nodes of an arena of terms.
 
-use crate::form::{Bare, Join, WithValue};
-use sf_expr::{ExprId, Spot};
+use crate::form::{Bare, Heading, Join, Side, WithValue};
+use sf_expr::{ExprId, FunctionId, Spot};
 
 /// A term in its program.
 #[derive(Clone, Copy, Debug, PartialEq, Eq)]
@@ -14,6 +14,8 @@ pub enum Primitive {
     Bare(Bare),
     /// A primitive with a value.
     WithValue(WithValue, ExprId),
+    /// `arr f`: what a function answers to the input.
+    Arrow(FunctionId),
 }
 
 /// A term, whose parts are ids of terms before it.
@@ -23,6 +25,10 @@ pub enum Node {
     Primitive(Primitive),
     /// Two terms joined, the first and the second.
     Joined(Join, TermId, TermId),
+    /// A term on one part of a pair.
+    Sided(Side, TermId),
+    /// A term with an expression at its head.
+    Headed(Heading, ExprId, TermId),
 }
 
 /// A node with the depth of its tree and its place in the text.

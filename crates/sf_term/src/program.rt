@@ -1,23 +1,28 @@
 //! Programs: terms and templates, in an arena.
 ghost use Rattle.std.specs.Prelude.{◌≡◌, ◌<◌, ◌≤◌, ◌↔◌, IfOk, OnOk, OnErr, [], length, string_bytes, All};
-ghost use Rattle.sf_expr.specs.Expressions.{literal, int_literal};
 ghost use Rattle.sf_lex.specs.Words.{IsName};
-ghost use Rattle.sf_term.specs.Trees.{depth as depth_of, primitive, bare as bare_form};
-ghost use Rattle.sf_term.specs.Trees.{with_value as form_with_value, joined as joined_form};
+ghost use Rattle.sf_expr.specs.Expressions.{variable, literal, int_literal, paired, operation as operation_of};
+ghost use Rattle.sf_expr.specs.Expressions.{function as function_of, depth as expression_depth_of, function_depth as function_depth_of};
+ghost use Rattle.sf_expr.specs.Patterns.{pattern_of};
 ghost use Rattle.sf_term.specs.Headers.{bodies_end};
 ghost use Rattle.sf_term.specs.Entries.{IsArena};
+ghost use Rattle.sf_term.specs.Names.{HasNames};
+ghost use Rattle.sf_term.specs.Trees.{depth as depth_of, primitive, bare as bare_form, arrow as arrow_form};
+ghost use Rattle.sf_term.specs.Trees.{with_value as form_with_value, joined as joined_form};
+ghost use Rattle.sf_term.specs.Trees.{sided as sided_form, headed as headed_form};
 
-use crate::form::{Bare, Join, WithValue};
+use crate::form::{Bare, Heading, Join, Side, WithValue};
+use crate::names::has_names;
 use crate::node::{Entry, Node, Primitive, TermId};
 use crate::refusal::BuildRefusal;
 use crate::template::{Template, clone_all};
-use sf_expr::{ExprId, Exprs, Spot};
+use sf_expr::{ExprId, Exprs, FunctionId, Operator, Pat, Spot};
 use sf_lex::is_name;
 use sf_value::Ty;
 use std::alloc::{AllocError, Global};
 
-/// Terms, with their expressions, and templates: at most 100,000 terms and 100,000 expressions, of which at most 64
-/// stand one inside another.
+/// Terms, with their expressions and functions, and templates: at most 100,000 terms and 100,000 expressions, of which
+/// at most 64 stand one inside another.
 #[derive(Drop)]
 pub struct Program {
     expressions: Exprs,
@@ -28,10 +33,10 @@ pub struct Program {
 }
 
 impl Program {
-    ghost use Rattle.sf_term.specs.Arena.{term_count, expression_count, HoldsTerm, HoldsExpression};
-    ghost use Rattle.sf_term.specs.Arena.{tree, expression_at, entry_of, spot_at, made_in, id_number};
+    ghost use Rattle.sf_term.specs.Arena.{term_count, expression_count, HoldsTerm, HoldsExpression, HoldsFunction};
+    ghost use Rattle.sf_term.specs.Arena.{tree, expression_at, function_in, entry_of, spot_at, made_in, id_number};
     ghost use Rattle.sf_term.specs.Arena.{expressions_of, headers_of, Builds, PartsBelow, HoldsParts};
-    ghost use Rattle.sf_term.specs.Arena.{AddsTerm, AddsExpression, AddsTemplate, IsUnchanged, IsCopy};
+    ghost use Rattle.sf_term.specs.Arena.{AddsTerm, AddsExpression, AddsFunction, AddsTemplate, IsUnchanged, IsCopy};
 
     /// No term, no expression and no template.
     #[tactic(auto, unfolding(crate::specs::Arena::term_count, crate::specs::Arena::expression_count, crate::specs::Arena::headers_of))]
@@ -70,14 +75,21 @@ impl Program {
         self.entry(id).depth
     }
 
-    #[tactic(auto, unfolding(crate::specs::Arena::made_in, crate::specs::Arena::tree, crate::specs::Arena::expression_at, crate::specs::Entries::term_at))]
+    #[tactic(auto, unfolding(crate::specs::Arena::made_in, crate::specs::Arena::tree, crate::specs::Entries::term_at))]
     fn depth_with(&self, node: Node) -> u32
         ensures { result ≡ depth_of (made_in self.now node) }
     {
         match node {
             Node::Primitive(Primitive::Bare(_)) => 1,
             Node::Primitive(Primitive::WithValue(_, value)) => 1 + self.expressions.depth(value),
+            Node::Primitive(Primitive::Arrow(function)) => {
+                1 + self.expressions.function_depth(function)
+            }
             Node::Joined(_, first, second) => 1 + self.depth(first).max(self.depth(second)),
+            Node::Sided(_, part) => 1 + self.depth(part),
+            Node::Headed(_, value, part) => {
+                1 + self.expressions.depth(value).max(self.depth(part))
+            }
         }
     }
 
@@ -107,7 +119,7 @@ impl Program {
 
     /// Adds a number to the expressions. Refused with `TooMany` where 100,000 expressions are there, and with
     /// `Memory`. A refused call changes nothing.
-    #[tactic(auto, unfolding(crate::specs::Arena::expression_count))]
+    #[tactic(auto, unfolding(crate::specs::Arena::expression_count, crate::specs::Arena::expression_at, crate::specs::Arena::HoldsExpression))]
     pub fn int(&mut self, n: i64, spot: Spot) -> Result<ExprId, BuildRefusal>
         ensures ok { IfOk result (λ id. AddsExpression self.old self.new id (literal (int_literal n)) spot) }
         ensures many { result ≡ Err BuildRefusal.TooMany ↔ 100000 ≤ expression_count self.old }
@@ -121,9 +133,111 @@ impl Program {
         }
     }
 
+    /// Adds a name to the expressions. Refused with `TooMany` where 100,000 expressions are there, then with `BadName`
+    /// where it is no name of the language, and with `Memory`. A refused call changes nothing.
+    #[tactic(auto, unfolding(crate::specs::Arena::expression_count, crate::specs::Arena::expression_at, crate::specs::Arena::HoldsExpression))]
+    pub fn name(&mut self, name: String, spot: Spot) -> Result<ExprId, BuildRefusal>
+        ensures ok { IfOk result (λ id. AddsExpression self.old self.new id (variable (string_bytes name)) spot) }
+        ensures named { OnOk result (IsName (string_bytes name)) }
+        ensures many { result ≡ Err BuildRefusal.TooMany ↔ 100000 ≤ expression_count self.old }
+        ensures not_deep { ¬ (result ≡ Err BuildRefusal.TooDeep) }
+        ensures bad_name { result ≡ Err BuildRefusal.BadName ↔ (expression_count self.old < 100000) × ¬ IsName (string_bytes name) }
+        ensures err { OnErr result (IsUnchanged self.old self.new) }
+    {
+        if 100_000 <= self.expressions.len() {
+            return Err(BuildRefusal::TooMany);
+        }
+        if !is_name(name.as_bytes()) {
+            return Err(BuildRefusal::BadName);
+        }
+        match self.expressions.name(name, spot) {
+            Ok(id) => Ok(id),
+            Err(refusal) => Err(BuildRefusal::from(refusal)),
+        }
+    }
+
+    /// Adds a pair to the expressions. Refused with `TooMany` where 100,000 expressions are there, then with `TooDeep`
+    /// where more than 64 would stand one inside another, and with `Memory`. A refused call changes nothing.
+    #[tactic(auto, unfolding(crate::specs::Arena::expression_count, crate::specs::Arena::expression_at, crate::specs::Arena::HoldsExpression))]
+    pub fn pair(
+        &mut self,
+        first: ExprId,
+        second: ExprId,
+        spot: Spot,
+    ) -> Result<ExprId, BuildRefusal>
+        requires first_held { HoldsExpression self.old first }
+        requires second_held { HoldsExpression self.old second }
+        ensures ok { let whole = paired (expression_at self.old first) (expression_at self.old second) in
+            IfOk result (λ id. AddsExpression self.old self.new id whole spot) }
+        ensures many { result ≡ Err BuildRefusal.TooMany ↔ 100000 ≤ expression_count self.old }
+        ensures deep { let whole = paired (expression_at self.old first) (expression_at self.old second) in
+            result ≡ Err BuildRefusal.TooDeep ↔ (expression_count self.old < 100000) × (64 < expression_depth_of whole) }
+        ensures no_name { ¬ (result ≡ Err BuildRefusal.BadName) }
+        ensures err { OnErr result (IsUnchanged self.old self.new) }
+    {
+        match self.expressions.pair(first, second, spot) {
+            Ok(id) => Ok(id),
+            Err(refusal) => Err(BuildRefusal::from(refusal)),
+        }
+    }
+
+    /// Adds an operator between its operands to the expressions. Refused with `TooMany` where 100,000 expressions are
+    /// there, then with `TooDeep` where more than 64 would stand one inside another, and with `Memory`. A refused call
+    /// changes nothing.
+    #[tactic(auto, unfolding(crate::specs::Arena::expression_count, crate::specs::Arena::expression_at, crate::specs::Arena::HoldsExpression))]
+    pub fn operation(
+        &mut self,
+        left: ExprId,
+        operator: Operator,
+        right: ExprId,
+        spot: Spot,
+    ) -> Result<ExprId, BuildRefusal>
+        requires left_held { HoldsExpression self.old left }
+        requires right_held { HoldsExpression self.old right }
+        ensures ok { let whole = operation_of (expression_at self.old left) operator (expression_at self.old right) in
+            IfOk result (λ id. AddsExpression self.old self.new id whole spot) }
+        ensures many { result ≡ Err BuildRefusal.TooMany ↔ 100000 ≤ expression_count self.old }
+        ensures deep { let whole = operation_of (expression_at self.old left) operator (expression_at self.old right) in
+            result ≡ Err BuildRefusal.TooDeep ↔ (expression_count self.old < 100000) × (64 < expression_depth_of whole) }
+        ensures no_name { ¬ (result ≡ Err BuildRefusal.BadName) }
+        ensures err { OnErr result (IsUnchanged self.old self.new) }
+    {
+        match self.expressions.operation(left, operator, right, spot) {
+            Ok(id) => Ok(id),
+            Err(refusal) => Err(BuildRefusal::from(refusal)),
+        }
+    }
+
+    /// Adds a function, which counts as no expression. Refused with `TooDeep` where more than 64 patterns or
+    /// expressions stand one inside another, then with `BadName` where a name of its pattern is no name of the
+    /// language, and with `Memory`. A refused call changes nothing.
+    #[tactic(auto, unfolding(crate::specs::Arena::expression_count, crate::specs::Arena::expression_at, crate::specs::Arena::HoldsExpression))]
+    pub fn function(&mut self, pattern: Pat, body: ExprId) -> Result<FunctionId, BuildRefusal>
+        requires { HoldsExpression self.old body }
+        ensures ok { IfOk result (λ f. AddsFunction self.old self.new f pattern body) }
+        ensures named { OnOk result (HasNames (pattern_of pattern)) }
+        ensures not_many { ¬ (result ≡ Err BuildRefusal.TooMany) }
+        ensures deep { let whole = function_of (pattern_of pattern) (expression_at self.old body) in
+            result ≡ Err BuildRefusal.TooDeep ↔ 64 < function_depth_of whole }
+        ensures bad_name { let whole = function_of (pattern_of pattern) (expression_at self.old body) in
+            result ≡ Err BuildRefusal.BadName ↔ (function_depth_of whole ≤ 64) × ¬ HasNames (pattern_of pattern) }
+        ensures err { OnErr result (IsUnchanged self.old self.new) }
+    {
+        if 64 < pattern.depth() {
+            return Err(BuildRefusal::TooDeep);
+        }
+        if !has_names(&pattern) {
+            return Err(BuildRefusal::BadName);
+        }
+        match self.expressions.function(pattern, body) {
+            Ok(id) => Ok(id),
+            Err(refusal) => Err(BuildRefusal::from(refusal)),
+        }
+    }
+
     /// Adds a primitive without constants. Refused with `TooMany` where 100,000 terms are there, and with `Memory`.
     /// A refused call changes nothing.
-    #[tactic(auto, unfolding(crate::specs::Arena::made_in))]
+    #[tactic(auto, unfolding(crate::specs::Arena::made_in, crate::specs::Arena::tree, crate::specs::Arena::expression_at, crate::specs::Arena::pattern_at, crate::specs::Arena::body_at, crate::specs::Entries::term_at))]
     pub fn bare(&mut self, kind: Bare, spot: Spot) -> Result<TermId, BuildRefusal>
         ensures ok { IfOk result (λ id. AddsTerm self.old self.new id (primitive (bare_form kind)) spot) }
         ensures many { result ≡ Err BuildRefusal.TooMany ↔ 100000 ≤ term_count self.old }
@@ -137,7 +251,7 @@ impl Program {
     /// Adds a primitive with a value. Refused with `TooMany` where 100,000 terms are there, then with `TooDeep` where
     /// more than 64 terms and expressions would stand one inside another, and with `Memory`. A refused call changes
     /// nothing.
-    #[tactic(auto, unfolding(crate::specs::Arena::made_in, crate::specs::Arena::expression_at))]
+    #[tactic(auto, unfolding(crate::specs::Arena::made_in, crate::specs::Arena::tree, crate::specs::Arena::expression_at, crate::specs::Arena::pattern_at, crate::specs::Arena::body_at, crate::specs::Entries::term_at))]
     pub fn with_value(
         &mut self,
         kind: WithValue,
@@ -156,9 +270,26 @@ impl Program {
         self.add(Node::Primitive(Primitive::WithValue(kind, value)), spot)
     }
 
+    /// Adds a function as a primitive. Refused with `TooMany` where 100,000 terms are there, then with `TooDeep` where
+    /// more than 64 terms, patterns and expressions would stand one inside another, and with `Memory`. A refused call
+    /// changes nothing.
+    #[tactic(auto, unfolding(crate::specs::Arena::made_in, crate::specs::Arena::tree, crate::specs::Arena::expression_at, crate::specs::Arena::pattern_at, crate::specs::Arena::body_at, crate::specs::Entries::term_at))]
+    pub fn arrow(&mut self, function: FunctionId, spot: Spot) -> Result<TermId, BuildRefusal>
+        requires { HoldsFunction self.old function }
+        ensures ok { let whole = primitive (arrow_form (function_in self.old function)) in
+            IfOk result (λ id. AddsTerm self.old self.new id whole spot) }
+        ensures many { result ≡ Err BuildRefusal.TooMany ↔ 100000 ≤ term_count self.old }
+        ensures deep { let whole = primitive (arrow_form (function_in self.old function)) in
+            result ≡ Err BuildRefusal.TooDeep ↔ (term_count self.old < 100000) × (64 < depth_of whole) }
+        ensures no_name { ¬ (result ≡ Err BuildRefusal.BadName) }
+        ensures err { OnErr result (IsUnchanged self.old self.new) }
+    {
+        self.add(Node::Primitive(Primitive::Arrow(function)), spot)
+    }
+
     /// Adds two terms joined. Refused with `TooMany` where 100,000 terms are there, then with `TooDeep` where more than
     /// 64 terms and expressions would stand one inside another, and with `Memory`. A refused call changes nothing.
-    #[tactic(auto, unfolding(crate::specs::Arena::made_in, crate::specs::Arena::tree, crate::specs::Entries::term_at))]
+    #[tactic(auto, unfolding(crate::specs::Arena::made_in, crate::specs::Arena::tree, crate::specs::Arena::expression_at, crate::specs::Arena::pattern_at, crate::specs::Arena::body_at, crate::specs::Entries::term_at))]
     pub fn joined(
         &mut self,
         join: Join,
@@ -177,6 +308,46 @@ impl Program {
         ensures err { OnErr result (IsUnchanged self.old self.new) }
     {
         self.add(Node::Joined(join, first, second), spot)
+    }
+
+    /// Adds a term on one part of a pair. Refused with `TooMany` where 100,000 terms are there, then with `TooDeep`
+    /// where more than 64 terms and expressions would stand one inside another, and with `Memory`. A refused call
+    /// changes nothing.
+    #[tactic(auto, unfolding(crate::specs::Arena::made_in, crate::specs::Arena::tree, crate::specs::Arena::expression_at, crate::specs::Arena::pattern_at, crate::specs::Arena::body_at, crate::specs::Entries::term_at))]
+    pub fn sided(&mut self, side: Side, part: TermId, spot: Spot) -> Result<TermId, BuildRefusal>
+        requires { HoldsTerm self.old part }
+        ensures ok { IfOk result (λ id. AddsTerm self.old self.new id (sided_form side (tree self.old part)) spot) }
+        ensures many { result ≡ Err BuildRefusal.TooMany ↔ 100000 ≤ term_count self.old }
+        ensures deep { let whole = sided_form side (tree self.old part) in
+            result ≡ Err BuildRefusal.TooDeep ↔ (term_count self.old < 100000) × (64 < depth_of whole) }
+        ensures no_name { ¬ (result ≡ Err BuildRefusal.BadName) }
+        ensures err { OnErr result (IsUnchanged self.old self.new) }
+    {
+        self.add(Node::Sided(side, part), spot)
+    }
+
+    /// Adds a term with an expression at its head. Refused with `TooMany` where 100,000 terms are there, then with
+    /// `TooDeep` where more than 64 terms and expressions would stand one inside another, and with `Memory`. A refused
+    /// call changes nothing.
+    #[tactic(auto, unfolding(crate::specs::Arena::made_in, crate::specs::Arena::tree, crate::specs::Arena::expression_at, crate::specs::Arena::pattern_at, crate::specs::Arena::body_at, crate::specs::Entries::term_at))]
+    pub fn headed(
+        &mut self,
+        heading: Heading,
+        value: ExprId,
+        part: TermId,
+        spot: Spot,
+    ) -> Result<TermId, BuildRefusal>
+        requires value_held { HoldsExpression self.old value }
+        requires part_held { HoldsTerm self.old part }
+        ensures ok { let whole = headed_form heading (expression_at self.old value) (tree self.old part) in
+            IfOk result (λ id. AddsTerm self.old self.new id whole spot) }
+        ensures many { result ≡ Err BuildRefusal.TooMany ↔ 100000 ≤ term_count self.old }
+        ensures deep { let whole = headed_form heading (expression_at self.old value) (tree self.old part) in
+            result ≡ Err BuildRefusal.TooDeep ↔ (term_count self.old < 100000) × (64 < depth_of whole) }
+        ensures no_name { ¬ (result ≡ Err BuildRefusal.BadName) }
+        ensures err { OnErr result (IsUnchanged self.old self.new) }
+    {
+        self.add(Node::Headed(heading, value, part), spot)
     }
 
     /// Puts a template behind the others. Refused with `BadName` where its name is no name of the language, and with

@@ -20,8 +20,12 @@ pub struct Template {
 impl Model for Template {
     ghost use Rattle.std.specs.Prelude.{string_bytes};
     ghost use Rattle.sf_term.specs.Headers.{Header};
+    ghost use Rattle.std.specs.Coded.{codes};
+    ghost use Rattle.sf_value.specs.contracts.ty.Ty as ty;
 
     ghost Value = { Header };
+
+    ghost coded = { Prim.hlevel (codes, ty.the_row.coded) };
 
     ghost view = { λ a. record { name = string_bytes a.name; spot = a.spot; input = a.input; output = a.output; body = a.body } };
 }

@@ -1,11 +1,11 @@
 ghost use Rattle.std.specs.Prelude.{IfOk};
 ghost use Rattle.sf_term.specs.Arena.{HoldsTerm};
 
-use crate::form::{Bare, Join, WithValue};
+use crate::form::{Bare, Heading, Join, Side, WithValue};
 use crate::node::{Node, Primitive, TermId};
 use crate::program::Program;
 use crate::refusal::BuildRefusal;
-use sf_expr::{ExprNode, ExprRefusal, Spot};
+use sf_expr::{ExprNode, ExprRefusal, Operator, Pat, Spot};
 use sf_value::{Ty, same_type};
 use std::alloc::{AllocError, AllocFailed, Global};
 use std::test::Fail;
@@ -62,6 +62,97 @@ fn templates_are_read_as_they_were_given(rt: HostRuntime) -> Result<(), Fail> {
     assert_eq!(rt; template.body(), both);
     assert!(rt; same_type(template.input(), &Ty::int()));
     assert!(rt; same_type(template.output(), &Ty::int()));
+    Ok(())
+}
+
+/// `loopPre(0, (first arr (a, b) => (a + b) *** second identity))`.
+fn one_loop(alloc: Global) -> Result<(Program, TermId), Fail> {
+    let mut program = Program::new(alloc);
+    let a = program.name(String::from_str(alloc, "a")?, at(31))?;
+    let b = program.name(String::from_str(alloc, "b")?, at(35))?;
+    let sum = program.operation(a, Operator::Plus, b, at(30))?;
+    let first = Pat::name(String::from_str(alloc, "a")?, at(21));
+    let second = Pat::name(String::from_str(alloc, "b")?, at(24));
+    let function = program.function(Pat::both(alloc, first, second)?, sum)?;
+    let arrow = program.arrow(function, at(16))?;
+    let left = program.sided(Side::First, arrow, at(10))?;
+    let same = program.bare(Bare::Identity, at(50))?;
+    let right = program.sided(Side::Second, same, at(43))?;
+    let both = program.joined(Join::InParallel, left, right, at(9))?;
+    let nought = program.int(0, at(8))?;
+    let whole = program.headed(Heading::LoopPre, nought, both, at(1))?;
+    Ok((program, whole))
+}
+
+#[test]
+fn loops_are_read_as_they_were_built(rt: HostRuntime) -> Result<(), Fail> {
+    let alloc = rt.alloc();
+    let (program, whole) = one_loop(alloc)?;
+    assert_eq!(rt; program.depth(whole), 6);
+    let Node::Headed(Heading::LoopPre, nought, both) = program.node(whole) else {
+        return Err(Fail::new("no loop"));
+    };
+    assert_eq!(rt; program.expressions().node(nought), ExprNode::Int(0));
+    let Node::Joined(Join::InParallel, left, right) = program.node(both) else {
+        return Err(Fail::new("no terms side by side"));
+    };
+    let Node::Sided(Side::First, arrow) = program.node(left) else {
+        return Err(Fail::new("no term on the first part"));
+    };
+    let Node::Sided(Side::Second, same) = program.node(right) else {
+        return Err(Fail::new("no term on the second part"));
+    };
+    assert_eq!(rt; program.spot(same), at(50));
+    let Node::Primitive(Primitive::Arrow(function)) = program.node(arrow) else {
+        return Err(Fail::new("no function"));
+    };
+    let body = program.expressions().body(function);
+    assert_eq!(rt; program.expressions().spot(body), at(30));
+    assert_eq!(rt; program.expressions().pattern(function).depth(), 2);
+    Ok(())
+}
+
+#[test]
+fn pairs_are_added(rt: HostRuntime) -> Result<(), Fail> {
+    let alloc = rt.alloc();
+    let mut program = Program::new(alloc);
+    let x = program.name(String::from_str(alloc, "x")?, at(2))?;
+    let pair = program.pair(x, x, at(1))?;
+    assert_eq!(rt; program.expressions().node(pair), ExprNode::Pair(x, x));
+    assert_eq!(rt; program.expressions().len(), 2);
+    Ok(())
+}
+
+#[test]
+fn names_within_are_names_of_the_language(rt: HostRuntime) -> Result<(), Fail> {
+    let alloc = rt.alloc();
+    let mut program = Program::new(alloc);
+    let one = program.int(1, Spot::NONE)?;
+    let bad = BuildRefusal::BadName;
+    let good = Pat::name(String::from_str(alloc, "a")?, Spot::NONE);
+    let other = Pat::name(String::from_str(alloc, "_")?, Spot::NONE);
+    let pattern = Pat::both(alloc, good, other)?;
+    assert_eq!(rt; program.function(pattern, one), Err(bad));
+    let keyword = String::from_str(alloc, "div")?;
+    assert_eq!(rt; program.name(keyword, Spot::NONE), Err(bad));
+    assert_eq!(rt; program.expressions().len(), 1);
+    Ok(())
+}
+
+#[test]
+fn patterns_count_in_the_depth(rt: HostRuntime) -> Result<(), Fail> {
+    let alloc = rt.alloc();
+    let mut program = Program::new(alloc);
+    let one = program.int(1, Spot::NONE)?;
+    let mut pattern = Pat::unnamed();
+    for _ in 1..64 {
+        pattern = Pat::both(alloc, pattern, Pat::unnamed())?;
+    }
+    let function = program.function(pattern, one)?;
+    assert_eq!(rt;
+        program.arrow(function, Spot::NONE),
+        Err(BuildRefusal::TooDeep)
+    );
     Ok(())
 }
 

@@ -12,7 +12,7 @@ use Rattle.sf_lex.specs.declared.token.PlacedToken.{PlacedToken}
 use Rattle.sf_lex.specs.Tokens.{Tok, token_of}
 use Rattle.sf_text.specs.declared.stop.Stop.{Stop}
 use Rattle.sf_text.specs.declared.stop.Stop.TheVariants.{At as At', Memory}
-use Rattle.sf_text.specs.Spelling.{spell_template, spell_templates, terms_of, expressions_of}
+use Rattle.sf_text.specs.Spelling.{spell_template, spell_templates, terms_of, expressions_of, HasSmallTypes}
 use Rattle.sf_text.specs.Reading.{Counts, template_at}
 use Rattle.sf_text.specs.Answers.{Stopped, Stops, toks, counts_of, FoundTemplate, AreNamed}
 use Rattle.sf_text.specs.Stopping.{Behind, StopsAfter}
@@ -42,6 +42,7 @@ behind_more tokens rest behind old new b f =
       counted = rw (all_terms, all_expressions) refl;
       limited = record {
         shallow = subst (All shallow) (sym f.templates) (All-append shallow (templates_of old) (f.template ∷ []) b.limited.shallow (All-cons shallow f.template [] t.shallow (All-nil shallow)));
+        small = subst (All HasSmallTypes) (sym f.templates) (All-append HasSmallTypes (templates_of old) (f.template ∷ []) b.limited.small (All-cons HasSmallTypes f.template [] t.small (All-nil HasSmallTypes)));
         few_terms = omega (arith, few_terms new);
         few_expressions = omega (arith, few_program_expressions new);
       };

@@ -8,7 +8,7 @@ use Rattle.std.proofs.lemmas.List.Sums.{sum_by-cons, sum_by-append}
 use Rattle.sf_term.specs.Trees.{Template, Templates, depth, terms_in, expressions_in}
 use Rattle.sf_lex.specs.Tokens.{Tok}
 use Rattle.sf_text.specs.declared.stop.Fault.{Fault}
-use Rattle.sf_text.specs.Spelling.{spell, spell_template, spell_templates, terms_of, expressions_of, IsWithinLimits}
+use Rattle.sf_text.specs.Spelling.{spell, spell_template, spell_templates, terms_of, expressions_of, HasSmallTypes, IsWithinLimits}
 use Rattle.sf_text.specs.Reading.{got, stop, Counts, opening_at, template_at}
 use Rattle.sf_text.specs.Stopping.{counts_in, StopsBehind, StopsIn, in_opening, in_template}
 use Rattle.sf_text.proofs.Parts.{Same, got_same}
@@ -16,6 +16,7 @@ use Rattle.sf_text.proofs.Again.{template_again}
 
 -- the first template is within the limits, and so are the others
 pub record Splits (t : Template) (p : Templates) : Type 0 where
+  pub small : HasSmallTypes t
   pub shallow : depth t.body ≤ 64
   pub few_terms : terms_in t.body + terms_of p ≤ 100000
   pub few_expressions : expressions_in t.body + expressions_of p ≤ 100000
@@ -26,11 +27,13 @@ limits_split t p limits =
     let terms : terms_of (t ∷ p) ≡ terms_in t.body + terms_of p = sum_by-cons (λ (t : Template). terms_in t.body) t p in
     let expressions : expressions_of (t ∷ p) ≡ expressions_in t.body + expressions_of p = sum_by-cons (λ (t : Template). expressions_in t.body) t p in
     record {
+      small = All-head HasSmallTypes t p limits.small;
       shallow = All-head (λ (t : Template). depth t.body ≤ 64) t p limits.shallow;
       few_terms = omega (arith, limits.few_terms);
       few_expressions = omega (arith, limits.few_expressions);
       others = record {
         shallow = All-tail (λ (t : Template). depth t.body ≤ 64) t p limits.shallow;
+        small = All-tail HasSmallTypes t p limits.small;
         few_terms = omega (arith, limits.few_terms);
         few_expressions = omega (arith, limits.few_expressions);
       };
@@ -53,8 +56,8 @@ templates_follow (t ∷ ps) (u ∷ qs) rest limited limits same =
     let one = limits_split t ps limited in
     let two = limits_split u qs limits in
     let same' : spell_template t ++ (spell_templates ps ++ rest) ≡ spell_template u ++ spell_templates qs = sym (append_assoc (spell_template t) (spell_templates ps) rest) ∙ same in
-    let first : template_at none (spell_template t ++ (spell_templates ps ++ rest)) ≡ got t (spell_templates ps ++ rest) = template_again t none (spell_templates ps ++ rest) one.shallow (omega (arith, one.few_terms)) (omega (arith, one.few_expressions)) in
-    let second : template_at none (spell_template u ++ spell_templates qs) ≡ got u (spell_templates qs) = template_again u none (spell_templates qs) two.shallow (omega (arith, two.few_terms)) (omega (arith, two.few_expressions)) in
+    let first : template_at none (spell_template t ++ (spell_templates ps ++ rest)) ≡ got t (spell_templates ps ++ rest) = template_again t none (spell_templates ps ++ rest) one.small one.shallow (omega (arith, one.few_terms)) (omega (arith, one.few_expressions)) in
+    let second : template_at none (spell_template u ++ spell_templates qs) ≡ got u (spell_templates qs) = template_again u none (spell_templates qs) two.small two.shallow (omega (arith, two.few_terms)) (omega (arith, two.few_expressions)) in
     let both : Same t u (spell_templates ps ++ rest) (spell_templates qs) = got_same t u (spell_templates ps ++ rest) (spell_templates qs) (sym first ∙ ap (template_at none) same' ∙ second) in
     let others = templates_follow ps qs rest one.others two.others both.rest in
     record { more = others.more; templates = ap₂ (λ (t : Template) (ts : Templates). t ∷ ts) (sym both.value) others.templates; spelled = others.spelled }
@@ -72,9 +75,9 @@ spelled_once p q one two same =
     let follows = templates_follow p q [] one two (append-nil (spell_templates p) ∙ behind_opening p q same) in
     sym (follows.templates ∙ ap (λ ts. p ++ ts) (nothing_spelled follows.more follows.spelled) ∙ append-nil p)
 
-shallow_among : (ps : Templates) (t : Template) (more : Templates) → All (λ (t : Template). depth t.body ≤ 64) (ps ++ (t ∷ more)) → depth t.body ≤ 64
-shallow_among [] t more all = All-head (λ (t : Template). depth t.body ≤ 64) t more all
-shallow_among (u ∷ ps) t more all = shallow_among ps t more (All-tail (λ (t : Template). depth t.body ≤ 64) u (ps ++ (t ∷ more)) all)
+among : (P : Template → Type 0) (ps : Templates) (t : Template) (more : Templates) → All P (ps ++ (t ∷ more)) → P t
+among P [] t more all = All-head P t more all
+among P (u ∷ ps) t more all = among P ps t more (All-tail P u (ps ++ (t ∷ more)) all)
 
 -- a template is read again behind others
 next_again : (ps : Templates) (t : Template) (more : Templates) → IsWithinLimits (ps ++ (t ∷ more)) → template_at (counts_in ps) (spell_templates (t ∷ more)) ≡ got t (spell_templates more)
@@ -83,7 +86,7 @@ next_again ps t more limits =
     let expressions : expressions_of (ps ++ (t ∷ more)) ≡ expressions_of ps + expressions_of (t ∷ more) = sum_by-append (λ (t : Template). expressions_in t.body) ps (t ∷ more) in
     let more_terms : terms_of (t ∷ more) ≡ terms_in t.body + terms_of more = sum_by-cons (λ (t : Template). terms_in t.body) t more in
     let more_expressions : expressions_of (t ∷ more) ≡ expressions_in t.body + expressions_of more = sum_by-cons (λ (t : Template). expressions_in t.body) t more in
-    template_again t (counts_in ps) (spell_templates more) (shallow_among ps t more limits.shallow) (omega (arith, limits.few_terms)) (omega (arith, limits.few_expressions))
+    template_again t (counts_in ps) (spell_templates more) (among HasSmallTypes ps t more limits.small) (among (λ (t : Template). depth t.body ≤ 64) ps t more limits.shallow) (omega (arith, limits.few_terms)) (omega (arith, limits.few_expressions))
 
 pub behind_none : (tokens : List Tok) (fault : Fault) (left : ℕ) → StopsBehind tokens fault left → (p : Templates) → IsWithinLimits p → tokens ≡ spell_templates p → ⊥
 behind_none tokens fault left stops p limits spelled = stops_among (templates_follow stops.read p stops.rest stops.limited limits (sym stops.spelled ∙ spelled))

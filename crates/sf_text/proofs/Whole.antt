@@ -128,6 +128,7 @@ pub text_stops : (bytes : List ℕ) (found : List PlacedToken) (e : Stop) → Ar
 text_stops bytes found (At faults.Unexpected left) a s = stopped_at bytes found faults.Unexpected left a s
 text_stops bytes found (At faults.TooDeep left) a s = stopped_at bytes found faults.TooDeep left a s
 text_stops bytes found (At faults.Version left) a s = stopped_at bytes found faults.Version left a s
+text_stops bytes found (At faults.TypeTooLarge left) a s = stopped_at bytes found faults.TypeTooLarge left a s
 text_stops bytes found (At faults.TooMany left) a s = stopped_at bytes found faults.TooMany left a s
 text_stops bytes found Memory a s = tt
 
@@ -147,5 +148,6 @@ refused_none bytes (refusals.OpenText place) r other p reads = r.none reads.loca
 refused_none bytes (refusals.Unexpected place) r other p reads = stops_at_none bytes faults.Unexpected place r p reads
 refused_none bytes (refusals.TooDeep place) r other p reads = stops_at_none bytes faults.TooDeep place r p reads
 refused_none bytes (refusals.Version place) r other p reads = stops_at_none bytes faults.Version place r p reads
+refused_none bytes (refusals.TypeTooLarge place) r other p reads = stops_at_none bytes faults.TypeTooLarge place r p reads
 refused_none bytes (refusals.TooMany place) r other p reads = stops_at_none bytes faults.TooMany place r p reads
 refused_none bytes refusals.Memory r other p reads = other refl

@@ -4,19 +4,22 @@ use Rattle.std.proofs.Common.{Bor}
 use Rattle.sf_value.specs.Values.{Name, Kind}
 use Rattle.sf_text.specs.declared.part.Named.{Named}
 use Rattle.sf_text.specs.declared.part.Types.{Types}
+use Rattle.sf_value.specs.declared.ty.TyRefusal.{TyRefusal}
+use Rattle.sf_value.specs.declared.ty.TyRefusal.TheVariants as type_refusals
 use Rattle.sf_expr.specs.declared.exprs.ExprId.{ExprId}
-use Rattle.sf_expr.specs.Expressions.{Expression, size}
+use Rattle.sf_expr.specs.declared.exprs.FunctionId.{FunctionId}
+use Rattle.sf_expr.specs.Expressions.{Expression, size, Function, function_size}
 use Rattle.sf_term.specs.declared.node.TermId.{TermId}
 use Rattle.sf_term.specs.declared.program.Program.{Program}
 use Rattle.sf_term.specs.Trees.{Term, Template, terms_in, expressions_in}
-use Rattle.sf_term.specs.Arena.{HoldsTerm, HoldsExpression, tree, expression_at, term_count, expression_count, templates_of, Keeps}
+use Rattle.sf_term.specs.Arena.{HoldsTerm, HoldsExpression, HoldsFunction, tree, expression_at, function_in, term_count, expression_count, templates_of, Keeps}
 use Rattle.sf_lex.specs.Words.{IsName}
 use Rattle.sf_lex.specs.Tokens.{Tok, name, token_of}
 use Rattle.sf_lex.specs.declared.token.PlacedToken.{PlacedToken}
 use Rattle.sf_term.specs.declared.refusal.BuildRefusal.{BuildRefusal}
 use Rattle.sf_term.specs.declared.refusal.BuildRefusal.TheVariants as refusals
 use Rattle.sf_text.specs.declared.stop.Fault.{Fault}
-use Rattle.sf_text.specs.declared.stop.Fault.TheVariants.{Unexpected, TooDeep, TooMany}
+use Rattle.sf_text.specs.declared.stop.Fault.TheVariants.{Unexpected, TooDeep, TypeTooLarge, TooMany}
 use Rattle.sf_text.specs.declared.stop.Stop.{Stop}
 use Rattle.sf_text.specs.declared.stop.Stop.TheVariants.{At, Memory}
 use Rattle.sf_text.specs.Reading.{Read, got, stop, Counts}
@@ -66,6 +69,20 @@ abbrev pub ReadsExpression : Program → Program → Result (ExprId × Bor (List
 ReadsExpression old new (Ok x) read = FoundExpression old new x.0 (toks x.1.now) read
 ReadsExpression old new (Err e) read = Stops e read
 
+-- a function was read into the program
+pub record FoundFunction (old new : Program) (id : FunctionId) (rest : List Tok) (read : Read Function) : Type 0 where
+  pub function : Function
+  pub is : read ≡ got function rest
+  pub held : HoldsFunction new id
+  pub meaning : function_in new id ≡ function
+  pub kept : Keeps old new
+  pub terms : term_count new ≡ term_count old
+  pub expressions : expression_count new ≡ expression_count old + function_size function
+
+abbrev pub ReadsFunction : Program → Program → Result (FunctionId × Bor (List PlacedToken)) Stop → Read Function → Type 0
+ReadsFunction old new (Ok x) read = FoundFunction old new x.0 (toks x.1.now) read
+ReadsFunction old new (Err e) read = Stops e read
+
 -- a term was read into the program
 pub record FoundTerm (old new : Program) (id : TermId) (rest : List Tok) (read : Read Term) : Type 0 where
   pub term : Term
@@ -90,6 +107,11 @@ stop_for refusals.TooMany left = At TooMany left
 stop_for refusals.TooDeep left = At TooDeep left
 stop_for refusals.BadName left = At Unexpected left
 stop_for refusals.Memory left = Memory
+
+-- why a type was not made that begins so many tokens before the end
+abbrev pub stop_for_type : TyRefusal → ℕ → Stop
+stop_for_type type_refusals.TypeTooLarge left = At TypeTooLarge left
+stop_for_type type_refusals.Memory left = Memory
 
 -- a name among tokens is a name of the language
 abbrev pub IsNamed : Tok → Type 0

@@ -1,15 +1,20 @@
 -- What reading a list of tokens from left to right gives.
-use Rattle.std.specs.Prelude.{ℕ, zero, suc, ◌+◌, nat_le, Bool, true, false, pos, List, [], ◌∷◌, Option, Some, None, is_some, if◌then◌else◌}
+use Rattle.std.specs.Prelude.{ℕ, zero, suc, ◌+◌, nat_le, nat_lt, Bool, true, false, pos, List, [], ◌∷◌, Option, Some, None, is_some, if◌then◌else◌}
 use Rattle.std.specs.Ordering.{int_eq}
 use denote.Enum.Bare.{sameb}
-use Rattle.sf_value.specs.Values.{Name, Kind, int_kind}
-use Rattle.sf_expr.specs.Expressions.{Expression, literal, int_literal, size}
+use Rattle.sf_value.specs.Values.{Name, Kind, int_kind, pair_kind, nodes}
+use Rattle.sf_expr.specs.declared.operator.Operator.TheVariants as operators
+use Rattle.sf_expr.specs.Expressions.{Pattern, unnamed, named, both, Expression, variable, literal, int_literal, paired, operation, size, Function, function}
 use Rattle.sf_term.specs.declared.form.Bare.TheVariants as bares
 use Rattle.sf_term.specs.declared.form.WithValue.{WithValue}
 use Rattle.sf_term.specs.declared.form.WithValue.TheVariants as values
 use Rattle.sf_term.specs.declared.form.Join.{Join}
 use Rattle.sf_term.specs.declared.form.Join.TheVariants as joins
-use Rattle.sf_term.specs.Trees.{Term, primitive, joined, bare, with_value, Template, terms_in, expressions_in}
+use Rattle.sf_term.specs.declared.form.Side.{Side}
+use Rattle.sf_term.specs.declared.form.Side.TheVariants as sides
+use Rattle.sf_term.specs.declared.form.Heading.{Heading}
+use Rattle.sf_term.specs.declared.form.Heading.TheVariants as headings
+use Rattle.sf_term.specs.Trees.{Term, primitive, joined, sided, headed, bare, with_value, arrow, Template, terms_in, expressions_in}
 use Rattle.sf_lex.specs.declared.word.Keyword.{Keyword}
 use Rattle.sf_lex.specs.declared.word.Keyword.TheVariants as words
 use Rattle.sf_lex.specs.declared.symbol.Symbol.{Symbol}
@@ -18,9 +23,11 @@ use Rattle.sf_lex.specs.contracts.Symbol as symbol_type
 use Rattle.sf_lex.specs.contracts.Keyword as keyword_type
 use Rattle.sf_lex.specs.Tokens.{Tok, keyword, name, number, symbol}
 use Rattle.sf_text.specs.declared.stop.Fault.{Fault}
-use Rattle.sf_text.specs.declared.stop.Fault.TheVariants.{Unexpected, TooDeep, Version, TooMany}
+use Rattle.sf_text.specs.declared.stop.Fault.TheVariants.{Unexpected, TooDeep, Version, TypeTooLarge, TooMany}
 use Rattle.sf_text.specs.declared.head.Head.{Head}
 use Rattle.sf_text.specs.declared.head.Head.TheVariants as heads
+use Rattle.sf_text.specs.declared.head.Link.{Link}
+use Rattle.sf_text.specs.declared.head.Link.TheVariants as links
 
 -- what was read and the tokens behind it, or a fault and the tokens from there on
 pub data Read (A : Type 0) : Type 0 where
@@ -44,14 +51,51 @@ abbrev pub name_at : List Tok → Read Name
 name_at (name n ∷ rest) = got n rest
 name_at tokens = stop Unexpected tokens
 
-abbrev pub type_at : List Tok → Read Kind
-type_at (keyword words.Int ∷ rest) = got int_kind rest
-type_at tokens = stop Unexpected tokens
-
 -- the only version is 1
 abbrev pub version_at : List Tok → Read (Unit {0})
 version_at (number z ∷ rest) = if int_eq z (pos 1) then got tt rest else stop Version (number z ∷ rest)
 version_at tokens = stop Unexpected tokens
+
+-- a form is 65 deep at its first token
+abbrev pub too_deep : {A : Type 0} → (Tok → Bool) → List Tok → Read A
+too_deep begins [] = stop Unexpected []
+too_deep begins (t ∷ rest) = if begins t then stop TooDeep (t ∷ rest) else stop Unexpected (t ∷ rest)
+
+-- behind an opening bracket: a part, what stands between, a second part and the closing bracket, of which a whole is made
+abbrev pub parts_at : {A M B C : Type 0} → (List Tok → Read A) → (List Tok → Read M) → (A → List Tok → Read B) → (A → M → B → List Tok → Read C) → List Tok → Read C
+parts_at one between two whole tokens =
+    one tokens >>= λ a rest.
+    between rest >>= λ m rest.
+    two a rest >>= λ b rest.
+    symbol_at symbols.Close rest >>= λ _ rest.
+    whole a m b rest
+
+-- a type is met at its first token, behind so many others: it may be one too many for the whole type, which begins at `start`
+abbrev pub type_met : ℕ → List Tok → Read Kind → Read Kind
+type_met met start read = if nat_lt met 256 then read else stop TypeTooLarge start
+
+-- behind the opening bracket of a pair's type, which stands behind so many others, where the parts are read so
+unfoldable pub pair_type_at : (ℕ → List Tok → Read Kind) → ℕ → List Tok → Read Kind
+pair_type_at part met tokens = parts_at (part (met + 1)) (symbol_at symbols.Comma) (λ t. part (met + 1 + nodes t)) (λ t _ u rest. got (pair_kind t u) rest) tokens
+
+abbrev pub type_form_at : (ℕ → List Tok → Read Kind) → List Tok → ℕ → List Tok → Read Kind
+type_form_at part start met (keyword words.Int ∷ rest) = type_met met start (got int_kind rest)
+type_form_at part start met (symbol symbols.Open ∷ rest) = type_met met start (pair_type_at part met rest)
+type_form_at part start met tokens = stop Unexpected tokens
+
+abbrev pub begins_type : Tok → Bool
+begins_type (keyword words.Int) = true
+begins_type (symbol symbols.Open) = true
+begins_type _ = false
+
+-- a type of so much depth at most, behind so many others, within the whole type that begins at `start`
+unfoldable pub inner_type_at : ℕ → List Tok → ℕ → List Tok → Read Kind
+inner_type_at zero start met tokens = too_deep begins_type tokens
+inner_type_at (suc left) start met tokens = type_form_at (inner_type_at left start) start met tokens
+
+-- a whole type
+abbrev pub type_at : List Tok → Read Kind
+type_at tokens = inner_type_at 64 tokens 0 tokens
 
 -- what stands in front of the templates
 unfoldable pub opening_at : List Tok → Read (Unit {0})
@@ -65,61 +109,144 @@ heading_at tokens = keyword_at words.Template tokens >>= λ _ rest. name_at rest
 unfoldable pub signature_at : List Tok → Read (Kind × Kind)
 signature_at tokens = symbol_at symbols.Colon tokens >>= λ _ rest. type_at rest >>= λ input rest. symbol_at symbols.Leads rest >>= λ _ rest. type_at rest >>= λ output rest. symbol_at symbols.Equals rest >>= λ _ rest. got (input, output) rest
 
+-- behind the opening bracket of a pattern for a pair
+unfoldable pub pattern_pair_at : (List Tok → Read Pattern) → List Tok → Read Pattern
+pattern_pair_at part tokens = parts_at part (symbol_at symbols.Comma) (λ _. part) (λ p _ q rest. got (both p q) rest) tokens
+
+abbrev pub pattern_form_at : (List Tok → Read Pattern) → List Tok → Read Pattern
+pattern_form_at part (keyword words.Underscore ∷ rest) = got unnamed rest
+pattern_form_at part (name n ∷ rest) = got (named n) rest
+pattern_form_at part (symbol symbols.Open ∷ rest) = pattern_pair_at part rest
+pattern_form_at part tokens = stop Unexpected tokens
+
+abbrev pub begins_pattern : Tok → Bool
+begins_pattern (keyword words.Underscore) = true
+begins_pattern (name n) = true
+begins_pattern (symbol symbols.Open) = true
+begins_pattern _ = false
+
+-- a pattern of so much depth at most
+unfoldable pub pattern_at : ℕ → List Tok → Read Pattern
+pattern_at zero tokens = too_deep begins_pattern tokens
+pattern_at (suc left) tokens = pattern_form_at (pattern_at left) tokens
+
 -- how many terms and expressions a program has already
 pub record Counts : Type 0 where
   pub terms : ℕ
   pub expressions : ℕ
 
+-- how many it has with an expression
+abbrev pub counts_with_expression : Counts → Expression → Counts
+counts_with_expression c e = record { terms = c.terms; expressions = c.expressions + size e }
+
 -- how many it has with a term
 abbrev pub counts_with : Counts → Term → Counts
 counts_with c t = record { terms = c.terms + terms_in t; expressions = c.expressions + expressions_in t }
-
--- a form is 65 deep at its first token
-abbrev pub too_deep : {A : Type 0} → (Tok → Bool) → List Tok → Read A
-too_deep begins [] = stop Unexpected []
-too_deep begins (t ∷ rest) = if begins t then stop TooDeep (t ∷ rest) else stop Unexpected (t ∷ rest)
 
 -- an expression was read to its end: it may be one too many
 abbrev pub expression_read : Counts → Expression → List Tok → List Tok → Read Expression
 expression_read c e start rest = if nat_le (c.expressions + size e) 100000 then got e rest else stop TooMany start
 
-abbrev pub expression_form_at : Counts → List Tok → Read Expression
-expression_form_at c (number z ∷ rest) = expression_read c (literal (int_literal z)) (number z ∷ rest) rest
-expression_form_at c tokens = stop Unexpected tokens
+-- what makes one expression of the two in front of a token and behind it
+abbrev pub link_of : Tok → Option Link
+link_of (symbol symbols.Comma) = Some links.Pair
+link_of (symbol symbols.Plus) = Some (links.Operation operators.Plus)
+link_of (symbol symbols.Minus) = Some (links.Operation operators.Minus)
+link_of (symbol symbols.Times) = Some (links.Operation operators.Times)
+link_of (keyword words.Div) = Some (links.Operation operators.Divide)
+link_of (keyword words.Mod) = Some (links.Operation operators.Modulo)
+link_of _ = None
+
+abbrev pub link_from : Option Link → List Tok → List Tok → Read Link
+link_from (Some l) start rest = got l rest
+link_from None start rest = stop Unexpected start
+
+abbrev pub link_at : List Tok → Read Link
+link_at (t ∷ rest) = link_from (link_of t) (t ∷ rest) rest
+link_at [] = stop Unexpected []
+
+-- the one expression of two
+abbrev pub linked : Link → Expression → Expression → Expression
+linked links.Pair e f = paired e f
+linked (links.Operation o) e f = operation e o f
+
+-- behind an opening bracket, with which `start` begins, where the parts are read so
+unfoldable pub linked_at : (Counts → List Tok → Read Expression) → Counts → List Tok → List Tok → Read Expression
+linked_at part c start tokens = parts_at (part c) link_at (λ e. part (counts_with_expression c e)) (λ e l f rest. expression_read c (linked l e f) start rest) tokens
+
+-- an expression by its first token
+abbrev pub expression_form_at : (Counts → List Tok → Read Expression) → Counts → List Tok → Read Expression
+expression_form_at part c (name n ∷ rest) = expression_read c (variable n) (name n ∷ rest) rest
+expression_form_at part c (number z ∷ rest) = expression_read c (literal (int_literal z)) (number z ∷ rest) rest
+expression_form_at part c (symbol symbols.Open ∷ rest) = linked_at part c (symbol symbols.Open ∷ rest) rest
+expression_form_at part c tokens = stop Unexpected tokens
 
 abbrev pub begins_expression : Tok → Bool
+begins_expression (name n) = true
 begins_expression (number z) = true
+begins_expression (symbol symbols.Open) = true
 begins_expression _ = false
 
 -- an expression of so much depth at most
 unfoldable pub expression_at : ℕ → Counts → List Tok → Read Expression
 expression_at zero c tokens = too_deep begins_expression tokens
-expression_at (suc left) c tokens = expression_form_at c tokens
+expression_at (suc left) c tokens = expression_form_at (expression_at left) c tokens
+
+-- a function, whose pattern and expression are of so much depth at most
+unfoldable pub function_at : ℕ → Counts → List Tok → Read Function
+function_at left c tokens =
+    pattern_at left tokens >>= λ p rest.
+    symbol_at symbols.MapsTo rest >>= λ _ rest.
+    expression_at left c rest >>= λ e rest.
+    got (function p e) rest
 
 -- a term was read to its end: it may be one too many
 abbrev pub term_read : Counts → Term → List Tok → List Tok → Read Term
 term_read c t start rest = if nat_le (c.terms + terms_in t) 100000 then got t rest else stop TooMany start
 
--- the primitive that a word begins
+-- the form that a word begins
 abbrev pub head_of : Keyword → Option Head
 head_of words.Identity = Some (heads.Bare bares.Identity)
 head_of words.Constant = Some (heads.WithValue values.Constant)
 head_of words.IPre = Some (heads.WithValue values.InitialPre)
+head_of words.Arr = Some heads.Arrow
+head_of words.First = Some (heads.Sided sides.First)
+head_of words.Second = Some (heads.Sided sides.Second)
+head_of words.LoopPre = Some (heads.Headed headings.LoopPre)
 head_of _ = None
 
 abbrev pub join_of : Symbol → Option Join
 join_of symbols.InSequence = Some joins.InSequence
+join_of symbols.InParallel = Some joins.InParallel
+join_of symbols.FannedOut = Some joins.FannedOut
 join_of _ = None
 
 -- behind the word of a primitive with a value; `start` begins with that word
 unfoldable pub value_at : ℕ → Counts → WithValue → List Tok → List Tok → Read Term
 value_at left c v start tokens = expression_at left c tokens >>= λ e rest. term_read c (primitive (with_value v e)) start rest
 
--- behind a primitive's word
-abbrev pub primitive_at : ℕ → Counts → Option Head → List Tok → List Tok → Read Term
-primitive_at left c (Some (heads.Bare b)) start tokens = term_read c (primitive (bare b)) start tokens
-primitive_at left c (Some (heads.WithValue v)) start tokens = value_at left c v start tokens
-primitive_at left c None start tokens = stop Unexpected start
+-- behind `arr`
+unfoldable pub arrow_at : ℕ → Counts → List Tok → List Tok → Read Term
+arrow_at left c start tokens = function_at left c tokens >>= λ f rest. term_read c (primitive (arrow f)) start rest
+
+-- behind the word of a term on one part of a pair, where that term is read so
+unfoldable pub sided_at : (Counts → List Tok → Read Term) → Counts → Side → List Tok → List Tok → Read Term
+sided_at part c s start tokens = part c tokens >>= λ f rest. term_read c (sided s f) start rest
+
+-- behind the word of a term with an expression at its head, where the expression and the term are read so
+unfoldable pub headed_at : ℕ → (Counts → List Tok → Read Term) → Counts → Heading → List Tok → List Tok → Read Term
+headed_at left part c h start tokens =
+    symbol_at symbols.Open tokens >>= λ _ rest.
+    parts_at (expression_at left c) (symbol_at symbols.Comma) (λ e. part (counts_with_expression c e)) (λ e _ f rest. term_read c (headed h e f) start rest) rest
+
+-- behind the word of a form
+abbrev pub worded_at : ℕ → (Counts → List Tok → Read Term) → Counts → Option Head → List Tok → List Tok → Read Term
+worded_at left part c (Some (heads.Bare b)) start tokens = term_read c (primitive (bare b)) start tokens
+worded_at left part c (Some (heads.WithValue v)) start tokens = value_at left c v start tokens
+worded_at left part c (Some heads.Arrow) start tokens = arrow_at left c start tokens
+worded_at left part c (Some (heads.Sided s)) start tokens = sided_at part c s start tokens
+worded_at left part c (Some (heads.Headed h)) start tokens = headed_at left part c h start tokens
+worded_at left part c None start tokens = stop Unexpected start
 
 abbrev pub join_from : Option Join → Symbol → List Tok → Read Join
 join_from (Some j) s rest = got j rest
@@ -131,16 +258,11 @@ join_at tokens = stop Unexpected tokens
 
 -- behind an opening bracket, with which `start` begins, where the parts are read so
 unfoldable pub joined_at : (Counts → List Tok → Read Term) → Counts → List Tok → List Tok → Read Term
-joined_at part c start tokens =
-    part c tokens >>= λ f rest.
-    join_at rest >>= λ j rest.
-    part (counts_with c f) rest >>= λ g rest.
-    symbol_at symbols.Close rest >>= λ _ rest.
-    term_read c (joined j f g) start rest
+joined_at part c start tokens = parts_at (part c) join_at (λ f. part (counts_with c f)) (λ f j g rest. term_read c (joined j f g) start rest) tokens
 
 -- a term by its first token
 abbrev pub form_at : ℕ → (Counts → List Tok → Read Term) → Counts → List Tok → Read Term
-form_at left part c (keyword k ∷ rest) = primitive_at left c (head_of k) (keyword k ∷ rest) rest
+form_at left part c (keyword k ∷ rest) = worded_at left part c (head_of k) (keyword k ∷ rest) rest
 form_at left part c (symbol symbols.Open ∷ rest) = joined_at part c (symbol symbols.Open ∷ rest) rest
 form_at left part c tokens = stop Unexpected tokens
 

@@ -14,7 +14,7 @@ use Rattle.sf_text.specs.declared.stop.Fault.TheVariants as faults
 use Rattle.sf_text.specs.declared.stop.Stop.{Stop}
 use Rattle.sf_text.specs.declared.stop.Stop.TheVariants as stops
 use Rattle.sf_text.specs.declared.refusal.TextRefusal.{TextRefusal}
-use Rattle.sf_text.specs.declared.refusal.TextRefusal.TheVariants.{TooLong, BadByte, NumberTooLarge, OpenText, Unexpected, TooDeep, Version, TooMany, Memory}
+use Rattle.sf_text.specs.declared.refusal.TextRefusal.TheVariants.{TooLong, BadByte, NumberTooLarge, OpenText, Unexpected, TooDeep, Version, TypeTooLarge, TooMany, Memory}
 use Rattle.sf_text.specs.Spelling.{spell, spell_templates, terms_of, expressions_of, IsWithinLimits}
 use Rattle.sf_text.specs.Reading.{Counts, opening_at, template_at}
 use Rattle.sf_text.specs.Answers.{Stopped, counts_of, AreNamed}
@@ -63,6 +63,7 @@ Refuses bytes (OpenText place) = BytesRefused bytes (bytes_refusals.OpenText pla
 Refuses bytes (Unexpected place) = StopsAt bytes faults.Unexpected place
 Refuses bytes (TooDeep place) = StopsAt bytes faults.TooDeep place
 Refuses bytes (Version place) = StopsAt bytes faults.Version place
+Refuses bytes (TypeTooLarge place) = StopsAt bytes faults.TypeTooLarge place
 Refuses bytes (TooMany place) = StopsAt bytes faults.TooMany place
 Refuses bytes Memory = Unit {0}
 
@@ -118,6 +119,7 @@ abbrev pub fault_refusal : Fault → Place → TextRefusal
 fault_refusal faults.Unexpected place = Unexpected place
 fault_refusal faults.TooDeep place = TooDeep place
 fault_refusal faults.Version place = Version place
+fault_refusal faults.TypeTooLarge place = TypeTooLarge place
 fault_refusal faults.TooMany place = TooMany place
 
 abbrev pub stop_refusal : List ℕ → List PlacedToken → Stop → TextRefusal

@@ -1,15 +1,18 @@
 //! Reads the text of a network.
 #![tactic(auto)]
 
+mod expression;
 mod head;
 mod laws;
 mod network;
 mod part;
+mod pattern;
 mod place;
 mod refusal;
 mod stop;
 mod template;
 mod term;
+mod ty;
 
 pub use laws::one_network;
 pub use network::read_network;

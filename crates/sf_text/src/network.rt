@@ -49,8 +49,9 @@ fn network<'a>(
     templates(alloc, rest, program)
 }
 
-/// The network whose text this is: version 1, at most 1,048,576 bytes, 100,000 terms and 100,000 expressions, of which at
-/// most 64 stand one inside another. Faults of tokens come first; then the first in reading order.
+/// The network whose text this is: version 1, at most 1,048,576 bytes, 100,000 terms and 100,000 expressions. At most 64
+/// terms, expressions, patterns or types stand one inside another, and a type has at most 256 nodes. Faults of tokens come
+/// first; then the first in reading order.
 #[tactic(auto, using(crate::proofs::Whole::tokens_named, crate::proofs::Whole::text_read, crate::proofs::Whole::text_stops, crate::proofs::Whole::refused_none))]
 pub fn read_network(alloc: Global, bytes: &[u8]) -> Result<Program, TextRefusal>
     // What is read is the network of the text.

@@ -1,13 +1,15 @@
 //! Single tokens, and what has a fixed shape.
-ghost use Rattle.std.specs.Prelude.{◌≡◌, ℕ, List, length};
-ghost use Rattle.sf_text.specs.Answers.{toks, Stops, Reads, ReadsRest, name_in, kinds_in};
-ghost use Rattle.sf_text.specs.Reading.{Read, stop, symbol_at, keyword_at, name_at, type_at, version_at, opening_at, heading_at, signature_at};
+ghost use Rattle.std.specs.Prelude.{◌≡◌, ℕ, List, length, IfOk};
+ghost use Rattle.sf_text.specs.Answers.{toks, AreNamed, Stops, Reads, ReadsRest, name_in, kinds_in};
+ghost use Rattle.sf_text.specs.Reading.{Read, stop, symbol_at, keyword_at, name_at, version_at, opening_at, heading_at, signature_at};
 ghost use Rattle.sf_text.specs.declared.stop.Fault.TheVariants.{Unexpected, Version};
 
 use crate::stop::{Fault, Stop};
+use crate::ty::ty;
 use sf_expr::Spot;
 use sf_lex::{Keyword, Place, PlacedToken, Symbol, Token};
 use sf_value::Ty;
+use std::alloc::Global;
 
 /// The place of a token as the place of what it begins.
 pub(crate) fn spot_of(place: Place) -> Spot {
@@ -29,7 +31,8 @@ pub(crate) fn symbol<'a>(
     tokens: &'a [PlacedToken<'a>],
     wanted: Symbol,
 ) -> Result<&'a [PlacedToken<'a>], Stop>
-    ensures { ReadsRest result (symbol_at wanted (toks tokens.now)) }
+    ensures reads { ReadsRest result (symbol_at wanted (toks tokens.now)) }
+    ensures named { IfOk result (λ rest. AreNamed (toks tokens.now) → AreNamed (toks rest.now)) }
 {
     if let [first, rest @ ..] = tokens {
         if let Token::Symbol(symbol) = &first.token {
@@ -73,18 +76,6 @@ fn name<'a>(tokens: &'a [PlacedToken<'a>]) -> Result<(Named<'a>, &'a [PlacedToke
         if let Token::Name(name) = &first.token {
             let spot = spot_of(first.place);
             return Ok((Named { name: *name, spot }, rest));
-        }
-    }
-    Err(stop_at(Fault::Unexpected, tokens))
-}
-
-/// A type, and the tokens behind it.
-fn ty<'a>(tokens: &'a [PlacedToken<'a>]) -> Result<(Ty, &'a [PlacedToken<'a>]), Stop>
-    ensures { Reads (λ k. k) result (type_at (toks tokens.now)) }
-{
-    if let [first, rest @ ..] = tokens {
-        if let Token::Keyword(Keyword::Int) = &first.token {
-            return Ok((Ty::int(), rest));
         }
     }
     Err(stop_at(Fault::Unexpected, tokens))
@@ -139,14 +130,15 @@ pub(crate) struct Types {
 /// The types of a template's inputs and outputs, and the tokens behind them.
 #[tactic(auto, unfolding(crate::specs::Reading::signature_at))]
 pub(crate) fn signature<'a>(
+    alloc: Global,
     tokens: &'a [PlacedToken<'a>],
 ) -> Result<(Types, &'a [PlacedToken<'a>]), Stop>
     ensures { Reads kinds_in result (signature_at (toks tokens.now)) }
 {
     let rest = symbol(tokens, Symbol::Colon)?;
-    let (input, rest) = ty(rest)?;
+    let (input, rest) = ty(alloc, rest)?;
     let rest = symbol(rest, Symbol::Leads)?;
-    let (output, rest) = ty(rest)?;
+    let (output, rest) = ty(alloc, rest)?;
     let rest = symbol(rest, Symbol::Equals)?;
     Ok((Types { input, output }, rest))
 }

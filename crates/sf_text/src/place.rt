@@ -58,6 +58,7 @@ pub(crate) fn refusal_at(stop: Stop, tokens: &[PlacedToken], bytes: &[u8]) -> Te
                 Fault::Unexpected => TextRefusal::Unexpected(place),
                 Fault::TooDeep => TextRefusal::TooDeep(place),
                 Fault::Version => TextRefusal::Version(place),
+                Fault::TypeTooLarge => TextRefusal::TypeTooLarge(place),
                 Fault::TooMany => TextRefusal::TooMany(place),
             }
         }

@@ -30,6 +30,9 @@ pub enum TextRefusal {
     /// A version other than 1.
     #[error("P3 Version {0}")]
     Version(Place),
+    /// The first token of a type of more than 256 nodes.
+    #[error("P4 TypeTooLarge {0}")]
+    TypeTooLarge(Place),
     /// The first token of the form that is term or expression 100,001.
     #[error("B1 TooMany {0}")]
     TooMany(Place),
@@ -67,6 +70,7 @@ impl TextRefusal {
             TextRefusal::Unexpected(_) => Some("P1"),
             TextRefusal::TooDeep(_) => Some("P2"),
             TextRefusal::Version(_) => Some("P3"),
+            TextRefusal::TypeTooLarge(_) => Some("P4"),
             TextRefusal::TooMany(_) => Some("B1"),
             TextRefusal::Memory => None,
         }
@@ -84,6 +88,7 @@ impl TextRefusal {
             TextRefusal::Unexpected(_) => "Unexpected",
             TextRefusal::TooDeep(_) => "TooDeep",
             TextRefusal::Version(_) => "Version",
+            TextRefusal::TypeTooLarge(_) => "TypeTooLarge",
             TextRefusal::TooMany(_) => "TooMany",
             TextRefusal::Memory => "Memory",
         }
@@ -101,6 +106,7 @@ impl TextRefusal {
             | TextRefusal::Unexpected(place)
             | TextRefusal::TooDeep(place)
             | TextRefusal::Version(place)
+            | TextRefusal::TypeTooLarge(place)
             | TextRefusal::TooMany(place) => Some(*place),
             TextRefusal::Memory => None,
         }

@@ -10,6 +10,7 @@ pub(crate) enum Fault {
     Unexpected,
     TooDeep,
     Version,
+    TypeTooLarge,
     TooMany,
 }
 

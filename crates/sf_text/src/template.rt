@@ -2,9 +2,10 @@
 ghost use Rattle.sf_text.specs.Answers.{toks, AreNamed, ReadsTemplate, counts_of};
 ghost use Rattle.sf_text.specs.Reading.{template_at};
 
+use crate::expression::refused;
 use crate::part::{heading, signature, symbol};
 use crate::stop::Stop;
-use crate::term::{refused, term};
+use crate::term::term;
 use sf_lex::{PlacedToken, Symbol};
 use sf_term::Program;
 use std::alloc::Global;
@@ -20,8 +21,8 @@ pub(crate) fn template<'a>(
     ensures { ReadsTemplate program.old program.new result (template_at (counts_of program.old) (toks tokens.now)) }
 {
     let (heading, rest) = heading(tokens)?;
-    let (types, rest) = signature(rest)?;
-    let (body, rest) = term(rest, program, 64)?;
+    let (types, rest) = signature(alloc, rest)?;
+    let (body, rest) = term(alloc, rest, program, 64)?;
     let rest = symbol(rest, Symbol::Semicolon)?;
     let name = String::from_str(alloc, heading.name)?;
     match program.template(name, heading.spot, types.input, types.output, body) {

@@ -1,35 +1,18 @@
-//! Expressions and terms.
-ghost use Rattle.std.specs.Prelude.{◌≡◌, ℕ, ◌≤◌, List, length};
+//! Terms.
+ghost use Rattle.std.specs.Prelude.{◌≡◌, ◌≤◌, IfOk};
 ghost use Rattle.sf_lex.specs.Tokens.{token_of};
-ghost use Rattle.sf_expr.specs.Expressions.{Expression};
 ghost use Rattle.sf_term.specs.Trees.{Term, primitive as primitive_form, bare as bare_form};
-ghost use Rattle.sf_text.specs.Answers.{toks, Stops, Reads, ReadsExpression, ReadsTerm, counts_of, stop_for};
-ghost use Rattle.sf_text.specs.Reading.{Read, begins_expression, begins_term, too_deep, expression_form_at, expression_at, term_read, value_at, primitive_at, join_at, joined_at, form_at, term_at};
+ghost use Rattle.sf_text.specs.Answers.{toks, AreNamed, Stops, Reads, ReadsTerm, counts_of};
+ghost use Rattle.sf_text.specs.Reading.{begins_term, too_deep, term_read, value_at, arrow_at, sided_at, headed_at, join_at, joined_at, form_at, worded_at, term_at};
 
+use crate::expression::{expression, function, refused};
 use crate::head::{Head, head_of, join_of};
 use crate::part::{spot_of, stop_at, symbol};
 use crate::stop::{Fault, Stop};
-use sf_expr::{ExprId, Spot};
+use sf_expr::Spot;
 use sf_lex::{PlacedToken, Symbol, Token};
-use sf_term::{Bare, BuildRefusal, Join, Program, TermId, WithValue};
-
-/// Why a program took no more, at the first of these tokens.
-pub(crate) fn refused(refusal: BuildRefusal, tokens: &[PlacedToken]) -> Stop
-    ensures { result ≡ stop_for refusal (length tokens.now) }
-{
-    match refusal {
-        BuildRefusal::TooMany => stop_at(Fault::TooMany, tokens),
-        BuildRefusal::TooDeep => stop_at(Fault::TooDeep, tokens),
-        BuildRefusal::BadName => stop_at(Fault::Unexpected, tokens),
-        BuildRefusal::Memory => Stop::Memory,
-    }
-}
-
-fn begins_expression(token: &Token) -> bool
-    ensures { result ≡ begins_expression (token_of token.now) }
-{
-    matches!(token, Token::Number(_))
-}
+use sf_term::{Bare, Heading, Join, Program, Side, TermId, WithValue};
+use std::alloc::Global;
 
 fn begins_term(token: &Token) -> bool
     ensures { result ≡ begins_term (token_of token.now) }
@@ -41,16 +24,6 @@ fn begins_term(token: &Token) -> bool
     }
 }
 
-/// An expression would be 65 deep here.
-fn expression_too_deep(tokens: &[PlacedToken]) -> Stop
-    ensures { Stops {A = Expression} result (too_deep begins_expression (toks tokens.now)) }
-{
-    match tokens {
-        [first, ..] if begins_expression(&first.token) => stop_at(Fault::TooDeep, tokens),
-        _ => stop_at(Fault::Unexpected, tokens),
-    }
-}
-
 /// A term would be 65 deep here.
 fn term_too_deep(tokens: &[PlacedToken]) -> Stop
     ensures { Stops {A = Term} result (too_deep begins_term (toks tokens.now)) }
@@ -59,39 +32,6 @@ fn term_too_deep(tokens: &[PlacedToken]) -> Stop
         [first, ..] if begins_term(&first.token) => stop_at(Fault::TooDeep, tokens),
         _ => stop_at(Fault::Unexpected, tokens),
     }
-}
-
-/// An expression, and the tokens behind it.
-fn expression_form<'a>(
-    tokens: &'a [PlacedToken<'a>],
-    program: &mut Program,
-) -> Result<(ExprId, &'a [PlacedToken<'a>]), Stop>
-    ensures { ReadsExpression program.old program.new result (expression_form_at (counts_of program.old) (toks tokens.now)) }
-{
-    if let [first, rest @ ..] = tokens {
-        if let Token::Number(number) = &first.token {
-            return match program.int(*number, spot_of(first.place)) {
-                Ok(id) => Ok((id, rest)),
-                Err(refusal) => Err(refused(refusal, tokens)),
-            };
-        }
-    }
-    Err(stop_at(Fault::Unexpected, tokens))
-}
-
-/// An expression of so much depth at most, and the tokens behind it.
-#[tactic(auto, using(crate::proofs::Deeper::expression_at_more, crate::proofs::Deeper::expression_at_zero))]
-fn expression<'a>(
-    tokens: &'a [PlacedToken<'a>],
-    program: &mut Program,
-    left: u32,
-) -> Result<(ExprId, &'a [PlacedToken<'a>]), Stop>
-    ensures { ReadsExpression program.old program.new result (expression_at left (counts_of program.old) (toks tokens.now)) }
-{
-    if left == 0 {
-        return Err(expression_too_deep(tokens));
-    }
-    expression_form(tokens, program)
 }
 
 /// A primitive without constants, whose word is the first of these tokens, and the tokens behind it.
@@ -113,6 +53,7 @@ fn bare<'a>(
 /// A primitive with a value, whose word is the first of these tokens, and the tokens behind it.
 #[tactic(auto, unfolding(crate::specs::Reading::value_at))]
 fn with_value<'a>(
+    alloc: Global,
     tokens: &'a [PlacedToken<'a>],
     rest: &'a [PlacedToken<'a>],
     program: &mut Program,
@@ -120,11 +61,33 @@ fn with_value<'a>(
     spot: Spot,
     left: u32,
 ) -> Result<(TermId, &'a [PlacedToken<'a>]), Stop>
-    requires { left ≤ 63 }
+    requires shallow { left ≤ 63 }
+    requires named { AreNamed (toks rest.now) }
     ensures { ReadsTerm program.old program.new result (value_at left (counts_of program.old) kind (toks tokens.now) (toks rest.now)) }
 {
-    let (value, rest) = expression(rest, program, left)?;
+    let (value, rest) = expression(alloc, rest, program, left)?;
     match program.with_value(kind, value, spot) {
+        Ok(id) => Ok((id, rest)),
+        Err(refusal) => Err(refused(refusal, tokens)),
+    }
+}
+
+/// A function as a primitive, whose word is the first of these tokens, and the tokens behind it.
+#[tactic(auto, unfolding(crate::specs::Reading::arrow_at))]
+fn arrow<'a>(
+    alloc: Global,
+    tokens: &'a [PlacedToken<'a>],
+    rest: &'a [PlacedToken<'a>],
+    program: &mut Program,
+    spot: Spot,
+    left: u32,
+) -> Result<(TermId, &'a [PlacedToken<'a>]), Stop>
+    requires shallow { left ≤ 63 }
+    requires named { AreNamed (toks rest.now) }
+    ensures { ReadsTerm program.old program.new result (arrow_at left (counts_of program.old) (toks tokens.now) (toks rest.now)) }
+{
+    let (function, rest) = function(alloc, rest, program, left)?;
+    match program.arrow(function, spot) {
         Ok(id) => Ok((id, rest)),
         Err(refusal) => Err(refused(refusal, tokens)),
     }
@@ -132,7 +95,8 @@ fn with_value<'a>(
 
 /// The symbol between two terms, and the tokens behind it.
 fn join<'a>(tokens: &'a [PlacedToken<'a>]) -> Result<(Join, &'a [PlacedToken<'a>]), Stop>
-    ensures { Reads (λ j. j) result (join_at (toks tokens.now)) }
+    ensures reads { Reads (λ j. j) result (join_at (toks tokens.now)) }
+    ensures named { IfOk result (λ x. AreNamed (toks tokens.now) → AreNamed (toks x.1.now)) }
 {
     if let [first, rest @ ..] = tokens {
         if let Token::Symbol(symbol) = &first.token {
@@ -148,26 +112,30 @@ fn join<'a>(tokens: &'a [PlacedToken<'a>]) -> Result<(Join, &'a [PlacedToken<'a>
 #[cycle(term)]
 #[tactic(auto, using(crate::proofs::Deeper::term_at_more, crate::proofs::Deeper::term_at_zero))]
 pub(crate) fn term<'a>(
+    alloc: Global,
     tokens: &'a [PlacedToken<'a>],
     program: &mut Program,
     left: u32,
 ) -> Result<(TermId, &'a [PlacedToken<'a>]), Stop>
-    requires { left ≤ 64 }
+    requires shallow { left ≤ 64 }
+    requires named { AreNamed (toks tokens.now) }
     ensures { ReadsTerm program.old program.new result (term_at left (counts_of program.old) (toks tokens.now)) }
 {
     if left == 0 {
         return Err(term_too_deep(tokens));
     }
-    form(tokens, program, left - 1)
+    form(alloc, tokens, program, left - 1)
 }
 
 #[cycle(term)]
 fn form<'a>(
+    alloc: Global,
     tokens: &'a [PlacedToken<'a>],
     program: &mut Program,
     left: u32,
 ) -> Result<(TermId, &'a [PlacedToken<'a>]), Stop>
-    requires { left ≤ 63 }
+    requires shallow { left ≤ 63 }
+    requires named { AreNamed (toks tokens.now) }
     ensures { ReadsTerm program.old program.new result (form_at left (term_at left) (counts_of program.old) (toks tokens.now)) }
 {
     let [first, rest @ ..] = tokens else {
@@ -176,31 +144,106 @@ fn form<'a>(
     let spot = spot_of(first.place);
     match &first.token {
         Token::Keyword(keyword) => match head_of(*keyword) {
-            Some(Head::Bare(kind)) => bare(tokens, rest, program, kind, spot),
-            Some(Head::WithValue(kind)) => with_value(tokens, rest, program, kind, spot, left),
+            Some(head) => worded(alloc, tokens, rest, program, head, spot, left),
             None => Err(stop_at(Fault::Unexpected, tokens)),
         },
-        Token::Symbol(Symbol::Open) => joined(tokens, rest, program, spot, left),
+        Token::Symbol(Symbol::Open) => joined(alloc, tokens, rest, program, spot, left),
         _ => Err(stop_at(Fault::Unexpected, tokens)),
+    }
+}
+
+/// A form whose word is the first of these tokens, and the tokens behind it.
+#[cycle(term)]
+fn worded<'a>(
+    alloc: Global,
+    tokens: &'a [PlacedToken<'a>],
+    rest: &'a [PlacedToken<'a>],
+    program: &mut Program,
+    head: Head,
+    spot: Spot,
+    left: u32,
+) -> Result<(TermId, &'a [PlacedToken<'a>]), Stop>
+    requires shallow { left ≤ 63 }
+    requires named { AreNamed (toks rest.now) }
+    ensures { ReadsTerm program.old program.new result (worded_at left (term_at left) (counts_of program.old) (Some head) (toks tokens.now) (toks rest.now)) }
+{
+    match head {
+        Head::Bare(kind) => bare(tokens, rest, program, kind, spot),
+        Head::WithValue(kind) => with_value(alloc, tokens, rest, program, kind, spot, left),
+        Head::Arrow => arrow(alloc, tokens, rest, program, spot, left),
+        Head::Sided(side) => sided(alloc, tokens, rest, program, side, spot, left),
+        Head::Headed(heading) => headed(alloc, tokens, rest, program, heading, spot, left),
+    }
+}
+
+/// A term on one part of a pair, whose word is the first of these tokens, and the tokens behind it.
+#[cycle(term)]
+#[tactic(auto, unfolding(crate::specs::Reading::sided_at))]
+fn sided<'a>(
+    alloc: Global,
+    tokens: &'a [PlacedToken<'a>],
+    rest: &'a [PlacedToken<'a>],
+    program: &mut Program,
+    side: Side,
+    spot: Spot,
+    left: u32,
+) -> Result<(TermId, &'a [PlacedToken<'a>]), Stop>
+    requires shallow { left ≤ 63 }
+    requires named { AreNamed (toks rest.now) }
+    ensures { ReadsTerm program.old program.new result (sided_at (term_at left) (counts_of program.old) side (toks tokens.now) (toks rest.now)) }
+{
+    let (part, rest) = term(alloc, rest, program, left)?;
+    match program.sided(side, part, spot) {
+        Ok(id) => Ok((id, rest)),
+        Err(refusal) => Err(refused(refusal, tokens)),
+    }
+}
+
+/// A term with an expression at its head, whose word is the first of these tokens, and the tokens behind it.
+#[cycle(term)]
+#[tactic(auto, using(crate::proofs::Named::expression_named), unfolding(crate::specs::Reading::headed_at))]
+fn headed<'a>(
+    alloc: Global,
+    tokens: &'a [PlacedToken<'a>],
+    rest: &'a [PlacedToken<'a>],
+    program: &mut Program,
+    heading: Heading,
+    spot: Spot,
+    left: u32,
+) -> Result<(TermId, &'a [PlacedToken<'a>]), Stop>
+    requires shallow { left ≤ 63 }
+    requires named { AreNamed (toks rest.now) }
+    ensures { ReadsTerm program.old program.new result (headed_at left (term_at left) (counts_of program.old) heading (toks tokens.now) (toks rest.now)) }
+{
+    let rest = symbol(rest, Symbol::Open)?;
+    let (value, rest) = expression(alloc, rest, program, left)?;
+    let rest = symbol(rest, Symbol::Comma)?;
+    let (part, rest) = term(alloc, rest, program, left)?;
+    let rest = symbol(rest, Symbol::Close)?;
+    match program.headed(heading, value, part, spot) {
+        Ok(id) => Ok((id, rest)),
+        Err(refusal) => Err(refused(refusal, tokens)),
     }
 }
 
 /// Two terms joined, whose opening bracket is the first of these tokens, and the tokens behind them.
 #[cycle(term)]
-#[tactic(auto, unfolding(crate::specs::Reading::joined_at))]
+#[tactic(auto, using(crate::proofs::Named::term_named), unfolding(crate::specs::Reading::joined_at))]
 fn joined<'a>(
+    alloc: Global,
     tokens: &'a [PlacedToken<'a>],
     rest: &'a [PlacedToken<'a>],
     program: &mut Program,
     spot: Spot,
     left: u32,
 ) -> Result<(TermId, &'a [PlacedToken<'a>]), Stop>
-    requires { left ≤ 63 }
+    requires shallow { left ≤ 63 }
+    requires named { AreNamed (toks rest.now) }
     ensures { ReadsTerm program.old program.new result (joined_at (term_at left) (counts_of program.old) (toks tokens.now) (toks rest.now)) }
 {
-    let (one, rest) = term(rest, program, left)?;
+    let (one, rest) = term(alloc, rest, program, left)?;
     let (join, rest) = join(rest)?;
-    let (two, rest) = term(rest, program, left)?;
+    let (two, rest) = term(alloc, rest, program, left)?;
     let rest = symbol(rest, Symbol::Close)?;
     match program.joined(join, one, two, spot) {
         Ok(id) => Ok((id, rest)),

@@ -1,8 +1,13 @@
 pub mod Numbers
 pub mod Digits
 pub mod Readers
+pub mod Sequences
 pub mod Integers
+pub mod Languages
+pub mod Pairs
 pub mod EachKind
+pub mod Typing
+pub mod Fronts
 pub mod Settled
 pub mod Unique
 pub mod Capped

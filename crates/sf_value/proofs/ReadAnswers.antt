@@ -5,7 +5,8 @@ use Rattle.sf_value.specs.Scan.{bad, fault, Scanned, value_at}
 use Rattle.sf_value.specs.Spelling.{spelling}
 use Rattle.sf_value.specs.Reading.{wide, Reads, bad_value, out_of_range}
 use Rattle.sf_value.proofs.Readers.{Within, FaultFrom, Sound, never_grows}
-use Rattle.sf_value.proofs.EachKind.{kinds, reader}
+use Rattle.sf_value.proofs.Languages.{kinds}
+use Rattle.sf_value.proofs.EachKind.{reader}
 use Rattle.sf_value.proofs.Settled.{answer, reads, only}
 
 module _ (t : Kind) (bytes : List ℕ) where

@@ -1,12 +1,13 @@
 -- What reading all the bytes answers is the value that they spell, or the refusal with the least place.
-use Rattle.std.proofs.Common.{◌≡◌, ℕ, ◌-◌, ◌≤◌, Bool, true, false, List, [], ◌∷◌, ◌++◌, length, Result, Ok, Err, refl, sym, ap, subst, ◌∙◌, arith, append-nil, length-append, ℤ}
+use Rattle.std.proofs.Common.{◌≡◌, inl, inr, ⊎_elim, ℕ, ◌-◌, ◌≤◌, Bool, true, false, List, [], ◌∷◌, ◌++◌, length, Result, Ok, Err, refl, sym, ap, subst, ◌∙◌, arith, append-nil, length-append, ℤ}
 use Rattle.std.proofs.lemmas.Bool.{false≢true}
-use Rattle.sf_value.specs.Values.{Kind, Data, is_narrow, HasKind, has_int}
+use Rattle.sf_value.specs.Values.{Kind, Data, is_narrow, HasKind, has_int, has_pair}
 use Rattle.sf_value.specs.Scan.{Stop, bad, fault, Scanned, value_at}
 use Rattle.sf_value.specs.Spelling.{spelling, integer}
-use Rattle.sf_value.specs.Reading.{HasShape, int_shape, Cause, wide, HasFault, IsGood, IsLongestGood, IsFaultAt, Refusal, bad_value, out_of_range, place, IsRefused, Reads}
+use Rattle.sf_value.specs.Reading.{HasShape, int_shape, pair_shape, Cause, wide, HasFault, IsGood, IsLongestGood, IsFaultAt, Refusal, bad_value, out_of_range, place, IsRefused, Reads}
 use Rattle.sf_value.proofs.Readers.{Sound, Whole, StopsAt, FaultFrom, Completes, Within, NoneBefore}
-use Rattle.sf_value.proofs.EachKind.{kinds, reader}
+use Rattle.sf_value.proofs.Languages.{kinds}
+use Rattle.sf_value.proofs.EachKind.{reader}
 
 -- the place where so many bytes of len are left
 abbrev pub refusal : ℕ → Stop → Refusal
@@ -26,12 +27,20 @@ typed t v (int_shape {z = z}) clean = has_int (each (is_narrow z) refl)
     each : (b : Bool) → is_narrow z ≡ b → is_narrow z ≡ true
     each true e = e
     each false e = absurd (clean [] wide z (refl, refl, refl, e))
+typed t v (pair_shape {x = x} {y = y} {t = l} {u = r} h k) clean = has_pair
+    (typed l x h (λ before c z f. clean (40 ∷ before) c z (inl (before, refl, f))))
+    (typed r y k (λ before c z f. clean ((40 ∷ spelling x) ++ (44 ∷ before)) c z (inr (before, refl, f))))
 
 pub shaped : (t : Kind) (v : Data) → HasKind v t → HasShape v t
 shaped t v (has_int h) = int_shape
+shaped t v (has_pair h k) = pair_shape (shaped _ _ h) (shaped _ _ k)
 
 pub faultless : (t : Kind) (v : Data) → HasKind v t → (before : List ℕ) (c : Cause) (z : ℤ) → HasFault v before c z → ⊥
 faultless t v (has_int h) before c z f = false≢true (sym f.3 ∙ h)
+faultless t v (has_pair {x = x} {y = y} h k) before c z f = ⊎_elim
+    (λ (g : (inner : List ℕ) × (before ≡ 40 ∷ inner) × HasFault x inner c z). faultless _ x h g.0 c z g.2)
+    (λ (g : (inner : List ℕ) × (before ≡ (40 ∷ spelling x) ++ (44 ∷ inner)) × HasFault y inner c z). faultless _ y k g.0 c z g.2)
+    f
 
 module _ (t : Kind) (bytes : List ℕ) where
   abbrev outcome : Scanned Data

@@ -7,7 +7,7 @@ use Rattle.sf_value.specs.Reading.{Cause, wide, IsLongestGood, IsFaultAt, Refusa
 use Rattle.sf_value.proofs.Numbers.{natural_small}
 use Rattle.sf_value.proofs.Digits.{numeral}
 use Rattle.sf_value.proofs.Readers.{NoneBefore}
-use Rattle.sf_value.proofs.EachKind.{kinds}
+use Rattle.sf_value.proofs.Languages.{kinds}
 use Rattle.sf_value.proofs.Settled.{answer, shaped, none_sooner, only}
 
 integer_some : (z : ℤ) → 0 < length (integer z)

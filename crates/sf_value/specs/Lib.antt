@@ -4,8 +4,10 @@ pub mod Digits
 pub mod Reading
 pub mod Codes
 pub mod View
+pub mod Falls
 pub mod KindCodes
 pub mod KindView
+pub mod KindFalls
 pub mod Scan
 pub mod Gives
 pub mod Refuses

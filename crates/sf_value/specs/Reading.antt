@@ -1,12 +1,13 @@
 -- What it is to read a value of a type from bytes.
-use Rattle.std.specs.Prelude.{◌≡◌, ◌≢◌, ℕ, ◌≤◌, ℤ, List, [], ◌++◌, length, Result, Ok, Err, IsFalse}
-use Rattle.sf_value.specs.Values.{Kind, int_kind, Data, number, is_narrow, HasKind}
+use Rattle.std.specs.Prelude.{◌≡◌, ◌≢◌, ◌⊎◌, ℕ, ◌≤◌, ℤ, List, [], ◌∷◌, ◌++◌, length, Result, Ok, Err, IsFalse}
+use Rattle.sf_value.specs.Values.{Kind, int_kind, pair_kind, Data, number, pair, is_narrow, HasKind}
 use Rattle.sf_value.specs.Digits.{BeginsNoDigit}
 use Rattle.sf_value.specs.Spelling.{spelling, integer}
 
 -- a value has the shape of a type, where numbers have any size
 pub data HasShape : Data → Kind → Type 0 where
   int_shape : {z : ℤ} → HasShape (number z) int_kind
+  pair_shape : {x y : Data} {t u : Kind} → HasShape x t → HasShape y u → HasShape (pair x y) (pair_kind t u)
 
 -- What may be wrong with a number: it is outside signed 64 bits.
 pub data Cause : Type 0 where
@@ -15,6 +16,8 @@ pub data Cause : Type 0 where
 -- In the spelling of the value, a number with this fault stands after these bytes.
 abbrev pub HasFault : Data → List ℕ → Cause → ℤ → Type 0
 HasFault (number n) before c z = (before ≡ []) × (c ≡ wide) × (z ≡ n) × IsFalse (is_narrow n)
+HasFault (pair x y) before c z =
+    ((inner : List ℕ) × (before ≡ 40 ∷ inner) × HasFault x inner c z) ⊎ ((inner : List ℕ) × (before ≡ (40 ∷ spelling x) ++ (44 ∷ inner)) × HasFault y inner c z)
 
 -- a front of the spelling of some value of that shape
 abbrev pub IsGood : Kind → List ℕ → Type 0

@@ -1,7 +1,7 @@
 -- Reading a value from the front of bytes.
 use Rattle.std.specs.Prelude.{ℕ, ◌-◌, ◌==◌, ℤ, pos, negsuc, nat_lt, if◌then◌else◌, ◌&&◌, List, [], ◌∷◌, Result, Ok, Err}
 use Rattle.std.specs.Char.{is_ascii_digit}
-use Rattle.sf_value.specs.Values.{Kind, int_kind, Data, number, is_narrow}
+use Rattle.sf_value.specs.Values.{Kind, int_kind, pair_kind, Data, number, pair, is_narrow}
 use Rattle.sf_value.specs.Digits.{value_after, digits_at, after_digits}
 use Rattle.sf_value.specs.Reading.{Cause, wide}
 
@@ -18,6 +18,11 @@ infixl 10 ◌>>=◌
 abbrev pub ◌>>=◌ : {A B : Type 0} → Result A Stop → (A → Result B Stop) → Result B Stop
 (Ok x) >>= f = f x
 (Err e) >>= f = Err e
+
+-- the bytes after this one
+abbrev pub byte_at : ℕ → List ℕ → Result (List ℕ) Stop
+byte_at c [] = Err (bad [])
+byte_at c (x ∷ s) = if x == c then Ok s else Err (bad (x ∷ s))
 
 -- a number that doesn't begin with 0
 abbrev pub positive_at : List ℕ → Scanned ℕ
@@ -42,3 +47,10 @@ unfoldable pub value_at : Kind → List ℕ → Scanned Data
 value_at int_kind s = do
   n ← integer_at s
   Ok (number n.0, n.1)
+value_at (pair_kind t u) s = do
+  inside ← byte_at 40 s
+  x ← value_at t inside
+  after ← byte_at 44 x.1
+  y ← value_at u after
+  end ← byte_at 41 y.1
+  Ok (pair x.0 y.0, end)

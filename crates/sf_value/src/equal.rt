@@ -11,15 +11,19 @@ pub fn same(a: &Value, b: &Value) -> bool
 {
     match (&a.form, &b.form) {
         (Form::Int(x), Form::Int(y)) => *x == *y,
+        (Form::Pair(x, y), Form::Pair(z, w)) => same(x, z) && same(y, w),
+        _ => false,
     }
 }
 
 /// Whether a value has a type.
-#[tactic(auto, using(crate::proofs::EachKind::int_typed))]
+#[tactic(auto, using(crate::proofs::Typing::number_typed, crate::proofs::Typing::number_no_pair, crate::proofs::Typing::pair_no_number, crate::proofs::Typing::pair_parts))]
 pub fn has_type(value: &Value, ty: &Ty) -> bool
     ensures { IsTrue result ↔ HasKind value.now ty.now }
 {
-    match (value.form(), ty.form()) {
+    match (&value.form, &ty.form) {
         (Form::Int(_), TyForm::Int) => true,
+        (Form::Pair(x, y), TyForm::Pair(t, u)) => has_type(x, t) && has_type(y, u),
+        _ => false,
     }
 }

@@ -16,6 +16,6 @@ pub use equal::{has_type, same};
 pub use fault::{Fault, ValueFault};
 pub use laws::one_reading;
 pub use read::{ReadRefusal, read_value};
-pub use ty::{Ty, TyForm, same_type};
+pub use ty::{Ty, TyForm, TyRefusal, same_type};
 pub use value::{Form, Value};
 pub use write::{write_natural, write_value};

@@ -1,6 +1,6 @@
 //! Values from their parts, and back.
 ghost use Rattle.std.specs.Prelude.{◌≡◌, IfOk};
-ghost use Rattle.sf_value.specs.Values.{number, HasNarrowNumbers};
+ghost use Rattle.sf_value.specs.Values.{number, pair, first_of, second_of, HasNarrowNumbers};
 ghost use Rattle.sf_value.specs.View.{data_of};
 
 use crate::value::{Form, Value};
@@ -12,6 +12,37 @@ impl Value {
         ensures { result ≡ number n }
     {
         Value { form: Form::Int(n) }
+    }
+
+    /// A pair of two values.
+    pub fn pair(alloc: Global, first: Value, second: Value) -> Result<Value, AllocError>
+        ensures { IfOk result (λ v. v ≡ pair first second) }
+    {
+        let first = Box::new(alloc, first)?;
+        let second = Box::new(alloc, second)?;
+        Ok(Value {
+            form: Form::Pair(first, second),
+        })
+    }
+
+    /// The first part of a pair. What is no pair stands for itself.
+    pub fn first(&self) -> &Value
+        ensures { result.now ≡ first_of self.now }
+    {
+        match &self.form {
+            Form::Int(_) => self,
+            Form::Pair(first, _) => first,
+        }
+    }
+
+    /// The second part of a pair. What is no pair stands for itself.
+    pub fn second(&self) -> &Value
+        ensures { result.now ≡ second_of self.now }
+    {
+        match &self.form {
+            Form::Int(_) => self,
+            Form::Pair(_, second) => second,
+        }
     }
 
     /// What the value is made of.
@@ -31,11 +62,14 @@ impl Value {
     }
 
     /// A copy of the value.
-    pub fn clone_in(&self, _alloc: Global) -> Result<Value, AllocError>
+    pub fn clone_in(&self, alloc: Global) -> Result<Value, AllocError>
         ensures { IfOk result (λ v. v ≡ self.now) }
     {
         match &self.form {
             Form::Int(n) => Ok(Value::int(*n)),
+            Form::Pair(first, second) => {
+                Value::pair(alloc, first.clone_in(alloc)?, second.clone_in(alloc)?)
+            }
         }
     }
 }

@@ -1,9 +1,9 @@
 //! Values from their spellings.
 ghost use Rattle.std.specs.Prelude.{◌≡◌, ◌≤◌, ◌<◌, ◌+◌, ◌*◌, ℕ, IfOk, IfErr, MatchResult, min};
-ghost use Rattle.sf_value.specs.Values.{Data, int_kind, HasKind};
+ghost use Rattle.sf_value.specs.Values.{Data, int_kind, pair_kind, HasKind};
 ghost use Rattle.sf_value.specs.Spelling.{spelling};
 ghost use Rattle.sf_value.specs.Digits.{value_after, digits_at, after_digits};
-ghost use Rattle.sf_value.specs.Scan.{positive_at, integer_at, value_at, narrow, minus};
+ghost use Rattle.sf_value.specs.Scan.{byte_at, positive_at, integer_at, value_at, narrow, minus};
 ghost use Rattle.sf_value.specs.Reading.{Reads};
 ghost use Rattle.sf_value.specs.Refuses.{Refuses, IsMemory};
 ghost use Rattle.sf_value.specs.Gives.{Gives, GivesCapped, cap};
@@ -27,11 +27,12 @@ pub enum ReadRefusal {
     Memory,
 }
 
-/// Why no value is read: the bytes left from the place on.
+/// Why no value is read, with the number of bytes from the place on.
 #[derive(Drop)]
 pub(crate) enum Failure {
     Bad(usize),
     Wide(usize),
+    Memory,
 }
 
 // Past every number within signed 64 bits, with a minus too.
@@ -63,6 +64,22 @@ fn digits_of(first: u64, bytes: &[u8]) -> (u64, &[u8])
         left = rest;
     }
     (n, left)
+}
+
+/// What is after this byte.
+fn byte_of(byte: u8, bytes: &[u8]) -> Result<&[u8], Failure>
+    ensures { Gives (λ rest. rest.now) result (byte_at byte bytes.now) }
+{
+    match bytes {
+        [] => Err(Failure::Bad(0)),
+        [c, rest @ ..] => {
+            if *c == byte {
+                Ok(rest)
+            } else {
+                Err(Failure::Bad(bytes.len()))
+            }
+        }
+    }
 }
 
 /// A number that doesn't begin with 0, up to the cap.
@@ -123,11 +140,13 @@ fn negative_of<'a>(n: u64, bytes: &[u8], after: &'a [u8]) -> Result<(i64, &'a [u
 }
 
 /// A value of the type at the front, and what is after it.
-fn value_of<'a>(ty: &Ty, bytes: &'a [u8]) -> Result<(Value, &'a [u8]), Failure>
+#[cycle(value_of)]
+fn value_of<'a>(alloc: Global, ty: &Ty, bytes: &'a [u8]) -> Result<(Value, &'a [u8]), Failure>
     ensures { Gives (λ x. (x.0, x.1.now)) result (value_at ty.now bytes.now) }
 {
-    match ty.form() {
+    match &ty.form {
         TyForm::Int => int_of(bytes),
+        TyForm::Pair(first, second) => pair_of(alloc, first, second, bytes),
     }
 }
 
@@ -139,10 +158,31 @@ fn int_of(bytes: &[u8]) -> Result<(Value, &[u8]), Failure>
     Ok((Value::int(n), rest))
 }
 
+#[cycle(value_of)]
+#[tactic(auto, using(crate::proofs::Failing::fails_then), unfolding(crate::specs::Scan::value_at))]
+fn pair_of<'a>(
+    alloc: Global,
+    first: &Ty,
+    second: &Ty,
+    bytes: &'a [u8],
+) -> Result<(Value, &'a [u8]), Failure>
+    ensures { Gives (λ x. (x.0, x.1.now)) result (value_at (pair_kind first.now second.now) bytes.now) }
+{
+    let rest = byte_of(b'(', bytes)?;
+    let (x, rest) = value_of(alloc, first, rest)?;
+    let rest = byte_of(b',', rest)?;
+    let (y, rest) = value_of(alloc, second, rest)?;
+    let rest = byte_of(b')', rest)?;
+    let Ok(value) = Value::pair(alloc, x, y) else {
+        return Err(Failure::Memory);
+    };
+    Ok((value, rest))
+}
+
 /// The value of a type whose spelling the bytes are, to the last byte.
 ///
 /// Of all places where the bytes may be refused, the least is answered. `Memory` is answered only where memory runs out.
-pub fn read_value(_alloc: Global, ty: &Ty, bytes: &[u8]) -> Result<Value, ReadRefusal>
+pub fn read_value(alloc: Global, ty: &Ty, bytes: &[u8]) -> Result<Value, ReadRefusal>
     // What is read has the type and is spelled so.
     ensures found { IfOk result (λ v. Reads ty.now bytes.now (Ok v)) }
     // The refusal has the least place.
@@ -151,7 +191,7 @@ pub fn read_value(_alloc: Global, ty: &Ty, bytes: &[u8]) -> Result<Value, ReadRe
     ensures only { (v : Data) → HasKind v ty.now → bytes.now ≡ spelling v →
         MatchResult result (λ w. w ≡ v) IsMemory }
 {
-    match value_of(ty, bytes) {
+    match value_of(alloc, ty, bytes) {
         Ok((value, rest)) => {
             if rest.len() == 0 {
                 Ok(value)
@@ -161,5 +201,6 @@ pub fn read_value(_alloc: Global, ty: &Ty, bytes: &[u8]) -> Result<Value, ReadRe
         }
         Err(Failure::Bad(left)) => Err(ReadRefusal::BadValue(bytes.len() - left)),
         Err(Failure::Wide(left)) => Err(ReadRefusal::OutOfRange(bytes.len() - left)),
+        Err(Failure::Memory) => Err(ReadRefusal::Memory),
     }
 }

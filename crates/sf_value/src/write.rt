@@ -1,5 +1,5 @@
 //! Spellings of values.
-ghost use Rattle.std.specs.Prelude.{◌≡◌, ◌++◌, OnOk, OnErr, take, vec_len};
+ghost use Rattle.std.specs.Prelude.{◌≡◌, ◌++◌, OnOk, OnErr, length, take};
 ghost use Rattle.sf_value.specs.Spelling.{natural, integer, spelling};
 
 use crate::value::{Form, Value};
@@ -34,16 +34,24 @@ pub fn write_natural(n: u64, out: &mut Vec<u8>) -> Result<(), AllocError>
 // An error may leave a part of the spelling behind what was there, here and in the functions below.
 fn append(value: &Value, out: &mut Vec<u8>) -> Result<(), AllocError>
     ensures ok { OnOk result (out.new.items ≡ out.old.items ++ spelling value.now) }
-    ensures err { OnErr result (take (vec_len out.old) out.new.items ≡ out.old.items) }
+    ensures err { OnErr result (take (length out.old.items) out.new.items ≡ out.old.items) }
 {
     match &value.form {
         Form::Int(n) => append_integer(*n, out),
+        Form::Pair(first, second) => {
+            out.push(b'(')?;
+            append(first, out)?;
+            out.push(b',')?;
+            append(second, out)?;
+            out.push(b')')?;
+            Ok(())
+        }
     }
 }
 
 fn append_integer(n: i64, out: &mut Vec<u8>) -> Result<(), AllocError>
     ensures ok { OnOk result (out.new.items ≡ out.old.items ++ integer n) }
-    ensures err { OnErr result (take (vec_len out.old) out.new.items ≡ out.old.items) }
+    ensures err { OnErr result (take (length out.old.items) out.new.items ≡ out.old.items) }
 {
     if n < 0 {
         out.push(b'-')?;
@@ -53,7 +61,7 @@ fn append_integer(n: i64, out: &mut Vec<u8>) -> Result<(), AllocError>
 
 fn append_natural(n: u64, out: &mut Vec<u8>) -> Result<(), AllocError>
     ensures ok { OnOk result (out.new.items ≡ out.old.items ++ natural n) }
-    ensures err { OnErr result (take (vec_len out.old) out.new.items ≡ out.old.items) }
+    ensures err { OnErr result (take (length out.old.items) out.new.items ≡ out.old.items) }
 {
     if n >= 10 {
         append_natural(n / 10, out)?;

@@ -1,7 +1,8 @@
 use Rattle.std.proofs.Common.{codes, ◌∙◌, sym}
 use Rattle.sf_term.specs.Arena.{templates_of}
 use Rattle.sf_check.specs.Names.{program_names}
-use Rattle.sf_check.proofs.Accepted.{accepted_by}
+use Rattle.std.proofs.lemmas.Result.{err_from_is_err_and}
+use Rattle.sf_check.proofs.Accepted.{accepted_by, types_refuse}
 use Rattle.sf_check.proofs.Finding.{place_in, named_at, none_named}
 use Rattle.sf_check.proofs.checker.examined.Goals as goal
 
@@ -21,3 +22,9 @@ returns-in-None-clause-refused c =
     let p = c.args.program.now in
     let there = sym (place_in c.in_ok-names.names (codes "main") (program_names p) c.in_ok-names.ensures.names) ∙ sym c.in-None.ensures.index in
     (c.in_ok-names.ensures.different, c.in_ok-check_templates.ensures.ok, none_named (codes "main") (templates_of p) there)
+
+pub returns-in_err-check_templates-clause-refused : goal.returns-in_err-check_templates-clause-refused
+returns-in_err-check_templates-clause-refused c =
+    let left = c.from_residual-in_err-check_templates in
+    let p = err_from_is_err_and left.result left.ensures.1 in
+    rw (p.1, p.2) (types_refuse c.args.program.now _ c.in_ok-names.ensures.different c.in_err-check_templates.ensures.err)

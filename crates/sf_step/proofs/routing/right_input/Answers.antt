@@ -1,5 +1,8 @@
-use Rattle.sf_step.proofs.Exits.{right_routes}
+use Rattle.sf_step.proofs.Routes.{from_output, from_input}
 use Rattle.sf_step.proofs.routing.right_input.Goals as goal
 
-pub returns : goal.returns
-returns c = λ j x R. right_routes j x c.args.output _ R
+pub returns-in-Output : goal.returns-in-Output
+returns-in-Output c = λ j x R. from_output j x c.args.output (rw c.in-Output.is at R)
+
+pub returns-in-Input : goal.returns-in-Input
+returns-in-Input c = λ j x R. from_input c.in-Input.input j x c.args.output (rw c.in-Input.is at R)

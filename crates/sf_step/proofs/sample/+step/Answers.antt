@@ -1,8 +1,24 @@
+use Rattle.std.proofs.Common.{rules}
+use Rattle.std.proofs.Math.Logic.{∥∥₁_map}
 use Rattle.sf_step.proofs.Parts.{pass_exit, memory_exit}
-use Rattle.sf_step.proofs.Exits.{ticked_by, closure_of, tick_fails, join_left_fails, join_right_fails, join_steps, state_unborn, state_unborn_fails, state_live, state_live_fails, start_opened, start_open_fails}
+use Rattle.sf_step.proofs.Typed.{first_fed, live_fed, left_fed, right_fed, part_fed, term_typed, opened_fed}
+use Rattle.sf_step.proofs.Exits.{ticked_by, closure_of, tick_fails, join_left_fails, join_right_fails, join_steps, wrap_fails, wrap_steps, state_unborn, state_unborn_fails, state_live, state_live_fails, start_opened, start_open_fails}
 use Rattle.sf_step.proofs.sample.+step.Goals as goal
 
 -- ## step_join
+
+pub step_join-step_state-requires : goal.step_join-step_state-requires
+step_join-step_state-requires t c = (
+  search rules,
+  rw c.into_inner.ensures (∥∥₁_map c.requires (left_fed c.args.program.now c.args.join c.args.left.value c.args.right.value c.args.dt c.args.input c.in_ok-first.first c.in_ok-first.ensures.0)),
+)
+
+pub step_join-step_state-requires-2 : goal.step_join-step_state-requires-2
+step_join-step_state-requires-2 t c = (
+  search rules,
+  rw c.into_inner-2.ensures (∥∥₁_map c.requires (right_fed c.args.program.now c.args.join c.args.left.value c.in_ok-one.one c.args.right.value c.args.meter.now c.step_state.new.meter c.args.inside c.args.dt c.args.input c.in_ok-first.first
+      c.in_ok-one.output _ c.in_ok-first.ensures.0 (c.right_input-second.ensures _ _ c.in_ok-first.ensures.1).0 (rw c.into_inner.ensures at c.in_ok-one.ensures.answers))),
+)
 
 pub step_join-returns-in_err-first-clause-answers : goal.step_join-returns-in_err-first-clause-answers
 step_join-returns-in_err-first-clause-answers t c = λ m depth t P L R. memory_exit _ c.from_residual.ensures.1
@@ -36,15 +52,72 @@ step_join-returns-clause-answers t c =
     (c.in_ok-value.ensures _ _ (c.right_input-second.ensures _ _ c.in_ok-first.ensures.1).1)
     (rw (c.into_inner-2.ensures, ← c.in_ok-later.ensures.ok) at c.in_ok-two.ensures.answers)
 
+-- ## step_wrap
+
+pub step_wrap-step_state-requires : goal.step_wrap-step_state-requires
+step_wrap-step_state-requires t c = (
+  search rules,
+  rw c.into_inner.ensures (∥∥₁_map c.requires (part_fed c.args.program.now c.args.wrap c.args.part.value c.args.dt c.args.input c.in_ok-fed.fed c.in_ok-fed.ensures.0)),
+)
+
+pub step_wrap-returns-in_err-fed-clause-answers : goal.step_wrap-returns-in_err-fed-clause-answers
+step_wrap-returns-in_err-fed-clause-answers t c = λ m depth t P L R. memory_exit _ c.from_residual.ensures.1
+
+pub step_wrap-returns-in_err-after-clause-answers : goal.step_wrap-returns-in_err-after-clause-answers
+step_wrap-returns-in_err-after-clause-answers t c = λ m depth t P L R.
+    pass_exit _ c.from_residual-in_err-after.ensures.1 (wrap_fails c.args.program.now c.args.wrap c.args.part.value c.args.meter.now c.step_state.new.meter c.args.inside c.args.dt c.args.input c.in_ok-fed.fed c.in_ok-fed.ensures.0
+    c.in_err-after.field-0.0 (rw c.into_inner.ensures at c.in_err-after.ensures.answers) m depth t P L R)
+
+pub step_wrap-returns-in_err-kept-clause-answers : goal.step_wrap-returns-in_err-kept-clause-answers
+step_wrap-returns-in_err-kept-clause-answers t c = λ m depth t P L R. memory_exit _ c.from_residual-in_err-kept.ensures.1
+
+pub step_wrap-returns-in_err-later-clause-answers : goal.step_wrap-returns-in_err-later-clause-answers
+step_wrap-returns-in_err-later-clause-answers t c = λ m depth t P L R. memory_exit _ c.from_residual-in_err-later.ensures.1
+
+pub step_wrap-returns-clause-answers : goal.step_wrap-returns-clause-answers
+step_wrap-returns-clause-answers t c =
+    let r = c.in_ok-kept.ensures _ _ c.in_ok-fed.ensures.1 in
+    wrap_steps c.args.program.now c.args.wrap c.args.part.value c.args.meter.now c.step_state.new.meter c.args.inside c.args.dt c.args.input c.in_ok-fed.fed c.in_ok-fed.ensures.0
+    c.in_ok-later.later.value c.in_ok-kept.kept c.in_ok-after.output c.in_ok-kept.value r.0 r.1
+    (rw (c.into_inner.ensures, ← c.in_ok-later.ensures.ok) at c.in_ok-after.ensures.answers)
+
 -- ## step_live
 
+pub step_live-step_prim-requires : goal.step_live-step_prim-requires
+step_live-step_prim-requires t c = rw c.in-Prim.is at c.requires
+
+pub step_live-step_join-requires : goal.step_live-step_join-requires
+step_live-step_join-requires t c = (
+  search rules,
+  rw c.in-Join.is at c.requires,
+)
+
+pub step_live-step_wrap-requires : goal.step_live-step_wrap-requires
+step_live-step_wrap-requires t c = (
+  search rules,
+  rw c.in-Wrap.is at c.requires,
+)
+
+pub step_live-returns-in-Wrap-clause-answers : goal.step_live-returns-in-Wrap-clause-answers
+step_live-returns-in-Wrap-clause-answers t c = rw c.in-Wrap.is c.step_wrap.ensures.answers
+
 pub step_live-returns-in-Prim-clause-answers : goal.step_live-returns-in-Prim-clause-answers
-step_live-returns-in-Prim-clause-answers t c = rw c.in-Prim.is (c.step_prim.ensures c.args.program.now c.args.meter.now c.args.inside)
+step_live-returns-in-Prim-clause-answers t c = rw c.in-Prim.is (c.step_prim.ensures c.args.meter.now c.args.inside)
 
 pub step_live-returns-in-Join-clause-answers : goal.step_live-returns-in-Join-clause-answers
 step_live-returns-in-Join-clause-answers t c = rw c.in-Join.is c.step_join.ensures.answers
 
 -- ## start
+
+pub start-open-requires : goal.start-open-requires
+start-open-requires t c =
+    let q = closure_of c.args.process in
+    rw q.is (∥∥₁_map (rw q.is at c.requires) (term_typed c.args.program.now q.term q.names c.args.input))
+
+pub start-step_live-requires : goal.start-step_live-requires
+start-step_live-requires t c =
+    let q = closure_of c.args.process in
+    (search rules, ∥∥₁_map (rw q.is at c.requires) (opened_fed c.args.program.now q.term q.names c.in_ok-live.live c.args.dt c.args.input (rw q.is at c.in_ok-live.ensures)))
 
 pub start-returns-in_err-inside-clause-answers : goal.start-returns-in_err-inside-clause-answers
 start-returns-in_err-inside-clause-answers t c = λ P Q. pass_exit _ c.from_residual.ensures.1 (tick_fails c.args.program.now P _ c.in_err-inside.ensures.ticked)
@@ -60,6 +133,18 @@ start-returns-clause-answers t c = λ P Q.
     start_opened c.args.program.now q.term q.names c.in_ok-live.live c.args.dt c.args.input _ (ticked_by c.in_ok-inside.ensures.ticked) (rw q.is at c.in_ok-live.ensures) c.step_live.ensures.answers P (rw q.is at Q)
 
 -- ## step_state
+
+pub step_state-start-requires : goal.step_state-start-requires
+step_state-start-requires t c = (
+  search rules,
+  ∥∥₁_map (rw c.in-Unborn.is at c.requires) (first_fed c.args.program.now c.in-Unborn.process c.args.input),
+)
+
+pub step_state-step_live-requires : goal.step_state-step_live-requires
+step_state-step_live-requires t c = (
+  search rules,
+  ∥∥₁_map (rw c.in-Live.is at c.requires) (live_fed c.args.program.now c.in-Live.live c.args.dt c.args.input),
+)
 
 pub step_state-returns-in_err-begun-in-Unborn-clause-answers : goal.step_state-returns-in_err-begun-in-Unborn-clause-answers
 step_state-returns-in_err-begun-in-Unborn-clause-answers t c = λ P L A.

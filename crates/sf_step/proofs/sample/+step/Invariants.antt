@@ -12,5 +12,8 @@ decreases-step_state l = 4 * (100000 - entered_of l.meter.now) + 1
 abbrev pub decreases-step_join : goal.decreases-step_join
 decreases-step_join l = 4 * (100000 - entered_of l.meter.now) + 2
 
+abbrev pub decreases-step_wrap : goal.decreases-step_wrap
+decreases-step_wrap l = 4 * (100000 - entered_of l.meter.now) + 2
+
 abbrev pub decreases-step_live : goal.decreases-step_live
 decreases-step_live l = 4 * (100000 - entered_of l.meter.now) + 3

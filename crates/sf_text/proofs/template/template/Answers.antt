@@ -2,9 +2,14 @@ use Rattle.std.proofs.Common.{◌≡◌, length, string_bytes, Err, sym, ap, sub
 use Rattle.sf_lex.specs.Words.{IsName}
 use Rattle.sf_text.specs.declared.stop.Stop.{Stop}
 use Rattle.sf_text.specs.Reading.{template_at}
-use Rattle.sf_text.specs.Answers.{Stops, counts_of, toks, stop_for}
-use Rattle.sf_text.proofs.Named.{heading_named, template_refused}
+use Rattle.sf_text.specs.Answers.{Stops, counts_of, toks, kinds_in, stop_for}
+use Rattle.sf_text.proofs.Named.{heading_named, header_named, template_refused}
 use Rattle.sf_text.proofs.template.template.Goals as goal
+
+pub term-requires-clause-named : goal.term-requires-clause-named
+term-requires-clause-named c =
+    header_named (toks c.args.tokens.now) (toks c.in_ok-heading.rest.now) (toks c.in_ok-types.rest.now) c.in_ok-heading.heading.name.now (kinds_in c.in_ok-types.types)
+    c.in_ok-heading.ensures c.in_ok-types.ensures c.requires
 
 pub returns-in-Err : goal.returns-in-Err
 returns-in-Err c =

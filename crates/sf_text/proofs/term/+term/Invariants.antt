@@ -1,11 +1,20 @@
 use Rattle.std.proofs.Common.{◌+◌, ◌*◌}
 use Rattle.sf_text.proofs.term.+term.Given as goal
 
+abbrev pub decreases-term : goal.decreases-term
+decreases-term l = 4 * l.left
+
 abbrev pub decreases-form : goal.decreases-form
-decreases-form l = 3 * l.left + 2
+decreases-form l = 4 * l.left + 3
+
+abbrev pub decreases-worded : goal.decreases-worded
+decreases-worded l = 4 * l.left + 2
+
+abbrev pub decreases-sided : goal.decreases-sided
+decreases-sided l = 4 * l.left + 1
+
+abbrev pub decreases-headed : goal.decreases-headed
+decreases-headed l = 4 * l.left + 1
 
 abbrev pub decreases-joined : goal.decreases-joined
-decreases-joined l = 3 * l.left + 1
-
-abbrev pub decreases-term : goal.decreases-term
-decreases-term l = 3 * l.left
+decreases-joined l = 4 * l.left + 1

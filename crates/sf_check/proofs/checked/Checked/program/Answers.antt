@@ -1,5 +1,8 @@
-use Rattle.sf_check.proofs.Finding.{main_named}
+use Rattle.sf_check.proofs.Finding.{main_named, now_accepted}
 use Rattle.sf_check.proofs.checked.Checked.program.Goals as goal
+
+pub returns-clause-accepted : goal.returns-clause-accepted
+returns-clause-accepted c = now_accepted c.args.self.now
 
 pub returns-clause-main : goal.returns-clause-main
 returns-clause-main c = main_named c.args.self.now

@@ -7,8 +7,8 @@ pub returns-in-Ok-write_sample : goal.returns-in-Ok-write_sample
 returns-in-Ok-write_sample c = λ n m now line a asked sample S at taken input.
     value_said asked sample (rw c.in-Ok.is at S) taken input refl refl refl at refl c.in-Ok-write_sample.ensures.ok
 
-pub returns-in-Err-write_sample : goal.returns-in-Err-write_sample
-returns-in-Err-write_sample c = λ n m now line a asked sample S at taken input. record {
+pub returns-in-Ok : goal.returns-in-Ok
+returns-in-Ok c = λ n m now line a asked sample S at taken input. record {
   halts = memory_halts c.args.sample_time asked sample at c.fault_stop.ensures.end c.fault_stop.ensures.line;
   said = c.in-Err-write_sample.ensures.err;
 }

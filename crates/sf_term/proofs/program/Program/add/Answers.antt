@@ -10,7 +10,7 @@ invariant_of-self c =
     let p = c.args.self.now in
     let needed = parts_needed p c.args.node c.requires in
     record {
-      arena = arena_put p.expressions p.terms.items c.push.new.self.items (record { node = c.args.node; depth = c.depth_with-depth.result; spot = c.args.spot }) _ c.push.ensures.items p.arena (omega (arith, p.terms.ok.0)) needed.0 needed.1 c.depth_with-depth.ensures (omega arith);
+      arena = arena_put p.expressions p.terms.items c.push.new.self.items (record { node = c.args.node; depth = c.depth_with-depth.result; spot = c.args.spot }) _ c.push.ensures.items p.arena (omega (arith, p.terms.ok.0)) needed.0 needed.1 needed.2 c.depth_with-depth.ensures (omega arith);
       bodies = omega (arith, p.bodies, p.terms.ok.0, c.push.new.self.ok.0, c.push.ensures.lower_bound);
     }
 

@@ -1,10 +1,9 @@
 use Rattle.std.proofs.Common.{◌∙◌, arith, ap, length, subst, sym, List}
-use Rattle.sf_expr.proofs.Entered.{unchanged_keeps as expressions_kept}
 use Rattle.sf_term.specs.declared.node.Entry.{Entry}
 use Rattle.sf_term.specs.Headers.{bodies_end}
 use Rattle.sf_term.specs.Entries.{IsArena}
 use Rattle.sf_term.specs.Arena.{headers_of}
-use Rattle.sf_term.proofs.Entered.{arena_grown}
+use Rattle.sf_term.proofs.Entered.{arena_grown, unchanged_grown}
 use Rattle.sf_term.proofs.Kept.{unchanged}
 use Rattle.sf_term.proofs.program.Program.clone_in.Goals as goal
 
@@ -16,7 +15,7 @@ invariant_of-result c =
     let terms = c.in_ok-terms.ensures.items ∙ c.deref.ensures.value in
     let templates = c.in_ok-templates.ensures ∙ c.deref-2.ensures.value in
     record {
-      arena = subst (λ (es : List Entry). IsArena x es) (sym terms) (arena_grown p.expressions x p.terms.items (expressions_kept p.expressions x same) (omega (arith, same.count)) p.arena);
+      arena = subst (λ (es : List Entry). IsArena x es) (sym terms) (arena_grown p.expressions x p.terms.items (unchanged_grown p.expressions x same) p.arena);
       bodies = omega (arith, ap bodies_end templates, ap (λ (es : List Entry). length es) terms, p.bodies);
     }
 

@@ -1,9 +1,8 @@
 use Rattle.std.proofs.Common.{rules, refl, w64, to_z, of_z}
 use Rattle.std.proofs.Math.Facts.{to_z-of_z}
 use Rattle.sf_expr.specs.Expressions.{Expression, literal, int_literal}
-use Rattle.sf_expr.proofs.Entered.{kept_by, more_by}
 use Rattle.sf_term.specs.Arena.{headers_of, expression_count}
-use Rattle.sf_term.proofs.Entered.{arena_grown}
+use Rattle.sf_term.proofs.Entered.{arena_grown, grown_by}
 use Rattle.sf_term.proofs.Kept.{adds_expression, unchanged}
 use Rattle.sf_term.proofs.Refused.{many_as}
 use Rattle.sf_term.proofs.program.Program.int.Goals as goal
@@ -13,7 +12,7 @@ invariant_of-self c =
     let p = c.args.self.now in
     let added : Expression = literal (int_literal (to_z w64 (of_z w64 c.args.n))) in
     record {
-      arena = arena_grown p.expressions c.int.new.self p.terms.items (kept_by p.expressions c.int.new.self c.int.result added c.args.spot c.int.ensures.ok c.int.ensures.err) (more_by p.expressions c.int.new.self c.int.result added c.args.spot c.int.ensures.ok c.int.ensures.err) p.arena;
+      arena = arena_grown p.expressions c.int.new.self p.terms.items (grown_by p.expressions c.int.new.self c.int.result added c.args.spot c.int.ensures.ok c.int.ensures.err) p.arena;
       bodies = p.bodies;
     }
 

@@ -1,0 +1,9 @@
+use Rattle.sf_check.proofs.Types.{input_fits}
+use Rattle.sf_check.proofs.Finding.{main_typed}
+use Rattle.sf_check.proofs.checked.Checked.main.Goals as goal
+
+pub returns-clause-typed : goal.returns-clause-typed
+returns-clause-typed c = main_typed c.args.self.now
+
+pub returns-clause-fits : goal.returns-clause-fits
+returns-clause-fits c = input_fits (main_typed c.args.self.now)

@@ -1,0 +1,109 @@
+-- Evaluation of the expressions of an arena.
+use Rattle.std.proofs.Common.{◌≡◌, [], Some, Bool, true, false, cond, IsTrue, refl, sym, ap, subst, Result, Ok, Err, IsErrAnd}
+use Rattle.std.specs.Prelude.{ℤ, bytes_eq}
+use Rattle.std.proofs.Math.Logic.{∥∥₁_elim}
+use Rattle.std.proofs.Props.{props}
+use Rattle.sf_value.specs.Values.{Name, Kind, int_kind, Data, number, pair, is_narrow, HasKind, has_int}
+use Rattle.sf_expr.specs.declared.exprs.ExprId.{ExprId}
+use Rattle.sf_expr.specs.declared.exprs.NameId.{NameId}
+use Rattle.sf_expr.specs.declared.exprs.ExprNode.TheVariants as nodes
+use Rattle.sf_expr.specs.declared.exprs.Exprs.{Exprs}
+use Rattle.sf_expr.specs.declared.operator.Operator.{Operator}
+use Rattle.sf_expr.specs.declared.fault.EvalFault.{EvalFault}
+use Rattle.sf_expr.specs.declared.fault.EvalFault.TheVariants.{Value, Memory}
+use Rattle.sf_expr.specs.Expressions.{Pattern, Expression, function}
+use Rattle.sf_expr.specs.Evaluation.{Evaluated, answer, ◌>>=◌, Scope, no_names, bound_in, eval, operated}
+use Rattle.sf_expr.specs.Typing.{Names, type_of_name, HasType, variable_has, pair_has, operation_has, function_takes}
+use Rattle.sf_expr.specs.Soundness.{Yields, yields, fails, ScopeHas, has_no_names, has_name, IsTypedIn, typed_in, TakesValue, takes_value}
+use Rattle.sf_expr.specs.Scopes.{is_bound}
+use Rattle.sf_expr.specs.Answers.{Evaluates}
+use Rattle.sf_expr.specs.Arena.{expression, name_at, Builds, builds_name, builds_pair, builds_operation}
+use Rattle.sf_expr.proofs.Sound.{expression_yields, bound_has}
+
+-- a name with a type is bound
+bound : {s : Scope} {R : Names} (x : Name) {t : Kind} → ScopeHas s R → type_of_name x R ≡ Some t → IsTrue (is_bound x s)
+bound x has_no_names e = absurd cc
+bound x {t} (has_name {x = y} {v = v} {t = u} {s = s} {R = R} p q) e = by_test (bytes_eq x y) e (bound x q)
+  where
+    by_test : (c : Bool) → cond c (Some u) (type_of_name x R) ≡ Some t → (type_of_name x R ≡ Some t → IsTrue (is_bound x s)) → IsTrue (cond c true (is_bound x s))
+    by_test true e f = refl
+    by_test false e f = f e
+
+typed_name_bound : {x : Exprs} {s : Scope} {n : NameId} {e : Expression} → Builds x (nodes.Name n) e → IsTypedIn s e → IsTrue (is_bound (name_at x n) s)
+typed_name_bound builds_name (typed_in k (variable_has e f)) = bound _ k e
+
+-- a typed name is bound
+pub name_bound : {x : Exprs} {s : Scope} {n : NameId} {e : Expression} → Builds x (nodes.Name n) e → ∥ IsTypedIn s e ∥₁ → IsTrue (is_bound (name_at x n) s)
+name_bound b h = ∥∥₁_elim h (hlevel props) (typed_name_bound b)
+
+-- the parts of a typed pair are typed
+pub pair_first : {x : Exprs} {s : Scope} {a b : ExprId} {e : Expression} → Builds x (nodes.Pair a b) e → IsTypedIn s e → IsTypedIn s (expression x a)
+pair_first builds_pair (typed_in k (pair_has h l f)) = typed_in k h
+
+pub pair_second : {x : Exprs} {s : Scope} {a b : ExprId} {e : Expression} → Builds x (nodes.Pair a b) e → IsTypedIn s e → IsTypedIn s (expression x b)
+pair_second builds_pair (typed_in k (pair_has h l f)) = typed_in k l
+
+-- so are the operands of an operator
+pub left_typed : {x : Exprs} {s : Scope} {a b : ExprId} {op : Operator} {e : Expression} → Builds x (nodes.Operation a op b) e → IsTypedIn s e → IsTypedIn s (expression x a)
+left_typed builds_operation (typed_in k (operation_has h l)) = typed_in k h
+
+pub right_typed : {x : Exprs} {s : Scope} {a b : ExprId} {op : Operator} {e : Expression} → Builds x (nodes.Operation a op b) e → IsTypedIn s e → IsTypedIn s (expression x b)
+right_typed builds_operation (typed_in k (operation_has h l)) = typed_in k l
+
+yielded : {t : Kind} {d : Data} (o : Evaluated Data) → Yields t o → o ≡ answer d → HasKind d t
+yielded {t} {d} (answer c) (yields h) e = let same : c ≡ d = cc in subst (λ (c : Data). HasKind c t) same h
+yielded o fails e = absurd cc
+
+-- and are numbers
+pub left_number : {x : Exprs} {s : Scope} {a b : ExprId} {op : Operator} {e : Expression} {d : Data} → Builds x (nodes.Operation a op b) e → IsTypedIn s e → eval (expression x a) s ≡ answer d → HasKind d int_kind
+left_number builds_operation (typed_in k (operation_has h l)) e = yielded _ (expression_yields h k) e
+
+pub right_number : {x : Exprs} {s : Scope} {a b : ExprId} {op : Operator} {e : Expression} {d : Data} → Builds x (nodes.Operation a op b) e → IsTypedIn s e → eval (expression x b) s ≡ answer d → HasKind d int_kind
+right_number builds_operation (typed_in k (operation_has h l)) e = yielded _ (expression_yields l k) e
+
+number_inverse : {z : ℤ} → HasKind (number z) int_kind → IsTrue (is_narrow z)
+number_inverse (has_int h) = h
+
+no_number : {x y : Data} → HasKind (pair x y) int_kind → ⊥
+no_number h = elim h [ ]
+
+-- what is known to be a number is one
+pub settled_number : (d : Data) → ∥ HasKind d int_kind ∥₁ → HasKind d int_kind
+settled_number (number z) h = has_int (∥∥₁_elim h (hlevel props) number_inverse)
+settled_number (pair x y) h = absurd (∥∥₁_elim h (λ a b. absurd a) no_number)
+
+-- a fault of the first operand is the answer
+through : (fault : EvalFault) (o : Evaluated Data) (f : Data → Evaluated Data) → Evaluates (Err fault) o → Evaluates (Err fault) (o >>= f)
+through (Value x) o f e = ap (λ p. p >>= f) e
+through Memory o f e = tt
+
+after : {d : Data} (o : Evaluated Data) (f : Data → Evaluated Data) (r : Result Data EvalFault) → o ≡ answer d → Evaluates r (f d) → Evaluates r (o >>= f)
+after o f r e h = subst (λ p. Evaluates r (p >>= f)) (sym e) h
+
+pub pair_first_failed : (s : Scope) {x : Exprs} {a b : ExprId} {e : Expression} (fault : EvalFault) → Builds x (nodes.Pair a b) e → Evaluates (Err fault) (eval (expression x a) s) → Evaluates (Err fault) (eval e s)
+pair_first_failed s fault builds_pair h = through fault _ _ h
+
+pub pair_second_failed : (s : Scope) {x : Exprs} {a b : ExprId} {e : Expression} {d : Data} (fault : EvalFault) → Builds x (nodes.Pair a b) e → eval (expression x a) s ≡ answer d → Evaluates (Err fault) (eval (expression x b) s) → Evaluates (Err fault) (eval e s)
+pair_second_failed s fault builds_pair first h = after _ _ (Err fault) first (through fault _ _ h)
+
+pub left_failed : (s : Scope) {x : Exprs} {a b : ExprId} {op : Operator} {e : Expression} (fault : EvalFault) → Builds x (nodes.Operation a op b) e → Evaluates (Err fault) (eval (expression x a) s) → Evaluates (Err fault) (eval e s)
+left_failed s fault builds_operation h = through fault _ _ h
+
+pub right_failed : (s : Scope) {x : Exprs} {a b : ExprId} {op : Operator} {e : Expression} {d : Data} (fault : EvalFault) → Builds x (nodes.Operation a op b) e → eval (expression x a) s ≡ answer d → Evaluates (Err fault) (eval (expression x b) s) → Evaluates (Err fault) (eval e s)
+right_failed s fault builds_operation first h = after _ _ (Err fault) first (through fault _ _ h)
+
+pub operation_answers : (s : Scope) {x : Exprs} {a b : ExprId} {op : Operator} {e : Expression} {d c : Data} (r : Result Data EvalFault) → Builds x (nodes.Operation a op b) e → eval (expression x a) s ≡ answer d → eval (expression x b) s ≡ answer c → Evaluates r (operated op d c) → Evaluates r (eval e s)
+operation_answers s r builds_operation first second h = after _ _ r first (after _ _ r second h)
+
+-- a fault that is passed on answers what it answered
+pub passed_on : (r : Result Data EvalFault) (fault : EvalFault) (o : Evaluated Data) → IsErrAnd r (λ e. e ≡ fault) → Evaluates (Err fault) o → Evaluates r o
+passed_on (Ok d) fault o e h = absurd e
+passed_on (Err f) fault o e h = subst (λ (g : EvalFault). Evaluates (Err g) o) (sym e) h
+
+-- the body of a function that takes a value is typed
+pub body_typed : (p : Pattern) (i : Expression) (x : Data) (s : Scope) → TakesValue no_names (function p i) x → s ≡ bound_in p x no_names → IsTypedIn s i
+body_typed p i x s (takes_value k (function_takes fits binds h) v) e = subst (λ (s : Scope). IsTypedIn s i) (sym e) (typed_in (bound_has binds.adds v k) h)
+
+-- what has a type without names is typed where there are none
+pub typed_closed : (s : Scope) (R : Names) (e : Expression) (t : Kind) → s ≡ no_names → R ≡ [] → HasType R e t → IsTypedIn s e
+typed_closed s R e t p q h = subst (λ (s : Scope). IsTypedIn s e) (sym p) (typed_in has_no_names (subst (λ (R : Names). HasType R e t) q h))

@@ -1,0 +1,82 @@
+use Rattle.std.proofs.Common.{◌≡◌, ◌∙◌, sym, ap, subst, Some, arith, refl}
+use Rattle.sf_value.specs.Values.{Name, Kind, int_kind, pair_kind}
+use Rattle.sf_expr.specs.declared.spot.Spot.{Spot}
+use Rattle.sf_expr.specs.declared.typing.TypeRefusal.TheVariants.{UnknownName, Mismatch, TypeTooLarge}
+use Rattle.sf_expr.specs.Arena.{expression}
+use Rattle.sf_expr.specs.Typing.{HasType, type_of_name}
+use Rattle.sf_expr.specs.Scopes.{names_of}
+use Rattle.sf_expr.specs.Refusals.{Refused, unknown_name, pair_too_large, no_number}
+use Rattle.sf_expr.proofs.Judged.{first_judged, second_judged, left_judged, right_judged, int_typed, name_typed, pair_has_type, operation_has_type, small_enough}
+use Rattle.sf_expr.proofs.typing.+judge.Goals as goal
+
+pub returns-in-Int : goal.returns-in-Int
+returns-in-Int t c =
+    let x = c.args.exprs.now in
+    let R = names_of c.args.names.now in
+    subst (λ (u : Kind). HasType R (expression x c.args.id) u) (sym c.int.ensures) (int_typed x R c.args.id c.in-Int.field-0 c.in-Int.ensures.builds c.in-Int.ensures.narrow)
+
+pub returns-in-Some : goal.returns-in-Some
+returns-in-Some t c =
+    let x = c.args.exprs.now in
+    let R = names_of c.args.names.now in
+    let found : type_of_name c.name_of.result.now R ≡ Some c.in-Some.ty.now = c.in-Some.ensures.found in
+    subst (λ (u : Kind). HasType R (expression x c.args.id) u) (sym c.in_ok-clone_in-in-Some.ensures)
+    (name_typed x R c.args.id c.in-Name.name c.in-Some.ty.now c.in-Name.ensures.builds (ap (λ (y : Name). type_of_name y R) (sym c.name_of.ensures) ∙ found) (omega (arith, c.nodes-nodes.ensures.count, c.nodes-nodes.ensures.small)))
+
+pub returns-in-Name : goal.returns-in-Name
+returns-in-Name t c =
+    let x = c.args.exprs.now in
+    let R = names_of c.args.names.now in
+    subst (λ (s : Spot). Refused x R c.args.id (UnknownName s)) (sym c.spot.ensures)
+    (unknown_name (sym c.in-Name.ensures.value) (ap (λ (y : Name). type_of_name y R) (sym c.name_of.ensures) ∙ c.in-None.ensures.absent))
+
+pub returns-in_err-first-in-Pair : goal.returns-in_err-first-in-Pair
+returns-in_err-first-in-Pair t c =
+    first_judged c.args.exprs.now (names_of c.args.names.now) c.args.id c.in-Pair.first c.in-Pair.second _ c.in_err-first-in-Pair.field-0.0 (sym c.in-Pair.ensures.value) c.from_residual-in_err-first-in-Pair.ensures.1 c.in_err-first-in-Pair.ensures
+
+pub returns-in_err-second-in-Pair : goal.returns-in_err-second-in-Pair
+returns-in_err-second-in-Pair t c =
+    second_judged c.args.exprs.now (names_of c.args.names.now) c.args.id c.in-Pair.first c.in-Pair.second c.in_ok-first-in-Pair.first _ c.in_err-second-in-Pair.field-0.0 (sym c.in-Pair.ensures.value) c.in_ok-first-in-Pair.ensures c.from_residual-in_err-second-in-Pair.ensures.1 c.in_err-second-in-Pair.ensures
+
+pub returns-in-Ok : goal.returns-in-Ok
+returns-in-Ok t c =
+    let x = c.args.exprs.now in
+    let R = names_of c.args.names.now in
+    let a = c.in_ok-first-in-Pair.first in
+    let b = c.in_ok-second-in-Pair.second in
+    subst (λ (u : Kind). HasType R (expression x c.args.id) u) (sym c.in-Ok.ensures.ok)
+    (pair_has_type x R c.args.id c.in-Pair.first c.in-Pair.second a b c.in-Pair.ensures.builds c.in_ok-first-in-Pair.ensures c.in_ok-second-in-Pair.ensures
+    (small_enough (pair_kind a b) (λ q. let e = c.in-Ok.ensures.large.1 q in cc)))
+
+pub returns-in-Err-TypeTooLarge : goal.returns-in-Err-TypeTooLarge
+returns-in-Err-TypeTooLarge t c =
+    let x = c.args.exprs.now in
+    let R = names_of c.args.names.now in
+    subst (λ (s : Spot). Refused x R c.args.id (TypeTooLarge s)) (sym c.spot-in-Err-TypeTooLarge.ensures)
+    (pair_too_large (sym c.in-Pair.ensures.value) c.in_ok-first-in-Pair.ensures c.in_ok-second-in-Pair.ensures ((rw c.in-Err-TypeTooLarge.field-0-is at c.in-Err-TypeTooLarge.ensures.large).0 refl))
+
+pub returns-in_err-left-in-Operation : goal.returns-in_err-left-in-Operation
+returns-in_err-left-in-Operation t c =
+    left_judged c.args.exprs.now (names_of c.args.names.now) c.args.id c.in-Operation.left c.in-Operation.right c.in-Operation.field-1 _ c.in_err-left-in-Operation.field-0.0 (sym c.in-Operation.ensures.value) c.from_residual-in_err-left-in-Operation.ensures.1 c.in_err-left-in-Operation.ensures
+
+pub returns-in_err-right-in-Operation : goal.returns-in_err-right-in-Operation
+returns-in_err-right-in-Operation t c =
+    right_judged c.args.exprs.now (names_of c.args.names.now) c.args.id c.in-Operation.left c.in-Operation.right c.in-Operation.field-1 c.in_ok-left-in-Operation.left _ c.in_err-right-in-Operation.field-0.0 (sym c.in-Operation.ensures.value) c.in_ok-left-in-Operation.ensures c.from_residual-in_err-right-in-Operation.ensures.1 c.in_err-right-in-Operation.ensures
+
+pub returns-then-are_numbers : goal.returns-then-are_numbers
+returns-then-are_numbers t c =
+    let x = c.args.exprs.now in
+    let R = names_of c.args.names.now in
+    let numbers = c.are_numbers.ensures.0 c.if-are_numbers.true in
+    let left : HasType R (expression x c.in-Operation.left) int_kind = subst (λ (u : Kind). HasType R (expression x c.in-Operation.left) u) numbers.0 c.in_ok-left-in-Operation.ensures in
+    let right : HasType R (expression x c.in-Operation.right) int_kind = subst (λ (u : Kind). HasType R (expression x c.in-Operation.right) u) numbers.1 c.in_ok-right-in-Operation.ensures in
+    subst (λ (u : Kind). HasType R (expression x c.args.id) u) (sym c.int-then-are_numbers.ensures)
+    (operation_has_type x R c.args.id c.in-Operation.left c.in-Operation.right c.in-Operation.field-1 c.in-Operation.ensures.builds left right)
+
+pub returns : goal.returns
+returns t c =
+    let x = c.args.exprs.now in
+    let R = names_of c.args.names.now in
+    let differ : (c.in_ok-left-in-Operation.left ≡ int_kind) × (c.in_ok-right-in-Operation.right ≡ int_kind) → ⊥ = λ h. let there = c.are_numbers.ensures.1 h in cc in
+    subst (λ (s : Spot). Refused x R c.args.id (Mismatch s)) (sym c.spot-else-are_numbers.ensures)
+    (no_number (sym c.in-Operation.ensures.value) c.in_ok-left-in-Operation.ensures c.in_ok-right-in-Operation.ensures differ)

@@ -1,0 +1,36 @@
+use Rattle.std.proofs.Common.{◌≡◌, ◌∙◌, ◌∷◌, ap, sym, subst, string_bytes}
+use Rattle.sf_value.specs.Values.{Name}
+use Rattle.sf_value.specs.KindView.{kind_of}
+use Rattle.sf_expr.specs.declared.typing.TypeScope as types
+use Rattle.sf_expr.specs.Expressions.{named}
+use Rattle.sf_expr.specs.Patterns.{PlacedPattern, placed_unnamed, placed_name, pattern_of}
+use Rattle.sf_expr.specs.PatternView.{placed_of}
+use Rattle.sf_expr.specs.Typing.{Names, Adds, adds_nothing, adds_name}
+use Rattle.sf_expr.specs.Scopes.{names_of}
+use Rattle.sf_expr.proofs.Bound.{names_pushed, both_adds, on_ok}
+use Rattle.sf_expr.proofs.typing.TypeScope.+bind.Goals as goal
+
+pub returns-in-Unnamed-default-clause-ok : goal.returns-in-Unnamed-default-clause-ok
+returns-in-Unnamed-default-clause-ok t c =
+    let R = names_of c.args.self.now in
+    let whole : c.args.pattern.now ≡ placed_unnamed = sym c.form.ensures ∙ ap placed_of c.in-Unnamed-default.is-0 in
+    subst (λ (p : PlacedPattern). Adds (pattern_of p) c.args.ty.now R R) (sym whole) adds_nothing
+
+pub returns-in_ok-push-in-Name-default-clause-ok : goal.returns-in_ok-push-in-Name-default-clause-ok
+returns-in_ok-push-in-Name-default-clause-ok t c =
+    let R = names_of c.args.self.now in
+    let x = string_bytes c.in-Name-default.name in
+    let grown : types.TypeScope = record { names = c.push.new.self } in
+    let whole : c.args.pattern.now ≡ placed_name x c.in-Name-default.field-1-0 = sym c.form.ensures ∙ ap placed_of c.in-Name-default.is-0 in
+    let more : names_of grown ≡ (x, c.args.ty.now) ∷ R = names_pushed c.args.self.now grown _ c.in_ok-push-in-Name-default.ensures.ok ∙ ap (λ (y : Name). (y, c.args.ty.now) ∷ R) c.as_str-name.ensures.value in
+    subst (λ (p : PlacedPattern). Adds (pattern_of p) c.args.ty.now R (names_of grown)) (sym whole) (subst (λ (S : Names). Adds (named x) c.args.ty.now R S) (sym more) adds_name)
+
+pub returns-in_ok-bind-in-Both-Pair-clause-ok : goal.returns-in_ok-bind-in-Both-Pair-clause-ok
+returns-in_ok-bind-in-Both-Pair-clause-ok t c =
+    on_ok c.bind-in-Both-Pair.result
+    (λ h. both_adds c.args.pattern.now c.in-Both-Pair.first.value c.in-Both-Pair.second.value c.deref.result.now c.deref-in-Both-Pair-2.result.now
+    c.args.ty.now c.in-Both-Pair.left.value c.in-Both-Pair.right.value c.deref-in-Both-Pair.result.now c.deref-in-Both-Pair-3.result.now
+    (sym c.form.ensures ∙ ap placed_of c.in-Both-Pair.is-0) c.deref.ensures c.deref-in-Both-Pair-2.ensures
+    (sym c.form-2.ensures.kind ∙ ap kind_of c.in-Both-Pair.is-1) c.deref-in-Both-Pair.ensures c.deref-in-Both-Pair-3.ensures
+    c.in_ok-bind-in-Both-Pair.ensures.ok h)
+    c.bind-in-Both-Pair.ensures.ok

@@ -1,0 +1,25 @@
+-- Typed values in typed places.
+use Rattle.std.specs.Prelude.{[], ◌∷◌}
+use Rattle.sf_value.specs.Values.{Name, Data, Kind, HasKind}
+use Rattle.sf_value.specs.declared.fault.ValueFault.{ValueFault}
+use Rattle.sf_expr.specs.Expressions.{Expression, Function}
+use Rattle.sf_expr.specs.Evaluation.{Evaluated, answer, failed, Scope, no_names, value_name}
+use Rattle.sf_expr.specs.Typing.{Names, HasType, FunctionTakes}
+
+-- An answer of a type, or a fault.
+pub data Yields (t : Kind) : Evaluated Data → Type 0 where
+  yields : {d : Data} → HasKind d t → Yields t (answer d)
+  fails : {x : ValueFault} → Yields t (failed x)
+
+-- Values have the types of their names.
+pub data ScopeHas : Scope → Names → Type 0 where
+  has_no_names : ScopeHas no_names []
+  has_name : {x : Name} {v : Data} {t : Kind} {s : Scope} {R : Names} → HasKind v t → ScopeHas s R → ScopeHas (value_name x v s) ((x, t) ∷ R)
+
+-- An expression has a type where the names have these values.
+pub data IsTypedIn (s : Scope) (e : Expression) : Type 0 where
+  typed_in : {R : Names} {t : Kind} → ScopeHas s R → HasType R e t → IsTypedIn s e
+
+-- A function takes a value, where the names have these values.
+pub data TakesValue (s : Scope) (f : Function) (x : Data) : Type 0 where
+  takes_value : {R : Names} {a b : Kind} → ScopeHas s R → FunctionTakes R f a b → HasKind x a → TakesValue s f x

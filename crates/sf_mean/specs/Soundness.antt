@@ -1,0 +1,26 @@
+-- Typed lives and processes.
+use Rattle.std.specs.Prelude.{List, [], ◌∷◌, ⊤}
+use Rattle.sf_value.specs.Values.{Kind, Data, HasKind}
+use Rattle.sf_term.specs.Trees.{Term}
+use Rattle.sf_mean.specs.Lives.{Step, input_of, Life, Process, closure, Environment, empty}
+use Rattle.sf_mean.specs.Meaning.{Outcome, gave, faulted}
+use Rattle.sf_mean.specs.Typing.{Takes}
+
+-- Each value of a list has a type.
+pub data Have : List Data → Kind → Type 0 where
+  have_nothing : {t : Kind} → Have [] t
+  have_more : {y : Data} {ys : List Data} {t : Kind} → HasKind y t → Have ys t → Have (y ∷ ys) t
+
+-- Each input of a life has a type.
+pub data LifeHas : Life → Kind → Type 0 where
+  no_steps : {t : Kind} → LifeHas [] t
+  more_steps : {s : Step} {L : Life} {t : Kind} → HasKind (input_of s) t → LifeHas L t → LifeHas (s ∷ L) t
+
+-- A process takes inputs of one type to outputs of another.
+pub data ProcessTakes : Process → Kind → Kind → Type 0 where
+  closure_takes : {t : Term} {a b : Kind} → Takes t a b → ProcessTakes (closure t empty) a b
+
+-- the value of an outcome has a type
+abbrev pub OutcomeHas : Outcome → Kind → Type 0
+OutcomeHas (gave y r) t = HasKind y t
+OutcomeHas (faulted x) t = ⊤

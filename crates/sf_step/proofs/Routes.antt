@@ -1,0 +1,25 @@
+-- Where the parts' inputs come from.
+use Rattle.std.proofs.Common.{◌≡◌, [], refl}
+use Rattle.sf_value.specs.Values.{Data}
+use Rattle.sf_expr.specs.Expressions.{Expression}
+use Rattle.sf_term.specs.declared.form.Join.{Join}
+use Rattle.sf_term.specs.declared.form.Heading.{Heading}
+use Rattle.sf_term.specs.declared.form.Heading.TheVariants.{LoopPre}
+use Rattle.sf_term.specs.Trees.{Term, headed}
+use Rattle.sf_mean.specs.Lives.{Environment}
+use Rattle.sf_mean.specs.Meaning.{Network, value_made, no_loop}
+use Rattle.sf_state.specs.declared.state.Wrap.TheVariants.{Loop}
+use Rattle.sf_state.specs.Standing.{Wraps, wraps_loop}
+use Rattle.sf_step.specs.declared.routing.Route.TheVariants.{Output, Input}
+use Rattle.sf_step.specs.declared.routing.Saved.TheVariants.{Nothing, Left}
+use Rattle.sf_step.specs.Routing.{right_input, Routes, routes_output, routes_second, routes_input, Saves, saves_nothing, saves_in_parallel, saves_fanned_out}
+
+pub from_output : (j : Join) (x y : Data) → Routes j x Output → (y ≡ right_input j x y) × Saves j y Nothing
+from_output j x y routes_output = (refl, saves_nothing)
+
+pub from_input : (v : Data) (j : Join) (x y : Data) → Routes j x (Input v) → (v ≡ right_input j x y) × Saves j y (Left y)
+from_input v j x y routes_second = (refl, saves_in_parallel)
+from_input v j x y routes_input = (refl, saves_fanned_out)
+
+pub head_wraps : (h : Heading) (v : Data) (n : Network) (i : Expression) (t : Term) (e : Environment) → Wraps n (Loop v) (headed h i t) e (value_made v) [] t []
+head_wraps LoopPre v n i t e = wraps_loop no_loop

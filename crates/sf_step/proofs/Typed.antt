@@ -1,0 +1,218 @@
+-- What is stepped is typed.
+use Rattle.std.proofs.Common.{◌≡◌, ℕ, List, [], Ok, refl, ap, subst}
+use Rattle.sf_value.specs.Values.{Kind, pair_kind, Data, HasKind, has_pair, first_of, second_of}
+use Rattle.sf_expr.specs.Evaluation.{Evaluated, answer, failed, ◌>>=◌, no_names}
+use Rattle.sf_expr.specs.Soundness.{Yields, yields, fails, has_no_names, IsTypedIn, typed_in}
+use Rattle.sf_expr.specs.declared.exprs.ExprId.{ExprId}
+use Rattle.sf_expr.proofs.Sound.{expression_yields, function_yields}
+use Rattle.sf_term.specs.declared.form.Join.{Join}
+use Rattle.sf_term.specs.declared.form.Join.TheVariants.{InSequence, InParallel, FannedOut}
+use Rattle.sf_term.specs.declared.form.Heading.{Heading}
+use Rattle.sf_term.specs.declared.node.TermId.{TermId}
+use Rattle.sf_term.specs.declared.node.Node.TheVariants.{Primitive as NPrimitive, Headed as NHeaded}
+use Rattle.sf_term.specs.declared.node.Primitive.{Primitive as SPrimitive}
+use Rattle.sf_term.specs.declared.program.Program.{Program}
+use Rattle.sf_term.specs.Trees.{Term, primitive, joined}
+use Rattle.sf_term.specs.Arena.{tree, expression_at, Builds, builds_bare, builds_with_value, builds_arrow, builds_headed}
+use Rattle.sf_mean.specs.Lives.{Step, step, input_of, Life, Process, closure, empty, fed_back, older}
+use Rattle.sf_mean.specs.Meaning.{Network, Outcome, Cost, Made, value_made, make, left_life, right_life, Gives, Outputs}
+use Rattle.sf_mean.specs.Networks.{network_of}
+use Rattle.sf_mean.specs.Typing.{Takes, takes, FormTakes, primitive_takes, sequence_takes, parallel_takes, fan_takes, first_takes, second_takes, loop_takes}
+use Rattle.sf_mean.specs.Soundness.{Have, have_nothing, have_more, LifeHas, no_steps, more_steps, ProcessTakes, closure_takes, OutcomeHas}
+use Rattle.sf_mean.proofs.TypedLives.{first_is, second_is, with_inputs_has, relay_has, fed_has}
+use Rattle.sf_mean.proofs.TypedProcesses.{EvalsTyped, AppliesTyped, gives_has, outputs_have, loops_have}
+use Rattle.sf_prim.specs.declared.prim_state.PrimState.{PrimState}
+use Rattle.sf_prim.specs.Keeping.{primitive_over, IsTyped, is_typed, IsFed as IsPrimFed, is_fed as is_prim_fed}
+use Rattle.sf_state.specs.declared.state.State.{State}
+use Rattle.sf_state.specs.declared.state.State.TheVariants.{Unborn, Live as Alive}
+use Rattle.sf_state.specs.declared.state.Live.{Live}
+use Rattle.sf_state.specs.declared.state.Live.TheVariants.{Prim as LPrim, Join' as LJoin', Wrap' as LWrap'}
+use Rattle.sf_state.specs.declared.state.Wrap.{Wrap}
+use Rattle.sf_state.specs.declared.state.Process.{Process as SProcess}
+use Rattle.sf_state.specs.declared.state.Process.TheVariants.{Closure as SClosure}
+use Rattle.sf_state.specs.declared.state.Env.{Env}
+use Rattle.sf_state.specs.Standing.{unborn, alive, settles, Ready, ready, lives_primitive, lives_join, lives_wrap, Wraps, wraps_first, wraps_second, wraps_loop, is_closure, IsNames}
+use Rattle.sf_step.specs.declared.meter.Meter.{Meter}
+use Rattle.sf_step.specs.Routing.{left_input, right_input, part_input}
+use Rattle.sf_step.specs.Sampling.{StateSteps, Opens, opens, HasTypes, has_types, IsFirstFed, is_first_fed, IsLiveFed, is_live_fed}
+use Rattle.sf_step.specs.Stepping.{IsFed, is_fed}
+use Rattle.sf_step.proofs.Parts.{answered}
+
+evals : EvalsTyped
+evals R i t s h q = expression_yields h q
+
+applies : AppliesTyped
+applies R f a b x s h k q = function_yields h q k
+
+module _ (n : Network) where
+  gives_typed : {P : Process} {L : Life} {o : Outcome} {c : Cost} {a b : Kind} → Gives n P L o c → ProcessTakes P a b → LifeHas L a → OutcomeHas o b
+  gives_typed G T l = gives_has n evals applies G T l
+
+  outputs_typed : {P : Process} {L : Life} {ys : List Data} {a b : Kind} → Outputs n P L ys → ProcessTakes P a b → LifeHas L a → Have ys b
+  outputs_typed O T l = outputs_have n evals applies O T l
+
+-- ## Joins
+
+-- the types of a join's parts, and of what they live
+record JoinTypes (j : Join) (f g : Term) (a : Kind) : Type 0 where
+  left_in : Kind
+  left_out : Kind
+  right_in : Kind
+  right_out : Kind
+  left_takes : Takes f left_in left_out
+  right_takes : Takes g right_in right_out
+  left_has : (x : Data) → HasKind x a → HasKind (left_input j x) left_in
+  right_has : (x y : Data) → HasKind x a → HasKind y left_out → HasKind (right_input j x y) right_in
+  left_lived : (L : Life) → LifeHas L a → LifeHas (left_life j L) left_in
+  right_lived : (L : Life) (ys : List Data) → LifeHas L a → Have ys left_out → LifeHas (right_life j L ys) right_in
+
+join_types : {f g : Term} {a b : Kind} (j : Join) → FormTakes (joined j f g) a b → JoinTypes j f g a
+join_types InSequence (sequence_takes F G) = record {
+  left_in = _;
+  left_out = _;
+  right_in = _;
+  right_out = _;
+  left_takes = F;
+  right_takes = G;
+  left_has = λ x h. h;
+  right_has = λ x y h k. k;
+  left_lived = λ L l. l;
+  right_lived = λ L ys l k. relay_has l k;
+}
+join_types InParallel (parallel_takes F G) = record {
+  left_in = _;
+  left_out = _;
+  right_in = _;
+  right_out = _;
+  left_takes = F;
+  right_takes = G;
+  left_has = λ x. first_is;
+  right_has = λ x y h k. second_is h;
+  left_lived = λ L l. with_inputs_has first_of (λ v. first_is) l;
+  right_lived = λ L ys l k. with_inputs_has second_of (λ v. second_is) l;
+}
+join_types FannedOut (fan_takes F G) = record {
+  left_in = _;
+  left_out = _;
+  right_in = _;
+  right_out = _;
+  left_takes = F;
+  right_takes = G;
+  left_has = λ x h. h;
+  right_has = λ x y h k. h;
+  left_lived = λ L l. l;
+  right_lived = λ L ys l k. l;
+}
+
+-- ## Forms with one part
+
+older_have : {t : Kind} {zs : List Data} → Have zs t → Have (older zs) t
+older_have have_nothing = have_nothing
+older_have (have_more h k) = k
+
+fed_back_has : {b c : Kind} {v : Data} {zs : List Data} → HasKind v c → Have zs (pair_kind b c) → HasKind (fed_back v zs) c
+fed_back_has h have_nothing = h
+fed_back_has h (have_more k q) = second_is k
+
+-- the value of an answer
+abbrev made_in : Data → Evaluated Made → Data
+made_in d (answer (value_made v)) = v
+made_in d (answer m) = d
+made_in d (failed x) = d
+
+made_has : {t : Kind} {q : Evaluated Data} {v : Data} → Yields t q → (q >>= λ v. answer (value_made v)) ≡ answer (value_made v) → HasKind v t
+made_has {t = t} {v = v} (yields {d = d} h) e = subst (λ w. HasKind w t) (ap (made_in d) e) h
+made_has fails e = absurd cc
+
+-- the types of the part, and of what it lived
+record WrapTypes (w : Wrap) (u : Term) (K : Life) (a : Kind) : Type 0 where
+  part_in : Kind
+  part_out : Kind
+  part_takes : Takes u part_in part_out
+  part_has : (x : Data) → HasKind x a → HasKind (part_input w x) part_in
+  part_lived : LifeHas K part_in
+
+module _ (n : Network) where
+  wrap_types : {w : Wrap} {t u : Term} {m : Made} {L K : Life} {a b : Kind} (x : Data) → Wraps n w t empty m L u K → make n t empty x ≡ answer m → FormTakes t a b → LifeHas L a → WrapTypes w u K a
+  wrap_types x wraps_first h (first_takes T) l = record {
+    part_in = _;
+    part_out = _;
+    part_takes = T;
+    part_has = λ x. first_is;
+    part_lived = with_inputs_has first_of (λ v. first_is) l;
+  }
+  wrap_types x wraps_second h (second_takes T) l = record {
+    part_in = _;
+    part_out = _;
+    part_takes = T;
+    part_has = λ x. second_is;
+    part_lived = with_inputs_has second_of (λ v. second_is) l;
+  }
+  wrap_types x (wraps_loop {v = v} {zs = zs} O) h (loop_takes {b = b} {c = c} I T) l =
+      let i : HasKind v c = made_has (expression_yields I has_no_names) h in
+      let z : Have zs (pair_kind b c) = loops_have n evals applies O (closure_takes T) i l in
+      record {
+        part_in = _;
+        part_out = _;
+        part_takes = T;
+        part_has = λ x k. has_pair k (fed_back_has i z);
+        part_lived = fed_has b i l (older_have z);
+      }
+
+-- ## What the parts are fed with
+
+module _ (p : Program) where
+  abbrev net : Network
+  net = network_of p
+
+  pub first_fed : (q : SProcess) (x : Data) → IsFed p (Unborn q) x → IsFirstFed p q x
+  first_fed q x (is_fed (unborn Q) T l h) = is_first_fed Q T h
+
+  pub live_fed : (l : Live) (d : ℕ) (x : Data) → IsFed p (Alive l) x → IsLiveFed p l (step d x)
+  live_fed l d x (is_fed (alive (settles R)) T k h) = is_live_fed R T k h
+
+  pub left_fed : {at at' : _} (j : Join) (a b : State) (d : ℕ) (x u : Data) → u ≡ left_input j x → IsLiveFed p (LJoin' j at a at' b) (step d x) → IsFed p a u
+  left_fed j a b d x u eu (is_live_fed (ready h O (lives_join OL A B)) (closure_takes (takes _ _ T)) l k) =
+      let t = join_types j T in
+      is_fed A (closure_takes t.left_takes) (t.left_lived _ l) (rw eu (t.left_has x k))
+
+  pub right_fed : {at at' : _} (j : Join) (a a' b : State) (m n : Meter) (inside d : ℕ) (x u y w : Data) → u ≡ left_input j x → w ≡ right_input j x y
+      → StateSteps p a (step d u) (Ok (a', y)) m n inside → IsLiveFed p (LJoin' j at a at' b) (step d x) → IsFed p b w
+  right_fed j a a' b m n inside d x u y w eu ew hs (is_live_fed (ready h O (lives_join {ys = ys} OL A B)) (closure_takes (takes _ _ T)) l k) =
+      let t = join_types j T in
+      let L = t.left_lived _ l in
+      let i = gives_typed net (answered (hs _ _ A)).given (closure_takes t.left_takes) (more_steps {s = step d u} (rw eu (t.left_has x k)) L) in
+      is_fed B (closure_takes t.right_takes) (t.right_lived _ _ l (outputs_typed net OL (closure_takes t.left_takes) L)) (rw ew (t.right_has x y k i))
+
+  pub part_fed : {at : _} (w : Wrap) (a : State) (d : ℕ) (x u : Data) → u ≡ part_input w x → IsLiveFed p (LWrap' w at a) (step d x) → IsFed p a u
+  part_fed w a d x u eu (is_live_fed (ready h O (lives_wrap W A)) (closure_takes (takes _ _ T)) l k) =
+      let t = wrap_types net _ W h T l in
+      is_fed A (closure_takes t.part_takes) t.part_lived (rw eu (t.part_has x k))
+
+  pub prim_fed : (i : PrimState) (s : Step) → IsLiveFed p (LPrim i) s → IsPrimFed p i (input_of s)
+  prim_fed i s (is_live_fed (ready h O (lives_primitive K)) (closure_takes (takes _ _ (primitive_takes T))) l k) = is_prim_fed K T k
+
+  -- ## Before the first sample
+
+  pub term_typed : (term : TermId) (names : Env) (x : Data) → IsFirstFed p (SClosure term names) x → HasTypes (tree p term)
+  term_typed term names x (is_first_fed (is_closure N) (closure_takes T) h) = has_types T
+
+  opened : {l : Live} {t : Term} {e : _} → Opens p t e (Ok l) → (x : Data) → Ready p l (closure t e) x []
+  opened (opens h) = h
+
+  pub opened_fed : (term : TermId) (names : Env) (l : Live) (d : ℕ) (x : Data) → ((e : _) → IsNames p names e → Opens p (tree p term) e (Ok l)) → IsFirstFed p (SClosure term names) x → IsLiveFed p l (step d x)
+  opened_fed term names l d x ho (is_first_fed (is_closure {e = e} N) (closure_takes T) h) = is_live_fed (opened (ho e N) x) (closure_takes T) no_steps h
+
+  pub builds_primitive : {q : SPrimitive} {t : Term} → Builds p (NPrimitive q) t → t ≡ primitive (primitive_over p q)
+  builds_primitive builds_bare = refl
+  builds_primitive builds_with_value = refl
+  builds_primitive builds_arrow = refl
+
+  pub primitive_typed : (q : SPrimitive) (t : Term) → Builds p (NPrimitive q) t → HasTypes t → IsTyped (primitive_over p q)
+  primitive_typed q t B h = types_of (subst HasTypes (builds_primitive B) h)
+    where
+      types_of : {q : _} → HasTypes (primitive q) → IsTyped q
+      types_of (has_types (takes _ _ (primitive_takes T))) = is_typed T
+
+  pub head_typed : (h : Heading) (i : ExprId) (a : TermId) (t : Term) → Builds p (NHeaded h i a) t → HasTypes t → IsTypedIn no_names (expression_at p i)
+  head_typed h i a t builds_headed (has_types (takes _ _ (loop_takes I T))) = typed_in has_no_names I

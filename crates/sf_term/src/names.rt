@@ -1,0 +1,18 @@
+//! Names in patterns.
+ghost use Rattle.std.specs.Prelude.{◌↔◌, IsTrue};
+ghost use Rattle.sf_expr.specs.Patterns.{pattern_of};
+ghost use Rattle.sf_term.specs.Names.{HasNames};
+
+use sf_expr::{Pat, PatForm};
+use sf_lex::is_name;
+
+/// Whether all names of a pattern are names of the language.
+pub(crate) fn has_names(pattern: &Pat) -> bool
+    ensures { IsTrue result ↔ HasNames (pattern_of pattern.now) }
+{
+    match pattern.form() {
+        PatForm::Unnamed => true,
+        PatForm::Name(name, _) => is_name(name.as_bytes()),
+        PatForm::Both(first, second) => has_names(first) && has_names(second),
+    }
+}

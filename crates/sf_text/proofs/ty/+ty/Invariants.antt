@@ -1,0 +1,11 @@
+use Rattle.std.proofs.Common.{◌+◌, ◌*◌}
+use Rattle.sf_text.proofs.ty.+ty.Given as goal
+
+abbrev pub decreases-inner_type : goal.decreases-inner_type
+decreases-inner_type l = 3 * l.left
+
+abbrev pub decreases-type_form : goal.decreases-type_form
+decreases-type_form l = 3 * l.left + 2
+
+abbrev pub decreases-pair_type : goal.decreases-pair_type
+decreases-pair_type l = 3 * l.left + 1

@@ -1,0 +1,87 @@
+//! Patterns.
+ghost use Rattle.std.specs.Prelude.{◌≡◌};
+ghost use Rattle.sf_expr.specs.Expressions.{Pattern};
+ghost use Rattle.sf_expr.specs.Patterns.{pattern_of};
+ghost use Rattle.sf_lex.specs.Tokens.{token_of};
+ghost use Rattle.sf_text.specs.Answers.{toks, Stops, Reads};
+ghost use Rattle.sf_text.specs.Reading.{begins_pattern, too_deep, pattern_at, pattern_form_at, pattern_pair_at};
+
+use crate::part::{spot_of, stop_at, symbol};
+use crate::stop::{Fault, Stop};
+use sf_expr::Pat;
+use sf_lex::{Keyword, PlacedToken, Symbol, Token};
+use std::alloc::Global;
+
+fn begins_pattern(token: &Token) -> bool
+    ensures { result ≡ begins_pattern (token_of token.now) }
+{
+    matches!(
+        token,
+        Token::Keyword(Keyword::Underscore) | Token::Name(_) | Token::Symbol(Symbol::Open)
+    )
+}
+
+/// A pattern would be 65 deep here.
+fn pattern_too_deep(tokens: &[PlacedToken]) -> Stop
+    ensures { Stops {A = Pattern} result (too_deep begins_pattern (toks tokens.now)) }
+{
+    match tokens {
+        [first, ..] if begins_pattern(&first.token) => stop_at(Fault::TooDeep, tokens),
+        _ => stop_at(Fault::Unexpected, tokens),
+    }
+}
+
+/// A pattern of so much depth at most, and the tokens behind it.
+#[cycle(pattern)]
+#[tactic(auto, using(crate::proofs::Deeper::pattern_at_more, crate::proofs::Deeper::pattern_at_zero))]
+pub(crate) fn pattern<'a>(
+    alloc: Global,
+    tokens: &'a [PlacedToken<'a>],
+    left: u32,
+) -> Result<(Pat, &'a [PlacedToken<'a>]), Stop>
+    ensures { Reads pattern_of result (pattern_at left (toks tokens.now)) }
+{
+    if left == 0 {
+        return Err(pattern_too_deep(tokens));
+    }
+    pattern_form(alloc, tokens, left - 1)
+}
+
+#[cycle(pattern)]
+fn pattern_form<'a>(
+    alloc: Global,
+    tokens: &'a [PlacedToken<'a>],
+    left: u32,
+) -> Result<(Pat, &'a [PlacedToken<'a>]), Stop>
+    ensures { Reads pattern_of result (pattern_form_at (pattern_at left) (toks tokens.now)) }
+{
+    let [first, rest @ ..] = tokens else {
+        return Err(stop_at(Fault::Unexpected, tokens));
+    };
+    match &first.token {
+        Token::Keyword(Keyword::Underscore) => Ok((Pat::unnamed(), rest)),
+        Token::Name(name) => {
+            let name = String::from_str(alloc, *name)?;
+            Ok((Pat::name(name, spot_of(first.place)), rest))
+        }
+        Token::Symbol(Symbol::Open) => pattern_pair(alloc, rest, left),
+        _ => Err(stop_at(Fault::Unexpected, tokens)),
+    }
+}
+
+/// The pattern of a pair behind its opening bracket, and the tokens behind it.
+#[cycle(pattern)]
+#[tactic(auto, unfolding(crate::specs::Reading::pattern_pair_at))]
+fn pattern_pair<'a>(
+    alloc: Global,
+    tokens: &'a [PlacedToken<'a>],
+    left: u32,
+) -> Result<(Pat, &'a [PlacedToken<'a>]), Stop>
+    ensures { Reads pattern_of result (pattern_pair_at (pattern_at left) (toks tokens.now)) }
+{
+    let (first, rest) = pattern(alloc, tokens, left)?;
+    let rest = symbol(rest, Symbol::Comma)?;
+    let (second, rest) = pattern(alloc, rest, left)?;
+    let rest = symbol(rest, Symbol::Close)?;
+    Ok((Pat::both(alloc, first, second)?, rest))
+}

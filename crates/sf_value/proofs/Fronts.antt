@@ -1,0 +1,19 @@
+-- What stands before what is appended.
+use Rattle.std.proofs.Common.{◌≡◌, ℕ, List, [], ◌∷◌, ◌++◌, length, take, Result, Ok, Err, OnErr, refl, ap, subst}
+
+kept : (old more new : List ℕ) → take (length (old ++ more)) new ≡ old ++ more → take (length old) new ≡ old
+kept [] more new h = refl
+kept (x ∷ old) more [] h = cc
+kept (x ∷ old) more (y ∷ new) h =
+    let first : y ≡ x = cc in
+    let rest : take (length (old ++ more)) new ≡ old ++ more = cc in
+    rw first (ap (λ xs. x ∷ xs) (kept old more new rest))
+
+-- where a front stays, its own front stays
+pub front_kept : (old grown more new : List ℕ) → grown ≡ old ++ more → take (length grown) new ≡ grown → take (length old) new ≡ old
+front_kept old grown more new e h = kept old more new (subst (λ xs. take (length xs) new ≡ xs) e h)
+
+-- what holds holds of an error
+pub on_err : {A E : Type 0} (r : Result A E) (P : Type 0) → P → OnErr r P
+on_err (Ok x) P p = tt
+on_err (Err e) P p = p
