@@ -57,8 +57,10 @@ fn shown(sample: &Sample) -> (u64, Option<i64>) {
 
 /// The time and the numbers of a sample of a pair.
 fn both_shown(sample: &Sample) -> (u64, Option<i64>, Option<i64>) {
-    let first = number_of(sample.value.first());
-    (sample.time, first, number_of(sample.value.second()))
+    match sample.value.form() {
+        Form::Int(_) => (sample.time, None, None),
+        Form::Pair(first, second) => (sample.time, number_of(first), number_of(second)),
+    }
 }
 
 #[test]

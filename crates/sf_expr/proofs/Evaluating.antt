@@ -3,7 +3,7 @@ use Rattle.std.proofs.Common.{◌≡◌, [], Some, Bool, true, false, cond, IsTr
 use Rattle.std.specs.Prelude.{ℤ, bytes_eq}
 use Rattle.std.proofs.Math.Logic.{∥∥₁_elim}
 use Rattle.std.proofs.Props.{props}
-use Rattle.sf_value.specs.Values.{Name, Kind, int_kind, Data, number, pair, is_narrow, HasKind, has_int}
+use Rattle.sf_value.specs.Values.{Name, Kind, int_kind, Data, number, pair, is_narrow, HasKind, has_int, has_pair}
 use Rattle.sf_expr.specs.declared.exprs.ExprId.{ExprId}
 use Rattle.sf_expr.specs.declared.exprs.NameId.{NameId}
 use Rattle.sf_expr.specs.declared.exprs.ExprNode.TheVariants as nodes
@@ -12,8 +12,8 @@ use Rattle.sf_expr.specs.declared.operator.Operator.{Operator}
 use Rattle.sf_expr.specs.declared.fault.EvalFault.{EvalFault}
 use Rattle.sf_expr.specs.declared.fault.EvalFault.TheVariants.{Value, Memory}
 use Rattle.sf_expr.specs.Expressions.{Pattern, Expression, function}
-use Rattle.sf_expr.specs.Evaluation.{Evaluated, answer, ◌>>=◌, Scope, no_names, bound_in, eval, operated}
-use Rattle.sf_expr.specs.Typing.{Names, type_of_name, HasType, variable_has, pair_has, operation_has, function_takes}
+use Rattle.sf_expr.specs.Evaluation.{Evaluated, answer, ◌>>=◌, Scope, no_names, pattern_fits, bound_in, eval, operated}
+use Rattle.sf_expr.specs.Typing.{Names, type_of_name, Adds, adds_nothing, adds_name, adds_both, HasType, variable_has, pair_has, operation_has, function_takes}
 use Rattle.sf_expr.specs.Soundness.{Yields, yields, fails, ScopeHas, has_no_names, has_name, IsTypedIn, typed_in, TakesValue, takes_value}
 use Rattle.sf_expr.specs.Scopes.{is_bound}
 use Rattle.sf_expr.specs.Answers.{Evaluates}
@@ -99,6 +99,18 @@ operation_answers s r builds_operation first second h = after _ _ r first (after
 pub passed_on : (r : Result Data EvalFault) (fault : EvalFault) (o : Evaluated Data) → IsErrAnd r (λ e. e ≡ fault) → Evaluates (Err fault) o → Evaluates r o
 passed_on (Ok d) fault o e h = absurd e
 passed_on (Err f) fault o e h = subst (λ (g : EvalFault). Evaluates (Err g) o) (sym e) h
+
+adds_fits : {p : Pattern} {t : Kind} {R S : Names} {d : Data} → Adds p t R S → HasKind d t → IsTrue (pattern_fits p d)
+adds_fits adds_nothing h = refl
+adds_fits adds_name h = refl
+adds_fits (adds_both {q = q} a b) (has_pair {y = y} h k) = subst (λ (c : Bool). IsTrue (cond c (pattern_fits q y) false)) (sym (adds_fits a h)) (adds_fits b k)
+
+takes_fits : {s : Scope} {p : Pattern} {i : Expression} {d : Data} → TakesValue s (function p i) d → IsTrue (pattern_fits p d)
+takes_fits (takes_value k (function_takes fits binds h) v) = adds_fits binds.adds v
+
+-- the pattern of a function fits the values that it takes
+pub argument_fits : {s : Scope} {p : Pattern} {i : Expression} {d : Data} → ∥ TakesValue s (function p i) d ∥₁ → IsTrue (pattern_fits p d)
+argument_fits h = ∥∥₁_elim h (hlevel props) takes_fits
 
 -- the body of a function that takes a value is typed
 pub body_typed : (p : Pattern) (i : Expression) (x : Data) (s : Scope) → TakesValue no_names (function p i) x → s ≡ bound_in p x no_names → IsTypedIn s i

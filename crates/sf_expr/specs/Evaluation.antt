@@ -1,5 +1,5 @@
 -- What expressions are worth.
-use Rattle.std.specs.Prelude.{zero, suc, ◌/◌, ℤ, pos, negsuc, ◌+ℤ◌, ◌-ℤ◌, ◌*ℤ◌, cond, bytes_eq}
+use Rattle.std.specs.Prelude.{Bool, true, false, zero, suc, ◌/◌, ℤ, pos, negsuc, ◌+ℤ◌, ◌-ℤ◌, ◌*ℤ◌, cond, bytes_eq}
 use Rattle.sf_value.specs.Values.{Name, Data, number, pair, is_narrow, first_of, second_of}
 use Rattle.sf_value.specs.declared.fault.ValueFault.{ValueFault}
 use Rattle.sf_value.specs.declared.fault.ValueFault.TheVariants.{Overflow, DivideByZero}
@@ -37,6 +37,13 @@ abbrev pub bound_in : Pattern → Data → Scope → Scope
 bound_in unnamed d scope = scope
 bound_in (named x) d scope = value_name x d scope
 bound_in (both p q) d scope = bound_in q (second_of d) (bound_in p (first_of d) scope)
+
+-- whether a pattern fits a value: one of two parts fits a pair alone, whose parts its parts fit
+abbrev pub pattern_fits : Pattern → Data → Bool
+pattern_fits unnamed d = true
+pattern_fits (named x) d = true
+pattern_fits (both p q) (number z) = false
+pattern_fits (both p q) (pair a b) = cond (pattern_fits p a) (pattern_fits q b) false
 
 -- a literal's value
 abbrev pub literal_value : Literal → Data

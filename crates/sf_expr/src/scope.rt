@@ -1,11 +1,11 @@
 //! Names with their values.
 ghost use Rattle.std.specs.Prelude.{◌≡◌, ◌↔◌, OnOk, IfSome, IsSome, IsTrue, length};
-ghost use Rattle.sf_expr.specs.Evaluation.{no_names, bound_in, value_of};
+ghost use Rattle.sf_expr.specs.Evaluation.{no_names, pattern_fits, bound_in, value_of};
 ghost use Rattle.sf_expr.specs.Patterns.{pattern_of};
 ghost use Rattle.sf_expr.specs.Scopes.{scope_of, is_bound};
 
 use crate::pat::{Pat, PatForm};
-use sf_value::Value;
+use sf_value::{Form, Value};
 use smallvec::SmallVec;
 use std::alloc::{AllocError, Global};
 
@@ -33,10 +33,11 @@ impl<'a> Scope<'a> {
         }
     }
 
-    /// Binds the names of a pattern to the parts of a value, behind the names that are there. Where memory is wanting,
-    /// only some of them may be there.
+    /// Binds the names of a pattern to the parts of a value that it fits, behind the names that are there. Where memory
+    /// is wanting, only some of them may be there.
     #[tactic(auto, using(crate::proofs::Bound::scope_pushed))]
     pub fn bind(&mut self, pattern: &'a Pat, value: &'a Value) -> Result<(), AllocError>
+        requires { IsTrue (pattern_fits (pattern_of pattern.now) value.now) }
         ensures { OnOk result (scope_of self.new ≡ bound_in (pattern_of pattern.now) value.now (scope_of self.old)) }
     {
         match pattern.form() {
@@ -45,10 +46,13 @@ impl<'a> Scope<'a> {
                 let name = name.as_str();
                 self.bindings.push(Some(Binding { name, value }))?;
             }
-            PatForm::Both(first, second) => {
-                self.bind(first, value.first())?;
-                self.bind(second, value.second())?;
-            }
+            PatForm::Both(first, second) => match value.form() {
+                Form::Pair(left, right) => {
+                    self.bind(first, left)?;
+                    self.bind(second, right)?;
+                }
+                Form::Int(_) => unreachable!(),
+            },
         }
         Ok(())
     }

@@ -1,5 +1,7 @@
 -- What is stepped is typed.
-use Rattle.std.proofs.Common.{◌≡◌, ℕ, List, [], Ok, refl, ap, subst}
+use Rattle.std.proofs.Common.{◌≡◌, ℕ, List, [], Ok, refl, ap, subst, IsTrue}
+use Rattle.std.proofs.Math.Logic.{∥∥₁_elim}
+use Rattle.std.proofs.Props.{props}
 use Rattle.sf_value.specs.Values.{Kind, pair_kind, Data, HasKind, has_pair, first_of, second_of}
 use Rattle.sf_expr.specs.Evaluation.{Evaluated, answer, failed, ◌>>=◌, no_names}
 use Rattle.sf_expr.specs.Soundness.{Yields, yields, fails, has_no_names, IsTypedIn, typed_in}
@@ -33,7 +35,9 @@ use Rattle.sf_state.specs.declared.state.Process.TheVariants.{Closure as SClosur
 use Rattle.sf_state.specs.declared.state.Env.{Env}
 use Rattle.sf_state.specs.Standing.{unborn, alive, settles, Ready, ready, lives_primitive, lives_join, lives_wrap, Wraps, wraps_first, wraps_second, wraps_loop, is_closure, IsNames}
 use Rattle.sf_step.specs.declared.meter.Meter.{Meter}
-use Rattle.sf_step.specs.Routing.{left_input, right_input, part_input}
+use Rattle.sf_step.specs.declared.routing.Passed.{Passed}
+use Rattle.sf_step.specs.Routing.{is_pair, join_fits, left_input, right_input, input_fits, output_fits, passed_fits, part_input, Passes}
+use Rattle.sf_step.proofs.Routes.{past_fits}
 use Rattle.sf_step.specs.Sampling.{StateSteps, Opens, opens, HasTypes, has_types, IsFirstFed, is_first_fed, IsLiveFed, is_live_fed}
 use Rattle.sf_step.specs.Stepping.{IsFed, is_fed}
 use Rattle.sf_step.proofs.Parts.{answered}
@@ -51,6 +55,9 @@ module _ (n : Network) where
   outputs_typed : {P : Process} {L : Life} {ys : List Data} {a b : Kind} → Outputs n P L ys → ProcessTakes P a b → LifeHas L a → Have ys b
   outputs_typed O T l = outputs_have n evals applies O T l
 
+pair_is : {x : Data} {a b : Kind} → HasKind x (pair_kind a b) → IsTrue (is_pair x)
+pair_is (has_pair h k) = refl
+
 -- ## Joins
 
 -- the types of a join's parts, and of what they live
@@ -61,6 +68,7 @@ record JoinTypes (j : Join) (f g : Term) (a : Kind) : Type 0 where
   right_out : Kind
   left_takes : Takes f left_in left_out
   right_takes : Takes g right_in right_out
+  splits : (x : Data) → HasKind x a → IsTrue (join_fits j x)
   left_has : (x : Data) → HasKind x a → HasKind (left_input j x) left_in
   right_has : (x y : Data) → HasKind x a → HasKind y left_out → HasKind (right_input j x y) right_in
   left_lived : (L : Life) → LifeHas L a → LifeHas (left_life j L) left_in
@@ -74,6 +82,7 @@ join_types InSequence (sequence_takes F G) = record {
   right_out = _;
   left_takes = F;
   right_takes = G;
+  splits = λ x h. refl;
   left_has = λ x h. h;
   right_has = λ x y h k. k;
   left_lived = λ L l. l;
@@ -86,6 +95,7 @@ join_types InParallel (parallel_takes F G) = record {
   right_out = _;
   left_takes = F;
   right_takes = G;
+  splits = λ x. pair_is;
   left_has = λ x. first_is;
   right_has = λ x y h k. second_is h;
   left_lived = λ L l. with_inputs_has first_of (λ v. first_is) l;
@@ -98,6 +108,7 @@ join_types FannedOut (fan_takes F G) = record {
   right_out = _;
   left_takes = F;
   right_takes = G;
+  splits = λ x h. refl;
   left_has = λ x h. h;
   right_has = λ x y h k. h;
   left_lived = λ L l. l;
@@ -129,6 +140,8 @@ record WrapTypes (w : Wrap) (u : Term) (K : Life) (a : Kind) : Type 0 where
   part_in : Kind
   part_out : Kind
   part_takes : Takes u part_in part_out
+  splits : (x : Data) → HasKind x a → IsTrue (input_fits w x)
+  splits_output : (y : Data) → HasKind y part_out → IsTrue (output_fits w y)
   part_has : (x : Data) → HasKind x a → HasKind (part_input w x) part_in
   part_lived : LifeHas K part_in
 
@@ -138,6 +151,8 @@ module _ (n : Network) where
     part_in = _;
     part_out = _;
     part_takes = T;
+    splits = λ x. pair_is;
+    splits_output = λ y h. refl;
     part_has = λ x. first_is;
     part_lived = with_inputs_has first_of (λ v. first_is) l;
   }
@@ -145,6 +160,8 @@ module _ (n : Network) where
     part_in = _;
     part_out = _;
     part_takes = T;
+    splits = λ x. pair_is;
+    splits_output = λ y h. refl;
     part_has = λ x. second_is;
     part_lived = with_inputs_has second_of (λ v. second_is) l;
   }
@@ -155,6 +172,8 @@ module _ (n : Network) where
         part_in = _;
         part_out = _;
         part_takes = T;
+        splits = λ x h. refl;
+        splits_output = λ y. pair_is;
         part_has = λ x k. has_pair k (fed_back_has i z);
         part_lived = fed_has b i l (older_have z);
       }
@@ -188,6 +207,29 @@ module _ (p : Program) where
   part_fed w a d x u eu (is_live_fed (ready h O (lives_wrap W A)) (closure_takes (takes _ _ T)) l k) =
       let t = wrap_types net _ W h T l in
       is_fed A (closure_takes t.part_takes) t.part_lived (rw eu (t.part_has x k))
+
+  join_split : {at at' : _} (j : Join) (a b : State) (d : ℕ) (x : Data) → IsLiveFed p (LJoin' j at a at' b) (step d x) → IsTrue (join_fits j x)
+  join_split j a b d x (is_live_fed (ready h O (lives_join OL A B)) (closure_takes (takes _ _ T)) l k) = (join_types j T).splits x k
+
+  wrap_splits : {at : _} (w : Wrap) (a : State) (d : ℕ) (x : Data) → IsLiveFed p (LWrap' w at a) (step d x) → IsTrue (input_fits w x)
+  wrap_splits w a d x (is_live_fed (ready h O (lives_wrap W A)) (closure_takes (takes _ _ T)) l k) = (wrap_types net _ W h T l).splits x k
+
+  output_splits : {at : _} (w : Wrap) (a a' : State) (m n : Meter) (inside d : ℕ) (x u y : Data) → u ≡ part_input w x
+      → StateSteps p a (step d u) (Ok (a', y)) m n inside → IsLiveFed p (LWrap' w at a) (step d x) → IsTrue (output_fits w y)
+  output_splits w a a' m n inside d x u y eu hs (is_live_fed (ready h O (lives_wrap W A)) (closure_takes (takes _ _ T)) l k) =
+      let t = wrap_types net _ W h T l in
+      t.splits_output y (gives_typed net (answered (hs _ _ A)).given (closure_takes t.part_takes) (more_steps {s = step d u} (rw eu (t.part_has x k)) t.part_lived))
+
+  -- what is taken apart is a pair
+  pub join_is_split : {at at' : _} (j : Join) (a b : State) (d : ℕ) (x : Data) → ∥ IsLiveFed p (LJoin' j at a at' b) (step d x) ∥₁ → IsTrue (join_fits j x)
+  join_is_split j a b d x h = ∥∥₁_elim h (hlevel props) (join_split j a b d x)
+
+  pub wrap_is_split : {at : _} (w : Wrap) (a : State) (d : ℕ) (x : Data) → ∥ IsLiveFed p (LWrap' w at a) (step d x) ∥₁ → IsTrue (input_fits w x)
+  wrap_is_split w a d x h = ∥∥₁_elim h (hlevel props) (wrap_splits w a d x)
+
+  pub output_is_split : {at : _} (w : Wrap) (a a' : State) (m n : Meter) (inside d : ℕ) (x u y : Data) {q : Passed} → u ≡ part_input w x → Passes w x q
+      → StateSteps p a (step d u) (Ok (a', y)) m n inside → ∥ IsLiveFed p (LWrap' w at a) (step d x) ∥₁ → IsTrue (passed_fits q y)
+  output_is_split w a a' m n inside d x u y eu P hs h = past_fits y P (∥∥₁_elim h (hlevel props) (output_splits w a a' m n inside d x u y eu hs))
 
   pub prim_fed : (i : PrimState) (s : Step) → IsLiveFed p (LPrim i) s → IsPrimFed p i (input_of s)
   prim_fed i s (is_live_fed (ready h O (lives_primitive K)) (closure_takes (takes _ _ (primitive_takes T))) l k) = is_prim_fed K T k

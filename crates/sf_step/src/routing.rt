@@ -1,5 +1,5 @@
 //! What the parts of forms take, and what values are made of.
-ghost use Rattle.std.specs.Prelude.{◌≡◌, [], IfOk};
+ghost use Rattle.std.specs.Prelude.{◌≡◌, [], IfOk, IsTrue};
 ghost use Rattle.sf_value.specs.Values.{Data, first_of, second_of};
 ghost use Rattle.sf_expr.specs.Expressions.{Expression};
 ghost use Rattle.sf_term.specs.declared.form.Join.{Join as JoinOf};
@@ -8,8 +8,8 @@ ghost use Rattle.sf_mean.specs.Lives.{Environment};
 ghost use Rattle.sf_mean.specs.Meaning.{Network, Made, value_made, join_value};
 ghost use Rattle.sf_state.specs.declared.state.Wrap.{Wrap as WrapOf};
 ghost use Rattle.sf_state.specs.Standing.{Wraps};
-ghost use Rattle.sf_step.specs.Routing.{left_input as left_of, right_input as right_of, Routes, Saves};
-ghost use Rattle.sf_step.specs.Routing.{part_input as part_of, wrap_value as wrapped, kept_after, Passes};
+ghost use Rattle.sf_step.specs.Routing.{is_pair, join_fits, left_input as left_of, right_input as right_of, Routes, Saves};
+ghost use Rattle.sf_step.specs.Routing.{input_fits, passed_fits, part_input as part_of, wrap_value as wrapped, kept_after, Passes};
 
 use sf_state::Wrap;
 use sf_term::{Heading, Join, Side};
@@ -44,12 +44,13 @@ pub(crate) enum Passed {
     Fed,
 }
 
-/// The two parts of a pair. What is no pair stands for both.
+/// The two parts of a pair.
 fn halves(value: Value) -> (Value, Value)
+    requires { IsTrue (is_pair value) }
     ensures { (result.0 ≡ first_of value) × (result.1 ≡ second_of value) }
 {
     match value.into_form() {
-        Form::Int(n) => (Value::int(n), Value::int(n)),
+        Form::Int(_) => unreachable!(),
         Form::Pair(first, second) => (Box::into_inner(first), Box::into_inner(second)),
     }
 }
@@ -61,6 +62,7 @@ pub(crate) fn left_input(
     input: Value,
     alloc: Global,
 ) -> Result<(Value, Route), AllocError>
+    requires { IsTrue (join_fits join input) }
     ensures { IfOk result (λ r. (r.0 ≡ left_of join input) × Routes join input r.1) }
 {
     match join {
@@ -125,6 +127,7 @@ pub(crate) fn part_input(
     input: Value,
     alloc: Global,
 ) -> Result<(Value, Passed), AllocError>
+    requires { IsTrue (input_fits wrap input) }
     ensures { IfOk result (λ r. (r.0 ≡ part_of wrap input) × Passes wrap input r.1) }
 {
     match wrap {
@@ -149,6 +152,7 @@ pub(crate) fn wrap_value(
     output: Value,
     alloc: Global,
 ) -> Result<(Wrap, Value), AllocError>
+    requires { IsTrue (passed_fits passed output) }
     ensures { IfOk result (λ r. (w : WrapOf) (x : Data) → Passes w x passed →
         (r.0 ≡ kept_after w output) × (r.1 ≡ wrapped w x output)) }
 {

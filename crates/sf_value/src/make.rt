@@ -1,6 +1,6 @@
 //! Values from their parts, and back.
 ghost use Rattle.std.specs.Prelude.{◌≡◌, IfOk};
-ghost use Rattle.sf_value.specs.Values.{number, pair, first_of, second_of, HasNarrowNumbers};
+ghost use Rattle.sf_value.specs.Values.{number, pair, HasNarrowNumbers};
 ghost use Rattle.sf_value.specs.View.{data_of};
 
 use crate::value::{Form, Value};
@@ -23,26 +23,6 @@ impl Value {
         Ok(Value {
             form: Form::Pair(first, second),
         })
-    }
-
-    /// The first part of a pair. What is no pair stands for itself.
-    pub fn first(&self) -> &Value
-        ensures { result.now ≡ first_of self.now }
-    {
-        match &self.form {
-            Form::Int(_) => self,
-            Form::Pair(first, _) => first,
-        }
-    }
-
-    /// The second part of a pair. What is no pair stands for itself.
-    pub fn second(&self) -> &Value
-        ensures { result.now ≡ second_of self.now }
-    {
-        match &self.form {
-            Form::Int(_) => self,
-            Form::Pair(_, second) => second,
-        }
     }
 
     /// What the value is made of.

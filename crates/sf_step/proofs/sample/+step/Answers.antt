@@ -1,11 +1,14 @@
 use Rattle.std.proofs.Common.{rules}
 use Rattle.std.proofs.Math.Logic.{∥∥₁_map}
 use Rattle.sf_step.proofs.Parts.{pass_exit, memory_exit}
-use Rattle.sf_step.proofs.Typed.{first_fed, live_fed, left_fed, right_fed, part_fed, term_typed, opened_fed}
+use Rattle.sf_step.proofs.Typed.{first_fed, live_fed, left_fed, right_fed, part_fed, join_is_split, wrap_is_split, output_is_split, term_typed, opened_fed}
 use Rattle.sf_step.proofs.Exits.{ticked_by, closure_of, tick_fails, join_left_fails, join_right_fails, join_steps, wrap_fails, wrap_steps, state_unborn, state_unborn_fails, state_live, state_live_fails, start_opened, start_open_fails}
 use Rattle.sf_step.proofs.sample.+step.Goals as goal
 
 -- ## step_join
+
+pub step_join-left_input-requires : goal.step_join-left_input-requires
+step_join-left_input-requires t c = join_is_split c.args.program.now c.args.join c.args.left.value c.args.right.value c.args.dt c.args.input c.requires
 
 pub step_join-step_state-requires : goal.step_join-step_state-requires
 step_join-step_state-requires t c = (
@@ -53,6 +56,14 @@ step_join-returns-clause-answers t c =
     (rw (c.into_inner-2.ensures, ← c.in_ok-later.ensures.ok) at c.in_ok-two.ensures.answers)
 
 -- ## step_wrap
+
+pub step_wrap-part_input-requires : goal.step_wrap-part_input-requires
+step_wrap-part_input-requires t c = wrap_is_split c.args.program.now c.args.wrap c.args.part.value c.args.dt c.args.input c.requires
+
+pub step_wrap-wrap_value-requires : goal.step_wrap-wrap_value-requires
+step_wrap-wrap_value-requires t c =
+    output_is_split c.args.program.now c.args.wrap c.args.part.value c.in_ok-after.after c.args.meter.now c.step_state.new.meter c.args.inside c.args.dt c.args.input c.in_ok-fed.fed c.in_ok-after.output
+    c.in_ok-fed.ensures.0 c.in_ok-fed.ensures.1 (rw c.into_inner.ensures at c.in_ok-after.ensures.answers) c.requires
 
 pub step_wrap-step_state-requires : goal.step_wrap-step_state-requires
 step_wrap-step_state-requires t c = (
