@@ -11,16 +11,17 @@ import os
 import subprocess
 import sys
 import tempfile
+import threading
 
 HERE = os.path.dirname(os.path.abspath(__file__))
 EXAMPLES = os.path.join(HERE, "..", "examples")
 
 
 def text_of(given):
-    """A text, or pairs of a text and how often it stands."""
+    """A text, or pairs of a text, itself made so, and how often it stands."""
     if isinstance(given, str):
         return given.encode("utf-8")
-    return b"".join(text.encode("utf-8") * times for text, times in given)
+    return b"".join(text_of(text) * times for text, times in given)
 
 
 def example(name):
@@ -31,23 +32,28 @@ def example(name):
     return {"name": f"example {name}", "network": network, "arguments": [], "input": lines, "output": output, "errors": "", "status": status}
 
 
-def play_live(words, row):
-    """Each input line only after the output line of the one before it."""
+def play_live(words, row, timeout):
+    """Each input line only after the output line of the one before it. Where the run ends by itself, its input stays open till then."""
     player = subprocess.Popen(words, stdin=subprocess.PIPE, stdout=subprocess.PIPE, stderr=subprocess.PIPE)
+    late = threading.Timer(timeout, player.kill)
+    late.start()
     output = b""
     for line, _ in zip(text_of(row["input"]).splitlines(True), row["output"].splitlines(True)):
         player.stdin.write(line)
         player.stdin.flush()
         output += player.stdout.readline()
-    player.stdin.close()
+    if not row["status"]:
+        player.stdin.close()
     output += player.stdout.read()
     errors = player.stderr.read()
-    return output, errors, player.wait()
+    status = player.wait()
+    late.cancel()
+    return output, errors, status
 
 
 def play(words, row, timeout):
     if row.get("live"):
-        return play_live(words, row)
+        return play_live(words, row, timeout)
     with tempfile.TemporaryFile() as held:
         held.write(text_of(row["input"]))
         held.seek(0)

@@ -101,7 +101,7 @@ module _ (c : Checked) where
   now_accepted = settled_accepted (templates_of (program_of c)) (main_of c) main_named c.accepted
 
   -- the template that is run is typed
-  pub main_typed : IsTyped (main_of c)
+  pub main_typed : IsTyped (templates_of (program_of c)) (main_of c)
   main_typed =
       let there = named_at (codes "main") (templates_of (program_of c)) c.main c.main_found in
-      subst IsTyped (sym (main_there there.template there.named)) (now_accepted.typed c.main there.template there.at)
+      subst (IsTyped (templates_of (program_of c))) (sym (main_there there.template there.named)) (now_accepted.typed c.main there.template there.at)

@@ -1,8 +1,11 @@
 pub mod Types
+pub mod Made
 pub mod Broken
 pub mod Terms
 pub mod Templates
 pub mod Naming
 pub mod Settled
 pub mod Accepted
+pub mod Once
 pub mod Finding
+pub mod Answered

@@ -11,6 +11,7 @@ use Rattle.sf_mean.specs.Typing.{IsTyped}
 use Rattle.sf_check.specs.declared.refusal.CheckRefusal.{CheckRefusal}
 use Rattle.sf_check.specs.Names.{program_names}
 use Rattle.sf_check.specs.Breaking.{AreTyped, BreaksIn, IsFirstBreak}
+use Rattle.sf_check.specs.Answering.{OrMemory, because, no_memory}
 
 pub lt_or_eq : (m n : ℕ) → m < n + 1 → (m < n) ⊎ (m ≡ n)
 lt_or_eq m n h = grind arith
@@ -29,12 +30,12 @@ module _ (p : Program) (i : ℕ) (h : Header) (at : slice_get (headers_of p) i �
 pub header_at : (p : Program) (hs : List Header) (i : ℕ) (h : Header) → hs ≡ headers_of p → i < length hs → h ≡ get_or hs i h → slice_get (headers_of p) i ≡ Some h
 header_at p hs i h e within is = ap (λ l. slice_get l i) (sym e) ∙ slice_get_read hs (length hs) i h refl within is
 
-module _ (p : Program) (n : ℕ) (typed : (i : ℕ) (t : Template) → i < n → slice_get (templates_of p) i ≡ Some t → IsTyped t) where
-  pub one_more_typed : (h : Header) → slice_get (headers_of p) n ≡ Some h → IsTyped (template_in p h) → (i : ℕ) (t : Template) → i < n + 1 → slice_get (templates_of p) i ≡ Some t → IsTyped t
+module _ (p : Program) (n : ℕ) (typed : (i : ℕ) (t : Template) → i < n → slice_get (templates_of p) i ≡ Some t → IsTyped (templates_of p) t) where
+  pub one_more_typed : (h : Header) → slice_get (headers_of p) n ≡ Some h → IsTyped (templates_of p) (template_in p h) → (i : ℕ) (t : Template) → i < n + 1 → slice_get (templates_of p) i ≡ Some t → IsTyped (templates_of p) t
   one_more_typed h here is i t below at =
       elim (lt_or_eq i n below) [
         | inl before ↦ typed i t before at
-        | inr same ↦ subst IsTyped (same_Some _ _ (sym (template_at p n h here) ∙ ap (slice_get (templates_of p)) (sym same) ∙ at)) is
+        | inr same ↦ subst (IsTyped (templates_of p)) (same_Some _ _ (sym (template_at p n h here) ∙ ap (slice_get (templates_of p)) (sym same) ∙ at)) is
       ]
 
   pub all_typed : length (headers_of p) ≤ n → AreTyped p
@@ -43,5 +44,6 @@ module _ (p : Program) (n : ℕ) (typed : (i : ℕ) (t : Template) → i < n →
       let count = length-map (headers_of p) (template_in p) in
       typed i t (omega arith) at
 
-  pub template_breaks : (h : Header) → slice_get (headers_of p) n ≡ Some h → (e : CheckRefusal) → BreaksIn p (template_in p h) e → IsFirstBreak p e
-  template_breaks h here e broken = record { place = n; template = template_in p h; at = template_at p n h here; typed = typed; broken = broken }
+  pub template_breaks : (h : Header) → slice_get (headers_of p) n ≡ Some h → (e : CheckRefusal) → OrMemory (BreaksIn p h) e → OrMemory (IsFirstBreak p) e
+  template_breaks h here e (because broken) = because (record { place = n; header = h; at = here; typed = typed; broken = broken })
+  template_breaks h here e no_memory = no_memory

@@ -1,13 +1,12 @@
--- Where rules of types are broken.
-use Rattle.std.specs.Prelude.{◌≡◌, ◌≢◌, ◌<◌, ℕ, [], Some, slice_get}
-use Rattle.sf_value.specs.Values.{Kind, pair_kind, nodes}
+-- Where rules of types are broken, under a context.
+use Rattle.std.specs.Prelude.{◌≡◌, ◌≢◌, ◌<◌, ℕ, Some, slice_get}
+use Rattle.sf_value.specs.Values.{Kind, pair_kind, nodes as nodes_of}
 use Rattle.sf_expr.specs.declared.spot.Spot.{Spot}
 use Rattle.sf_expr.specs.declared.exprs.ExprId.{ExprId}
 use Rattle.sf_expr.specs.declared.exprs.FunctionId.{FunctionId}
 use Rattle.sf_expr.specs.declared.exprs.Exprs.{Exprs}
 use Rattle.sf_expr.specs.declared.typing.TypeRefusal.{TypeRefusal}
-use Rattle.sf_expr.specs.Arena.{expression, function_at}
-use Rattle.sf_expr.specs.Expressions.{Expression}
+use Rattle.sf_expr.specs.Arena.{expression}
 use Rattle.sf_expr.specs.Refusals.{Refused, FunctionRefused}
 use Rattle.sf_expr.specs.Typing.{Fits, HasType}
 use Rattle.sf_term.specs.declared.form.WithValue.{WithValue}
@@ -18,12 +17,18 @@ use Rattle.sf_term.specs.declared.form.Side.TheVariants.{First, Second}
 use Rattle.sf_term.specs.declared.form.Heading.{Heading}
 use Rattle.sf_term.specs.declared.form.Heading.TheVariants.{LoopPre}
 use Rattle.sf_term.specs.declared.node.TermId.{TermId}
+use Rattle.sf_term.specs.declared.node.Primitive.{Primitive}
+use Rattle.sf_term.specs.declared.node.Primitive.TheVariants as primitives
+use Rattle.sf_term.specs.declared.node.Node.{Node}
+use Rattle.sf_term.specs.declared.node.Node.TheVariants as nodes
 use Rattle.sf_term.specs.declared.program.Program.{Program}
-use Rattle.sf_term.specs.Trees.{Term, primitive, with_value, arrow, joined, sided, headed, Template}
-use Rattle.sf_term.specs.Arena.{tree, spot_at, expressions_of, templates_of}
+use Rattle.sf_term.specs.Headers.{Header}
+use Rattle.sf_term.specs.Trees.{Template}
+use Rattle.sf_term.specs.Arena.{tree, node_at, spot_at, expressions_of, headers_of, templates_of}
+use Rattle.sf_mean.specs.Contexts.{Context, names_of_values, context_of}
 use Rattle.sf_mean.specs.Typing.{Takes, IsTyped}
 use Rattle.sf_check.specs.declared.refusal.CheckRefusal.{CheckRefusal}
-use Rattle.sf_check.specs.declared.refusal.CheckRefusal.TheVariants.{Mismatch, TypeTooLarge, Memory}
+use Rattle.sf_check.specs.declared.refusal.CheckRefusal.TheVariants.{Mismatch, TypeTooLarge}
 use Rattle.sf_check.specs.Carrying.{carried}
 
 -- a type is none of pairs
@@ -36,62 +41,59 @@ IsNoPairWith u a = (t : Kind) → a ≢ pair_kind t u
 
 -- a type has more than 256 nodes
 abbrev pub Exceeds : Kind → Type 0
-Exceeds t = 256 < nodes t
+Exceeds t = 256 < nodes_of t
 
--- On inputs of a type, a form at a spot breaks a rule of its own, which a refusal names. An expression or a function that is
--- refused names its own place. Want of memory says nothing.
-pub data BreaksItself (x : Exprs) : Term → Kind → Spot → CheckRefusal → Type 0 where
-  value_refused : {k : WithValue} {v : ExprId} {a : Kind} {s : Spot} {r : TypeRefusal} → Refused x [] v r → BreaksItself x (primitive (with_value k (expression x v))) a s (carried r)
-  initial_differs : {e : Expression} {a b : Kind} {s : Spot} → HasType [] e b → b ≢ a → BreaksItself x (primitive (with_value InitialPre e)) a s (Mismatch s)
-  function_refused : {f : FunctionId} {a : Kind} {s : Spot} {r : TypeRefusal} → FunctionRefused x [] f a s r → BreaksItself x (primitive (arrow (function_at x f))) a s (carried r)
-  parallel_input : {f g : Term} {a : Kind} {s : Spot} → IsNoPair a → BreaksItself x (joined InParallel f g) a s (Mismatch s)
-  parallel_exceeds : {f g : Term} {a b c d : Kind} {s : Spot} → Takes f a b → Takes g c d → Exceeds (pair_kind b d) → BreaksItself x (joined InParallel f g) (pair_kind a c) s (TypeTooLarge s)
-  fan_exceeds : {f g : Term} {a b c : Kind} {s : Spot} → Takes f a b → Takes g a c → Exceeds (pair_kind b c) → BreaksItself x (joined FannedOut f g) a s (TypeTooLarge s)
-  side_input : {d : Side} {t : Term} {a : Kind} {s : Spot} → IsNoPair a → BreaksItself x (sided d t) a s (Mismatch s)
-  first_exceeds : {t : Term} {a b c : Kind} {s : Spot} → Takes t a b → Exceeds (pair_kind b c) → BreaksItself x (sided First t) (pair_kind a c) s (TypeTooLarge s)
-  second_exceeds : {t : Term} {a b c : Kind} {s : Spot} → Takes t a b → Exceeds (pair_kind c b) → BreaksItself x (sided Second t) (pair_kind c a) s (TypeTooLarge s)
-  start_refused : {h : Heading} {v : ExprId} {t : Term} {a : Kind} {s : Spot} {r : TypeRefusal} → Refused x [] v r → BreaksItself x (headed h (expression x v) t) a s (carried r)
-  fed_exceeds : {e : Expression} {t : Term} {a c : Kind} {s : Spot} → HasType [] e c → Exceeds (pair_kind a c) → BreaksItself x (headed LoopPre e t) a s (TypeTooLarge s)
-  loop_differs : {e : Expression} {t : Term} {a c d : Kind} {s : Spot} → HasType [] e c → Takes t (pair_kind a c) d → IsNoPairWith c d → BreaksItself x (headed LoopPre e t) a s (Mismatch s)
-  out_of_memory : {t : Term} {a : Kind} {s : Spot} → BreaksItself x t a s Memory
+-- On inputs of a type, a primitive at a spot breaks its rule, which a refusal names. An expression or a function that is
+-- refused names its own place.
+pub data PrimitiveBreaks (x : Exprs) (Γ : Context) (s : Spot) : Primitive → Kind → CheckRefusal → Type 0 where
+  value_refused : {k : WithValue} {v : ExprId} {a : Kind} {r : TypeRefusal} → Refused x (names_of_values Γ) v r → PrimitiveBreaks x Γ s (primitives.WithValue k v) a (carried r)
+  initial_differs : {v : ExprId} {a b : Kind} → HasType (names_of_values Γ) (expression x v) b → b ≢ a → PrimitiveBreaks x Γ s (primitives.WithValue InitialPre v) a (Mismatch s)
+  function_refused : {f : FunctionId} {a : Kind} {r : TypeRefusal} → FunctionRefused x (names_of_values Γ) f a s r → PrimitiveBreaks x Γ s (primitives.Arrow f) a (carried r)
+
+-- On inputs of a type, a form at a spot, with these parts, breaks a rule of its own, which a refusal names.
+pub data BreaksItself (p : Program) (Γ : Context) (s : Spot) : Node → Kind → CheckRefusal → Type 0 where
+  primitive_breaks : {q : Primitive} {a : Kind} {e : CheckRefusal} → PrimitiveBreaks (expressions_of p) Γ s q a e → BreaksItself p Γ s (nodes.Primitive q) a e
+  parallel_input : {f g : TermId} {a : Kind} → IsNoPair a → BreaksItself p Γ s (nodes.Joined InParallel f g) a (Mismatch s)
+  parallel_exceeds : {f g : TermId} {a b c d : Kind} → Takes Γ (tree p f) a b → Takes Γ (tree p g) c d → Exceeds (pair_kind b d) → BreaksItself p Γ s (nodes.Joined InParallel f g) (pair_kind a c) (TypeTooLarge s)
+  fan_exceeds : {f g : TermId} {a b c : Kind} → Takes Γ (tree p f) a b → Takes Γ (tree p g) a c → Exceeds (pair_kind b c) → BreaksItself p Γ s (nodes.Joined FannedOut f g) a (TypeTooLarge s)
+  side_input : {d : Side} {t : TermId} {a : Kind} → IsNoPair a → BreaksItself p Γ s (nodes.Sided d t) a (Mismatch s)
+  first_exceeds : {t : TermId} {a b c : Kind} → Takes Γ (tree p t) a b → Exceeds (pair_kind b c) → BreaksItself p Γ s (nodes.Sided First t) (pair_kind a c) (TypeTooLarge s)
+  second_exceeds : {t : TermId} {a b c : Kind} → Takes Γ (tree p t) a b → Exceeds (pair_kind c b) → BreaksItself p Γ s (nodes.Sided Second t) (pair_kind c a) (TypeTooLarge s)
+  start_refused : {h : Heading} {v : ExprId} {t : TermId} {a : Kind} {r : TypeRefusal} → Refused (expressions_of p) (names_of_values Γ) v r → BreaksItself p Γ s (nodes.Headed h v t) a (carried r)
+  fed_exceeds : {v : ExprId} {t : TermId} {a c : Kind} → HasType (names_of_values Γ) (expression (expressions_of p) v) c → Exceeds (pair_kind a c) → BreaksItself p Γ s (nodes.Headed LoopPre v t) a (TypeTooLarge s)
+  loop_differs : {v : ExprId} {t : TermId} {a c d : Kind} → HasType (names_of_values Γ) (expression (expressions_of p) v) c → Takes Γ (tree p t) (pair_kind a c) d → IsNoPairWith c d → BreaksItself p Γ s (nodes.Headed LoopPre v t) a (Mismatch s)
 
 -- In a form on inputs of a type, a part is typed next, on inputs of its own: what stands before it in the text keeps its rules.
-pub data Reaches : Term → Kind → Term → Kind → Type 0 where
-  sequence_left : {f g : Term} {a : Kind} → Reaches (joined InSequence f g) a f a
-  sequence_right : {f g : Term} {a b : Kind} → Takes f a b → Reaches (joined InSequence f g) a g b
-  parallel_left : {f g : Term} {a c : Kind} → Reaches (joined InParallel f g) (pair_kind a c) f a
-  parallel_right : {f g : Term} {a b c : Kind} → Takes f a b → Reaches (joined InParallel f g) (pair_kind a c) g c
-  fan_left : {f g : Term} {a : Kind} → Reaches (joined FannedOut f g) a f a
-  fan_right : {f g : Term} {a b : Kind} → Takes f a b → Reaches (joined FannedOut f g) a g a
-  first_part : {t : Term} {a c : Kind} → Reaches (sided First t) (pair_kind a c) t a
-  second_part : {t : Term} {a c : Kind} → Reaches (sided Second t) (pair_kind c a) t a
-  loop_part : {e : Expression} {t : Term} {a c : Kind} → HasType [] e c → Fits (pair_kind a c) → Reaches (headed LoopPre e t) a t (pair_kind a c)
+pub data Reaches (p : Program) (Γ : Context) : Node → Kind → TermId → Kind → Type 0 where
+  sequence_left : {f g : TermId} {a : Kind} → Reaches p Γ (nodes.Joined InSequence f g) a f a
+  sequence_right : {f g : TermId} {a b : Kind} → Takes Γ (tree p f) a b → Reaches p Γ (nodes.Joined InSequence f g) a g b
+  parallel_left : {f g : TermId} {a c : Kind} → Reaches p Γ (nodes.Joined InParallel f g) (pair_kind a c) f a
+  parallel_right : {f g : TermId} {a b c : Kind} → Takes Γ (tree p f) a b → Reaches p Γ (nodes.Joined InParallel f g) (pair_kind a c) g c
+  fan_left : {f g : TermId} {a : Kind} → Reaches p Γ (nodes.Joined FannedOut f g) a f a
+  fan_right : {f g : TermId} {a b : Kind} → Takes Γ (tree p f) a b → Reaches p Γ (nodes.Joined FannedOut f g) a g a
+  first_part : {t : TermId} {a c : Kind} → Reaches p Γ (nodes.Sided First t) (pair_kind a c) t a
+  second_part : {t : TermId} {a c : Kind} → Reaches p Γ (nodes.Sided Second t) (pair_kind c a) t a
+  loop_part : {v : ExprId} {t : TermId} {a c : Kind} → HasType (names_of_values Γ) (expression (expressions_of p) v) c → Fits (pair_kind a c) → Reaches p Γ (nodes.Headed LoopPre v t) a t (pair_kind a c)
 
--- In a term on inputs of a type, a form is come to, on inputs of its own: all that stands before it keeps its rules.
-pub data ComesTo : Term → Kind → Term → Kind → Type 0 where
-  itself : {t : Term} {a : Kind} → ComesTo t a t a
-  through : {t s u : Term} {a b c : Kind} → Reaches t a s b → ComesTo s b u c → ComesTo t a u c
-
--- On inputs of a type, a form of a term is the first, in the order of the text, whose rule is broken; a refusal names it.
-pub record Breaks (p : Program) (t : Term) (a : Kind) (e : CheckRefusal) : Type 0 where
-  pub form : TermId
-  pub input : Kind
-  pub comes : ComesTo t a (tree p form) input
-  pub broken : BreaksItself (expressions_of p) (tree p form) input (spot_at p form) e
+-- In the term at an id, on inputs of a type, a refusal names the first rule, in the order of the text, that is broken: that
+-- of the form at the id itself, or one within the part that is typed next.
+pub data Breaks (p : Program) (Γ : Context) : TermId → Kind → CheckRefusal → Type 0 where
+  itself : {i : TermId} {a : Kind} {e : CheckRefusal} → BreaksItself p Γ (spot_at p i) (node_at p i) a e → Breaks p Γ i a e
+  within : {i j : TermId} {a b : Kind} {e : CheckRefusal} → Reaches p Γ (node_at p i) a j b → Breaks p Γ j b e → Breaks p Γ i a e
 
 -- In a template, a refusal names the first rule that is broken, or that the whole term doesn't give its header's output.
-pub data BreaksIn (p : Program) (t : Template) : CheckRefusal → Type 0 where
-  breaks_within : {e : CheckRefusal} → Breaks p t.body t.input e → BreaksIn p t e
-  breaks_header : (id : TermId) {b : Kind} → tree p id ≡ t.body → Takes t.body t.input b → b ≢ t.output → BreaksIn p t (Mismatch (spot_at p id))
+pub data BreaksIn (p : Program) (h : Header) : CheckRefusal → Type 0 where
+  breaks_within : {e : CheckRefusal} → Breaks p (context_of (templates_of p)) h.body h.input e → BreaksIn p h e
+  breaks_header : {b : Kind} → Takes (context_of (templates_of p)) (tree p h.body) h.input b → b ≢ h.output → BreaksIn p h (Mismatch (spot_at p h.body))
 
 -- each template's term takes its header's input to its header's output
 abbrev pub AreTyped : Program → Type 0
-AreTyped p = (i : ℕ) (t : Template) → slice_get (templates_of p) i ≡ Some t → IsTyped t
+AreTyped p = (i : ℕ) (t : Template) → slice_get (templates_of p) i ≡ Some t → IsTyped (templates_of p) t
 
 -- In the first template that isn't typed, a refusal names the first rule that is broken.
 pub record IsFirstBreak (p : Program) (e : CheckRefusal) : Type 0 where
   pub place : ℕ
-  pub template : Template
-  pub at : slice_get (templates_of p) place ≡ Some template
-  pub typed : (i : ℕ) (t : Template) → i < place → slice_get (templates_of p) i ≡ Some t → IsTyped t
-  pub broken : BreaksIn p template e
+  pub header : Header
+  pub at : slice_get (headers_of p) place ≡ Some header
+  pub typed : (i : ℕ) (t : Template) → i < place → slice_get (templates_of p) i ≡ Some t → IsTyped (templates_of p) t
+  pub broken : BreaksIn p header e

@@ -1,6 +1,8 @@
 pub mod Accepting
 pub mod Names
+pub mod Contexts
 pub mod Carrying
 pub mod Breaking
 pub mod Answering
 pub mod Refusing
+pub mod Laws

@@ -1,13 +1,11 @@
 -- The names of templates.
-use Rattle.std.specs.Prelude.{◌≡◌, ℕ, ◌<◌, ◌≤◌, List, map, Some, slice_get, string_bytes, String, ⊤}
+use Rattle.std.specs.Prelude.{◌≡◌, ℕ, ◌<◌, ◌≤◌, List, map, Some, slice_get, string_bytes, String}
 use Rattle.indexmap.specs.IndexSet.{IndexSet}
 use Rattle.sf_value.specs.Values.{Name}
 use Rattle.sf_expr.specs.declared.spot.Spot.{Spot}
 use Rattle.sf_term.specs.declared.program.Program.{Program}
 use Rattle.sf_term.specs.Trees.{Templates}
 use Rattle.sf_term.specs.Arena.{templates_of, spots_of}
-use Rattle.sf_check.specs.declared.refusal.CheckRefusal.{CheckRefusal}
-use Rattle.sf_check.specs.declared.refusal.CheckRefusal.TheVariants.{UnknownName, DuplicateName, Mismatch, TypeTooLarge, NoMain, Memory}
 
 -- the names of templates, in order
 abbrev pub names : Templates → List Name
@@ -38,12 +36,3 @@ pub record IsFirstRepeat (p : Program) (spot : Spot) : Type 0 where
   pub repeats : Repeats (templates_of p) place
   pub first : (other : ℕ) → Repeats (templates_of p) other → place ≤ other
   pub stands : slice_get (spots_of p) place ≡ Some spot
-
--- what a refusal says of names
-abbrev pub RefusesName : Program → CheckRefusal → Type 0
-RefusesName p (UnknownName spot) = ⊥
-RefusesName p (DuplicateName spot) = IsFirstRepeat p spot
-RefusesName p (Mismatch spot) = ⊥
-RefusesName p (TypeTooLarge spot) = ⊥
-RefusesName p NoMain = ⊥
-RefusesName p Memory = ⊤

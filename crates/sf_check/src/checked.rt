@@ -2,6 +2,7 @@
 ghost use Rattle.std.specs.Prelude.{◌≡◌, Some, position, bytes_eq, codes, option_map};
 ghost use Rattle.sf_term.specs.Arena.{tree, template_in, templates_of};
 ghost use Rattle.sf_mean.specs.Networks.{main_of as main_in, template_named};
+ghost use Rattle.sf_mean.specs.Contexts.{context_of};
 ghost use Rattle.sf_mean.specs.Typing.{Takes, Accepted};
 ghost use Rattle.sf_expr.specs.Typing.{Fits};
 ghost use Rattle.sf_check.specs.Names.{names_in, program_names};
@@ -51,7 +52,7 @@ impl Checked {
     /// The term of `main`.
     pub fn main(&self) -> TermId
         ensures term { tree (program_of self.now) result ≡ (main_of self.now).body }
-        ensures typed { Takes (main_of self.now).body (main_of self.now).input (main_of self.now).output }
+        ensures typed { Takes (context_of (templates_of (program_of self.now))) (main_of self.now).body (main_of self.now).input (main_of self.now).output }
         ensures fits { Fits (main_of self.now).input }
     {
         self.main_template().body()

@@ -1,6 +1,7 @@
 //! The names of templates.
 ghost use Rattle.std.specs.Prelude.{◌≡◌, IfOk, IfErr, OnOk};
-ghost use Rattle.sf_check.specs.Names.{names_in, program_names, HasDifferentNames, RefusesName};
+ghost use Rattle.sf_check.specs.Names.{names_in, program_names, HasDifferentNames};
+ghost use Rattle.sf_check.specs.Refusing.{Refuses};
 
 use crate::refusal::CheckRefusal;
 use indexmap::IndexSet;
@@ -14,7 +15,7 @@ pub(crate) fn template_names(
 ) -> Result<IndexSet<String>, CheckRefusal>
     ensures names { IfOk result (λ names. names_in names ≡ program_names program.now) }
     ensures different { OnOk result (HasDifferentNames program.now) }
-    ensures refused { IfErr result (λ e. RefusesName program.now e) }
+    ensures refused { IfErr result (λ e. Refuses program.now e) }
 {
     let mut names = IndexSet::new(alloc);
     for template in program.templates() {

@@ -2,6 +2,7 @@ ghost use Rattle.std.specs.Prelude.{IfOk, ◌+◌, ◌*◌, ◌<◌};
 ghost use Rattle.sf_term.specs.Arena.{HoldsTerm};
 
 use crate::checker::check;
+use crate::laws::one_refusal;
 use crate::refusal::CheckRefusal;
 use sf_expr::{Operator, Pat, Spot};
 use sf_term::{Bare, BuildRefusal, Heading, Join, Program, Side, TermId, WithValue};
@@ -290,6 +291,18 @@ fn the_output_of_a_header_is_looked_at_last(rt: HostRuntime) -> Result<(), Fail>
     let whole = fan(&mut program, 31)?;
     let refusal = refusal_of(alloc, program, Ty::int(), Ty::int(), whole)?;
     assert_eq!(rt; refusal, Some(CheckRefusal::Mismatch(at(2, 31))));
+    Ok(())
+}
+
+#[test]
+fn of_equal_terms_that_of_the_refused_template_is_named(rt: HostRuntime) -> Result<(), Fail> {
+    let alloc = rt.alloc();
+    let mut program = Program::new(alloc);
+    put(&mut program, alloc, "go", 1)?;
+    let same = program.bare(Bare::Identity, at(2, 40))?;
+    let refusal = refusal_of(alloc, program, Ty::int(), doubled(alloc, 1)?, same)?;
+    assert_eq!(rt; refusal, Some(CheckRefusal::Mismatch(at(2, 40))));
+    one_refusal();
     Ok(())
 }
 

@@ -1,17 +1,18 @@
-//! The types of terms.
-ghost use Rattle.std.specs.Prelude.{◌≡◌, [], IfOk, IfErr, OnOk};
+//! The types of terms, under contexts.
+ghost use Rattle.std.specs.Prelude.{◌≡◌, ◌<◌, IfOk, IfErr, OnOk};
 ghost use Rattle.sf_value.specs.Values.{pair_kind};
-ghost use Rattle.sf_expr.specs.Arena.{expression};
 ghost use Rattle.sf_expr.specs.Refusals.{Judges};
 ghost use Rattle.sf_expr.specs.Typing.{Fits};
-ghost use Rattle.sf_term.specs.Trees.{with_value};
-ghost use Rattle.sf_term.specs.Arena.{tree, template_in};
+ghost use Rattle.sf_term.specs.Arena.{id_number, node_at, expressions_of, template_in, templates_of};
+ghost use Rattle.sf_mean.specs.Contexts.{names_of_values};
 ghost use Rattle.sf_mean.specs.Typing.{IsTyped};
-ghost use Rattle.sf_check.specs.Answering.{primitive_in, AnswersPair, AnswersPrimitive, AnswersTerm};
+ghost use Rattle.sf_check.specs.Contexts.{program_in, context_in};
+ghost use Rattle.sf_check.specs.Answering.{OrMemory, AnswersPair, AnswersPrimitive, AnswersTerm};
 ghost use Rattle.sf_check.specs.Breaking.{IsNoPair, IsNoPairWith, BreaksIn, AreTyped, IsFirstBreak};
 
+use crate::context::TypingContext;
 use crate::refusal::CheckRefusal;
-use sf_expr::{ExprId, Exprs, Spot, TypeRefusal, TypeScope, function_type, type_of};
+use sf_expr::{ExprId, Spot, TypeRefusal, function_type, type_of};
 use sf_term::{Bare, Heading, Join, Node, Primitive, Program, Side, Template, TermId, WithValue};
 use sf_value::{Ty, TyForm, TyRefusal, same_type};
 use std::alloc::Global;
@@ -41,35 +42,31 @@ fn pair_at(alloc: Global, first: Ty, second: Ty, spot: Spot) -> Result<Ty, Check
     ensures { AnswersPair first second spot result }
 {
     match Ty::pair(alloc, first, second) {
-        Ok(pair) => {
-            let _form = pair.form();
-            Ok(pair)
-        }
+        Ok(pair) => Ok(pair),
         Err(TyRefusal::TypeTooLarge) => Err(CheckRefusal::TypeTooLarge(spot)),
         Err(TyRefusal::Memory) => Err(CheckRefusal::Memory),
     }
 }
 
-/// The type of a constant. It sees no names.
-fn constant_type(alloc: Global, exprs: &Exprs, value: ExprId) -> Result<Ty, TypeRefusal>
-    ensures { Judges exprs.now [] value result }
+/// The type of a constant.
+fn constant_type(alloc: Global, context: &TypingContext, value: ExprId) -> Result<Ty, TypeRefusal>
+    ensures { Judges (expressions_of (program_in context.now)) (names_of_values (context_in context.now)) value result }
 {
-    let names = TypeScope::new(alloc);
-    type_of(alloc, exprs, value, &names)
+    type_of(alloc, context.program.expressions(), value, &context.names)
 }
 
 /// The type of the outputs of a primitive with a value on inputs of a type.
 fn value_output(
     alloc: Global,
-    exprs: &Exprs,
+    context: &TypingContext,
     kind: WithValue,
     value: ExprId,
     input: &Ty,
     spot: Spot,
 ) -> Result<Ty, CheckRefusal>
-    ensures { AnswersPrimitive exprs.now (with_value kind (expression exprs.now value)) input.now spot result }
+    ensures { AnswersPrimitive (expressions_of (program_in context.now)) (context_in context.now) (Primitive.WithValue kind value) input.now spot result }
 {
-    let given = constant_type(alloc, exprs, value)?;
+    let given = constant_type(alloc, context, value)?;
     match kind {
         WithValue::Constant => Ok(given),
         WithValue::InitialPre => {
@@ -85,17 +82,20 @@ fn value_output(
 /// The type of the outputs of a primitive on inputs of a type.
 fn primitive_output(
     alloc: Global,
-    exprs: &Exprs,
+    context: &TypingContext,
     primitive: Primitive,
     input: &Ty,
     spot: Spot,
 ) -> Result<Ty, CheckRefusal>
-    ensures { AnswersPrimitive exprs.now (primitive_in exprs.now primitive) input.now spot result }
+    ensures { AnswersPrimitive (expressions_of (program_in context.now)) (context_in context.now) primitive input.now spot result }
 {
     match primitive {
         Primitive::Bare(Bare::Identity) => Ok(input.clone_in(alloc)?),
-        Primitive::WithValue(kind, value) => value_output(alloc, exprs, kind, value, input, spot),
-        Primitive::Arrow(function) => Ok(function_type(alloc, exprs, function, input, spot)?),
+        Primitive::WithValue(kind, value) => value_output(alloc, context, kind, value, input, spot),
+        Primitive::Arrow(function) => {
+            let exprs = context.program.expressions();
+            Ok(function_type(alloc, exprs, function, input, &context.names, spot)?)
+        }
     }
 }
 
@@ -110,56 +110,125 @@ fn loop_output(output: Ty, fed: &Ty, spot: Spot) -> Result<Ty, CheckRefusal>
     }
 }
 
-/// The type of a term's outputs on inputs of a type, or the first rule that a form in it breaks.
-fn output_of(alloc: Global, program: &Program, term: TermId, input: &Ty) -> Result<Ty, CheckRefusal>
-    requires { Fits input.now }
-    ensures { AnswersTerm program.now (tree program.now term) input.now result }
+/// The type of the outputs of two parts that are joined on inputs of a type.
+#[cycle(output)]
+fn joined_output(
+    alloc: Global,
+    context: &TypingContext,
+    term: TermId,
+    join: Join,
+    left: TermId,
+    right: TermId,
+    input: &Ty,
+) -> Result<Ty, CheckRefusal>
+    requires fits { Fits input.now }
+    requires there { node_at (program_in context.now) term ≡ Node.Joined join left right }
+    requires below { (id_number left < id_number term) × (id_number right < id_number term) }
+    ensures { AnswersTerm (program_in context.now) (context_in context.now) term input.now result }
 {
-    let spot = program.spot(term);
-    match program.node(term) {
-        Node::Primitive(primitive) => {
-            primitive_output(alloc, program.expressions(), primitive, input, spot)
+    let spot = context.program.spot(term);
+    match join {
+        Join::InSequence => {
+            let middle = output_of(alloc, context, left, input)?;
+            output_of(alloc, context, right, &middle)
         }
-        Node::Joined(Join::InSequence, left, right) => {
-            let middle = output_of(alloc, program, left, input)?;
-            output_of(alloc, program, right, &middle)
-        }
-        Node::Joined(Join::InParallel, left, right) => {
+        Join::InParallel => {
             let (a, b) = parts(input, spot)?;
-            let first = output_of(alloc, program, left, a)?;
-            let second = output_of(alloc, program, right, b)?;
+            let first = output_of(alloc, context, left, a)?;
+            let second = output_of(alloc, context, right, b)?;
             pair_at(alloc, first, second, spot)
         }
-        Node::Joined(Join::FannedOut, left, right) => {
-            let first = output_of(alloc, program, left, input)?;
-            let second = output_of(alloc, program, right, input)?;
+        Join::FannedOut => {
+            let first = output_of(alloc, context, left, input)?;
+            let second = output_of(alloc, context, right, input)?;
             pair_at(alloc, first, second, spot)
         }
-        Node::Sided(Side::First, part) => {
-            let (a, b) = parts(input, spot)?;
-            let first = output_of(alloc, program, part, a)?;
+    }
+}
+
+/// The type of the outputs of a part on one side of a pair, on inputs of a type.
+#[cycle(output)]
+fn sided_output(
+    alloc: Global,
+    context: &TypingContext,
+    term: TermId,
+    side: Side,
+    part: TermId,
+    input: &Ty,
+) -> Result<Ty, CheckRefusal>
+    requires fits { Fits input.now }
+    requires there { node_at (program_in context.now) term ≡ Node.Sided side part }
+    requires below { id_number part < id_number term }
+    ensures { AnswersTerm (program_in context.now) (context_in context.now) term input.now result }
+{
+    let spot = context.program.spot(term);
+    let (a, b) = parts(input, spot)?;
+    match side {
+        Side::First => {
+            let first = output_of(alloc, context, part, a)?;
             pair_at(alloc, first, b.clone_in(alloc)?, spot)
         }
-        Node::Sided(Side::Second, part) => {
-            let (a, b) = parts(input, spot)?;
-            let second = output_of(alloc, program, part, b)?;
+        Side::Second => {
+            let second = output_of(alloc, context, part, b)?;
             pair_at(alloc, a.clone_in(alloc)?, second, spot)
         }
+    }
+}
+
+/// The type of the outputs of a part whose second output is fed back, on inputs of a type.
+#[cycle(output)]
+fn headed_output(
+    alloc: Global,
+    context: &TypingContext,
+    term: TermId,
+    start: ExprId,
+    part: TermId,
+    input: &Ty,
+) -> Result<Ty, CheckRefusal>
+    requires fits { Fits input.now }
+    requires there { node_at (program_in context.now) term ≡ Node.Headed Heading.LoopPre start part }
+    requires below { id_number part < id_number term }
+    ensures { AnswersTerm (program_in context.now) (context_in context.now) term input.now result }
+{
+    let spot = context.program.spot(term);
+    let fed = constant_type(alloc, context, start)?;
+    let given = pair_at(alloc, input.clone_in(alloc)?, fed.clone_in(alloc)?, spot)?;
+    let output = output_of(alloc, context, part, &given)?;
+    loop_output(output, &fed, spot)
+}
+
+/// The type of a term's outputs on inputs of a type, or the first rule that a form in it breaks.
+#[cycle(output)]
+fn output_of(
+    alloc: Global,
+    context: &TypingContext,
+    term: TermId,
+    input: &Ty,
+) -> Result<Ty, CheckRefusal>
+    requires { Fits input.now }
+    ensures { AnswersTerm (program_in context.now) (context_in context.now) term input.now result }
+{
+    match context.program.node(term) {
+        Node::Primitive(primitive) => {
+            primitive_output(alloc, context, primitive, input, context.program.spot(term))
+        }
+        Node::Joined(join, left, right) => {
+            joined_output(alloc, context, term, join, left, right, input)
+        }
+        Node::Sided(side, part) => sided_output(alloc, context, term, side, part, input),
         Node::Headed(Heading::LoopPre, start, part) => {
-            let fed = constant_type(alloc, program.expressions(), start)?;
-            let given = pair_at(alloc, input.clone_in(alloc)?, fed.clone_in(alloc)?, spot)?;
-            let output = output_of(alloc, program, part, &given)?;
-            loop_output(output, &fed, spot)
+            headed_output(alloc, context, term, start, part, input)
         }
     }
 }
 
 /// Whether a template's term takes its header's input to its header's output.
 fn check_template(alloc: Global, program: &Program, template: &Template) -> Result<(), CheckRefusal>
-    ensures ok { OnOk result (IsTyped (template_in program.now template.now)) }
-    ensures err { IfErr result (λ e. BreaksIn program.now (template_in program.now template.now) e) }
+    ensures ok { OnOk result (IsTyped (templates_of program.now) (template_in program.now template.now)) }
+    ensures err { IfErr result (λ e. OrMemory (BreaksIn program.now template.now) e) }
 {
-    let output = output_of(alloc, program, template.body(), bounded(template.input()))?;
+    let context = TypingContext::of_body(alloc, program);
+    let output = output_of(alloc, &context, template.body(), bounded(template.input()))?;
     if same_type(&output, template.output()) {
         Ok(())
     } else {
@@ -170,7 +239,7 @@ fn check_template(alloc: Global, program: &Program, template: &Template) -> Resu
 /// Whether each template's term takes its header's input to its header's output.
 pub(crate) fn check_templates(alloc: Global, program: &Program) -> Result<(), CheckRefusal>
     ensures ok { OnOk result (AreTyped program.now) }
-    ensures err { IfErr result (λ e. IsFirstBreak program.now e) }
+    ensures err { IfErr result (λ e. OrMemory (IsFirstBreak program.now) e) }
 {
     for template in program.templates() {
         check_template(alloc, program, template)?;

@@ -2,8 +2,8 @@
 use Rattle.std.specs.Prelude.{◌≡◌, Option}
 use Rattle.sf_value.specs.Values.{Kind, Data}
 use Rattle.sf_law.specs.declared.plan.Plan.{Plan}
-use Rattle.sf_law.specs.Plans.{program_of}
 use Rattle.sf_mean.specs.Lives.{Life, Process}
+use Rattle.sf_law.specs.Arena.{network_of_plan}
 use Rattle.sf_mean.specs.Soundness.{LifeHas, ProcessTakes}
 use Rattle.sf_state.specs.declared.state.State.{State}
 use Rattle.sf_state.specs.Standing.{Stands}
@@ -12,4 +12,4 @@ use Rattle.sf_engine.specs.Histories.{newest_input}
 -- Each input of a type may come next: the state stands for a process that takes them, after a life of such inputs.
 pub data IsReady (p : Plan) (a : State) (k : Kind) (last : Option Data) : Type 0 where
   is_ready : {P : Process} {L : Life} {u : Kind}
-      → Stands (program_of p) a P L → ProcessTakes P k u → LifeHas L k → last ≡ newest_input L → IsReady p a k last
+      → Stands p a P L → ProcessTakes (network_of_plan p) P k u → LifeHas L k → last ≡ newest_input L → IsReady p a k last

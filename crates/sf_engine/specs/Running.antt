@@ -1,26 +1,27 @@
 -- What an engine stands for.
-use Rattle.std.specs.Prelude.{◌≡◌, ℕ, Some, None, Result, Err}
+use Rattle.std.specs.Prelude.{◌≡◌, ◌≢◌, ℕ, Option, Some, None, IfSome, Result, Err}
+use Rattle.sf_value.specs.Values.{Kind, Data, HasKind}
 use Rattle.sf_value.specs.declared.fault.Fault.{Fault}
 use Rattle.sf_term.specs.Trees.{Template}
-use Rattle.sf_term.specs.Arena.{tree}
+use Rattle.sf_law.specs.Arena.{tree}
 use Rattle.sf_mean.specs.Lives.{Life, closure, empty, time}
 use Rattle.sf_mean.specs.Meaning.{Network}
-use Rattle.sf_mean.specs.Networks.{network_of}
-use Rattle.sf_law.specs.Plans.{program_of, main_of}
+use Rattle.sf_law.specs.Arena.{network_of_plan}
+use Rattle.sf_law.specs.Arena.{main_of}
 use Rattle.sf_state.specs.Standing.{Stands}
 use Rattle.sf_engine.specs.declared.engine.Engine.{Engine}
 use Rattle.sf_engine.specs.declared.engine.Sample.{Sample}
 use Rattle.sf_engine.specs.declared.engine.EngineError.{EngineError}
 use Rattle.sf_engine.specs.declared.engine.EngineError.TheVariants.{Stopped}
-use Rattle.sf_engine.specs.Histories.{newest_input, IsHistory}
+use Rattle.sf_engine.specs.Histories.{newest_input, IsHistory, CanWait}
 
 -- An engine stands for a history of a network whose `main` is a template. It is not stopped.
 pub record Runs (e : Engine) (n : Network) (m : Template) (L : Life) : Type 0 where
   pub goes_on : e.stopped ≡ None
-  pub network : network_of (program_of e.plan) ≡ n
-  pub main : tree (program_of e.plan) (main_of e.plan) ≡ m.body
+  pub network : network_of_plan e.plan ≡ n
+  pub main : tree e.plan (main_of e.plan) ≡ m.body
   pub input : e.input ≡ m.input
-  pub state : Stands (program_of e.plan) e.state (closure m.body empty) L
+  pub state : Stands e.plan e.state (closure m.body empty) L
   pub time : e.time ≡ time L
   pub last : e.last ≡ newest_input L
   pub history : IsHistory m.input L
@@ -37,3 +38,24 @@ pub record StopsWith (f : Fault) (r : Result Sample EngineError) (e : Engine) : 
 -- milliseconds since the start
 abbrev pub time_of : Engine → ℕ
 time_of e = e.time
+
+-- the type of the inputs
+abbrev pub input_kind : Engine → Kind
+input_kind e = e.input
+
+-- the last input, if there was one
+abbrev pub last_of : Engine → Option Data
+last_of e = e.last
+
+-- An engine that goes on may start with a value: it has had no input, and takes inputs of the value's type.
+pub record MayStart (e : Engine) (x : Data) : Type 0 where
+  pub goes_on : e.stopped ≡ None
+  pub fresh : last_of e ≡ None
+  pub typed : HasKind x (input_kind e)
+
+-- An engine that goes on may step by so much to a value, or with its input unchanged.
+pub record MayStep (e : Engine) (d : ℕ) (x : Option Data) : Type 0 where
+  pub goes_on : e.stopped ≡ None
+  pub begun : last_of e ≢ None
+  pub wait : CanWait (time_of e) d
+  pub typed : IfSome x (λ v. HasKind v (input_kind e))

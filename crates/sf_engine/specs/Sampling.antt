@@ -2,6 +2,7 @@
 use Rattle.std.specs.Prelude.{◌≡◌, ◌≢◌, ℕ, ◌≤◌, [], Option, IfSome, Result, Ok, Err}
 use Rattle.sf_value.specs.Values.{Data, HasKind}
 use Rattle.sf_value.specs.declared.fault.ValueFault.{ValueFault}
+use Rattle.sf_value.specs.declared.fault.Fault.{Fault}
 use Rattle.sf_value.specs.declared.fault.Fault.TheVariants.{Value, Large, Memory}
 use Rattle.sf_term.specs.Trees.{Template}
 use Rattle.sf_mean.specs.Lives.{Life, closure, empty, time}
@@ -22,19 +23,24 @@ abbrev pub IsTooLarge : Network → Template → Life → Type 0
 IsTooLarge n m L = (o : Outcome) (k : Cost) → GivesOutcome n m L o k → count k ≤ 100000 → height k ≤ 800 → ⊥
 
 -- The sample at the end of a history, with the engine after it.
-pub data Sampled (n : Network) (m : Template) (L : Life) : Result Sample EngineError → Engine → Type 0 where
+pub data Sampled (n : Network) (m : Template) (L : Life) : Result Sample Fault → Engine → Type 0 where
   gave_value : {s : Sample} {k : Cost} {e : Engine}
       → GivesOutcome n m L (gave s.value []) k → s.time ≡ time L → Runs e n m L
       → Sampled n m L (Ok s) e
   had_fault : {x : ValueFault} {k : Cost} {e : Engine}
       → GivesOutcome n m L (faulted x) k → IsStopped e (Value x)
-      → Sampled n m L (Err (Faulted (Value x))) e
+      → Sampled n m L (Err (Value x)) e
   was_large : {e : Engine}
       → IsTooLarge n m L → IsStopped e Large
-      → Sampled n m L (Err (Faulted Large)) e
+      → Sampled n m L (Err Large) e
   had_no_memory : {e : Engine}
       → IsStopped e Memory
-      → Sampled n m L (Err (Faulted Memory)) e
+      → Sampled n m L (Err Memory) e
+
+-- a sample or its fault, as an engine answers it
+abbrev pub answer_of : Result Sample Fault → Result Sample EngineError
+answer_of (Ok s) = Ok s
+answer_of (Err f) = Err (Faulted f)
 
 -- A start at a history: its refusals in their order, which leave the engine at that history, or the first sample.
 pub data Starts (n : Network) (m : Template) (L : Life) (x : Data) : Result Sample EngineError → Engine → Type 0 where
@@ -44,9 +50,9 @@ pub data Starts (n : Network) (m : Template) (L : Life) (x : Data) : Result Samp
   has_wrong_type : {e : Engine}
       → L ≡ [] → ¬ HasKind x m.input → Runs e n m L
       → Starts n m L x (Err WrongType) e
-  starts : {r : Result Sample EngineError} {e : Engine}
+  starts : {r : Result Sample Fault} {e : Engine}
       → L ≡ [] → HasKind x m.input → Sampled n m (after_start x) r e
-      → Starts n m L x r e
+      → Starts n m L x (answer_of r) e
 
 -- A step at a history: its refusals in their order, which leave the engine at that history, or the next sample.
 pub data Advances (n : Network) (m : Template) (L : Life) (d : ℕ) (x : Option Data) : Result Sample EngineError → Engine → Type 0 where
@@ -59,6 +65,6 @@ pub data Advances (n : Network) (m : Template) (L : Life) (d : ℕ) (x : Option 
   has_wrong_type : {e : Engine}
       → L ≢ [] → CanWait (time L) d → ¬ IfSome x (λ v. HasKind v m.input) → Runs e n m L
       → Advances n m L d x (Err WrongType) e
-  advances : {r : Result Sample EngineError} {e : Engine}
+  advances : {r : Result Sample Fault} {e : Engine}
       → L ≢ [] → CanWait (time L) d → IfSome x (λ v. HasKind v m.input) → Sampled n m (after_step L d x) r e
-      → Advances n m L d x r e
+      → Advances n m L d x (answer_of r) e

@@ -73,16 +73,16 @@ const LONGEST_STEP: u64 = 3_600_000;
 const LAST_TIME: u64 = 4_000_000_000_000_000;
 
 impl Engine {
-    ghost use Rattle.std.specs.Prelude.{◌≡◌, ◌≢◌, ◌+◌, ◌≤◌, ◌↔◌, ℕ, [], ◌∷◌, None, IfOk, IfErr, IsTrue};
+    ghost use Rattle.std.specs.Prelude.{◌≡◌, ◌≢◌, ◌+◌, ◌≤◌, ◌↔◌, ℕ, [], ◌∷◌, Some, None, IfOk, IfErr, IfSome, IsTrue};
     ghost use Rattle.sf_value.specs.Values.{HasKind};
     ghost use Rattle.sf_value.specs.declared.fault.Fault.{Fault};
     ghost use Rattle.sf_term.specs.Trees.{Template};
-    ghost use Rattle.sf_mean.specs.Lives.{Life, step};
+    ghost use Rattle.sf_mean.specs.Lives.{Life, step, time};
     ghost use Rattle.sf_mean.specs.Meaning.{Network};
     ghost use Rattle.sf_mean.specs.Networks.{network_of};
     ghost use Rattle.sf_check.specs.Accepting.{program_of, main_of};
-    ghost use Rattle.sf_engine.specs.Histories.{IsHistory, CanWait};
-    ghost use Rattle.sf_engine.specs.Running.{Runs, IsStopped, StopsWith, time_of};
+    ghost use Rattle.sf_engine.specs.Histories.{IsHistory, CanWait, after_start, after_step};
+    ghost use Rattle.sf_engine.specs.Running.{Runs, IsStopped, StopsWith, time_of, input_kind, last_of, MayStart, MayStep};
     ghost use Rattle.sf_engine.specs.Sampling.{Sampled, Starts, Advances};
 
     /// An engine before its start. For want of memory it hands the network back.
@@ -97,7 +97,6 @@ impl Engine {
             return Err(checked);
         };
         let state = State::unborn(plan.main());
-        let _main = checked.main();
         Ok(Engine {
             alloc,
             plan,
@@ -126,7 +125,7 @@ impl Engine {
         if !has_type(&value, &self.input) {
             return Err(EngineError::WrongType);
         }
-        self.sample(0, value)
+        self.first_sample(value).map_err(EngineError::Fault)
     }
 
     /// The next sample, `dt` milliseconds after the one before. Without a value the input is unchanged.
@@ -140,20 +139,34 @@ impl Engine {
         if let Some(fault) = self.stopped {
             return Err(EngineError::Stopped(fault));
         }
-        let Some(last) = &self.last else {
+        if !self.is_started() {
             return Err(EngineError::NotStarted);
-        };
+        }
         if !self.can_wait(dt) {
             return Err(EngineError::BadStep);
         }
+        if !self.takes(&value) {
+            return Err(EngineError::WrongType);
+        }
+        self.next_sample(dt, value).map_err(EngineError::Fault)
+    }
+
+    /// What `start` does where it refuses nothing, for a caller that has seen to that.
+    pub fn first_sample(&mut self, value: Value) -> Result<Sample, Fault>
+        requires { MayStart self.old value }
+        ensures { (n : Network) (m : Template) → Runs self.old n m [] → Sampled n m (after_start value) result self.new }
+    {
+        self.sample(0, value)
+    }
+
+    /// What `step` does where it refuses nothing, for a caller that has seen to that.
+    pub fn next_sample(&mut self, dt: u64, value: Option<Value>) -> Result<Sample, Fault>
+        requires { MayStep self.old dt value }
+        ensures { (n : Network) (m : Template) (L : Life) → Runs self.old n m L → Sampled n m (after_step L dt value) result self.new }
+    {
         let input = match value {
-            Some(given) => {
-                if !has_type(&given, &self.input) {
-                    return Err(EngineError::WrongType);
-                }
-                given
-            }
-            None => match last.clone_in(self.alloc) {
+            Some(given) => given,
+            None => match self.repeated() {
                 Ok(last) => last,
                 Err(_) => return Err(stop(&mut self.stopped, Fault::Memory)),
             },
@@ -163,9 +176,24 @@ impl Engine {
 
     /// Whether there was a start.
     pub fn is_started(&self) -> bool
-        ensures { (n : Network) (m : Template) (L : Life) → Runs self.now n m L → (IsTrue result ↔ (L ≢ [])) }
+        ensures history { (n : Network) (m : Template) (L : Life) → Runs self.now n m L → (IsTrue result ↔ (L ≢ [])) }
+        ensures input { IsTrue result ↔ (last_of self.now ≢ None) }
     {
         self.last.is_some()
+    }
+
+    /// Milliseconds since the start; 0 before it.
+    pub fn time(&self) -> u64
+        ensures { (n : Network) (m : Template) (L : Life) → Runs self.now n m L → result ≡ time L }
+    {
+        self.time
+    }
+
+    /// The type of the network's inputs.
+    pub fn input(&self) -> &Ty
+        ensures { (n : Network) (m : Template) (L : Life) → Runs self.now n m L → result.now ≡ m.input }
+    {
+        &self.input
     }
 
     /// Whether a step may be so long.
@@ -175,8 +203,29 @@ impl Engine {
         1 <= dt && dt <= LONGEST_STEP && self.time + dt <= LAST_TIME
     }
 
+    /// Whether a value, if there is one, has the type of the inputs.
+    fn takes(&self, value: &Option<Value>) -> bool
+        ensures { IsTrue result ↔ IfSome value.now (λ v. HasKind v (input_kind self.now)) }
+    {
+        match value {
+            Some(given) => has_type(given, &self.input),
+            None => true,
+        }
+    }
+
+    /// A copy of the last input.
+    fn repeated(&self) -> Result<Value, AllocError>
+        requires { last_of self.now ≢ None }
+        ensures { IfOk result (λ x. last_of self.now ≡ Some x) }
+    {
+        match &self.last {
+            Some(last) => last.clone_in(self.alloc),
+            None => unreachable!(),
+        }
+    }
+
     /// The sample at the next step of the history.
-    fn sample(&mut self, dt: u64, input: Value) -> Result<Sample, EngineError>
+    fn sample(&mut self, dt: u64, input: Value) -> Result<Sample, Fault>
         requires time { time_of self.old + dt ≤ 4000000000000000 }
         requires going { self.old.stopped ≡ None }
         requires typed { ∥ HasKind input self.old.input ∥₁ }
@@ -188,9 +237,9 @@ impl Engine {
         };
         let mut meter = Meter::new();
         match step(
+            self.alloc,
             &mut self.state,
             &self.plan,
-            self.alloc,
             dt,
             input,
             &mut meter,
@@ -209,12 +258,12 @@ impl Engine {
 }
 
 /// Keeps the fault that stops an engine.
-fn stop(stopped: &mut Option<Fault>, fault: Fault) -> EngineError
-    ensures error { result ≡ EngineError.Fault fault }
+fn stop(stopped: &mut Option<Fault>, fault: Fault) -> Fault
+    ensures error { result ≡ fault }
     ensures stopped { stopped.new ≡ Some fault }
 {
     *stopped = Some(fault);
-    EngineError::Fault(fault)
+    fault
 }
 
 /// The plan of a network in a mode.

@@ -2,7 +2,7 @@ use crate::engine::{Engine, EngineError, Mode, Sample};
 use sf_check::{CheckRefusal, check};
 use sf_expr::Spot;
 use sf_term::{Bare, Program, WithValue};
-use sf_value::{Form, Ty, Value};
+use sf_value::{Form, Ty, Value, same_type};
 use std::alloc::Global;
 use std::test::Fail;
 
@@ -68,13 +68,16 @@ fn gives_the_input_before(rt: HostRuntime) -> Result<(), Fail> {
     for mode in [Mode::Plain, Mode::Optimised] {
         let mut engine = delayed_by_one(rt.alloc(), mode)?;
         assert!(rt; !engine.is_started());
+        assert!(rt; same_type(engine.input(), &Ty::int()));
         let first = engine.start(Value::int(1))?;
         assert_eq!(rt; shown(&first), (0, Some(7)));
         assert!(rt; engine.is_started());
+        assert_eq!(rt; engine.time(), 0);
         let second = engine.step(16, Some(Value::int(2)))?;
         assert_eq!(rt; shown(&second), (16, Some(1)));
         let third = engine.step(16, None)?;
         assert_eq!(rt; shown(&third), (32, Some(2)));
+        assert_eq!(rt; engine.time(), 32);
     }
     Ok(())
 }

@@ -9,7 +9,7 @@ use Rattle.sf_expr.specs.Evaluation.{no_names}
 use Rattle.sf_expr.specs.Scopes.{scope_of, with_binding, names_of, with_name}
 use Rattle.sf_expr.specs.declared.scope.Binding.{Binding}
 use Rattle.sf_expr.specs.declared.scope.Scope as declared
-use Rattle.sf_expr.specs.declared.typing.TypedName.{TypedName}
+use Rattle.sf_expr.specs.declared.typed_name.TypedName.{TypedName}
 use Rattle.sf_expr.specs.declared.typing.TypeScope as types
 
 -- a name put behind the others is the innermost
@@ -24,6 +24,10 @@ scope_empty s e = ap (λ bs. fold with_binding no_names bs) e
 pub names_empty : (s : types.TypeScope) → s.names.items ≡ [] → names_of s ≡ []
 unfolding names_of
 names_empty s e = ap (λ ns. fold with_name [] ns) e
+
+pub names_same : (s t : types.TypeScope) → s.names.items ≡ t.names.items → names_of s ≡ names_of t
+unfolding names_of
+names_same s t e = ap (λ ns. fold with_name [] ns) e
 
 pub names_pushed : (old new : types.TypeScope) (n : Option TypedName) → new.names.items ≡ old.names.items ++ n ∷ [] → names_of new ≡ with_name (names_of old) n
 unfolding names_of

@@ -3,8 +3,11 @@ use Rattle.std.proofs.Common.{◌≡◌, ℕ, ◌+◌, ◌<◌, ◌≤◌, List,
 use mathlib.Core.Path.{ap₂}
 use Rattle.std.proofs.lemmas.Bool.{cases_eq, cases_lt}
 use Rattle.std.proofs.lemmas.List.{length-append, get_or_append_left, get_or_push, get_or_past}
+use Rattle.sf_value.specs.Values.{Name}
+use Rattle.sf_expr.specs.declared.exprs.ExprNode.{ExprNode}
 use Rattle.sf_expr.specs.declared.exprs.ExprNode.TheVariants as nodes
 use Rattle.sf_expr.specs.declared.exprs.ExprId.{ExprId}
+use Rattle.sf_expr.specs.declared.exprs.NameId.{NameId}
 use Rattle.sf_expr.specs.declared.exprs.FunctionId.{FunctionId}
 use Rattle.sf_expr.specs.declared.exprs.ExprRefusal.{ExprRefusal}
 use Rattle.sf_expr.specs.declared.exprs.Exprs.{Exprs}
@@ -13,10 +16,10 @@ use Rattle.sf_expr.specs.declared.entry.Stored.TheVariants.{Int, Name as NameIs,
 use Rattle.sf_expr.specs.declared.entry.Entry.{Entry}
 use Rattle.sf_expr.specs.declared.entry.StoredFunction.{StoredFunction}
 use Rattle.sf_expr.specs.declared.spot.Spot.{Spot}
-use Rattle.sf_expr.specs.Expressions.{Expression, literal, int_literal, paired, operation, function, depth, pattern_depth, function_depth}
+use Rattle.sf_expr.specs.Expressions.{Expression, variable, literal, int_literal, paired, operation, function, depth, pattern_depth, function_depth}
 use Rattle.sf_expr.specs.Patterns.{PlacedPattern, pattern_of}
 use Rattle.sf_expr.specs.Entries.{IsArena, AreFunctions, among, made_over, needs, node_of, name_in, has_narrow, stored_narrow, zero_entry, entry_at, expressions, expression_at, no_function, function_entry}
-use Rattle.sf_expr.specs.Arena.{count_of, function_count, Holds, HoldsFunction, expression, entry_of, name_at, spot_at, pattern_at, body_at, function_at, made_in, Builds, builds_int, builds_name, builds_pair, builds_operation, PartsBelow, HoldsParts, Keeps, Adds, AddsFunction, IsUnchanged, id_number}
+use Rattle.sf_expr.specs.Arena.{count_of, function_count, Holds, HoldsFunction, expression, entry_of, node_at, name_at, spot_at, pattern_at, body_at, function_at, made_in, Builds, builds_int, builds_name, builds_pair, builds_operation, PartsBelow, HoldsParts, Keeps, Adds, AddsFunction, IsUnchanged, id_number}
 use Rattle.sf_expr.specs.Folded.{trees}
 use Rattle.sf_expr.proofs.Grown.{trees-length, tree-other, tree-pushed, item-other, tree-built}
 
@@ -116,11 +119,12 @@ meaning_kept old new trees f h p b =
 
 -- an entry put behind keeps what was there
 pushed_keeps : (old new : Exprs) (entry : Entry) → new.entries.items ≡ old.entries.items ++ entry ∷ [] → new.functions.items ≡ old.functions.items → Keeps old new
-unfolding Holds expression spot_at HoldsFunction pattern_at body_at
+unfolding Holds expression node_at spot_at HoldsFunction pattern_at body_at
 pushed_keeps old new entry grown same = record {
   holds = λ i h. omega (arith, ap length grown, length-append old.entries.items (entry ∷ []));
+  nodes = λ i h. ap (λ (n : Entry). node_of n.stored i) (other i h);
   trees = kept;
-  spots = λ i h. ap (λ es. (entry_at es i.0).spot) grown ∙ ap (λ (n : Entry). n.spot) (entry-other old.entries.items entry i.0 (λ e. omega arith));
+  spots = λ i h. ap (λ (n : Entry). n.spot) (other i h);
   functions = λ f h. omega (arith, ap length same);
   patterns = λ f h. ap (λ fs. (function_entry fs f.0).pattern) same;
   bodies = λ f h. ap (λ fs. (function_entry fs f.0).body) same;
@@ -130,13 +134,18 @@ pushed_keeps old new entry grown same = record {
     kept : (i : ExprId) → Holds old i → expression new i ≡ expression old i
     kept i h = ap (λ es. expression_at es i.0) grown ∙ expression-other old.entries.items entry i.0 (λ e. omega arith)
 
+    other : (i : ExprId) → Holds old i → entry_at new.entries.items i.0 ≡ entry_at old.entries.items i.0
+    other i h = ap (λ es. entry_at es i.0) grown ∙ entry-other old.entries.items entry i.0 (λ e. omega arith)
+
 -- an entry put behind adds its expression
-pub adds_pushed : (old new : Exprs) (entry : Entry) (id : ExprId) → new.entries.items ≡ old.entries.items ++ entry ∷ [] → new.functions.items ≡ old.functions.items → id.0 ≡ length old.entries.items → Adds old new id (made_in old entry.stored) entry.spot
-unfolding count_of function_count Holds expression spot_at made_in
+pub adds_pushed : (old new : Exprs) (entry : Entry) (id : ExprId) → new.entries.items ≡ old.entries.items ++ entry ∷ [] → new.functions.items ≡ old.functions.items → id.0 ≡ length old.entries.items → Adds old new id (node_of entry.stored id) (made_in old entry.stored) entry.spot
+unfolding count_of function_count Holds expression node_at spot_at made_in
 adds_pushed old new entry id grown same at = record {
   within = omega (arith, long);
+  fresh = λ h. omega arith;
+  node = ap (λ (n : Entry). node_of n.stored id) here;
   is = ap (λ es. expression_at es id.0) grown ∙ expression-pushed old.entries.items entry id.0 at;
-  spotted = ap (λ es. (entry_at es id.0).spot) grown ∙ ap (λ (n : Entry). n.spot) (entry-pushed old.entries.items entry id.0 at);
+  spotted = ap (λ (n : Entry). n.spot) here;
   kept = pushed_keeps old new entry grown same;
   count = long;
   functions = ap length same;
@@ -145,16 +154,21 @@ adds_pushed old new entry id grown same at = record {
     long : length new.entries.items ≡ length old.entries.items + 1
     long = ap length grown ∙ omega (arith, length-append old.entries.items (entry ∷ []))
 
+    here : entry_at new.entries.items id.0 ≡ entry
+    here = ap (λ es. entry_at es id.0) grown ∙ entry-pushed old.entries.items entry id.0 at
+
 -- a function put behind adds it
 pub adds_function_pushed : (old new : Exprs) (f : StoredFunction) (id : FunctionId) → new.entries.items ≡ old.entries.items → new.functions.items ≡ old.functions.items ++ f ∷ [] → id.0 ≡ length old.functions.items → AddsFunction old new id f.pattern f.body
-unfolding count_of function_count Holds HoldsFunction expression spot_at pattern_at body_at
+unfolding count_of function_count Holds HoldsFunction expression node_at spot_at pattern_at body_at
 adds_function_pushed old new f id same grown at = record {
   within = omega (arith, long);
+  fresh = λ h. omega arith;
   pattern = ap (λ (g : StoredFunction). g.pattern) here;
   body = ap (λ (g : StoredFunction). g.body) here;
   is = ap₂ (λ q e. function q e) (ap (λ (g : StoredFunction). pattern_of g.pattern) here) (ap₂ (λ es (g : StoredFunction). expression_at es g.body.0) same here);
   kept = record {
     holds = λ i h. omega (arith, ap length same);
+    nodes = λ i h. ap (λ es. node_of (entry_at es i.0).stored i) same;
     trees = kept;
     spots = λ i h. ap (λ es. (entry_at es i.0).spot) same;
     functions = λ g h. omega (arith, long);
@@ -180,10 +194,11 @@ adds_function_pushed old new f id same grown at = record {
 
 -- the same entries and functions show the same
 pub unchanged : (old new : Exprs) → new.entries.items ≡ old.entries.items → new.functions.items ≡ old.functions.items → IsUnchanged old new
-unfolding count_of function_count expression spot_at pattern_at body_at
+unfolding count_of function_count expression node_at spot_at pattern_at body_at
 unchanged old new e f = record {
   count = ap length e;
   functions = ap length f;
+  nodes = λ i. ap (λ es. node_of (entry_at es i.0).stored i) e;
   trees = λ i. ap (λ es. expression_at es i.0) e;
   spots = λ i. ap (λ es. (entry_at es i.0).spot) e;
   patterns = λ i. ap (λ fs. (function_entry fs i.0).pattern) f;
@@ -210,9 +225,21 @@ builds x id = subst (λ e. Builds x (node_of (entry_at x.entries.items id.0).sto
   where
     of_stored : (n : Stored) → n ≡ (entry_at x.entries.items id.0).stored → Builds x (node_of n id) (made_over (expressions x.entries.items) n)
     of_stored (Int z) e = builds_int
-    of_stored (NameIs n) e = subst (λ m. Builds x (node_of (NameIs n) id) (Rattle.sf_expr.specs.Expressions.variable m)) (sym (ap name_in e)) builds_name
+    of_stored (NameIs n) e = subst (λ m. Builds x (node_of (NameIs n) id) (variable m)) (sym (ap name_in e)) builds_name
     of_stored (Pair a b) e = builds_pair
     of_stored (Operation a op b) e = builds_operation
+
+-- what a node stands for
+pub node_builds : (x : Exprs) (id : ExprId) (n : ExprNode) → node_at x id ≡ n → Builds x n (expression x id)
+unfolding node_at entry_of
+node_builds x id n e = subst (λ (n : ExprNode). Builds x n (expression x id)) e (builds x id)
+
+-- the name that a name's node shows
+pub name_shown : (x : Exprs) (id : ExprId) (n : NameId) (y : Name) → node_at x id ≡ nodes.Name n → expression x id ≡ variable y → name_at x n ≡ y
+name_shown x id n y e f = let b : Builds x (nodes.Name n) (variable y) = subst (λ e. Builds x (nodes.Name n) e) f (node_builds x id (nodes.Name n) e) in shown b refl
+  where
+    shown : {e : Expression} → Builds x (nodes.Name n) e → e ≡ variable y → name_at x n ≡ y
+    shown builds_name e = cc
 
 -- past the end stands the number 0
 pub past_builds : (x : Exprs) (id : ExprId) → length x.entries.items ≤ id.0 → Builds x (nodes.Int (pos 0)) (expression x id)
@@ -280,8 +307,8 @@ unfolding HoldsFunction function_count
 below_function x f h = h
 
 -- what adding keeps
-pub adds_keeps : (old new : Exprs) (id : ExprId) (e : Expression) (s : Spot) → Adds old new id e s → Keeps old new
-adds_keeps old new id e s a = a.kept
+pub adds_keeps : (old new : Exprs) (id : ExprId) (n : ExprNode) (e : Expression) (s : Spot) → Adds old new id n e s → Keeps old new
+adds_keeps old new id n e s a = a.kept
 
 pub adds_function_keeps : (old new : Exprs) (f : FunctionId) (p : PlacedPattern) (b : ExprId) → AddsFunction old new f p b → Keeps old new
 adds_function_keeps old new f p b a = a.kept
@@ -290,6 +317,7 @@ adds_function_keeps old new f p b a = a.kept
 pub unchanged_keeps : (old new : Exprs) → IsUnchanged old new → Keeps old new
 unchanged_keeps old new u = record {
   holds = λ i h. below_holds new i (omega (arith, holds_below old i h, u.count));
+  nodes = λ i h. u.nodes i;
   trees = λ i h. u.trees i;
   spots = λ i h. u.spots i;
   functions = λ f h. below_function new f (omega (arith, function_below old f h, u.functions));
@@ -301,6 +329,7 @@ unchanged_keeps old new u = record {
 pub keeps_trans : (a b c : Exprs) → Keeps a b → Keeps b c → Keeps a c
 keeps_trans a b c f g = record {
   holds = λ i h. g.holds i (f.holds i h);
+  nodes = λ i h. g.nodes i (f.holds i h) ∙ f.nodes i h;
   trees = λ i h. g.trees i (f.holds i h) ∙ f.trees i h;
   spots = λ i h. g.spots i (f.holds i h) ∙ f.spots i h;
   functions = λ i h. g.functions i (f.functions i h);
@@ -328,13 +357,13 @@ pub function_shallow : (x : Exprs) (f : FunctionId) → function_depth (function
 function_shallow x f = omega (arith, expression_shallow x (body_at x f), pattern_shallow x f)
 
 -- what a builder leaves keeps what was there, whatever it answers
-pub kept_by : (x y : Exprs) (r : Result ExprId ExprRefusal) (e : Expression) (s : Spot) → IfOk r (λ id. Adds x y id e s) → OnErr r (IsUnchanged x y) → Keeps x y
-kept_by x y (Ok id) e s a u = a.kept
-kept_by x y (Err f) e s a u = unchanged_keeps x y u
+pub kept_by : (x y : Exprs) (r : Result ExprId ExprRefusal) (n : ExprId → ExprNode) (e : Expression) (s : Spot) → IfOk r (λ id. Adds x y id (n id) e s) → OnErr r (IsUnchanged x y) → Keeps x y
+kept_by x y (Ok id) n e s a u = a.kept
+kept_by x y (Err f) n e s a u = unchanged_keeps x y u
 
-pub more_by : (x y : Exprs) (r : Result ExprId ExprRefusal) (e : Expression) (s : Spot) → IfOk r (λ id. Adds x y id e s) → OnErr r (IsUnchanged x y) → count_of x ≤ count_of y
-more_by x y (Ok id) e s a u = omega (arith, a.count)
-more_by x y (Err f) e s a u = omega (arith, u.count)
+pub more_by : (x y : Exprs) (r : Result ExprId ExprRefusal) (n : ExprId → ExprNode) (e : Expression) (s : Spot) → IfOk r (λ id. Adds x y id (n id) e s) → OnErr r (IsUnchanged x y) → count_of x ≤ count_of y
+more_by x y (Ok id) n e s a u = omega (arith, a.count)
+more_by x y (Err f) n e s a u = omega (arith, u.count)
 
 pub function_kept_by : (x y : Exprs) (r : Result FunctionId ExprRefusal) (p : PlacedPattern) (b : ExprId) → IfOk r (λ f. AddsFunction x y f p b) → OnErr r (IsUnchanged x y) → Keeps x y
 function_kept_by x y (Ok f) p b a u = a.kept

@@ -8,7 +8,6 @@ use Rattle.sf_expr.specs.declared.exprs.ExprId.{ExprId}
 use Rattle.sf_expr.specs.declared.exprs.NameId.{NameId}
 use Rattle.sf_expr.specs.declared.exprs.FunctionId.{FunctionId}
 use Rattle.sf_expr.specs.declared.operator.Operator.{Operator}
-use Rattle.sf_expr.specs.declared.exprs.ExprNode.{ExprNode}
 use Rattle.sf_expr.specs.declared.exprs.ExprNode.TheVariants as nodes
 use Rattle.sf_expr.specs.declared.exprs.Exprs.{Exprs}
 use Rattle.sf_expr.specs.declared.spot.Spot.{Spot}
@@ -16,18 +15,13 @@ use Rattle.sf_expr.specs.declared.typing.TypeRefusal.{TypeRefusal}
 use Rattle.sf_expr.specs.declared.typing.TypeRefusal.TheVariants.{UnknownName, DuplicateName, Mismatch, TypeTooLarge, Memory}
 use Rattle.sf_expr.specs.Expressions.{Pattern, names_in, Literal, int_literal, Expression, variable, paired, operation}
 use Rattle.sf_expr.specs.Patterns.{pattern_of}
-use Rattle.sf_expr.specs.Arena.{expression, node_at, entry_of, name_at, pattern_at, body_at, function_at, Builds}
+use Rattle.sf_expr.specs.Arena.{expression, node_at, name_at, pattern_at, body_at, function_at, Builds}
 use Rattle.sf_expr.specs.Evaluation.{literal_value}
 use Rattle.sf_expr.specs.Typing.{Names, Fits, type_of_name, AllDifferent, Adds, adds_nothing, adds_name, adds_both, HasType, variable_has, literal_has, pair_has, operation_has, FunctionTakes, function_takes}
 use Rattle.sf_expr.specs.Refusals.{Types, TypesFunction, Refused, unknown_name, first_part, second_part, pair_too_large, left_operand, right_operand, no_number, Judges, FunctionRefused, repeated_name, no_fit, body_refused, JudgesFunction, RepeatRefused, BindRefused}
 use Rattle.sf_expr.proofs.Apart.{repeated_apart}
-use Rattle.sf_expr.proofs.Entered.{builds}
+use Rattle.sf_expr.proofs.Entered.{node_builds}
 use Rattle.sf_expr.proofs.Typed.{is_int, is_name, is_pair, is_operation}
-
--- what a node stands for
-node_builds : (x : Exprs) (i : ExprId) (n : ExprNode) → node_at x i ≡ n → Builds x n (expression x i)
-unfolding node_at entry_of
-node_builds x i n e = subst (λ (n : ExprNode). Builds x n (expression x i)) e (builds x i)
 
 literal_kind : (l : Literal) {t : Kind} → HasKind (literal_value l) t → t ≡ int_kind
 literal_kind (int_literal z) (has_int h) = refl

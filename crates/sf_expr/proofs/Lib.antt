@@ -7,3 +7,7 @@ pub mod Division
 pub mod Evaluating
 pub mod Apart
 pub mod Judged
+pub mod Remaining
+pub mod Inferred
+pub mod Answered
+pub mod Once

@@ -55,6 +55,10 @@ name_at x n = name_in (entry_at x.entries.items n.0).stored
 unfoldable pub spot_at : Exprs → ExprId → Spot
 spot_at x id = (entry_at x.entries.items id.0).spot
 
+-- the id of the name that stands at an id
+unfoldable pub name_id : ExprId → NameId
+name_id id = record { 0 = id.0 }
+
 -- the pattern of the function at an id; the one that binds nothing where the arena holds none
 unfoldable pub pattern_at : Exprs → FunctionId → PlacedPattern
 pattern_at x f = (function_entry x.functions.items f.0).pattern
@@ -95,6 +99,7 @@ HoldsParts x (nodes.Operation a op b) = Holds x a × Holds x b
 -- What an arena held is there as it was.
 pub record Keeps (old new : Exprs) : Type 0 where
   pub holds : (i : ExprId) → Holds old i → Holds new i
+  pub nodes : (i : ExprId) → Holds old i → node_at new i ≡ node_at old i
   pub trees : (i : ExprId) → Holds old i → expression new i ≡ expression old i
   pub spots : (i : ExprId) → Holds old i → spot_at new i ≡ spot_at old i
   pub functions : (f : FunctionId) → HoldsFunction old f → HoldsFunction new f
@@ -102,18 +107,21 @@ pub record Keeps (old new : Exprs) : Type 0 where
   pub bodies : (f : FunctionId) → HoldsFunction old f → body_at new f ≡ body_at old f
   pub meanings : (f : FunctionId) → HoldsFunction old f → function_at new f ≡ function_at old f
 
--- an expression was added under an id, and what was there stands
-pub record Adds (old new : Exprs) (id : ExprId) (e : Expression) (s : Spot) : Type 0 where
+-- an expression was added under a new id, with the parts that its node names, and what was there stands
+pub record Adds (old new : Exprs) (id : ExprId) (n : ExprNode) (e : Expression) (s : Spot) : Type 0 where
   pub within : Holds new id
+  pub fresh : ¬ Holds old id
+  pub node : node_at new id ≡ n
   pub is : expression new id ≡ e
   pub spotted : spot_at new id ≡ s
   pub kept : Keeps old new
   pub count : count_of new ≡ count_of old + 1
   pub functions : function_count new ≡ function_count old
 
--- a function was added under an id, and what was there stands
+-- a function was added under a new id, and what was there stands
 pub record AddsFunction (old new : Exprs) (f : FunctionId) (p : PlacedPattern) (b : ExprId) : Type 0 where
   pub within : HoldsFunction new f
+  pub fresh : ¬ HoldsFunction old f
   pub pattern : pattern_at new f ≡ p
   pub body : body_at new f ≡ b
   pub is : function_at new f ≡ function (pattern_of p) (expression old b)
@@ -125,6 +133,7 @@ pub record AddsFunction (old new : Exprs) (f : FunctionId) (p : PlacedPattern) (
 pub record IsUnchanged (old new : Exprs) : Type 0 where
   pub count : count_of new ≡ count_of old
   pub functions : function_count new ≡ function_count old
+  pub nodes : (i : ExprId) → node_at new i ≡ node_at old i
   pub trees : (i : ExprId) → expression new i ≡ expression old i
   pub spots : (i : ExprId) → spot_at new i ≡ spot_at old i
   pub patterns : (f : FunctionId) → pattern_at new f ≡ pattern_at old f

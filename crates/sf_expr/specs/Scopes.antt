@@ -5,7 +5,7 @@ use Rattle.sf_value.specs.Values.{Name}
 use Rattle.sf_expr.specs.Evaluation.{Scope, no_names, value_name}
 use Rattle.sf_expr.specs.declared.scope.Binding.{Binding}
 use Rattle.sf_expr.specs.declared.scope.Scope as declared
-use Rattle.sf_expr.specs.declared.typing.TypedName.{TypedName}
+use Rattle.sf_expr.specs.declared.typed_name.TypedName.{TypedName}
 use Rattle.sf_expr.specs.declared.typing.TypeScope as types
 use Rattle.sf_expr.specs.Typing.{Names}
 

@@ -4,7 +4,7 @@ ghost use Rattle.sf_expr.specs.Expressions.{variable, literal, int_literal, pair
 ghost use Rattle.sf_expr.specs.Expressions.{depth as depth_of, pattern_depth, function_depth as function_depth_of};
 ghost use Rattle.sf_expr.specs.Patterns.{placed_unnamed, pattern_of};
 ghost use Rattle.sf_expr.specs.declared.exprs.ExprRefusal.TheVariants.{Memory};
-ghost use Rattle.sf_expr.specs.Entries.{IsArena, AreFunctions, needs, has_narrow, stored_narrow};
+ghost use Rattle.sf_expr.specs.Entries.{IsArena, AreFunctions, needs, node_of, has_narrow, stored_narrow};
 
 use crate::entry::{Entry, Stored, StoredFunction, StoredName, clone_entries, clone_functions};
 use crate::operator::Operator;
@@ -72,7 +72,7 @@ pub struct Exprs {
 }
 
 impl Exprs {
-    ghost use Rattle.sf_expr.specs.Arena.{count_of, function_count, Holds, HoldsFunction, expression, name_at, spot_at};
+    ghost use Rattle.sf_expr.specs.Arena.{count_of, function_count, Holds, HoldsFunction, expression, name_id, name_at, spot_at};
     ghost use Rattle.sf_expr.specs.Arena.{pattern_at, body_at, function_at, id_number, entry_of, node_at, made_in};
     ghost use Rattle.sf_expr.specs.Arena.{Builds, PartsBelow, HoldsParts, Adds, AddsFunction, IsUnchanged, IsCopy};
 
@@ -137,7 +137,7 @@ impl Exprs {
     fn add(&mut self, stored: Stored, spot: Spot) -> Result<ExprId, ExprRefusal>
         requires in_order { needs stored ≤ count_of self.old }
         requires narrow { IsTrue (stored_narrow stored) }
-        ensures ok { IfOk result (λ id. Adds self.old self.new id (made_in self.old stored) spot) }
+        ensures ok { IfOk result (λ id. Adds self.old self.new id (node_of stored id) (made_in self.old stored) spot) }
         ensures many { result ≡ Err ExprRefusal.TooMany ↔ 100000 ≤ count_of self.old }
         ensures deep { let whole = made_in self.old stored in
             result ≡ Err ExprRefusal.TooDeep ↔ (count_of self.old < 100000) × (64 < depth_of whole) }
@@ -163,7 +163,7 @@ impl Exprs {
     /// changes nothing.
     #[tactic(auto, unfolding(crate::specs::Arena::made_in, crate::specs::Arena::expression, crate::specs::Arena::Holds, crate::specs::Arena::count_of, crate::specs::Entries::expression_at))]
     pub fn int(&mut self, n: i64, spot: Spot) -> Result<ExprId, ExprRefusal>
-        ensures ok { IfOk result (λ id. Adds self.old self.new id (literal (int_literal n)) spot) }
+        ensures ok { IfOk result (λ id. Adds self.old self.new id (ExprNode.Int n) (literal (int_literal n)) spot) }
         ensures many { result ≡ Err ExprRefusal.TooMany ↔ 100000 ≤ count_of self.old }
         ensures not_deep { ¬ (result ≡ Err ExprRefusal.TooDeep) }
         ensures err { OnErr result (IsUnchanged self.old self.new) }
@@ -173,9 +173,9 @@ impl Exprs {
 
     /// Adds a name. Refused with `TooMany` where 100,000 expressions are there, and with `Memory`. A refused call
     /// changes nothing.
-    #[tactic(auto, unfolding(crate::specs::Arena::made_in, crate::specs::Arena::expression, crate::specs::Arena::Holds, crate::specs::Arena::count_of, crate::specs::Entries::expression_at))]
+    #[tactic(auto, unfolding(crate::specs::Arena::made_in, crate::specs::Arena::expression, crate::specs::Arena::Holds, crate::specs::Arena::count_of, crate::specs::Arena::name_id, crate::specs::Entries::expression_at))]
     pub fn name(&mut self, name: String, spot: Spot) -> Result<ExprId, ExprRefusal>
-        ensures ok { IfOk result (λ id. Adds self.old self.new id (variable (string_bytes name)) spot) }
+        ensures ok { IfOk result (λ id. Adds self.old self.new id (ExprNode.Name (name_id id)) (variable (string_bytes name)) spot) }
         ensures many { result ≡ Err ExprRefusal.TooMany ↔ 100000 ≤ count_of self.old }
         ensures not_deep { ¬ (result ≡ Err ExprRefusal.TooDeep) }
         ensures err { OnErr result (IsUnchanged self.old self.new) }
@@ -190,7 +190,7 @@ impl Exprs {
         requires first_held { Holds self.old first }
         requires second_held { Holds self.old second }
         ensures ok { let whole = paired (expression self.old first) (expression self.old second) in
-            IfOk result (λ id. Adds self.old self.new id whole spot) }
+            IfOk result (λ id. Adds self.old self.new id (ExprNode.Pair first second) whole spot) }
         ensures many { result ≡ Err ExprRefusal.TooMany ↔ 100000 ≤ count_of self.old }
         ensures deep { let whole = paired (expression self.old first) (expression self.old second) in
             result ≡ Err ExprRefusal.TooDeep ↔ (count_of self.old < 100000) × (64 < depth_of whole) }
@@ -212,7 +212,7 @@ impl Exprs {
         requires left_held { Holds self.old left }
         requires right_held { Holds self.old right }
         ensures ok { let whole = operation_of (expression self.old left) operator (expression self.old right) in
-            IfOk result (λ id. Adds self.old self.new id whole spot) }
+            IfOk result (λ id. Adds self.old self.new id (ExprNode.Operation left operator right) whole spot) }
         ensures many { result ≡ Err ExprRefusal.TooMany ↔ 100000 ≤ count_of self.old }
         ensures deep { let whole = operation_of (expression self.old left) operator (expression self.old right) in
             result ≡ Err ExprRefusal.TooDeep ↔ (count_of self.old < 100000) × (64 < depth_of whole) }

@@ -13,12 +13,13 @@ mod scope;
 mod spot;
 #[cfg(test)]
 mod tests;
+mod typed_name;
 mod typing;
 
 pub use evaluate::{apply, eval};
 pub use exprs::{ExprId, ExprNode, ExprRefusal, Exprs, FunctionId, NameId};
 pub use fault::EvalFault;
-pub use laws::typed_expression;
+pub use laws::{floor_division, found_type, one_refusal, some_type, typed_expression};
 pub use operator::Operator;
 pub use pat::{Pat, PatForm};
 pub use scope::Scope;

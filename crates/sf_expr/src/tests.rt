@@ -8,7 +8,7 @@ use crate::pat::{Pat, PatForm};
 use crate::scope::Scope;
 use crate::spot::Spot;
 use crate::typing::{TypeRefusal, TypeScope, function_type, type_of};
-use crate::{apply, eval, typed_expression};
+use crate::{apply, eval, one_refusal, typed_expression};
 use sf_value::{Form, Ty, Value, ValueFault, has_type, same, same_type};
 use std::alloc::{AllocError, AllocFailed, Global};
 use std::test::Fail;
@@ -242,6 +242,18 @@ fn the_first_fault_is_answered(rt: HostRuntime) -> Result<(), Fail> {
     }
 }
 
+/// The type that a function takes values of a type to, where no other names are there.
+fn output_type(
+    alloc: Global,
+    exprs: &Exprs,
+    function: FunctionId,
+    from: &Ty,
+    at: Spot,
+) -> Result<Ty, TypeRefusal> {
+    let none = TypeScope::new(alloc);
+    function_type(alloc, exprs, function, from, &none, at)
+}
+
 /// What a function answers to a value of a type.
 fn answered(
     alloc: Global,
@@ -250,7 +262,8 @@ fn answered(
     from: &Ty,
     value: &Value,
 ) -> Result<Value, Fail> {
-    function_type(alloc, exprs, function, from, Spot::NONE)?;
+    let none = TypeScope::new(alloc);
+    function_type(alloc, exprs, function, from, &none, Spot::NONE)?;
     if !has_type(value, from) {
         return Err(Fail::new("a value of another type"));
     }
@@ -282,12 +295,8 @@ fn patterns_bind_the_parts(rt: HostRuntime) -> Result<(), Fail> {
     let seven_three = pair_of(alloc, 7, 3)?;
     let four = answered(alloc, &exprs, function, &numbers, &seven_three)?;
     assert!(rt; same(&four, &Value::int(4)));
-    assert!(rt;
-        same_type(
-            &function_type(alloc, &exprs, function, &numbers, at(1))?,
-            &Ty::int()
-        )
-    );
+    let difference = output_type(alloc, &exprs, function, &numbers, at(1))?;
+    assert!(rt; same_type(&difference, &Ty::int()));
     Ok(())
 }
 
@@ -318,11 +327,11 @@ fn refusals_have_their_places(rt: HostRuntime) -> Result<(), Fail> {
     let none = TypeScope::new(alloc);
     let unknown = type_of(alloc, &exprs, body, &none);
     assert_eq!(rt; refusal(unknown), Some(TypeRefusal::UnknownName(at(14))));
-    let number = function_type(alloc, &exprs, function, &Ty::int(), at(1));
+    let number = output_type(alloc, &exprs, function, &Ty::int(), at(1));
     assert_eq!(rt; refusal(number), Some(TypeRefusal::Mismatch(at(1))));
     let numbers = Ty::pair(alloc, Ty::int(), Ty::int())?;
     let nested = Ty::pair(alloc, numbers, Ty::int())?;
-    let deep = function_type(alloc, &exprs, function, &nested, at(1));
+    let deep = output_type(alloc, &exprs, function, &nested, at(1));
     assert_eq!(rt; refusal(deep), Some(TypeRefusal::Mismatch(at(13))));
     Ok(())
 }
@@ -336,7 +345,7 @@ fn repeated_names_are_refused(rt: HostRuntime) -> Result<(), Fail> {
     let second = Pat::name(String::from_str(alloc, "a")?, at(9));
     let pattern = Pat::both(alloc, first, second)?;
     let function = exprs.function(pattern, body)?;
-    let answer = function_type(alloc, &exprs, function, &Ty::int(), at(1));
+    let answer = output_type(alloc, &exprs, function, &Ty::int(), at(1));
     assert_eq!(rt; refusal(answer), Some(TypeRefusal::DuplicateName(at(9))));
     Ok(())
 }
@@ -355,7 +364,7 @@ fn types_of_more_than_256_are_refused(rt: HostRuntime) -> Result<(), Fail> {
         from = Ty::pair(alloc, from, copy)?;
     }
     assert_eq!(rt; from.nodes(), 255);
-    let answer = function_type(alloc, &exprs, function, &from, at(1));
+    let answer = output_type(alloc, &exprs, function, &from, at(1));
     assert_eq!(rt; refusal(answer), Some(TypeRefusal::TypeTooLarge(at(6))));
     Ok(())
 }
@@ -380,6 +389,7 @@ fn copies_are_the_same(rt: HostRuntime) -> Result<(), Fail> {
 #[test]
 fn errors_become_faults(rt: HostRuntime) {
     typed_expression();
+    one_refusal();
     assert_eq!(rt;
         EvalFault::from(ValueFault::Overflow),
         EvalFault::Value(ValueFault::Overflow)

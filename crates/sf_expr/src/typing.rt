@@ -1,5 +1,5 @@
 //! The types of expressions.
-ghost use Rattle.std.specs.Prelude.{◌≡◌, ◌++◌, [], ◌↔◌, IsTrue, OnOk, IfSome, IfNone, IfErr, Contains};
+ghost use Rattle.std.specs.Prelude.{◌≡◌, ◌++◌, [], ◌↔◌, IsTrue, OnOk, IfOk, IfSome, IfNone, IfErr, Contains};
 ghost use Rattle.sf_value.specs.Values.{int_kind};
 ghost use Rattle.sf_expr.specs.Typing.{Fits, Adds, AllDifferent, type_of_name};
 ghost use Rattle.sf_expr.specs.Expressions.{names_in};
@@ -12,6 +12,7 @@ ghost use Rattle.sf_expr.specs.declared.typing.TypeRefusal.TheVariants.{Memory};
 use crate::exprs::{ExprId, ExprNode, Exprs, FunctionId};
 use crate::pat::{Pat, PatForm};
 use crate::spot::Spot;
+use crate::typed_name::TypedName;
 use sf_value::{Ty, TyForm, TyRefusal};
 use smallvec::SmallVec;
 use std::alloc::{AllocError, AllocFailed, Global};
@@ -54,13 +55,6 @@ impl<T: Drop> From<AllocFailed<T>> for TypeRefusal {
     }
 }
 
-/// A name with its type.
-#[derive(Clone, Copy)]
-struct TypedName<'a> {
-    name: &'a str,
-    ty: &'a Ty,
-}
-
 /// The names that an expression may use, with their types, the innermost last.
 #[derive(Drop)]
 pub struct TypeScope<'a> {
@@ -78,9 +72,20 @@ impl<'a> TypeScope<'a> {
         }
     }
 
+    /// The same names.
+    #[tactic(auto, using(crate::proofs::Bound::names_same))]
+    fn copy(&self, alloc: Global) -> Result<TypeScope<'a>, AllocError>
+        ensures { IfOk result (λ copy. names_of copy ≡ names_of self.now) }
+    {
+        Ok(TypeScope {
+            names: SmallVec::from_slice(alloc, self.names.as_slice())?,
+        })
+    }
+
     /// The type of a name; none where it is not there.
     fn ty(&self, name: &str) -> Option<&'a Ty>
         ensures found { IfSome result (λ t. type_of_name name.now (names_of self.now) ≡ Some t.now) }
+        ensures fits { IfSome result (λ t. Fits t.now) }
         ensures absent { IfNone result (type_of_name name.now (names_of self.now) ≡ None) }
     {
         let mut rest = self.names.as_slice();
@@ -165,10 +170,7 @@ fn judge(alloc: Global, exprs: &Exprs, id: ExprId, names: &TypeScope) -> Result<
     match exprs.node(id) {
         ExprNode::Int(_) => Ok(Ty::int()),
         ExprNode::Name(name) => match names.ty(exprs.name_of(name)) {
-            Some(ty) => {
-                let _nodes = ty.nodes();
-                Ok(ty.clone_in(alloc)?)
-            }
+            Some(ty) => Ok(ty.clone_in(alloc)?),
             None => Err(TypeRefusal::UnknownName(exprs.spot(id))),
         },
         ExprNode::Pair(first, second) => {
@@ -210,36 +212,38 @@ pub fn type_of(
 }
 
 /// The type that a function takes values of a type to, or the first refusal.
-fn judge_function(
+fn judge_function<'a>(
     alloc: Global,
-    exprs: &Exprs,
+    exprs: &'a Exprs,
     function: FunctionId,
-    from: &Ty,
+    from: &'a Ty,
+    around: &TypeScope<'a>,
     at: Spot,
 ) -> Result<Ty, TypeRefusal>
-    ensures { JudgesFunction exprs.now [] function from.now at result }
+    ensures { JudgesFunction exprs.now (names_of around.now) function from.now at result }
 {
     let pattern = exprs.pattern(function);
     see(pattern, &mut SmallVec::new(alloc))?;
-    let mut names = TypeScope::new(alloc);
+    let mut names = around.copy(alloc)?;
     names.bind(pattern, from, at)?;
     judge(alloc, exprs, exprs.body(function), &names)
 }
 
-/// The type that a function takes values of a type to, where no other names are there, or why there is none.
+/// The type that a function takes values of a type to, where the names around it have these types, or why there is none.
 ///
 /// `DuplicateName` where two names of its pattern are the same, with the place of the later one, then `Mismatch` at `at`
 /// where the pattern does not fit the type, then what its body is refused for.
 #[tactic(auto, using(crate::proofs::Judged::judged_types_function))]
-pub fn function_type(
+pub fn function_type<'a>(
     alloc: Global,
-    exprs: &Exprs,
+    exprs: &'a Exprs,
     function: FunctionId,
-    from: &Ty,
+    from: &'a Ty,
+    names: &TypeScope<'a>,
     at: Spot,
 ) -> Result<Ty, TypeRefusal>
-    ensures typed { TypesFunction [] (function_at exprs.now function) from.now result }
-    ensures first { JudgesFunction exprs.now [] function from.now at result }
+    ensures typed { TypesFunction (names_of names.now) (function_at exprs.now function) from.now result }
+    ensures first { JudgesFunction exprs.now (names_of names.now) function from.now at result }
 {
-    judge_function(alloc, exprs, function, from, at)
+    judge_function(alloc, exprs, function, from, names, at)
 }

@@ -1,1 +1,5 @@
+pub mod Headers
+pub mod Entries
+pub mod Arena
+pub mod Copies
 pub mod Plans

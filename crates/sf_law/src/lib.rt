@@ -1,11 +1,13 @@
 //! The plans that are run.
 #![tactic(auto)]
 
+mod node;
 mod plain_plan;
 mod plan;
-
-pub use plain_plan::plain;
-pub use plan::Plan;
-
+mod template;
 #[cfg(test)]
 mod tests;
+
+pub use node::{PlanId, PlanNode};
+pub use plain_plan::plain;
+pub use plan::Plan;

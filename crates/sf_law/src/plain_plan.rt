@@ -1,16 +1,74 @@
 //! The plan that is the network itself.
-ghost use Rattle.std.specs.Prelude.{IfOk};
+ghost use Rattle.std.specs.Prelude.{◌≡◌, ◌<◌, [], map, IfOk, OnOk};
+ghost use Rattle.sf_expr.specs.Arena.{IsCopy};
+ghost use Rattle.sf_term.specs.Arena.{expressions_of as program_expressions, headers_of as program_headers};
+ghost use Rattle.sf_law.specs.declared.node.PlanId.{PlanId as PlanIdOf};
+ghost use Rattle.sf_law.specs.Arena.{expressions_of, node_count, tree, headers_of};
+ghost use Rattle.sf_law.specs.Copies.{plan_id as id_of, plan_node as node_of, plan_header, ShowsTerms};
 ghost use Rattle.sf_law.specs.Plans.{IsPlainPlan};
 
+use crate::node::{PlanId, PlanNode};
 use crate::plan::Plan;
 use sf_check::Checked;
+use sf_term::{Node, Program, TermId};
 use std::alloc::{AllocError, Global};
 
 /// The plan of an accepted network that is the network itself.
 pub fn plain(alloc: Global, checked: &Checked) -> Result<Plan, AllocError>
     ensures { IfOk result (λ plan. IsPlainPlan checked.now plan) }
 {
-    let program = checked.program().clone_in(alloc)?;
-    let main = checked.main();
-    Ok(Plan { program, main })
+    let program = checked.program();
+    let mut plan = Plan::new(alloc, program.expressions().clone_in(alloc)?);
+    copy_terms(&mut plan, program)?;
+    copy_templates(alloc, &mut plan, program)?;
+    Ok(plan.with_main(plan_id(checked.main())))
+}
+
+// The terms of a program, under ids of the same numbers.
+fn copy_terms(plan: &mut Plan, program: &Program) -> Result<(), AllocError>
+    requires empty { node_count plan.old ≡ 0 }
+    requires same { IsCopy (program_expressions program.now) (expressions_of plan.old) }
+    ensures terms { OnOk result (ShowsTerms program.now plan.new) }
+    ensures templates { headers_of plan.new ≡ headers_of plan.old }
+{
+    for number in 0..program.len() {
+        plan.add(plan_node(program.node(program.term(number))))?;
+    }
+    Ok(())
+}
+
+// The templates of a program, behind those of the plan.
+fn copy_templates(alloc: Global, plan: &mut Plan, program: &Program) -> Result<(), AllocError>
+    requires { headers_of plan.old ≡ [] }
+    ensures templates { OnOk result (headers_of plan.new ≡ map plan_header (program_headers program.now)) }
+    ensures trees { (a : PlanIdOf) → tree plan.new a ≡ tree plan.old a }
+{
+    for template in program.templates() {
+        let name = String::from_str(alloc, template.name())?;
+        let input = template.input().clone_in(alloc)?;
+        let output = template.output().clone_in(alloc)?;
+        plan.template(name, input, output, plan_id(template.body()))?;
+    }
+    Ok(())
+}
+
+// A node with the ids of the same numbers.
+fn plan_node(node: Node) -> PlanNode
+    ensures { result ≡ node_of node }
+{
+    match node {
+        Node::Primitive(primitive) => PlanNode::Primitive(primitive),
+        Node::Joined(join, first, second) => {
+            PlanNode::Joined(join, plan_id(first), plan_id(second))
+        }
+        Node::Sided(side, part) => PlanNode::Sided(side, plan_id(part)),
+        Node::Headed(heading, value, part) => PlanNode::Headed(heading, value, plan_id(part)),
+    }
+}
+
+// The id of the same number.
+fn plan_id(term: TermId) -> PlanId
+    ensures { result ≡ id_of term }
+{
+    PlanId(term.number())
 }

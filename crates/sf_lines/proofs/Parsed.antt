@@ -17,7 +17,7 @@ use Rattle.sf_value.proofs.Digits.{digit_low, digit_high, digit_from, natural_af
 use Rattle.sf_lines.specs.declared.refusal.LineRefusal.{LineRefusal}
 use Rattle.sf_lines.specs.declared.refusal.LineRefusal.TheVariants.{Memory}
 use Rattle.sf_lines.specs.Refusals.{refusal_from}
-use Rattle.sf_lines.specs.Asking.{Form, blank, sampled, repeated, HasForm, empty, comment, with_value, unchanged, advance, step_of, step_refusal, value_refusal, asked_at, Says, untimely, unread, read, again}
+use Rattle.sf_lines.specs.Asking.{Form, blank, sampled, repeated, HasForm, empty, comment, with_value, unchanged, advance, step_of, step_refusal, value_refusal, asked_at, Says, untimely, unread, read, again, HasTimelyValue}
 use Rattle.sf_lines.specs.declared.reader.Command.{Command}
 use Rattle.sf_lines.specs.Commands.{asked_of}
 use Rattle.sf_lines.specs.Parsing.{step_cap, NumberThen, BeginsNoNumber, StepThen, BeginsNoStep}
@@ -175,6 +175,17 @@ step_positive n d e h = omega arith
 pub says_untimely : (s : Bool) (k : Kind) (bytes : List ℕ) (form : Form) (n d : ℕ) (r : LineRefusal) → n ≡ min d step_cap → HasForm bytes form → step_of form ≡ Some d → Some r ≡ step_refusal s n → Says s k bytes (Err r)
 says_untimely s k bytes form n d r e h is refused = untimely h is (sym (step_refusal-capped s n d e) ∙ sym refused)
 
+-- no time step is refused for want of memory
+pub step_memory : (s : Bool) (n : ℕ) (r : LineRefusal) → Some r ≡ step_refusal s n → r ≢ Memory
+step_memory s n r refused lack = no_memory s n (refused_so s n r refused lack)
+  where
+    refused_so : (s : Bool) (n : ℕ) (r : LineRefusal) → Some r ≡ step_refusal s n → r ≡ Memory → step_refusal s n ≡ Some Memory
+    refused_so s n r refused lack = sym refused ∙ ap (λ x. Some x) lack
+
+    no_memory : (s : Bool) (n : ℕ) → step_refusal s n ≡ Some Memory → ⊥
+    no_memory false n e = grind (arith, nat_tests)
+    no_memory true n e = grind (arith, nat_tests)
+
 -- a command of a value at a time step
 abbrev pub IsCommandAt : Kind → ℕ → List ℕ → Command → Type 0
 IsCommandAt k n value c = (x : Data) × Reads k value (Ok x) × (asked_of c ≡ asked_at n x)
@@ -195,6 +206,11 @@ module _ (s : Bool) (k : Kind) (bytes : List ℕ) (n d : ℕ) (value : List ℕ)
   says_failure e h timely (Err r) is = λ some.
       let why = is some in
       subst (λ a. Says s k bytes (Err a)) (sym why.2) (unread why.0 h (sym (step_refusal-capped s n d e) ∙ sym timely) why.1)
+
+  -- where memory runs out for the value
+  pub takes_value : n ≡ min d step_cap → HasForm bytes (sampled d value) → None ≡ step_refusal s n → (result : Result Command LineRefusal) → IfErr result (λ r. r ≡ Memory → HasTimelyValue s bytes)
+  takes_value e h timely (Ok c) = tt
+  takes_value e h timely (Err r) = λ lack. record { step = d; value = value; form = h; timely = sym (step_refusal-capped s n d e) ∙ sym timely }
 
 -- a step with the input unchanged
 pub says_again : (s : Bool) (k : Kind) (bytes : List ℕ) (n d : ℕ) → n ≡ min d step_cap → HasForm bytes (repeated d) → None ≡ step_refusal s n → Says s k bytes (Ok (advance n None))

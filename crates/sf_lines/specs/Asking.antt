@@ -38,6 +38,13 @@ abbrev pub step_refusal : Bool → ℕ → Option LineRefusal
 step_refusal false d = if d == 0 then None else Some NotStarted
 step_refusal true d = if d == 0 then Some Started else (if nat_lt 3600000 d then Some BadStep else None)
 
+-- A line's value is read: the line is a time step and a value, and its time step is not refused.
+pub record HasTimelyValue (started : Bool) (line : List ℕ) : Type 0 where
+  pub step : ℕ
+  pub value : List ℕ
+  pub form : HasForm line (sampled step value)
+  pub timely : step_refusal started step ≡ None
+
 -- the refusal of the bytes of a value
 abbrev pub value_refusal : Refusal → LineRefusal
 value_refusal (bad_value n) = BadValue

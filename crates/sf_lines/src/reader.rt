@@ -4,7 +4,7 @@ ghost use Rattle.sf_value.specs.Values.{Data};
 ghost use Rattle.sf_value.specs.Digits.{value_after, digits_at, after_digits};
 ghost use Rattle.sf_value.specs.Reading.{Refusal, Reads};
 ghost use Rattle.sf_lines.specs.declared.refusal.LineRefusal.TheVariants.{Memory};
-ghost use Rattle.sf_lines.specs.Asking.{Form, blank, HasForm, step_refusal, value_refusal, asked_at, Says};
+ghost use Rattle.sf_lines.specs.Asking.{Form, blank, HasForm, step_refusal, value_refusal, asked_at, Says, HasTimelyValue};
 ghost use Rattle.sf_lines.specs.Commands.{asked_of};
 ghost use Rattle.sf_lines.specs.Parsing.{step_cap, NumberThen, BeginsNoNumber, StepThen, BeginsNoStep, HasParts};
 
@@ -34,7 +34,8 @@ pub(crate) enum Parts<'a> {
 /// The command of an input line, its line feed apart, where an engine has started or not and its input has this type.
 ///
 /// The form of a line is looked at first, then its time step, then its value: `BadLine`; `NotStarted` or `Started`;
-/// `BadStep`; `BadValue` or `OutOfRange`. `Memory` is answered only where memory runs out.
+/// `BadStep`; `BadValue` or `OutOfRange`. `Memory` is answered only where memory runs out, and only of a line with a time
+/// step and a value whose time step is not refused: no other line takes memory.
 pub fn read_line(
     alloc: Global,
     bytes: &[u8],
@@ -43,6 +44,8 @@ pub fn read_line(
 ) -> Result<Command, LineRefusal>
     ensures ok { IfOk result (λ c. Says started ty.now bytes.now (Ok (asked_of c))) }
     ensures refused { IfErr result (λ e. e ≢ Memory → Says started ty.now bytes.now (Err e)) }
+    // Memory is taken for a value alone.
+    ensures memory { IfErr result (λ e. e ≡ Memory → HasTimelyValue started bytes.now) }
 {
     match parts_of(bytes) {
         None => Err(LineRefusal::BadLine),

@@ -5,19 +5,21 @@ use Rattle.sf_value.specs.Values.{Data, first_of}
 use Rattle.sf_value.specs.declared.fault.ValueFault.{ValueFault}
 use Rattle.sf_value.specs.declared.fault.ValueFault.TheVariants.{Overflow}
 use Rattle.sf_expr.specs.Evaluation.{Evaluated, answer, failed}
+use Rattle.sf_term.specs.declared.form.Join.TheVariants.{InSequence}
 use Rattle.sf_term.specs.Trees.{Term}
-use Rattle.sf_mean.specs.Lives.{Step, input_of, Life, Process, closure, Environment, fed}
-use Rattle.sf_mean.specs.Meaning.{Network, Outcome, gave, faulted, changed, combined, value_in, Cost, both_costs, over, Made, nothing_made, right_life, join_value, with_side, Gives, gives, Outputs, not_begun, and_gave, Sample, of_constants, of_form, Form, of_primitive, of_join, of_side, of_loop, Next, goes_on, stops, Loops, no_loop, and_looped}
+use Rattle.sf_mean.specs.Lives.{Step, input_of, Life, Process, closure, Environment, relay, fed}
+use Rattle.sf_mean.specs.Formulas.{with_side}
+use Rattle.sf_mean.specs.Meaning.{Network, Outcome, gave, faulted, changed, combined, value_in, Cost, both_costs, over, Made, nothing_made, right_life, join_value, Gives, gives, Outputs, not_begun, and_gave, Sample, of_constants, of_form, Form, of_primitive, of_join, of_side, of_loop, of_stages, over_stages, Next, goes_on, stops, Loops, no_loop, and_looped}
 
 -- two outcomes are one, at one cost
 abbrev pub Same : Outcome → Outcome → Cost → Cost → Type 0
 Same a b c d = (a ≡ b) × (c ≡ d)
 
-abbrev answered : {A : Type 0} → A → Evaluated A → A
+abbrev pub answered : {A : Type 0} → A → Evaluated A → A
 answered x (answer a) = a
 answered x (failed f) = x
 
-abbrev fault_of : {A : Type 0} → Evaluated A → ValueFault
+abbrev pub fault_of : {A : Type 0} → Evaluated A → ValueFault
 fault_of (answer a) = Overflow
 fault_of (failed f) = f
 
@@ -51,6 +53,12 @@ module _ (n : Network) where
         let N : List Data → Type 0 = λ zs. Gives n (closure t e) (fed v (s ∷ L) zs) b d in
         let q = once B (subst N (sym (once_loops A A')) B') in
         (ap (changed first_of) q.0, ap over q.1)
+    once_form (of_stages {x = x} {g = g} {e = e} {s = s} {L = L} A B C) (of_stages {ys = zs} {o = q} {o' = b} {c' = d} A' B' C') =
+        let e1 = onces A A' in
+        let e2 = once B B' in
+        let N : Outcome → List Data → Type 0 = λ q l. Next n q g e (relay (s ∷ L) (value_in q ∷ l)) b d in
+        let e3 = once_next C (subst₂ N (sym e2.0) (sym e1) C') in
+        (ap₂ (combined (join_value InSequence)) e2.0 e3.0, ap₂ (λ a b. over_stages x (both_costs a b)) e2.1 e3.1)
 
     pub once_next : {q : Outcome} {t : Term} {e : Environment} {L : Life} {a b : Outcome} {c d : Cost} → Next n q t e L a c → Next n q t e L b d → Same a b c d
     once_next (goes_on A) (goes_on B) = once A B

@@ -1,20 +1,19 @@
 -- A typed process gives values of its output type.
-use Rattle.std.proofs.Common.{◌≡◌, List, [], ◌∷◌, sym, ap, ◌∙◌, subst}
-use Rattle.std.specs.Prelude.{⊤}
-use Rattle.sf_value.specs.Values.{Kind, int_kind, pair_kind, Data, HasKind, has_pair, first_of, second_of}
+use Rattle.std.proofs.Common.{◌≡◌, List, [], ◌∷◌, ap, subst}
+use Rattle.sf_value.specs.Values.{Kind, pair_kind, Data, pair, HasKind, has_pair, first_of, second_of}
 use Rattle.sf_expr.specs.Expressions.{Expression, Function}
-use Rattle.sf_expr.specs.Evaluation.{Evaluated, answer, failed, ◌>>=◌, Scope, no_names, eval, apply}
+use Rattle.sf_expr.specs.Evaluation.{Evaluated, answer, failed, ◌>>=◌, Scope, eval, apply}
 use Rattle.sf_expr.specs.Typing.{Names, HasType, FunctionTakes}
 use Rattle.sf_expr.specs.Soundness.{Yields, yields, fails, ScopeHas, has_no_names}
-use Rattle.sf_term.specs.declared.form.Bare.TheVariants.{Identity}
-use Rattle.sf_term.specs.declared.form.WithValue.TheVariants.{Constant, InitialPre}
-use Rattle.sf_term.specs.Trees.{Primitive, bare, with_value, arrow, Term}
-use Rattle.sf_mean.specs.Lives.{Step, input_of, Life, Process, closure, Environment, empty, scope_of, first_input as input_at_first}
-use Rattle.sf_mean.specs.Formulas.{before, formula}
-use Rattle.sf_mean.specs.Meaning.{Network, Outcome, Cost, Made, value_made, make, Gives, gives, Outputs, not_begun, and_gave, Sample, of_constants, of_form, Form, of_primitive, of_join, of_side, of_loop, Next, goes_on, stops, Loops, no_loop, and_looped}
-use Rattle.sf_mean.specs.Typing.{PrimitiveTakes, identity_takes, constant_takes, initial_pre_takes, arrow_takes, Takes, takes, FormTakes, primitive_takes, sequence_takes, parallel_takes, fan_takes, first_takes, second_takes, loop_takes}
-use Rattle.sf_mean.specs.Soundness.{Have, have_nothing, have_more, LifeHas, no_steps, more_steps, ProcessTakes, closure_takes, OutcomeHas}
-use Rattle.sf_mean.proofs.TypedLives.{first_is, second_is, with_inputs_has, relay_has, fed_has, outcome_is, changed_has, combined_has, LifeIf, life_if, relay_if}
+use Rattle.sf_term.specs.declared.form.Side.TheVariants.{First, Second}
+use Rattle.sf_term.specs.Trees.{Chain, Primitive, Term}
+use Rattle.sf_mean.specs.Lives.{Step, input_of, Life, Environment, scope_of, Process, first_input as input_at_first}
+use Rattle.sf_mean.specs.Formulas.{before, with_side, apply_chain, formula}
+use Rattle.sf_mean.specs.Meaning.{Network, Outcome, Cost, Made, value_made, make, Gives, gives, Outputs, not_begun, and_gave, Sample, of_constants, of_form, Form, of_primitive, of_join, of_side, of_loop, of_stages, Next, goes_on, stops, Loops, no_loop, and_looped}
+use Rattle.sf_mean.specs.Contexts.{Bindings, values_in, context_with, Context, names_of_values}
+use Rattle.sf_mean.specs.Typing.{ChainTakes, lone_takes, chained_takes, on_first_takes, on_second_takes, on_both_takes, fanned_takes, PrimitiveTakes, identity_takes, constant_takes, initial_pre_takes, arrow_takes, fused_takes, Takes, takes, FormTakes, primitive_takes, sequence_takes, parallel_takes, fan_takes, first_takes, second_takes, loop_takes, stages_take}
+use Rattle.sf_mean.specs.Soundness.{Have, have_nothing, have_more, LifeHas, no_steps, more_steps, EnvironmentHas, has_nothing, ProcessTakes, closure_takes, OutcomeHas}
+use Rattle.sf_mean.proofs.TypedLives.{first_is, second_is, with_inputs_has, fed_has, outcome_is, changed_has, combined_has, LifeIf, life_if, relay_if}
 
 -- expressions and functions have values of their types, or faults
 abbrev pub EvalsTyped : Type 0
@@ -32,8 +31,13 @@ changed_yields : {t u : Kind} {q : Evaluated Data} (f : Data → Data) → ((v :
 changed_yields f m (yields h) = yields (m _ h)
 changed_yields f m fails = fails
 
+-- what is known of an answer that is followed by another
+next_yields : {t u : Kind} {q : Evaluated Data} (f : Data → Evaluated Data) → Yields t q → ((v : Data) → HasKind v t → Yields u (f v)) → Yields u (q >>= f)
+next_yields f (yields h) m = m _ h
+next_yields f fails m = fails
+
 -- the value of an answer
-abbrev made_in : Data → Evaluated Made → Data
+abbrev pub made_in : Data → Evaluated Made → Data
 made_in d (answer (value_made v)) = v
 made_in d (answer m) = d
 made_in d (failed x) = d
@@ -42,54 +46,74 @@ made_has : {t : Kind} {q : Evaluated Data} {v : Data} → Yields t q → (q >>= 
 made_has {t = t} {v = v} (yields {d = d} h) e = subst (λ w. HasKind w t) (ap (made_in d) e) h
 made_has fails e = absurd cc
 
+-- the values of an environment have the types of their names
+pub environment_scope : {e : Environment} {bs : Bindings} → EnvironmentHas e bs → ScopeHas (scope_of e) (values_in bs)
+environment_scope has_nothing = has_no_names
+
 module _ (n : Network) (eval_is : EvalsTyped) (apply_is : AppliesTyped) where
-  formula_is : {p : Primitive} {a b : Kind} (s : Step) {L : Life} → PrimitiveTakes p a b → HasKind (input_of s) a → LifeHas L a → Yields b (formula p no_names s L)
-  formula_is s identity_takes h l = yields h
-  formula_is s (constant_takes I) h l = changed_yields (λ v. v) (λ v k. k) (eval_is _ _ _ _ I has_no_names)
-  formula_is s {L = L} (initial_pre_takes I) h l = changed_yields (λ v. before v L) (λ v k. before_has k l) (eval_is _ _ _ _ I has_no_names)
-  formula_is s (arrow_takes F) h l = apply_is _ _ _ _ _ _ F h has_no_names
+  module _ {Γ : Context} (scope : Scope) (in_scope : ScopeHas scope (names_of_values Γ)) where
+    chain_is : {f : Chain} {a b : Kind} (x : Data) → ChainTakes Γ f a b → HasKind x a → Yields b (apply_chain f x scope)
+    chain_is x (lone_takes F) h = apply_is _ _ _ _ _ _ F h in_scope
+    chain_is x (chained_takes {g = g} F G) h = next_yields (λ y. apply_chain g y scope) (chain_is x F h) (λ y k. chain_is y G k)
+    chain_is x (on_first_takes F) h = changed_yields (with_side First x) (λ y k. has_pair k (second_is h)) (chain_is _ F (first_is h))
+    chain_is x (on_second_takes F) h = changed_yields (with_side Second x) (λ y k. has_pair (first_is h) k) (chain_is _ F (second_is h))
+    chain_is x (on_both_takes {g = g} F G) h =
+        next_yields (λ y. apply_chain g (second_of x) scope >>= λ z. answer (pair y z)) (chain_is _ F (first_is h)) (λ y k. changed_yields (pair y) (λ z l. has_pair k l) (chain_is _ G (second_is h)))
+    chain_is x (fanned_takes {g = g} F G) h =
+        next_yields (λ y. apply_chain g x scope >>= λ z. answer (pair y z)) (chain_is x F h) (λ y k. changed_yields (pair y) (λ z l. has_pair k l) (chain_is x G h))
+
+    formula_is : {p : Primitive} {a b : Kind} (s : Step) {L : Life} → PrimitiveTakes Γ p a b → HasKind (input_of s) a → LifeHas L a → Yields b (formula p scope s L)
+    formula_is s identity_takes h l = yields h
+    formula_is s (constant_takes I) h l = changed_yields (λ v. v) (λ v k. k) (eval_is _ _ _ _ I in_scope)
+    formula_is s {L = L} (initial_pre_takes I) h l = changed_yields (λ v. before v L) (λ v k. before_has k l) (eval_is _ _ _ _ I in_scope)
+    formula_is s (arrow_takes F) h l = apply_is _ _ _ _ _ _ F h in_scope
+    formula_is s (fused_takes F B) h l = chain_is (input_of s) F h
 
   mutual
-    pub gives_has : {P : Process} {L : Life} {o : Outcome} {c : Cost} {a b : Kind} → Gives n P L o c → ProcessTakes P a b → LifeHas L a → OutcomeHas o b
+    pub gives_has : {P : Process} {L : Life} {o : Outcome} {c : Cost} {a b : Kind} → Gives n P L o c → ProcessTakes n P a b → LifeHas L a → OutcomeHas o b
     gives_has (gives A B) p l = sample_has B p l
 
-    pub outputs_have : {P : Process} {L : Life} {ys : List Data} {a b : Kind} → Outputs n P L ys → ProcessTakes P a b → LifeHas L a → Have ys b
+    pub outputs_have : {P : Process} {L : Life} {ys : List Data} {a b : Kind} → Outputs n P L ys → ProcessTakes n P a b → LifeHas L a → Have ys b
     outputs_have not_begun p l = have_nothing
     outputs_have (and_gave {s = s} A B) p (more_steps h l) = have_more (sample_has B p (more_steps {s = s} h l)) (outputs_have A p l)
 
-    sample_has : {P : Process} {s : Step} {L : Life} {o : Outcome} {c : Cost} {a b : Kind} → Sample n P s L o c → ProcessTakes P a b → LifeHas (s ∷ L) a → OutcomeHas o b
+    sample_has : {P : Process} {s : Step} {L : Life} {o : Outcome} {c : Cost} {a b : Kind} → Sample n P s L o c → ProcessTakes n P a b → LifeHas (s ∷ L) a → OutcomeHas o b
     sample_has (of_constants h) p l = tt
-    sample_has (of_form h F) (closure_takes (takes x y T)) l = form_has F h T l
+    sample_has (of_form h F) (closure_takes E (takes x y T)) l = form_has F h E T l
 
-    form_has : {t : Term} {m : Made} {s : Step} {L : Life} {o : Outcome} {c : Cost} {a b : Kind} → Form n t empty m s L o c → make n t empty (input_at_first s L) ≡ answer m → FormTakes t a b → LifeHas (s ∷ L) a → OutcomeHas o b
-    form_has (of_primitive {s = s} h) q (primitive_takes T) (more_steps i l) = outcome_is [] (formula_is s T i l) h
-    form_has (of_join {o = o} {o' = o'} A B C) q (sequence_takes {b = b} {c = d} F H) (more_steps {s = s} i l) =
-        let h : OutcomeHas o b = gives_has B (closure_takes F) (more_steps {s = s} i l) in
-        let j : OutcomeHas o' d = next_has C H (relay_if o h (more_steps {s = s} i l) (outputs_have A (closure_takes F) l)) in
+    form_has : {t : Term} {e : Environment} {bs : Bindings} {m : Made} {s : Step} {L : Life} {o : Outcome} {c : Cost} {a b : Kind} → Form n t e m s L o c → make n t e (input_at_first s L) ≡ answer m → EnvironmentHas e bs → FormTakes (context_with bs n.templates) t a b → LifeHas (s ∷ L) a → OutcomeHas o b
+    form_has (of_primitive {s = s} h) q E (primitive_takes T) (more_steps i l) = outcome_is [] (formula_is _ (environment_scope E) s T i l) h
+    form_has (of_join {o = o} {o' = o'} A B C) q E (sequence_takes {b = b} {c = d} F H) (more_steps {s = s} i l) =
+        let h : OutcomeHas o b = gives_has B (closure_takes E F) (more_steps {s = s} i l) in
+        let j : OutcomeHas o' d = next_has C E H (relay_if o h (more_steps {s = s} i l) (outputs_have A (closure_takes E F) l)) in
         combined_has o o' (λ v w x y. y) h j
-    form_has (of_join {o = o} {o' = o'} A B C) q (parallel_takes {b = b} {d = d} F H) l =
-        let h : OutcomeHas o b = gives_has B (closure_takes F) (with_inputs_has first_of (λ v. first_is) l) in
-        let j : OutcomeHas o' d = next_has C H (life_if o (with_inputs_has second_of (λ v. second_is) l)) in
+    form_has (of_join {o = o} {o' = o'} A B C) q E (parallel_takes {b = b} {d = d} F H) l =
+        let h : OutcomeHas o b = gives_has B (closure_takes E F) (with_inputs_has first_of (λ v. first_is) l) in
+        let j : OutcomeHas o' d = next_has C E H (life_if o (with_inputs_has second_of (λ v. second_is) l)) in
         combined_has o o' (λ v w x y. has_pair x y) h j
-    form_has (of_join {o = o} {o' = o'} A B C) q (fan_takes {b = b} {c = d} F H) l =
-        let h : OutcomeHas o b = gives_has B (closure_takes F) l in
-        let j : OutcomeHas o' d = next_has C H (life_if o l) in
+    form_has (of_join {o = o} {o' = o'} A B C) q E (fan_takes {b = b} {c = d} F H) l =
+        let h : OutcomeHas o b = gives_has B (closure_takes E F) l in
+        let j : OutcomeHas o' d = next_has C E H (life_if o l) in
         combined_has o o' (λ v w x y. has_pair x y) h j
-    form_has (of_side {s = s} {o = o} A) q (first_takes {b = b} T) (more_steps i l) =
-        let h : OutcomeHas o b = gives_has A (closure_takes T) (with_inputs_has first_of (λ v. first_is) (more_steps {s = s} i l)) in
+    form_has (of_side {s = s} {o = o} A) q E (first_takes {b = b} T) (more_steps i l) =
+        let h : OutcomeHas o b = gives_has A (closure_takes E T) (with_inputs_has first_of (λ v. first_is) (more_steps {s = s} i l)) in
         changed_has o (λ v j. has_pair j (second_is i)) h
-    form_has (of_side {s = s} {o = o} A) q (second_takes {b = b} T) (more_steps i l) =
-        let h : OutcomeHas o b = gives_has A (closure_takes T) (with_inputs_has second_of (λ v. second_is) (more_steps {s = s} i l)) in
+    form_has (of_side {s = s} {o = o} A) q E (second_takes {b = b} T) (more_steps i l) =
+        let h : OutcomeHas o b = gives_has A (closure_takes E T) (with_inputs_has second_of (λ v. second_is) (more_steps {s = s} i l)) in
         changed_has o (λ v j. has_pair (first_is i) j) h
-    form_has (of_loop {o = o} A B) q (loop_takes {b = b} {c = d} I T) (more_steps {s = s} i l) =
-        let v = made_has (eval_is _ _ _ _ I has_no_names) q in
-        let h : OutcomeHas o (pair_kind b d) = gives_has B (closure_takes T) (fed_has b v (more_steps {s = s} i l) (loops_have A (closure_takes T) v l)) in
+    form_has (of_loop {o = o} A B) q E (loop_takes {b = b} {c = d} I T) (more_steps {s = s} i l) =
+        let v = made_has (eval_is _ _ _ _ I (environment_scope E)) q in
+        let h : OutcomeHas o (pair_kind b d) = gives_has B (closure_takes E T) (fed_has b v (more_steps {s = s} i l) (loops_have A (closure_takes E T) v l)) in
         changed_has o (λ v. first_is) h
+    form_has (of_stages {o = o} {o' = o'} A B C) q E (stages_take {b = b} {c = d} F H) (more_steps {s = s} i l) =
+        let h : OutcomeHas o b = gives_has B (closure_takes E F) (more_steps {s = s} i l) in
+        let j : OutcomeHas o' d = next_has C E H (relay_if o h (more_steps {s = s} i l) (outputs_have A (closure_takes E F) l)) in
+        combined_has o o' (λ v w x y. y) h j
 
-    next_has : {q : Outcome} {t : Term} {L : Life} {o : Outcome} {c : Cost} {a b : Kind} → Next n q t empty L o c → Takes t a b → LifeIf q L a → OutcomeHas o b
-    next_has (goes_on A) T l = gives_has A (closure_takes T) l
-    next_has stops T l = tt
+    next_has : {q : Outcome} {t : Term} {e : Environment} {bs : Bindings} {L : Life} {o : Outcome} {c : Cost} {a b : Kind} → Next n q t e L o c → EnvironmentHas e bs → Takes (context_with bs n.templates) t a b → LifeIf q L a → OutcomeHas o b
+    next_has (goes_on A) E T l = gives_has A (closure_takes E T) l
+    next_has stops E T l = tt
 
-    pub loops_have : {v : Data} {P : Process} {L : Life} {zs : List Data} {a b c : Kind} → Loops n v P L zs → ProcessTakes P (pair_kind a c) (pair_kind b c) → HasKind v c → LifeHas L a → Have zs (pair_kind b c)
+    pub loops_have : {v : Data} {P : Process} {L : Life} {zs : List Data} {a b c : Kind} → Loops n v P L zs → ProcessTakes n P (pair_kind a c) (pair_kind b c) → HasKind v c → LifeHas L a → Have zs (pair_kind b c)
     loops_have no_loop p h l = have_nothing
     loops_have {b = b} (and_looped {s = s} A B) p h (more_steps i l) = let z = loops_have A p h l in have_more (gives_has B p (fed_has b h (more_steps {s = s} i l) z)) z

@@ -1,5 +1,5 @@
 -- What processes give on lives, and at what cost.
-use Rattle.std.specs.Prelude.{◌≡◌, ℕ, suc, ◌+◌, ◌<◌, max, List, [], ◌∷◌, ◌++◌, pos, ◌⊎◌}
+use Rattle.std.specs.Prelude.{◌≡◌, ℕ, suc, ◌+◌, max, List, [], ◌∷◌, ◌++◌, pos}
 use Rattle.sf_value.specs.Values.{Name, Data, number, pair, first_of, second_of}
 use Rattle.sf_value.specs.declared.fault.ValueFault.{ValueFault}
 use Rattle.sf_expr.specs.Expressions.{Expression}
@@ -7,12 +7,10 @@ use Rattle.sf_expr.specs.Evaluation.{Evaluated, answer, failed, ◌>>=◌, eval}
 use Rattle.sf_term.specs.declared.form.Join.{Join}
 use Rattle.sf_term.specs.declared.form.Join.TheVariants.{InSequence, InParallel, FannedOut}
 use Rattle.sf_term.specs.declared.form.Side.{Side}
-use Rattle.sf_term.specs.declared.form.Side.TheVariants.{First, Second}
-use Rattle.sf_term.specs.declared.form.Heading.{Heading}
 use Rattle.sf_term.specs.declared.form.Heading.TheVariants.{LoopPre}
-use Rattle.sf_term.specs.Trees.{Primitive, Term, primitive, joined, sided, headed, Templates}
+use Rattle.sf_term.specs.Trees.{Primitive, Extent, whole, rest, Term, primitive, joined, sided, headed, staged, Templates}
 use Rattle.sf_mean.specs.Lives.{Step, input_of, Life, Process, closure, Environment, scope_of, with_inputs, relay, fed, first_input as input_at_first}
-use Rattle.sf_mean.specs.Formulas.{formula}
+use Rattle.sf_mean.specs.Formulas.{side_of, with_side, formula}
 
 -- A network: its templates. What its stored functions answer will stand beside them.
 pub record Network : Type 0 where
@@ -76,12 +74,18 @@ over c = cost (suc (count c)) (suc (height c))
 abbrev pub one_term : Cost
 one_term = over no_cost
 
+-- a pipeline counts one, and the rest of one nothing
+abbrev pub over_stages : Extent → Cost → Cost
+over_stages whole c = over c
+over_stages rest c = c
+
 -- the terms in the text of a term
 abbrev pub text_cost : Term → Cost
 text_cost (primitive p) = one_term
 text_cost (joined j f g) = over (both_costs (text_cost f) (text_cost g))
 text_cost (sided d t) = over (text_cost t)
 text_cost (headed h e t) = over (text_cost t)
+text_cost (staged x f g) = over_stages x (both_costs (text_cost f) (text_cost g))
 
 -- What a form's constants give: nothing, or a value.
 pub data Made : Type 0 where
@@ -94,6 +98,7 @@ make n (primitive p) e x = answer nothing_made
 make n (joined j f g) e x = answer nothing_made
 make n (sided d t) e x = answer nothing_made
 make n (headed h i t) e x = eval i (scope_of e) >>= λ v. answer (value_made v)
+make n (staged x f g) e y = answer nothing_made
 
 -- what the left part of a join lives
 abbrev pub left_life : Join → Life → Life
@@ -112,16 +117,6 @@ abbrev pub join_value : Join → Data → Data → Data
 join_value InSequence y z = z
 join_value InParallel y z = pair y z
 join_value FannedOut y z = pair y z
-
--- the side of the input that the part is given
-abbrev pub side_of : Side → Data → Data
-side_of First x = first_of x
-side_of Second x = second_of x
-
--- the input with the part's value on its side
-abbrev pub with_side : Side → Data → Data → Data
-with_side First x y = pair y (second_of x)
-with_side Second x y = pair (first_of x) y
 
 -- ## The meaning
 
@@ -168,6 +163,12 @@ mutual
         → Loops n v (closure t e) L zs
         → Gives n (closure t e) (fed v (s ∷ L) zs) o c
         → Form n (headed LoopPre i t) e (value_made v) s L (changed first_of o) (over c)
+    -- a stage before the others: they live on its values
+    of_stages : {x : Extent} {f g : Term} {e : Environment} {m : Made} {s : Step} {L : Life} {ys : List Data} {o o' : Outcome} {c c' : Cost}
+        → Outputs n (closure f e) L ys
+        → Gives n (closure f e) (s ∷ L) o c
+        → Next n o g e (relay (s ∷ L) (value_in o ∷ ys)) o' c'
+        → Form n (staged x f g) e m s L (combined (join_value InSequence) o o') (over_stages x (both_costs c c'))
 
   -- The part that stands next. After a fault it isn't stepped, and the terms in its text count.
   pub data Next (n : Network) : Outcome → Term → Environment → Life → Outcome → Cost → Type 0 where

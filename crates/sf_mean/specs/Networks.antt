@@ -1,5 +1,5 @@
 -- Networks by their templates.
-use Rattle.std.specs.Prelude.{◌≡◌, cond, List, [], ◌∷◌, Option, Some, None, bytes_eq, codes}
+use Rattle.std.specs.Prelude.{cond, [], ◌∷◌, Option, Some, None, bytes_eq, codes}
 use Rattle.sf_value.specs.Values.{Name}
 use Rattle.sf_term.specs.declared.program.Program.{Program}
 use Rattle.sf_term.specs.Trees.{Template, Templates}

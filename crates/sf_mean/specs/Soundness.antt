@@ -2,8 +2,9 @@
 use Rattle.std.specs.Prelude.{List, [], ◌∷◌, ⊤}
 use Rattle.sf_value.specs.Values.{Kind, Data, HasKind}
 use Rattle.sf_term.specs.Trees.{Term}
-use Rattle.sf_mean.specs.Lives.{Step, input_of, Life, Process, closure, Environment, empty}
-use Rattle.sf_mean.specs.Meaning.{Outcome, gave, faulted}
+use Rattle.sf_mean.specs.Lives.{Step, input_of, Life, Environment, empty, Process, closure}
+use Rattle.sf_mean.specs.Meaning.{Network, Outcome, gave, faulted}
+use Rattle.sf_mean.specs.Contexts.{Bindings, context_with}
 use Rattle.sf_mean.specs.Typing.{Takes}
 
 -- Each value of a list has a type.
@@ -16,9 +17,15 @@ pub data LifeHas : Life → Kind → Type 0 where
   no_steps : {t : Kind} → LifeHas [] t
   more_steps : {s : Step} {L : Life} {t : Kind} → HasKind (input_of s) t → LifeHas L t → LifeHas (s ∷ L) t
 
--- A process takes inputs of one type to outputs of another.
-pub data ProcessTakes : Process → Kind → Kind → Type 0 where
-  closure_takes : {t : Term} {a b : Kind} → Takes t a b → ProcessTakes (closure t empty) a b
+-- An environment has the names of a context, each with what it stands for.
+pub data EnvironmentHas : Environment → Bindings → Type 0 where
+  has_nothing : EnvironmentHas empty []
+
+-- In a network, a process takes inputs of one type to outputs of another: its environment has names under which, and under
+-- the headers of the network, its term takes them.
+pub data ProcessTakes (n : Network) : Process → Kind → Kind → Type 0 where
+  closure_takes : {t : Term} {e : Environment} {bs : Bindings} {a b : Kind}
+      → EnvironmentHas e bs → Takes (context_with bs n.templates) t a b → ProcessTakes n (closure t e) a b
 
 -- the value of an outcome has a type
 abbrev pub OutcomeHas : Outcome → Kind → Type 0

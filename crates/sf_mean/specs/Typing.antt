@@ -1,6 +1,6 @@
--- The types of terms, and the networks that are accepted.
-use Rattle.std.specs.Prelude.{◌≡◌, ◌≢◌, ℕ, ◌<◌, List, [], ◌∷◌, Some, slice_get}
-use Rattle.sf_value.specs.Values.{Name, Kind, pair_kind}
+-- The types of terms under a context, and the networks that are accepted.
+use Rattle.std.specs.Prelude.{◌≡◌, ◌≢◌, ℕ, ◌<◌, Some, slice_get}
+use Rattle.sf_value.specs.Values.{Kind, pair_kind}
 use Rattle.sf_expr.specs.Expressions.{Expression, Function}
 use Rattle.sf_expr.specs.Typing.{Fits, HasType, FunctionTakes}
 use Rattle.sf_term.specs.declared.form.Bare.TheVariants.{Identity}
@@ -8,37 +8,49 @@ use Rattle.sf_term.specs.declared.form.WithValue.TheVariants.{Constant, InitialP
 use Rattle.sf_term.specs.declared.form.Join.TheVariants.{InSequence, InParallel, FannedOut}
 use Rattle.sf_term.specs.declared.form.Side.TheVariants.{First, Second}
 use Rattle.sf_term.specs.declared.form.Heading.TheVariants.{LoopPre}
-use Rattle.sf_term.specs.Trees.{Primitive, bare, with_value, arrow, Term, primitive, joined, sided, headed, Template, Templates}
+use Rattle.sf_term.specs.Trees.{Chain, lone, chained, on_side, on_both, fanned, Primitive, bare, with_value, arrow, fused, Extent, Term, primitive, joined, sided, headed, staged, Template, Templates}
 use Rattle.sf_mean.specs.Networks.{main_of}
+use Rattle.sf_mean.specs.Contexts.{Context, names_of_values, context_of}
+
+-- Functions made into one take inputs of one type to outputs of another.
+pub data ChainTakes (Γ : Context) : Chain → Kind → Kind → Type 0 where
+  lone_takes : {f : Function} {a b : Kind} → FunctionTakes (names_of_values Γ) f a b → ChainTakes Γ (lone f) a b
+  chained_takes : {f g : Chain} {a b c : Kind} → ChainTakes Γ f a b → ChainTakes Γ g b c → ChainTakes Γ (chained f g) a c
+  on_first_takes : {f : Chain} {a b c : Kind} → ChainTakes Γ f a b → ChainTakes Γ (on_side First f) (pair_kind a c) (pair_kind b c)
+  on_second_takes : {f : Chain} {a b c : Kind} → ChainTakes Γ f a b → ChainTakes Γ (on_side Second f) (pair_kind c a) (pair_kind c b)
+  on_both_takes : {f g : Chain} {a b c d : Kind} → ChainTakes Γ f a b → ChainTakes Γ g c d → ChainTakes Γ (on_both f g) (pair_kind a c) (pair_kind b d)
+  fanned_takes : {f g : Chain} {a b c : Kind} → ChainTakes Γ f a b → ChainTakes Γ g a c → ChainTakes Γ (fanned f g) a (pair_kind b c)
 
 -- A primitive takes inputs of one type to outputs of another.
-pub data PrimitiveTakes : Primitive → Kind → Kind → Type 0 where
-  identity_takes : {a : Kind} → PrimitiveTakes (bare Identity) a a
-  constant_takes : {e : Expression} {a b : Kind} → HasType [] e b → PrimitiveTakes (with_value Constant e) a b
-  initial_pre_takes : {e : Expression} {a : Kind} → HasType [] e a → PrimitiveTakes (with_value InitialPre e) a a
-  arrow_takes : {f : Function} {a b : Kind} → FunctionTakes [] f a b → PrimitiveTakes (arrow f) a b
+pub data PrimitiveTakes (Γ : Context) : Primitive → Kind → Kind → Type 0 where
+  identity_takes : {a : Kind} → PrimitiveTakes Γ (bare Identity) a a
+  constant_takes : {e : Expression} {a b : Kind} → HasType (names_of_values Γ) e b → PrimitiveTakes Γ (with_value Constant e) a b
+  initial_pre_takes : {e : Expression} {a : Kind} → HasType (names_of_values Γ) e a → PrimitiveTakes Γ (with_value InitialPre e) a a
+  arrow_takes : {f : Function} {a b : Kind} → FunctionTakes (names_of_values Γ) f a b → PrimitiveTakes Γ (arrow f) a b
+  fused_takes : {f : Chain} {a b : Kind} → ChainTakes Γ f a b → Fits b → PrimitiveTakes Γ (fused f) a b
 
 mutual
   -- A term takes inputs of one type to outputs of another. Both have at most 256 nodes.
-  pub data Takes : Term → Kind → Kind → Type 0 where
-    takes : {t : Term} {a b : Kind} → Fits a → Fits b → FormTakes t a b → Takes t a b
+  pub data Takes (Γ : Context) : Term → Kind → Kind → Type 0 where
+    takes : {t : Term} {a b : Kind} → Fits a → Fits b → FormTakes Γ t a b → Takes Γ t a b
 
   -- the types of each form of terms
-  pub data FormTakes : Term → Kind → Kind → Type 0 where
-    primitive_takes : {p : Primitive} {a b : Kind} → PrimitiveTakes p a b → FormTakes (primitive p) a b
-    sequence_takes : {f g : Term} {a b c : Kind} → Takes f a b → Takes g b c → FormTakes (joined InSequence f g) a c
-    parallel_takes : {f g : Term} {a b c d : Kind} → Takes f a b → Takes g c d → FormTakes (joined InParallel f g) (pair_kind a c) (pair_kind b d)
-    fan_takes : {f g : Term} {a b c : Kind} → Takes f a b → Takes g a c → FormTakes (joined FannedOut f g) a (pair_kind b c)
-    first_takes : {t : Term} {a b c : Kind} → Takes t a b → FormTakes (sided First t) (pair_kind a c) (pair_kind b c)
-    second_takes : {t : Term} {a b c : Kind} → Takes t a b → FormTakes (sided Second t) (pair_kind c a) (pair_kind c b)
-    loop_takes : {e : Expression} {t : Term} {a b c : Kind} → HasType [] e c → Takes t (pair_kind a c) (pair_kind b c) → FormTakes (headed LoopPre e t) a b
+  pub data FormTakes (Γ : Context) : Term → Kind → Kind → Type 0 where
+    primitive_takes : {p : Primitive} {a b : Kind} → PrimitiveTakes Γ p a b → FormTakes Γ (primitive p) a b
+    sequence_takes : {f g : Term} {a b c : Kind} → Takes Γ f a b → Takes Γ g b c → FormTakes Γ (joined InSequence f g) a c
+    parallel_takes : {f g : Term} {a b c d : Kind} → Takes Γ f a b → Takes Γ g c d → FormTakes Γ (joined InParallel f g) (pair_kind a c) (pair_kind b d)
+    fan_takes : {f g : Term} {a b c : Kind} → Takes Γ f a b → Takes Γ g a c → FormTakes Γ (joined FannedOut f g) a (pair_kind b c)
+    first_takes : {t : Term} {a b c : Kind} → Takes Γ t a b → FormTakes Γ (sided First t) (pair_kind a c) (pair_kind b c)
+    second_takes : {t : Term} {a b c : Kind} → Takes Γ t a b → FormTakes Γ (sided Second t) (pair_kind c a) (pair_kind c b)
+    loop_takes : {e : Expression} {t : Term} {a b c : Kind} → HasType (names_of_values Γ) e c → Takes Γ t (pair_kind a c) (pair_kind b c) → FormTakes Γ (headed LoopPre e t) a b
+    stages_take : {x : Extent} {f g : Term} {a b c : Kind} → Takes Γ f a b → Takes Γ g b c → FormTakes Γ (staged x f g) a c
 
--- a template's term takes its header's input to its header's output
-abbrev pub IsTyped : Template → Type 0
-IsTyped t = Takes t.body t.input t.output
+-- a template's term takes its header's input to its header's output, under the headers of all templates
+abbrev pub IsTyped : Templates → Template → Type 0
+IsTyped ts t = Takes (context_of ts) t.body t.input t.output
 
 -- A network is accepted where its templates have different names and terms of their headers' types, and one is `main`.
 pub record Accepted (ts : Templates) : Type 0 where
   pub different : (i j : ℕ) (s t : Template) → i < j → slice_get ts i ≡ Some s → slice_get ts j ≡ Some t → s.name ≢ t.name
-  pub typed : (i : ℕ) (t : Template) → slice_get ts i ≡ Some t → IsTyped t
+  pub typed : (i : ℕ) (t : Template) → slice_get ts i ≡ Some t → IsTyped ts t
   pub has_main : (t : Template) × (main_of ts ≡ Some t)

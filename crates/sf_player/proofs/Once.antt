@@ -143,7 +143,8 @@ agree_then : {n : Network} {m : Template} {now between : Moment} {line text x y 
 agree_then {n = n} {m = m} {now = now} {line = line} {text = text} {front = front} {others = others} {more = more} r (both_go_on {said = said} {x = x} {y = y} {d = d} {e = e} R S T) =
     subst (λ (z : List ℕ). Agree n m now (line ∷ front) others more z d (text ++ (said ++ y)) e) (append_assoc text said x)
     (subst (λ (z : List ℕ). Agree n m now (line ∷ front) others more ((text ++ said) ++ x) d z e) (append_assoc text said y) (both_go_on (Reaches-cons r R) S T))
-agree_then r both_end = both_end
+agree_then {n = n} {m = m} {now = now} {line = line} {text = text} {front = front} {others = others} {more = more} r (both_end {said = said} {text = last} {e = e} behind R s q) =
+    subst (λ (z : List ℕ). Agree n m now (line ∷ front) others more z e z e) (append_assoc text said last) (both_end behind (Reaches-cons r R) s (ap (λ ls. line ∷ ls) q))
 
 agree : {n : Network} {m : Template} {now : Moment} {x y : List ℕ} {d e : Ending} (front others more : List (List ℕ)) → Spoken n m now (front ++ others) x d → Spoken n m now (front ++ more) y e → Agree n m now front others more x d y e
 agree [] others more S T = both_go_on no_line (script S) (script T)
@@ -151,7 +152,7 @@ agree {n = n} {m = m} {now = now} {x = x} {y = y} {d = d} {e = e} (line ∷ fron
     let same = reply_once r s in
     let turns : ends d ≡ ends e = same.1 in
     let endings : d ≡ e = cc in
-    subst (λ (z : List ℕ). Agree n m now (line ∷ front) others more x d z e) same.0 (subst (λ z. Agree n m now (line ∷ front) others more x d x z) endings both_end)
+    subst (λ (z : List ℕ). Agree n m now (line ∷ front) others more x d z e) same.0 (subst (λ z. Agree n m now (line ∷ front) others more x d x z) endings (both_end front no_line r refl))
 agree {d = d} (line ∷ front) others more (ending _ r) (going {between = later} s T) = absurd (let turns : ends d ≡ goes_on later = (reply_once r s).1 in cc)
 agree {e = e} (line ∷ front) others more (going {between = later} r S) (ending _ s) = absurd (let turns : goes_on later ≡ ends e = (reply_once r s).1 in cc)
 agree {n = n} {m = m} {now = now} {y = y} {d = d} {e = e} (line ∷ front) others more (going {between = b} {text = text} {said = said} r S) (going {between = c} {text = last} {said = also} s T) =

@@ -42,8 +42,7 @@ cleared_at {n = n} {m = m} {read = read} {written = written} {mid = mid} {new = 
       subst (λ (x : List ℕ). Reaches n m at_start P.lines x P.now) (sym same) P.reaches;
   at = record {
     runs = rw C.engine P.at.runs;
-    input = C.input ∙ P.at.input;
-    time = C.time ∙ P.at.time;
+    slow = P.at.slow;
     taken = C.taken ∙ P.at.taken;
   };
 }

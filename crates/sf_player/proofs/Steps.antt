@@ -15,8 +15,8 @@ use Rattle.sf_lines.specs.declared.refusal.LineRefusal.{LineRefusal}
 use Rattle.sf_lines.proofs.Splitting.{lines_of-splits}
 use Rattle.sf_lines.proofs.CutterSteps.{line_of-short, lines_taken-few, pending-short, limit_refusal-none}
 use Rattle.sf_player.specs.Scripts.{Moment, at_start, Turn, goes_on, Replies, past_limits, refused, quiet, gives_value, gives_fault, gives_none, Reaches, no_line, one_more, to_the_end, up_to}
-use Rattle.sf_player.specs.Telling.{Stops, with_the_input, at_a_fault, at_a_refusal, without_memory, too_large, without_memory_for_a_line}
-use Rattle.sf_player.specs.Playing.{Halts, faults, refuses, lacks_memory, is_too_large, lacks_memory_for_itself, GoesOn, EndsRun, Answers, Finishes, weight, Played, PlayedMore, Halted}
+use Rattle.sf_player.specs.Telling.{Stops, with_the_input, at_a_fault, at_a_refusal, without_memory, too_large, without_memory_for_a_value}
+use Rattle.sf_player.specs.Playing.{Halts, faults, refuses, lacks_memory, is_too_large, lacks_memory_for_its_value, GoesOn, EndsRun, Answers, Finishes, weight, Played, PlayedMore, Halted}
 use Rattle.sf_player.specs.declared.end.PlayEnd.{PlayEnd}
 use Rattle.sf_player.specs.declared.end.PlayEnd.TheVariants.{Done, BadLine}
 use Rattle.sf_player.specs.declared.player.Player.{Player}
@@ -66,7 +66,7 @@ stops_by others R (faults r) q = at_a_fault (up_to others R r q)
 stops_by others R (refuses r) q = at_a_refusal (up_to others R r q)
 stops_by others R (lacks_memory a s) q = without_memory others R q a s
 stops_by others R (is_too_large a s l) q = too_large others R q a s l
-stops_by {line = line} others R lacks_memory_for_itself q = without_memory_for_a_line line others R q
+stops_by others R (lacks_memory_for_its_value within value) q = without_memory_for_a_value others R q within value
 
 said_so : {n : Network} {m : Template} {lines : List (List ℕ)} {e : PlayEnd} (written line a b : List ℕ) → Stops n m lines ((written ++ a) ++ line) e → b ≡ a → Stops n m lines ((written ++ b) ++ line) e
 said_so {n = n} {m = m} {lines = lines} {e = e} written line a b S same = subst (λ (x : List ℕ). Stops n m lines ((written ++ x) ++ line) e) (sym same) S
@@ -161,11 +161,11 @@ Halted-more {n = n} {m = m} s said read piece at h =
     λ left. subst (λ (x : List ℕ). Stops n m (lines_of (x ++ left)) (said ++ s.line) s.end) whole (h left)
 
 -- a player at its start
-pub starts_played : {n : Network} {m : Template} (p : Player) → CutterStands p.cutter [] [] → Runs p.engine n m [] → p.input ≡ m.input → p.time ≡ 0 → p.taken ≡ 0 → p.out.items ≡ [] → Played n m [] [] p
-starts_played {n = n} {m = m} p stands runs input later count out = record {
+pub starts_played : {n : Network} {m : Template} (p : Player) → CutterStands p.cutter [] [] → Runs p.engine n m [] → p.taken ≡ 0 → p.out.items ≡ [] → Played n m [] [] p
+starts_played {n = n} {m = m} p stands runs count out = record {
   lines = [];
   now = at_start;
   stands = stands;
   reaches = subst (λ (x : List ℕ). Reaches n m at_start [] x at_start) (sym out) no_line;
-  at = record { runs = runs; input = input; time = later; taken = count };
+  at = record { runs = runs; slow = omega arith; taken = count };
 }

@@ -1,8 +1,7 @@
 -- What a player has played.
-use Rattle.std.specs.Prelude.{◌≡◌, ℕ, ◌+◌, ◌*◌, ◌≤◌, List, [], ◌++◌, length, take, Option, Some, None, Result, Ok, Err, ⊤}
+use Rattle.std.specs.Prelude.{◌≡◌, ℕ, ◌+◌, ◌*◌, ◌≤◌, List, [], ◌++◌, length, take, Option, Some, None, Result, Ok, Err}
 use Rattle.sf_value.specs.declared.fault.Fault.TheVariants.{Large, Memory as NoMemory}
 use Rattle.std.specs.Io.KnownBytes.{Appends}
-use Rattle.sf_value.specs.Values.{Kind}
 use Rattle.sf_term.specs.Trees.{Template, Templates}
 use Rattle.sf_mean.specs.Lives.{time}
 use Rattle.sf_mean.specs.Meaning.{Network}
@@ -10,36 +9,23 @@ use Rattle.sf_mean.specs.Networks.{main_of}
 use Rattle.sf_mean.specs.Typing.{Accepted}
 use Rattle.sf_text.specs.Spelling.{IsNetworkText}
 use Rattle.sf_engine.specs.declared.engine.Engine.{Engine}
-use Rattle.sf_engine.specs.declared.engine.Sample.{Sample}
-use Rattle.sf_engine.specs.declared.engine.EngineError.{EngineError}
-use Rattle.sf_engine.specs.declared.engine.EngineError.TheVariants.{Stopped, NotStarted, Started, BadStep, WrongType, Fault as Faulted}
 use Rattle.sf_engine.specs.Running.{Runs}
 use Rattle.sf_engine.specs.Sampling.{IsTooLarge}
 use Rattle.sf_lines.specs.Lines.{lines_of}
 use Rattle.sf_lines.specs.Limits.{limit_refusal}
 use Rattle.sf_lines.specs.Cutting.{pending, line_of, lines_taken}
 use Rattle.sf_lines.specs.Standing.{CutterStands}
-use Rattle.sf_lines.specs.Asking.{Asked}
+use Rattle.sf_lines.specs.Asking.{Asked, HasTimelyValue}
 use Rattle.sf_lines.specs.Written.{fault_line, refusal_line}
 use Rattle.sf_lines.specs.declared.cutter.Cutter.{Cutter}
 use Rattle.sf_lines.specs.declared.refusal.LineRefusal.TheVariants.{Memory as MemoryRefusal}
-use Rattle.sf_player.specs.Scripts.{Moment, at_start, life_after, IsSample, sample_faulted, line_refused, goes_on, ends, Asks, Replies, Reaches}
+use Rattle.sf_player.specs.Scripts.{Moment, at_start, has_begun, life_after, IsSample, sample_faulted, line_refused, goes_on, ends, Asks, Replies, Reaches}
 use Rattle.sf_player.specs.Telling.{Stops}
 use Rattle.sf_player.specs.Counting.{WritesFront}
 use Rattle.sf_player.specs.declared.end.PlayEnd.{PlayEnd}
 use Rattle.sf_player.specs.declared.end.PlayEnd.TheVariants.{Done, Fault as PlayFault, BadLine, WriteFault}
 use Rattle.sf_player.specs.declared.player.Player.{Player}
 use Rattle.sf_player.specs.declared.player.Stop.{Stop}
-
--- a sample or its fault, and no refusal
-abbrev pub IsSampled : Result Sample EngineError → Type 0
-IsSampled (Ok s) = ⊤
-IsSampled (Err (Faulted f)) = ⊤
-IsSampled (Err (Stopped f)) = ⊥
-IsSampled (Err NotStarted) = ⊥
-IsSampled (Err Started) = ⊥
-IsSampled (Err BadStep) = ⊥
-IsSampled (Err WrongType) = ⊥
 
 -- how far a cutter has come in its stream
 abbrev pub weight : Cutter → ℕ
@@ -49,8 +35,7 @@ module _ (n : Network) (m : Template) where
   -- A player is at a moment of a run.
   pub record IsAt (p : Player) (now : Moment) : Type 0 where
     pub runs : Runs p.engine n m now.lived
-    pub input : p.input ≡ m.input
-    pub time : p.time ≡ time now.lived
+    pub slow : time now.lived ≤ 3600000 * now.taken
     pub taken : p.taken ≡ now.taken
 
   -- What a line that ends a run writes, and how the run ends.
@@ -61,7 +46,8 @@ module _ (n : Network) (m : Template) where
         → Halts now line (fault_line (time (life_after a now.lived)) NoMemory) PlayFault
     is_too_large : {a : Asked} → Asks n m now line a → IsSample a → IsTooLarge n m (life_after a now.lived)
         → Halts now line (fault_line (time (life_after a now.lived)) Large) PlayFault
-    lacks_memory_for_itself : Halts now line (refusal_line (now.taken + 1) MemoryRefusal) BadLine
+    lacks_memory_for_its_value : limit_refusal now.taken line ≡ None → HasTimelyValue (has_begun now.lived) line
+        → Halts now line (refusal_line (now.taken + 1) MemoryRefusal) BadLine
 
   -- A line was played: its text was gathered, and the player is at the moment behind it.
   pub record GoesOn (now : Moment) (line : List ℕ) (old new : Player) : Type 0 where
@@ -140,8 +126,6 @@ pub record IsCleared (old new : Player) : Type 0 where
   pub empty : new.out.items ≡ []
   pub cutter : new.cutter ≡ old.cutter
   pub engine : new.engine ≡ old.engine
-  pub input : new.input ≡ old.input
-  pub time : new.time ≡ old.time
   pub taken : new.taken ≡ old.taken
 
 -- What comes of writing what is gathered and the line of a stop, and how the run ends by it.
@@ -157,12 +141,11 @@ pub record IsFresh (p : Player) : Type 0 where
   pub played : Played n m [] [] p
   pub empty : p.out.items ≡ []
 
--- An engine at the start of an accepted network, and the type of its inputs.
-pub record IsPrepared (net : List ℕ) (e : Engine) (k : Kind) : Type 0 where
+-- An engine at the start of the accepted network that a text is.
+pub record IsPrepared (net : List ℕ) (e : Engine) : Type 0 where
   pub templates : Templates
   pub main : Template
   pub text : IsNetworkText net templates
   pub accepted : Accepted templates
   pub runs_main : main_of templates ≡ Some main
   pub runs : Runs e (record { templates = templates }) main []
-  pub input : k ≡ main.input

@@ -96,9 +96,11 @@ module _ (n : Network) (m : Template) where
         → Script now lines (said ++ text) e
 
   -- Two scripts of lines with the same front agree on what it gives: both begin with its text and go on by the scripts
-  -- of the lines behind it, or both end in it and are the same.
+  -- of the lines behind it, or both end within it and are the same.
   pub data Agree (now : Moment) (front others more : List (List ℕ)) : List ℕ → Ending → List ℕ → Ending → Type 0 where
     both_go_on : {said x y : List ℕ} {later : Moment} {d e : Ending}
         → Reaches now front said later → Script later others x d → Script later more y e
         → Agree now front others more (said ++ x) d (said ++ y) e
-    both_end : {x : List ℕ} {e : Ending} → Agree now front others more x e x e
+    both_end : {within : List (List ℕ)} {line said text : List ℕ} {between : Moment} {e : Ending} (behind : List (List ℕ))
+        → Reaches now within said between → Replies between line text (ends e) → front ≡ within ++ line ∷ behind
+        → Agree now front others more (said ++ text) e (said ++ text) e

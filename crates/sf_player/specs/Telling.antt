@@ -1,27 +1,38 @@
 -- What was written when a run ended.
-use Rattle.std.specs.Prelude.{◌≡◌, ℕ, ◌+◌, List, ◌∷◌, ◌++◌, Option, Some, ⊤}
+use Rattle.std.specs.Prelude.{◌≡◌, ◌≢◌, ℕ, ◌+◌, List, ◌∷◌, ◌++◌, Option, Some, None, ⊤}
 use Rattle.std.specs.Io.KnownBytes.{Keeps, Consumes, Appends}
 use Rattle.sf_value.specs.declared.fault.Fault.TheVariants.{Large, Memory as NoMemory}
 use Rattle.sf_term.specs.Trees.{Template, Templates}
+use Rattle.sf_term.specs.Arena.{templates_of}
+use Rattle.sf_term.specs.declared.program.Program.{Program}
 use Rattle.sf_mean.specs.Lives.{time}
 use Rattle.sf_mean.specs.Meaning.{Network}
 use Rattle.sf_mean.specs.Networks.{main_of}
 use Rattle.sf_mean.specs.Typing.{Accepted}
 use Rattle.sf_engine.specs.Sampling.{IsTooLarge}
 use Rattle.sf_text.specs.Spelling.{IsNetworkText}
+use Rattle.sf_text.specs.Placing.{IsPlacedIn}
+use Rattle.sf_text.specs.Stopping.{Refuses as TextRefuses}
+use Rattle.sf_text.specs.declared.refusal.TextRefusal.{TextRefusal}
+use Rattle.sf_text.specs.declared.refusal.TextRefusal.TheVariants as text
+use Rattle.sf_check.specs.Refusing.{Refuses as CheckRefuses}
+use Rattle.sf_check.specs.declared.refusal.CheckRefusal.{CheckRefusal}
+use Rattle.sf_check.specs.declared.refusal.CheckRefusal.TheVariants as check
 use Rattle.sf_lines.specs.Lines.{Splits, lines_of}
-use Rattle.sf_lines.specs.Asking.{Asked}
+use Rattle.sf_lines.specs.Asking.{Asked, HasTimelyValue}
+use Rattle.sf_lines.specs.Limits.{limit_refusal}
 use Rattle.sf_lines.specs.Written.{fault_line, refusal_line}
 use Rattle.sf_lines.specs.declared.refusal.LineRefusal.TheVariants.{Memory as MemoryRefusal}
-use Rattle.sf_player.specs.Scripts.{Moment, at_start, life_after, IsSample, input_ended, sample_faulted, line_refused, Asks, Reaches, Script}
+use Rattle.sf_player.specs.Scripts.{Moment, at_start, has_begun, life_after, IsSample, input_ended, sample_faulted, line_refused, Asks, Reaches, Script}
 use Rattle.sf_player.specs.declared.end.PlayEnd.{PlayEnd}
 use Rattle.sf_player.specs.declared.end.PlayEnd.TheVariants.{Done, Fault, BadLine, Network as NetworkRefused, ReadFault, WriteFault}
 use Rattle.sf_player.specs.declared.refusal.NetRefusal.{NetRefusal}
 use Rattle.sf_player.specs.declared.refusal.NetRefusal.TheVariants.{Text, Check, Memory}
 
 module _ (n : Network) (m : Template) where
-  -- All that is written for lines, and how the run ends: their script; or, where memory ran out or a sample was too
-  -- large, what the lines before give and then the line that says so.
+  -- All that is written for lines, and how the run ends: their script; or, where memory ran out for a sample or for the
+  -- value of a line, or a sample was too large, what the lines before give and then the line that says so; or, where there
+  -- was no memory to begin with, only the line that says so.
   pub data Stops (lines : List (List ℕ)) : List ℕ → PlayEnd → Type 0 where
     with_the_input : {text : List ℕ} → Script n m at_start lines text input_ended → Stops lines text Done
     at_a_fault : {text : List ℕ} → Script n m at_start lines text sample_faulted → Stops lines text Fault
@@ -33,8 +44,9 @@ module _ (n : Network) (m : Template) where
         → Reaches n m at_start front said between → lines ≡ front ++ line ∷ others → Asks n m between line a → IsSample a
         → IsTooLarge n m (life_after a between.lived)
         → Stops lines (said ++ fault_line (time (life_after a between.lived)) Large) Fault
-    without_memory_for_a_line : {front : List (List ℕ)} {said : List ℕ} {between : Moment} (line : List ℕ) (others : List (List ℕ))
+    without_memory_for_a_value : {front : List (List ℕ)} {line said : List ℕ} {between : Moment} (others : List (List ℕ))
         → Reaches n m at_start front said between → lines ≡ front ++ line ∷ others
+        → limit_refusal between.taken line ≡ None → HasTimelyValue (has_begun between.lived) line
         → Stops lines (said ++ refusal_line (between.taken + 1) MemoryRefusal) BadLine
     without_memory_for_lines : Stops lines (refusal_line 1 MemoryRefusal) BadLine
 
@@ -60,10 +72,26 @@ module _ (n : Network) (m : Template) where
     pub written : Appends held holds said
     pub tells : (left : List ℕ) → after ≡ Some left → Tells read left said e
 
--- The text is no network that is accepted, unless memory ran out.
+-- The bytes are no network's text: reading them stops for this reason, at its place.
+pub record IsNoNetwork (net : List ℕ) (r : TextRefusal) : Type 0 where
+  pub known : r ≢ text.Memory
+  pub none : (p : Templates) → IsNetworkText net p → ⊥
+  pub why : TextRefuses net r
+
+-- The bytes are the text of a program that is not accepted, whose forms stand where they do in the bytes: this is the first
+-- rule that it breaks, with its place.
+pub record IsNotAccepted (net : List ℕ) (r : CheckRefusal) : Type 0 where
+  pub known : r ≢ check.Memory
+  pub program : Program
+  pub spelled : IsNetworkText net (templates_of program)
+  pub placed : IsPlacedIn net program
+  pub none : Accepted (templates_of program) → ⊥
+  pub why : CheckRefuses program r
+
+-- Why a network is refused. Want of memory says nothing of it.
 abbrev pub IsRefused : List ℕ → NetRefusal → Type 0
-IsRefused net (Text r) = (p : Templates) → IsNetworkText net p → Accepted p → ⊥
-IsRefused net (Check r) = (p : Templates) → IsNetworkText net p → Accepted p → ⊥
+IsRefused net (Text r) = IsNoNetwork net r
+IsRefused net (Check r) = IsNotAccepted net r
 IsRefused net Memory = ⊤
 
 -- What `play` does with a network text, a reader and a writer: it refuses the network and touches neither,

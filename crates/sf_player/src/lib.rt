@@ -14,7 +14,7 @@ pub use counted::Counted;
 pub use end::PlayEnd;
 pub use laws::{one_script, prefix_law};
 pub use options::Options;
-pub use refusal::NetRefusal;
+pub use refusal::{Breach, NetRefusal};
 pub use session::play;
 
 #[cfg(test)]

@@ -8,16 +8,11 @@ use crate::refusal::NetRefusal;
 use sf_check::check;
 use sf_engine::{Engine, Mode};
 use sf_text::read_network;
-use sf_value::Ty;
 use std::alloc::Global;
 
-/// An engine of the network that a text is, with the type of its inputs.
-pub(crate) fn prepare(
-    alloc: Global,
-    net: &[u8],
-    options: Options,
-) -> Result<(Engine, Ty), NetRefusal>
-    ensures prepared { IfOk result (λ found. IsPrepared net.now found.0 found.1) }
+/// An engine of the network that a text is.
+pub(crate) fn prepare(alloc: Global, net: &[u8], options: Options) -> Result<Engine, NetRefusal>
+    ensures prepared { IfOk result (λ engine. IsPrepared net.now engine) }
     ensures refused { IfErr result (IsRefused net.now) }
 {
     let program = match read_network(alloc, net) {
@@ -33,11 +28,8 @@ pub(crate) fn prepare(
     } else {
         Mode::Optimised
     };
-    let Ok(input) = checked.input().clone_in(alloc) else {
-        return Err(NetRefusal::Memory);
-    };
     match Engine::new(alloc, checked, mode) {
-        Ok(engine) => Ok((engine, input)),
+        Ok(engine) => Ok(engine),
         Err(_) => Err(NetRefusal::Memory),
     }
 }

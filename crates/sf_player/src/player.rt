@@ -7,12 +7,12 @@ ghost use Rattle.sf_player.specs.Statuses.{is_said};
 
 use crate::counted::Counted;
 use crate::end::PlayEnd;
-use sf_engine::{Engine, EngineError, Sample};
+use sf_engine::{Engine, Sample};
 use sf_lines::{
     Command, Cut, Cutter, LineRefusal, ShortLine, read_line, write_fault, write_refusal,
     write_sample,
 };
-use sf_value::{Fault, Ty};
+use sf_value::Fault;
 use std::alloc::{AllocError, Global};
 use std::io::Write;
 
@@ -30,12 +30,9 @@ pub(crate) struct Player {
     alloc: Global,
     cutter: Cutter,
     engine: Engine,
-    input: Ty,
-    time: u64,
     taken: u32,
     out: Vec<u8>,
     ghost few: { taken ≤ 1000000 },
-    ghost slow: { time ≤ 3600000 * taken },
 }
 
 impl Player {
@@ -48,20 +45,18 @@ impl Player {
     ghost use Rattle.sf_lines.specs.Cutting.{line_of};
     ghost use Rattle.sf_player.specs.Scripts.{Moment, life_after, IsSample, Asks};
     ghost use Rattle.sf_player.specs.Counting.{inner_of, failures_of, MayCountWrites};
-    ghost use Rattle.sf_player.specs.Playing.{IsSampled, IsAt, AwaitsLine, Answers, Played, IsPlaying, Advances, Feeds, Finishes, WritesOut};
+    ghost use Rattle.sf_player.specs.Playing.{IsAt, AwaitsLine, Answers, Played, IsPlaying, Advances, Feeds, Finishes, WritesOut};
 
     /// A run at its start.
-    pub(crate) fn new(alloc: Global, engine: Engine, input: Ty) -> Result<Player, AllocError>
+    pub(crate) fn new(alloc: Global, engine: Engine) -> Result<Player, AllocError>
         ensures { IfOk result (λ p. (n : Network) (m : Template) → Runs engine n m []
-            → input ≡ m.input → Played n m [] [] p × (p.out.items ≡ [])) }
+            → Played n m [] [] p × (p.out.items ≡ [])) }
     {
         let cutter = Cutter::new(alloc)?;
         Ok(Player {
             alloc,
             cutter,
             engine,
-            input,
-            time: 0,
             taken: 0,
             out: Vec::new(alloc),
         })
@@ -123,18 +118,18 @@ impl Player {
             → Answers n m now (line_of self.old.cutter) self.old result self.new }
     {
         let started = self.engine.is_started();
-        match read_line(self.alloc, self.cutter.line(), started, &self.input) {
+        match read_line(self.alloc, self.cutter.line(), started, self.engine.input()) {
             Ok(Command::Nothing) => {
                 self.taken += 1;
                 None
             }
             Ok(Command::Start(value)) => {
-                let sampled = self.engine.start(value);
+                let sampled = self.engine.first_sample(value);
                 self.say(0, sampled)
             }
             Ok(Command::Step { dt, input }) => {
-                let time = self.time + dt;
-                let sampled = self.engine.step(dt, input);
+                let time = self.engine.time() + dt;
+                let sampled = self.engine.next_sample(dt, input);
                 self.say(time, sampled)
             }
             Err(refusal) => Some(self.refuse(refusal)),
@@ -142,27 +137,23 @@ impl Player {
     }
 
     /// Gathers the line of a sample at a time.
-    fn say(&mut self, sample_time: u64, sampled: Result<Sample, EngineError>) -> Option<Stop>
-        requires few { self.old.taken < 1000000 }
-        requires slow { sample_time ≤ 3600000 * (self.old.taken + 1) }
-        requires sampled { IsSampled sampled }
+    fn say(&mut self, sample_time: u64, sampled: Result<Sample, Fault>) -> Option<Stop>
+        requires { self.old.taken < 1000000 }
         ensures { (n : Network) (m : Template) (now : Moment) (line : List ℕ) (a : Asked)
             → Asks n m now line a → IsSample a
             → Sampled n m (life_after a now.lived) sampled self.old.engine
-            → sample_time ≡ time (life_after a now.lived) → self.old.taken ≡ now.taken
-            → self.old.input ≡ m.input → Answers n m now line self.old result self.new }
+            → sample_time ≡ time (life_after a now.lived) → sample_time ≤ 3600000 * (now.taken + 1)
+            → self.old.taken ≡ now.taken → Answers n m now line self.old result self.new }
     {
         match sampled {
             Ok(sample) => match write_sample(sample.time, &sample.value, &mut self.out) {
                 Ok(()) => {
-                    self.time = sample_time;
                     self.taken += 1;
                     None
                 }
                 Err(_) => Some(fault_stop(sample_time, Fault::Memory)),
             },
-            Err(EngineError::Fault(fault)) => Some(fault_stop(sample_time, fault)),
-            Err(_) => unreachable!(),
+            Err(fault) => Some(fault_stop(sample_time, fault)),
         }
     }
 

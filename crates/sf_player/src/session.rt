@@ -18,9 +18,10 @@ use std::io::{Read, Write};
 
 /// Plays the lines of an input through the network that a text is, and writes what its meaning gives for them.
 ///
-/// The network is read and accepted first; where it is refused, nothing is read or written. Each sample gives
-/// `> T VALUE`; the first fault or refused line, `! T FAULT` or `! line N REFUSAL`, ends the run. All output of a line
-/// is written and flushed before more is read.
+/// The network is read and accepted first; where it is refused, nothing is read or written, and the end names the first
+/// rule that it breaks and the place where it breaks it. Each sample gives `> T VALUE`; the first fault or refused line,
+/// `! T FAULT` or `! line N REFUSAL`, ends the run. `Memory` is such a refusal only of a line whose value is read, or of
+/// line 1 before any is read. All output of a line is written and flushed before more is read.
 pub fn play<R: Read, W: Write>(
     alloc: Global,
     net: &[u8],
@@ -40,7 +41,7 @@ pub fn play<R: Read, W: Write>(
 {
     match prepare(alloc, net, options) {
         Err(refusal) => PlayEnd::Network(refusal),
-        Ok((engine, input)) => match Player::new(alloc, engine, input) {
+        Ok(engine) => match Player::new(alloc, engine) {
             Ok(player) => run(player, reader, writer),
             Err(_) => refuse_lines(writer),
         },

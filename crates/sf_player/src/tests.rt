@@ -1,8 +1,5 @@
 use super::{Counted, NetRefusal, Options, PlayEnd, one_script, play, prefix_law};
 use sf_check::CheckRefusal;
-use sf_expr::Spot;
-use sf_lex::Place;
-use sf_text::TextRefusal;
 use std::alloc::Global;
 use std::io::{self, Error, ErrorKind, Read, Write};
 use std::test::Fail;
@@ -160,28 +157,39 @@ fn refused_lines(rt: HostRuntime) -> Result<(), Fail> {
     Ok(())
 }
 
-#[test]
-fn refused_networks(rt: HostRuntime) -> Result<(), Fail> {
-    let run = played(
-        &rt,
-        b"network 1;\ntemplate main() : Int ~> Int = ;\n",
-        b"0 1\n",
-        7,
-    );
-    assert_eq!(rt; run.end.status(), 5);
-    assert_eq!(rt; run.text.len(), 0);
-    let PlayEnd::Network(refusal) = run.end else {
+/// How the refusal of a network is displayed. Nothing is written.
+fn refusal_of(rt: &HostRuntime, net: &[u8]) -> Result<String, Fail> {
+    let run = played(rt, net, b"0 1\n", 7);
+    if run.end.status() != 5 || !run.text.is_empty() {
         return Err(Fail::new("not refused"));
-    };
-    assert_eq!(rt;
-        format!(in rt.alloc(); "{refusal}")?.as_str(),
-        "P1 Unexpected 2:32"
-    );
-    let run = played(&rt, b"network 1;\n", b"0 1\n", 7);
-    assert_eq!(rt;
-        run.end,
-        PlayEnd::Network(NetRefusal::Check(CheckRefusal::NoMain))
-    );
+    }
+    match run.end {
+        PlayEnd::Network(refusal) => Ok(format!(in rt.alloc(); "{refusal}")?),
+        _ => Err(Fail::new("not refused")),
+    }
+}
+
+#[test]
+fn refused_texts(rt: HostRuntime) -> Result<(), Fail> {
+    for (net, refusal) in [
+        ("network 1; $", "L1 BadByte 1:12"),
+        ("network 1; \"a", "L3 OpenText 1:12"),
+        ("network 1;\ntemplate main()", "P1 Unexpected 2:16"),
+        ("network 2;", "P3 Version 1:9"),
+        ("network 1;\n", "C7 NoMain 1:1"),
+        (
+            "network 1;\ntemplate a() : Int ~> Int = identity;\ntemplate a() : Int ~> Int = identity;",
+            "C2 DuplicateName 3:10",
+        ),
+    ] {
+        assert_eq!(rt;
+            refusal_of(&rt, net.as_bytes())?.as_str(),
+            refusal,
+            "of {net:?}"
+        );
+    }
+    let long = vec![in rt.alloc(); b' '; 1_048_577]?;
+    assert_eq!(rt; refusal_of(&rt, &long)?.as_str(), "L4 TooLong 1:1");
     Ok(())
 }
 
@@ -231,19 +239,57 @@ fn played_terms(rt: HostRuntime) -> Result<(), Fail> {
     Ok(())
 }
 
-/// How a refused network of one term is displayed.
-fn refusal_of(rt: &HostRuntime, types: &str, term: &str) -> Result<String, Fail> {
+/// How the refusal of a network of one term is displayed.
+fn term_refusal_of(rt: &HostRuntime, types: &str, term: &str) -> Result<String, Fail> {
     let net = network_of(rt.alloc(), types, term)?;
-    match played(rt, net.as_bytes(), b"0 1\n", 7).end {
-        PlayEnd::Network(refusal) => Ok(format!(in rt.alloc(); "{refusal}")?),
-        _ => Err(Fail::new("not refused")),
-    }
+    refusal_of(rt, net.as_bytes())
 }
 
 #[test]
-fn unknown_names(rt: HostRuntime) -> Result<(), Fail> {
-    let refusal = refusal_of(&rt, "Int ~> Int", "arr x => y")?;
-    assert_eq!(rt; refusal.as_str(), "C1 UnknownName 2:41");
+fn refused_terms(rt: HostRuntime) -> Result<(), Fail> {
+    for (types, term, refusal) in [
+        (
+            "Int ~> Int",
+            "iPre 9223372036854775808",
+            "L2 NumberTooLarge 2:37",
+        ),
+        ("Int ~> Int", "", "P1 Unexpected 2:32"),
+        ("Int ~> Int", "arr x => y", "C1 UnknownName 2:41"),
+        ("Int ~> (Int, Int)", "identity", "C4 Mismatch 2:39"),
+    ] {
+        assert_eq!(rt; term_refusal_of(&rt, types, term)?.as_str(), refusal);
+    }
+    let mut deep = String::new(rt.alloc());
+    firsts(&mut deep, 64)?;
+    assert_eq!(rt;
+        term_refusal_of(&rt, "Int ~> Int", deep.as_str())?.as_str(),
+        "P2 TooDeep 2:416"
+    );
+    Ok(())
+}
+
+/// Puts `first` so many times and then `identity`.
+fn firsts(text: &mut String, times: u32) -> Result<(), Fail> {
+    for _ in 0..times {
+        text.push_str("first ")?;
+    }
+    text.push_str("identity")?;
+    Ok(())
+}
+
+#[test]
+fn many_terms(rt: HostRuntime) -> Result<(), Fail> {
+    let mut net = String::from_str(rt.alloc(), "network 1;\n")?;
+    // 1,562 templates of 64 terms, and then 33 of one.
+    for template in 0..1_595 {
+        net.push_str("template a() : Int ~> Int = ")?;
+        firsts(&mut net, if template < 1_562 { 63 } else { 0 })?;
+        net.push_str(";\n")?;
+    }
+    assert_eq!(rt;
+        refusal_of(&rt, net.as_bytes())?.as_str(),
+        "B1 TooMany 1596:29"
+    );
     Ok(())
 }
 
@@ -257,49 +303,50 @@ fn large_types(rt: HostRuntime) -> Result<(), Fail> {
         term = format!(in alloc; "({term} >>> (identity &&& identity))")?;
     }
     let types = format!(in alloc; "{ty} ~> Int")?;
-    let refusal = refusal_of(&rt, types.as_str(), "constant 0")?;
+    let refusal = term_refusal_of(&rt, types.as_str(), "constant 0")?;
     assert_eq!(rt; refusal.as_str(), "P4 TypeTooLarge 2:19");
-    let refusal = refusal_of(&rt, "Int ~> Int", term.as_str())?;
+    let refusal = term_refusal_of(&rt, "Int ~> Int", term.as_str())?;
     assert_eq!(rt; refusal.as_str(), "C9 TypeTooLarge 2:256");
     Ok(())
 }
 
 #[test]
-fn displayed(rt: HostRuntime) -> Result<(), Fail> {
-    let spot = Spot {
-        line: 3,
-        column: 10,
+fn breaches(rt: HostRuntime) -> Result<(), Fail> {
+    let Some(breach) = NetRefusal::Check(CheckRefusal::NoMain).breach() else {
+        return Err(Fail::new("no breach"));
     };
-    let place = Place {
-        line: 3,
-        column: 10,
-    };
-    let cases = [
+    assert_eq!(rt; (breach.number, breach.name), ("C7", "NoMain"));
+    assert_eq!(rt; (breach.place.line, breach.place.column), (1, 1));
+    assert!(rt; NetRefusal::Memory.breach().is_none());
+    let memory = format!(in rt.alloc(); "{}", NetRefusal::Memory)?;
+    assert_eq!(rt; memory.as_str(), "Memory");
+    Ok(())
+}
+
+/// Behind the line that ends a run the reader, which would fail, isn't asked again.
+#[test]
+fn nothing_is_read_behind_the_end(rt: HostRuntime) -> Result<(), Fail> {
+    let divide = network_of(rt.alloc(), "Int ~> Int", "arr x => (1 div x)")?;
+    let runs = [
         (
-            NetRefusal::Text(TextRefusal::TypeTooLarge(place)),
-            "P4 TypeTooLarge 3:10",
+            DELAY,
+            b"0 1\n8 x\n8 3\n".as_slice(),
+            PlayEnd::BadLine,
+            b"> 0 7\n! line 2 BadValue\n".as_slice(),
         ),
         (
-            NetRefusal::Check(CheckRefusal::UnknownName(spot)),
-            "C1 UnknownName 3:10",
+            divide.as_bytes(),
+            b"0 1\n8 0\n8 3\n",
+            PlayEnd::Fault,
+            b"> 0 1\n! 8 DivideByZero\n",
         ),
-        (
-            NetRefusal::Check(CheckRefusal::DuplicateName(spot)),
-            "C2 DuplicateName 3:10",
-        ),
-        (
-            NetRefusal::Check(CheckRefusal::Mismatch(spot)),
-            "C4 Mismatch 3:10",
-        ),
-        (NetRefusal::Check(CheckRefusal::NoMain), "C7 NoMain 1:1"),
-        (
-            NetRefusal::Check(CheckRefusal::TypeTooLarge(spot)),
-            "C9 TypeTooLarge 3:10",
-        ),
-        (NetRefusal::Memory, "Memory"),
     ];
-    for (refusal, text) in cases {
-        assert_eq!(rt; format!(in rt.alloc(); "{refusal}")?.as_str(), text);
+    for (net, input, end, text) in runs {
+        // Two reads bring the line that ends the run.
+        let run = run_with(&rt, net, in_pieces(input, 4, 3), Failure::Errs, 0);
+        assert_eq!(rt; run.end, end);
+        assert_eq!(rt; run.text.as_slice(), text);
+        assert_eq!(rt; (run.reads, run.writes), (0, 0));
     }
     Ok(())
 }

@@ -1,1 +1,2 @@
+pub mod Gifts
 pub mod Keeping

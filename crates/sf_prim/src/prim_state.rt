@@ -1,8 +1,16 @@
 //! The states of primitives.
-use sf_expr::{EvalFault, FunctionId, Scope, apply, eval};
-use sf_term::{Bare, Primitive, Program, WithValue};
+ghost use Rattle.std.specs.Prelude.{◌≡◌, OnOk, IfErr};
+ghost use Rattle.sf_expr.specs.Arena.{function_at};
+ghost use Rattle.sf_expr.specs.Answers.{Evaluates};
+ghost use Rattle.sf_expr.specs.Evaluation.{no_names, apply as applied};
+ghost use Rattle.sf_expr.specs.Soundness.{TakesValue};
+ghost use Rattle.sf_expr.specs.declared.fault.EvalFault.TheVariants.{Memory};
+ghost use Rattle.sf_prim.specs.Gifts.{gift};
+
+use sf_expr::{EvalFault, Exprs, FunctionId, Scope, apply, eval};
+use sf_term::{Bare, Primitive, WithValue};
 use sf_value::Value;
-use std::alloc::Global;
+use std::alloc::{AllocError, Global};
 use std::mem;
 
 /// A primitive that has lived through some samples.
@@ -19,10 +27,10 @@ pub enum PrimState {
 }
 
 impl PrimState {
-    ghost use Rattle.std.specs.Prelude.{◌≡◌, [], ◌∷◌};
+    ghost use Rattle.std.specs.Prelude.{◌≡◌, [], ◌∷◌, IfOk};
     ghost use Rattle.sf_expr.specs.Expressions.{Expression};
     ghost use Rattle.sf_expr.specs.Evaluation.{Scope as Names, no_names, answer, eval as worth};
-    ghost use Rattle.sf_term.specs.declared.program.Program.{Program as ProgramOf};
+    ghost use Rattle.sf_expr.specs.declared.exprs.Exprs.{Exprs as ExprsOf};
     ghost use Rattle.sf_term.specs.Trees.{Primitive as Form, bare as bare_form, with_value as form_with_value};
     ghost use Rattle.sf_mean.specs.Lives.{step, Life};
     ghost use Rattle.sf_prim.specs.Keeping.{primitive_over, Keeps, IsTyped, IsFed, Begins, GoesOn};
@@ -31,17 +39,17 @@ impl PrimState {
     /// first fault, or `Memory`. The primitive has types.
     pub fn born(
         alloc: Global,
-        program: &Program,
+        expressions: &Exprs,
         primitive: Primitive,
     ) -> Result<PrimState, EvalFault>
-        requires { ∥ IsTyped (primitive_over program.now primitive) ∥₁ }
-        ensures { Begins program.now (primitive_over program.now primitive) result }
+        requires { ∥ IsTyped (primitive_over expressions.now primitive) ∥₁ }
+        ensures { Begins expressions.now (primitive_over expressions.now primitive) result }
     {
         match primitive {
             Primitive::Bare(form) => Ok(PrimState::bare(form)),
             Primitive::WithValue(form, expression) => {
                 let names = Scope::new(alloc);
-                let value = eval(alloc, program.expressions(), expression, &names)?;
+                let value = eval(alloc, expressions, expression, &names)?;
                 Ok(PrimState::with_value(form, value))
             }
             Primitive::Arrow(function) => Ok(PrimState::Arrow(function)),
@@ -50,7 +58,7 @@ impl PrimState {
 
     // A primitive without constants, before its first sample.
     fn bare(form: Bare) -> PrimState
-        ensures { (p : ProgramOf) → Keeps p result (bare_form form) no_names [] }
+        ensures { (xs : ExprsOf) → Keeps xs result (bare_form form) no_names [] }
     {
         match form {
             Bare::Identity => PrimState::Identity,
@@ -59,8 +67,8 @@ impl PrimState {
 
     // A primitive with its value, before its first sample.
     fn with_value(form: WithValue, value: Value) -> PrimState
-        ensures { (p : ProgramOf) (e : Expression) → worth e no_names ≡ answer value →
-            Keeps p result (form_with_value form e) no_names [] }
+        ensures { (xs : ExprsOf) (e : Expression) → worth e no_names ≡ answer value →
+            Keeps xs result (form_with_value form e) no_names [] }
     {
         match form {
             WithValue::Constant => PrimState::Constant(value),
@@ -68,25 +76,68 @@ impl PrimState {
         }
     }
 
-    /// The value at the next sample, `dt` milliseconds after the one before. The input has the type that the
-    /// primitive takes. The error is the fault of the primitive's formula, or `Memory`; after it the state stands
-    /// for nothing.
+    /// Puts the value at the next sample, `dt` milliseconds after the one before, in place of the input. The input has
+    /// the type that the primitive takes. The error is the fault of the primitive's formula, or `Memory`; after it the
+    /// state stands for nothing, and the value may be any.
+    #[inline(always)]
     pub fn step(
         &mut self,
-        program: &Program,
         alloc: Global,
+        expressions: &Exprs,
         dt: u64,
-        input: Value,
-    ) -> Result<Value, EvalFault>
-        requires { ∥ IsFed program.now self.old input ∥₁ }
-        ensures { (q : Form) (scope : Names) (L : Life) → Keeps program.now self.old q scope L →
-            GoesOn program.now q scope (step dt input) L self.new result }
+        value: &mut Value,
+    ) -> Result<(), EvalFault>
+        requires { ∥ IsFed expressions.now self.old value.old ∥₁ }
+        ensures { (q : Form) (scope : Names) (L : Life) → Keeps expressions.now self.old q scope L →
+            GoesOn expressions.now q scope (step dt value.old) L self.new (gift result value.new) }
     {
         match self {
-            PrimState::Identity => Ok(input),
-            PrimState::Constant(value) => Ok(value.clone_in(alloc)?),
-            PrimState::Previous(value) => Ok(mem::replace(value, input)),
-            PrimState::Arrow(function) => apply(alloc, program.expressions(), *function, &input),
+            PrimState::Identity => Ok(()),
+            PrimState::Constant(constant) => copy(alloc, constant, value),
+            PrimState::Previous(next) => {
+                mem::swap(next, value);
+                Ok(())
+            }
+            PrimState::Arrow(function) => replace(alloc, expressions, *function, value),
         }
     }
+
+    /// A copy, which keeps the same of a life.
+    pub fn clone_in(&self, alloc: Global) -> Result<PrimState, AllocError>
+        ensures { IfOk result (λ copy. (xs : ExprsOf) (q : Form) (scope : Names) (L : Life) →
+            Keeps xs self.now q scope L → Keeps xs copy q scope L) }
+    {
+        match self {
+            PrimState::Identity => Ok(PrimState::Identity),
+            PrimState::Constant(value) => Ok(PrimState::Constant(value.clone_in(alloc)?)),
+            PrimState::Previous(value) => Ok(PrimState::Previous(value.clone_in(alloc)?)),
+            PrimState::Arrow(function) => Ok(PrimState::Arrow(*function)),
+        }
+    }
+}
+
+// A copy of a constant, in place of the input.
+#[inline(never)]
+fn copy(alloc: Global, constant: &Value, value: &mut Value) -> Result<(), EvalFault>
+    ensures ok { OnOk result (value.new ≡ constant.now) }
+    ensures err { IfErr result (λ e. e ≡ Memory) }
+{
+    *value = constant.clone_in(alloc)?;
+    Ok(())
+}
+
+// What a function makes of the input, in its place.
+#[inline(never)]
+fn replace(
+    alloc: Global,
+    expressions: &Exprs,
+    function: FunctionId,
+    value: &mut Value,
+) -> Result<(), EvalFault>
+    requires { ∥ TakesValue no_names (function_at expressions.now function) value.old ∥₁ }
+    ensures { Evaluates (gift result value.new)
+        (applied (function_at expressions.now function) value.old no_names) }
+{
+    *value = apply(alloc, expressions, function, value)?;
+    Ok(())
 }

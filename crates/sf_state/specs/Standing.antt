@@ -1,24 +1,26 @@
 -- What states stand for.
-use Rattle.std.specs.Prelude.{◌≡◌, List, [], ◌∷◌}
+use Rattle.std.specs.Prelude.{◌≡◌, ◌≢◌, List, [], ◌∷◌}
 use Rattle.sf_value.specs.Values.{Data}
 use Rattle.sf_expr.specs.Expressions.{Expression}
 use Rattle.sf_expr.specs.Evaluation.{answer}
 use Rattle.sf_term.specs.declared.form.Join.{Join}
+use Rattle.sf_term.specs.declared.form.Join.TheVariants.{InSequence}
 use Rattle.sf_term.specs.declared.form.Side.TheVariants.{First as OnFirst, Second as OnSecond}
 use Rattle.sf_term.specs.declared.form.Heading.TheVariants.{LoopPre}
-use Rattle.sf_term.specs.declared.node.TermId.{TermId}
-use Rattle.sf_term.specs.declared.program.Program.{Program}
-use Rattle.sf_term.specs.Trees.{Primitive, Term, primitive, joined, sided, headed}
-use Rattle.sf_term.specs.Arena.{tree}
-use Rattle.sf_mean.specs.Lives.{Step, Life, Process, closure, Environment, empty, scope_of, first_input, with_inputs, fed_back, older, fed}
-use Rattle.sf_mean.specs.Meaning.{Network, Made, value_made, make, left_life, right_life, side_of, Outputs, Loops}
-use Rattle.sf_mean.specs.Networks.{network_of}
+use Rattle.sf_term.specs.Trees.{Primitive, whole, rest, Term, primitive, joined, sided, headed, staged}
+use Rattle.sf_mean.specs.Lives.{Step, Life, Process, closure, Environment, empty, scope_of, first_input, with_inputs, relay, fed_back, older, fed}
+use Rattle.sf_mean.specs.Formulas.{side_of}
+use Rattle.sf_mean.specs.Meaning.{Network, Made, value_made, make, left_life, right_life, Outputs, Loops}
+use Rattle.sf_law.specs.declared.node.PlanId.{PlanId}
+use Rattle.sf_law.specs.declared.plan.Plan.{Plan}
+use Rattle.sf_law.specs.Arena.{expressions_of, tree, network_of_plan}
 use Rattle.sf_prim.specs.declared.prim_state.PrimState.{PrimState}
 use Rattle.sf_prim.specs.Keeping.{Keeps}
 use Rattle.sf_state.specs.declared.state.State.{State}
-use Rattle.sf_state.specs.declared.state.State.TheVariants.{Unborn, Live as Alive}
+use Rattle.sf_state.specs.declared.state.State.TheVariants.{Unborn, Live' as Alive'}
 use Rattle.sf_state.specs.declared.state.Live.{Live}
-use Rattle.sf_state.specs.declared.state.Live.TheVariants.{Prim as LPrim, Join' as LJoin', Wrap' as LWrap'}
+use Rattle.sf_state.specs.declared.state.Live.TheVariants.{Prim as LPrim, Join as LJoin, Pipeline' as LPipeline', Wrap as LWrap}
+use Rattle.sf_state.specs.declared.state.Live.{items-the_row-State}
 use Rattle.sf_state.specs.declared.state.Wrap.{Wrap}
 use Rattle.sf_state.specs.declared.state.Wrap.TheVariants.{First, Second, Loop}
 use Rattle.sf_state.specs.declared.state.Process.{Process as SProcess}
@@ -37,43 +39,67 @@ pub data Wraps (n : Network) : Wrap → Term → Environment → Made → Life �
       → Loops n v (closure t e) L zs
       → Wraps n (Loop (fed_back v zs)) (headed LoopPre i t) e (value_made v) L t (fed v L (older zs))
 
+-- A term is a pipeline of these stages: a first one, and the rest.
+pub data IsPipeline : Term → Term → Type 0 where
+  is_stages : {f g : Term} → IsPipeline (staged whole f g) (staged rest f g)
+  is_sequence : {f g : Term} → IsPipeline (joined InSequence f g) (staged rest f g)
+
 mutual
   -- A part of a network stands for a process and the life that it has led. No state stores the life.
-  pub data Stands (p : Program) : State → Process → Life → Type 0 where
+  pub data Stands (p : Plan) : State → Process → Life → Type 0 where
     unborn : {q : SProcess} {P : Process} → IsProcess p q P → Stands p (Unborn q) P []
-    alive : {l : Live} {P : Process} {L : Life} → Settles p l P L → Stands p (Alive l) P L
+    -- with the names that are around its term
+    alive : {at : _} {names : Env} {l : Live} {t : Term} {e : Environment} {L : Life}
+        → IsNames p names e → Settles p l (closure t e) L → Stands p (Alive' names at l) (closure t e) L
 
   -- a live part stands for a process and a life that has begun
-  pub data Settles (p : Program) : Live → Process → Life → Type 0 where
+  pub data Settles (p : Plan) : Live → Process → Life → Type 0 where
     settles : {l : Live} {P : Process} {s : Step} {L : Life} → Ready p l P (first_input s L) (s ∷ L) → Settles p l P (s ∷ L)
 
   -- A live part, with what its form was made with; x is the input of its first step, past or to come.
-  pub data Ready (p : Program) : Live → Process → Data → Life → Type 0 where
+  pub data Ready (p : Plan) : Live → Process → Data → Life → Type 0 where
     ready : {l : Live} {t : Term} {e : Environment} {m : Made} {x : Data} {L : Life} {ys : List Data}
-        → make (network_of p) t e x ≡ answer m → Outputs (network_of p) (closure t e) L ys → Lives p l t e m L
+        → make (network_of_plan p) t e x ≡ answer m → Outputs (network_of_plan p) (closure t e) L ys → Lives p l t e m L
         → Ready p l (closure t e) x L
 
   -- The same by the forms.
-  pub data Lives (p : Program) : Live → Term → Environment → Made → Life → Type 0 where
+  pub data Lives (p : Plan) : Live → Term → Environment → Made → Life → Type 0 where
     lives_primitive : {i : PrimState} {q : Primitive} {e : Environment} {m : Made} {L : Life}
-        → Keeps p i q (scope_of e) L
+        → Keeps (expressions_of p) i q (scope_of e) L
         → Lives p (LPrim i) (primitive q) e m L
-    -- each part on its own life
-    lives_join : {at at' : _} {j : Join} {a b : State} {f g : Term} {e : Environment} {m : Made} {L : Life} {ys : List Data}
-        → Outputs (network_of p) (closure f e) (left_life j L) ys
+    -- each part on its own life, both fed at once
+    lives_join : {j : Join} {a b : State} {f g : Term} {e : Environment} {m : Made} {L : Life} {ys : List Data}
+        → j ≢ InSequence → Outputs (network_of_plan p) (closure f e) (left_life j L) ys
         → Stands p a (closure f e) (left_life j L)
         → Stands p b (closure g e) (right_life j L ys)
-        → Lives p (LJoin' j at a at' b) (joined j f g) e m L
+        → Lives p (LJoin j a b) (joined j f g) e m L
+    lives_pipeline : {shape row : _} {t u : Term} {e : Environment} {m : Made} {L : Life}
+        → IsPipeline t u → StagesStand p (items-the_row-State _ row) u e L
+        → Lives p (LPipeline' shape row) t e m L
     -- one part on its own life
-    lives_wrap : {at : _} {w : Wrap} {a : State} {t u : Term} {e : Environment} {m : Made} {L K : Life}
-        → Wraps (network_of p) w t e m L u K
+    lives_wrap : {w : Wrap} {a : State} {t u : Term} {e : Environment} {m : Made} {L K : Life}
+        → Wraps (network_of_plan p) w t e m L u K
         → Stands p a (closure u e) K
-        → Lives p (LWrap' w at a) t e m L
+        → Lives p (LWrap w a) t e m L
+
+  -- Stages, each on the values of the one before it: two or more, or the last one alone.
+  pub data StagesStand (p : Plan) : List State → Term → Environment → Life → Type 0 where
+    last_stands : {a : State} {t : Term} {e : Environment} {L : Life}
+        → Stands p a (closure t e) L → StagesStand p (a ∷ []) t e L
+    stage_stands : {a : State} {bs : List State} {f g : Term} {e : Environment} {L : Life} {ys : List Data}
+        → Outputs (network_of_plan p) (closure f e) L ys → Stands p a (closure f e) L → StagesStand p bs g e (relay L ys)
+        → StagesStand p (a ∷ bs) (staged rest f g) e L
 
   -- what can be run
-  pub data IsProcess (p : Program) : SProcess → Process → Type 0 where
-    is_closure : {t : TermId} {names : Env} {e : Environment} → IsNames p names e → IsProcess p (SClosure t names) (closure (tree p t) e)
+  pub data IsProcess (p : Plan) : SProcess → Process → Type 0 where
+    is_closure : {t : PlanId} {names : Env} {e : Environment} → IsNames p names e → IsProcess p (SClosure t names) (closure (tree p t) e)
 
   -- what names stand for
-  pub data IsNames (p : Program) : Env → Environment → Type 0 where
+  pub data IsNames (p : Plan) : Env → Environment → Type 0 where
     is_empty : IsNames p SEmpty empty
+
+-- Each state stands for all that the one at its place stands for.
+pub data AllFollow (p : Plan) : List State → List State → Type 0 where
+  none_follow : AllFollow p [] []
+  more_follow : {a b : State} {cs bs : List State}
+      → ((P : Process) (L : Life) → Stands p a P L → Stands p b P L) → AllFollow p cs bs → AllFollow p (a ∷ cs) (b ∷ bs)

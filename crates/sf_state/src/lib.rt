@@ -5,4 +5,4 @@ mod state;
 #[cfg(test)]
 mod tests;
 
-pub use state::{Env, Live, Process, State, Wrap};
+pub use state::{Env, Live, Process, State, Wrap, unshare};

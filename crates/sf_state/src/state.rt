@@ -1,23 +1,25 @@
 //! The states of networks.
 ghost use Rattle.std.specs.Prelude.{[], IfOk};
-ghost use Rattle.sf_term.specs.declared.program.Program.{Program};
-ghost use Rattle.sf_term.specs.Arena.{tree};
-ghost use Rattle.sf_mean.specs.Lives.{closure, empty, Environment};
-ghost use Rattle.sf_state.specs.Standing.{Stands, IsNames};
+ghost use Rattle.sf_law.specs.declared.plan.Plan.{Plan};
+ghost use Rattle.sf_law.specs.Arena.{tree};
+ghost use Rattle.sf_mean.specs.Lives.{closure, empty, Environment, Life, Process as ProcessOf};
+ghost use Rattle.sf_state.specs.Standing.{Stands, Settles, IsProcess, IsNames, AllFollow};
 
+use sf_law::PlanId;
 use sf_prim::PrimState;
-use sf_term::{Join, TermId};
+use sf_term::Join;
 use sf_value::Value;
 use std::alloc::{AllocError, Global};
+use std::rc::Rc;
 
-/// A part of a network, before its first sample or after it.
+/// A part of a network, before its first sample or after it. It is whole in itself.
 #[derive(Drop)]
 #[cycle(state)]
 pub enum State {
     /// It hasn't been stepped.
     Unborn(Process),
-    /// It has lived through some samples.
-    Live(Live),
+    /// It has lived through some samples, with these names around it. Its node may be shared.
+    Live(Env, Rc<Live>),
 }
 
 /// A part that has lived, by its form.
@@ -26,10 +28,12 @@ pub enum State {
 pub enum Live {
     /// A primitive.
     Prim(PrimState),
-    /// Two parts joined, the left one first.
-    Join(Join, Box<State>, Box<State>),
+    /// Two parts side by side, the left one first.
+    Join(Join, State, State),
+    /// Stages, each on the values of the one before it.
+    Pipeline(Vec<State>),
     /// A form with one part.
-    Wrap(Wrap, Box<State>),
+    Wrap(Wrap, State),
 }
 
 /// A form with one part, with what it keeps.
@@ -47,7 +51,7 @@ pub enum Wrap {
 #[derive(Drop)]
 pub enum Process {
     /// A term with the names around it.
-    Closure(TermId, Env),
+    Closure(PlanId, Env),
 }
 
 /// What names stand for.
@@ -59,17 +63,129 @@ pub enum Env {
 
 impl State {
     /// A term without names, before its first sample.
-    pub fn unborn(term: TermId) -> State
-        ensures { (p : Program) → Stands p result (closure (tree p term) empty) [] }
+    pub fn unborn(term: PlanId) -> State
+        ensures { (p : Plan) → Stands p result (closure (tree p term) empty) [] }
     {
         State::Unborn(Process::Closure(term, Env::Empty))
+    }
+
+    /// The same state, over the same node: it needs no memory, and no step of one of the two changes the other. The
+    /// error is too many owners of one node.
+    pub fn freeze(&self) -> Result<State, AllocError>
+        ensures { IfOk result (λ frozen. (p : Plan) (P : ProcessOf) (L : Life) → Stands p self.now P L → Stands p frozen P L) }
+    {
+        match self {
+            State::Unborn(process) => {
+                let shared = process.share()?;
+                Ok(State::Unborn(shared))
+            }
+            State::Live(names, node) => {
+                let around = names.share()?;
+                let shared = node.clone()?;
+                Ok(State::Live(around, shared))
+            }
+        }
+    }
+}
+
+impl Live {
+    /// A copy of the node over the same parts, which are shared.
+    pub fn clone_in(&self, alloc: Global) -> Result<Live, AllocError>
+        ensures { IfOk result (λ copy. (p : Plan) (P : ProcessOf) (L : Life) → Settles p self.now P L → Settles p copy P L) }
+    {
+        match self {
+            Live::Prim(prim) => {
+                let kept = prim.clone_in(alloc)?;
+                Ok(Live::Prim(kept))
+            }
+            Live::Join(join, left, right) => {
+                let first = left.freeze()?;
+                let second = right.freeze()?;
+                Ok(Live::Join(*join, first, second))
+            }
+            Live::Pipeline(stages) => {
+                let shared = freeze_all(alloc, stages)?;
+                Ok(Live::Pipeline(shared))
+            }
+            Live::Wrap(wrap, part) => {
+                let kept = wrap.clone_in(alloc)?;
+                let inner = part.freeze()?;
+                Ok(Live::Wrap(kept, inner))
+            }
+        }
+    }
+}
+
+// The same states, each over its node.
+fn freeze_all(alloc: Global, states: &[State]) -> Result<Vec<State>, AllocError>
+    ensures { IfOk result (λ frozen. (p : Plan) → AllFollow p states.now frozen.items) }
+{
+    let mut frozen = Vec::with_capacity(alloc, states.len())?;
+    for state in states {
+        frozen.push(state.freeze()?)?;
+    }
+    Ok(frozen)
+}
+
+/// Makes a node its owner's alone: where it is shared, a copy takes its place, and the other owners keep the node. After
+/// an error, which is a want of memory, it is shared as before.
+#[inline(always)]
+pub fn unshare(alloc: Global, node: &mut Rc<Live>) -> Result<(), AllocError>
+    ensures { (p : Plan) (P : ProcessOf) (L : Life) → Settles p node.old.value P L → Settles p node.new.value P L }
+{
+    if Rc::strong_count(node) == 1 {
+        return Ok(());
+    }
+    put_copy(alloc, node)
+}
+
+// Puts a copy in the place of a node.
+#[cold]
+#[inline(never)]
+fn put_copy(alloc: Global, node: &mut Rc<Live>) -> Result<(), AllocError>
+    ensures { (p : Plan) (P : ProcessOf) (L : Life) → Settles p node.old.value P L → Settles p node.new.value P L }
+{
+    let copy = node.clone_in(alloc)?;
+    *node = Rc::new(alloc, copy)?;
+    Ok(())
+}
+
+impl Wrap {
+    ghost use Rattle.sf_term.specs.Trees.{Term};
+    ghost use Rattle.sf_mean.specs.Meaning.{Network, Made};
+    ghost use Rattle.sf_state.specs.Standing.{Wraps};
+
+    // A copy, which keeps the same.
+    fn clone_in(&self, alloc: Global) -> Result<Wrap, AllocError>
+        ensures { IfOk result (λ copy. (n : Network) (t : Term) (e : Environment) (m : Made) (L : Life) (u : Term) (K : Life) →
+            Wraps n self.now t e m L u K → Wraps n copy t e m L u K) }
+    {
+        match self {
+            Wrap::First => Ok(Wrap::First),
+            Wrap::Second => Ok(Wrap::Second),
+            Wrap::Loop(value) => Ok(Wrap::Loop(value.clone_in(alloc)?)),
+        }
+    }
+}
+
+impl Process {
+    // The same process, which shares its names.
+    fn share(&self) -> Result<Process, AllocError>
+        ensures { IfOk result (λ same. (p : Plan) (P : ProcessOf) → IsProcess p self.now P → IsProcess p same P) }
+    {
+        match self {
+            Process::Closure(term, names) => {
+                let around = names.share()?;
+                Ok(Process::Closure(*term, around))
+            }
+        }
     }
 }
 
 impl Env {
-    /// A copy, in which the names stand for the same.
-    pub fn clone_in(&self, _alloc: Global) -> Result<Env, AllocError>
-        ensures { IfOk result (λ names. (p : Program) (e : Environment) → IsNames p self.now e → IsNames p names e) }
+    /// The same names, shared. The error is too many owners of one name.
+    pub fn share(&self) -> Result<Env, AllocError>
+        ensures { IfOk result (λ names. (p : Plan) (e : Environment) → IsNames p self.now e → IsNames p names e) }
     {
         match self {
             Env::Empty => Ok(Env::Empty),

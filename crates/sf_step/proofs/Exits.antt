@@ -1,5 +1,5 @@
 -- What each function of a sample answers, from what it calls.
-use Rattle.std.proofs.Common.{◌≡◌, ℕ, ◌+◌, ◌≤◌, List, [], ◌∷◌, ◌++◌, Result, Ok, Err, refl, sym, ap, ◌∙◌, subst, arith}
+use Rattle.std.proofs.Common.{◌≡◌, ◌≢◌, ℕ, ◌+◌, ◌≤◌, List, [], ◌∷◌, ◌++◌, Result, Ok, Err, refl, sym, ap, ◌∙◌, subst, arith}
 use Rattle.std.specs.Prelude.{IsErrAnd}
 use Rattle.sf_value.specs.Values.{Data}
 use Rattle.sf_value.specs.declared.fault.ValueFault.{ValueFault}
@@ -12,36 +12,37 @@ use Rattle.sf_expr.specs.declared.exprs.ExprId.{ExprId}
 use Rattle.sf_expr.specs.declared.fault.EvalFault.{EvalFault}
 use Rattle.sf_expr.specs.declared.fault.EvalFault.TheVariants.{Value as EValue, Memory as EMemory}
 use Rattle.sf_term.specs.declared.form.Join.{Join}
+use Rattle.sf_term.specs.declared.form.Join.TheVariants.{InSequence}
 use Rattle.sf_term.specs.declared.form.Side.{Side}
 use Rattle.sf_term.specs.declared.form.Heading.{Heading}
-use Rattle.sf_term.specs.declared.node.TermId.{TermId}
-use Rattle.sf_term.specs.declared.node.Node.TheVariants.{Primitive as NPrimitive, Joined as NJoined, Sided as NSided, Headed as NHeaded}
+use Rattle.sf_law.specs.declared.node.PlanId.{PlanId}
+use Rattle.sf_law.specs.declared.node.PlanNode.TheVariants.{Primitive as NPrimitive, Joined as NJoined, Sided as NSided, Headed as NHeaded}
 use Rattle.sf_term.specs.declared.node.Primitive.{Primitive as SPrimitive}
-use Rattle.sf_term.specs.declared.program.Program.{Program}
+use Rattle.sf_law.specs.declared.plan.Plan.{Plan}
 use Rattle.sf_term.specs.Trees.{Primitive, Term, primitive, joined, sided, headed}
-use Rattle.sf_term.specs.Arena.{tree, expression_at, Builds, builds_joined, builds_sided, builds_headed}
+use Rattle.sf_law.specs.Arena.{expressions_of, tree, expression_at, Builds, builds_joined, builds_sided, builds_headed}
 use Rattle.sf_mean.specs.Lives.{Step, step, Life, Process, closure, Environment, empty, scope_of, first_input}
 use Rattle.sf_mean.specs.Formulas.{formula}
-use Rattle.sf_mean.specs.Meaning.{Network, Readings, Outcome, gave, as_outcome, Cost, count, height, both_costs, over, one_term, Made, nothing_made, value_made, make, left_life, right_life, join_value, Gives, gives, Outputs, not_begun, and_gave, of_constants, of_form, Form, of_primitive, of_join, goes_on}
-use Rattle.sf_mean.specs.Networks.{network_of}
+use Rattle.sf_mean.specs.Meaning.{Network, Readings, Outcome, gave, faulted, as_outcome, Cost, count, height, both_costs, over, one_term, Made, nothing_made, value_made, make, left_life, right_life, join_value, Gives, gives, Outputs, not_begun, and_gave, of_constants, of_form, Form, of_primitive, of_join, goes_on}
+use Rattle.sf_law.specs.Arena.{network_of_plan}
 use Rattle.sf_prim.specs.declared.prim_state.PrimState.{PrimState}
 use Rattle.sf_prim.specs.Keeping.{primitive_over, Keeps, Begins, begins, begins_with_fault, GoesOn, goes_on as goes_on_with, goes_on_with_fault}
 use Rattle.sf_state.specs.declared.state.State.{State}
-use Rattle.sf_state.specs.declared.state.State.TheVariants.{Unborn, Live as Alive}
+use Rattle.sf_state.specs.declared.state.State.TheVariants.{Unborn, Live' as Alive'}
 use Rattle.sf_state.specs.declared.state.Live.{Live}
-use Rattle.sf_state.specs.declared.state.Live.TheVariants.{Prim as LPrim, Join' as LJoin', Wrap' as LWrap'}
+use Rattle.sf_state.specs.declared.state.Live.TheVariants.{Prim as LPrim, Join as LJoin, Wrap as LWrap}
 use Rattle.sf_state.specs.declared.state.Wrap.{Wrap}
 use Rattle.sf_state.specs.declared.state.Process.{Process as SProcess}
 use Rattle.sf_state.specs.declared.state.Process.TheVariants.{Closure as SClosure}
 use Rattle.sf_state.specs.declared.state.Env.{Env}
-use Rattle.sf_state.specs.Standing.{Stands, unborn, alive, settles, Ready, ready, lives_primitive, lives_join, lives_wrap, Wraps, IsProcess, is_closure, IsNames, is_empty}
+use Rattle.sf_state.specs.Standing.{Stands, unborn, alive, Settles, settles, Ready, ready, lives_primitive, lives_join, lives_wrap, Wraps, is_closure, IsNames, is_empty}
 use Rattle.sf_step.specs.declared.meter.Meter.{Meter}
 use Rattle.sf_step.specs.Meters.{entered_of, height_of}
 use Rattle.sf_step.specs.Routing.{left_input, right_input, part_input, wrap_value, kept_after}
-use Rattle.sf_step.specs.Sampling.{fault_from, Ticks, Ticked, ticked, refused, readings, Spent, Fails, faults, large, memory, answers, fails, StateSteps, StartSteps, LiveSteps, Opens, opens, opens_with_fault, opens_without_memory}
-use Rattle.sf_step.specs.Stepping.{Steps, stepped, faulted_so, too_large, no_memory}
-use Rattle.sf_step.proofs.Parts.{counted, with_change, over_spent, one_spent, both_spent, fails_alike, over_fails, change_fails, then_fails, rest_fails, answered, failed}
-use Rattle.sf_step.proofs.Forms.{left_and, right_and, left_none, right_none, single_gives, gave_outputs, form_alike, join_alike, wrap_alike, wraps_on, text_counts, counts}
+use Rattle.sf_step.specs.Sampling.{Rel, fault_from, Ticks, Ticked, ticked, refused, readings, Spent, AtMost, Within, Fails, faults, large, memory, Answers, answers, fails, StateSteps, LiveSteps, left_or, kept, Opens, opens, opens_with_fault, opens_without_memory}
+use Rattle.sf_step.specs.Stepping.{EachCostsAtLeast, Steps, stepped, faulted_so, too_large, no_memory}
+use Rattle.sf_step.proofs.Parts.{counted, with_change, over_spent, one_spent, both_spent, fails_alike, over_fails, change_fails, then_fails, rest_fails, spent_within, answered, failed, memory_exit}
+use Rattle.sf_step.proofs.Forms.{left_and, right_and, left_none, right_none, single_gives, gave_outputs, form_alike, join_alike, wrap_alike, wraps_on, counts}
 use Rattle.sf_step.proofs.Typed.{builds_primitive}
 
 -- a tick that went well
@@ -50,25 +51,42 @@ ticked_by (ticked t) = t
 
 -- a process is a closure
 pub record IsClosure (q : SProcess) : Type 0 where
-  pub term : TermId
+  pub term : PlanId
   pub names : Env
   pub is : q ≡ SClosure term names
 
 pub closure_of : (q : SProcess) → IsClosure q
 closure_of (SClosure t names) = record { term = t; names = names; is = refl }
 
-module _ (p : Program) where
+module _ (p : Plan) where
   abbrev net : Network
-  net = network_of p
+  net = network_of_plan p
 
   -- ## Ticks
 
+  -- a counted node counts at most what it costs
+  pub ticked_within : {m n n' : Meter} {depth inside : ℕ} {P : Process} {L : Life} → Ticks m n depth inside → entered_of n' ≡ entered_of n → height_of n' ≡ height_of n → Within (Gives net P L) m n' depth
+  ticked_within {m} {n} {n'} {depth} {inside} {P} {L} t en hn = record { most = go }
+    where
+      go : (o : Outcome) (k : Cost) → Gives net P L o k → AtMost m n' depth k
+      go o k G = let c = counts net G in record { entered = let a = t.entered in omega (arith, c.0); high = let a = t.high in let b = t.below in omega (arith, c.1) }
+
   -- one node too many: no outcome fits
   pub tick_fails : {f : Fault} {m n : Meter} {depth : ℕ} (P : Process) (L : Life) → Ticked m n depth (Err f) → Fails (Gives net P L) f m n depth
-  tick_fails {m = m} {depth = depth} P L (refused h) = large go
+  tick_fails {m = m} {depth = depth} P L (refused h en hn) = large go (record { most = λ o k G. record { entered = omega arith; high = omega arith } })
     where
       go : (o : Outcome) (k : Cost) → Gives net P L o k → entered_of m + count k ≤ 100000 → depth + height k ≤ 800 → ⊥
       go o k G a b = let c = counts net G in omega (arith, c.0, c.1, h, a, b)
+
+  -- memory runs out before a part is stepped
+  pub early_memory : {B : Type 0} {view : B → Data} {after : B → Type 0} {m n n' : Meter} {depth inside : ℕ} {P : Process} {L : Life} {f : Fault} → Ticks m n depth inside → entered_of n' ≡ entered_of n → height_of n' ≡ height_of n → f ≡ Memory
+      → Answers view after (Gives net P L) (Err f) m n' depth
+  early_memory t en hn e = memory_exit e (ticked_within t en hn)
+
+  -- memory runs out after the parts have been stepped
+  pub late_memory : {l l' : Live} {s : Step} {v : Data} {n n' n'' : Meter} {inside : ℕ} {f : Fault} → LiveSteps p l s (Ok (l', v)) n n' inside → entered_of n'' ≡ entered_of n' → height_of n'' ≡ height_of n' → f ≡ Memory
+      → LiveSteps p l s (Err f) n n'' inside
+  late_memory hs en hn e m depth t P L R = let w = answered (hs m depth t P L R) in memory_exit e (spent_within (single_gives net P _) w.given w.spent en hn)
 
   -- ## Joins
 
@@ -76,10 +94,10 @@ module _ (p : Program) where
     left_at : (L : Life) → step d u ∷ left_life j L ≡ left_life j (step d x ∷ L)
     left_at L = ap (λ (u : Data). step d u ∷ left_life j L) eu ∙ left_and j d x L
 
-    pub join_left_fails : {at at' : _} (f : Fault) → StateSteps p a (step d u) (Err f) n n' inside
-        → (m : Meter) (depth : ℕ) → Ticks m n depth inside → (P : Process) (L : Life) → Ready p (LJoin' j at a at' b) P (first_input (step d x) L) L
+    pub join_left_fails : (f : Fault) → StateSteps p a (step d u) (Err f) n n' inside
+        → (m : Meter) (depth : ℕ) → Ticks m n depth inside → (P : Process) (L : Life) → Ready p (LJoin j a b) P (first_input (step d x) L) L
         → Fails (Gives net P (step d x ∷ L)) f m n' depth
-    join_left_fails q hs m depth t P L (ready {m = made} h O (lives_join {f = f} {g = g} {e = e} {ys = ys} OL A B)) =
+    join_left_fails q hs m depth t P L (ready {m = made} h O (lives_join {f = f} {g = g} {e = e} {ys = ys} N OL A B)) =
         fails_alike (form_alike net (step d x) L h O) (fails_alike (join_alike net j f g e made (step d x) L ys OL)
         (over_fails t (then_fails (subst (λ (K : Life). Fails (Gives net (closure f e) K) q n n' inside) (left_at L) (failed (hs _ _ A))))))
 
@@ -87,19 +105,19 @@ module _ (p : Program) where
       right_at : (L : Life) (ys : List Data) → step d w ∷ right_life j L ys ≡ right_life j (step d x ∷ L) (y ∷ ys)
       right_at L ys = ap (λ (w : Data). step d w ∷ right_life j L ys) ew ∙ right_and j d x y L ys
 
-      pub join_right_fails : {at at' : _} (n'' : Meter) (f : Fault) → StateSteps p b (step d w) (Err f) n' n'' inside
-          → (m : Meter) (depth : ℕ) → Ticks m n depth inside → (P : Process) (L : Life) → Ready p (LJoin' j at a at' b) P (first_input (step d x) L) L
+      pub join_right_fails : (n'' : Meter) (f : Fault) → StateSteps p b (step d w) (Err f) n' n'' inside
+          → (m : Meter) (depth : ℕ) → Ticks m n depth inside → (P : Process) (L : Life) → Ready p (LJoin j a b) P (first_input (step d x) L) L
           → Fails (Gives net P (step d x ∷ L)) f m n'' depth
-      join_right_fails n'' q hs2 m depth t P L (ready {m = made} h O (lives_join {f = f} {g = g} {e = e} {ys = ys} OL A B)) =
+      join_right_fails n'' q hs2 m depth t P L (ready {m = made} h O (lives_join {f = f} {g = g} {e = e} {ys = ys} N OL A B)) =
           let one = answered (hs _ _ A) in
           let G = subst (λ (K : Life). Gives net (closure f e) K (gave y one.r) one.k) (left_at L) one.given in
           let H = subst (λ (K : Life). Fails (Gives net (closure g e) K) q n' n'' inside) (right_at L ys) (failed (hs2 _ _ B)) in
           fails_alike (form_alike net (step d x) L h O) (fails_alike (join_alike net j f g e made (step d x) L ys OL)
           (over_fails t (rest_fails (λ z. Gives net (closure g e) (right_life j (step d x ∷ L) (z ∷ ys))) (single_gives net _ _) G one.spent H)))
 
-      pub join_steps : {at at' at1 at2 : _} (n'' : Meter) (b' : State) (z v : Data) → v ≡ join_value j y z → StateSteps p b (step d w) (Ok (b', z)) n' n'' inside
-          → LiveSteps p (LJoin' j at a at' b) (step d x) (Ok (LJoin' j at1 a' at2 b', v)) n n'' inside
-      join_steps n'' b' z v ev hs2 m depth t P L (ready {m = made} h O (lives_join {f = f} {g = g} {e = e} {ys = ys} OL A B)) =
+      pub join_steps : (n'' : Meter) (b' : State) (z v : Data) → v ≡ join_value j y z → StateSteps p b (step d w) (Ok (b', z)) n' n'' inside
+          → LiveSteps p (LJoin j a b) (step d x) (Ok (LJoin j a' b', v)) n n'' inside
+      join_steps n'' b' z v ev hs2 m depth t P L (ready {m = made} h O (lives_join {f = f} {g = g} {e = e} {ys = ys} N OL A B)) =
           let one = answered (hs _ _ A) in
           let G = subst (λ (K : Life). Gives net (closure f e) K (gave y one.r) one.k) (left_at L) one.given in
           let OL' = subst (λ (K : Life). Outputs net (closure f e) K (y ∷ ys)) (left_at L) (gave_outputs net OL one.given) in
@@ -109,7 +127,13 @@ module _ (p : Program) where
           let B' = subst (λ (K : Life). Stands p b' (closure g e) K) (right_at L ys) two.holds in
           let F : Form net (joined j f g) e made (step d x) L (gave (join_value j y z) (one.r ++ two.r)) (over (both_costs one.k two.k)) = of_join OL G (goes_on H) in
           let F' = subst (λ (v : Data). Form net (joined j f g) e made (step d x) L (gave v (one.r ++ two.r)) (over (both_costs one.k two.k))) (sym ev) F in
-          answers (gives O (of_form h F')) (over_spent t (both_spent one.spent two.spent)) (settles (ready h (and_gave O (of_form h F')) (lives_join OL' A' B')))
+          answers (gives O (of_form h F')) (over_spent t (both_spent one.spent two.spent)) (settles (ready h (and_gave O (of_form h F')) (lives_join N OL' A' B')))
+
+      -- the second part's result is the join's
+      pub join_last : {A E : Type 0} (n'' : Meter) (b' : State) (z v : Data) (r : Result A E) (f : Fault) → v ≡ join_value j y z → StateSteps p b (step d w) (left_or r (b', z) f) n' n'' inside
+          → LiveSteps p (LJoin j a b) (step d x) (left_or r (LJoin j a' b', v) f) n n'' inside
+      join_last n'' b' z v (Ok u) f ev hs2 = join_steps n'' b' z v ev hs2
+      join_last n'' b' z v (Err e) f ev hs2 = λ m depth t P L R. fails (join_right_fails n'' f hs2 m depth t P L R)
 
   -- ## Forms with one part
 
@@ -117,15 +141,15 @@ module _ (p : Program) where
     part_at : (K : Life) → step d u ∷ K ≡ step d (part_input w x) ∷ K
     part_at K = ap (λ (u : Data). step d u ∷ K) eu
 
-    pub wrap_fails : {at : _} (f : Fault) → StateSteps p a (step d u) (Err f) n n' inside
-        → (m : Meter) (depth : ℕ) → Ticks m n depth inside → (P : Process) (L : Life) → Ready p (LWrap' w at a) P (first_input (step d x) L) L
+    pub wrap_fails : (f : Fault) → StateSteps p a (step d u) (Err f) n n' inside
+        → (m : Meter) (depth : ℕ) → Ticks m n depth inside → (P : Process) (L : Life) → Ready p (LWrap w a) P (first_input (step d x) L) L
         → Fails (Gives net P (step d x ∷ L)) f m n' depth
     wrap_fails q hs m depth t P L (ready h O (lives_wrap {u = v} {e = e} {K = K} W A)) =
         fails_alike (form_alike net (step d x) L h O) (fails_alike (wrap_alike net d x W)
         (over_fails t (change_fails (subst (λ (K : Life). Fails (Gives net (closure v e) K) q n n' inside) (part_at K) (failed (hs _ _ A))))))
 
-    pub wrap_steps : {at at' : _} (a' : State) (w' : Wrap) (y v : Data) → w' ≡ kept_after w y → v ≡ wrap_value w x y → StateSteps p a (step d u) (Ok (a', y)) n n' inside
-        → LiveSteps p (LWrap' w at a) (step d x) (Ok (LWrap' w' at' a', v)) n n' inside
+    pub wrap_steps : (a' : State) (w' : Wrap) (y v : Data) → w' ≡ kept_after w y → v ≡ wrap_value w x y → StateSteps p a (step d u) (Ok (a', y)) n n' inside
+        → LiveSteps p (LWrap w a) (step d x) (Ok (LWrap w' a', v)) n n' inside
     wrap_steps a' w' y v ew ev hs m depth t P L (ready {m = made} h O (lives_wrap {t = form} {u = part} {e = e} {K = K} W A)) =
         let one = answered (hs _ _ A) in
         let G = subst (λ (K : Life). Gives net (closure part e) K (gave y one.r) one.k) (part_at K) one.given in
@@ -136,62 +160,76 @@ module _ (p : Program) where
 
   -- ## Primitives
 
-  goes_on_parts : {q : Primitive} {scope : Scope} {s : Step} {L : Life} {i : PrimState} {v : Data} → GoesOn p q scope s L i (Ok v) → (formula q scope s L ≡ answer v) × Keeps p i q scope (s ∷ L)
+  goes_on_parts : {q : Primitive} {scope : Scope} {s : Step} {L : Life} {i : PrimState} {v : Data} → GoesOn (expressions_of p) q scope s L i (Ok v) → (formula q scope s L ≡ answer v) × Keeps (expressions_of p) i q scope (s ∷ L)
   goes_on_parts (goes_on_with h k) = (h, k)
 
-  goes_on_fault : {q : Primitive} {scope : Scope} {s : Step} {L : Life} {i : PrimState} {x : ValueFault} → GoesOn p q scope s L i (Err (EValue x)) → formula q scope s L ≡ no_answer x
+  goes_on_fault : {q : Primitive} {scope : Scope} {s : Step} {L : Life} {i : PrimState} {x : ValueFault} → GoesOn (expressions_of p) q scope s L i (Err (EValue x)) → formula q scope s L ≡ no_answer x
   goes_on_fault (goes_on_with_fault h) = h
 
   module _ (i i' : PrimState) (s : Step) (n : Meter) (inside : ℕ) where
-    pub prim_steps : (v : Data) → ((q : Primitive) (scope : Scope) (L : Life) → Keeps p i q scope L → GoesOn p q scope s L i' (Ok v)) → LiveSteps p (LPrim i) s (Ok (LPrim i', v)) n n inside
+    pub prim_steps : (v : Data) → ((q : Primitive) (scope : Scope) (L : Life) → Keeps (expressions_of p) i q scope L → GoesOn (expressions_of p) q scope s L i' (Ok v)) → LiveSteps p (LPrim i) s (Ok (LPrim i', v)) n n inside
     prim_steps v hs m depth t P L (ready {m = made} h O (lives_primitive {q = q} {e = e} K)) =
         let w = goes_on_parts (hs q (scope_of e) L K) in
         let F : Form net (primitive q) e made s L (gave v []) one_term = of_primitive (ap (λ o. as_outcome o []) w.0) in
         answers (gives O (of_form h F)) (one_spent t) (settles (ready h (and_gave O (of_form h F)) (lives_primitive w.1)))
 
-    pub prim_fails : (f : EvalFault) → ((q : Primitive) (scope : Scope) (L : Life) → Keeps p i q scope L → GoesOn p q scope s L i' (Err f)) → LiveSteps p (LPrim i) s (Err (fault_from f)) n n inside
-    prim_fails (EValue x) hs m depth t P L (ready h O (lives_primitive {q = q} {e = e} K)) =
-        let w = goes_on_fault (hs q (scope_of e) L K) in
-        fails (faults (gives O (of_form h (of_primitive (ap (λ o. as_outcome o []) w)))) (let a = t.entered in omega arith) (let a = t.high in let b = t.below in omega arith))
-    prim_fails EMemory hs m depth t P L R = fails memory
+    pub prim_fails : (n' : Meter) (g : Fault) (f : EvalFault) → g ≡ fault_from f → entered_of n' ≡ entered_of n → height_of n' ≡ height_of n → ((q : Primitive) (scope : Scope) (L : Life) → Keeps (expressions_of p) i q scope L → GoesOn (expressions_of p) q scope s L i' (Err f))
+        → LiveSteps p (LPrim i) s (Err g) n n' inside
+    prim_fails n' g (EValue x) e en hn hs m depth t P L (ready {t = u} {e = names} h O (lives_primitive {q = q} {e = e'} K)) =
+        let w = goes_on_fault (hs q (scope_of e') L K) in
+        let G : Gives net (closure (primitive q) e') (s ∷ L) (faulted x) one_term = gives O (of_form h (of_primitive (ap (λ o. as_outcome o []) w))) in
+        fails (subst (λ (g : Fault). Fails (Gives net (closure (primitive q) e') (s ∷ L)) g m n' depth) (sym e) (faults G ((ticked_within t en hn).most _ _ G)))
+    prim_fails n' g EMemory e en hn hs m depth t P L R = early_memory t en hn e
 
   -- ## States
 
-  pub state_unborn : {m n : Meter} {depth : ℕ} (q : SProcess) (s : Step) (l : Live) (v : Data) → StartSteps p q s (Ok (l, v)) m n depth → StateSteps p (Unborn q) s (Ok (Alive l, v)) m n depth
-  state_unborn q s l v h P L (unborn Q) = let w = answered (h P Q) in answers w.given w.spent (alive w.holds)
+  -- a live part's answer is its state's
+  held : {A E : Type 0} {t : Term} {e : Environment} {s : Step} {L : Life} {R : Rel} {m n : Meter} {depth : ℕ} (at : _) (names : Env) (l : Live) (v : Data) (r : Result A E) (f : Fault) → IsNames p names e
+      → Answers {A = Live × Data} (λ y. y.1) (λ y. Settles p y.0 (closure t e) (s ∷ L)) R (left_or r (l, v) f) m n depth
+      → Answers {A = State × Data} (λ y. y.1) (λ y. Stands p y.0 (closure t e) (s ∷ L)) R (left_or r (Alive' names at l, v) f) m n depth
+  held at names l v (Ok u) f N h = let w = answered h in answers w.given w.spent (alive N w.holds)
+  held at names l v (Err e) f N h = fails (failed h)
 
-  pub state_unborn_fails : {m n : Meter} {depth : ℕ} (q : SProcess) (s : Step) (f : Fault) → StartSteps p q s (Err f) m n depth → (P : Process) (L : Life) → Stands p (Unborn q) P L → Fails (Gives net P (s ∷ L)) f m n depth
-  state_unborn_fails q s f h P L (unborn Q) = failed (h P Q)
+  -- the node that is stepped stands for all that the shared one stands for
+  module _ (l own : Live) (follows : (P : Process) (L : Life) → Settles p l P L → Settles p own P L) where
+    own_steps : {m n n' : Meter} {depth inside : ℕ} {s : Step} {r : Result (Live × Data) Fault} → Ticks m n depth inside → LiveSteps p own s r n n' inside → (P : Process) (L : Life) → Settles p own P L
+        → Answers (λ y. y.1) (λ y. Settles p y.0 P (s ∷ L)) (Gives net P (s ∷ L)) r m n' depth
+    own_steps {m = m} {depth = depth} t h P L (settles R) = h m depth t P _ R
 
-  pub state_live : {m n n' : Meter} {depth inside : ℕ} (l l' : Live) (s : Step) (v : Data) → Ticks m n depth inside → LiveSteps p l s (Ok (l', v)) n n' inside → StateSteps p (Alive l) s (Ok (Alive l', v)) m n' depth
-  state_live {m = m} {depth = depth} l l' s v t h P L (alive (settles R)) = let w = answered (h m depth t P _ R) in answers w.given w.spent (alive w.holds)
+    pub state_steps : {A E : Type 0} {at : _} (at' : _) {m n n' : Meter} {depth inside : ℕ} (names : Env) (l' : Live) (s : Step) (v : Data) (r : Result A E) (f : Fault) → Ticks m n depth inside → LiveSteps p own s (left_or r (l', v) f) n n' inside
+        → StateSteps p (Alive' names at l) s (left_or r (Alive' names at' l', v) f) m n' depth
+    state_steps at' names l' s v r f t h P L (alive N S) = held at' names l' v r f N (own_steps t h _ L (follows _ _ S))
 
-  pub state_live_fails : {m n n' : Meter} {depth inside : ℕ} (l : Live) (s : Step) (f : Fault) → Ticks m n depth inside → LiveSteps p l s (Err f) n n' inside → (P : Process) (L : Life) → Stands p (Alive l) P L → Fails (Gives net P (s ∷ L)) f m n' depth
-  state_live_fails {m = m} {depth = depth} l s f t h P L (alive (settles R)) = failed (h m depth t P _ R)
-
-  -- ## Closures
+  -- ## The first sample
 
   opened : {l : Live} {t : Term} {e : Environment} → Opens p t e (Ok l) → (x : Data) → Ready p l (closure t e) x []
   opened (opens h) = h
 
-  pub start_opened : {m n n' : Meter} {depth inside : ℕ} (term : TermId) (names : Env) (l : Live) (d : ℕ) (x : Data) (z : Result (Live × Data) Fault) → Ticks m n depth inside
-      → ((e : Environment) → IsNames p names e → Opens p (tree p term) e (Ok l)) → LiveSteps p l (step d x) z n n' inside → StartSteps p (SClosure term names) (step d x) z m n' depth
-  start_opened {m = m} {depth = depth} term names l d x z t ho hs P (is_closure {e = e} N) = hs m depth t _ [] (opened (ho e N) x)
+  module _ {m n : Meter} {depth inside : ℕ} (term : PlanId) (names : Env) (d : ℕ) (x : Data) (t : Ticks m n depth inside) where
+    module _ {n' : Meter} (l : Live) (ho : (e : Environment) → IsNames p names e → Opens p (tree p term) e (Ok l)) where
+      pub start_steps : {at : _} (around : Env) (l' kept : Live) (v : Data) → around ≡ names → kept ≡ l' → LiveSteps p l (step d x) (Ok (l', v)) n n' inside
+          → StateSteps p (Unborn (SClosure term names)) (step d x) (Ok (Alive' around at kept, v)) m n' depth
+      start_steps around l' kept v ea ek hs P L (unborn (is_closure {e = e} N)) =
+          let w = answered (hs m depth t _ [] (opened (ho e N) x)) in
+          answers w.given w.spent (alive (subst (λ (names : Env). IsNames p names e) (sym ea) N) (subst (λ (l : Live). Settles p l (closure (tree p term) e) (step d x ∷ [])) (sym ek) w.holds))
 
-  open_fails : {m n : Meter} {depth inside : ℕ} (t : Term) (e : Environment) (s : Step) (f : Fault) → Ticks m n depth inside → Opens p t e (Err f) → Fails (Gives net (closure t e) (s ∷ [])) f m n depth
-  open_fails t e s f k (opens_with_fault h) = let c = text_counts net t in faults (h s) (let a = k.entered in omega (arith, c.0)) (let a = k.high in let b = k.below in omega (arith, c.1))
-  open_fails t e s f k opens_without_memory = memory
+      pub start_fails : (f : Fault) → LiveSteps p l (step d x) (Err f) n n' inside → (P : Process) (L : Life) → Stands p (Unborn (SClosure term names)) P L → Fails (Gives net P (step d x ∷ L)) f m n' depth
+      start_fails f hs P L (unborn (is_closure {e = e} N)) = failed (hs m depth t _ [] (opened (ho e N) x))
 
-  pub start_open_fails : {m n : Meter} {depth inside : ℕ} (term : TermId) (names : Env) (s : Step) (f : Fault) → Ticks m n depth inside
-      → ((e : Environment) → IsNames p names e → Opens p (tree p term) e (Err f)) → (P : Process) → IsProcess p (SClosure term names) P → Fails (Gives net P (s ∷ [])) f m n depth
-  start_open_fails term names s f t ho P (is_closure {e = e} N) = open_fails _ e s f t (ho e N)
+    module _ {n' : Meter} (en : entered_of n' ≡ entered_of n) (hn : height_of n' ≡ height_of n) where
+      open_fails : (u : Term) (e : Environment) (f : Fault) → Opens p u e (Err f) → Fails (Gives net (closure u e) (step d x ∷ [])) f m n' depth
+      open_fails u e f (opens_with_fault h) = faults (h (step d x)) ((ticked_within t en hn).most _ _ (h (step d x)))
+      open_fails u e f opens_without_memory = memory (ticked_within t en hn)
+
+      pub start_open_fails : (f g : Fault) → g ≡ f → ((e : Environment) → IsNames p names e → Opens p (tree p term) e (Err f)) → StateSteps p (Unborn (SClosure term names)) (step d x) (Err g) m n' depth
+      start_open_fails f g eg ho P L (unborn (is_closure {e = e} N)) = fails (subst (λ (g : Fault). Fails (Gives net (closure (tree p term) e) (step d x ∷ [])) g m n' depth) (sym eg) (open_fails _ e f (ho e N)))
 
   -- ## Before the first sample
 
-  prim_opens : (q : Primitive) (e : Environment) (names : Env) (i : PrimState) → IsNames p names e → Begins p q (Ok i) → Opens p (primitive q) e (Ok (LPrim i))
+  prim_opens : (q : Primitive) (e : Environment) (names : Env) (i : PrimState) → IsNames p names e → Begins (expressions_of p) q (Ok i) → Opens p (primitive q) e (Ok (LPrim i))
   prim_opens q e names i is_empty (begins K) = opens (λ x. ready refl not_begun (lives_primitive K))
 
-  prim_opens_with_fault : (q : Primitive) (e : Environment) (names : Env) (f : EvalFault) → IsNames p names e → Begins p q (Err f) → Opens p (primitive q) e (Err (fault_from f))
+  prim_opens_with_fault : (q : Primitive) (e : Environment) (names : Env) (f : EvalFault) → IsNames p names e → Begins (expressions_of p) q (Err f) → Opens p (primitive q) e (Err (fault_from f))
   prim_opens_with_fault q e names (EValue x) is_empty (begins_with_fault h) = opens_with_fault (λ s. gives not_begun (of_form refl (of_primitive (ap (λ o. as_outcome o []) (h s)))))
   prim_opens_with_fault q e names EMemory N h = opens_without_memory
 
@@ -199,38 +237,43 @@ module _ (p : Program) where
   open_exit t e (Ok l) h = absurd h
   open_exit t e (Err f) h = subst (λ (f : Fault). Opens p t e (Err f)) (sym h) opens_without_memory
 
-  pub open_prim : (q : SPrimitive) (t : Term) (names : Env) (i : PrimState) → Builds p (NPrimitive q) t → Begins p (primitive_over p q) (Ok i) → (e : Environment) → IsNames p names e → Opens p t e (Ok (LPrim i))
+  pub open_prim : (q : SPrimitive) (t : Term) (names : Env) (i : PrimState) → Builds p (NPrimitive q) t → Begins (expressions_of p) (primitive_over (expressions_of p) q) (Ok i) → (e : Environment) → IsNames p names e → Opens p t e (Ok (LPrim i))
   open_prim q t names i B h e N = subst (λ (t : Term). Opens p t e (Ok (LPrim i))) (sym (builds_primitive p B)) (prim_opens _ e names i N h)
 
-  pub open_prim_fails : (q : SPrimitive) (t : Term) (names : Env) (f : EvalFault) → Builds p (NPrimitive q) t → Begins p (primitive_over p q) (Err f) → (e : Environment) → IsNames p names e → Opens p t e (Err (fault_from f))
+  pub open_prim_fails : (q : SPrimitive) (t : Term) (names : Env) (f : EvalFault) → Builds p (NPrimitive q) t → Begins (expressions_of p) (primitive_over (expressions_of p) q) (Err f) → (e : Environment) → IsNames p names e → Opens p t e (Err (fault_from f))
   open_prim_fails q t names f B h e N = subst (λ (t : Term). Opens p t e (Err (fault_from f))) (sym (builds_primitive p B)) (prim_opens_with_fault _ e names f N h)
 
-  pub open_join : {at at' : _} (j : Join) (a b : TermId) (t : Term) (names copy : Env) (c c' : State) → c ≡ Unborn (SClosure a copy) → c' ≡ Unborn (SClosure b names) → Builds p (NJoined j a b) t
-      → ((e : Environment) → IsNames p names e → IsNames p copy e) → (e : Environment) → IsNames p names e → Opens p t e (Ok (LJoin' j at c at' c'))
-  open_join j a b t names copy c c' ec ec' builds_joined h e N =
-      let A = subst (λ (K : Life). Stands p (Unborn (SClosure a copy)) (closure (tree p a) e) K) (sym (left_none j)) (unborn (is_closure (h e N))) in
-      let B = subst (λ (K : Life). Stands p (Unborn (SClosure b names)) (closure (tree p b) e) K) (sym (right_none j)) (unborn (is_closure N)) in
+  pub open_join : (j : Join) (a b : PlanId) (names one two : Env) → j ≢ InSequence
+      → ((e : Environment) → IsNames p names e → IsNames p one e) → ((e : Environment) → IsNames p names e → IsNames p two e) → (e : Environment) → IsNames p names e → Opens p (joined j (tree p a) (tree p b)) e (Ok (LJoin j (Unborn (SClosure a one)) (Unborn (SClosure b two))))
+  open_join j a b names one two side h g e N =
+      let A = subst (λ (K : Life). Stands p (Unborn (SClosure a one)) (closure (tree p a) e) K) (sym (left_none j)) (unborn (is_closure (h e N))) in
+      let B = subst (λ (K : Life). Stands p (Unborn (SClosure b two)) (closure (tree p b) e) K) (sym (right_none j)) (unborn (is_closure (g e N))) in
       let O = subst (λ (K : Life). Outputs net (closure (tree p a) e) K []) (sym (left_none j)) not_begun in
-      opens (λ x. ready refl not_begun (lives_join O (rw ec A) (rw ec' B)))
+      opens (λ x. ready refl not_begun (lives_join side O A B))
 
-  pub open_wrap : {at : _} (w : Wrap) (a : TermId) (names : Env) (c : State) → c ≡ Unborn (SClosure a names)
-      → (t : Term) (e : Environment) (m : Made) → IsNames p names e → ((x : Data) → make net t e x ≡ answer m) → Wraps net w t e m [] (tree p a) [] → Opens p t e (Ok (LWrap' w at c))
-  open_wrap w a names c ec t e m N h W = opens (λ x. ready (h x) not_begun (lives_wrap W (rw ec (unborn (is_closure N)))))
+  -- a node of two parts opens as they do
+  pub open_joined : (j : Join) (a b : PlanId) (t : Term) (names : Env) (l : Live) → Builds p (NJoined j a b) t → ((e : Environment) → IsNames p names e → Opens p (joined j (tree p a) (tree p b)) e (Ok l))
+      → (e : Environment) → IsNames p names e → Opens p t e (Ok l)
+  open_joined j a b t names l builds_joined h = h
 
-  pub open_sided : (d : Side) (a : TermId) (t : Term) (names : Env) (w : Wrap) (r : Result Live Fault) → Builds p (NSided d a) t
+  pub open_wrap : (w : Wrap) (a : PlanId) (names inner : Env) → ((e : Environment) → IsNames p names e → IsNames p inner e)
+      → (t : Term) (e : Environment) (m : Made) → IsNames p names e → ((x : Data) → make net t e x ≡ answer m) → Wraps net w t e m [] (tree p a) [] → Opens p t e (Ok (LWrap w (Unborn (SClosure a inner))))
+  open_wrap w a names inner g t e m N h W = opens (λ x. ready (h x) not_begun (lives_wrap W (unborn (is_closure (g e N)))))
+
+  pub open_sided : (d : Side) (a : PlanId) (t : Term) (names : Env) (w : Wrap) (r : Result Live Fault) → Builds p (NSided d a) t
       → ((n : Network) (t : Term) (e : Environment) (m : Made) → Wraps n w (sided d t) e m [] t [])
-      → ((p : Program) (t : Term) (e : Environment) (m : Made) → IsNames p names e → ((x : Data) → make (network_of p) t e x ≡ answer m) → Wraps (network_of p) w t e m [] (tree p a) [] → Opens p t e r)
+      → ((p : Plan) (t : Term) (e : Environment) (m : Made) → IsNames p names e → ((x : Data) → make (network_of_plan p) t e x ≡ answer m) → Wraps (network_of_plan p) w t e m [] (tree p a) [] → Opens p t e r)
       → (e : Environment) → IsNames p names e → Opens p t e r
   open_sided d a t names w r builds_sided W h e N = h p _ e nothing_made N (λ x. refl) (W _ _ _ _)
 
-  pub open_headed : (i : Heading) (j : ExprId) (a : TermId) (t : Term) (names : Env) (v : Data) (w : Wrap) (r : Result Live Fault) → Builds p (NHeaded i j a) t
+  pub open_headed : (i : Heading) (j : ExprId) (a : PlanId) (t : Term) (names : Env) (v : Data) (w : Wrap) (r : Result Live Fault) → Builds p (NHeaded i j a) t
       → eval (expression_at p j) no_names ≡ answer v
       → ((n : Network) (j : Expression) (t : Term) (e : Environment) → Wraps n w (headed i j t) e (value_made v) [] t [])
-      → ((p : Program) (t : Term) (e : Environment) (m : Made) → IsNames p names e → ((x : Data) → make (network_of p) t e x ≡ answer m) → Wraps (network_of p) w t e m [] (tree p a) [] → Opens p t e r)
+      → ((p : Plan) (t : Term) (e : Environment) (m : Made) → IsNames p names e → ((x : Data) → make (network_of_plan p) t e x ≡ answer m) → Wraps (network_of_plan p) w t e m [] (tree p a) [] → Opens p t e r)
       → (e : Environment) → IsNames p names e → Opens p t e r
   open_headed i j a t names v w r builds_headed g W h e is_empty = h p _ empty (value_made v) is_empty (λ x. ap (λ o. o >>= λ v. answer (value_made v)) g) (W _ _ _ _)
 
-  pub open_headed_fails : (i : Heading) (j : ExprId) (a : TermId) (t : Term) (names : Env) (f : EvalFault) → Builds p (NHeaded i j a) t
+  pub open_headed_fails : (i : Heading) (j : ExprId) (a : PlanId) (t : Term) (names : Env) (f : EvalFault) → Builds p (NHeaded i j a) t
       → Evaluates (Err f) (eval (expression_at p j) no_names) → (e : Environment) → IsNames p names e → Opens p t e (Err (fault_from f))
   open_headed_fails i j a t names (EValue x) builds_headed g e is_empty = opens_with_fault (λ s. gives not_begun (of_constants (ap (λ o. o >>= λ v. answer (value_made v)) g)))
   open_headed_fails i j a t names EMemory B g e N = opens_without_memory
@@ -248,12 +291,14 @@ module _ (p : Program) where
       let G = subst (λ (r : Readings). Gives net P (s ∷ L) (gave v r) w.k) (begun w.spent) w.given in
       stepped G (let c = w.spent.entered in omega arith) (let c = w.spent.high in omega arith) w.holds
 
-  fails_so : {m n : Meter} {P : Process} {L : Life} (a : State) (f : Fault) → entered_of m ≡ 0 → height_of m ≡ 0 → Fails (Gives net P L) f m n 0 → Steps p P L (Err f) a n
-  fails_so a f em hm (faults G e h) = faulted_so G (omega arith) (omega arith)
-  fails_so a f em hm (large h) = too_large (λ o k G c d. h o k G (omega arith) (omega arith))
-  fails_so a f em hm memory = no_memory
+  each_costs : {m n : Meter} {P : Process} {L : Life} → entered_of m ≡ 0 → height_of m ≡ 0 → Within (Gives net P L) m n 0 → EachCostsAtLeast p P L n
+  each_costs em hm w = record { few = λ o k G. let a = (w.most o k G).entered in omega arith; low = λ o k G. let a = (w.most o k G).high in omega arith }
 
-  pub sample_fails : {m n : Meter} (a a' : State) (s : Step) (f : Fault) (r : Result Data Fault) → IsErrAnd r (λ e. e ≡ f) → entered_of m ≡ 0 → height_of m ≡ 0 → StateSteps p a s (Err f) m n 0
-      → (P : Process) (L : Life) → Stands p a P L → Steps p P (s ∷ L) r a' n
-  sample_fails a a' s f (Ok v) e em hm hs P L A = absurd e
-  sample_fails {n = n} a a' s f (Err q) e em hm hs P L A = subst (λ (f : Fault). Steps p P (s ∷ L) (Err f) a' n) (sym e) (fails_so a' f em hm (failed (hs P L A)))
+  fails_so : {m n : Meter} {P : Process} {L : Life} (a : State) (f : Fault) → entered_of m ≡ 0 → height_of m ≡ 0 → Fails (Gives net P L) f m n 0 → Steps p P L (Err f) a n
+  fails_so a f em hm (faults G s) = faulted_so G (let a = s.entered in omega arith) (let a = s.high in omega arith)
+  fails_so a f em hm (large h w) = too_large (λ o k G c d. h o k G (omega arith) (omega arith)) (each_costs em hm w)
+  fails_so a f em hm (memory w) = no_memory (each_costs em hm w)
+
+  pub sample_fails : {m n : Meter} (a a' : State) (s : Step) (f g : Fault) → g ≡ f → entered_of m ≡ 0 → height_of m ≡ 0 → StateSteps p a s (Err f) m n 0
+      → (P : Process) (L : Life) → Stands p a P L → Steps p P (s ∷ L) (Err g) a' n
+  sample_fails {n = n} a a' s f g e em hm hs P L A = subst (λ (f : Fault). Steps p P (s ∷ L) (Err f) a' n) (sym e) (fails_so a' f em hm (failed (hs P L A)))

@@ -4,9 +4,9 @@ use Rattle.sf_value.specs.Values.{Data}
 use Rattle.sf_expr.specs.Evaluation.{Evaluated, answer, failed as no_answer}
 use Rattle.sf_term.specs.declared.form.Join.{Join}
 use Rattle.sf_term.specs.declared.form.Join.TheVariants.{InSequence, InParallel, FannedOut}
-use Rattle.sf_term.specs.Trees.{Term, primitive, joined, sided, headed}
+use Rattle.sf_term.specs.Trees.{Extent, whole, rest, Term, primitive, joined, sided, headed, staged}
 use Rattle.sf_mean.specs.Lives.{Step, step, Life, Process, closure, Environment, first_input, fed}
-use Rattle.sf_mean.specs.Meaning.{Network, Readings, Outcome, gave, faulted, combined, value_in, Cost, count, height, both_costs, text_cost, Made, make, left_life, right_life, join_value, Gives, gives, Outputs, and_gave, Sample, of_constants, of_form, Form, of_primitive, of_join, of_side, of_loop, Next, goes_on, stops, and_looped}
+use Rattle.sf_mean.specs.Meaning.{Network, Readings, Outcome, gave, faulted, combined, value_in, Cost, count, height, both_costs, over_stages, text_cost, Made, make, left_life, right_life, join_value, Gives, gives, Outputs, and_gave, Sample, of_constants, of_form, Form, of_primitive, of_join, of_side, of_loop, of_stages, Next, goes_on, stops, and_looped}
 use Rattle.sf_mean.proofs.Once.{once, onces, once_loops}
 use Rattle.sf_state.specs.declared.state.Wrap.{Wrap}
 use Rattle.sf_state.specs.Standing.{Wraps, wraps_first, wraps_second, wraps_loop}
@@ -57,7 +57,7 @@ module _ (n : Network) where
   sample_form s L h (of_constants h') = absurd cc
   sample_form {t} {e} {m} s L {o} {k} h (of_form h' F) = subst (λ (m : Made). Form n t e m s L o k) (ap (made_in m) (sym h' ∙ h)) F
 
-  gives_form : {t : Term} {e : Environment} {m : Made} (s : Step) (L : Life) {o : Outcome} {k : Cost} → make n t e (first_input s L) ≡ answer m → Gives n (closure t e) (s ∷ L) o k → Form n t e m s L o k
+  pub gives_form : {t : Term} {e : Environment} {m : Made} (s : Step) (L : Life) {o : Outcome} {k : Cost} → make n t e (first_input s L) ≡ answer m → Gives n (closure t e) (s ∷ L) o k → Form n t e m s L o k
   gives_form s L h (gives O S) = sample_form s L h S
 
   pub form_alike : {t : Term} {e : Environment} {m : Made} (s : Step) (L : Life) {ys : List Data} → make n t e (first_input s L) ≡ answer m → Outputs n (closure t e) L ys → Alike (Form n t e m s L) (Gives n (closure t e) (s ∷ L))
@@ -116,21 +116,28 @@ module _ (n : Network) where
 
   -- ## Each outcome costs a term
 
-  form_counts : {t : Term} {e : Environment} {m : Made} {s : Step} {L : Life} {o : Outcome} {k : Cost} → Form n t e m s L o k → (1 ≤ count k) × (1 ≤ height k)
-  form_counts (of_primitive h) = (omega arith, omega arith)
-  form_counts (of_join O G N) = (omega arith, omega arith)
-  form_counts (of_side G) = (omega arith, omega arith)
-  form_counts (of_loop O G) = (omega arith, omega arith)
+  stages_count : (x : Extent) (a b : Cost) → (1 ≤ count a) × (1 ≤ height a) → (1 ≤ count (over_stages x (both_costs a b))) × (1 ≤ height (over_stages x (both_costs a b)))
+  stages_count whole a b h = (omega arith, omega arith)
+  stages_count rest a b h = (omega (arith, h.0), omega (arith, h.1))
 
   pub text_counts : (t : Term) → (1 ≤ count (text_cost t)) × (1 ≤ height (text_cost t))
   text_counts (primitive p) = (omega arith, omega arith)
   text_counts (joined j f g) = (omega arith, omega arith)
   text_counts (sided d t) = (omega arith, omega arith)
   text_counts (headed h i t) = (omega arith, omega arith)
+  text_counts (staged x f g) = stages_count x (text_cost f) (text_cost g) (text_counts f)
 
-  sample_counts : {P : Process} {s : Step} {L : Life} {o : Outcome} {k : Cost} → Sample n P s L o k → (1 ≤ count k) × (1 ≤ height k)
-  sample_counts (of_constants {t = t} h) = text_counts t
-  sample_counts (of_form h F) = form_counts F
+  mutual
+    form_counts : {t : Term} {e : Environment} {m : Made} {s : Step} {L : Life} {o : Outcome} {k : Cost} → Form n t e m s L o k → (1 ≤ count k) × (1 ≤ height k)
+    form_counts (of_primitive h) = (omega arith, omega arith)
+    form_counts (of_join O G N) = (omega arith, omega arith)
+    form_counts (of_side G) = (omega arith, omega arith)
+    form_counts (of_loop O G) = (omega arith, omega arith)
+    form_counts (of_stages {x = x} {c = c} {c' = c'} O G N) = stages_count x c c' (counts G)
 
-  pub counts : {P : Process} {L : Life} {o : Outcome} {k : Cost} → Gives n P L o k → (1 ≤ count k) × (1 ≤ height k)
-  counts (gives O S) = sample_counts S
+    sample_counts : {P : Process} {s : Step} {L : Life} {o : Outcome} {k : Cost} → Sample n P s L o k → (1 ≤ count k) × (1 ≤ height k)
+    sample_counts (of_constants {t = t} h) = text_counts t
+    sample_counts (of_form h F) = form_counts F
+
+    pub counts : {P : Process} {L : Life} {o : Outcome} {k : Cost} → Gives n P L o k → (1 ≤ count k) × (1 ≤ height k)
+    counts (gives O S) = sample_counts S

@@ -2,5 +2,6 @@ pub mod Parts
 pub mod Forms
 pub mod Exits
 pub mod Typed
+pub mod Stages
 pub mod Routes
 pub mod Tested

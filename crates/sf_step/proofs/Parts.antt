@@ -1,14 +1,14 @@
 -- Parts that are stepped one after another.
 use Rattle.std.proofs.Common.{◌≡◌, ℕ, ◌+◌, ◌≤◌, [], ◌++◌, Result, Ok, Err, refl, sym, ap, ◌∙◌, subst, append_assoc, arith}
-use Rattle.std.specs.Prelude.{IsErrAnd}
+use Rattle.std.specs.Prelude.{IsErr}
 use Rattle.sf_value.specs.Values.{Data}
 use Rattle.sf_value.specs.declared.fault.ValueFault.{ValueFault}
 use Rattle.sf_value.specs.declared.fault.Fault.{Fault}
 use Rattle.sf_value.specs.declared.fault.Fault.TheVariants.{Memory}
 use Rattle.sf_mean.specs.Meaning.{Readings, Outcome, gave, faulted, changed, combined, value_in, Cost, count, height, no_cost, both_costs, over}
 use Rattle.sf_step.specs.declared.meter.Meter.{Meter}
-use Rattle.sf_step.specs.Meters.{entered_of}
-use Rattle.sf_step.specs.Sampling.{Rel, Ticks, readings, Spent, Fails, faults, large, memory, Answers, answers, fails}
+use Rattle.sf_step.specs.Meters.{entered_of, height_of}
+use Rattle.sf_step.specs.Sampling.{Rel, Ticks, readings, Spent, AtMost, Within, Fails, faults, large, memory, Answers, answers, fails, left_or}
 
 -- one outcome at most
 pub data Single (R : Rel) : Type 0 where
@@ -52,49 +52,93 @@ both_spent {m = m} {r = r} {q = q} s s' = record {
   recorded = s'.recorded ∙ ap (λ l. l ++ q) s.recorded ∙ append_assoc (readings m) r q;
 }
 
+-- ## What is counted without a value
+
+pub over_most : {m n n' : Meter} {depth inside : ℕ} {k : Cost} → Ticks m n depth inside → AtMost n n' inside k → AtMost m n' depth (over k)
+over_most t s = record { entered = let a = t.entered in let b = s.entered in omega arith; high = let a = t.high in let b = s.high in let c = t.below in omega arith }
+
+-- the first of two parts
+first_most : {m n : Meter} {depth : ℕ} {k : Cost} (l : Cost) → AtMost m n depth k → AtMost m n depth (both_costs k l)
+first_most l s = record { entered = let a = s.entered in omega arith; high = let a = s.high in omega arith }
+
+-- both parts, of which the first gave a value
+both_most : {m n n' : Meter} {depth : ℕ} {k l : Cost} {r : Readings} → Spent m n depth k r → AtMost n n' depth l → AtMost m n' depth (both_costs k l)
+both_most s s' = record { entered = let a = s.entered in let b = s'.entered in omega arith; high = let a = s.high in let b = s'.high in omega arith }
+
+alike_within : {R S : Rel} {m n : Meter} {depth : ℕ} → Alike R S → Within R m n depth → Within S m n depth
+alike_within a w = record { most = λ o k G. w.most o k (a.back o k G) }
+
+over_within : {R : Rel} {m n n' : Meter} {depth inside : ℕ} → Ticks m n depth inside → Within R n n' inside → Within (Over R) m n' depth
+over_within {R = R} {m = m} {n' = n'} {depth = depth} t w = record { most = go }
+  where
+    go : (o : Outcome) (k : Cost) → Over R o k → AtMost m n' depth k
+    go o k (counted G) = over_most t (w.most _ _ G)
+
+change_within : {R : Rel} {g : Data → Data} {m n : Meter} {depth : ℕ} → Within R m n depth → Within (Changed g R) m n depth
+change_within {R = R} {g = g} {m = m} {n = n} {depth = depth} w = record { most = go }
+  where
+    go : (o : Outcome) (k : Cost) → Changed g R o k → AtMost m n depth k
+    go o k (with_change G) = w.most _ _ G
+
+then_within : {R : Rel} {g : Data → Data → Data} {stop : Cost} {S : Data → Rel} {m n : Meter} {depth : ℕ} → Within R m n depth → Within (Then R g stop S) m n depth
+then_within {R = R} {g = g} {stop = stop} {S = S} {m = m} {n = n} {depth = depth} w = record { most = go }
+  where
+    go : (o : Outcome) (k : Cost) → Then R g stop S o k → AtMost m n depth k
+    go o k (then_on {l = l} G H) = first_most l (w.most _ _ G)
+    go o k (then_stop G) = first_most stop (w.most _ _ G)
+
 -- ## Failures
 
 pub fails_alike : {R S : Rel} {f : Fault} {m n : Meter} {depth : ℕ} → Alike R S → Fails R f m n depth → Fails S f m n depth
-fails_alike a (faults G e h) = faults (a.to _ _ G) e h
-fails_alike a (large h) = large (λ o k G. h o k (a.back o k G))
-fails_alike a memory = memory
+fails_alike a (faults G s) = faults (a.to _ _ G) s
+fails_alike a (large h w) = large (λ o k G. h o k (a.back o k G)) (alike_within a w)
+fails_alike a (memory w) = memory (alike_within a w)
 
 -- a term that counts, whose parts fail
 pub over_fails : {R : Rel} {f : Fault} {m n n' : Meter} {depth inside : ℕ} → Ticks m n depth inside → Fails R f n n' inside → Fails (Over R) f m n' depth
-over_fails t (faults G e h) = faults (counted G) (let a = t.entered in omega arith) (let a = t.high in let b = t.below in omega arith)
-over_fails {R} {f} {m} {n} {n'} {depth} {inside} t (large h) = large go
+over_fails t (faults G s) = faults (counted G) (over_most t s)
+over_fails {R} {f} {m} {n} {n'} {depth} {inside} t (large h w) = large go (over_within t w)
   where
     go : (o : Outcome) (k : Cost) → Over R o k → entered_of m + count k ≤ 100000 → depth + height k ≤ 800 → ⊥
     go o k (counted G) a b = h _ _ G (let c = t.entered in omega arith) (let c = t.below in omega arith)
-over_fails t memory = memory
+over_fails t (memory w) = memory (over_within t w)
 
 -- a part fails, and there is no value to change
 pub change_fails : {R : Rel} {g : Data → Data} {f : Fault} {m n : Meter} {depth : ℕ} → Fails R f m n depth → Fails (Changed g R) f m n depth
-change_fails (faults G e h) = faults (with_change G) e h
-change_fails {R} {g} {f} {m} {n} {depth} (large h) = large go
+change_fails (faults G s) = faults (with_change G) s
+change_fails {R} {g} {f} {m} {n} {depth} (large h w) = large go (change_within w)
   where
     go : (o : Outcome) (k : Cost) → Changed g R o k → entered_of m + count k ≤ 100000 → depth + height k ≤ 800 → ⊥
     go o k (with_change G) a b = h _ _ G a b
-change_fails memory = memory
+change_fails (memory w) = memory (change_within w)
 
 -- the first part fails
 pub then_fails : {R : Rel} {g : Data → Data → Data} {stop : Cost} {S : Data → Rel} {f : Fault} {m n : Meter} {depth : ℕ} → Fails R f m n depth → Fails (Then R g stop S) f m n depth
-then_fails (faults G e h) = faults (then_stop G) (omega arith) (omega arith)
-then_fails {R} {g} {stop} {S} {f} {m} {n} {depth} (large h) = large go
+then_fails {stop = stop} (faults G s) = faults (then_stop G) (first_most stop s)
+then_fails {R} {g} {stop} {S} {f} {m} {n} {depth} (large h w) = large go (then_within w)
   where
     go : (o : Outcome) (k : Cost) → Then R g stop S o k → entered_of m + count k ≤ 100000 → depth + height k ≤ 800 → ⊥
     go o k (then_on G H) a b = h _ _ G (omega arith) (omega arith)
     go o k (then_stop G) a b = h _ _ G (omega arith) (omega arith)
-then_fails memory = memory
+then_fails (memory w) = memory (then_within w)
 
 one : {R : Rel} {a b : Outcome} {j k : Cost} → Single R → R a j → R b k → (a ≡ b) × (j ≡ k)
 one (single f) G H = f _ _ _ _ G H
 
 -- the first part gives a value, and the other one fails
 module _ {R : Rel} {g : Data → Data → Data} {stop : Cost} (S : Data → Rel) {y : Data} {r : Readings} {k1 : Cost} (u : Single R) (G1 : R (gave y r) k1) where
+  rest_within : {m n n' : Meter} {depth : ℕ} → Spent m n depth k1 r → Within (S y) n n' depth → Within (Then R g stop S) m n' depth
+  rest_within {m} {n} {n'} {depth} s w = record { most = go }
+    where
+      go : (o : Outcome) (k : Cost) → Then R g stop S o k → AtMost m n' depth k
+      go o k (then_on {y = z} {o = o'} {k = k'} {l = l} G H) =
+          let e = one u G G1 in
+          subst (λ (k : Cost). AtMost m n' depth (both_costs k l)) (sym e.1) (both_most s (w.most o' l (subst (λ v. S v o' l) (ap value_in e.0) H)))
+      go o k (then_stop G) = let e = (one u G G1).0 in cc
+
   pub rest_fails : {f : Fault} {m n n' : Meter} {depth : ℕ} → Spent m n depth k1 r → Fails (S y) f n n' depth → Fails (Then R g stop S) f m n' depth
-  rest_fails s (faults G e h) = faults (then_on G1 G) (let a = s.entered in omega arith) (let a = s.high in omega arith)
-  rest_fails {f} {m} {n} {n'} {depth} s (large h) = large go
+  rest_fails s (faults G b) = faults (then_on G1 G) (both_most s b)
+  rest_fails {f} {m} {n} {n'} {depth} s (large h w) = large go (rest_within s w)
     where
       go : (o : Outcome) (k : Cost) → Then R g stop S o k → entered_of m + count k ≤ 100000 → depth + height k ≤ 800 → ⊥
       go o k (then_on {y = z} {o = o'} {l = l} G H) a b =
@@ -102,7 +146,13 @@ module _ {R : Rel} {g : Data → Data → Data} {stop : Cost} (S : Data → Rel)
           let c = ap count e.1 in let d = ap height e.1 in let i = s.entered in
           h o' l (subst (λ v. S v o' l) (ap value_in e.0) H) (omega arith) (omega arith)
       go o k (then_stop G) a b = let e = (one u G G1).0 in cc
-  rest_fails s memory = memory
+  rest_fails s (memory w) = memory (rest_within s w)
+
+-- a value's cost is the one that there is, also where no more is counted after it
+pub spent_within : {R : Rel} {o : Outcome} {k : Cost} {r : Readings} {m n n' : Meter} {depth : ℕ} → Single R → R o k → Spent m n depth k r → entered_of n' ≡ entered_of n → height_of n' ≡ height_of n → Within R m n' depth
+spent_within {m = m} {n' = n'} {depth = depth} u G s en hn =
+    let c = s.entered in let d = s.high in
+    record { most = λ p l H. subst (λ (k : Cost). AtMost m n' depth k) (sym (one u H G).1) (record { entered = omega arith; high = omega arith }) }
 
 -- ## Exits
 
@@ -122,10 +172,10 @@ pub failed : {A : Type 0} {view : A → Data} {after : A → Type 0} {R : Rel} {
 failed (fails h) = h
 
 -- a `?` that passes a failure on
-pub pass_exit : {A : Type 0} {view : A → Data} {after : A → Type 0} {R : Rel} {m n : Meter} {depth : ℕ} {f : Fault} (r : Result A Fault) → IsErrAnd r (λ e. e ≡ f) → Fails R f m n depth → Answers view after R r m n depth
-pass_exit (Ok a) e h = absurd e
-pass_exit {R = R} {m = m} {n = n} {depth = depth} (Err q) e h = fails (subst (λ (f : Fault). Fails R f m n depth) (sym e) h)
+pub pass_exit : {A B E : Type 0} {view : B → Data} {after : B → Type 0} {R : Rel} {m n : Meter} {depth : ℕ} {f : Fault} (r : Result A E) (b : B) → IsErr r → Fails R f m n depth → Answers view after R (left_or r b f) m n depth
+pass_exit (Ok a) b e h = absurd cc
+pass_exit (Err q) b e h = fails h
 
--- a `?` where memory runs out
-pub memory_exit : {A : Type 0} {view : A → Data} {after : A → Type 0} {R : Rel} {m n : Meter} {depth : ℕ} (r : Result A Fault) → IsErrAnd r (λ e. e ≡ Memory) → Answers view after R r m n depth
-memory_exit r e = pass_exit r e memory
+-- where memory runs out
+pub memory_exit : {B : Type 0} {view : B → Data} {after : B → Type 0} {R : Rel} {m n : Meter} {depth : ℕ} {f : Fault} → f ≡ Memory → Within R m n depth → Answers view after R (Err f) m n depth
+memory_exit {B = B} {view = view} {after = after} {R = R} {m = m} {n = n} {depth = depth} e w = subst (λ (f : Fault). Answers view after R (Err f) m n depth) (sym e) (fails (memory w))

@@ -1,23 +1,48 @@
 -- What the tests hand on is typed.
-use Rattle.std.proofs.Common.{ℕ, [], ◌∷◌, Ok}
+use Rattle.std.proofs.Common.{ℕ, [], ◌∷◌, Ok, sym, subst}
 use Rattle.sf_value.specs.Values.{Kind, Data, HasKind}
-use Rattle.sf_term.specs.declared.node.TermId.{TermId}
-use Rattle.sf_term.specs.declared.program.Program.{Program}
-use Rattle.sf_term.specs.Arena.{tree}
+use Rattle.sf_law.specs.declared.node.PlanId.{PlanId}
+use Rattle.sf_law.specs.declared.plan.Plan.{Plan}
+use Rattle.sf_term.specs.Arena.{templates_of}
+use Rattle.sf_check.specs.declared.checked.Checked.{Checked}
+use Rattle.sf_check.specs.Accepting.{program_of, main_of as checked_main}
+use Rattle.sf_law.specs.Arena.{tree, main_of, network_of_plan}
+use Rattle.sf_law.specs.Plans.{IsPlainPlan}
 use Rattle.sf_mean.specs.Lives.{step, Life, Process, closure, empty}
+use Rattle.sf_mean.specs.Meaning.{Network}
+use Rattle.sf_mean.specs.Contexts.{context_of}
 use Rattle.sf_mean.specs.Typing.{Takes}
-use Rattle.sf_mean.specs.Soundness.{no_steps, more_steps, closure_takes}
+use Rattle.sf_mean.specs.Soundness.{LifeHas, has_nothing, ProcessTakes, no_steps, more_steps, closure_takes}
 use Rattle.sf_state.specs.declared.state.State.{State}
 use Rattle.sf_state.specs.Standing.{Stands}
 use Rattle.sf_step.specs.declared.meter.Meter.{Meter}
 use Rattle.sf_step.specs.Stepping.{Steps, stepped, IsFed, is_fed}
 
-module _ (p : Program) (main : TermId) (a : State) (x : Data) {t u : Kind} (T : Takes (tree p main) t u) (S : Stands p a (closure (tree p main) empty) []) (h : HasKind x t) where
-  pub first_fed : IsFed p a x
-  first_fed = is_fed S (closure_takes T) no_steps h
+-- the term that a plain plan runs is typed as `main` is
+pub plain_takes : (c : Checked) (p : Plan) → IsPlainPlan c p → Takes (context_of (templates_of (program_of c))) (checked_main c).body (checked_main c).input (checked_main c).output
+    → Takes (context_of (network_of_plan p).templates) (tree p (main_of p)) (checked_main c).input (checked_main c).output
+plain_takes c p plain T =
+    subst (λ t. Takes (context_of (network_of_plan p).templates) t (checked_main c).input (checked_main c).output) (sym plain.main)
+    (subst (λ (n : Network). Takes (context_of n.templates) (checked_main c).body (checked_main c).input (checked_main c).output) (sym plain.network) T)
 
-  pub next_fed : (d : ℕ) (b : State) (v y : Data) (m : Meter) → ((P : Process) (L : Life) → Stands p a P L → Steps p P (step d x ∷ L) (Ok v) b m) → HasKind y t → IsFed p b y
-  next_fed d b v y m steps k = from (steps _ _ S)
+module _ (p : Plan) where
+  -- a state that was fed with values of a type, of which its process takes more
+  pub data TakesMore (t : Kind) (a : State) : Type 0 where
+    takes_more : {P : Process} {L : Life} {u : Kind} → Stands p a P L → ProcessTakes (network_of_plan p) P t u → LifeHas L t → TakesMore t a
+
+  pub takes_first : (main : PlanId) (a : State) {t u : Kind} → Takes (context_of (network_of_plan p).templates) (tree p main) t u → Stands p a (closure (tree p main) empty) [] → TakesMore t a
+  takes_first main a T S = takes_more S (closure_takes has_nothing T) no_steps
+
+  pub fed : {t : Kind} (a : State) (x : Data) → TakesMore t a → HasKind x t → IsFed p a x
+  fed a x (takes_more S T l) h = is_fed S T l h
+
+  -- after a sample
+  pub takes_next : {t : Kind} (a b : State) (d : ℕ) (x v : Data) (m : Meter) → TakesMore t a → HasKind x t → ((P : Process) (L : Life) → Stands p a P L → Steps p P (step d x ∷ L) (Ok v) b m) → TakesMore t b
+  takes_next {t = t} a b d x v m (takes_more {P = P} {L = L} S T l) h steps = from (steps _ _ S)
     where
-      from : Steps p (closure (tree p main) empty) (step d x ∷ []) (Ok v) b m → IsFed p b y
-      from (stepped G e i B) = is_fed B (closure_takes T) (more_steps {s = step d x} h no_steps) k
+      from : Steps p P (step d x ∷ L) (Ok v) b m → TakesMore t b
+      from (stepped G e i B) = takes_more B T (more_steps {s = step d x} h l)
+
+  -- where it was frozen
+  pub takes_frozen : {t : Kind} (a b : State) → TakesMore t a → ((P : Process) (L : Life) → Stands p a P L → Stands p b P L) → TakesMore t b
+  takes_frozen a b (takes_more S T l) follows = takes_more (follows _ _ S) T l

@@ -1,5 +1,5 @@
 -- What is stepped is typed.
-use Rattle.std.proofs.Common.{◌≡◌, ℕ, List, [], Ok, refl, ap, subst, IsTrue}
+use Rattle.std.proofs.Common.{◌≡◌, ◌≢◌, ℕ, List, [], Ok, refl, ap, subst, IsTrue}
 use Rattle.std.proofs.Math.Logic.{∥∥₁_elim}
 use Rattle.std.proofs.Props.{props}
 use Rattle.sf_value.specs.Values.{Kind, pair_kind, Data, HasKind, has_pair, first_of, second_of}
@@ -10,34 +10,33 @@ use Rattle.sf_expr.proofs.Sound.{expression_yields, function_yields}
 use Rattle.sf_term.specs.declared.form.Join.{Join}
 use Rattle.sf_term.specs.declared.form.Join.TheVariants.{InSequence, InParallel, FannedOut}
 use Rattle.sf_term.specs.declared.form.Heading.{Heading}
-use Rattle.sf_term.specs.declared.node.TermId.{TermId}
-use Rattle.sf_term.specs.declared.node.Node.TheVariants.{Primitive as NPrimitive, Headed as NHeaded}
+use Rattle.sf_law.specs.declared.node.PlanId.{PlanId}
+use Rattle.sf_law.specs.declared.node.PlanNode.TheVariants.{Primitive as NPrimitive, Headed as NHeaded}
 use Rattle.sf_term.specs.declared.node.Primitive.{Primitive as SPrimitive}
-use Rattle.sf_term.specs.declared.program.Program.{Program}
+use Rattle.sf_law.specs.declared.plan.Plan.{Plan}
 use Rattle.sf_term.specs.Trees.{Term, primitive, joined}
-use Rattle.sf_term.specs.Arena.{tree, expression_at, Builds, builds_bare, builds_with_value, builds_arrow, builds_headed}
-use Rattle.sf_mean.specs.Lives.{Step, step, input_of, Life, Process, closure, empty, fed_back, older}
+use Rattle.sf_law.specs.Arena.{expressions_of, tree, expression_at, Builds, builds_bare, builds_with_value, builds_arrow, builds_headed}
+use Rattle.sf_mean.specs.Lives.{Step, step, input_of, Life, Process, Environment, closure, fed_back, older}
 use Rattle.sf_mean.specs.Meaning.{Network, Outcome, Cost, Made, value_made, make, left_life, right_life, Gives, Outputs}
-use Rattle.sf_mean.specs.Networks.{network_of}
+use Rattle.sf_law.specs.Arena.{network_of_plan}
+use Rattle.sf_mean.specs.Contexts.{Bindings, context_with, Context}
 use Rattle.sf_mean.specs.Typing.{Takes, takes, FormTakes, primitive_takes, sequence_takes, parallel_takes, fan_takes, first_takes, second_takes, loop_takes}
-use Rattle.sf_mean.specs.Soundness.{Have, have_nothing, have_more, LifeHas, no_steps, more_steps, ProcessTakes, closure_takes, OutcomeHas}
+use Rattle.sf_mean.specs.Soundness.{Have, have_nothing, have_more, LifeHas, no_steps, more_steps, EnvironmentHas, has_nothing, ProcessTakes, closure_takes, OutcomeHas}
 use Rattle.sf_mean.proofs.TypedLives.{first_is, second_is, with_inputs_has, relay_has, fed_has}
-use Rattle.sf_mean.proofs.TypedProcesses.{EvalsTyped, AppliesTyped, gives_has, outputs_have, loops_have}
+use Rattle.sf_mean.proofs.TypedProcesses.{environment_scope, EvalsTyped, AppliesTyped, gives_has, outputs_have, loops_have}
 use Rattle.sf_prim.specs.declared.prim_state.PrimState.{PrimState}
 use Rattle.sf_prim.specs.Keeping.{primitive_over, IsTyped, is_typed, IsFed as IsPrimFed, is_fed as is_prim_fed}
 use Rattle.sf_state.specs.declared.state.State.{State}
-use Rattle.sf_state.specs.declared.state.State.TheVariants.{Unborn, Live as Alive}
+use Rattle.sf_state.specs.declared.state.State.TheVariants.{Unborn, Live' as Alive'}
 use Rattle.sf_state.specs.declared.state.Live.{Live}
-use Rattle.sf_state.specs.declared.state.Live.TheVariants.{Prim as LPrim, Join' as LJoin', Wrap' as LWrap'}
+use Rattle.sf_state.specs.declared.state.Live.TheVariants.{Prim as LPrim, Join as LJoin, Wrap as LWrap}
 use Rattle.sf_state.specs.declared.state.Wrap.{Wrap}
 use Rattle.sf_state.specs.declared.state.Process.{Process as SProcess}
 use Rattle.sf_state.specs.declared.state.Process.TheVariants.{Closure as SClosure}
 use Rattle.sf_state.specs.declared.state.Env.{Env}
-use Rattle.sf_state.specs.Standing.{unborn, alive, settles, Ready, ready, lives_primitive, lives_join, lives_wrap, Wraps, wraps_first, wraps_second, wraps_loop, is_closure, IsNames}
+use Rattle.sf_state.specs.Standing.{unborn, alive, Settles, settles, Ready, ready, lives_primitive, lives_join, lives_wrap, Wraps, wraps_first, wraps_second, wraps_loop, is_closure, IsNames}
 use Rattle.sf_step.specs.declared.meter.Meter.{Meter}
-use Rattle.sf_step.specs.declared.routing.Passed.{Passed}
-use Rattle.sf_step.specs.Routing.{is_pair, join_fits, left_input, right_input, input_fits, output_fits, passed_fits, part_input, Passes}
-use Rattle.sf_step.proofs.Routes.{past_fits}
+use Rattle.sf_step.specs.Routing.{is_pair, join_fits, left_input, right_input, input_fits, output_fits, part_input}
 use Rattle.sf_step.specs.Sampling.{StateSteps, Opens, opens, HasTypes, has_types, IsFirstFed, is_first_fed, IsLiveFed, is_live_fed}
 use Rattle.sf_step.specs.Stepping.{IsFed, is_fed}
 use Rattle.sf_step.proofs.Parts.{answered}
@@ -49,10 +48,10 @@ applies : AppliesTyped
 applies R f a b x s h k q = function_yields h q k
 
 module _ (n : Network) where
-  gives_typed : {P : Process} {L : Life} {o : Outcome} {c : Cost} {a b : Kind} → Gives n P L o c → ProcessTakes P a b → LifeHas L a → OutcomeHas o b
+  pub gives_typed : {P : Process} {L : Life} {o : Outcome} {c : Cost} {a b : Kind} → Gives n P L o c → ProcessTakes n P a b → LifeHas L a → OutcomeHas o b
   gives_typed G T l = gives_has n evals applies G T l
 
-  outputs_typed : {P : Process} {L : Life} {ys : List Data} {a b : Kind} → Outputs n P L ys → ProcessTakes P a b → LifeHas L a → Have ys b
+  pub outputs_typed : {P : Process} {L : Life} {ys : List Data} {a b : Kind} → Outputs n P L ys → ProcessTakes n P a b → LifeHas L a → Have ys b
   outputs_typed O T l = outputs_have n evals applies O T l
 
 pair_is : {x : Data} {a b : Kind} → HasKind x (pair_kind a b) → IsTrue (is_pair x)
@@ -61,20 +60,20 @@ pair_is (has_pair h k) = refl
 -- ## Joins
 
 -- the types of a join's parts, and of what they live
-record JoinTypes (j : Join) (f g : Term) (a : Kind) : Type 0 where
+record JoinTypes (Γ : Context) (j : Join) (f g : Term) (a : Kind) : Type 0 where
   left_in : Kind
   left_out : Kind
   right_in : Kind
   right_out : Kind
-  left_takes : Takes f left_in left_out
-  right_takes : Takes g right_in right_out
+  left_takes : Takes Γ f left_in left_out
+  right_takes : Takes Γ g right_in right_out
   splits : (x : Data) → HasKind x a → IsTrue (join_fits j x)
   left_has : (x : Data) → HasKind x a → HasKind (left_input j x) left_in
   right_has : (x y : Data) → HasKind x a → HasKind y left_out → HasKind (right_input j x y) right_in
   left_lived : (L : Life) → LifeHas L a → LifeHas (left_life j L) left_in
   right_lived : (L : Life) (ys : List Data) → LifeHas L a → Have ys left_out → LifeHas (right_life j L ys) right_in
 
-join_types : {f g : Term} {a b : Kind} (j : Join) → FormTakes (joined j f g) a b → JoinTypes j f g a
+join_types : {Γ : Context} {f g : Term} {a b : Kind} (j : Join) → FormTakes Γ (joined j f g) a b → JoinTypes Γ j f g a
 join_types InSequence (sequence_takes F G) = record {
   left_in = _;
   left_out = _;
@@ -136,18 +135,18 @@ made_has {t = t} {v = v} (yields {d = d} h) e = subst (λ w. HasKind w t) (ap (m
 made_has fails e = absurd cc
 
 -- the types of the part, and of what it lived
-record WrapTypes (w : Wrap) (u : Term) (K : Life) (a : Kind) : Type 0 where
+record WrapTypes (Γ : Context) (w : Wrap) (u : Term) (K : Life) (a : Kind) : Type 0 where
   part_in : Kind
   part_out : Kind
-  part_takes : Takes u part_in part_out
+  part_takes : Takes Γ u part_in part_out
   splits : (x : Data) → HasKind x a → IsTrue (input_fits w x)
   splits_output : (y : Data) → HasKind y part_out → IsTrue (output_fits w y)
   part_has : (x : Data) → HasKind x a → HasKind (part_input w x) part_in
   part_lived : LifeHas K part_in
 
 module _ (n : Network) where
-  wrap_types : {w : Wrap} {t u : Term} {m : Made} {L K : Life} {a b : Kind} (x : Data) → Wraps n w t empty m L u K → make n t empty x ≡ answer m → FormTakes t a b → LifeHas L a → WrapTypes w u K a
-  wrap_types x wraps_first h (first_takes T) l = record {
+  wrap_types : {w : Wrap} {t u : Term} {e : Environment} {bs : Bindings} {m : Made} {L K : Life} {a b : Kind} (x : Data) → Wraps n w t e m L u K → make n t e x ≡ answer m → EnvironmentHas e bs → FormTakes (context_with bs n.templates) t a b → LifeHas L a → WrapTypes (context_with bs n.templates) w u K a
+  wrap_types x wraps_first h E (first_takes T) l = record {
     part_in = _;
     part_out = _;
     part_takes = T;
@@ -156,7 +155,7 @@ module _ (n : Network) where
     part_has = λ x. first_is;
     part_lived = with_inputs_has first_of (λ v. first_is) l;
   }
-  wrap_types x wraps_second h (second_takes T) l = record {
+  wrap_types x wraps_second h E (second_takes T) l = record {
     part_in = _;
     part_out = _;
     part_takes = T;
@@ -165,9 +164,9 @@ module _ (n : Network) where
     part_has = λ x. second_is;
     part_lived = with_inputs_has second_of (λ v. second_is) l;
   }
-  wrap_types x (wraps_loop {v = v} {zs = zs} O) h (loop_takes {b = b} {c = c} I T) l =
-      let i : HasKind v c = made_has (expression_yields I has_no_names) h in
-      let z : Have zs (pair_kind b c) = loops_have n evals applies O (closure_takes T) i l in
+  wrap_types x (wraps_loop {v = v} {zs = zs} O) h E (loop_takes {b = b} {c = c} I T) l =
+      let i : HasKind v c = made_has (expression_yields I (environment_scope E)) h in
+      let z : Have zs (pair_kind b c) = loops_have n evals applies O (closure_takes E T) i l in
       record {
         part_in = _;
         part_out = _;
@@ -180,81 +179,88 @@ module _ (n : Network) where
 
 -- ## What the parts are fed with
 
-module _ (p : Program) where
+module _ (p : Plan) where
   abbrev net : Network
-  net = network_of p
+  net = network_of_plan p
 
   pub first_fed : (q : SProcess) (x : Data) → IsFed p (Unborn q) x → IsFirstFed p q x
   first_fed q x (is_fed (unborn Q) T l h) = is_first_fed Q T h
 
-  pub live_fed : (l : Live) (d : ℕ) (x : Data) → IsFed p (Alive l) x → IsLiveFed p l (step d x)
-  live_fed l d x (is_fed (alive (settles R)) T k h) = is_live_fed R T k h
+  settled_fed : {P : Process} {L : Life} {a b : Kind} (l : Live) (d : ℕ) (x : Data) → Settles p l P L → ProcessTakes net P a b → LifeHas L a → HasKind x a → IsLiveFed p l (step d x)
+  settled_fed l d x (settles R) T k h = is_live_fed R T k h
 
-  pub left_fed : {at at' : _} (j : Join) (a b : State) (d : ℕ) (x u : Data) → u ≡ left_input j x → IsLiveFed p (LJoin' j at a at' b) (step d x) → IsFed p a u
-  left_fed j a b d x u eu (is_live_fed (ready h O (lives_join OL A B)) (closure_takes (takes _ _ T)) l k) =
+  pub live_fed : {at : _} (names : Env) (l own : Live) (d : ℕ) (x : Data) → ((P : Process) (L : Life) → Settles p l P L → Settles p own P L) → IsFed p (Alive' names at l) x → IsLiveFed p own (step d x)
+  live_fed names l own d x f (is_fed (alive N S) T k h) = settled_fed own d x (f _ _ S) T k h
+
+  pub left_fed : (j : Join) (a b : State) (d : ℕ) (x u : Data) → u ≡ left_input j x → IsLiveFed p (LJoin j a b) (step d x) → IsFed p a u
+  left_fed j a b d x u eu (is_live_fed (ready h O (lives_join N OL A B)) (closure_takes E (takes _ _ T)) l k) =
       let t = join_types j T in
-      is_fed A (closure_takes t.left_takes) (t.left_lived _ l) (rw eu (t.left_has x k))
+      is_fed A (closure_takes E t.left_takes) (t.left_lived _ l) (rw eu (t.left_has x k))
 
-  pub right_fed : {at at' : _} (j : Join) (a a' b : State) (m n : Meter) (inside d : ℕ) (x u y w : Data) → u ≡ left_input j x → w ≡ right_input j x y
-      → StateSteps p a (step d u) (Ok (a', y)) m n inside → IsLiveFed p (LJoin' j at a at' b) (step d x) → IsFed p b w
-  right_fed j a a' b m n inside d x u y w eu ew hs (is_live_fed (ready h O (lives_join {ys = ys} OL A B)) (closure_takes (takes _ _ T)) l k) =
+  pub right_fed : (j : Join) (a a' b : State) (m n : Meter) (inside d : ℕ) (x u y w : Data) → u ≡ left_input j x → w ≡ right_input j x y
+      → StateSteps p a (step d u) (Ok (a', y)) m n inside → IsLiveFed p (LJoin j a b) (step d x) → IsFed p b w
+  right_fed j a a' b m n inside d x u y w eu ew hs (is_live_fed (ready h O (lives_join {ys = ys} N OL A B)) (closure_takes E (takes _ _ T)) l k) =
       let t = join_types j T in
       let L = t.left_lived _ l in
-      let i = gives_typed net (answered (hs _ _ A)).given (closure_takes t.left_takes) (more_steps {s = step d u} (rw eu (t.left_has x k)) L) in
-      is_fed B (closure_takes t.right_takes) (t.right_lived _ _ l (outputs_typed net OL (closure_takes t.left_takes) L)) (rw ew (t.right_has x y k i))
+      let i = gives_typed net (answered (hs _ _ A)).given (closure_takes E t.left_takes) (more_steps {s = step d u} (rw eu (t.left_has x k)) L) in
+      is_fed B (closure_takes E t.right_takes) (t.right_lived _ _ l (outputs_typed net OL (closure_takes E t.left_takes) L)) (rw ew (t.right_has x y k i))
 
-  pub part_fed : {at : _} (w : Wrap) (a : State) (d : ℕ) (x u : Data) → u ≡ part_input w x → IsLiveFed p (LWrap' w at a) (step d x) → IsFed p a u
-  part_fed w a d x u eu (is_live_fed (ready h O (lives_wrap W A)) (closure_takes (takes _ _ T)) l k) =
-      let t = wrap_types net _ W h T l in
-      is_fed A (closure_takes t.part_takes) t.part_lived (rw eu (t.part_has x k))
+  pub part_fed : (w : Wrap) (a : State) (d : ℕ) (x u : Data) → u ≡ part_input w x → IsLiveFed p (LWrap w a) (step d x) → IsFed p a u
+  part_fed w a d x u eu (is_live_fed (ready h O (lives_wrap W A)) (closure_takes E (takes _ _ T)) l k) =
+      let t = wrap_types net _ W h E T l in
+      is_fed A (closure_takes E t.part_takes) t.part_lived (rw eu (t.part_has x k))
 
-  join_split : {at at' : _} (j : Join) (a b : State) (d : ℕ) (x : Data) → IsLiveFed p (LJoin' j at a at' b) (step d x) → IsTrue (join_fits j x)
-  join_split j a b d x (is_live_fed (ready h O (lives_join OL A B)) (closure_takes (takes _ _ T)) l k) = (join_types j T).splits x k
+  join_split : (j : Join) (a b : State) (d : ℕ) (x : Data) → IsLiveFed p (LJoin j a b) (step d x) → IsTrue (join_fits j x)
+  join_split j a b d x (is_live_fed (ready h O (lives_join N OL A B)) (closure_takes E (takes _ _ T)) l k) = (join_types j T).splits x k
 
-  wrap_splits : {at : _} (w : Wrap) (a : State) (d : ℕ) (x : Data) → IsLiveFed p (LWrap' w at a) (step d x) → IsTrue (input_fits w x)
-  wrap_splits w a d x (is_live_fed (ready h O (lives_wrap W A)) (closure_takes (takes _ _ T)) l k) = (wrap_types net _ W h T l).splits x k
+  wrap_splits : (w : Wrap) (a : State) (d : ℕ) (x : Data) → IsLiveFed p (LWrap w a) (step d x) → IsTrue (input_fits w x)
+  wrap_splits w a d x (is_live_fed (ready h O (lives_wrap W A)) (closure_takes E (takes _ _ T)) l k) = (wrap_types net _ W h E T l).splits x k
 
-  output_splits : {at : _} (w : Wrap) (a a' : State) (m n : Meter) (inside d : ℕ) (x u y : Data) → u ≡ part_input w x
-      → StateSteps p a (step d u) (Ok (a', y)) m n inside → IsLiveFed p (LWrap' w at a) (step d x) → IsTrue (output_fits w y)
-  output_splits w a a' m n inside d x u y eu hs (is_live_fed (ready h O (lives_wrap W A)) (closure_takes (takes _ _ T)) l k) =
-      let t = wrap_types net _ W h T l in
-      t.splits_output y (gives_typed net (answered (hs _ _ A)).given (closure_takes t.part_takes) (more_steps {s = step d u} (rw eu (t.part_has x k)) t.part_lived))
+  output_splits : (w : Wrap) (a a' : State) (m n : Meter) (inside d : ℕ) (x u y : Data) → u ≡ part_input w x
+      → StateSteps p a (step d u) (Ok (a', y)) m n inside → IsLiveFed p (LWrap w a) (step d x) → IsTrue (output_fits w y)
+  output_splits w a a' m n inside d x u y eu hs (is_live_fed (ready h O (lives_wrap W A)) (closure_takes E (takes _ _ T)) l k) =
+      let t = wrap_types net _ W h E T l in
+      t.splits_output y (gives_typed net (answered (hs _ _ A)).given (closure_takes E t.part_takes) (more_steps {s = step d u} (rw eu (t.part_has x k)) t.part_lived))
+
+  -- only parts side by side are joined
+  pub join_is_side : (j : Join) (a b : State) (s : Step) → IsLiveFed p (LJoin j a b) s → j ≢ InSequence
+  join_is_side j a b s (is_live_fed (ready h O (lives_join N OL A B)) T l k) = N
 
   -- what is taken apart is a pair
-  pub join_is_split : {at at' : _} (j : Join) (a b : State) (d : ℕ) (x : Data) → ∥ IsLiveFed p (LJoin' j at a at' b) (step d x) ∥₁ → IsTrue (join_fits j x)
+  pub join_is_split : (j : Join) (a b : State) (d : ℕ) (x : Data) → ∥ IsLiveFed p (LJoin j a b) (step d x) ∥₁ → IsTrue (join_fits j x)
   join_is_split j a b d x h = ∥∥₁_elim h (hlevel props) (join_split j a b d x)
 
-  pub wrap_is_split : {at : _} (w : Wrap) (a : State) (d : ℕ) (x : Data) → ∥ IsLiveFed p (LWrap' w at a) (step d x) ∥₁ → IsTrue (input_fits w x)
+  pub wrap_is_split : (w : Wrap) (a : State) (d : ℕ) (x : Data) → ∥ IsLiveFed p (LWrap w a) (step d x) ∥₁ → IsTrue (input_fits w x)
   wrap_is_split w a d x h = ∥∥₁_elim h (hlevel props) (wrap_splits w a d x)
 
-  pub output_is_split : {at : _} (w : Wrap) (a a' : State) (m n : Meter) (inside d : ℕ) (x u y : Data) {q : Passed} → u ≡ part_input w x → Passes w x q
-      → StateSteps p a (step d u) (Ok (a', y)) m n inside → ∥ IsLiveFed p (LWrap' w at a) (step d x) ∥₁ → IsTrue (passed_fits q y)
-  output_is_split w a a' m n inside d x u y eu P hs h = past_fits y P (∥∥₁_elim h (hlevel props) (output_splits w a a' m n inside d x u y eu hs))
+  pub output_is_split : (w : Wrap) (a a' : State) (m n : Meter) (inside d : ℕ) (x u y : Data) → u ≡ part_input w x
+      → StateSteps p a (step d u) (Ok (a', y)) m n inside → ∥ IsLiveFed p (LWrap w a) (step d x) ∥₁ → IsTrue (output_fits w y)
+  output_is_split w a a' m n inside d x u y eu hs h = ∥∥₁_elim h (hlevel props) (output_splits w a a' m n inside d x u y eu hs)
 
-  pub prim_fed : (i : PrimState) (s : Step) → IsLiveFed p (LPrim i) s → IsPrimFed p i (input_of s)
-  prim_fed i s (is_live_fed (ready h O (lives_primitive K)) (closure_takes (takes _ _ (primitive_takes T))) l k) = is_prim_fed K T k
+  pub prim_fed : (i : PrimState) (s : Step) → IsLiveFed p (LPrim i) s → IsPrimFed (expressions_of p) i (input_of s)
+  prim_fed i s (is_live_fed (ready h O (lives_primitive K)) (closure_takes has_nothing (takes _ _ (primitive_takes T))) l k) = is_prim_fed K T k
 
   -- ## Before the first sample
 
-  pub term_typed : (term : TermId) (names : Env) (x : Data) → IsFirstFed p (SClosure term names) x → HasTypes (tree p term)
-  term_typed term names x (is_first_fed (is_closure N) (closure_takes T) h) = has_types T
+  pub term_typed : (term : PlanId) (names : Env) (x : Data) → IsFirstFed p (SClosure term names) x → HasTypes (tree p term)
+  term_typed term names x (is_first_fed (is_closure N) (closure_takes has_nothing T) h) = has_types T
 
   opened : {l : Live} {t : Term} {e : _} → Opens p t e (Ok l) → (x : Data) → Ready p l (closure t e) x []
   opened (opens h) = h
 
-  pub opened_fed : (term : TermId) (names : Env) (l : Live) (d : ℕ) (x : Data) → ((e : _) → IsNames p names e → Opens p (tree p term) e (Ok l)) → IsFirstFed p (SClosure term names) x → IsLiveFed p l (step d x)
-  opened_fed term names l d x ho (is_first_fed (is_closure {e = e} N) (closure_takes T) h) = is_live_fed (opened (ho e N) x) (closure_takes T) no_steps h
+  pub opened_fed : (term : PlanId) (names : Env) (l : Live) (d : ℕ) (x : Data) → ((e : _) → IsNames p names e → Opens p (tree p term) e (Ok l)) → IsFirstFed p (SClosure term names) x → IsLiveFed p l (step d x)
+  opened_fed term names l d x ho (is_first_fed (is_closure {e = e} N) (closure_takes E T) h) = is_live_fed (opened (ho e N) x) (closure_takes E T) no_steps h
 
-  pub builds_primitive : {q : SPrimitive} {t : Term} → Builds p (NPrimitive q) t → t ≡ primitive (primitive_over p q)
+  pub builds_primitive : {q : SPrimitive} {t : Term} → Builds p (NPrimitive q) t → t ≡ primitive (primitive_over (expressions_of p) q)
   builds_primitive builds_bare = refl
   builds_primitive builds_with_value = refl
   builds_primitive builds_arrow = refl
 
-  pub primitive_typed : (q : SPrimitive) (t : Term) → Builds p (NPrimitive q) t → HasTypes t → IsTyped (primitive_over p q)
+  pub primitive_typed : (q : SPrimitive) (t : Term) → Builds p (NPrimitive q) t → HasTypes t → IsTyped (primitive_over (expressions_of p) q)
   primitive_typed q t B h = types_of (subst HasTypes (builds_primitive B) h)
     where
       types_of : {q : _} → HasTypes (primitive q) → IsTyped q
       types_of (has_types (takes _ _ (primitive_takes T))) = is_typed T
 
-  pub head_typed : (h : Heading) (i : ExprId) (a : TermId) (t : Term) → Builds p (NHeaded h i a) t → HasTypes t → IsTypedIn no_names (expression_at p i)
+  pub head_typed : (h : Heading) (i : ExprId) (a : PlanId) (t : Term) → Builds p (NHeaded h i a) t → HasTypes t → IsTypedIn no_names (expression_at p i)
   head_typed h i a t builds_headed (has_types (takes _ _ (loop_takes I T))) = typed_in has_no_names I

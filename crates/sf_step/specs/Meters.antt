@@ -1,5 +1,6 @@
 -- What meters count.
 use Rattle.std.specs.Prelude.{ℕ}
+use Rattle.sf_value.specs.declared.fault.Fault.{Fault}
 use Rattle.sf_step.specs.declared.meter.Meter.{Meter}
 
 -- how many nodes
@@ -9,3 +10,7 @@ entered_of m = m.entered
 -- how many nodes one inside another
 abbrev pub height_of : Meter → ℕ
 height_of m = m.height
+
+-- why the sample has no value
+abbrev pub fault_of : Meter → Fault
+fault_of m = m.fault

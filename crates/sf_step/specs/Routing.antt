@@ -5,12 +5,6 @@ use Rattle.sf_term.specs.declared.form.Join.{Join}
 use Rattle.sf_term.specs.declared.form.Join.TheVariants.{InSequence, InParallel, FannedOut}
 use Rattle.sf_state.specs.declared.state.Wrap.{Wrap}
 use Rattle.sf_state.specs.declared.state.Wrap.TheVariants.{First, Second, Loop}
-use Rattle.sf_step.specs.declared.routing.Route.{Route}
-use Rattle.sf_step.specs.declared.routing.Route.TheVariants.{Output, Input}
-use Rattle.sf_step.specs.declared.routing.Saved.{Saved}
-use Rattle.sf_step.specs.declared.routing.Saved.TheVariants.{Nothing, Left}
-use Rattle.sf_step.specs.declared.routing.Passed.{Passed}
-use Rattle.sf_step.specs.declared.routing.Passed.TheVariants.{OnFirst, OnSecond, Fed}
 
 -- whether a value is a pair
 abbrev pub is_pair : Data → Bool
@@ -37,18 +31,6 @@ right_input InSequence x y = y
 right_input InParallel x y = second_of x
 right_input FannedOut x y = x
 
--- where the right part's input comes from, at a join's input
-pub data Routes : Join → Data → Route → Type 0 where
-  routes_output : {x : Data} → Routes InSequence x Output
-  routes_second : {x : Data} → Routes InParallel x (Input (second_of x))
-  routes_input : {x : Data} → Routes FannedOut x (Input x)
-
--- what stands in a join's value beside the right part's output, at the left part's output
-pub data Saves : Join → Data → Saved → Type 0 where
-  saves_nothing : {y : Data} → Saves InSequence y Nothing
-  saves_in_parallel : {y : Data} → Saves InParallel y (Left y)
-  saves_fanned_out : {y : Data} → Saves FannedOut y (Left y)
-
 -- ## Forms with one part
 
 -- what a form takes apart of its input is a pair
@@ -62,12 +44,6 @@ abbrev pub output_fits : Wrap → Data → Bool
 output_fits First y = true
 output_fits Second y = true
 output_fits (Loop v) y = is_pair y
-
--- likewise, by what went past the part
-abbrev pub passed_fits : Passed → Data → Bool
-passed_fits (OnFirst v) y = true
-passed_fits (OnSecond v) y = true
-passed_fits Fed y = is_pair y
 
 -- the part's input, from the form's
 abbrev pub part_input : Wrap → Data → Data
@@ -86,9 +62,3 @@ abbrev pub kept_after : Wrap → Data → Wrap
 kept_after First y = First
 kept_after Second y = Second
 kept_after (Loop v) y = Loop (second_of y)
-
--- what goes past the part, at the form's input
-pub data Passes : Wrap → Data → Passed → Type 0 where
-  passes_second : {x : Data} → Passes First x (OnSecond (second_of x))
-  passes_first : {x : Data} → Passes Second x (OnFirst (first_of x))
-  passes_nothing : {v x : Data} → Passes (Loop v) x Fed

@@ -1,19 +1,23 @@
 -- What the parts of a sample answer.
-use Rattle.std.specs.Prelude.{◌≡◌, ℕ, ◌+◌, ◌≤◌, max, [], ◌∷◌, ◌++◌, ◌⊎◌, Result, Ok, Err}
+use Rattle.std.specs.Prelude.{◌≡◌, ℕ, ◌+◌, ◌≤◌, max, Bool, true, false, List, [], ◌∷◌, ◌++◌, ◌⊎◌, Result, Ok, Err}
 use Rattle.sf_value.specs.Values.{Kind, Data, HasKind}
 use Rattle.sf_value.specs.declared.fault.ValueFault.{ValueFault}
 use Rattle.sf_value.specs.declared.fault.Fault.{Fault}
 use Rattle.sf_value.specs.declared.fault.Fault.TheVariants.{Value, Large, Memory}
 use Rattle.sf_expr.specs.declared.fault.EvalFault.{EvalFault}
 use Rattle.sf_expr.specs.declared.fault.EvalFault.TheVariants.{Value as EValue, Memory as EMemory}
-use Rattle.sf_term.specs.declared.program.Program.{Program}
+use Rattle.sf_law.specs.declared.plan.Plan.{Plan}
 use Rattle.sf_term.specs.Trees.{Term}
 use Rattle.sf_mean.specs.Lives.{Step, input_of, Life, Process, closure, Environment, first_input}
 use Rattle.sf_mean.specs.Meaning.{Readings, Outcome, gave, faulted, Cost, count, height, text_cost, Gives}
-use Rattle.sf_mean.specs.Networks.{network_of}
+use Rattle.sf_law.specs.declared.node.PlanId.{PlanId}
+use Rattle.sf_law.specs.Arena.{tree, network_of_plan}
+use Rattle.sf_mean.specs.Contexts.{Signature}
 use Rattle.sf_mean.specs.Typing.{Takes}
+use Rattle.sf_prim.specs.Keeping.{without_names}
 use Rattle.sf_mean.specs.Soundness.{LifeHas, ProcessTakes}
 use Rattle.sf_state.specs.declared.state.State.{State}
+use Rattle.sf_state.specs.declared.state.State.TheVariants.{Unborn, Live' as Alive'}
 use Rattle.sf_state.specs.declared.state.Live.{Live}
 use Rattle.sf_state.specs.declared.state.Process.{Process as SProcess}
 use Rattle.sf_state.specs.Standing.{Stands, Settles, Ready, IsProcess}
@@ -35,10 +39,15 @@ pub record Ticks (m n : Meter) (depth inside : ℕ) : Type 0 where
   pub high : max (height_of m) inside ≡ height_of n
   pub below : inside ≡ depth + 1
 
--- one more node, unless that is too many
+-- a result, with the fault that stands in the meter
+abbrev pub kept : {A E : Type 0} → Result A E → Fault → Result A Fault
+kept (Ok a) f = Ok a
+kept (Err e) f = Err f
+
+-- one more node, unless that is too many, and then none
 pub data Ticked : Meter → Meter → ℕ → Result ℕ Fault → Type 0 where
   ticked : {m n : Meter} {depth inside : ℕ} → Ticks m n depth inside → Ticked m n depth (Ok inside)
-  refused : {m n : Meter} {depth : ℕ} → (100000 ≤ entered_of m) ⊎ (800 ≤ depth) → Ticked m n depth (Err Large)
+  refused : {m n : Meter} {depth : ℕ} → (100000 ≤ entered_of m) ⊎ (800 ≤ depth) → entered_of n ≡ entered_of m → height_of n ≡ height_of m → Ticked m n depth (Err Large)
 
 -- what the probes recorded: no form has a probe
 unfoldable pub readings : Meter → Readings
@@ -50,15 +59,23 @@ pub record Spent (m n : Meter) (depth : ℕ) (k : Cost) (r : Readings) : Type 0 
   pub high : height_of n ≡ max (height_of m) (depth + height k)
   pub recorded : readings n ≡ readings m ++ r
 
+-- the meter counted no more than this cost of a part that stands inside depth nodes
+pub record AtMost (m n : Meter) (depth : ℕ) (k : Cost) : Type 0 where
+  pub entered : entered_of n ≤ entered_of m + count k
+  pub high : height_of n ≤ max (height_of m) (depth + height k)
+
+-- the meter counted no more than what any outcome costs
+pub record Within (R : Rel) (m n : Meter) (depth : ℕ) : Type 0 where
+  pub most : (o : Outcome) (k : Cost) → R o k → AtMost m n depth k
+
 -- Why a part has no value: a fault of the meaning, more nodes than are allowed, or memory.
 pub data Fails (R : Rel) : Fault → Meter → Meter → ℕ → Type 0 where
   faults : {x : ValueFault} {k : Cost} {m n : Meter} {depth : ℕ}
-      → R (faulted x) k → entered_of n ≤ entered_of m + count k → height_of n ≤ max (height_of m) (depth + height k)
-      → Fails R (Value x) m n depth
+      → R (faulted x) k → AtMost m n depth k → Fails R (Value x) m n depth
   large : {m n : Meter} {depth : ℕ}
       → ((o : Outcome) (k : Cost) → R o k → entered_of m + count k ≤ 100000 → depth + height k ≤ 800 → ⊥)
-      → Fails R Large m n depth
-  memory : {m n : Meter} {depth : ℕ} → Fails R Memory m n depth
+      → Within R m n depth → Fails R Large m n depth
+  memory : {m n : Meter} {depth : ℕ} → Within R m n depth → Fails R Memory m n depth
 
 -- What a part answers: a value at its cost, with what holds after it; or why there is none.
 pub data Answers {A : Type 0} (view : A → Data) (after : A → Type 0) (R : Rel) : Result A Fault → Meter → Meter → ℕ → Type 0 where
@@ -67,38 +84,49 @@ pub data Answers {A : Type 0} (view : A → Data) (after : A → Type 0) (R : Re
   fails : {f : Fault} {m n : Meter} {depth : ℕ} → Fails R f m n depth → Answers view after R (Err f) m n depth
 
 -- a part steps to the outcome of its process on the longer life
-abbrev pub StateSteps : Program → State → Step → Result (State × Data) Fault → Meter → Meter → ℕ → Type 0
+abbrev pub StateSteps : Plan → State → Step → Result (State × Data) Fault → Meter → Meter → ℕ → Type 0
 StateSteps p a s result m n depth = (P : Process) (L : Life) → Stands p a P L
-    → Answers (λ y. y.1) (λ y. Stands p y.0 P (s ∷ L)) (Gives (network_of p) P (s ∷ L)) result m n depth
-
--- a process steps to its outcome on its first step
-abbrev pub StartSteps : Program → SProcess → Step → Result (Live × Data) Fault → Meter → Meter → ℕ → Type 0
-StartSteps p q s result m n depth = (P : Process) → IsProcess p q P
-    → Answers (λ y. y.1) (λ y. Settles p y.0 P (s ∷ [])) (Gives (network_of p) P (s ∷ [])) result m n depth
+    → Answers (λ y. y.1) (λ y. Stands p y.0 P (s ∷ L)) (Gives (network_of_plan p) P (s ∷ L)) result m n depth
 
 -- a live part that counted between m and n steps likewise, where its parts stand inside so many nodes
-abbrev pub LiveSteps : Program → Live → Step → Result (Live × Data) Fault → Meter → Meter → ℕ → Type 0
+abbrev pub LiveSteps : Plan → Live → Step → Result (Live × Data) Fault → Meter → Meter → ℕ → Type 0
 LiveSteps p l s result n n' inside = (m : Meter) (depth : ℕ) → Ticks m n depth inside → (P : Process) (L : Life) → Ready p l P (first_input s L) L
-    → Answers (λ y. y.1) (λ y. Settles p y.0 P (s ∷ L)) (Gives (network_of p) P (s ∷ L)) result m n' depth
+    → Answers (λ y. y.1) (λ y. Settles p y.0 P (s ∷ L)) (Gives (network_of_plan p) P (s ∷ L)) result m n' depth
 
 -- a live part before its first sample, or the fault of its constants
-pub data Opens (p : Program) (t : Term) (e : Environment) : Result Live Fault → Type 0 where
+pub data Opens (p : Plan) (t : Term) (e : Environment) : Result Live Fault → Type 0 where
   opens : {l : Live} → ((x : Data) → Ready p l (closure t e) x []) → Opens p t e (Ok l)
-  opens_with_fault : {x : ValueFault} → ((s : Step) → Gives (network_of p) (closure t e) (s ∷ []) (faulted x) (text_cost t)) → Opens p t e (Err (Value x))
+  opens_with_fault : {x : ValueFault} → ((s : Step) → Gives (network_of_plan p) (closure t e) (s ∷ []) (faulted x) (text_cost t)) → Opens p t e (Err (Value x))
   opens_without_memory : Opens p t e (Err Memory)
+
+-- States of terms before their first sample.
+pub data AllBegin (p : Plan) (e : Environment) : List PlanId → List State → Type 0 where
+  none_begin : AllBegin p e [] []
+  more_begin : {i : PlanId} {ids : List PlanId} {a : State} {bs : List State}
+      → Stands p a (closure (tree p i) e) [] → AllBegin p e ids bs → AllBegin p e (i ∷ ids) (a ∷ bs)
+
+-- whether a part was not stepped yet
+abbrev pub is_unborn : State → Bool
+is_unborn (Unborn q) = true
+is_unborn (Alive' names at l) = false
+
+-- what a step left in place, or the fault that stands in the meter
+abbrev pub left_or : {A B E : Type 0} → Result A E → B → Fault → Result B Fault
+left_or (Ok a) b f = Ok b
+left_or (Err e) b f = Err f
 
 -- ## Types
 
--- A term has types.
+-- A term has types, where no names are bound.
 pub data HasTypes (t : Term) : Type 0 where
-  has_types : {a b : Kind} → Takes t a b → HasTypes t
+  has_types : {ss : List Signature} {a b : Kind} → Takes (without_names ss) t a b → HasTypes t
 
 -- An input has the type of a process's inputs.
-pub data IsFirstFed (p : Program) (q : SProcess) (x : Data) : Type 0 where
+pub data IsFirstFed (p : Plan) (q : SProcess) (x : Data) : Type 0 where
   is_first_fed : {P : Process} {a b : Kind}
-      → IsProcess p q P → ProcessTakes P a b → HasKind x a → IsFirstFed p q x
+      → IsProcess p q P → ProcessTakes (network_of_plan p) P a b → HasKind x a → IsFirstFed p q x
 
 -- A step's input has the type of the inputs before it.
-pub data IsLiveFed (p : Program) (l : Live) (s : Step) : Type 0 where
+pub data IsLiveFed (p : Plan) (l : Live) (s : Step) : Type 0 where
   is_live_fed : {P : Process} {L : Life} {a b : Kind}
-      → Ready p l P (first_input s L) L → ProcessTakes P a b → LifeHas L a → HasKind (input_of s) a → IsLiveFed p l s
+      → Ready p l P (first_input s L) L → ProcessTakes (network_of_plan p) P a b → LifeHas L a → HasKind (input_of s) a → IsLiveFed p l s

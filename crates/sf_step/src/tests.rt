@@ -1,8 +1,9 @@
 ghost use Rattle.std.specs.Prelude.{IfOk};
-ghost use Rattle.sf_term.specs.Arena.{HoldsTerm, tree};
+ghost use Rattle.sf_term.specs.Arena.{HoldsTerm};
+ghost use Rattle.sf_mean.specs.Contexts.{context_of};
 ghost use Rattle.sf_mean.specs.Typing.{Takes};
 ghost use Rattle.sf_check.specs.Accepting.{main_of as checked_main};
-ghost use Rattle.sf_law.specs.Plans.{program_of, main_of};
+ghost use Rattle.sf_law.specs.Arena.{tree, main_of, network_of_plan};
 
 use crate::meter::Meter;
 use crate::sample::step;
@@ -13,6 +14,7 @@ use sf_state::State;
 use sf_term::{Bare, BuildRefusal, Heading, Join, Program, Side, TermId, WithValue};
 use sf_value::{Fault, Ty, Value, has_type, same};
 use std::alloc::Global;
+use std::rc::Rc;
 use std::test::Fail;
 
 /// The network whose `main` is this term, which takes numbers to values of a type.
@@ -30,12 +32,10 @@ fn network(alloc: Global, program: Program, main: TermId, output: Ty) -> Result<
 
 /// The plan of a network, whose term takes what its `main` does.
 fn plan_of(alloc: Global, checked: &Checked) -> Result<Plan, Fail>
-    ensures { IfOk result (λ plan. Takes (tree (program_of plan) (main_of plan)) (checked_main checked.now).input (checked_main checked.now).output) }
+    ensures { IfOk result (λ plan. Takes (context_of (network_of_plan plan).templates) (tree plan (main_of plan)) (checked_main checked.now).input (checked_main checked.now).output) }
 {
     let plan = plain(alloc, checked)?;
-    if plan.main() != checked.main() {
-        return Err(Fail::new("another main"));
-    }
+    let _main = checked.main();
     Ok(plan)
 }
 
@@ -53,8 +53,8 @@ fn gives(
     }
     let mut state = State::unborn(plan.main());
     let mut meter = Meter::new();
-    let first = step(&mut state, &plan, alloc, 0, one, &mut meter)?;
-    let second = step(&mut state, &plan, alloc, 1000, two, &mut meter)?;
+    let first = step(alloc, &mut state, &plan, 0, one, &mut meter)?;
+    let second = step(alloc, &mut state, &plan, 1000, two, &mut meter)?;
     let is_right = same(&first, &values.0) && same(&second, &values.1);
     Ok((is_right, meter.entered(), meter.height()))
 }
@@ -138,6 +138,71 @@ fn a_loop_is_fed_with_what_it_gave(rt: HostRuntime) -> Result<(), Fail> {
     Ok(())
 }
 
+/// How many owners a state's node has.
+fn owners(state: &State) -> usize {
+    match state {
+        State::Unborn(_) => 0,
+        State::Live(_, node) => Rc::strong_count(node),
+    }
+}
+
+/// What a network gives at its second sample, and what it then gives when it goes on from the first, where it was frozen;
+/// and the owners of the frozen node. The input is 5 each time.
+fn gives_again(
+    alloc: Global,
+    checked: &Checked,
+) -> Result<(Result<Value, Fault>, Result<Value, Fault>, (usize, usize)), Fail> {
+    let plan = plan_of(alloc, checked)?;
+    let input = Value::int(5);
+    if !has_type(&input, checked.input()) {
+        return Err(Fail::new("bad input"));
+    }
+    let second = input.clone_in(alloc)?;
+    let third = input.clone_in(alloc)?;
+    let again = input.clone_in(alloc)?;
+    let mut state = State::unborn(plan.main());
+    let mut meter = Meter::new();
+    drop(step(alloc, &mut state, &plan, 0, input, &mut meter)?);
+    let mut frozen = state.freeze()?;
+    let before = owners(&frozen);
+    let running = match step(alloc, &mut state, &plan, 1000, second, &mut meter) {
+        Ok(value) => {
+            drop(step(alloc, &mut state, &plan, 1000, third, &mut meter));
+            Ok(value)
+        }
+        Err(fault) => Err(fault),
+    };
+    let after = owners(&frozen);
+    let resumed = step(alloc, &mut frozen, &plan, 1000, again, &mut meter);
+    Ok((running, resumed, (before, after)))
+}
+
+/// Whether a sample gave this number, or there was no memory.
+fn is_or_refused(sample: &Result<Value, Fault>, number: i64) -> bool {
+    match sample {
+        Ok(value) => same(value, &Value::int(number)),
+        Err(fault) => *fault == Fault::Memory,
+    }
+}
+
+#[test]
+fn a_frozen_state_goes_on_from_where_it_was_frozen(rt: HostRuntime) -> Result<(), Fail> {
+    let alloc = rt.alloc();
+    let mut program = Program::new(alloc);
+    let seven = program.int(7, Spot::NONE)?;
+    let eight = program.int(8, Spot::NONE)?;
+    let first = program.with_value(WithValue::InitialPre, seven, Spot::NONE)?;
+    let second = program.with_value(WithValue::InitialPre, eight, Spot::NONE)?;
+    let main = program.joined(Join::InSequence, first, second, Spot::NONE)?;
+    let checked = network(alloc, program, main, Ty::int())?;
+    // 8, 7, 5; a step that is refused for want of memory leaves the frozen state as it was
+    let (running, resumed, owners) = gives_again(alloc, &checked)?;
+    assert!(rt; is_or_refused(&running, 7) && is_or_refused(&resumed, 7));
+    assert!(rt; running.is_ok() || resumed.is_ok());
+    assert!(rt; running.is_err() || owners == (2, 1));
+    Ok(())
+}
+
 /// `identity` joined with itself, and that with itself, so many times.
 fn doubled(program: &mut Program, times: u32) -> Result<TermId, BuildRefusal>
     ensures { IfOk result (λ id. HoldsTerm program.new id) }
@@ -157,7 +222,7 @@ fn first_fault(alloc: Global, checked: &Checked, meter: &mut Meter) -> Result<Op
         return Err(Fail::new("bad input"));
     }
     let mut state = State::unborn(plan.main());
-    match step(&mut state, &plan, alloc, 0, input, meter) {
+    match step(alloc, &mut state, &plan, 0, input, meter) {
         Ok(_) => Ok(None),
         Err(fault) => Ok(Some(fault)),
     }

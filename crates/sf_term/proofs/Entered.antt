@@ -7,6 +7,7 @@ use Rattle.sf_expr.specs.declared.exprs.Exprs.{Exprs}
 use Rattle.sf_expr.specs.Folded.{trees}
 use Rattle.sf_expr.specs.declared.exprs.ExprId.{ExprId}
 use Rattle.sf_expr.specs.declared.exprs.FunctionId.{FunctionId}
+use Rattle.sf_expr.specs.declared.exprs.ExprNode.{ExprNode}
 use Rattle.sf_expr.specs.declared.exprs.ExprRefusal.{ExprRefusal}
 use Rattle.sf_expr.specs.declared.spot.Spot.{Spot}
 use Rattle.sf_expr.specs.Expressions.{Expression}
@@ -137,9 +138,9 @@ pub unchanged_grown : (x y : Exprs) → IsUnchanged x y → IsGrown x y
 unchanged_grown x y u = record { kept = unchanged_keeps x y u; more = omega (arith, u.count); more_functions = omega (arith, u.functions) }
 
 -- what builders of expressions leave has grown, whatever they answer
-pub grown_by : (x y : Exprs) (r : Result ExprId ExprRefusal) (e : Expression) (s : Spot) → IfOk r (λ id. Adds x y id e s) → OnErr r (IsUnchanged x y) → IsGrown x y
-grown_by x y (Ok id) e s a u = record { kept = a.kept; more = omega (arith, a.count); more_functions = omega (arith, a.functions) }
-grown_by x y (Err f) e s a u = unchanged_grown x y u
+pub grown_by : (x y : Exprs) (r : Result ExprId ExprRefusal) (n : ExprId → ExprNode) (e : Expression) (s : Spot) → IfOk r (λ id. Adds x y id (n id) e s) → OnErr r (IsUnchanged x y) → IsGrown x y
+grown_by x y (Ok id) n e s a u = record { kept = a.kept; more = omega (arith, a.count); more_functions = omega (arith, a.functions) }
+grown_by x y (Err f) n e s a u = unchanged_grown x y u
 
 pub function_grown_by : (x y : Exprs) (r : Result FunctionId ExprRefusal) (p : PlacedPattern) (b : ExprId) → IfOk r (λ f. AddsFunction x y f p b) → OnErr r (IsUnchanged x y) → IsGrown x y
 function_grown_by x y (Ok f) p b a u = record { kept = a.kept; more = omega (arith, a.count); more_functions = omega (arith, a.functions) }

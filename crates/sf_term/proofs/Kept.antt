@@ -6,10 +6,11 @@ use Rattle.std.proofs.lemmas.Bool.{cases_lt}
 use Rattle.sf_expr.specs.declared.spot.Spot.{Spot}
 use Rattle.sf_expr.specs.declared.exprs.ExprId.{ExprId}
 use Rattle.sf_expr.specs.declared.exprs.FunctionId.{FunctionId}
+use Rattle.sf_expr.specs.declared.exprs.ExprNode.{ExprNode}
 use Rattle.sf_expr.specs.declared.exprs.Exprs.{Exprs}
 use Rattle.sf_expr.specs.Patterns.{PlacedPattern}
 use Rattle.sf_expr.specs.Expressions.{Expression}
-use Rattle.sf_expr.specs.Arena.{expression, count_of, function_count, Holds, HoldsFunction as HoldsFunctionIn, function_at, pattern_at as pattern_at_in, body_at as body_at_in, spot_at as value_spot_at, Keeps as KeepsExpressions, Adds as AddsToExpressions, AddsFunction as AddsFunctionIn, IsUnchanged as ExpressionsUnchanged}
+use Rattle.sf_expr.specs.Arena.{expression, count_of, function_count, Holds, HoldsFunction as HoldsFunctionIn, function_at, pattern_at as pattern_at_in, body_at as body_at_in, node_at as value_node_at, spot_at as value_spot_at, Keeps as KeepsExpressions, Adds as AddsToExpressions, AddsFunction as AddsFunctionIn, IsUnchanged as ExpressionsUnchanged}
 use Rattle.sf_expr.proofs.Entered.{below_holds, holds_below, below_function, function_below, few_expressions, adds_keeps as expressions_kept, unchanged_keeps as unchanged_expressions_kept}
 use Rattle.sf_term.specs.declared.node.TermId.{TermId}
 use Rattle.sf_term.specs.declared.node.Primitive.TheVariants as primitives
@@ -20,7 +21,7 @@ use Rattle.sf_term.specs.declared.program.Program.{Program}
 use Rattle.sf_term.specs.Trees.{Term, Template, primitive, joined, sided, headed, bare, with_value, arrow, depth}
 use Rattle.sf_term.specs.Headers.{Header, bodies_end}
 use Rattle.sf_term.specs.Entries.{made_over, needs, needs_expressions, needs_functions, identity_entry, entry_at, terms, term_at}
-use Rattle.sf_term.specs.Arena.{id_number, expressions_of, term_count, expression_count, HoldsTerm, HoldsExpression, HoldsFunction, pattern_at, body_at, function_in, tree, expression_at, entry_of, spot_at, expression_spot_at, made_in, headers_of, template_in, Builds, builds_bare, builds_with_value, builds_arrow, builds_joined, builds_sided, builds_headed, PartsBelow, HoldsParts, KeepsTrees, Keeps, AddsTerm, AddsExpression, AddsFunction, AddsTemplate, IsUnchanged}
+use Rattle.sf_term.specs.Arena.{id_number, expressions_of, term_count, expression_count, HoldsTerm, HoldsExpression, HoldsFunction, pattern_at, body_at, function_in, tree, expression_at, entry_of, node_at, expression_node_at, spot_at, expression_spot_at, made_in, headers_of, template_in, Builds, builds_bare, builds_with_value, builds_arrow, builds_joined, builds_sided, builds_headed, PartsBelow, HoldsParts, KeepsTrees, Keeps, AddsTerm, AddsExpression, AddsFunction, AddsTemplate, IsUnchanged}
 use Rattle.sf_term.proofs.Entered.{term-other, term-pushed, entry-other, entry-pushed, term-built, term-same}
 
 -- what a node needs is there where its parts are held
@@ -46,6 +47,11 @@ builds p t = subst (λ u. Builds p (entry_at p.terms.items t.0).node u) (sym (te
     of_node (nodes.Sided d a) = builds_sided
     of_node (nodes.Headed h e a) = builds_headed
 
+-- what a node stands for
+pub node_builds : (p : Program) (t : TermId) (n : Node) → node_at p t ≡ n → Builds p n (tree p t)
+unfolding node_at entry_of
+node_builds p t n e = subst (λ n. Builds p n (tree p t)) e (builds p t)
+
 -- the parts of a node stand before it
 pub parts_below : (p : Program) (t : TermId) → PartsBelow (entry_of p t).node (id_number t)
 unfolding entry_of
@@ -68,20 +74,22 @@ keeps_of : (old new : Program) → KeepsTrees old new → headers_of new ≡ hea
 unfolding headers_of
 keeps_of old new k e = record {
   trees = k;
+  headers = e;
   templates = ap (λ hs. map (template_in new) hs) e ∙ templates-same old new old.templates.items old.bodies k;
   spots = ap (λ hs. map (λ (h : Header). h.spot) hs) e;
 }
 
 -- the trees stay where an entry is put behind
 pushed_keeps : (old new : Program) (entry : Entry) → new.expressions ≡ old.expressions → new.terms.items ≡ old.terms.items ++ entry ∷ [] → KeepsTrees old new
-unfolding HoldsTerm HoldsExpression HoldsFunction tree spot_at expression_at expression_spot_at pattern_at body_at
+unfolding HoldsTerm HoldsExpression HoldsFunction tree node_at spot_at expression_at expression_node_at expression_spot_at pattern_at body_at
 pushed_keeps old new entry same grown = record {
   terms = λ t h. omega (arith, ap length grown, length-append old.terms.items (entry ∷ []));
+  nodes = λ t h. ap (λ (n : Entry). n.node) (other t h);
   trees = λ t h.
       ap₂ (λ x es. term_at x es t.0) same grown ∙ term-other old.expressions old.terms.items entry t.0 (λ e. omega arith);
-  spots = λ t h.
-      ap (λ es. (entry_at es t.0).spot) grown ∙ ap (λ (n : Entry). n.spot) (entry-other old.terms.items entry t.0 (λ e. omega arith));
+  spots = λ t h. ap (λ (n : Entry). n.spot) (other t h);
   expressions = λ e h. subst (λ x. Holds x e) (sym same) h;
+  value_nodes = λ e h. ap (λ x. value_node_at x e) same;
   values = λ e h. ap (λ x. expression x e) same;
   value_spots = λ e h. ap (λ x. value_spot_at x e) same;
   functions = λ f h. subst (λ x. HoldsFunctionIn x f) (sym same) h;
@@ -89,14 +97,19 @@ pushed_keeps old new entry same grown = record {
   bodies = λ f h. ap (λ x. body_at_in x f) same;
   meanings = λ f h. ap (λ x. function_at x f) same;
 }
+  where
+    other : (t : TermId) → HoldsTerm old t → entry_at new.terms.items t.0 ≡ entry_at old.terms.items t.0
+    other t h = ap (λ es. entry_at es t.0) grown ∙ entry-other old.terms.items entry t.0 (λ e. omega arith)
 
 -- an entry put behind adds its term
-pub adds_pushed : (old new : Program) (entry : Entry) (id : TermId) → new.expressions ≡ old.expressions → new.terms.items ≡ old.terms.items ++ entry ∷ [] → headers_of new ≡ headers_of old → id.0 ≡ length old.terms.items → entry.depth ≡ depth (made_in old entry.node) → entry.depth ≤ 64 → AddsTerm old new id (made_in old entry.node) entry.spot
-unfolding HoldsTerm tree spot_at made_in term_count expression_count
+pub adds_pushed : (old new : Program) (entry : Entry) (id : TermId) → new.expressions ≡ old.expressions → new.terms.items ≡ old.terms.items ++ entry ∷ [] → headers_of new ≡ headers_of old → id.0 ≡ length old.terms.items → entry.depth ≡ depth (made_in old entry.node) → entry.depth ≤ 64 → AddsTerm old new id entry.node (made_in old entry.node) entry.spot
+unfolding HoldsTerm tree node_at spot_at made_in term_count expression_count
 adds_pushed old new entry id same grown headers at measured shallow = record {
   within = omega (arith, long);
+  fresh = λ h. omega arith;
+  node = ap (λ (n : Entry). n.node) here;
   is = ap₂ (λ x es. term_at x es id.0) same grown ∙ term-pushed old.expressions old.terms.items entry id.0 at;
-  spotted = ap (λ es. (entry_at es id.0).spot) grown ∙ ap (λ (n : Entry). n.spot) (entry-pushed old.terms.items entry id.0 at);
+  spotted = ap (λ (n : Entry). n.spot) here;
   shallow = omega arith;
   kept = keeps_of old new (pushed_keeps old new entry same grown) headers;
   term_counted = long;
@@ -106,14 +119,19 @@ adds_pushed old new entry id same grown headers at measured shallow = record {
     long : length new.terms.items ≡ length old.terms.items + 1
     long = ap length grown ∙ omega (arith, length-append old.terms.items (entry ∷ []))
 
+    here : entry_at new.terms.items id.0 ≡ entry
+    here = ap (λ es. entry_at es id.0) grown ∙ entry-pushed old.terms.items entry id.0 at
+
 -- the trees stay where the expressions grow
 grown_keeps : (old new : Program) → KeepsExpressions old.expressions new.expressions → new.terms.items ≡ old.terms.items → KeepsTrees old new
-unfolding HoldsTerm HoldsExpression HoldsFunction tree spot_at expression_at expression_spot_at pattern_at body_at
+unfolding HoldsTerm HoldsExpression HoldsFunction tree node_at spot_at expression_at expression_node_at expression_spot_at pattern_at body_at
 grown_keeps old new k e = record {
   terms = λ t h. omega (arith, ap length e);
+  nodes = λ t h. ap (λ es. (entry_at es t.0).node) e;
   trees = λ t h. ap (λ es. term_at new.expressions es t.0) e ∙ term-same old.expressions new.expressions old.terms.items t.0 k old.arena.closed old.arena.functions_closed;
   spots = λ t h. ap (λ es. (entry_at es t.0).spot) e;
   expressions = λ x h. k.holds x h;
+  value_nodes = λ x h. k.nodes x h;
   values = λ x h. k.trees x h;
   value_spots = λ x h. k.spots x h;
   functions = λ f h. k.functions f h;
@@ -123,13 +141,15 @@ grown_keeps old new k e = record {
 }
 
 -- what is added to the expressions is added to the program
-pub adds_expression : (old new : Program) (id : ExprId) (e : Expression) (s : Spot) → AddsToExpressions old.expressions new.expressions id e s → new.terms.items ≡ old.terms.items → headers_of new ≡ headers_of old → AddsExpression old new id e s
-unfolding HoldsExpression expression_at expression_spot_at term_count expression_count
-adds_expression old new id e s a same headers = record {
+pub adds_expression : (old new : Program) (id : ExprId) (n : ExprNode) (e : Expression) (s : Spot) → AddsToExpressions old.expressions new.expressions id n e s → new.terms.items ≡ old.terms.items → headers_of new ≡ headers_of old → AddsExpression old new id n e s
+unfolding HoldsExpression expression_at expression_node_at expression_spot_at term_count expression_count
+adds_expression old new id n e s a same headers = record {
   within = a.within;
+  fresh = a.fresh;
+  node = a.node;
   is = a.is;
   spotted = a.spotted;
-  kept = keeps_of old new (grown_keeps old new (expressions_kept old.expressions new.expressions id e s a) same) headers;
+  kept = keeps_of old new (grown_keeps old new (expressions_kept old.expressions new.expressions id n e s a) same) headers;
   term_counted = ap length same;
   expression_counted = a.count;
 }
@@ -139,6 +159,7 @@ pub adds_function : (old new : Program) (f : FunctionId) (q : PlacedPattern) (b 
 unfolding HoldsFunction expression_at pattern_at body_at term_count expression_count
 adds_function old new f q b a same headers = record {
   within = a.within;
+  fresh = a.fresh;
   pattern = a.pattern;
   body = a.body;
   is = a.is;
@@ -149,7 +170,7 @@ adds_function old new f q b a same headers = record {
 
 -- the same expressions are kept
 same_kept : (x y : Exprs) → y ≡ x → KeepsExpressions x y
-same_kept x y e = subst (λ z. KeepsExpressions x z) (sym e) (record { holds = λ i h. h; trees = λ i h. refl; spots = λ i h. refl; functions = λ f h. h; patterns = λ f h. refl; bodies = λ f h. refl; meanings = λ f h. refl })
+same_kept x y e = subst (λ z. KeepsExpressions x z) (sym e) (record { holds = λ i h. h; nodes = λ i h. refl; trees = λ i h. refl; spots = λ i h. refl; functions = λ f h. h; patterns = λ f h. refl; bodies = λ f h. refl; meanings = λ f h. refl })
 
 pub bodies_end-append : (hs : List Header) (h : Header) → bodies_end (hs ++ h ∷ []) ≡ max (bodies_end hs) (suc h.body.0)
 bodies_end-append [] h = omega arith
@@ -161,9 +182,10 @@ bodies_put old new h true n e a b = omega (arith, ap bodies_end e, bodies_end-ap
 bodies_put old new h false n e a b = omega (arith, ap bodies_end e)
 
 -- a template put behind
-pub adds_template : (old new : Program) (h : Header) → new.expressions ≡ old.expressions → new.terms.items ≡ old.terms.items → headers_of new ≡ headers_of old ++ h ∷ [] → HoldsTerm old h.body → AddsTemplate old new (template_in old h) h.spot
+pub adds_template : (old new : Program) (h : Header) → new.expressions ≡ old.expressions → new.terms.items ≡ old.terms.items → headers_of new ≡ headers_of old ++ h ∷ [] → HoldsTerm old h.body → AddsTemplate old new h
 unfolding term_count expression_count headers_of HoldsTerm
 adds_template old new h same terms headers held = record {
+  headers = headers;
   templates =
       ap (λ hs. map (template_in new) hs) headers
       ∙ templates-same old new (old.templates.items ++ h ∷ []) (omega (arith, bodies_end-append old.templates.items h, old.bodies)) kept
@@ -179,12 +201,14 @@ adds_template old new h same terms headers held = record {
 
 -- what shows the same
 pub unchanged : (old new : Program) → ExpressionsUnchanged old.expressions new.expressions → new.terms.items ≡ old.terms.items → headers_of new ≡ headers_of old → IsUnchanged old new
-unfolding term_count expression_count tree spot_at expression_at expression_spot_at HoldsFunction pattern_at body_at
+unfolding term_count expression_count tree node_at spot_at expression_at expression_node_at expression_spot_at HoldsFunction pattern_at body_at
 unchanged old new x terms headers = record {
   term_counted = ap length terms;
   expression_counted = x.count;
+  nodes = λ t. ap (λ es. (entry_at es t.0).node) terms;
   trees = λ t. ap (λ es. term_at new.expressions es t.0) terms ∙ term-same old.expressions new.expressions old.terms.items t.0 (unchanged_expressions_kept old.expressions new.expressions x) old.arena.closed old.arena.functions_closed;
   spots = λ t. ap (λ es. (entry_at es t.0).spot) terms;
+  value_nodes = λ e. x.nodes e;
   values = λ e. x.trees e;
   value_spots = λ e. x.spots e;
   holds_functions = λ f h. below_function new.expressions f (omega (arith, function_below old.expressions f h, x.functions));
@@ -194,16 +218,18 @@ unchanged old new x terms headers = record {
 }
 
 pub same_expressions : (x : Exprs) → ExpressionsUnchanged x x
-same_expressions x = record { count = refl; functions = refl; trees = λ i. refl; spots = λ i. refl; patterns = λ f. refl; bodies = λ f. refl }
+same_expressions x = record { count = refl; functions = refl; nodes = λ i. refl; trees = λ i. refl; spots = λ i. refl; patterns = λ f. refl; bodies = λ f. refl }
 
 -- an unchanged program keeps what it held
 pub unchanged_keeps : (old new : Program) → IsUnchanged old new → Keeps old new
 unfolding HoldsTerm HoldsExpression term_count expression_count
 unchanged_keeps old new u = keeps_of old new (record {
   terms = λ t h. omega (arith, u.term_counted);
+  nodes = λ t h. u.nodes t;
   trees = λ t h. u.trees t;
   spots = λ t h. u.spots t;
   expressions = λ e h. below_holds new.expressions e (omega (arith, holds_below old.expressions e h, u.expression_counted));
+  value_nodes = λ e h. u.value_nodes e;
   values = λ e h. u.values e;
   value_spots = λ e h. u.value_spots e;
   functions = λ f h. u.holds_functions f h;
@@ -215,9 +241,11 @@ unchanged_keeps old new u = keeps_of old new (record {
 pub keeps_trees_trans : (a b c : Program) → KeepsTrees a b → KeepsTrees b c → KeepsTrees a c
 keeps_trees_trans a b c f g = record {
   terms = λ t h. g.terms t (f.terms t h);
+  nodes = λ t h. g.nodes t (f.terms t h) ∙ f.nodes t h;
   trees = λ t h. g.trees t (f.terms t h) ∙ f.trees t h;
   spots = λ t h. g.spots t (f.terms t h) ∙ f.spots t h;
   expressions = λ e h. g.expressions e (f.expressions e h);
+  value_nodes = λ e h. g.value_nodes e (f.expressions e h) ∙ f.value_nodes e h;
   values = λ e h. g.values e (f.expressions e h) ∙ f.values e h;
   value_spots = λ e h. g.value_spots e (f.expressions e h) ∙ f.value_spots e h;
   functions = λ i h. g.functions i (f.functions i h);
@@ -229,6 +257,7 @@ keeps_trees_trans a b c f g = record {
 pub keeps_trans : (a b c : Program) → Keeps a b → Keeps b c → Keeps a c
 keeps_trans a b c f g = record {
   trees = keeps_trees_trans a b c f.trees g.trees;
+  headers = g.headers ∙ f.headers;
   templates = g.templates ∙ f.templates;
   spots = g.spots ∙ f.spots;
 }

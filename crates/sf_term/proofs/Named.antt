@@ -1,5 +1,5 @@
 -- Names of the language in patterns.
-use Rattle.std.proofs.Common.{◌≡◌, ℕ, zero, suc, ◌+◌, ◌<◌, ◌↔◌, List, [], ◌∷◌, ◌++◌, length, get_or, All, sym, subst, arith, ap, Bool, false, IsTrue}
+use Rattle.std.proofs.Common.{◌≡◌, zero, suc, ◌↔◌, List, [], ◌∷◌, ◌++◌, All, subst, arith, Bool, false, IsTrue}
 use Rattle.sf_lex.specs.Words.{IsName}
 use Rattle.sf_expr.specs.Expressions.{Pattern, both, names_in}
 use Rattle.sf_term.specs.Names.{HasNames}

@@ -3,10 +3,11 @@ use Rattle.std.specs.Prelude.{◌≡◌, ℕ, ◌+◌, ◌<◌, ◌≤◌, List,
 use Rattle.sf_expr.specs.declared.spot.Spot.{Spot}
 use Rattle.sf_expr.specs.declared.exprs.ExprId.{ExprId}
 use Rattle.sf_expr.specs.declared.exprs.FunctionId.{FunctionId}
+use Rattle.sf_expr.specs.declared.exprs.ExprNode.{ExprNode}
 use Rattle.sf_expr.specs.declared.exprs.Exprs.{Exprs}
 use Rattle.sf_expr.specs.Expressions.{Expression, Function, function}
 use Rattle.sf_expr.specs.Patterns.{PlacedPattern, pattern_of}
-use Rattle.sf_expr.specs.Arena.{expression, count_of, Holds, HoldsFunction as HoldsFunctionIn, function_at, pattern_at as pattern_at_in, body_at as body_at_in, spot_at as expression_spot_in}
+use Rattle.sf_expr.specs.Arena.{expression, count_of, Holds, HoldsFunction as HoldsFunctionIn, pattern_at as pattern_at_in, body_at as body_at_in, node_at as expression_node_in, spot_at as expression_spot_in}
 use Rattle.sf_term.specs.declared.form.Bare.{Bare}
 use Rattle.sf_term.specs.declared.form.WithValue.{WithValue}
 use Rattle.sf_term.specs.declared.form.Join.{Join}
@@ -74,6 +75,14 @@ function_in p f = function (pattern_of (pattern_at p f)) (expression_at p (body_
 unfoldable pub entry_of : Program → TermId → Entry
 entry_of p t = entry_at p.terms.items t.0
 
+-- the node at an id, with the ids of its parts; the identity where the program holds none
+unfoldable pub node_at : Program → TermId → Node
+node_at p t = (entry_at p.terms.items t.0).node
+
+-- the node of the expression at an id, with the ids of its parts; the number 0 where the program holds none
+unfoldable pub expression_node_at : Program → ExprId → ExprNode
+expression_node_at p e = expression_node_in p.expressions e
+
 -- the term that a node makes in a program
 unfoldable pub made_in : Program → Node → Term
 made_in p node = made_over p.expressions (terms p.expressions p.terms.items) node
@@ -130,9 +139,11 @@ HoldsParts p (nodes.Headed h e a) = HoldsExpression p e × HoldsTerm p a
 -- Terms, expressions and functions that a program held are there as they were.
 pub record KeepsTrees (old new : Program) : Type 0 where
   pub terms : (t : TermId) → HoldsTerm old t → HoldsTerm new t
+  pub nodes : (t : TermId) → HoldsTerm old t → node_at new t ≡ node_at old t
   pub trees : (t : TermId) → HoldsTerm old t → tree new t ≡ tree old t
   pub spots : (t : TermId) → HoldsTerm old t → spot_at new t ≡ spot_at old t
   pub expressions : (e : ExprId) → HoldsExpression old e → HoldsExpression new e
+  pub value_nodes : (e : ExprId) → HoldsExpression old e → expression_node_at new e ≡ expression_node_at old e
   pub values : (e : ExprId) → HoldsExpression old e → expression_at new e ≡ expression_at old e
   pub value_spots : (e : ExprId) → HoldsExpression old e → expression_spot_at new e ≡ expression_spot_at old e
   pub functions : (f : FunctionId) → HoldsFunction old f → HoldsFunction new f
@@ -143,12 +154,15 @@ pub record KeepsTrees (old new : Program) : Type 0 where
 -- All that a program held is there as it was, and it has the same templates.
 pub record Keeps (old new : Program) : Type 0 where
   pub trees : KeepsTrees old new
+  pub headers : headers_of new ≡ headers_of old
   pub templates : templates_of new ≡ templates_of old
   pub spots : spots_of new ≡ spots_of old
 
--- a term was added under an id
-pub record AddsTerm (old new : Program) (id : TermId) (t : Term) (s : Spot) : Type 0 where
+-- a term was added under a new id, with the parts that its node names
+pub record AddsTerm (old new : Program) (id : TermId) (n : Node) (t : Term) (s : Spot) : Type 0 where
   pub within : HoldsTerm new id
+  pub fresh : ¬ HoldsTerm old id
+  pub node : node_at new id ≡ n
   pub is : tree new id ≡ t
   pub spotted : spot_at new id ≡ s
   pub shallow : depth t ≤ 64
@@ -156,18 +170,21 @@ pub record AddsTerm (old new : Program) (id : TermId) (t : Term) (s : Spot) : Ty
   pub term_counted : term_count new ≡ term_count old + 1
   pub expression_counted : expression_count new ≡ expression_count old
 
--- an expression was added under an id
-pub record AddsExpression (old new : Program) (id : ExprId) (e : Expression) (s : Spot) : Type 0 where
+-- an expression was added under a new id, with the parts that its node names
+pub record AddsExpression (old new : Program) (id : ExprId) (n : ExprNode) (e : Expression) (s : Spot) : Type 0 where
   pub within : HoldsExpression new id
+  pub fresh : ¬ HoldsExpression old id
+  pub node : expression_node_at new id ≡ n
   pub is : expression_at new id ≡ e
   pub spotted : expression_spot_at new id ≡ s
   pub kept : Keeps old new
   pub term_counted : term_count new ≡ term_count old
   pub expression_counted : expression_count new ≡ expression_count old + 1
 
--- a function was added under an id
+-- a function was added under a new id
 pub record AddsFunction (old new : Program) (f : FunctionId) (q : PlacedPattern) (b : ExprId) : Type 0 where
   pub within : HoldsFunction new f
+  pub fresh : ¬ HoldsFunction old f
   pub pattern : pattern_at new f ≡ q
   pub body : body_at new f ≡ b
   pub is : function_in new f ≡ function (pattern_of q) (expression_at old b)
@@ -175,10 +192,11 @@ pub record AddsFunction (old new : Program) (f : FunctionId) (q : PlacedPattern)
   pub term_counted : term_count new ≡ term_count old
   pub expression_counted : expression_count new ≡ expression_count old
 
--- a template was added behind the others, with the place of its name
-pub record AddsTemplate (old new : Program) (template : Template) (s : Spot) : Type 0 where
-  pub templates : templates_of new ≡ templates_of old ++ template ∷ []
-  pub spots : spots_of new ≡ spots_of old ++ s ∷ []
+-- a template was added behind the others
+pub record AddsTemplate (old new : Program) (h : Header) : Type 0 where
+  pub headers : headers_of new ≡ headers_of old ++ h ∷ []
+  pub templates : templates_of new ≡ templates_of old ++ template_in old h ∷ []
+  pub spots : spots_of new ≡ spots_of old ++ h.spot ∷ []
   pub kept : KeepsTrees old new
   pub term_counted : term_count new ≡ term_count old
   pub expression_counted : expression_count new ≡ expression_count old
@@ -187,8 +205,10 @@ pub record AddsTemplate (old new : Program) (template : Template) (s : Spot) : T
 pub record IsUnchanged (old new : Program) : Type 0 where
   pub term_counted : term_count new ≡ term_count old
   pub expression_counted : expression_count new ≡ expression_count old
+  pub nodes : (t : TermId) → node_at new t ≡ node_at old t
   pub trees : (t : TermId) → tree new t ≡ tree old t
   pub spots : (t : TermId) → spot_at new t ≡ spot_at old t
+  pub value_nodes : (e : ExprId) → expression_node_at new e ≡ expression_node_at old e
   pub values : (e : ExprId) → expression_at new e ≡ expression_at old e
   pub value_spots : (e : ExprId) → expression_spot_at new e ≡ expression_spot_at old e
   pub holds_functions : (f : FunctionId) → HoldsFunction old f → HoldsFunction new f

@@ -1,5 +1,5 @@
 -- Networks as trees.
-use Rattle.std.specs.Prelude.{ℕ, suc, ◌+◌, max, List, [], ◌∷◌}
+use Rattle.std.specs.Prelude.{ℕ, suc, ◌+◌, max, List}
 use Rattle.sf_value.specs.Values.{Name, Kind}
 use Rattle.sf_expr.specs.Expressions.{Expression, Function, depth as expression_depth, size as expression_size, function_depth, function_size}
 use Rattle.sf_term.specs.declared.form.Bare.{Bare}
@@ -8,18 +8,34 @@ use Rattle.sf_term.specs.declared.form.Join.{Join}
 use Rattle.sf_term.specs.declared.form.Side.{Side}
 use Rattle.sf_term.specs.declared.form.Heading.{Heading}
 
--- primitives: without constants, with a value, or with a function
+-- Functions made into one: one after another, on one part of a pair, each on its part of a pair, both on the input.
+pub data Chain : Type 0 where
+  lone : Function → Chain
+  chained : Chain → Chain → Chain
+  on_side : Side → Chain → Chain
+  on_both : Chain → Chain → Chain
+  fanned : Chain → Chain → Chain
+
+-- primitives: without constants, with a value, or with a function; and, in plans alone, with functions made into one
 pub data Primitive : Type 0 where
   bare : Bare → Primitive
   with_value : WithValue → Expression → Primitive
   arrow : Function → Primitive
+  fused : Chain → Primitive
 
--- terms: primitives, two terms joined, a term on one side of a pair, a term with an expression at its head
+-- a whole pipeline, or the rest of one after some of its stages
+pub data Extent : Type 0 where
+  whole : Extent
+  rest : Extent
+
+-- terms: primitives, two terms joined, a term on one side of a pair, a term with an expression at its head;
+-- and, in plans alone, a stage before the rest of its pipeline
 pub data Term : Type 0 where
   primitive : Primitive → Term
   joined : Join → Term → Term → Term
   sided : Side → Term → Term
   headed : Heading → Expression → Term → Term
+  staged : Extent → Term → Term → Term
 
 -- a template: its name, the types of its header and its term
 pub record Template : Type 0 where
@@ -32,18 +48,20 @@ pub record Template : Type 0 where
 abbrev pub Templates : Type 0
 Templates = List Template
 
--- how many expressions and patterns stand one inside another in a primitive
+-- how many expressions and patterns stand one inside another in a primitive; the forms of plans are deeper than each text
 abbrev pub primitive_depth : Primitive → ℕ
 primitive_depth (bare k) = 0
 primitive_depth (with_value k e) = expression_depth e
 primitive_depth (arrow f) = function_depth f
+primitive_depth (fused f) = 64
 
--- how many terms and expressions stand one inside another
+-- how many terms and expressions stand one inside another; the forms of plans are deeper than each text
 abbrev pub depth : Term → ℕ
 depth (primitive p) = suc (primitive_depth p)
 depth (joined j f g) = suc (max (depth f) (depth g))
 depth (sided d t) = suc (depth t)
 depth (headed h e t) = suc (max (expression_depth e) (depth t))
+depth (staged x f g) = 65
 
 -- how many terms a term is made of
 abbrev pub terms_in : Term → ℕ
@@ -51,12 +69,15 @@ terms_in (primitive p) = 1
 terms_in (joined j f g) = suc (terms_in f + terms_in g)
 terms_in (sided d t) = suc (terms_in t)
 terms_in (headed h e t) = suc (terms_in t)
+terms_in (staged x f g) = suc (terms_in f + terms_in g)
 
 -- how many expressions stand in a term
 abbrev pub expressions_in : Term → ℕ
 expressions_in (primitive (bare k)) = 0
 expressions_in (primitive (with_value k e)) = expression_size e
 expressions_in (primitive (arrow f)) = function_size f
+expressions_in (primitive (fused f)) = 0
 expressions_in (joined j f g) = expressions_in f + expressions_in g
 expressions_in (sided d t) = expressions_in t
 expressions_in (headed h e t) = expression_size e + expressions_in t
+expressions_in (staged x f g) = expressions_in f + expressions_in g

@@ -7,6 +7,18 @@ use sf_expr::{ExprId, FunctionId, Spot};
 #[derive(Clone, Copy, Debug, PartialEq, Eq)]
 pub struct TermId(pub(crate) u32);
 
+impl TermId {
+    ghost use Rattle.std.specs.Prelude.{◌≡◌};
+    ghost use Rattle.sf_term.specs.Arena.{id_number};
+
+    /// Its number: the terms of a program are numbered from 0, each above its parts.
+    pub fn number(self) -> usize
+        ensures { result ≡ id_number self }
+    {
+        self.0 as usize
+    }
+}
+
 /// A primitive, with the ids of its constants.
 #[derive(Clone, Copy, Debug, PartialEq, Eq)]
 pub enum Primitive {

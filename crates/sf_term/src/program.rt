@@ -4,6 +4,8 @@ ghost use Rattle.sf_lex.specs.Words.{IsName};
 ghost use Rattle.sf_expr.specs.Expressions.{variable, literal, int_literal, paired, operation as operation_of};
 ghost use Rattle.sf_expr.specs.Expressions.{function as function_of, depth as expression_depth_of, function_depth as function_depth_of};
 ghost use Rattle.sf_expr.specs.Patterns.{pattern_of};
+ghost use Rattle.sf_expr.specs.Arena.{name_id};
+ghost use Rattle.sf_expr.specs.declared.exprs.ExprNode.TheVariants as expressions;
 ghost use Rattle.sf_term.specs.Headers.{bodies_end};
 ghost use Rattle.sf_term.specs.Entries.{IsArena};
 ghost use Rattle.sf_term.specs.Names.{HasNames};
@@ -34,7 +36,7 @@ pub struct Program {
 
 impl Program {
     ghost use Rattle.sf_term.specs.Arena.{term_count, expression_count, HoldsTerm, HoldsExpression, HoldsFunction};
-    ghost use Rattle.sf_term.specs.Arena.{tree, expression_at, function_in, entry_of, spot_at, made_in, id_number};
+    ghost use Rattle.sf_term.specs.Arena.{tree, expression_at, function_in, entry_of, node_at, spot_at, made_in, id_number};
     ghost use Rattle.sf_term.specs.Arena.{expressions_of, headers_of, Builds, PartsBelow, HoldsParts};
     ghost use Rattle.sf_term.specs.Arena.{AddsTerm, AddsExpression, AddsFunction, AddsTemplate, IsUnchanged, IsCopy};
 
@@ -96,7 +98,7 @@ impl Program {
     #[tactic(auto, unfolding(crate::specs::Arena::term_count))]
     fn add(&mut self, node: Node, spot: Spot) -> Result<TermId, BuildRefusal>
         requires { HoldsParts self.old node }
-        ensures ok { IfOk result (λ id. AddsTerm self.old self.new id (made_in self.old node) spot) }
+        ensures ok { IfOk result (λ id. AddsTerm self.old self.new id node (made_in self.old node) spot) }
         ensures many { result ≡ Err BuildRefusal.TooMany ↔ 100000 ≤ term_count self.old }
         ensures deep { let whole = made_in self.old node in
             result ≡ Err BuildRefusal.TooDeep ↔ (term_count self.old < 100000) × (64 < depth_of whole) }
@@ -121,7 +123,7 @@ impl Program {
     /// `Memory`. A refused call changes nothing.
     #[tactic(auto, unfolding(crate::specs::Arena::expression_count, crate::specs::Arena::expression_at, crate::specs::Arena::HoldsExpression))]
     pub fn int(&mut self, n: i64, spot: Spot) -> Result<ExprId, BuildRefusal>
-        ensures ok { IfOk result (λ id. AddsExpression self.old self.new id (literal (int_literal n)) spot) }
+        ensures ok { IfOk result (λ id. AddsExpression self.old self.new id (expressions.Int n) (literal (int_literal n)) spot) }
         ensures many { result ≡ Err BuildRefusal.TooMany ↔ 100000 ≤ expression_count self.old }
         ensures not_deep { ¬ (result ≡ Err BuildRefusal.TooDeep) }
         ensures no_name { ¬ (result ≡ Err BuildRefusal.BadName) }
@@ -137,7 +139,7 @@ impl Program {
     /// where it is no name of the language, and with `Memory`. A refused call changes nothing.
     #[tactic(auto, unfolding(crate::specs::Arena::expression_count, crate::specs::Arena::expression_at, crate::specs::Arena::HoldsExpression))]
     pub fn name(&mut self, name: String, spot: Spot) -> Result<ExprId, BuildRefusal>
-        ensures ok { IfOk result (λ id. AddsExpression self.old self.new id (variable (string_bytes name)) spot) }
+        ensures ok { IfOk result (λ id. AddsExpression self.old self.new id (expressions.Name (name_id id)) (variable (string_bytes name)) spot) }
         ensures named { OnOk result (IsName (string_bytes name)) }
         ensures many { result ≡ Err BuildRefusal.TooMany ↔ 100000 ≤ expression_count self.old }
         ensures not_deep { ¬ (result ≡ Err BuildRefusal.TooDeep) }
@@ -168,7 +170,7 @@ impl Program {
         requires first_held { HoldsExpression self.old first }
         requires second_held { HoldsExpression self.old second }
         ensures ok { let whole = paired (expression_at self.old first) (expression_at self.old second) in
-            IfOk result (λ id. AddsExpression self.old self.new id whole spot) }
+            IfOk result (λ id. AddsExpression self.old self.new id (expressions.Pair first second) whole spot) }
         ensures many { result ≡ Err BuildRefusal.TooMany ↔ 100000 ≤ expression_count self.old }
         ensures deep { let whole = paired (expression_at self.old first) (expression_at self.old second) in
             result ≡ Err BuildRefusal.TooDeep ↔ (expression_count self.old < 100000) × (64 < expression_depth_of whole) }
@@ -195,7 +197,7 @@ impl Program {
         requires left_held { HoldsExpression self.old left }
         requires right_held { HoldsExpression self.old right }
         ensures ok { let whole = operation_of (expression_at self.old left) operator (expression_at self.old right) in
-            IfOk result (λ id. AddsExpression self.old self.new id whole spot) }
+            IfOk result (λ id. AddsExpression self.old self.new id (expressions.Operation left operator right) whole spot) }
         ensures many { result ≡ Err BuildRefusal.TooMany ↔ 100000 ≤ expression_count self.old }
         ensures deep { let whole = operation_of (expression_at self.old left) operator (expression_at self.old right) in
             result ≡ Err BuildRefusal.TooDeep ↔ (expression_count self.old < 100000) × (64 < expression_depth_of whole) }
@@ -239,7 +241,7 @@ impl Program {
     /// A refused call changes nothing.
     #[tactic(auto, unfolding(crate::specs::Arena::made_in, crate::specs::Arena::tree, crate::specs::Arena::expression_at, crate::specs::Arena::pattern_at, crate::specs::Arena::body_at, crate::specs::Entries::term_at))]
     pub fn bare(&mut self, kind: Bare, spot: Spot) -> Result<TermId, BuildRefusal>
-        ensures ok { IfOk result (λ id. AddsTerm self.old self.new id (primitive (bare_form kind)) spot) }
+        ensures ok { IfOk result (λ id. AddsTerm self.old self.new id (Node.Primitive (Primitive.Bare kind)) (primitive (bare_form kind)) spot) }
         ensures many { result ≡ Err BuildRefusal.TooMany ↔ 100000 ≤ term_count self.old }
         ensures not_deep { ¬ (result ≡ Err BuildRefusal.TooDeep) }
         ensures no_name { ¬ (result ≡ Err BuildRefusal.BadName) }
@@ -260,7 +262,7 @@ impl Program {
     ) -> Result<TermId, BuildRefusal>
         requires { HoldsExpression self.old value }
         ensures ok { let whole = primitive (form_with_value kind (expression_at self.old value)) in
-            IfOk result (λ id. AddsTerm self.old self.new id whole spot) }
+            IfOk result (λ id. AddsTerm self.old self.new id (Node.Primitive (Primitive.WithValue kind value)) whole spot) }
         ensures many { result ≡ Err BuildRefusal.TooMany ↔ 100000 ≤ term_count self.old }
         ensures deep { let whole = primitive (form_with_value kind (expression_at self.old value)) in
             result ≡ Err BuildRefusal.TooDeep ↔ (term_count self.old < 100000) × (64 < depth_of whole) }
@@ -277,7 +279,7 @@ impl Program {
     pub fn arrow(&mut self, function: FunctionId, spot: Spot) -> Result<TermId, BuildRefusal>
         requires { HoldsFunction self.old function }
         ensures ok { let whole = primitive (arrow_form (function_in self.old function)) in
-            IfOk result (λ id. AddsTerm self.old self.new id whole spot) }
+            IfOk result (λ id. AddsTerm self.old self.new id (Node.Primitive (Primitive.Arrow function)) whole spot) }
         ensures many { result ≡ Err BuildRefusal.TooMany ↔ 100000 ≤ term_count self.old }
         ensures deep { let whole = primitive (arrow_form (function_in self.old function)) in
             result ≡ Err BuildRefusal.TooDeep ↔ (term_count self.old < 100000) × (64 < depth_of whole) }
@@ -300,7 +302,7 @@ impl Program {
         requires first_held { HoldsTerm self.old first }
         requires second_held { HoldsTerm self.old second }
         ensures ok { let whole = joined_form join (tree self.old first) (tree self.old second) in
-            IfOk result (λ id. AddsTerm self.old self.new id whole spot) }
+            IfOk result (λ id. AddsTerm self.old self.new id (Node.Joined join first second) whole spot) }
         ensures many { result ≡ Err BuildRefusal.TooMany ↔ 100000 ≤ term_count self.old }
         ensures deep { let whole = joined_form join (tree self.old first) (tree self.old second) in
             result ≡ Err BuildRefusal.TooDeep ↔ (term_count self.old < 100000) × (64 < depth_of whole) }
@@ -316,7 +318,7 @@ impl Program {
     #[tactic(auto, unfolding(crate::specs::Arena::made_in, crate::specs::Arena::tree, crate::specs::Arena::expression_at, crate::specs::Arena::pattern_at, crate::specs::Arena::body_at, crate::specs::Entries::term_at))]
     pub fn sided(&mut self, side: Side, part: TermId, spot: Spot) -> Result<TermId, BuildRefusal>
         requires { HoldsTerm self.old part }
-        ensures ok { IfOk result (λ id. AddsTerm self.old self.new id (sided_form side (tree self.old part)) spot) }
+        ensures ok { IfOk result (λ id. AddsTerm self.old self.new id (Node.Sided side part) (sided_form side (tree self.old part)) spot) }
         ensures many { result ≡ Err BuildRefusal.TooMany ↔ 100000 ≤ term_count self.old }
         ensures deep { let whole = sided_form side (tree self.old part) in
             result ≡ Err BuildRefusal.TooDeep ↔ (term_count self.old < 100000) × (64 < depth_of whole) }
@@ -340,7 +342,7 @@ impl Program {
         requires value_held { HoldsExpression self.old value }
         requires part_held { HoldsTerm self.old part }
         ensures ok { let whole = headed_form heading (expression_at self.old value) (tree self.old part) in
-            IfOk result (λ id. AddsTerm self.old self.new id whole spot) }
+            IfOk result (λ id. AddsTerm self.old self.new id (Node.Headed heading value part) whole spot) }
         ensures many { result ≡ Err BuildRefusal.TooMany ↔ 100000 ≤ term_count self.old }
         ensures deep { let whole = headed_form heading (expression_at self.old value) (tree self.old part) in
             result ≡ Err BuildRefusal.TooDeep ↔ (term_count self.old < 100000) × (64 < depth_of whole) }
@@ -362,7 +364,7 @@ impl Program {
     ) -> Result<(), BuildRefusal>
         requires { HoldsTerm self.old body }
         ensures ok { OnOk result (AddsTemplate self.old self.new
-            (record { name = string_bytes name; input = input; output = output; body = tree self.old body }) spot) }
+            (record { name = string_bytes name; spot = spot; input = input; output = output; body = body })) }
         ensures named { OnOk result (IsName (string_bytes name)) }
         ensures bad_name { result ≡ Err BuildRefusal.BadName ↔ ¬ IsName (string_bytes name) }
         ensures not_many { ¬ (result ≡ Err BuildRefusal.TooMany) }
@@ -391,9 +393,27 @@ impl Program {
         })
     }
 
+    /// How many terms there are.
+    #[tactic(auto, unfolding(crate::specs::Arena::term_count))]
+    pub fn len(&self) -> usize
+        ensures { result ≡ term_count self.now }
+    {
+        self.terms.len()
+    }
+
+    /// The id of the term of a number.
+    #[tactic(auto, unfolding(crate::specs::Arena::term_count))]
+    pub fn term(&self, number: usize) -> TermId
+        requires { number < term_count self.now }
+        ensures { id_number result ≡ number }
+    {
+        TermId(number as u32)
+    }
+
     /// The node at an id, with the ids of its parts; the identity at an id that the program does not hold.
-    #[tactic(auto, using(crate::proofs::Kept::builds, crate::proofs::Kept::parts_below, crate::proofs::Kept::parts_held))]
+    #[tactic(auto, using(crate::proofs::Kept::builds, crate::proofs::Kept::parts_below, crate::proofs::Kept::parts_held), unfolding(crate::specs::Arena::entry_of, crate::specs::Arena::node_at))]
     pub fn node(&self, id: TermId) -> Node
+        ensures value { result ≡ node_at self.now id }
         ensures builds { Builds self.now result (tree self.now id) }
         ensures below { PartsBelow result (id_number id) }
         ensures held { HoldsParts self.now result }

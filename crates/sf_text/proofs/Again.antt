@@ -2,7 +2,7 @@
 use Rattle.std.proofs.Common.{◌≡◌, ℕ, zero, suc, ◌+◌, ◌≤◌, List, [], ◌∷◌, ◌++◌, refl, ◌∙◌, ap, append_assoc, arith}
 use Rattle.sf_value.specs.Values.{Kind, int_kind, pair_kind, nodes}
 use Rattle.sf_expr.specs.Expressions.{Pattern, unnamed, named, both, pattern_depth, Expression, variable, literal, int_literal, paired, operation, depth as expression_depth, size, Function, function, function_depth, function_size}
-use Rattle.sf_term.specs.Trees.{bare, with_value, arrow, Term, primitive, joined, sided, headed, Template, depth, terms_in, expressions_in}
+use Rattle.sf_term.specs.Trees.{bare, with_value, arrow, fused, Term, primitive, joined, sided, headed, staged, Template, depth, terms_in, expressions_in}
 use Rattle.sf_lex.specs.declared.word.Keyword.TheVariants as words
 use Rattle.sf_lex.specs.declared.symbol.Symbol.TheVariants as symbols
 use Rattle.sf_lex.specs.Tokens.{Tok, keyword, name, number, symbol}
@@ -87,43 +87,45 @@ function_again (function p e) d c rest deep few =
       expression_again e d c rest (omega arith) few,
     ) refl
 
-pub term_again : (t : Term) (d : ℕ) (c : Counts) (rest : List Tok) → depth t ≤ d → c.terms + terms_in t ≤ 100000 → c.expressions + expressions_in t ≤ 100000
+pub term_again : (t : Term) (d : ℕ) (c : Counts) (rest : List Tok) → d ≤ 64 → depth t ≤ d → c.terms + terms_in t ≤ 100000 → c.expressions + expressions_in t ≤ 100000
     → term_at d c (spell_term t ++ rest) ≡ got t rest
 unfolding term_at joined_at value_at arrow_at sided_at headed_at
-term_again (primitive (bare b)) zero c rest deep few_terms few_expressions = absurd (omega arith)
-term_again (primitive (with_value v e)) zero c rest deep few_terms few_expressions = absurd (omega arith)
-term_again (primitive (arrow f)) zero c rest deep few_terms few_expressions = absurd (omega arith)
-term_again (joined j f g) zero c rest deep few_terms few_expressions = absurd (omega arith)
-term_again (sided s f) zero c rest deep few_terms few_expressions = absurd (omega arith)
-term_again (headed h e f) zero c rest deep few_terms few_expressions = absurd (omega arith)
-term_again (primitive (bare b)) (suc d) c rest deep few_terms few_expressions =
+term_again (primitive (bare b)) zero c rest small deep few_terms few_expressions = absurd (omega arith)
+term_again (primitive (with_value v e)) zero c rest small deep few_terms few_expressions = absurd (omega arith)
+term_again (primitive (arrow f)) zero c rest small deep few_terms few_expressions = absurd (omega arith)
+term_again (primitive (fused f)) d c rest small deep few_terms few_expressions = absurd (omega (arith, small, deep))
+term_again (staged x f g) d c rest small deep few_terms few_expressions = absurd (omega (arith, small, deep))
+term_again (joined j f g) zero c rest small deep few_terms few_expressions = absurd (omega arith)
+term_again (sided s f) zero c rest small deep few_terms few_expressions = absurd (omega arith)
+term_again (headed h e f) zero c rest small deep few_terms few_expressions = absurd (omega arith)
+term_again (primitive (bare b)) (suc d) c rest small deep few_terms few_expressions =
     rw (head_again (heads.Bare b)) (within (c.terms + 1) (primitive (bare b)) (keyword (bare_word b) ∷ rest) rest few_terms)
-term_again (primitive (with_value v e)) (suc d) c rest deep few_terms few_expressions =
+term_again (primitive (with_value v e)) (suc d) c rest small deep few_terms few_expressions =
     rw (head_again (heads.WithValue v), expression_again e d c rest (omega arith) few_expressions)
     (within (c.terms + 1) (primitive (with_value v e)) (keyword (value_word v) ∷ (spell_expression e ++ rest)) rest few_terms)
-term_again (primitive (arrow f)) (suc d) c rest deep few_terms few_expressions =
+term_again (primitive (arrow f)) (suc d) c rest small deep few_terms few_expressions =
     rw (function_again f d c rest (omega arith) few_expressions)
     (within (c.terms + 1) (primitive (arrow f)) (keyword words.Arr ∷ (spell_function f ++ rest)) rest few_terms)
-term_again (joined j f g) (suc d) c rest deep few_terms few_expressions =
+term_again (joined j f g) (suc d) c rest small deep few_terms few_expressions =
     let behind : List Tok = spell_term g ++ (symbol symbols.Close ∷ rest) in
     let start : List Tok = symbol symbols.Open ∷ (spell_term f ++ (symbol (join_symbol j) ∷ behind)) in
     ap (λ (r : List Tok). term_at (suc d) c (symbol symbols.Open ∷ r)) (brackets_behind (spell_term f) (spell_term g) rest (symbol (join_symbol j)))
     ∙ parts_again (term_at d c) join_at (λ f. term_at d (counts_with c f)) (λ f j g rest. term_read c (joined j f g) start rest) f j g
     (spell_term f ++ (symbol (join_symbol j) ∷ behind)) (symbol (join_symbol j) ∷ behind) behind rest
-    (term_again f d c (symbol (join_symbol j) ∷ behind) (omega arith) (omega arith) (omega arith)) (rw (join_again j) refl)
-    (term_again g d (counts_with c f) (symbol symbols.Close ∷ rest) (omega arith) (omega arith) (omega arith))
+    (term_again f d c (symbol (join_symbol j) ∷ behind) (omega arith) (omega arith) (omega arith) (omega arith)) (rw (join_again j) refl)
+    (term_again g d (counts_with c f) (symbol symbols.Close ∷ rest) (omega arith) (omega arith) (omega arith) (omega arith))
     ∙ within (c.terms + terms_in (joined j f g)) (joined j f g) start rest few_terms
-term_again (sided s f) (suc d) c rest deep few_terms few_expressions =
-    rw (head_again (heads.Sided s), term_again f d c rest (omega arith) (omega arith) (omega arith))
+term_again (sided s f) (suc d) c rest small deep few_terms few_expressions =
+    rw (head_again (heads.Sided s), term_again f d c rest (omega arith) (omega arith) (omega arith) (omega arith))
     (within (c.terms + terms_in (sided s f)) (sided s f) (keyword (side_word s) ∷ (spell_term f ++ rest)) rest few_terms)
-term_again (headed h e f) (suc d) c rest deep few_terms few_expressions =
+term_again (headed h e f) (suc d) c rest small deep few_terms few_expressions =
     let behind : List Tok = spell_term f ++ (symbol symbols.Close ∷ rest) in
     let start : List Tok = keyword (heading_word h) ∷ symbol symbols.Open ∷ (spell_expression e ++ (symbol symbols.Comma ∷ behind)) in
     ap (λ (r : List Tok). term_at (suc d) c (keyword (heading_word h) ∷ symbol symbols.Open ∷ r)) (brackets_behind (spell_expression e) (spell_term f) rest (symbol symbols.Comma))
     ∙ rw (head_again (heads.Headed h)) (parts_again (expression_at d c) (symbol_at symbols.Comma) (λ e. term_at d (counts_with_expression c e)) (λ e _ f rest. term_read c (headed h e f) start rest) e tt f
     (spell_expression e ++ (symbol symbols.Comma ∷ behind)) (symbol symbols.Comma ∷ behind) behind rest
     (expression_again e d c (symbol symbols.Comma ∷ behind) (omega arith) (omega arith)) refl
-    (term_again f d (counts_with_expression c e) (symbol symbols.Close ∷ rest) (omega arith) (omega arith) (omega arith)))
+    (term_again f d (counts_with_expression c e) (symbol symbols.Close ∷ rest) (omega arith) (omega arith) (omega arith) (omega arith)))
     ∙ within (c.terms + terms_in (headed h e f)) (headed h e f) start rest few_terms
 
 pub signature_again : (t : Template) (rest : List Tok) → HasSmallTypes t → signature_at (spell_signature t ++ rest) ≡ got (t.input, t.output) rest
@@ -146,5 +148,5 @@ template_again t c rest small deep few_terms few_expressions =
       append_assoc (spell_signature t) closing rest,
       signature_again t (closing ++ rest) small,
       append_assoc (spell_term t.body) (symbol symbols.Semicolon ∷ []) rest,
-      term_again t.body 64 c (symbol symbols.Semicolon ∷ rest) deep few_terms few_expressions,
+      term_again t.body 64 c (symbol symbols.Semicolon ∷ rest) (omega arith) deep few_terms few_expressions,
     ) refl

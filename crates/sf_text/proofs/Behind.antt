@@ -1,12 +1,13 @@
 -- A template behind those that were read.
-use Rattle.std.proofs.Common.{◌≡◌, ℕ, ◌+◌, ◌-◌, ◌<◌, ◌≤◌, List, [], ◌∷◌, ◌++◌, length, take, drop, refl, sym, ◌∙◌, ap, append_assoc, subst, arith}
+use Rattle.std.proofs.Common.{◌≡◌, ℕ, ◌+◌, ◌-◌, ◌<◌, ◌≤◌, List, [], ◌∷◌, ◌++◌, length, take, drop, map, refl, sym, ◌∙◌, ap, append_assoc, subst, arith}
 use Rattle.std.specs.List.{All}
-use Rattle.std.proofs.lemmas.List.{length-append, length-drop, length-map, flat_map_more, take-append-drop, take_rest, drop_at, drop-map}
+use Rattle.std.proofs.lemmas.List.{length-append, length-drop, length-map, flat_map_more, take-append-drop, take_rest, drop_at, drop-map, drop_all, append-nil}
 use Rattle.std.proofs.lemmas.List.Elements.{All-append, All-cons, All-nil}
 use Rattle.std.proofs.lemmas.List.Sums.{sum_by_push}
 use Rattle.sf_term.specs.declared.program.Program.{Program}
 use Rattle.sf_term.specs.Trees.{Template, depth, terms_in, expressions_in}
-use Rattle.sf_term.specs.Arena.{templates_of, term_count, expression_count}
+use Rattle.sf_term.specs.Headers.{Header}
+use Rattle.sf_term.specs.Arena.{templates_of, headers_of, template_in, term_count, expression_count}
 use Rattle.sf_term.proofs.Kept.{few_terms, few_program_expressions}
 use Rattle.sf_lex.specs.declared.token.PlacedToken.{PlacedToken}
 use Rattle.sf_lex.specs.Tokens.{Tok, token_of}
@@ -15,7 +16,10 @@ use Rattle.sf_text.specs.declared.stop.Stop.TheVariants.{At as At', Memory}
 use Rattle.sf_text.specs.Spelling.{spell_template, spell_templates, terms_of, expressions_of, HasSmallTypes}
 use Rattle.sf_text.specs.Reading.{Counts, template_at}
 use Rattle.sf_text.specs.Answers.{Stopped, Stops, toks, counts_of, FoundTemplate, AreNamed}
-use Rattle.sf_text.specs.Stopping.{Behind, StopsAfter}
+use Rattle.sf_text.specs.Stopping.{Behind, StopsAfter, IsBlankProgram}
+use Rattle.sf_text.specs.Placing.{TemplatesPlaced, none_placed}
+use Rattle.sf_text.specs.Consuming.{places, Consumes, PlacesTemplate}
+use Rattle.sf_text.proofs.Placed.{templates_keep, templates_more}
 use Rattle.sf_text.proofs.Takes.{TookTemplate, template_takes}
 use Rattle.sf_text.proofs.Named.{named_behind}
 
@@ -55,7 +59,7 @@ pub record At (tokens : List Tok) (p : Program) (at : ℕ) : Type 0 where
   pub behind : Behind tokens p (drop at tokens)
 
 -- the end of a list, by its length
-ends : (xs front ys zs : List Tok) → xs ≡ front ++ (ys ++ zs) → drop (length xs - length zs) xs ≡ zs
+ends : {A : Type 0} (xs front ys zs : List A) → xs ≡ front ++ (ys ++ zs) → drop (length xs - length zs) xs ≡ zs
 ends xs front ys zs same = drop-end
   where
     split : xs ≡ (front ++ ys) ++ zs
@@ -81,15 +85,58 @@ at_more tokens behind at old new a f =
 pub toks_from : (tokens : List PlacedToken) (at : ℕ) → toks (take (length tokens - at) (drop at tokens)) ≡ drop at (toks tokens)
 toks_from tokens at = ap toks (take_rest tokens at) ∙ sym (drop-map (λ (p : PlacedToken). token_of p.token) at tokens)
 
+-- the places of tokens from an index on, as a slice
+places_from : (tokens : List PlacedToken) (at : ℕ) → places (take (length tokens - at) (drop at tokens)) ≡ drop at (places tokens)
+places_from tokens at = ap places (take_rest tokens at) ∙ sym (drop-map (λ (p : PlacedToken). p.place) at tokens)
+
+-- the templates in front of an index were read, and stand where their tokens do
+pub record Reached (tokens : List PlacedToken) (p : Program) (at : ℕ) : Type 0 where
+  pub templates : At (toks tokens) p at
+  pub placed : Consumes (TemplatesPlaced p (headers_of p)) (places tokens) (drop at (places tokens))
+
+no_headers : (p : Program) (hs : List Header) → map (template_in p) hs ≡ [] → hs ≡ []
+no_headers p [] same = refl
+no_headers p (h ∷ hs) same = cc
+
+pub none_reached : (tokens : List PlacedToken) (p : Program) → IsBlankProgram p → Consumes (TemplatesPlaced p (headers_of p)) (places tokens) (drop 0 (places tokens))
+none_reached tokens p blank = record { front = []; split = refl; holds = subst (λ hs. TemplatesPlaced p hs []) (sym (no_headers p (headers_of p) blank.templates)) none_placed }
+
+-- one template more was reached
+placed_more : (tokens behind : List PlacedToken) (at : ℕ) (old new : Program) → Consumes (TemplatesPlaced old (headers_of old)) (places tokens) (drop at (places tokens))
+    → PlacesTemplate old new (places (take (length tokens - at) (drop at tokens))) (places behind)
+    → Consumes (TemplatesPlaced new (headers_of new)) (places tokens) (drop (length tokens - length behind) (places tokens))
+placed_more tokens behind at old new a t =
+    let m : length (places tokens) ≡ length tokens = simp length-map in
+    let n : length (places behind) ≡ length behind = simp length-map in
+    let whole : places tokens ≡ a.front ++ (t.placed.front ++ places behind) = a.split ∙ ap (λ r. a.front ++ r) (sym (places_from tokens at) ∙ t.placed.split) in
+    let last : drop (length (places tokens) - length (places behind)) (places tokens) ≡ places behind = ends (places tokens) a.front t.placed.front (places behind) whole in
+    let there : length (places tokens) - length (places behind) ≡ length tokens - length behind = omega arith in
+    let rest : drop (length tokens - length behind) (places tokens) ≡ places behind = ap (λ k. drop k (places tokens)) (sym there) ∙ last in
+    record {
+      front = a.front ++ t.placed.front;
+      split = whole ∙ sym (append_assoc a.front t.placed.front (places behind)) ∙ ap (λ r. (a.front ++ t.placed.front) ++ r) (sym rest);
+      holds = subst (λ hs. TemplatesPlaced new hs (a.front ++ t.placed.front)) (sym t.headers)
+          (templates_more new (headers_of old) t.header a.front t.placed.front (templates_keep old new t.kept (headers_of old) a.front a.holds) t.placed.holds);
+    }
+
+-- all templates were reached
+pub all_reached : (tokens : List PlacedToken) (p : Program) (at : ℕ) → length tokens ≤ at → Consumes (TemplatesPlaced p (headers_of p)) (places tokens) (drop at (places tokens)) → TemplatesPlaced p (headers_of p) (places tokens)
+all_reached tokens p at past c =
+    let m : length (places tokens) ≡ length tokens = simp length-map in
+    let none : drop at (places tokens) ≡ [] = drop_all at (places tokens) (omega arith) in
+    subst (TemplatesPlaced p (headers_of p)) (sym (c.split ∙ ap (λ r. c.front ++ r) none ∙ append-nil c.front)) c.holds
+
 -- after a template was read
 pub record Next (tokens behind : List PlacedToken) (at : ℕ) (new : Program) : Type 0 where
   pub within : length behind ≤ length tokens
   pub further : at < length tokens - length behind
-  pub templates : At (toks tokens) new (length tokens - length behind)
+  pub reached : Reached tokens new (length tokens - length behind)
 
-pub next_at : (tokens behind : List PlacedToken) (at : ℕ) (old new : Program) → At (toks tokens) old at → at < length tokens
-    → FoundTemplate old new (toks behind) (template_at (counts_of old) (toks (take (length tokens - at) (drop at tokens)))) → Next tokens behind at new
-next_at tokens behind at old new a short found =
+pub next_at : (tokens behind : List PlacedToken) (at : ℕ) (old new : Program) → Reached tokens old at → at < length tokens
+    → FoundTemplate old new (toks behind) (template_at (counts_of old) (toks (take (length tokens - at) (drop at tokens))))
+    → PlacesTemplate old new (places (take (length tokens - at) (drop at tokens))) (places behind) → Next tokens behind at new
+next_at tokens behind at old new reached short found placed =
+    let a = reached.templates in
     let f : FoundTemplate old new (toks behind) (template_at (counts_of old) (drop at (toks tokens))) =
     subst (λ (ts : List Tok). FoundTemplate old new (toks behind) (template_at (counts_of old) ts)) (toks_from tokens at) found in
     let m : length (toks tokens) ≡ length tokens = simp length-map in
@@ -100,7 +147,10 @@ next_at tokens behind at old new a short found =
     record {
       within = omega arith;
       further = omega arith;
-      templates = subst (At (toks tokens) new) there (at_more (toks tokens) (toks behind) at old new a f);
+      reached = record {
+        templates = subst (At (toks tokens) new) there (at_more (toks tokens) (toks behind) at old new a f);
+        placed = placed_more tokens behind at old new reached.placed placed;
+      };
     }
 
 -- a template stops behind others

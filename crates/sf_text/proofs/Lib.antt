@@ -1,3 +1,5 @@
+pub mod Placed
+pub mod Counted
 pub mod Words
 pub mod Parts
 pub mod Again

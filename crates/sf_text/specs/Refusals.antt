@@ -1,44 +1,51 @@
 -- The rules that texts break.
-use Rattle.std.specs.Prelude.{ℕ, List, Option, Some, None, codes}
+use Rattle.std.specs.Prelude.{ℕ, List, ◌∷◌, ◌++◌, Option, Some, None, codes}
+use Rattle.std.specs.Option.{option_map}
+use Rattle.std.specs.Fmt.{decimal}
 use Rattle.sf_lex.specs.declared.token.Place.{Place}
+use Rattle.sf_text.specs.declared.refusal.Rule.{Rule}
 use Rattle.sf_text.specs.declared.refusal.TextRefusal.{TextRefusal}
 use Rattle.sf_text.specs.declared.refusal.TextRefusal.TheVariants.{TooLong, BadByte, NumberTooLarge, OpenText, Unexpected, TooDeep, Version, TypeTooLarge, TooMany, Memory}
 
+-- a rule that is broken: its number, its name and the place
+pub record BrokenRule : Type 0 where
+  pub number : List ℕ
+  pub name : List ℕ
+  pub place : Place
+
+abbrev pub rule_as : Rule → BrokenRule
+rule_as r = record { number = r.number.now; name = r.name.now; place = r.place }
+
+-- the rule that a text breaks; none where memory ran out
+abbrev pub rule_of : TextRefusal → Option BrokenRule
+rule_of (BadByte place) = Some (record { number = codes "L1"; name = codes "BadByte"; place = place })
+rule_of (NumberTooLarge place) = Some (record { number = codes "L2"; name = codes "NumberTooLarge"; place = place })
+rule_of (OpenText place) = Some (record { number = codes "L3"; name = codes "OpenText"; place = place })
+rule_of TooLong = Some (record { number = codes "L4"; name = codes "TooLong"; place = record { line = 1; column = 1 } })
+rule_of (Unexpected place) = Some (record { number = codes "P1"; name = codes "Unexpected"; place = place })
+rule_of (TooDeep place) = Some (record { number = codes "P2"; name = codes "TooDeep"; place = place })
+rule_of (Version place) = Some (record { number = codes "P3"; name = codes "Version"; place = place })
+rule_of (TypeTooLarge place) = Some (record { number = codes "P4"; name = codes "TypeTooLarge"; place = place })
+rule_of (TooMany place) = Some (record { number = codes "B1"; name = codes "TooMany"; place = place })
+rule_of Memory = None
+
 -- the number of the rule
 abbrev pub number_bytes : TextRefusal → Option (List ℕ)
-number_bytes TooLong = Some (codes "L4")
-number_bytes (BadByte place) = Some (codes "L1")
-number_bytes (NumberTooLarge place) = Some (codes "L2")
-number_bytes (OpenText place) = Some (codes "L3")
-number_bytes (Unexpected place) = Some (codes "P1")
-number_bytes (TooDeep place) = Some (codes "P2")
-number_bytes (Version place) = Some (codes "P3")
-number_bytes (TypeTooLarge place) = Some (codes "P4")
-number_bytes (TooMany place) = Some (codes "B1")
-number_bytes Memory = None
+number_bytes r = option_map (λ (b : BrokenRule). b.number) (rule_of r)
 
--- the name of the rule
+abbrev pub rule_name : Option BrokenRule → List ℕ
+rule_name (Some b) = b.name
+rule_name None = codes "Memory"
+
+-- the name of the rule, or that memory ran out
 abbrev pub name_bytes : TextRefusal → List ℕ
-name_bytes TooLong = codes "TooLong"
-name_bytes (BadByte place) = codes "BadByte"
-name_bytes (NumberTooLarge place) = codes "NumberTooLarge"
-name_bytes (OpenText place) = codes "OpenText"
-name_bytes (Unexpected place) = codes "Unexpected"
-name_bytes (TooDeep place) = codes "TooDeep"
-name_bytes (Version place) = codes "Version"
-name_bytes (TypeTooLarge place) = codes "TypeTooLarge"
-name_bytes (TooMany place) = codes "TooMany"
-name_bytes Memory = codes "Memory"
+name_bytes r = rule_name (rule_of r)
 
 -- the place of the fault
 abbrev pub place_of : TextRefusal → Option Place
-place_of TooLong = Some (record { line = 1; column = 1 })
-place_of (BadByte place) = Some place
-place_of (NumberTooLarge place) = Some place
-place_of (OpenText place) = Some place
-place_of (Unexpected place) = Some place
-place_of (TooDeep place) = Some place
-place_of (Version place) = Some place
-place_of (TypeTooLarge place) = Some place
-place_of (TooMany place) = Some place
-place_of Memory = None
+place_of r = option_map (λ (b : BrokenRule). b.place) (rule_of r)
+
+-- how a refusal is displayed: `NUMBER NAME LINE:COLUMN`, or `Memory`
+abbrev pub rule_text : Option BrokenRule → List ℕ
+rule_text (Some b) = b.number ++ 32 ∷ (b.name ++ 32 ∷ (decimal b.place.line ++ 58 ∷ decimal b.place.column))
+rule_text None = codes "Memory"

@@ -15,7 +15,7 @@ use Rattle.sf_term.specs.declared.form.Side.{Side}
 use Rattle.sf_term.specs.declared.form.Side.TheVariants as sides
 use Rattle.sf_term.specs.declared.form.Heading.{Heading}
 use Rattle.sf_term.specs.declared.form.Heading.TheVariants as headings
-use Rattle.sf_term.specs.Trees.{bare, with_value, arrow, Term, primitive, joined, sided, headed, Template, Templates, depth, terms_in, expressions_in}
+use Rattle.sf_term.specs.Trees.{bare, with_value, arrow, fused, Term, primitive, joined, sided, headed, staged, Template, Templates, depth, terms_in, expressions_in}
 use Rattle.sf_lex.specs.declared.word.Keyword.{Keyword}
 use Rattle.sf_lex.specs.declared.word.Keyword.TheVariants as words
 use Rattle.sf_lex.specs.declared.symbol.Symbol.{Symbol}
@@ -77,13 +77,16 @@ spell_expression (operation e o f) = in_brackets (spell_expression e) (operator_
 abbrev pub spell_function : Function → List Tok
 spell_function (function p e) = spell_pattern p ++ (symbol symbols.MapsTo ∷ spell_expression e)
 
+-- the forms of plans stand in no text
 abbrev pub spell_term : Term → List Tok
 spell_term (primitive (bare k)) = keyword (bare_word k) ∷ []
 spell_term (primitive (with_value k e)) = keyword (value_word k) ∷ spell_expression e
 spell_term (primitive (arrow f)) = keyword words.Arr ∷ spell_function f
+spell_term (primitive (fused f)) = []
 spell_term (joined j f g) = in_brackets (spell_term f) (symbol (join_symbol j)) (spell_term g)
 spell_term (sided s f) = keyword (side_word s) ∷ spell_term f
 spell_term (headed h e f) = keyword (heading_word h) ∷ in_brackets (spell_expression e) (symbol symbols.Comma) (spell_term f)
+spell_term (staged x f g) = []
 
 abbrev pub spell_heading : Template → List Tok
 spell_heading t = keyword words.Template ∷ name t.name ∷ symbol symbols.Open ∷ symbol symbols.Close ∷ []

@@ -5,6 +5,8 @@ ghost use Rattle.sf_lex.specs.Tokens.{token_of};
 ghost use Rattle.sf_lex.specs.Words.{IsName};
 ghost use Rattle.sf_term.specs.Arena.{HoldsExpression, AddsExpression, expression_at as expression_in, expression_count};
 ghost use Rattle.sf_text.specs.Answers.{toks, AreNamed, Stops, Reads, ReadsExpression, ReadsFunction, counts_of, stop_for};
+ghost use Rattle.sf_text.specs.Placing.{ExpressionPlaced, FunctionPlaced};
+ghost use Rattle.sf_text.specs.Consuming.{places, BehindOne, Consumes, ConsumesFrom, linked_node};
 ghost use Rattle.sf_text.specs.Reading.{begins_expression, too_deep, link_at, linked, linked_at, expression_read, expression_form_at, expression_at, function_at};
 
 use crate::head::{Link, link_of};
@@ -57,7 +59,8 @@ fn variable<'a>(
     spot: Spot,
 ) -> Result<(ExprId, &'a [PlacedToken<'a>]), Stop>
     requires { IsName name.now }
-    ensures { ReadsExpression program.old program.new result (expression_read (counts_of program.old) (variable_form name.now) (toks tokens.now) (toks rest.now)) }
+    ensures reads { ReadsExpression program.old program.new result (expression_read (counts_of program.old) (variable_form name.now) (toks tokens.now) (toks rest.now)) }
+    ensures placed { IfOk result (λ x. ConsumesFrom (ExpressionPlaced program.new x.0) spot (places rest.now) (places x.1.now)) }
 {
     let name = String::from_str(alloc, name)?;
     match program.name(name, spot) {
@@ -74,7 +77,8 @@ fn number<'a>(
     number: i64,
     spot: Spot,
 ) -> Result<(ExprId, &'a [PlacedToken<'a>]), Stop>
-    ensures { ReadsExpression program.old program.new result (expression_read (counts_of program.old) (literal (int_literal number)) (toks tokens.now) (toks rest.now)) }
+    ensures reads { ReadsExpression program.old program.new result (expression_read (counts_of program.old) (literal (int_literal number)) (toks tokens.now) (toks rest.now)) }
+    ensures placed { IfOk result (λ x. ConsumesFrom (ExpressionPlaced program.new x.0) spot (places rest.now) (places x.1.now)) }
 {
     match program.int(number, spot) {
         Ok(id) => Ok((id, rest)),
@@ -85,6 +89,7 @@ fn number<'a>(
 /// What stands between two expressions, and the tokens behind it.
 fn link<'a>(tokens: &'a [PlacedToken<'a>]) -> Result<(Link, &'a [PlacedToken<'a>]), Stop>
     ensures reads { Reads (λ l. l) result (link_at (toks tokens.now)) }
+    ensures behind { IfOk result (λ x. BehindOne (places tokens.now) (places x.1.now)) }
     ensures named { IfOk result (λ x. AreNamed (toks tokens.now) → AreNamed (toks x.1.now)) }
 {
     if let [first, rest @ ..] = tokens {
@@ -106,7 +111,7 @@ fn add_linked(
     requires first_held { HoldsExpression program.old first }
     requires second_held { HoldsExpression program.old second }
     ensures ok { let whole = linked link (expression_in program.old first) (expression_in program.old second) in
-        IfOk result (λ id. AddsExpression program.old program.new id whole spot) }
+        IfOk result (λ id. AddsExpression program.old program.new id (linked_node link first second) whole spot) }
     ensures many { result ≡ Err BuildRefusal.TooMany ↔ 100000 ≤ expression_count program.old }
     ensures deep { let whole = linked link (expression_in program.old first) (expression_in program.old second) in
         result ≡ Err BuildRefusal.TooDeep ↔ (expression_count program.old < 100000) × (64 < depth whole) }
@@ -129,7 +134,8 @@ pub(crate) fn expression<'a>(
 ) -> Result<(ExprId, &'a [PlacedToken<'a>]), Stop>
     requires shallow { left ≤ 64 }
     requires named { AreNamed (toks tokens.now) }
-    ensures { ReadsExpression program.old program.new result (expression_at left (counts_of program.old) (toks tokens.now)) }
+    ensures reads { ReadsExpression program.old program.new result (expression_at left (counts_of program.old) (toks tokens.now)) }
+    ensures placed { IfOk result (λ x. Consumes (ExpressionPlaced program.new x.0) (places tokens.now) (places x.1.now)) }
 {
     if left == 0 {
         return Err(expression_too_deep(tokens));
@@ -146,7 +152,8 @@ fn expression_form<'a>(
 ) -> Result<(ExprId, &'a [PlacedToken<'a>]), Stop>
     requires shallow { left ≤ 63 }
     requires named { AreNamed (toks tokens.now) }
-    ensures { ReadsExpression program.old program.new result (expression_form_at (expression_at left) (counts_of program.old) (toks tokens.now)) }
+    ensures reads { ReadsExpression program.old program.new result (expression_form_at (expression_at left) (counts_of program.old) (toks tokens.now)) }
+    ensures placed { IfOk result (λ x. Consumes (ExpressionPlaced program.new x.0) (places tokens.now) (places x.1.now)) }
 {
     let [first, rest @ ..] = tokens else {
         return Err(stop_at(Fault::Unexpected, tokens));
@@ -173,7 +180,8 @@ fn linked<'a>(
 ) -> Result<(ExprId, &'a [PlacedToken<'a>]), Stop>
     requires shallow { left ≤ 63 }
     requires named { AreNamed (toks rest.now) }
-    ensures { ReadsExpression program.old program.new result (linked_at (expression_at left) (counts_of program.old) (toks tokens.now) (toks rest.now)) }
+    ensures reads { ReadsExpression program.old program.new result (linked_at (expression_at left) (counts_of program.old) (toks tokens.now) (toks rest.now)) }
+    ensures placed { IfOk result (λ x. ConsumesFrom (ExpressionPlaced program.new x.0) spot (places rest.now) (places x.1.now)) }
 {
     let (one, rest) = expression(alloc, rest, program, left)?;
     let (link, rest) = link(rest)?;
@@ -195,7 +203,8 @@ pub(crate) fn function<'a>(
 ) -> Result<(FunctionId, &'a [PlacedToken<'a>]), Stop>
     requires shallow { left ≤ 63 }
     requires named { AreNamed (toks tokens.now) }
-    ensures { ReadsFunction program.old program.new result (function_at left (counts_of program.old) (toks tokens.now)) }
+    ensures reads { ReadsFunction program.old program.new result (function_at left (counts_of program.old) (toks tokens.now)) }
+    ensures placed { IfOk result (λ x. Consumes (FunctionPlaced program.new x.0) (places tokens.now) (places x.1.now)) }
 {
     let (pattern, rest) = pattern(alloc, tokens, left)?;
     let rest = symbol(rest, Symbol::MapsTo)?;

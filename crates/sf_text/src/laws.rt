@@ -1,9 +1,23 @@
 //! Laws of the texts of networks.
-ghost use Rattle.std.specs.Prelude.{◌≡◌, ℕ, List};
+ghost use Rattle.std.specs.Prelude.{◌≡◌, ℕ, List, length};
+ghost use Rattle.sf_lex.specs.declared.token.Place.{Place};
+ghost use Rattle.sf_term.specs.declared.node.TermId.{TermId};
+ghost use Rattle.sf_term.specs.declared.program.Program.{Program};
+ghost use Rattle.sf_term.specs.Arena.{expression_at, tree, template_in};
+ghost use Rattle.sf_term.specs.Headers.{Header};
 ghost use Rattle.sf_term.specs.Trees.{Templates};
-ghost use Rattle.sf_text.specs.Spelling.{IsNetworkText};
+ghost use Rattle.sf_expr.specs.declared.exprs.ExprId.{ExprId};
+ghost use Rattle.sf_text.specs.Spelling.{IsNetworkText, spell_expression, spell_term, spell_template};
+ghost use Rattle.sf_text.specs.Placing.{ExpressionPlaced, TermPlaced, TemplatePlaced};
 
 /// A text is that of one network at most.
 pub fn one_network()
     ensures { (bytes : List ℕ) (p q : Templates) → IsNetworkText bytes p → IsNetworkText bytes q → p ≡ q }
+{}
+
+/// What is placed has one place for each token that spells it: so its own places say where each of its parts begins.
+pub fn one_place_a_token()
+    ensures expressions { (p : Program) (id : ExprId) (places : List Place) → ExpressionPlaced p id places → length places ≡ length (spell_expression (expression_at p id)) }
+    ensures terms { (p : Program) (id : TermId) (places : List Place) → TermPlaced p id places → length places ≡ length (spell_term (tree p id)) }
+    ensures templates { (p : Program) (h : Header) (places : List Place) → TemplatePlaced p h places → length places ≡ length (spell_template (template_in p h)) }
 {}

@@ -14,7 +14,7 @@ mod template;
 mod term;
 mod ty;
 
-pub use laws::one_network;
+pub use laws::{one_network, one_place_a_token};
 pub use network::read_network;
 pub use refusal::TextRefusal;
 

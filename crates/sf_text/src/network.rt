@@ -1,9 +1,11 @@
 //! Networks.
-ghost use Rattle.std.specs.Prelude.{◌≡◌, ◌≢◌, ◌≤◌, ◌-◌, ◌^◌, [], length, drop, IfOk, IfErr};
-ghost use Rattle.sf_term.specs.Arena.{templates_of};
+ghost use Rattle.std.specs.Prelude.{◌≡◌, ◌≢◌, ◌≤◌, ◌-◌, ◌^◌, [], length, drop, IfOk, IfErr, OnOk};
+ghost use Rattle.sf_term.specs.Arena.{templates_of, headers_of};
 ghost use Rattle.sf_term.specs.Trees.{Templates};
 ghost use Rattle.sf_text.specs.Answers.{toks, AreNamed};
 ghost use Rattle.sf_text.specs.Spelling.{IsNetworkText};
+ghost use Rattle.sf_text.specs.Placing.{TemplatesPlaced, NetworkPlaced, IsPlacedIn};
+ghost use Rattle.sf_text.specs.Consuming.{places};
 ghost use Rattle.sf_text.specs.Stopping.{Behind, ReadsTemplates, ReadsNetwork, IsBlankProgram, Refuses};
 
 use crate::part::opening;
@@ -24,7 +26,8 @@ fn templates<'a>(
 ) -> Result<(), Stop>
     requires named { AreNamed (toks tokens.now) }
     requires blank { IsBlankProgram program.old }
-    ensures { ReadsTemplates result (toks tokens.now) program.new }
+    ensures reads { ReadsTemplates result (toks tokens.now) program.new }
+    ensures placed { OnOk result (TemplatesPlaced program.new (headers_of program.new) (places tokens.now)) }
 {
     let mut at = 0;
     while at < tokens.len() {
@@ -43,7 +46,8 @@ fn network<'a>(
 ) -> Result<(), Stop>
     requires named { AreNamed (toks tokens.now) }
     requires blank { IsBlankProgram program.old }
-    ensures { ReadsNetwork result (toks tokens.now) program.new }
+    ensures reads { ReadsNetwork result (toks tokens.now) program.new }
+    ensures placed { OnOk result (NetworkPlaced program.new (places tokens.now)) }
 {
     let rest = opening(tokens)?;
     templates(alloc, rest, program)
@@ -56,6 +60,8 @@ fn network<'a>(
 pub fn read_network(alloc: Global, bytes: &[u8]) -> Result<Program, TextRefusal>
     // What is read is the network of the text.
     ensures read { IfOk result (λ p. IsNetworkText bytes.now (templates_of p)) }
+    // Each form stands where its first token does, and each name where its own does.
+    ensures placed { IfOk result (λ p. IsPlacedIn bytes.now p) }
     // What is refused has the fault at the place.
     ensures fault { IfErr result (λ e. Refuses bytes.now e) }
     // Nothing is refused that is the text of a network, but for want of memory.

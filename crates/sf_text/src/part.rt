@@ -1,6 +1,8 @@
 //! Single tokens, and what has a fixed shape.
 ghost use Rattle.std.specs.Prelude.{◌≡◌, ℕ, List, length, IfOk};
 ghost use Rattle.sf_text.specs.Answers.{toks, AreNamed, Stops, Reads, ReadsRest, name_in, kinds_in};
+ghost use Rattle.sf_text.specs.Placing.{spot_of};
+ghost use Rattle.sf_text.specs.Consuming.{places, BehindOne, BehindSome, NamePlaced, HeadingPlaced, OpeningPlaced};
 ghost use Rattle.sf_text.specs.Reading.{Read, stop, symbol_at, keyword_at, name_at, version_at, opening_at, heading_at, signature_at};
 ghost use Rattle.sf_text.specs.declared.stop.Fault.TheVariants.{Unexpected, Version};
 
@@ -12,7 +14,9 @@ use sf_value::Ty;
 use std::alloc::Global;
 
 /// The place of a token as the place of what it begins.
-pub(crate) fn spot_of(place: Place) -> Spot {
+pub(crate) fn spot_of(place: Place) -> Spot
+    ensures { result ≡ spot_of place }
+{
     Spot {
         line: place.line,
         column: place.column,
@@ -32,6 +36,7 @@ pub(crate) fn symbol<'a>(
     wanted: Symbol,
 ) -> Result<&'a [PlacedToken<'a>], Stop>
     ensures reads { ReadsRest result (symbol_at wanted (toks tokens.now)) }
+    ensures behind { IfOk result (λ rest. BehindOne (places tokens.now) (places rest.now)) }
     ensures named { IfOk result (λ rest. AreNamed (toks tokens.now) → AreNamed (toks rest.now)) }
 {
     if let [first, rest @ ..] = tokens {
@@ -49,7 +54,8 @@ pub(crate) fn keyword<'a>(
     tokens: &'a [PlacedToken<'a>],
     wanted: Keyword,
 ) -> Result<&'a [PlacedToken<'a>], Stop>
-    ensures { ReadsRest result (keyword_at wanted (toks tokens.now)) }
+    ensures reads { ReadsRest result (keyword_at wanted (toks tokens.now)) }
+    ensures behind { IfOk result (λ rest. BehindOne (places tokens.now) (places rest.now)) }
 {
     if let [first, rest @ ..] = tokens {
         if let Token::Keyword(keyword) = &first.token {
@@ -70,7 +76,8 @@ pub(crate) struct Named<'a> {
 
 /// A name, and the tokens behind it.
 fn name<'a>(tokens: &'a [PlacedToken<'a>]) -> Result<(Named<'a>, &'a [PlacedToken<'a>]), Stop>
-    ensures { Reads name_in result (name_at (toks tokens.now)) }
+    ensures reads { Reads name_in result (name_at (toks tokens.now)) }
+    ensures placed { IfOk result (λ x. NamePlaced x.0.spot (places tokens.now) (places x.1.now)) }
 {
     if let [first, rest @ ..] = tokens {
         if let Token::Name(name) = &first.token {
@@ -83,7 +90,8 @@ fn name<'a>(tokens: &'a [PlacedToken<'a>]) -> Result<(Named<'a>, &'a [PlacedToke
 
 /// The tokens behind the only version.
 fn version<'a>(tokens: &'a [PlacedToken<'a>]) -> Result<&'a [PlacedToken<'a>], Stop>
-    ensures { ReadsRest result (version_at (toks tokens.now)) }
+    ensures reads { ReadsRest result (version_at (toks tokens.now)) }
+    ensures behind { IfOk result (λ rest. BehindOne (places tokens.now) (places rest.now)) }
 {
     if let [first, rest @ ..] = tokens {
         if let Token::Number(number) = &first.token {
@@ -99,7 +107,8 @@ fn version<'a>(tokens: &'a [PlacedToken<'a>]) -> Result<&'a [PlacedToken<'a>], S
 /// The tokens behind what stands in front of a network's templates.
 #[tactic(auto, unfolding(crate::specs::Reading::opening_at))]
 pub(crate) fn opening<'a>(tokens: &'a [PlacedToken<'a>]) -> Result<&'a [PlacedToken<'a>], Stop>
-    ensures { ReadsRest result (opening_at (toks tokens.now)) }
+    ensures reads { ReadsRest result (opening_at (toks tokens.now)) }
+    ensures placed { IfOk result (λ rest. OpeningPlaced (places tokens.now) (places rest.now)) }
 {
     let rest = keyword(tokens, Keyword::Network)?;
     let rest = version(rest)?;
@@ -111,7 +120,8 @@ pub(crate) fn opening<'a>(tokens: &'a [PlacedToken<'a>]) -> Result<&'a [PlacedTo
 pub(crate) fn heading<'a>(
     tokens: &'a [PlacedToken<'a>],
 ) -> Result<(Named<'a>, &'a [PlacedToken<'a>]), Stop>
-    ensures { Reads name_in result (heading_at (toks tokens.now)) }
+    ensures reads { Reads name_in result (heading_at (toks tokens.now)) }
+    ensures placed { IfOk result (λ x. HeadingPlaced x.0.spot (places tokens.now) (places x.1.now)) }
 {
     let rest = keyword(tokens, Keyword::Template)?;
     let (heading, rest) = name(rest)?;
@@ -133,7 +143,8 @@ pub(crate) fn signature<'a>(
     alloc: Global,
     tokens: &'a [PlacedToken<'a>],
 ) -> Result<(Types, &'a [PlacedToken<'a>]), Stop>
-    ensures { Reads kinds_in result (signature_at (toks tokens.now)) }
+    ensures reads { Reads kinds_in result (signature_at (toks tokens.now)) }
+    ensures behind { IfOk result (λ x. BehindSome (places tokens.now) (places x.1.now)) }
 {
     let rest = symbol(tokens, Symbol::Colon)?;
     let (input, rest) = ty(alloc, rest)?;

@@ -1,9 +1,11 @@
 //! Patterns.
-ghost use Rattle.std.specs.Prelude.{◌≡◌};
+ghost use Rattle.std.specs.Prelude.{◌≡◌, IfOk};
 ghost use Rattle.sf_expr.specs.Expressions.{Pattern};
 ghost use Rattle.sf_expr.specs.Patterns.{pattern_of};
 ghost use Rattle.sf_lex.specs.Tokens.{token_of};
 ghost use Rattle.sf_text.specs.Answers.{toks, Stops, Reads};
+ghost use Rattle.sf_text.specs.Placing.{PatternPlaced};
+ghost use Rattle.sf_text.specs.Consuming.{places, Consumes, ConsumesBehind};
 ghost use Rattle.sf_text.specs.Reading.{begins_pattern, too_deep, pattern_at, pattern_form_at, pattern_pair_at};
 
 use crate::part::{spot_of, stop_at, symbol};
@@ -39,7 +41,8 @@ pub(crate) fn pattern<'a>(
     tokens: &'a [PlacedToken<'a>],
     left: u32,
 ) -> Result<(Pat, &'a [PlacedToken<'a>]), Stop>
-    ensures { Reads pattern_of result (pattern_at left (toks tokens.now)) }
+    ensures reads { Reads pattern_of result (pattern_at left (toks tokens.now)) }
+    ensures placed { IfOk result (λ x. Consumes (PatternPlaced x.0) (places tokens.now) (places x.1.now)) }
 {
     if left == 0 {
         return Err(pattern_too_deep(tokens));
@@ -53,7 +56,8 @@ fn pattern_form<'a>(
     tokens: &'a [PlacedToken<'a>],
     left: u32,
 ) -> Result<(Pat, &'a [PlacedToken<'a>]), Stop>
-    ensures { Reads pattern_of result (pattern_form_at (pattern_at left) (toks tokens.now)) }
+    ensures reads { Reads pattern_of result (pattern_form_at (pattern_at left) (toks tokens.now)) }
+    ensures placed { IfOk result (λ x. Consumes (PatternPlaced x.0) (places tokens.now) (places x.1.now)) }
 {
     let [first, rest @ ..] = tokens else {
         return Err(stop_at(Fault::Unexpected, tokens));
@@ -77,7 +81,8 @@ fn pattern_pair<'a>(
     tokens: &'a [PlacedToken<'a>],
     left: u32,
 ) -> Result<(Pat, &'a [PlacedToken<'a>]), Stop>
-    ensures { Reads pattern_of result (pattern_pair_at (pattern_at left) (toks tokens.now)) }
+    ensures reads { Reads pattern_of result (pattern_pair_at (pattern_at left) (toks tokens.now)) }
+    ensures placed { IfOk result (λ x. ConsumesBehind (PatternPlaced x.0) (places tokens.now) (places x.1.now)) }
 {
     let (first, rest) = pattern(alloc, tokens, left)?;
     let rest = symbol(rest, Symbol::Comma)?;

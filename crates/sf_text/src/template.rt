@@ -1,5 +1,7 @@
 //! Templates.
+ghost use Rattle.std.specs.Prelude.{IfOk};
 ghost use Rattle.sf_text.specs.Answers.{toks, AreNamed, ReadsTemplate, counts_of};
+ghost use Rattle.sf_text.specs.Consuming.{places, PlacesTemplate};
 ghost use Rattle.sf_text.specs.Reading.{template_at};
 
 use crate::expression::refused;
@@ -18,7 +20,8 @@ pub(crate) fn template<'a>(
     program: &mut Program,
 ) -> Result<&'a [PlacedToken<'a>], Stop>
     requires { AreNamed (toks tokens.now) }
-    ensures { ReadsTemplate program.old program.new result (template_at (counts_of program.old) (toks tokens.now)) }
+    ensures reads { ReadsTemplate program.old program.new result (template_at (counts_of program.old) (toks tokens.now)) }
+    ensures placed { IfOk result (λ rest. PlacesTemplate program.old program.new (places tokens.now) (places rest.now)) }
 {
     let (heading, rest) = heading(tokens)?;
     let (types, rest) = signature(alloc, rest)?;

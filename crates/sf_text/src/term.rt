@@ -3,6 +3,8 @@ ghost use Rattle.std.specs.Prelude.{◌≡◌, ◌≤◌, IfOk};
 ghost use Rattle.sf_lex.specs.Tokens.{token_of};
 ghost use Rattle.sf_term.specs.Trees.{Term, primitive as primitive_form, bare as bare_form};
 ghost use Rattle.sf_text.specs.Answers.{toks, AreNamed, Stops, Reads, ReadsTerm, counts_of};
+ghost use Rattle.sf_text.specs.Placing.{TermPlaced};
+ghost use Rattle.sf_text.specs.Consuming.{places, BehindOne, Consumes, ConsumesFrom};
 ghost use Rattle.sf_text.specs.Reading.{begins_term, too_deep, term_read, value_at, arrow_at, sided_at, headed_at, join_at, joined_at, form_at, worded_at, term_at};
 
 use crate::expression::{expression, function, refused};
@@ -42,7 +44,8 @@ fn bare<'a>(
     kind: Bare,
     spot: Spot,
 ) -> Result<(TermId, &'a [PlacedToken<'a>]), Stop>
-    ensures { ReadsTerm program.old program.new result (term_read (counts_of program.old) (primitive_form (bare_form kind)) (toks tokens.now) (toks rest.now)) }
+    ensures reads { ReadsTerm program.old program.new result (term_read (counts_of program.old) (primitive_form (bare_form kind)) (toks tokens.now) (toks rest.now)) }
+    ensures placed { IfOk result (λ x. ConsumesFrom (TermPlaced program.new x.0) spot (places rest.now) (places x.1.now)) }
 {
     match program.bare(kind, spot) {
         Ok(id) => Ok((id, rest)),
@@ -63,7 +66,8 @@ fn with_value<'a>(
 ) -> Result<(TermId, &'a [PlacedToken<'a>]), Stop>
     requires shallow { left ≤ 63 }
     requires named { AreNamed (toks rest.now) }
-    ensures { ReadsTerm program.old program.new result (value_at left (counts_of program.old) kind (toks tokens.now) (toks rest.now)) }
+    ensures reads { ReadsTerm program.old program.new result (value_at left (counts_of program.old) kind (toks tokens.now) (toks rest.now)) }
+    ensures placed { IfOk result (λ x. ConsumesFrom (TermPlaced program.new x.0) spot (places rest.now) (places x.1.now)) }
 {
     let (value, rest) = expression(alloc, rest, program, left)?;
     match program.with_value(kind, value, spot) {
@@ -84,7 +88,8 @@ fn arrow<'a>(
 ) -> Result<(TermId, &'a [PlacedToken<'a>]), Stop>
     requires shallow { left ≤ 63 }
     requires named { AreNamed (toks rest.now) }
-    ensures { ReadsTerm program.old program.new result (arrow_at left (counts_of program.old) (toks tokens.now) (toks rest.now)) }
+    ensures reads { ReadsTerm program.old program.new result (arrow_at left (counts_of program.old) (toks tokens.now) (toks rest.now)) }
+    ensures placed { IfOk result (λ x. ConsumesFrom (TermPlaced program.new x.0) spot (places rest.now) (places x.1.now)) }
 {
     let (function, rest) = function(alloc, rest, program, left)?;
     match program.arrow(function, spot) {
@@ -96,6 +101,7 @@ fn arrow<'a>(
 /// The symbol between two terms, and the tokens behind it.
 fn join<'a>(tokens: &'a [PlacedToken<'a>]) -> Result<(Join, &'a [PlacedToken<'a>]), Stop>
     ensures reads { Reads (λ j. j) result (join_at (toks tokens.now)) }
+    ensures behind { IfOk result (λ x. BehindOne (places tokens.now) (places x.1.now)) }
     ensures named { IfOk result (λ x. AreNamed (toks tokens.now) → AreNamed (toks x.1.now)) }
 {
     if let [first, rest @ ..] = tokens {
@@ -119,7 +125,8 @@ pub(crate) fn term<'a>(
 ) -> Result<(TermId, &'a [PlacedToken<'a>]), Stop>
     requires shallow { left ≤ 64 }
     requires named { AreNamed (toks tokens.now) }
-    ensures { ReadsTerm program.old program.new result (term_at left (counts_of program.old) (toks tokens.now)) }
+    ensures reads { ReadsTerm program.old program.new result (term_at left (counts_of program.old) (toks tokens.now)) }
+    ensures placed { IfOk result (λ x. Consumes (TermPlaced program.new x.0) (places tokens.now) (places x.1.now)) }
 {
     if left == 0 {
         return Err(term_too_deep(tokens));
@@ -136,7 +143,8 @@ fn form<'a>(
 ) -> Result<(TermId, &'a [PlacedToken<'a>]), Stop>
     requires shallow { left ≤ 63 }
     requires named { AreNamed (toks tokens.now) }
-    ensures { ReadsTerm program.old program.new result (form_at left (term_at left) (counts_of program.old) (toks tokens.now)) }
+    ensures reads { ReadsTerm program.old program.new result (form_at left (term_at left) (counts_of program.old) (toks tokens.now)) }
+    ensures placed { IfOk result (λ x. Consumes (TermPlaced program.new x.0) (places tokens.now) (places x.1.now)) }
 {
     let [first, rest @ ..] = tokens else {
         return Err(stop_at(Fault::Unexpected, tokens));
@@ -165,7 +173,8 @@ fn worded<'a>(
 ) -> Result<(TermId, &'a [PlacedToken<'a>]), Stop>
     requires shallow { left ≤ 63 }
     requires named { AreNamed (toks rest.now) }
-    ensures { ReadsTerm program.old program.new result (worded_at left (term_at left) (counts_of program.old) (Some head) (toks tokens.now) (toks rest.now)) }
+    ensures reads { ReadsTerm program.old program.new result (worded_at left (term_at left) (counts_of program.old) (Some head) (toks tokens.now) (toks rest.now)) }
+    ensures placed { IfOk result (λ x. ConsumesFrom (TermPlaced program.new x.0) spot (places rest.now) (places x.1.now)) }
 {
     match head {
         Head::Bare(kind) => bare(tokens, rest, program, kind, spot),
@@ -190,7 +199,8 @@ fn sided<'a>(
 ) -> Result<(TermId, &'a [PlacedToken<'a>]), Stop>
     requires shallow { left ≤ 63 }
     requires named { AreNamed (toks rest.now) }
-    ensures { ReadsTerm program.old program.new result (sided_at (term_at left) (counts_of program.old) side (toks tokens.now) (toks rest.now)) }
+    ensures reads { ReadsTerm program.old program.new result (sided_at (term_at left) (counts_of program.old) side (toks tokens.now) (toks rest.now)) }
+    ensures placed { IfOk result (λ x. ConsumesFrom (TermPlaced program.new x.0) spot (places rest.now) (places x.1.now)) }
 {
     let (part, rest) = term(alloc, rest, program, left)?;
     match program.sided(side, part, spot) {
@@ -213,7 +223,8 @@ fn headed<'a>(
 ) -> Result<(TermId, &'a [PlacedToken<'a>]), Stop>
     requires shallow { left ≤ 63 }
     requires named { AreNamed (toks rest.now) }
-    ensures { ReadsTerm program.old program.new result (headed_at left (term_at left) (counts_of program.old) heading (toks tokens.now) (toks rest.now)) }
+    ensures reads { ReadsTerm program.old program.new result (headed_at left (term_at left) (counts_of program.old) heading (toks tokens.now) (toks rest.now)) }
+    ensures placed { IfOk result (λ x. ConsumesFrom (TermPlaced program.new x.0) spot (places rest.now) (places x.1.now)) }
 {
     let rest = symbol(rest, Symbol::Open)?;
     let (value, rest) = expression(alloc, rest, program, left)?;
@@ -239,7 +250,8 @@ fn joined<'a>(
 ) -> Result<(TermId, &'a [PlacedToken<'a>]), Stop>
     requires shallow { left ≤ 63 }
     requires named { AreNamed (toks rest.now) }
-    ensures { ReadsTerm program.old program.new result (joined_at (term_at left) (counts_of program.old) (toks tokens.now) (toks rest.now)) }
+    ensures reads { ReadsTerm program.old program.new result (joined_at (term_at left) (counts_of program.old) (toks tokens.now) (toks rest.now)) }
+    ensures placed { IfOk result (λ x. ConsumesFrom (TermPlaced program.new x.0) spot (places rest.now) (places x.1.now)) }
 {
     let (one, rest) = term(alloc, rest, program, left)?;
     let (join, rest) = join(rest)?;

@@ -1,8 +1,9 @@
 //! Types.
-ghost use Rattle.std.specs.Prelude.{◌≡◌, ◌<◌, ◌≤◌, length};
+ghost use Rattle.std.specs.Prelude.{◌≡◌, ◌<◌, ◌≤◌, IfOk, length};
 ghost use Rattle.sf_value.specs.Values.{Kind};
 ghost use Rattle.sf_lex.specs.Tokens.{token_of};
 ghost use Rattle.sf_text.specs.Answers.{toks, Stops, Reads, stop_for_type};
+ghost use Rattle.sf_text.specs.Consuming.{places, BehindSome, ConsumesBehind};
 ghost use Rattle.sf_text.specs.Reading.{begins_type, too_deep, inner_type_at, type_form_at, pair_type_at, type_at};
 
 use crate::part::{stop_at, symbol};
@@ -45,7 +46,8 @@ pub(crate) fn ty<'a>(
     alloc: Global,
     tokens: &'a [PlacedToken<'a>],
 ) -> Result<(Ty, &'a [PlacedToken<'a>]), Stop>
-    ensures { Reads (λ k. k) result (type_at (toks tokens.now)) }
+    ensures reads { Reads (λ k. k) result (type_at (toks tokens.now)) }
+    ensures behind { IfOk result (λ x. BehindSome (places tokens.now) (places x.1.now)) }
 {
     inner_type(alloc, tokens, tokens, 0, 64)
 }
@@ -61,7 +63,8 @@ fn inner_type<'a>(
     left: u32,
 ) -> Result<(Ty, &'a [PlacedToken<'a>]), Stop>
     requires { met ≤ 256 }
-    ensures { Reads (λ k. k) result (inner_type_at left (toks start.now) met (toks tokens.now)) }
+    ensures reads { Reads (λ k. k) result (inner_type_at left (toks start.now) met (toks tokens.now)) }
+    ensures behind { IfOk result (λ x. BehindSome (places tokens.now) (places x.1.now)) }
 {
     if left == 0 {
         return Err(type_too_deep(tokens));
@@ -78,7 +81,8 @@ fn type_form<'a>(
     left: u32,
 ) -> Result<(Ty, &'a [PlacedToken<'a>]), Stop>
     requires { met ≤ 256 }
-    ensures { Reads (λ k. k) result (type_form_at (inner_type_at left (toks start.now)) (toks start.now) met (toks tokens.now)) }
+    ensures reads { Reads (λ k. k) result (type_form_at (inner_type_at left (toks start.now)) (toks start.now) met (toks tokens.now)) }
+    ensures behind { IfOk result (λ x. BehindSome (places tokens.now) (places x.1.now)) }
 {
     let [first, rest @ ..] = tokens else {
         return Err(stop_at(Fault::Unexpected, tokens));
@@ -106,7 +110,8 @@ fn pair_type<'a>(
     left: u32,
 ) -> Result<(Ty, &'a [PlacedToken<'a>]), Stop>
     requires { met < 256 }
-    ensures { Reads (λ k. k) result (pair_type_at (inner_type_at left (toks start.now)) met (toks tokens.now)) }
+    ensures reads { Reads (λ k. k) result (pair_type_at (inner_type_at left (toks start.now)) met (toks tokens.now)) }
+    ensures behind { IfOk result (λ x. ConsumesBehind (λ _. Unit {0}) (places tokens.now) (places x.1.now)) }
 {
     let (first, rest) = inner_type(alloc, start, tokens, met + 1, left)?;
     let rest = symbol(rest, Symbol::Comma)?;

@@ -26,10 +26,10 @@ starts_high c h = grind (arith, nat_tests)
 starts_from : (c : ℕ) → 49 ≤ c → c < 58 → starts c ≡ true
 starts_from c l h = grind (arith, nat_tests)
 
-not_minus : (c : ℕ) → 48 < c → (c == 45) ≡ false
+pub not_minus : (c : ℕ) → 48 < c → (c == 45) ≡ false
 not_minus c h = grind (arith, nat_tests)
 
-not_zero : (c : ℕ) → 48 < c → (c == 48) ≡ false
+pub not_zero : (c : ℕ) → 48 < c → (c == 48) ≡ false
 not_zero c h = grind (arith, nat_tests)
 
 abbrev pub PositiveSound : List ℕ → Scanned ℕ → Type 0
@@ -56,7 +56,7 @@ positive_sound (c ∷ s) = positive_sound_at c s (starts c) refl
 positive_digits : (c : ℕ) (ds more : List ℕ) → 49 ≤ c → c < 58 → AllDigits ds → BeginsNoDigit more → positive_at (c ∷ (ds ++ more)) ≡ Ok (value_after (c - 48) ds, more)
 positive_digits c ds more l h a b = rw (starts_from c l h, digits_at-append ds more a b, after_digits-append ds more a b) refl
 
-positive_read : (n : ℕ) (more : List ℕ) → 0 < n → BeginsNoDigit more → positive_at (natural n ++ more) ≡ Ok (n, more)
+pub positive_read : (n : ℕ) (more : List ℕ) → 0 < n → BeginsNoDigit more → positive_at (natural n ++ more) ≡ Ok (n, more)
 positive_read n more h b =
     let r = numeral n h in
     ap (λ x. positive_at (x ++ more)) r.is ∙ positive_digits r.head r.tail more r.low r.high r.digits b ∙ ap (λ x. Ok (x, more)) r.value

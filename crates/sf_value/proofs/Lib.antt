@@ -13,3 +13,4 @@ pub mod Unique
 pub mod Capped
 pub mod Failing
 pub mod ReadAnswers
+pub mod Together

@@ -1,10 +1,26 @@
 //! Laws of the definitions, in functions without effect.
 ghost use Rattle.std.specs.Prelude.{◌≡◌, ℕ, List, Result};
-ghost use Rattle.sf_value.specs.Values.{Kind, Data};
+ghost use Rattle.sf_value.specs.Values.{Kind, Data, HasKind};
+ghost use Rattle.sf_value.specs.Spelling.{spelling};
 ghost use Rattle.sf_value.specs.Reading.{Refusal, Reads};
 
 /// Bytes are read as one value at most or refused for one reason, and not both.
 pub fn one_reading()
     ensures { (t : Kind) (bytes : List ℕ) (r s : Result Data Refusal) →
         Reads t bytes r → Reads t bytes s → r ≡ s }
+{}
+
+/// For each type, bytes are read as a value or refused: no bytes are left without an answer.
+pub fn some_reading()
+    ensures { (t : Kind) (bytes : List ℕ) → (r : Result Data Refusal) × Reads t bytes r }
+{}
+
+/// Values of one spelling are one value, whatever their types are and however large their numbers.
+pub fn same_value()
+    ensures { (v w : Data) → spelling v ≡ spelling w → v ≡ w }
+{}
+
+/// A value has one type at most. With `same_value`, what has the same spelling has the same type.
+pub fn one_type()
+    ensures { (v : Data) (t u : Kind) → HasKind v t → HasKind v u → t ≡ u }
 {}

@@ -14,7 +14,7 @@ mod write;
 
 pub use equal::{has_type, same};
 pub use fault::{Fault, ValueFault};
-pub use laws::one_reading;
+pub use laws::{one_reading, one_type, same_value, some_reading};
 pub use read::{ReadRefusal, read_value};
 pub use ty::{Ty, TyForm, TyRefusal, same_type};
 pub use value::{Form, Value};

@@ -25,6 +25,15 @@ impl Value {
         })
     }
 
+    /// A pair of two values that stand in boxes. It takes no memory.
+    pub fn of_halves(first: Box<Value>, second: Box<Value>) -> Value
+        ensures { result ≡ pair first.value second.value }
+    {
+        let (_one, _other) = (first.form(), second.form());
+        let form = Form::Pair(first, second);
+        Value { form }
+    }
+
     /// What the value is made of.
     pub fn form(&self) -> &Form
         ensures data { data_of result.now ≡ self.now }

@@ -10,20 +10,56 @@ use std::process::ExitCode;
 use std::rt::{Env, Files};
 use std::{env, io};
 
-/// The exit status where the words of the command line are refused, or ask for help.
+/// The exit status where the words of the command line are refused, or ask for help or the version.
 const WORDS_REFUSED: u8 = 2;
 /// The exit status where the network can't be read.
 const UNREADABLE: u8 = 6;
 /// One byte more than a network's text may have.
 const MOST_READ: u64 = 1_048_577;
 
+const VERSION: &str = "0.1.0";
+
+const ABOUT: &str = "Plays the lines of standard input through a network of signal functions";
+
+const LONG_ABOUT: &str = "\
+Plays the lines of standard input through a network of signal functions, and
+writes what the network gives for them to standard output.
+
+An input line is a time step in milliseconds and a value, as in `16 42`; the
+first step is 0. With `=` in place of the value the input is unchanged. An
+empty line, or one that begins with `#`, gives nothing. Each sample gives a
+line `> TIME VALUE`. The first fault or refused line ends the run, with a line
+that begins with `!`.";
+
+const NET: &str = "The file that has the network's text";
+
+const PLAIN: &str =
+    "Runs the network as it is written; without it, it may be rewritten to do less work";
+
+const STATUSES: &str = "\
+Exit statuses:
+  0  the whole input was played
+  2  the words of the command line are refused, or ask for help or the version
+  3  a sample had a fault; the last line is `! TIME FAULT`
+  4  an input line was refused; the last line is `! line NUMBER REFUSAL`
+  5  the network was refused; standard error names the rule and its place
+  6  the network or the input could not be read, or the output not be written";
+
 /// What the words of the command line ask for.
 fn matches<'a>(alloc: Global, words: &'a [String]) -> Result<ArgMatches<'a>, Error> {
-    let net = Arg::new(alloc, "NET").required(true).action(ArgAction::Set);
+    let net = Arg::new(alloc, "NET")
+        .help(NET)
+        .required(true)
+        .action(ArgAction::Set);
     let plain = Arg::new(alloc, "plain")
         .long("plain")
+        .help(PLAIN)
         .action(ArgAction::SetTrue);
     Command::new(alloc, "sfplay")
+        .version(VERSION)
+        .about(ABOUT)
+        .long_about(LONG_ABOUT)
+        .after_long_help(STATUSES)
         .arg(net)?
         .arg(plain)?
         .try_get_matches_from(words)
@@ -55,7 +91,7 @@ fn main(rt: HostRuntime) -> ExitCode {
     let matches = match matches(alloc, words.as_slice()) {
         Ok(matches) => matches,
         Err(error) => {
-            let _ = eprintln!(&rt; "{error}");
+            let _ = eprint!(&rt; "{error}");
             return ExitCode::from(WORDS_REFUSED);
         }
     };
@@ -85,3 +121,6 @@ fn report<R: Eprint>(rt: &R, end: PlayEnd) {
         PlayEnd::WriteFault => eprintln!(rt; "sfplay: write fault"),
     };
 }
+
+#[cfg(test)]
+mod tests;

@@ -5,4 +5,4 @@ use Rattle.sf_mean.specs.Typing.{IsTyped}
 use Rattle.sf_check.proofs.typing.check_templates.Given as goal
 
 abbrev pub invariant-loop-template : goal.invariant-loop-template
-invariant-loop-template l = (i : ℕ) (t : Template) → i < l.template-index → slice_get (templates_of l.program) i ≡ Some t → IsTyped t
+invariant-loop-template l = (i : ℕ) (t : Template) → i < l.template-index → slice_get (templates_of l.program) i ≡ Some t → IsTyped (templates_of l.program) t

@@ -1,22 +1,32 @@
-use Rattle.std.proofs.Common.{subst, sym}
-use Rattle.sf_expr.specs.Arena.{function_at}
-use Rattle.sf_term.specs.Trees.{arrow}
-use Rattle.sf_check.specs.Answering.{primitive_in, AnswersPrimitive}
-use Rattle.sf_check.proofs.Terms.{err_primitive, memory_primitive, arrow_refused, arrow_output, identity_output}
+use Rattle.std.proofs.Common.{subst, sym, Ok, Err}
+use Rattle.sf_term.specs.declared.node.Primitive.TheVariants.{Arrow}
+use Rattle.sf_check.specs.Answering.{AnswersPrimitive}
+use Rattle.sf_term.specs.Arena.{expressions_of}
+use Rattle.sf_check.specs.Contexts.{context_in}
+use Rattle.sf_expr.specs.Scopes.{names_of}
+use Rattle.sf_mean.specs.Contexts.{names_of_values}
+use Rattle.sf_check.proofs.Types.{names_seen_through}
+use Rattle.sf_check.proofs.Terms.{function_judged_under, err_primitive, memory_primitive, arrow_refused, arrow_output, identity_output}
 use Rattle.sf_check.proofs.typing.primitive_output.Goals as goal
 
 pub returns-in_err-function_type-in-Arrow : goal.returns-in_err-function_type-in-Arrow
 returns-in_err-function_type-in-Arrow c =
-    let x = c.args.exprs.now in
+    let x = expressions_of c.args.context.now.program.now in
+    let Γ = context_in c.args.context.now in
     let f = c.in-Arrow.function in
     let r = c.from_residual-in_err-function_type-in-Arrow in
-    subst (λ q. AnswersPrimitive x (primitive_in x q) c.args.input.now c.args.spot r.result) (sym c.in-Arrow.is) (err_primitive x (arrow (function_at x f)) _ _ _ _ r.ensures.1 (arrow_refused x f _ _ _ c.in_err-function_type-in-Arrow.ensures.first))
+    let judged = function_judged_under _ x _ (names_of_values Γ) f c.args.input.now c.args.spot (Err c.in_err-function_type-in-Arrow.field-0.0) c.expressions-exprs.ensures (sym (names_seen_through (names_of c.args.context.now.names))) c.in_err-function_type-in-Arrow.ensures.first in
+    subst (λ q. AnswersPrimitive x Γ q c.args.input.now c.args.spot r.result) (sym c.in-Arrow.is) (err_primitive x Γ (Arrow f) _ _ _ _ r.ensures.1 (arrow_refused x Γ f _ _ _ judged))
 
 pub returns-in_ok-clone_in-in-Bare-Identity : goal.returns-in_ok-clone_in-in-Bare-Identity
-returns-in_ok-clone_in-in-Bare-Identity c = identity_output _ _ _ _ _ c.in-Bare-Identity.is c.in_ok-clone_in-in-Bare-Identity.ensures
+returns-in_ok-clone_in-in-Bare-Identity c = identity_output _ _ _ _ _ _ c.in-Bare-Identity.is c.in_ok-clone_in-in-Bare-Identity.ensures
 
 pub returns-in_ok-function_type-in-Arrow : goal.returns-in_ok-function_type-in-Arrow
-returns-in_ok-function_type-in-Arrow c = arrow_output _ _ _ _ _ c.in-Arrow.is c.in_ok-function_type-in-Arrow.ensures.typed
+returns-in_ok-function_type-in-Arrow c =
+    let x = expressions_of c.args.context.now.program.now in
+    let Γ = context_in c.args.context.now in
+    let judged = function_judged_under _ x _ (names_of_values Γ) c.in-Arrow.function c.args.input.now c.args.spot (Ok c.in_ok-function_type-in-Arrow.field-0) c.expressions-exprs.ensures (sym (names_seen_through (names_of c.args.context.now.names))) c.in_ok-function_type-in-Arrow.ensures.first in
+    arrow_output _ _ _ _ _ _ c.in-Arrow.is judged
 
 pub returns-in_err-clone_in-in-Bare-Identity : goal.returns-in_err-clone_in-in-Bare-Identity
-returns-in_err-clone_in-in-Bare-Identity c = memory_primitive _ _ _ _ _ c.from_residual.ensures.1
+returns-in_err-clone_in-in-Bare-Identity c = memory_primitive _ _ _ _ _ _ c.from_residual.ensures.1

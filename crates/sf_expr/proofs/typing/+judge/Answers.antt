@@ -1,4 +1,4 @@
-use Rattle.std.proofs.Common.{◌≡◌, ◌∙◌, sym, ap, subst, Some, arith, refl}
+use Rattle.std.proofs.Common.{◌≡◌, ◌∙◌, sym, ap, subst, Some, refl}
 use Rattle.sf_value.specs.Values.{Name, Kind, int_kind, pair_kind}
 use Rattle.sf_expr.specs.declared.spot.Spot.{Spot}
 use Rattle.sf_expr.specs.declared.typing.TypeRefusal.TheVariants.{UnknownName, Mismatch, TypeTooLarge}
@@ -21,7 +21,7 @@ returns-in-Some t c =
     let R = names_of c.args.names.now in
     let found : type_of_name c.name_of.result.now R ≡ Some c.in-Some.ty.now = c.in-Some.ensures.found in
     subst (λ (u : Kind). HasType R (expression x c.args.id) u) (sym c.in_ok-clone_in-in-Some.ensures)
-    (name_typed x R c.args.id c.in-Name.name c.in-Some.ty.now c.in-Name.ensures.builds (ap (λ (y : Name). type_of_name y R) (sym c.name_of.ensures) ∙ found) (omega (arith, c.nodes-nodes.ensures.count, c.nodes-nodes.ensures.small)))
+    (name_typed x R c.args.id c.in-Name.name c.in-Some.ty.now c.in-Name.ensures.builds (ap (λ (y : Name). type_of_name y R) (sym c.name_of.ensures) ∙ found) c.in-Some.ensures.fits)
 
 pub returns-in-Name : goal.returns-in-Name
 returns-in-Name t c =

@@ -18,7 +18,7 @@ returns-in_err-see c =
     let part : RepeatRefused [] (pattern_at x c.args.function) r =
     subst (λ (p : PlacedPattern). RepeatRefused [] p r) c.pattern-pattern.ensures
     (subst (λ (ns : List (Bor Name)). RepeatRefused (names_seen ns) c.pattern-pattern.result.now r) c.new.ensures.items c.in_err-see.ensures.err) in
-    names_judged x [] c.args.function c.args.from.now c.args.at _ r c.from_residual.ensures.1 part
+    names_judged x (names_of c.args.around.now) c.args.function c.args.from.now c.args.at _ r c.from_residual.ensures.1 part
 
 pub returns-in_err-bind : goal.returns-in_err-bind
 returns-in_err-bind c =
@@ -28,7 +28,7 @@ returns-in_err-bind c =
     let seen : names_seen c.see.new.seen.items ≡ names_in (pattern_of p) =
     c.in_ok-see.ensures.seen ∙ ap (λ (ns : List (Bor Name)). names_seen ns ++ names_in (pattern_of c.pattern-pattern.result.now)) c.new.ensures.items ∙ ap (λ (q : PlacedPattern). names_in (pattern_of q)) c.pattern-pattern.ensures in
     let apart : AllDifferent (names_in (pattern_of p)) = subst (λ (ns : List Name). AllDifferent ns) seen c.in_ok-see.ensures.apart in
-    bind_judged x [] c.args.function c.args.from.now c.args.at _ r apart c.from_residual-in_err-bind.ensures.1
+    bind_judged x (names_of c.args.around.now) c.args.function c.args.from.now c.args.at _ r apart c.from_residual-in_err-bind.ensures.1
     (subst (λ (q : PlacedPattern). BindRefused (pattern_of q) c.args.from.now c.args.at r) c.pattern-pattern.ensures c.in_err-bind.ensures.err)
 
 pub returns : goal.returns
@@ -39,8 +39,8 @@ returns c =
     let seen : names_seen c.see.new.seen.items ≡ names_in (pattern_of p) =
     c.in_ok-see.ensures.seen ∙ ap (λ (ns : List (Bor Name)). names_seen ns ++ names_in (pattern_of c.pattern-pattern.result.now)) c.new.ensures.items ∙ ap (λ (q : PlacedPattern). names_in (pattern_of q)) c.pattern-pattern.ensures in
     let apart : AllDifferent (names_in (pattern_of p)) = subst (λ (ns : List Name). AllDifferent ns) seen c.in_ok-see.ensures.apart in
-    let adds : Adds (pattern_of p) c.args.from.now [] S =
-    subst (λ (R : Names). Adds (pattern_of p) c.args.from.now R S) c.new-names.ensures
-    (subst (λ (q : PlacedPattern). Adds (pattern_of q) c.args.from.now (names_of c.new-names.result) S) c.pattern-pattern.ensures c.in_ok-bind.ensures.ok) in
-    body_judged x [] S c.args.function c.args.from.now c.args.at c.judge.result apart c.in_ok-bind.ensures.fits adds
+    let adds : Adds (pattern_of p) c.args.from.now (names_of c.args.around.now) S =
+    subst (λ (R : Names). Adds (pattern_of p) c.args.from.now R S) c.in_ok-names.ensures
+    (subst (λ (q : PlacedPattern). Adds (pattern_of q) c.args.from.now (names_of c.in_ok-names.names) S) c.pattern-pattern.ensures c.in_ok-bind.ensures.ok) in
+    body_judged x (names_of c.args.around.now) S c.args.function c.args.from.now c.args.at c.judge.result apart c.in_ok-bind.ensures.fits adds
     (subst (λ (i : ExprId). Judges x S i c.judge.result) c.body.ensures.value c.judge.ensures)

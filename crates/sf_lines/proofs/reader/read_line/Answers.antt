@@ -1,6 +1,6 @@
 use Rattle.std.proofs.Common.{refl}
 use Rattle.sf_lines.specs.Asking.{formless, silent}
-use Rattle.sf_lines.proofs.Parsed.{says_untimely, says_command, says_failure, says_again}
+use Rattle.sf_lines.proofs.Parsed.{says_untimely, says_command, says_failure, step_memory, takes_value, says_again}
 use Rattle.sf_lines.proofs.reader.read_line.Goals as goal
 
 pub returns-in-None-clause-refused : goal.returns-in-None-clause-refused
@@ -14,6 +14,9 @@ returns-in-Some-clause-refused c =
     let parts = rw c.in-Some-Sampled.field-0-is at c.in-Some-Sampled.ensures in
     λ _. says_untimely _ _ _ _ c.in-Some-Sampled.step parts.0 _ parts.1 parts.2 refl c.in-Some.ensures
 
+pub returns-in-Some-clause-memory : goal.returns-in-Some-clause-memory
+returns-in-Some-clause-memory c = λ lack. absurd (step_memory _ c.in-Some-Sampled.step c.in-Some.refusal c.in-Some.ensures lack)
+
 pub returns-in-None-refusal_of_step-clause-ok : goal.returns-in-None-refusal_of_step-clause-ok
 returns-in-None-refusal_of_step-clause-ok c =
     let parts = rw c.in-Some-Sampled.field-0-is at c.in-Some-Sampled.ensures in
@@ -24,6 +27,14 @@ pub returns-in-None-refusal_of_step-clause-refused :
 returns-in-None-refusal_of_step-clause-refused c =
     let parts = rw c.in-Some-Sampled.field-0-is at c.in-Some-Sampled.ensures in
     says_failure _ _ _ c.in-Some-Sampled.step parts.0 _ parts.1 parts.2 c.in-None-refusal_of_step.ensures c.sample_at.result c.sample_at.ensures.err
+
+pub returns-in-None-refusal_of_step-clause-memory : goal.returns-in-None-refusal_of_step-clause-memory
+returns-in-None-refusal_of_step-clause-memory c =
+    let parts = rw c.in-Some-Sampled.field-0-is at c.in-Some-Sampled.ensures in
+    takes_value _ (c.args.ty.now) _ c.in-Some-Sampled.step parts.0 _ parts.1 parts.2 c.in-None-refusal_of_step.ensures c.sample_at.result
+
+pub returns-in-Some-refusal_of_step-clause-memory : goal.returns-in-Some-refusal_of_step-clause-memory
+returns-in-Some-refusal_of_step-clause-memory c = λ lack. absurd (step_memory _ c.in-Some-Repeated.step c.in-Some-refusal_of_step.refusal c.in-Some-refusal_of_step.ensures lack)
 
 pub returns-in-Some-refusal_of_step-clause-refused :
     goal.returns-in-Some-refusal_of_step-clause-refused

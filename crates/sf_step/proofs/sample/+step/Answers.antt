@@ -1,177 +1,270 @@
-use Rattle.std.proofs.Common.{rules}
-use Rattle.std.proofs.Math.Logic.{∥∥₁_map}
-use Rattle.sf_step.proofs.Parts.{pass_exit, memory_exit}
-use Rattle.sf_step.proofs.Typed.{first_fed, live_fed, left_fed, right_fed, part_fed, join_is_split, wrap_is_split, output_is_split, term_typed, opened_fed}
-use Rattle.sf_step.proofs.Exits.{ticked_by, closure_of, tick_fails, join_left_fails, join_right_fails, join_steps, wrap_fails, wrap_steps, state_unborn, state_unborn_fails, state_live, state_live_fails, start_opened, start_open_fails}
+use Rattle.std.proofs.Common.{◌≡◌, length, Ok, Err, refl, ap, sym, ◌∙◌, subst, rules, arith}
+use Rattle.std.specs.Vec.{with_items}
+use Rattle.std.proofs.lemmas.List.{with_items_is}
+use Rattle.std.proofs.Math.Logic.{∥∥₁_map, ∥∥₁_elim}
+use Rattle.std.proofs.Props.{props}
+use Rattle.sf_state.specs.declared.state.Wrap.TheVariants.{Loop}
+use Rattle.sf_term.specs.declared.form.Join.TheVariants.{InParallel, FannedOut}
+use Rattle.sf_step.specs.Meters.{fault_of}
+use Rattle.sf_step.specs.Sampling.{fails}
+use Rattle.sf_step.proofs.Parts.{pass_exit}
+use Rattle.sf_step.proofs.Typed.{join_is_side, first_fed, live_fed, left_fed, right_fed, part_fed, join_is_split, wrap_is_split, output_is_split, term_typed, opened_fed}
+use Rattle.sf_step.proofs.Stages.{StagesStep, stages_fed, rest_fed, item_fed, next_fed, continues_first, continues_next, continues_fails, continues_last, pipeline_steps, pipeline_fails}
+use Rattle.sf_step.proofs.Exits.{ticked_by, closure_of, tick_fails, join_left_fails, join_right_fails, join_steps, wrap_fails, wrap_steps, early_memory, late_memory, state_steps, start_steps, start_fails, start_open_fails}
 use Rattle.sf_step.proofs.sample.+step.Goals as goal
 
--- ## step_join
+-- ## step_state
 
-pub step_join-left_input-requires : goal.step_join-left_input-requires
-step_join-left_input-requires t c = join_is_split c.args.program.now c.args.join c.args.left.value c.args.right.value c.args.dt c.args.input c.requires
-
-pub step_join-step_state-requires : goal.step_join-step_state-requires
-step_join-step_state-requires t c = (
+pub step_state-step_live-requires : goal.step_state-step_live-requires
+step_state-step_live-requires t c = (
   search rules,
-  rw c.into_inner.ensures (∥∥₁_map c.requires (left_fed c.args.program.now c.args.join c.args.left.value c.args.right.value c.args.dt c.args.input c.in_ok-first.first c.in_ok-first.ensures.0)),
+  ∥∥₁_map (rw c.in-Live.is at c.requires) (live_fed c.args.plan.now c.in-Live.field-0 c.in-Live.node.value c.in-Some.live.now c.args.dt c.args.value.now
+      (λ P L S. rw c.in-Some.ensures.value (c.unshare.ensures c.args.plan.now P L S))),
 )
 
-pub step_join-step_state-requires-2 : goal.step_join-step_state-requires-2
-step_join-step_state-requires-2 t c = (
-  search rules,
-  rw c.into_inner-2.ensures (∥∥₁_map c.requires (right_fed c.args.program.now c.args.join c.args.left.value c.in_ok-one.one c.args.right.value c.args.meter.now c.step_state.new.meter c.args.inside c.args.dt c.args.input c.in_ok-first.first
-      c.in_ok-one.output _ c.in_ok-first.ensures.0 (c.right_input-second.ensures _ _ c.in_ok-first.ensures.1).0 (rw c.into_inner.ensures at c.in_ok-one.ensures.answers))),
-)
+pub step_state-returns-in_err-inside-in-Live-clause-answers : goal.step_state-returns-in_err-inside-in-Live-clause-answers
+step_state-returns-in_err-inside-in-Live-clause-answers t c = λ P L A. pass_exit _ _ c.from_residual.ensures.0 (tick_fails c.args.plan.now P _ c.in_err-inside-in-Live.ensures.ticked)
 
-pub step_join-returns-in_err-first-clause-answers : goal.step_join-returns-in_err-first-clause-answers
-step_join-returns-in_err-first-clause-answers t c = λ m depth t P L R. memory_exit _ c.from_residual.ensures.1
+pub step_state-returns-in_default-clause-answers : goal.step_state-returns-in_default-clause-answers
+step_state-returns-in_default-clause-answers t c = λ P L A. early_memory c.args.plan.now (ticked_by c.in_ok-inside-in-Live.ensures.ticked) c.stop.ensures.entered c.stop.ensures.height c.stop.ensures.fault
 
-pub step_join-returns-in_err-one-clause-answers : goal.step_join-returns-in_err-one-clause-answers
-step_join-returns-in_err-one-clause-answers t c = λ m depth t P L R.
-    pass_exit _ c.from_residual-in_err-one.ensures.1 (join_left_fails c.args.program.now c.args.join c.args.left.value c.args.right.value c.args.meter.now c.step_state.new.meter c.args.inside c.args.dt c.args.input c.in_ok-first.first c.in_ok-first.ensures.0
-    c.in_err-one.field-0.0 (rw c.into_inner.ensures at c.in_err-one.ensures.answers) m depth t P L R)
+pub step_state-returns-in-Some-clause-answers : goal.step_state-returns-in-Some-clause-answers
+step_state-returns-in-Some-clause-answers t c = λ P L A.
+    state_steps c.args.plan.now c.in-Live.node.value c.in-Some.live.now (λ P L S. rw c.in-Some.ensures.value (c.unshare.ensures c.args.plan.now P L S))
+    _ c.in-Live.field-0 c.step_live.new.live _ c.step_live.new.value c.step_live.result _ (ticked_by c.in_ok-inside-in-Live.ensures.ticked) c.step_live.ensures.answers P L (rw c.in-Live.is at A)
 
-pub step_join-returns-in_err-two-clause-answers : goal.step_join-returns-in_err-two-clause-answers
-step_join-returns-in_err-two-clause-answers t c = λ m depth t P L R.
-    pass_exit _ c.from_residual-in_err-two.ensures.1 (join_right_fails c.args.program.now c.args.join c.args.left.value c.args.right.value c.args.meter.now c.step_state.new.meter c.args.inside c.args.dt c.args.input c.in_ok-first.first c.in_ok-first.ensures.0
-    c.in_ok-one.one c.in_ok-one.output _ (c.right_input-second.ensures _ _ c.in_ok-first.ensures.1).0 (rw c.into_inner.ensures at c.in_ok-one.ensures.answers)
-    c.step_state-2.new.meter c.in_err-two.field-0.0 (rw c.into_inner-2.ensures at c.in_err-two.ensures.answers) m depth t P L R)
-
-pub step_join-returns-in_err-value-clause-answers : goal.step_join-returns-in_err-value-clause-answers
-step_join-returns-in_err-value-clause-answers t c = λ m depth t P L R. memory_exit _ c.from_residual-in_err-value.ensures.1
-
-pub step_join-returns-in_err-earlier-clause-answers : goal.step_join-returns-in_err-earlier-clause-answers
-step_join-returns-in_err-earlier-clause-answers t c = λ m depth t P L R. memory_exit _ c.from_residual-in_err-earlier.ensures.1
-
-pub step_join-returns-in_err-later-clause-answers : goal.step_join-returns-in_err-later-clause-answers
-step_join-returns-in_err-later-clause-answers t c = λ m depth t P L R. memory_exit _ c.from_residual-in_err-later.ensures.1
-
-pub step_join-returns-clause-answers : goal.step_join-returns-clause-answers
-step_join-returns-clause-answers t c =
-    join_steps c.args.program.now c.args.join c.args.left.value c.args.right.value c.args.meter.now c.step_state.new.meter c.args.inside c.args.dt c.args.input c.in_ok-first.first c.in_ok-first.ensures.0
-    c.in_ok-earlier.earlier.value c.in_ok-one.output _ (c.right_input-second.ensures _ _ c.in_ok-first.ensures.1).0
-    (rw (c.into_inner.ensures, ← c.in_ok-earlier.ensures.ok) at c.in_ok-one.ensures.answers)
-    c.step_state-2.new.meter c.in_ok-later.later.value c.in_ok-two.last c.in_ok-value.value
-    (c.in_ok-value.ensures _ _ (c.right_input-second.ensures _ _ c.in_ok-first.ensures.1).1)
-    (rw (c.into_inner-2.ensures, ← c.in_ok-later.ensures.ok) at c.in_ok-two.ensures.answers)
-
--- ## step_wrap
-
-pub step_wrap-part_input-requires : goal.step_wrap-part_input-requires
-step_wrap-part_input-requires t c = wrap_is_split c.args.program.now c.args.wrap c.args.part.value c.args.dt c.args.input c.requires
-
-pub step_wrap-wrap_value-requires : goal.step_wrap-wrap_value-requires
-step_wrap-wrap_value-requires t c =
-    output_is_split c.args.program.now c.args.wrap c.args.part.value c.in_ok-after.after c.args.meter.now c.step_state.new.meter c.args.inside c.args.dt c.args.input c.in_ok-fed.fed c.in_ok-after.output
-    c.in_ok-fed.ensures.0 c.in_ok-fed.ensures.1 (rw c.into_inner.ensures at c.in_ok-after.ensures.answers) c.requires
-
-pub step_wrap-step_state-requires : goal.step_wrap-step_state-requires
-step_wrap-step_state-requires t c = (
-  search rules,
-  rw c.into_inner.ensures (∥∥₁_map c.requires (part_fed c.args.program.now c.args.wrap c.args.part.value c.args.dt c.args.input c.in_ok-fed.fed c.in_ok-fed.ensures.0)),
-)
-
-pub step_wrap-returns-in_err-fed-clause-answers : goal.step_wrap-returns-in_err-fed-clause-answers
-step_wrap-returns-in_err-fed-clause-answers t c = λ m depth t P L R. memory_exit _ c.from_residual.ensures.1
-
-pub step_wrap-returns-in_err-after-clause-answers : goal.step_wrap-returns-in_err-after-clause-answers
-step_wrap-returns-in_err-after-clause-answers t c = λ m depth t P L R.
-    pass_exit _ c.from_residual-in_err-after.ensures.1 (wrap_fails c.args.program.now c.args.wrap c.args.part.value c.args.meter.now c.step_state.new.meter c.args.inside c.args.dt c.args.input c.in_ok-fed.fed c.in_ok-fed.ensures.0
-    c.in_err-after.field-0.0 (rw c.into_inner.ensures at c.in_err-after.ensures.answers) m depth t P L R)
-
-pub step_wrap-returns-in_err-kept-clause-answers : goal.step_wrap-returns-in_err-kept-clause-answers
-step_wrap-returns-in_err-kept-clause-answers t c = λ m depth t P L R. memory_exit _ c.from_residual-in_err-kept.ensures.1
-
-pub step_wrap-returns-in_err-later-clause-answers : goal.step_wrap-returns-in_err-later-clause-answers
-step_wrap-returns-in_err-later-clause-answers t c = λ m depth t P L R. memory_exit _ c.from_residual-in_err-later.ensures.1
-
-pub step_wrap-returns-clause-answers : goal.step_wrap-returns-clause-answers
-step_wrap-returns-clause-answers t c =
-    let r = c.in_ok-kept.ensures _ _ c.in_ok-fed.ensures.1 in
-    wrap_steps c.args.program.now c.args.wrap c.args.part.value c.args.meter.now c.step_state.new.meter c.args.inside c.args.dt c.args.input c.in_ok-fed.fed c.in_ok-fed.ensures.0
-    c.in_ok-later.later.value c.in_ok-kept.kept c.in_ok-after.output c.in_ok-kept.value r.0 r.1
-    (rw (c.into_inner.ensures, ← c.in_ok-later.ensures.ok) at c.in_ok-after.ensures.answers)
-
--- ## step_live
-
-pub step_live-step_prim-requires : goal.step_live-step_prim-requires
-step_live-step_prim-requires t c = rw c.in-Prim.is at c.requires
-
-pub step_live-step_join-requires : goal.step_live-step_join-requires
-step_live-step_join-requires t c = (
-  search rules,
-  rw c.in-Join.is at c.requires,
-)
-
-pub step_live-step_wrap-requires : goal.step_live-step_wrap-requires
-step_live-step_wrap-requires t c = (
-  search rules,
-  rw c.in-Wrap.is at c.requires,
-)
-
-pub step_live-returns-in-Wrap-clause-answers : goal.step_live-returns-in-Wrap-clause-answers
-step_live-returns-in-Wrap-clause-answers t c = rw c.in-Wrap.is c.step_wrap.ensures.answers
-
-pub step_live-returns-in-Prim-clause-answers : goal.step_live-returns-in-Prim-clause-answers
-step_live-returns-in-Prim-clause-answers t c = rw c.in-Prim.is (c.step_prim.ensures c.args.meter.now c.args.inside)
-
-pub step_live-returns-in-Join-clause-answers : goal.step_live-returns-in-Join-clause-answers
-step_live-returns-in-Join-clause-answers t c = rw c.in-Join.is c.step_join.ensures.answers
+pub step_state-returns-in-None-clause-answers : goal.step_state-returns-in-None-clause-answers
+step_state-returns-in-None-clause-answers t c = λ P L A. early_memory c.args.plan.now (ticked_by c.in_ok-inside-in-Live.ensures.ticked) c.stop-in-None.ensures.entered c.stop-in-None.ensures.height c.stop-in-None.ensures.fault
 
 -- ## start
 
 pub start-open-requires : goal.start-open-requires
 start-open-requires t c =
-    let q = closure_of c.args.process in
-    rw q.is (∥∥₁_map (rw q.is at c.requires) (term_typed c.args.program.now q.term q.names c.args.input))
+    let q = closure_of c.in-Unborn.process in
+    rw q.is (∥∥₁_map (rw (c.in-Unborn.is, q.is) at c.requires.fed) (λ h. term_typed c.args.plan.now q.term q.names c.args.value.now (first_fed c.args.plan.now _ _ h)))
 
 pub start-step_live-requires : goal.start-step_live-requires
 start-step_live-requires t c =
-    let q = closure_of c.args.process in
-    (search rules, ∥∥₁_map (rw q.is at c.requires) (opened_fed c.args.program.now q.term q.names c.in_ok-live.live c.args.dt c.args.input (rw q.is at c.in_ok-live.ensures)))
+    let q = closure_of c.in-Unborn.process in
+    (search rules, ∥∥₁_map (rw (c.in-Unborn.is, q.is) at c.requires.fed) (λ h. opened_fed c.args.plan.now q.term q.names c.in-Ok.live c.args.dt c.args.value.now (rw (c.replace-names.ensures.value, q.is) at c.in-Ok.ensures) (first_fed c.args.plan.now _ _ h)))
 
-pub start-returns-in_err-inside-clause-answers : goal.start-returns-in_err-inside-clause-answers
-start-returns-in_err-inside-clause-answers t c = λ P Q. pass_exit _ c.from_residual.ensures.1 (tick_fails c.args.program.now P _ c.in_err-inside.ensures.ticked)
+pub start-returns-in_err-inside-in-Unborn-clause-answers : goal.start-returns-in_err-inside-in-Unborn-clause-answers
+start-returns-in_err-inside-in-Unborn-clause-answers t c = λ P L A. pass_exit _ _ c.from_residual.ensures.0 (tick_fails c.args.plan.now P _ c.in_err-inside-in-Unborn.ensures.ticked)
 
-pub start-returns-in_err-live-clause-answers : goal.start-returns-in_err-live-clause-answers
-start-returns-in_err-live-clause-answers t c = λ P Q.
-    let q = closure_of c.args.process in
-    pass_exit _ c.from_residual-in_err-live.ensures.1 (start_open_fails c.args.program.now q.term q.names _ c.in_err-live.field-0.0 (ticked_by c.in_ok-inside.ensures.ticked) (rw q.is at c.in_err-live.ensures) P (rw q.is at Q))
+pub start-returns-in-Err-clause-answers : goal.start-returns-in-Err-clause-answers
+start-returns-in-Err-clause-answers t c = λ P L A.
+    let q = closure_of c.in-Unborn.process in
+    start_open_fails c.args.plan.now q.term q.names c.args.dt c.args.value.now (ticked_by c.in_ok-inside-in-Unborn.ensures.ticked) c.stop-in-Err.ensures.entered c.stop-in-Err.ensures.height
+    c.in-Err.fault _ c.stop-in-Err.ensures.fault (rw (c.replace-names.ensures.value, q.is) at c.in-Err.ensures) P L (rw (c.in-Unborn.is, q.is) at A)
 
-pub start-returns-clause-answers : goal.start-returns-clause-answers
-start-returns-clause-answers t c = λ P Q.
-    let q = closure_of c.args.process in
-    start_opened c.args.program.now q.term q.names c.in_ok-live.live c.args.dt c.args.input _ (ticked_by c.in_ok-inside.ensures.ticked) (rw q.is at c.in_ok-live.ensures) c.step_live.ensures.answers P (rw q.is at Q)
+pub start-returns-in_err-step_live-in-Ok-clause-answers : goal.start-returns-in_err-step_live-in-Ok-clause-answers
+start-returns-in_err-step_live-in-Ok-clause-answers t c = λ P L A.
+    let q = closure_of c.in-Unborn.process in
+    pass_exit _ _ c.from_residual-in_err-step_live-in-Ok.ensures.0 (start_fails c.args.plan.now q.term q.names c.args.dt c.args.value.now (ticked_by c.in_ok-inside-in-Unborn.ensures.ticked) c.in-Ok.live (rw (c.replace-names.ensures.value, q.is) at c.in-Ok.ensures)
+    _ c.in_err-step_live-in-Ok.ensures.answers P L (rw (c.in-Unborn.is, q.is) at A))
 
--- ## step_state
+pub start-returns-in_default-clause-answers : goal.start-returns-in_default-clause-answers
+start-returns-in_default-clause-answers t c = λ P L A.
+    let q = closure_of c.in-Unborn.process in
+    fails (start_fails c.args.plan.now q.term q.names c.args.dt c.args.value.now (ticked_by c.in_ok-inside-in-Unborn.ensures.ticked) c.in-Ok.live (rw (c.replace-names.ensures.value, q.is) at c.in-Ok.ensures)
+    _ (late_memory c.args.plan.now c.in_ok-step_live-in-Ok.ensures.answers c.stop.ensures.entered c.stop.ensures.height c.stop.ensures.fault) P L (rw (c.in-Unborn.is, q.is) at A))
 
-pub step_state-start-requires : goal.step_state-start-requires
-step_state-start-requires t c = (
-  search rules,
-  ∥∥₁_map (rw c.in-Unborn.is at c.requires) (first_fed c.args.program.now c.in-Unborn.process c.args.input),
+pub start-returns-in-Ok-new-clause-answers : goal.start-returns-in-Ok-new-clause-answers
+start-returns-in-Ok-new-clause-answers t c = λ P L A.
+    let q = closure_of c.in-Unborn.process in
+    start_steps c.args.plan.now q.term q.names c.args.dt c.args.value.now (ticked_by c.in_ok-inside-in-Unborn.ensures.ticked) c.in-Ok.live (rw (c.replace-names.ensures.value, q.is) at c.in-Ok.ensures)
+    c.replace-names.result c.step_live.new.live c.in-Ok-new.node.value c.step_live.new.value (rw q.is at c.replace-names.ensures.value) c.in-Ok-new.ensures.ok
+    c.in_ok-step_live-in-Ok.ensures.answers P L (rw (c.in-Unborn.is, q.is) at A)
+
+-- ## step_live
+
+pub step_live-unreachable-requires : goal.step_live-unreachable-requires
+step_live-unreachable-requires t c =
+    ∥∥₁_elim (rw c.in-Join.is at c.requires) (hlevel props) (λ h. join_is_side c.args.plan.now c.in-Join.join c.in-Join.left c.in-Join.right _ h (sym c.in-Join.join-is ∙ c.in-InSequence.is))
+
+-- ## step_pipeline
+
+pub step_pipeline-loop-stage-init : goal.step_pipeline-loop-stage-init
+step_pipeline-loop-stage-init t c =
+    let p = c.args.plan.now in
+    record {
+      grows = omega arith;
+      fed = rw c.deref_mut-stage-items.ensures.value (∥∥₁_map c.requires (λ h. rest_fed p _ _ (stages_fed p c.args.stages.now c.args.dt c.args.value.now h)));
+      goes_on = continues_first p c.deref_mut-stage-items.result.now c.args.dt c.args.value.now c.args.meter.now c.args.inside;
+    }
+
+pub step_pipeline-step_state-requires : goal.step_pipeline-step_state-requires
+step_pipeline-step_state-requires t c = (
+  (let g = c.loop-stage.invariant.grows in first_of (search rules, omega (arith, g))),
+  ∥∥₁_map c.loop-stage.invariant.fed (item_fed c.args.plan.now c.loop-stage.stage-items c.loop-stage.stage-index c.stage-item.result c.loop-stage.value (omega (arith, c.loop-stage-test.true, c.loop-stage.auto.stage-items))),
 )
 
-pub step_state-step_live-requires : goal.step_state-step_live-requires
-step_state-step_live-requires t c = (
+pub step_pipeline-returns-in_err-step_state-clause-answers : goal.step_pipeline-returns-in_err-step_state-clause-answers
+step_pipeline-returns-in_err-step_state-clause-answers t c = λ m depth t P L R.
+    let p = c.args.plan.now in
+    let l = c.loop-stage in
+    let f = fault_of c.step_state.new.meter in
+    let failed = continues_fails p _ c.args.dt c.args.value.now c.args.meter.now l.stage-items l.stage-index l.value l.meter c.args.inside c.stage-item.result (omega (arith, c.loop-stage-test.true, l.auto.stage-items)) l.invariant.goes_on
+    f c.step_state.new.meter c.in_err-step_state.ensures.answers in
+    pass_exit _ _ c.from_residual.ensures.0 (pipeline_fails p c.args.stages.now c.args.dt c.args.value.now c.args.meter.now c.step_state.new.meter c.args.inside f
+    (subst (λ bs. StagesStep p bs c.args.dt c.args.value.now (Err f) c.args.meter.now c.step_state.new.meter c.args.inside) c.deref_mut-stage-items.ensures.value failed) m depth t P L R)
+
+pub step_pipeline-loop-stage-preserved : goal.step_pipeline-loop-stage-preserved
+step_pipeline-loop-stage-preserved t c =
+    let p = c.args.plan.now in
+    let l = c.loop-stage in
+    record {
+      grows = omega (arith, l.invariant.grows, c.in_ok-step_state.ensures.grows);
+      fed = ∥∥₁_map l.invariant.fed (next_fed p l.stage-items l.stage-index c.stage-item.result c.step_state.new.state c.args.dt l.value c.step_state.new.value l.meter c.step_state.new.meter c.args.inside (omega (arith, c.loop-stage-test.true, l.auto.stage-items)) c.in_ok-step_state.ensures.answers);
+      goes_on = continues_next p _ c.args.dt c.args.value.now c.args.meter.now l.stage-items l.stage-index l.value l.meter c.args.inside c.stage-item.result (omega (arith, c.loop-stage-test.true, l.auto.stage-items)) l.invariant.goes_on
+          c.step_state.new.state c.step_state.new.value c.step_state.new.meter c.in_ok-step_state.ensures.answers;
+    }
+
+pub step_pipeline-returns-clause-answers : goal.step_pipeline-returns-clause-answers
+step_pipeline-returns-clause-answers t c =
+    let p = c.args.plan.now in
+    let l = c.loop-stage in
+    let last : l.stage-index ≡ length l.stage-items = omega (arith, l.auto.stage-items, l.auto.stage-index-end, c.loop-stage-test.false) in
+    let whole : (with_items c.args.stages.now l.stage-items).items ≡ l.stage-items = with_items_is c.args.stages.now l.stage-items (omega (arith, l.auto.stage-items, ap length c.deref_mut-stage-items.ensures.value)) in
+    let all = continues_last p _ c.args.dt c.args.value.now c.args.meter.now l.stage-items l.stage-index l.value l.meter c.args.inside last l.invariant.goes_on in
+    pipeline_steps p c.args.stages.now c.args.dt c.args.value.now c.args.meter.now l.meter c.args.inside (with_items c.args.stages.now l.stage-items) l.value
+    (rw whole (subst (λ bs. StagesStep p bs c.args.dt c.args.value.now (Ok (l.stage-items, l.value)) c.args.meter.now l.meter c.args.inside) c.deref_mut-stage-items.ensures.value all))
+
+-- ## step_parallel
+
+pub step_parallel-halves-first-requires : goal.step_parallel-halves-first-requires
+step_parallel-halves-first-requires t c = join_is_split c.args.plan.now InParallel c.args.left.now c.args.right.now c.args.dt c.args.value.now c.requires
+
+pub step_parallel-step_state-requires : goal.step_parallel-step_state-requires
+step_parallel-step_state-requires t c = (
   search rules,
-  ∥∥₁_map (rw c.in-Live.is at c.requires) (live_fed c.args.program.now c.in-Live.live c.args.dt c.args.input),
+  ∥∥₁_map c.requires (left_fed c.args.plan.now InParallel c.args.left.now c.args.right.now c.args.dt c.args.value.now c.deref_mut.result.now (c.deref_mut.ensures.value ∙ c.halves-first.ensures.0)),
 )
 
-pub step_state-returns-in_err-begun-in-Unborn-clause-answers : goal.step_state-returns-in_err-begun-in-Unborn-clause-answers
-step_state-returns-in_err-begun-in-Unborn-clause-answers t c = λ P L A.
-    pass_exit _ c.from_residual.ensures.1 (state_unborn_fails c.args.program.now c.in-Unborn.process _ c.in_err-begun-in-Unborn.field-0.0 c.in_err-begun-in-Unborn.ensures.answers P L (rw c.in-Unborn.is at A))
+pub step_parallel-step_state-requires-2 : goal.step_parallel-step_state-requires-2
+step_parallel-step_state-requires-2 t c = (
+  search rules,
+  ∥∥₁_map c.requires (right_fed c.args.plan.now InParallel c.args.left.now c.step_state.new.state c.args.right.now c.args.meter.now c.step_state.new.meter c.args.inside c.args.dt c.args.value.now c.deref_mut.result.now c.step_state.new.value c.deref_mut-2.result.now
+      (c.deref_mut.ensures.value ∙ c.halves-first.ensures.0) (c.deref_mut-2.ensures.value ∙ c.halves-first.ensures.1) c.in_ok-step_state.ensures.answers),
+)
 
-pub step_state-returns-in_ok-begun-in-Unborn-clause-answers : goal.step_state-returns-in_ok-begun-in-Unborn-clause-answers
-step_state-returns-in_ok-begun-in-Unborn-clause-answers t c = λ P L A.
-    state_unborn c.args.program.now c.in-Unborn.process _ c.in_ok-begun-in-Unborn.begun c.in_ok-begun-in-Unborn.value c.in_ok-begun-in-Unborn.ensures.answers P L (rw c.in-Unborn.is at A)
+pub step_parallel-returns-in_err-step_state-clause-answers : goal.step_parallel-returns-in_err-step_state-clause-answers
+step_parallel-returns-in_err-step_state-clause-answers t c = λ m depth t P L R.
+    pass_exit _ _ c.from_residual.ensures.0 (join_left_fails c.args.plan.now InParallel c.args.left.now c.args.right.now c.args.meter.now c.step_state.new.meter c.args.inside c.args.dt c.args.value.now c.deref_mut.result.now (c.deref_mut.ensures.value ∙ c.halves-first.ensures.0)
+    _ c.in_err-step_state.ensures.answers m depth t P L R)
 
-pub step_state-returns-in_err-inside-in-Live-clause-answers : goal.step_state-returns-in_err-inside-in-Live-clause-answers
-step_state-returns-in_err-inside-in-Live-clause-answers t c = λ P L A. pass_exit _ c.from_residual-in_err-inside-in-Live.ensures.1 (tick_fails c.args.program.now P _ c.in_err-inside-in-Live.ensures.ticked)
+pub step_parallel-returns-in_err-step_state-2-clause-answers : goal.step_parallel-returns-in_err-step_state-2-clause-answers
+step_parallel-returns-in_err-step_state-2-clause-answers t c = λ m depth t P L R.
+    pass_exit _ _ c.from_residual-in_err-step_state-2.ensures.0 (join_right_fails c.args.plan.now InParallel c.args.left.now c.args.right.now c.args.meter.now c.step_state.new.meter c.args.inside c.args.dt c.args.value.now c.deref_mut.result.now (c.deref_mut.ensures.value ∙ c.halves-first.ensures.0)
+    c.step_state.new.state c.step_state.new.value c.deref_mut-2.result.now (c.deref_mut-2.ensures.value ∙ c.halves-first.ensures.1) c.in_ok-step_state.ensures.answers
+    c.step_state-2.new.meter _ c.in_err-step_state-2.ensures.answers m depth t P L R)
 
-pub step_state-returns-in_err-later-in-Live-clause-answers : goal.step_state-returns-in_err-later-in-Live-clause-answers
-step_state-returns-in_err-later-in-Live-clause-answers t c = λ P L A.
-    pass_exit _ c.from_residual-in_err-later-in-Live.ensures.1 (state_live_fails c.args.program.now c.in-Live.live _ c.in_err-later-in-Live.field-0.0 (ticked_by c.in_ok-inside-in-Live.ensures.ticked) c.in_err-later-in-Live.ensures.answers P L (rw c.in-Live.is at A))
+pub step_parallel-returns-clause-answers : goal.step_parallel-returns-clause-answers
+step_parallel-returns-clause-answers t c =
+    join_steps c.args.plan.now InParallel c.args.left.now c.args.right.now c.args.meter.now c.step_state.new.meter c.args.inside c.args.dt c.args.value.now c.deref_mut.result.now (c.deref_mut.ensures.value ∙ c.halves-first.ensures.0)
+    c.step_state.new.state c.step_state.new.value c.deref_mut-2.result.now (c.deref_mut-2.ensures.value ∙ c.halves-first.ensures.1) c.in_ok-step_state.ensures.answers
+    c.step_state-2.new.meter c.step_state-2.new.state c.step_state-2.new.value c.of_halves.result c.of_halves.ensures c.in_ok-step_state-2.ensures.answers
 
-pub step_state-returns-in_ok-later-in-Live-clause-answers : goal.step_state-returns-in_ok-later-in-Live-clause-answers
-step_state-returns-in_ok-later-in-Live-clause-answers t c = λ P L A.
-    state_live c.args.program.now c.in-Live.live c.in_ok-later-in-Live.later _ c.in_ok-later-in-Live.value (ticked_by c.in_ok-inside-in-Live.ensures.ticked) c.in_ok-later-in-Live.ensures.answers P L (rw c.in-Live.is at A)
+-- ## step_fan
+
+pub step_fan-step_state-requires : goal.step_fan-step_state-requires
+step_fan-step_state-requires t c = (
+  search rules,
+  ∥∥₁_map c.requires (left_fed c.args.plan.now FannedOut c.args.left.now c.args.right.now c.args.dt c.args.value.now c.in-Ok.first c.in-Ok.ensures),
+)
+
+pub step_fan-step_state-requires-2 : goal.step_fan-step_state-requires-2
+step_fan-step_state-requires-2 t c = (
+  search rules,
+  ∥∥₁_map c.requires (right_fed c.args.plan.now FannedOut c.args.left.now c.step_state.new.state c.args.right.now c.args.meter.now c.step_state.new.meter c.args.inside c.args.dt c.args.value.now c.in-Ok.first c.step_state.new.value c.args.value.now
+      c.in-Ok.ensures refl c.in_ok-step_state.ensures.answers),
+)
+
+pub step_fan-returns-in_default-clause-answers : goal.step_fan-returns-in_default-clause-answers
+step_fan-returns-in_default-clause-answers t c = λ m depth t P L R. early_memory c.args.plan.now t c.stop.ensures.entered c.stop.ensures.height c.stop.ensures.fault
+
+pub step_fan-returns-in_err-step_state-clause-answers : goal.step_fan-returns-in_err-step_state-clause-answers
+step_fan-returns-in_err-step_state-clause-answers t c = λ m depth t P L R.
+    pass_exit _ _ c.from_residual.ensures.0 (join_left_fails c.args.plan.now FannedOut c.args.left.now c.args.right.now c.args.meter.now c.step_state.new.meter c.args.inside c.args.dt c.args.value.now c.in-Ok.first c.in-Ok.ensures
+    _ c.in_err-step_state.ensures.answers m depth t P L R)
+
+pub step_fan-returns-in_err-step_state-2-clause-answers : goal.step_fan-returns-in_err-step_state-2-clause-answers
+step_fan-returns-in_err-step_state-2-clause-answers t c = λ m depth t P L R.
+    pass_exit _ _ c.from_residual-in_err-step_state-2.ensures.0 (join_right_fails c.args.plan.now FannedOut c.args.left.now c.args.right.now c.args.meter.now c.step_state.new.meter c.args.inside c.args.dt c.args.value.now c.in-Ok.first c.in-Ok.ensures
+    c.step_state.new.state c.step_state.new.value c.args.value.now refl c.in_ok-step_state.ensures.answers
+    c.step_state-2.new.meter _ c.in_err-step_state-2.ensures.answers m depth t P L R)
+
+pub step_fan-returns-in_default-pair-clause-answers : goal.step_fan-returns-in_default-pair-clause-answers
+step_fan-returns-in_default-pair-clause-answers t c =
+    late_memory c.args.plan.now (join_steps c.args.plan.now FannedOut c.args.left.now c.args.right.now c.args.meter.now c.step_state.new.meter c.args.inside c.args.dt c.args.value.now c.in-Ok.first c.in-Ok.ensures
+    c.step_state.new.state c.step_state.new.value c.args.value.now refl c.in_ok-step_state.ensures.answers
+    c.step_state-2.new.meter c.step_state-2.new.state c.step_state-2.new.value _ refl c.in_ok-step_state-2.ensures.answers)
+    c.stop-in_default-pair.ensures.entered c.stop-in_default-pair.ensures.height c.stop-in_default-pair.ensures.fault
+
+pub step_fan-returns-clause-answers : goal.step_fan-returns-clause-answers
+step_fan-returns-clause-answers t c =
+    join_steps c.args.plan.now FannedOut c.args.left.now c.args.right.now c.args.meter.now c.step_state.new.meter c.args.inside c.args.dt c.args.value.now c.in-Ok.first c.in-Ok.ensures
+    c.step_state.new.state c.step_state.new.value c.args.value.now refl c.in_ok-step_state.ensures.answers
+    c.step_state-2.new.meter c.step_state-2.new.state c.step_state-2.new.value c.in-Ok-pair.both (rw c.replace-second.ensures.value at c.in-Ok-pair.ensures) c.in_ok-step_state-2.ensures.answers
+
+-- ## step_wrap
+
+pub step_wrap-halves-first-requires : goal.step_wrap-halves-first-requires
+step_wrap-halves-first-requires t c = rw c.in-First.is at (wrap_is_split c.args.plan.now c.args.wrap.now c.args.part.now c.args.dt c.args.value.now c.requires)
+
+pub step_wrap-halves-first-requires-in-Second : goal.step_wrap-halves-first-requires-in-Second
+step_wrap-halves-first-requires-in-Second t c = rw c.in-Second.is at (wrap_is_split c.args.plan.now c.args.wrap.now c.args.part.now c.args.dt c.args.value.now c.requires)
+
+pub step_wrap-halves-first-requires-in-Loop : goal.step_wrap-halves-first-requires-in-Loop
+step_wrap-halves-first-requires-in-Loop t c = rw c.in-Loop.is at (output_is_split c.args.plan.now c.args.wrap.now c.args.part.now c.step_state-in-Loop.new.state c.args.meter.now c.step_state-in-Loop.new.meter c.args.inside c.args.dt c.args.value.now c.in-Ok.both c.step_state-in-Loop.new.value (rw c.in-Loop.is (rw (c.replace-input.ensures.value, c.replace-fed.ensures.value) at c.in-Ok.ensures)) c.in_ok-step_state-in-Loop.ensures.answers c.requires)
+
+pub step_wrap-step_state-requires : goal.step_wrap-step_state-requires
+step_wrap-step_state-requires t c = (
+  search rules,
+  ∥∥₁_map c.requires (part_fed c.args.plan.now c.args.wrap.now c.args.part.now c.args.dt c.args.value.now c.deref_mut.result.now (rw c.in-First.is (c.deref_mut.ensures.value ∙ c.halves-first.ensures.0))),
+)
+
+pub step_wrap-step_state-requires-in-Second : goal.step_wrap-step_state-requires-in-Second
+step_wrap-step_state-requires-in-Second t c = (
+  search rules,
+  ∥∥₁_map c.requires (part_fed c.args.plan.now c.args.wrap.now c.args.part.now c.args.dt c.args.value.now c.deref_mut-in-Second.result.now (rw c.in-Second.is (c.deref_mut-in-Second.ensures.value ∙ c.halves-first-in-Second.ensures.1))),
+)
+
+pub step_wrap-step_state-requires-in-Loop : goal.step_wrap-step_state-requires-in-Loop
+step_wrap-step_state-requires-in-Loop t c = (
+  search rules,
+  ∥∥₁_map c.requires (part_fed c.args.plan.now c.args.wrap.now c.args.part.now c.args.dt c.args.value.now c.in-Ok.both (rw c.in-Loop.is (rw (c.replace-input.ensures.value, c.replace-fed.ensures.value) at c.in-Ok.ensures))),
+)
+
+pub step_wrap-returns-in_err-step_state-in-First-clause-answers : goal.step_wrap-returns-in_err-step_state-in-First-clause-answers
+step_wrap-returns-in_err-step_state-in-First-clause-answers t c = λ m depth t P L R.
+    pass_exit _ _ c.from_residual.ensures.0 (wrap_fails c.args.plan.now c.args.wrap.now c.args.part.now c.args.meter.now c.step_state.new.meter c.args.inside c.args.dt c.args.value.now c.deref_mut.result.now (rw c.in-First.is (c.deref_mut.ensures.value ∙ c.halves-first.ensures.0))
+    _ c.in_err-step_state-in-First.ensures.answers m depth t P L R)
+
+pub step_wrap-returns-in_err-step_state-in-Second-clause-answers : goal.step_wrap-returns-in_err-step_state-in-Second-clause-answers
+step_wrap-returns-in_err-step_state-in-Second-clause-answers t c = λ m depth t P L R.
+    pass_exit _ _ c.from_residual-in_err-step_state-in-Second.ensures.0 (wrap_fails c.args.plan.now c.args.wrap.now c.args.part.now c.args.meter.now c.step_state-in-Second.new.meter c.args.inside c.args.dt c.args.value.now c.deref_mut-in-Second.result.now (rw c.in-Second.is (c.deref_mut-in-Second.ensures.value ∙ c.halves-first-in-Second.ensures.1))
+    _ c.in_err-step_state-in-Second.ensures.answers m depth t P L R)
+
+pub step_wrap-returns-in_err-step_state-in-Loop-clause-answers : goal.step_wrap-returns-in_err-step_state-in-Loop-clause-answers
+step_wrap-returns-in_err-step_state-in-Loop-clause-answers t c = λ m depth t P L R.
+    pass_exit _ _ c.from_residual-in_err-step_state-in-Loop.ensures.0 (wrap_fails c.args.plan.now c.args.wrap.now c.args.part.now c.args.meter.now c.step_state-in-Loop.new.meter c.args.inside c.args.dt c.args.value.now c.in-Ok.both (rw c.in-Loop.is (rw (c.replace-input.ensures.value, c.replace-fed.ensures.value) at c.in-Ok.ensures))
+    _ c.in_err-step_state-in-Loop.ensures.answers m depth t P L R)
+
+pub step_wrap-returns-in_default-clause-answers : goal.step_wrap-returns-in_default-clause-answers
+step_wrap-returns-in_default-clause-answers t c = λ m depth t P L R. early_memory c.args.plan.now t c.stop.ensures.entered c.stop.ensures.height c.stop.ensures.fault
+
+pub step_wrap-returns-in_ok-step_state-in-First-clause-answers : goal.step_wrap-returns-in_ok-step_state-in-First-clause-answers
+step_wrap-returns-in_ok-step_state-in-First-clause-answers t c =
+    wrap_steps c.args.plan.now c.args.wrap.now c.args.part.now c.args.meter.now c.step_state.new.meter c.args.inside c.args.dt c.args.value.now c.deref_mut.result.now (rw c.in-First.is (c.deref_mut.ensures.value ∙ c.halves-first.ensures.0))
+    c.step_state.new.state c.args.wrap.now c.step_state.new.value c.of_halves.result (rw c.in-First.is refl) (rw c.in-First.is (rw c.halves-first.ensures.1 at c.of_halves.ensures)) c.in_ok-step_state-in-First.ensures.answers
+
+pub step_wrap-returns-in_ok-step_state-in-Second-clause-answers : goal.step_wrap-returns-in_ok-step_state-in-Second-clause-answers
+step_wrap-returns-in_ok-step_state-in-Second-clause-answers t c =
+    wrap_steps c.args.plan.now c.args.wrap.now c.args.part.now c.args.meter.now c.step_state-in-Second.new.meter c.args.inside c.args.dt c.args.value.now c.deref_mut-in-Second.result.now (rw c.in-Second.is (c.deref_mut-in-Second.ensures.value ∙ c.halves-first-in-Second.ensures.1))
+    c.step_state-in-Second.new.state c.args.wrap.now c.step_state-in-Second.new.value c.of_halves-in-Second.result (rw c.in-Second.is refl) (rw c.in-Second.is (rw c.halves-first-in-Second.ensures.0 at c.of_halves-in-Second.ensures)) c.in_ok-step_state-in-Second.ensures.answers
+
+pub step_wrap-returns-in_ok-step_state-in-Loop-clause-answers : goal.step_wrap-returns-in_ok-step_state-in-Loop-clause-answers
+step_wrap-returns-in_ok-step_state-in-Loop-clause-answers t c =
+    wrap_steps c.args.plan.now c.args.wrap.now c.args.part.now c.args.meter.now c.step_state-in-Loop.new.meter c.args.inside c.args.dt c.args.value.now c.in-Ok.both (rw c.in-Loop.is (rw (c.replace-input.ensures.value, c.replace-fed.ensures.value) at c.in-Ok.ensures))
+    c.step_state-in-Loop.new.state (Loop c.into_inner-in-Loop.result) c.step_state-in-Loop.new.value c.into_inner.result (rw c.in-Loop.is (ap Loop (c.into_inner-in-Loop.ensures ∙ c.halves-first-in-Loop.ensures.1))) (rw c.in-Loop.is (c.into_inner.ensures ∙ c.halves-first-in-Loop.ensures.0)) c.in_ok-step_state-in-Loop.ensures.answers

@@ -1,5 +1,6 @@
-use Rattle.std.proofs.Common.{◌+◌, ◌-◌, ◌*◌}
+use Rattle.std.proofs.Common.{◌+◌, ◌-◌, ◌*◌, ◌≤◌, take, drop}
 use Rattle.sf_step.specs.Meters.{entered_of}
+use Rattle.sf_step.proofs.Stages.{Continues, RestFed}
 use Rattle.sf_step.proofs.sample.+step.Given as goal
 
 -- the nodes that the meter has left, and which of the functions it is
@@ -9,11 +10,24 @@ decreases-start l = 4 * (100000 - entered_of l.meter.now)
 abbrev pub decreases-step_state : goal.decreases-step_state
 decreases-step_state l = 4 * (100000 - entered_of l.meter.now) + 1
 
-abbrev pub decreases-step_join : goal.decreases-step_join
-decreases-step_join l = 4 * (100000 - entered_of l.meter.now) + 2
+abbrev pub decreases-step_parallel : goal.decreases-step_parallel
+decreases-step_parallel l = 4 * (100000 - entered_of l.meter.now) + 2
+
+abbrev pub decreases-step_fan : goal.decreases-step_fan
+decreases-step_fan l = 4 * (100000 - entered_of l.meter.now) + 2
 
 abbrev pub decreases-step_wrap : goal.decreases-step_wrap
 decreases-step_wrap l = 4 * (100000 - entered_of l.meter.now) + 2
 
 abbrev pub decreases-step_live : goal.decreases-step_live
 decreases-step_live l = 4 * (100000 - entered_of l.meter.now) + 3
+
+abbrev pub decreases-step_pipeline : goal.decreases-step_pipeline
+decreases-step_pipeline l = 4 * (100000 - entered_of l.meter.now) + 2
+
+abbrev pub invariant-step_pipeline-loop-stage : goal.invariant-step_pipeline-loop-stage
+invariant-step_pipeline-loop-stage l = record {
+  grows : entered_of l.initial.meter ≤ entered_of l.meter;
+  fed : ∥ RestFed l.plan (drop l.stage-index l.stage-items) l.value ∥₁;
+  goes_on : Continues l.plan l.initial.stage-items l.dt l.initial.value l.initial.meter (take l.stage-index l.stage-items) (drop l.stage-index l.stage-items) l.value l.meter l.inside;
+}

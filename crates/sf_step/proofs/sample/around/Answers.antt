@@ -5,4 +5,4 @@ pub returns-in_err-inner : goal.returns-in_err-inner
 returns-in_err-inner c = λ p t e m N h W. open_exit p t e _ c.from_residual.ensures.1
 
 pub returns : goal.returns
-returns c = λ p. open_wrap p c.args.wrap c.args.part c.args.names c.in_ok-inner.inner.value c.in_ok-inner.ensures.ok
+returns c = λ p. open_wrap p c.args.wrap c.args.part c.args.names.now c.in_ok-inner.inner (c.in_ok-inner.ensures p)

@@ -1,21 +1,33 @@
 use Rattle.std.proofs.Common.{Err, ap}
 use Rattle.sf_text.specs.Answers.{toks}
 use Rattle.sf_text.proofs.Found.{term_refused, headed_ready, joined_ready, sided_ready}
+use Rattle.sf_text.proofs.Placed.{headed_read, joined_read, sided_read}
 use Rattle.sf_text.proofs.term.+term.Goals as goal
 
-pub headed-returns-in-Err : goal.headed-returns-in-Err
-headed-returns-in-Err t c =
+pub headed-returns-in-Err-clause-reads : goal.headed-returns-in-Err-clause-reads
+headed-returns-in-Err-clause-reads t c =
     term_refused c.args.tokens.now c.in-Err.refusal c.refused.result
-    (headed_ready c.args.left (toks c.args.rest.now) c.requires.shallow c.in_ok-rest.ensures.reads c.in_ok-value.ensures c.in_ok-rest-2.ensures.reads c.in_ok-part.ensures c.in_ok-rest-3.ensures.reads) c.refused.ensures
+    (headed_ready c.args.left (toks c.args.rest.now) c.requires.shallow c.in_ok-rest.ensures.reads c.in_ok-value.ensures.reads c.in_ok-rest-2.ensures.reads c.in_ok-part.ensures.reads c.in_ok-rest-3.ensures.reads) c.refused.ensures
     (λ same. c.in-Err.ensures.many.0 (ap Err same)) (λ same. (c.in-Err.ensures.deep.0 (ap Err same)).1) (λ same. c.in-Err.ensures.no_name (ap Err same))
 
-pub joined-returns-in-Err : goal.joined-returns-in-Err
-joined-returns-in-Err t c =
+pub joined-returns-in-Err-clause-reads : goal.joined-returns-in-Err-clause-reads
+joined-returns-in-Err-clause-reads t c =
     term_refused c.args.tokens.now c.in-Err.refusal c.refused.result
-    (joined_ready c.args.left (toks c.args.rest.now) c.requires.shallow c.in_ok-one.ensures c.in_ok-join.ensures.reads c.in_ok-two.ensures c.in_ok-rest.ensures.reads) c.refused.ensures
+    (joined_ready c.args.left (toks c.args.rest.now) c.requires.shallow c.in_ok-one.ensures.reads c.in_ok-join.ensures.reads c.in_ok-two.ensures.reads c.in_ok-rest.ensures.reads) c.refused.ensures
     (λ same. c.in-Err.ensures.many.0 (ap Err same)) (λ same. (c.in-Err.ensures.deep.0 (ap Err same)).1) (λ same. c.in-Err.ensures.no_name (ap Err same))
 
-pub sided-returns-in-Err : goal.sided-returns-in-Err
-sided-returns-in-Err t c =
-    term_refused c.args.tokens.now c.in-Err.refusal c.refused.result (sided_ready c.args.left (toks c.args.rest.now) c.requires.shallow c.in_ok-part.ensures) c.refused.ensures
+pub sided-returns-in-Err-clause-reads : goal.sided-returns-in-Err-clause-reads
+sided-returns-in-Err-clause-reads t c =
+    term_refused c.args.tokens.now c.in-Err.refusal c.refused.result (sided_ready c.args.left (toks c.args.rest.now) c.requires.shallow c.in_ok-part.ensures.reads) c.refused.ensures
     (λ same. c.in-Err.ensures.many.0 (ap Err same)) (λ same. (c.in-Err.ensures.deep.0 (ap Err same)).1) (λ same. c.in-Err.ensures.no_name (ap Err same))
+
+pub headed-returns-in-Ok-clause-placed : goal.headed-returns-in-Ok-clause-placed
+headed-returns-in-Ok-clause-placed t c =
+    headed_read c.in_ok-part.ensures.reads.kept.trees c.in-Ok.ensures.ok c.in_ok-rest.ensures.behind c.in_ok-value.ensures.placed c.in_ok-rest-2.ensures.behind c.in_ok-part.ensures.placed c.in_ok-rest-3.ensures.behind
+
+pub joined-returns-in-Ok-clause-placed : goal.joined-returns-in-Ok-clause-placed
+joined-returns-in-Ok-clause-placed t c =
+    joined_read c.in_ok-two.ensures.reads.kept.trees c.in-Ok.ensures.ok c.in_ok-one.ensures.placed c.in_ok-join.ensures.behind c.in_ok-two.ensures.placed c.in_ok-rest.ensures.behind
+
+pub sided-returns-in-Ok-clause-placed : goal.sided-returns-in-Ok-clause-placed
+sided-returns-in-Ok-clause-placed t c = sided_read c.in-Ok.ensures.ok c.in_ok-part.ensures.placed

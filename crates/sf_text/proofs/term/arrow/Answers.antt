@@ -1,9 +1,13 @@
 use Rattle.std.proofs.Common.{Err, ap}
 use Rattle.sf_text.specs.Answers.{toks}
 use Rattle.sf_text.proofs.Found.{term_refused, arrow_ready}
+use Rattle.sf_text.proofs.Placed.{arrow_read}
 use Rattle.sf_text.proofs.term.arrow.Goals as goal
 
-pub returns-in-Err : goal.returns-in-Err
-returns-in-Err c =
-    term_refused c.args.tokens.now c.in-Err.refusal c.refused.result (arrow_ready c.args.left (toks c.args.rest.now) c.requires.shallow c.in_ok-function.ensures) c.refused.ensures
+pub returns-in-Err-clause-reads : goal.returns-in-Err-clause-reads
+returns-in-Err-clause-reads c =
+    term_refused c.args.tokens.now c.in-Err.refusal c.refused.result (arrow_ready c.args.left (toks c.args.rest.now) c.requires.shallow c.in_ok-function.ensures.reads) c.refused.ensures
     (λ same. c.in-Err.ensures.many.0 (ap Err same)) (λ same. (c.in-Err.ensures.deep.0 (ap Err same)).1) (λ same. c.in-Err.ensures.no_name (ap Err same))
+
+pub returns-in-Ok-clause-placed : goal.returns-in-Ok-clause-placed
+returns-in-Ok-clause-placed c = arrow_read c.in-Ok.ensures.ok c.in_ok-function.ensures.placed

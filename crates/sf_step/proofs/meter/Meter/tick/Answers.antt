@@ -5,7 +5,7 @@ use Rattle.sf_step.proofs.meter.Meter.tick.Goals.{then-self-ge-MOST_NODES-via-th
 
 pub returns-then-self-ge-MOST_NODES-clause-ticked : goal.returns-then-self-ge-MOST_NODES-clause-ticked
 returns-then-self-ge-MOST_NODES-clause-ticked c =
-    elim c.then-self-ge-MOST_NODES.branch [ then-self-ge-MOST_NODES-via-then-self-ge-MOST_NODES w ↦ refused (inl (omega arith)) | then-self-ge-MOST_NODES-via-else-self-ge-MOST_NODES+then-depth-ge-MOST_HEIGHT w ↦ refused (inr (omega arith)) ]
+    elim c.then-self-ge-MOST_NODES.branch [ then-self-ge-MOST_NODES-via-then-self-ge-MOST_NODES w ↦ rw c.stop.ensures.fault (refused {m = c.args.self.now} {depth = c.args.depth} (inl (omega arith)) c.stop.ensures.entered c.stop.ensures.height) | then-self-ge-MOST_NODES-via-else-self-ge-MOST_NODES+then-depth-ge-MOST_HEIGHT w ↦ rw c.stop.ensures.fault (refused {m = c.args.self.now} {depth = c.args.depth} (inr (omega arith)) c.stop.ensures.entered c.stop.ensures.height) ]
 
 pub returns-then-self-inside-clause-ticked : goal.returns-then-self-inside-clause-ticked
 returns-then-self-inside-clause-ticked c = ticked record { entered = refl; high = omega arith; below = refl }

@@ -1,5 +1,4 @@
-use Rattle.std.proofs.Common.{refl, arith, ◌≡◌, ◌≤◌, max}
-use Rattle.sf_expr.specs.Expressions.{depth, pattern_depth}
+use Rattle.std.proofs.Common.{refl, arith}
 use Rattle.sf_expr.specs.Patterns.{pattern_of}
 use Rattle.sf_expr.proofs.Entered.{expression_shallow}
 use Rattle.sf_term.specs.Arena.{headers_of, expression_at}

@@ -1,4 +1,6 @@
 use Rattle.std.proofs.Common.{refl, string_bytes}
+use Rattle.sf_expr.specs.declared.exprs.ExprNode.TheVariants as nodes
+use Rattle.sf_expr.specs.Arena.{name_id}
 use Rattle.sf_expr.specs.Expressions.{Expression, variable}
 use Rattle.sf_term.specs.Arena.{headers_of}
 use Rattle.sf_term.proofs.Entered.{arena_grown, grown_by}
@@ -11,13 +13,13 @@ invariant_of-self c =
     let x = p.expressions in
     let added : Expression = variable (string_bytes c.args.name) in
     record {
-      arena = arena_grown x c.name.new.self p.terms.items (grown_by x c.name.new.self c.name.result added c.args.spot c.name.ensures.ok c.name.ensures.err) p.arena;
+      arena = arena_grown x c.name.new.self p.terms.items (grown_by x c.name.new.self c.name.result (λ id. nodes.Name (name_id id)) added c.args.spot c.name.ensures.ok c.name.ensures.err) p.arena;
       bodies = p.bodies;
     }
 
 pub returns-in-Ok-clause-ok : goal.returns-in-Ok-clause-ok
 unfolding headers_of
-returns-in-Ok-clause-ok c = adds_expression c.args.self.now _ _ _ _ c.in-Ok.ensures.ok refl refl
+returns-in-Ok-clause-ok c = adds_expression c.args.self.now _ _ _ _ _ c.in-Ok.ensures.ok refl refl
 
 pub returns-in-Err-clause-err : goal.returns-in-Err-clause-err
 unfolding headers_of

@@ -1,4 +1,5 @@
 use Rattle.std.proofs.Common.{refl}
+use Rattle.sf_expr.specs.declared.exprs.ExprNode.TheVariants as nodes
 use Rattle.sf_expr.specs.Expressions.{Expression, operation}
 use Rattle.sf_expr.specs.Arena.{expression}
 use Rattle.sf_term.specs.Arena.{headers_of, expression_at, expression_count}
@@ -13,13 +14,13 @@ invariant_of-self c =
     let x = p.expressions in
     let added : Expression = operation (expression x c.args.left) c.args.operator (expression x c.args.right) in
     record {
-      arena = arena_grown x c.operation.new.self p.terms.items (grown_by x c.operation.new.self c.operation.result added c.args.spot c.operation.ensures.ok c.operation.ensures.err) p.arena;
+      arena = arena_grown x c.operation.new.self p.terms.items (grown_by x c.operation.new.self c.operation.result (λ id. nodes.Operation c.args.left c.args.operator c.args.right) added c.args.spot c.operation.ensures.ok c.operation.ensures.err) p.arena;
       bodies = p.bodies;
     }
 
 pub returns-in-Ok-clause-ok : goal.returns-in-Ok-clause-ok
 unfolding headers_of expression_at
-returns-in-Ok-clause-ok c = adds_expression c.args.self.now _ _ _ _ c.in-Ok.ensures.ok refl refl
+returns-in-Ok-clause-ok c = adds_expression c.args.self.now _ _ _ _ _ c.in-Ok.ensures.ok refl refl
 
 pub returns-in-Err-clause-many : goal.returns-in-Err-clause-many
 unfolding expression_count

@@ -1,4 +1,5 @@
 use Rattle.std.proofs.Common.{refl}
+use Rattle.sf_expr.specs.declared.exprs.ExprNode.TheVariants as nodes
 use Rattle.sf_expr.specs.Expressions.{Expression, paired}
 use Rattle.sf_expr.specs.Arena.{expression}
 use Rattle.sf_term.specs.Arena.{headers_of, expression_at, expression_count}
@@ -13,13 +14,13 @@ invariant_of-self c =
     let x = p.expressions in
     let added : Expression = paired (expression x c.args.first) (expression x c.args.second) in
     record {
-      arena = arena_grown x c.pair.new.self p.terms.items (grown_by x c.pair.new.self c.pair.result added c.args.spot c.pair.ensures.ok c.pair.ensures.err) p.arena;
+      arena = arena_grown x c.pair.new.self p.terms.items (grown_by x c.pair.new.self c.pair.result (λ id. nodes.Pair c.args.first c.args.second) added c.args.spot c.pair.ensures.ok c.pair.ensures.err) p.arena;
       bodies = p.bodies;
     }
 
 pub returns-in-Ok-clause-ok : goal.returns-in-Ok-clause-ok
 unfolding headers_of expression_at
-returns-in-Ok-clause-ok c = adds_expression c.args.self.now _ _ _ _ c.in-Ok.ensures.ok refl refl
+returns-in-Ok-clause-ok c = adds_expression c.args.self.now _ _ _ _ _ c.in-Ok.ensures.ok refl refl
 
 pub returns-in-Err-clause-many : goal.returns-in-Err-clause-many
 unfolding expression_count

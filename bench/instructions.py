@@ -1,0 +1,84 @@
+"""Counts the instructions a node and the allocations a sample of `sfplay` on six networks, by valgrind, beside the most that is wanted.
+
+    python3 bench/instructions.py [--exe PATH]
+
+Each network is played on 1,000 and on 3,000 lines, so that the difference is free of what the start costs, and it doesn't
+depend on how busy the machine is. The instructions of a node are those of a sample less those of the network `identity`,
+which are the cost of a line in and out, by the nodes that a sample enters. A running total is shown by the whole sample.
+Without valgrind nothing is counted, and the status is 0.
+"""
+
+import argparse
+import os
+import re
+import shutil
+import subprocess
+import sys
+import tempfile
+
+from run import NETWORKS as TIMED
+from run import input_lines
+
+HERE = os.path.dirname(os.path.abspath(__file__))
+FEW, MANY = 1000, 3000
+
+
+def chain(term, count):
+    """The term so many times in sequence, as a balanced tree."""
+    if count == 1:
+        return term
+    return f"({chain(term, count // 2)} >>> {chain(term, count - count // 2)})"
+
+
+# Each with its type, its term, the nodes that a sample enters, and the most instructions a node and allocations a sample.
+PAIRED = "arr x => (x, x)"
+NETWORKS = {
+    "identity": ("Int ~> Int", "identity", 1, None, None),
+    "50 identity": ("Int ~> Int", chain("identity", 50), 99, 60, 0),
+    "50 iPre 0": ("Int ~> Int", chain("iPre 0", 50), 99, 60, 0),
+    "50 arr x => (x + 1)": ("Int ~> Int", chain("arr x => (x + 1)", 50), 99, 270, 0),
+    "50 swaps of a pair": ("Int ~> (Int, Int)", f"({PAIRED} >>> {chain('arr (x, y) => (y, x)', 50)})", 101, 550, 102),
+    "50 first iPre 0": ("Int ~> (Int, Int)", f"({PAIRED} >>> {chain('first iPre 0', 50)})", 151, 90, 3),
+    "running total": ("Int ~> Int", TIMED["total"], 2, None, None),
+}
+
+
+def counted(tool, pattern, words, count):
+    """What valgrind's tool counts in one run on so many lines."""
+    lines = "".join(input_lines(count)).encode("ascii")
+    done = subprocess.run(["valgrind", *tool, *words], input=lines, capture_output=True)
+    found = re.search(pattern, done.stderr)
+    if done.returncode or not found:
+        sys.exit(f"instructions: status {done.returncode}: {done.stderr.decode(errors='replace')[-500:]}")
+    return int(found[1].replace(b",", b""))
+
+
+def a_sample(tool, pattern, words):
+    return (counted(tool, pattern, words, MANY) - counted(tool, pattern, words, FEW)) / (MANY - FEW)
+
+
+def main():
+    parser = argparse.ArgumentParser()
+    parser.add_argument("--exe", default=os.path.join(HERE, "..", "crates", "sfplay", "out", "sfplay"))
+    options = parser.parse_args()
+    if not shutil.which("valgrind"):
+        print("instructions: skipped, since valgrind is not installed")
+        return
+    row = "{:<20} {:>21} {:>19} {:>12} {:>21} {:>12}".format
+    print(row("network", "instructions a sample", "instructions a node", "wanted most", "allocations a sample", "wanted most"))
+    line = 0
+    with tempfile.TemporaryDirectory() as place:
+        for name, (types, term, nodes, most, most_allocated) in NETWORKS.items():
+            path = os.path.join(place, "network")
+            with open(path, "w") as file:
+                file.write(f"network 1;\ntemplate main(): {types} = {term};\n")
+            words = [os.path.abspath(options.exe), path, "--plain"]
+            sample = a_sample(["--tool=callgrind", "--callgrind-out-file=/dev/null"], rb"Collected : (\d+)", words)
+            allocated = a_sample(["--tool=memcheck", "--leak-check=no"], rb"total heap usage: ([\d,]+) allocs", words)
+            line = line or sample
+            node = "" if most is None else f"{(sample - line) / (nodes - 1):.0f}"
+            print(row(name, f"{sample:.0f}", node, most or "", f"{allocated:.1f}", "" if most_allocated is None else most_allocated))
+
+
+if __name__ == "__main__":
+    main()

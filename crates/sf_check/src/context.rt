@@ -1,0 +1,31 @@
+//! What terms are typed under.
+ghost use Rattle.std.specs.Prelude.{◌≡◌};
+ghost use Rattle.sf_term.specs.Arena.{templates_of};
+ghost use Rattle.sf_mean.specs.Contexts.{context_of};
+
+use sf_expr::TypeScope;
+use sf_term::Program;
+use std::alloc::Global;
+
+/// What a term is typed under: the program that it stands in, whose templates have headers, and the names around it that
+/// stand for values, with their types.
+#[derive(Drop)]
+pub(crate) struct TypingContext<'a> {
+    pub(crate) program: &'a Program,
+    pub(crate) names: TypeScope<'a>,
+}
+
+impl<'a> TypingContext<'a> {
+    ghost use Rattle.sf_check.specs.Contexts.{program_in, context_in};
+
+    /// What the body of a template is typed under: no names stand around it.
+    pub(crate) fn of_body(alloc: Global, program: &'a Program) -> TypingContext<'a>
+        ensures program { program_in result ≡ program.now }
+        ensures context { context_in result ≡ context_of (templates_of program.now) }
+    {
+        TypingContext {
+            program,
+            names: TypeScope::new(alloc),
+        }
+    }
+}

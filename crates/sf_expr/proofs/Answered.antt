@@ -1,0 +1,138 @@
+-- Each expression has a type or is refused, and so has each function.
+use Rattle.std.proofs.Common.{◌≡◌, ◌≢◌, ℕ, zero, suc, ◌<◌, Bool, true, false, ◌||◌, IsTrue, Contains, cond, List, [], ◌∷◌, ◌++◌, ◌⊎◌, inl, inr, Some, None, refl, sym, subst, arith, append_assoc, append-nil}
+use Rattle.std.specs.Prelude.{Option, bytes_eq}
+use Rattle.std.specs.Bool.{Decides}
+use Rattle.std.proofs.lemmas.Bool.{cases_lt}
+use Rattle.std.proofs.lemmas.Slice.Eq.{bytes_eq-Decides}
+use Rattle.std.proofs.lemmas.List.Elements.{All-contains}
+use Rattle.sf_value.specs.Values.{Name, Kind, int_kind, pair_kind, nodes as nodes_of}
+use Rattle.sf_expr.specs.declared.spot.Spot.{Spot}
+use Rattle.sf_expr.specs.declared.exprs.ExprId.{ExprId}
+use Rattle.sf_expr.specs.declared.exprs.FunctionId.{FunctionId}
+use Rattle.sf_expr.specs.declared.exprs.ExprNode.{ExprNode}
+use Rattle.sf_expr.specs.declared.exprs.ExprNode.TheVariants as nodes
+use Rattle.sf_expr.specs.declared.exprs.Exprs.{Exprs}
+use Rattle.sf_expr.specs.declared.operator.Operator.{Operator}
+use Rattle.sf_expr.specs.declared.typing.TypeRefusal.{TypeRefusal}
+use Rattle.sf_expr.specs.declared.typing.TypeRefusal.TheVariants.{DuplicateName}
+use Rattle.sf_expr.specs.Expressions.{Pattern, names_in}
+use Rattle.sf_expr.specs.Patterns.{PlacedPattern, placed_unnamed, placed_name, placed_both, pattern_of}
+use Rattle.sf_expr.specs.Entries.{has_narrow}
+use Rattle.sf_expr.specs.Arena.{id_number, expression, node_at, name_at, entry_of, pattern_at, body_at, function_at, PartsBelow}
+use Rattle.sf_expr.specs.Typing.{Names, Fits, type_of_name, AllDifferent, Adds, adds_nothing, adds_name, adds_both, HasType, FunctionTakes, function_takes}
+use Rattle.sf_expr.specs.Inference.{is_among, names_with, NamesFit}
+use Rattle.sf_expr.specs.Refusals.{Refused, unknown_name, first_part, second_part, pair_too_large, left_operand, right_operand, no_number, IsRepeated, FunctionRefused, repeated_name, no_fit, body_refused}
+use Rattle.sf_expr.proofs.Entered.{node_builds, parts_below, narrow_node}
+use Rattle.sf_expr.proofs.Judged.{int_typed, name_typed, pair_has_type, operation_has_type}
+use Rattle.sf_expr.proofs.Apart.{apart_push, name_repeated, first_repeated, second_repeated}
+use Rattle.sf_expr.proofs.Inferred.{not_among, with_adds, adds_with}
+
+-- a type, or a refusal
+abbrev pub IsAnswered : Exprs → Names → ExprId → Type 0
+IsAnswered x R i = ((t : Kind) × HasType R (expression x i) t) ⊎ ((r : TypeRefusal) × Refused x R i r)
+
+node_parts : (x : Exprs) (i : ExprId) → PartsBelow (node_at x i) (id_number i)
+unfolding node_at entry_of
+node_parts x i = parts_below x i
+
+node_narrow : (x : Exprs) (i : ExprId) → IsTrue (has_narrow (node_at x i))
+unfolding node_at entry_of
+node_narrow x i = narrow_node x i
+
+module _ (x : Exprs) (R : Names) (fit : NamesFit R) where
+  of_int : (i : ExprId) (z : _) → node_at x i ≡ nodes.Int z → IsTrue (has_narrow (nodes.Int z)) → IsAnswered x R i
+  of_int i z e h = inl (int_kind, int_typed x R i z (node_builds x i _ e) h)
+
+  of_name : (i : ExprId) (n : _) → node_at x i ≡ nodes.Name n → (o : Option Kind) → type_of_name (name_at x n) R ≡ o → IsAnswered x R i
+  of_name i n e (Some t) h = inl (t, name_typed x R i n t (node_builds x i _ e) h (fit _ t h))
+  of_name i n e None h = inr (_, unknown_name e h)
+
+  of_pair : (i a b : ExprId) → node_at x i ≡ nodes.Pair a b → IsAnswered x R a → IsAnswered x R b → IsAnswered x R i
+  of_pair i a b e (inr r) B = inr (r.0, first_part e r.1)
+  of_pair i a b e (inl t) (inr r) = inr (r.0, second_part e t.1 r.1)
+  of_pair i a b e (inl t) (inl u) = elim (cases_lt 256 (nodes_of (pair_kind t.0 u.0))) [
+    | inl h ↦ inr (_, pair_too_large e t.1 u.1 h)
+    | inr h ↦ inl (pair_kind t.0 u.0, pair_has_type x R i a b t.0 u.0 (node_builds x i _ e) t.1 u.1 h)
+  ]
+
+  of_operation : (i a b : ExprId) (op : Operator) → node_at x i ≡ nodes.Operation a op b → IsAnswered x R a → IsAnswered x R b → IsAnswered x R i
+  of_operation i a b op e (inr r) B = inr (r.0, left_operand e r.1)
+  of_operation i a b op e (inl t) (inr r) = inr (r.0, right_operand e t.1 r.1)
+  of_operation i a b op e (inl (int_kind, h)) (inl (int_kind, k)) = inl (int_kind, operation_has_type x R i a b op (node_builds x i _ e) h k)
+  of_operation i a b op e (inl (int_kind, h)) (inl (pair_kind t u, k)) = inr (_, no_number e h k (λ q. let n = q.1 in cc))
+  of_operation i a b op e (inl (pair_kind t u, h)) (inl (v, k)) = inr (_, no_number e h k (λ q. let n = q.0 in cc))
+
+  answered_within : (fuel : ℕ) (i : ExprId) → id_number i < fuel → IsAnswered x R i
+  answered_within zero i h = absurd (omega arith)
+  answered_within (suc fuel) i h = by_node (node_at x i) refl (node_parts x i) (node_narrow x i) (λ a k. answered_within fuel a (omega arith))
+    where
+      by_node : (n : ExprNode) → node_at x i ≡ n → PartsBelow n (id_number i) → IsTrue (has_narrow n) → ((a : ExprId) → id_number a < id_number i → IsAnswered x R a) → IsAnswered x R i
+      by_node (nodes.Int z) e p w parts = of_int i z e w
+      by_node (nodes.Name n) e p w parts = of_name i n e (type_of_name (name_at x n) R) refl
+      by_node (nodes.Pair a b) e p w parts = of_pair i a b e (parts a p.0) (parts b p.1)
+      by_node (nodes.Operation a op b) e p w parts = of_operation i a b op e (parts a p.0) (parts b p.1)
+
+  pub answered : (i : ExprId) → IsAnswered x R i
+  answered i = answered_within (suc (id_number i)) i (omega arith)
+
+-- ## Patterns
+
+among_contains : (n : Name) (ys : List Name) → is_among n ys ≡ true → Contains ys n
+among_contains n [] h = absurd cc
+among_contains n (y ∷ ys) h = each (bytes_eq n y) (bytes_eq-Decides n y) (among_contains n ys) h
+  where
+    each : (b : Bool) → Decides b (n ≡ y) → (is_among n ys ≡ true → Contains ys n) → b || is_among n ys ≡ true → Contains (y ∷ ys) n
+    each true d more e = (0, omega arith, sym (d.0 refl))
+    each false d more e = let k = more e in (suc k.0, omega (arith, k.1), k.2)
+
+contains_or : (ys : List Name) (n : Name) → Contains ys n ⊎ (Contains ys n → ⊥)
+contains_or ys n = each (is_among n ys) refl
+  where
+    each : (b : Bool) → is_among n ys ≡ b → Contains ys n ⊎ (Contains ys n → ⊥)
+    each true h = inl (among_contains n ys h)
+    each false h = inr (λ c. All-contains (λ y. n ≢ y) ys n (not_among n ys h) c refl)
+
+-- all names are different, or one is repeated
+apart_or : (seen : List Name) (p : PlacedPattern) → AllDifferent seen → AllDifferent (seen ++ names_in (pattern_of p)) ⊎ ((s : Spot) × IsRepeated seen p s)
+apart_or seen placed_unnamed h = inl (subst (λ ns. AllDifferent ns) (sym (append-nil seen)) h)
+apart_or seen (placed_name n s) h = elim (contains_or seen n) [ inl c ↦ inr (s, name_repeated seen n s h c) | inr away ↦ inl (apart_push seen n h away) ]
+apart_or seen (placed_both p q) h = elim (apart_or seen p h) [
+  | inr r ↦ inr (r.0, first_repeated seen p q (DuplicateName r.0) r.1)
+  | inl d ↦ elim (apart_or (seen ++ names_in (pattern_of p)) q d) [
+    | inr r ↦ inr (r.0, second_repeated seen p q (DuplicateName r.0) r.1)
+    | inl k ↦ inl (subst (λ ns. AllDifferent ns) (append_assoc seen (names_in (pattern_of p)) (names_in (pattern_of q))) k)
+  ]
+]
+
+-- the names that are added fit
+named_fit : (n : Name) (t : Kind) (R : Names) → Fits t → NamesFit R → NamesFit ((n, t) ∷ R)
+named_fit n t R f fit y u = each (bytes_eq y n)
+  where
+    each : (b : Bool) → cond b (Some t) (type_of_name y R) ≡ Some u → Fits u
+    each true e = let is : t ≡ u = cc in subst (λ (t : Kind). Fits t) is f
+    each false e = fit y u e
+
+adds_fit : {p : Pattern} {t : Kind} {R S : Names} → Adds p t R S → Fits t → NamesFit R → NamesFit S
+adds_fit adds_nothing f fit = fit
+adds_fit (adds_name {x = n} {t = t} {R = R}) f fit = named_fit n t R f fit
+adds_fit (adds_both a b) f fit = adds_fit b (omega arith) (adds_fit a (omega arith) fit)
+
+-- ## Functions
+
+abbrev pub IsAnsweredFunction : Exprs → Names → FunctionId → Kind → Spot → Type 0
+IsAnsweredFunction x R f a at = ((b : Kind) × FunctionTakes R (function_at x f) a b) ⊎ ((r : TypeRefusal) × FunctionRefused x R f a at r)
+
+pub function_answered : (x : Exprs) (R : Names) (f : FunctionId) (a : Kind) (at : Spot) → NamesFit R → Fits a → IsAnsweredFunction x R f a at
+function_answered x R f a at fit fits = elim (apart_or [] (pattern_at x f) tt) [
+  | inr r ↦ inr (_, repeated_name r.1)
+  | inl apart ↦ bound apart (names_with (pattern_of (pattern_at x f)) a R) refl
+]
+  where
+    bound : AllDifferent (names_in (pattern_of (pattern_at x f))) → (o : Option Names) → names_with (pattern_of (pattern_at x f)) a R ≡ o → IsAnsweredFunction x R f a at
+    bound apart None e = inr (_, no_fit apart (λ S k. let s = adds_with k in cc))
+    bound apart (Some S) e =
+        let adds = with_adds (pattern_of (pattern_at x f)) a R S e in
+        elim (answered x S (adds_fit adds fits fit) (body_at x f)) [
+          | inl t ↦ inl (t.0, function_takes fits (record { adds = adds; apart = apart }) t.1)
+          | inr r ↦ inr (r.0, body_refused apart adds r.1)
+        ]

@@ -1,0 +1,141 @@
+-- The types that are found are the types that expressions have.
+use Rattle.std.proofs.Common.{◌≡◌, ◌≢◌, Bool, true, false, not, ◌||◌, ◌&&◌, cond, List, [], ◌∷◌, Some, None, refl, ap, subst, ◌∙◌, arith}
+use Rattle.std.specs.Prelude.{Option, nat_le, bytes_eq, All}
+use Rattle.std.specs.Bool.{Decides}
+use Rattle.std.proofs.lemmas.Slice.Eq.{bytes_eq-Decides}
+use Rattle.std.proofs.lemmas.List.Elements.{All-nil, All-cons, All-head, All-tail}
+use Rattle.std.proofs.lemmas.Bool.Decides.{nat_tests}
+use Rattle.sf_value.specs.Values.{Name, Kind, int_kind, pair_kind, nodes, is_narrow, has_int}
+use Rattle.sf_expr.specs.Expressions.{Pattern, unnamed, named, both, names_in, Literal, int_literal, Expression, variable, literal, paired, operation, Function, function}
+use Rattle.sf_expr.specs.declared.operator.Operator.{Operator}
+use Rattle.sf_expr.specs.Typing.{Names, type_of_name, Fits, AllDifferent, Adds, adds_nothing, adds_name, adds_both, HasType, variable_has, literal_has, pair_has, operation_has, FunctionTakes, function_takes}
+use Rattle.sf_expr.specs.Inference.{found_then, fitting, literal_type, pair_type, number_type, expression_type, names_with, is_among, are_different, function_output}
+
+-- ## Types that fit
+
+pub test_fits : (t : Kind) → Fits t → nat_le (nodes t) 256 ≡ true
+test_fits t h = grind (arith, nat_tests)
+
+pub fits_test : (t : Kind) → nat_le (nodes t) 256 ≡ true → Fits t
+fits_test t h = grind (arith, nat_tests)
+
+pub fitting_is : (t : Kind) → Fits t → fitting t ≡ Some t
+fitting_is t h = ap (λ b. cond b (Some t) None) (test_fits t h)
+
+-- a type that was found to fit
+pub record Found (t u : Kind) : Type 0 where
+  pub is : t ≡ u
+  pub fits : Fits t
+
+pub fitting_found : (t u : Kind) → fitting t ≡ Some u → Found t u
+fitting_found t u = each (nat_le (nodes t) 256) refl
+  where
+    each : (b : Bool) → nat_le (nodes t) 256 ≡ b → cond b (Some t) None ≡ Some u → Found t u
+    each true h e = record { is = cc; fits = fits_test t h }
+    each false h e = absurd cc
+
+-- ## Expressions
+
+name_found : (R : Names) (x : Name) (o : Option Kind) (t : Kind) → type_of_name x R ≡ o → found_then o fitting ≡ Some t → HasType R (variable x) t
+name_found R x (Some u) t h e =
+    let f = fitting_found u t e in
+    subst (λ (t : Kind). HasType R (variable x) t) f.is (variable_has h f.fits)
+name_found R x None t h e = absurd cc
+
+literal_found : (R : Names) (l : Literal) (t : Kind) → literal_type l ≡ Some t → HasType R (literal l) t
+literal_found R (int_literal z) t = each (is_narrow z) refl
+  where
+    each : (b : Bool) → is_narrow z ≡ b → cond b (Some int_kind) None ≡ Some t → HasType R (literal (int_literal z)) t
+    each true h e = let is : int_kind ≡ t = cc in subst (λ (t : Kind). HasType R (literal (int_literal z)) t) is (literal_has (has_int h))
+    each false h e = absurd cc
+
+pair_found : (R : Names) (i j : Expression) (a b : Option Kind) (t : Kind) → ((u : Kind) → a ≡ Some u → HasType R i u) → ((u : Kind) → b ≡ Some u → HasType R j u) → pair_type a b ≡ Some t → HasType R (paired i j) t
+pair_found R i j (Some u) (Some v) t h k e =
+    let f = fitting_found (pair_kind u v) t e in
+    subst (λ (t : Kind). HasType R (paired i j) t) f.is (pair_has (h u refl) (k v refl) f.fits)
+pair_found R i j (Some u) None t h k e = absurd cc
+pair_found R i j None b t h k e = absurd cc
+
+operation_found : (R : Names) (i j : Expression) (op : Operator) (a b : Option Kind) (t : Kind) → ((u : Kind) → a ≡ Some u → HasType R i u) → ((u : Kind) → b ≡ Some u → HasType R j u) → number_type a b ≡ Some t → HasType R (operation i op j) t
+operation_found R i j op (Some int_kind) (Some int_kind) t h k e =
+    let is : int_kind ≡ t = cc in
+    subst (λ (t : Kind). HasType R (operation i op j) t) is (operation_has (h int_kind refl) (k int_kind refl))
+operation_found R i j op a b t h k e = absurd cc
+
+pub found_typed : (R : Names) (e : Expression) (t : Kind) → expression_type R e ≡ Some t → HasType R e t
+found_typed R (variable x) t h = name_found R x (type_of_name x R) t refl h
+found_typed R (literal l) t h = literal_found R l t h
+found_typed R (paired i j) t h = pair_found R i j (expression_type R i) (expression_type R j) t (found_typed R i) (found_typed R j) h
+found_typed R (operation i op j) t h = operation_found R i j op (expression_type R i) (expression_type R j) t (found_typed R i) (found_typed R j) h
+
+literal_typed : (l : Literal) (t : Kind) → {R : Names} → HasType R (literal l) t → literal_type l ≡ Some t
+literal_typed (int_literal z) t (literal_has (has_int h)) = ap (λ b. cond b (Some int_kind) None) h
+
+pub typed_found : {R : Names} {e : Expression} {t : Kind} → HasType R e t → expression_type R e ≡ Some t
+typed_found (variable_has {t = t} e f) = ap (λ o. found_then o fitting) e ∙ fitting_is t f
+typed_found {R = R} {t = t} (literal_has {l = l} h) = literal_typed l t {R = R} (literal_has h)
+typed_found (pair_has {t = t} {u = u} h k f) = rw (typed_found h, typed_found k) (fitting_is (pair_kind t u) f)
+typed_found (operation_has h k) = rw (typed_found h, typed_found k) refl
+
+-- ## Patterns
+
+pub with_adds : (p : Pattern) (t : Kind) (R S : Names) → names_with p t R ≡ Some S → Adds p t R S
+with_adds unnamed t R S h = let is : R ≡ S = cc in subst (λ (S : Names). Adds unnamed t R S) is adds_nothing
+with_adds (named x) t R S h = let is : (x, t) ∷ R ≡ S = cc in subst (λ (S : Names). Adds (named x) t R S) is adds_name
+with_adds (both p q) int_kind R S h = absurd cc
+with_adds (both p q) (pair_kind t u) R S h = each (names_with p t R) (with_adds p t R) (λ T. with_adds q u T S) h
+  where
+    each : (o : Option Names) → ((T : Names) → o ≡ Some T → Adds p t R T) → ((T : Names) → names_with q u T ≡ Some S → Adds q u T S) → found_then o (names_with q u) ≡ Some S → Adds (both p q) (pair_kind t u) R S
+    each (Some T) a b e = adds_both (a T refl) (b T e)
+    each None a b e = absurd cc
+
+pub adds_with : {p : Pattern} {t : Kind} {R S : Names} → Adds p t R S → names_with p t R ≡ Some S
+adds_with adds_nothing = refl
+adds_with adds_name = refl
+adds_with (adds_both {q = q} {u = u} a b) = ap (λ o. found_then o (names_with q u)) (adds_with a) ∙ adds_with b
+
+pub not_among : (x : Name) (ys : List Name) → is_among x ys ≡ false → All (λ y. x ≢ y) ys
+not_among x [] h = All-nil (λ y. x ≢ y)
+not_among x (y ∷ ys) h = each (bytes_eq x y) (bytes_eq-Decides x y) (not_among x ys) h
+  where
+    each : (b : Bool) → Decides b (x ≡ y) → (is_among x ys ≡ false → All (λ y. x ≢ y) ys) → b || is_among x ys ≡ false → All (λ y. x ≢ y) (y ∷ ys)
+    each true d more e = absurd cc
+    each false d more e = All-cons (λ y. x ≢ y) y ys (λ q. let h = d.1 q in cc) (more e)
+
+among_not : (x : Name) (ys : List Name) → All (λ y. x ≢ y) ys → is_among x ys ≡ false
+among_not x [] h = refl
+among_not x (y ∷ ys) h = each (bytes_eq x y) (bytes_eq-Decides x y) (among_not x ys (All-tail (λ y. x ≢ y) y ys h))
+  where
+    each : (b : Bool) → Decides b (x ≡ y) → is_among x ys ≡ false → b || is_among x ys ≡ false
+    each true d more = absurd (All-head (λ y. x ≢ y) y ys h (d.0 refl))
+    each false d more = more
+
+pub different : (xs : List Name) → are_different xs ≡ true → AllDifferent xs
+different [] h = tt
+different (x ∷ xs) h = each (is_among x xs) refl (different xs) h
+  where
+    each : (b : Bool) → is_among x xs ≡ b → (are_different xs ≡ true → AllDifferent xs) → not b && are_different xs ≡ true → AllDifferent (x ∷ xs)
+    each true q more e = absurd cc
+    each false q more e = (not_among x xs q, more e)
+
+pub different_test : (xs : List Name) → AllDifferent xs → are_different xs ≡ true
+different_test [] h = refl
+different_test (x ∷ xs) h = rw (among_not x xs h.0) (different_test xs h.1)
+
+-- ## Functions
+
+body_found : (R : Names) (p : Pattern) (i : Expression) (t u : Kind) → Fits t → AllDifferent (names_in p) → (o : Option Names) → ((S : Names) → o ≡ Some S → Adds p t R S) → found_then o (λ S. expression_type S i) ≡ Some u → FunctionTakes R (function p i) t u
+body_found R p i t u f d (Some S) a e = function_takes f (record { adds = a S refl; apart = d }) (found_typed S i u e)
+body_found R p i t u f d None a e = absurd cc
+
+pub output_takes : (R : Names) (f : Function) (t u : Kind) → function_output R f t ≡ Some u → FunctionTakes R f t u
+output_takes R (function p i) t u = each (nat_le (nodes t) 256) (are_different (names_in p)) refl refl
+  where
+    each : (b d : Bool) → nat_le (nodes t) 256 ≡ b → are_different (names_in p) ≡ d → cond (b && d) (found_then (names_with p t R) (λ S. expression_type S i)) None ≡ Some u → FunctionTakes R (function p i) t u
+    each true true h k e = body_found R p i t u (fits_test t h) (different (names_in p) k) (names_with p t R) (with_adds p t R) e
+    each true false h k e = absurd cc
+    each false d h k e = absurd cc
+
+pub takes_output : {R : Names} {f : Function} {t u : Kind} → FunctionTakes R f t u → function_output R f t ≡ Some u
+takes_output (function_takes {S = S} {p = p} {i = i} {t = t} fits binds h) =
+    rw (test_fits t fits, different_test (names_in p) binds.apart, adds_with binds.adds) (typed_found h)

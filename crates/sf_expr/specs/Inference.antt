@@ -1,0 +1,62 @@
+-- The types of expressions, found by a function.
+use Rattle.std.specs.Prelude.{◌≡◌, ◌≤◌, Bool, true, false, not, ◌||◌, ◌&&◌, nat_le, cond, List, [], ◌∷◌, Option, Some, None, bytes_eq}
+use Rattle.sf_value.specs.Values.{Name, Kind, int_kind, pair_kind, nodes, is_narrow}
+use Rattle.sf_expr.specs.Expressions.{Pattern, unnamed, named, both, names_in, Literal, int_literal, Expression, variable, literal, paired, operation, Function, function}
+use Rattle.sf_expr.specs.Typing.{Names, type_of_name}
+
+-- what is done with what was found, if it was
+abbrev pub found_then : {A B : Type 0} → Option A → (A → Option B) → Option B
+found_then (Some a) f = f a
+found_then None f = None
+
+-- a type, if it has at most 256 nodes
+abbrev pub fitting : Kind → Option Kind
+fitting t = cond (nat_le (nodes t) 256) (Some t) None
+
+-- the type of a literal
+abbrev pub literal_type : Literal → Option Kind
+literal_type (int_literal z) = cond (is_narrow z) (Some int_kind) None
+
+-- the type of a pair of two parts
+abbrev pub pair_type : Option Kind → Option Kind → Option Kind
+pair_type (Some t) (Some u) = fitting (pair_kind t u)
+pair_type (Some t) None = None
+pair_type None u = None
+
+-- the type of what is calculated from two numbers
+abbrev pub number_type : Option Kind → Option Kind → Option Kind
+number_type (Some int_kind) (Some int_kind) = Some int_kind
+number_type t u = None
+
+-- the type of an expression where the names have types, if it has one
+abbrev pub expression_type : Names → Expression → Option Kind
+expression_type R (variable x) = found_then (type_of_name x R) fitting
+expression_type R (literal l) = literal_type l
+expression_type R (paired i j) = pair_type (expression_type R i) (expression_type R j)
+expression_type R (operation i op j) = number_type (expression_type R i) (expression_type R j)
+
+-- the names with a pattern's names before them, if the pattern fits the type
+abbrev pub names_with : Pattern → Kind → Names → Option Names
+names_with unnamed t R = Some R
+names_with (named x) t R = Some ((x, t) ∷ R)
+names_with (both p q) int_kind R = None
+names_with (both p q) (pair_kind t u) R = found_then (names_with p t R) (names_with q u)
+
+-- whether a name is one of these
+abbrev pub is_among : Name → List Name → Bool
+is_among x [] = false
+is_among x (y ∷ ys) = bytes_eq x y || is_among x ys
+
+-- whether all names are different
+abbrev pub are_different : List Name → Bool
+are_different [] = true
+are_different (x ∷ xs) = not (is_among x xs) && are_different xs
+
+-- the type that a function takes values of a type to, if it takes them
+abbrev pub function_output : Names → Function → Kind → Option Kind
+function_output R (function p i) t =
+    cond (nat_le (nodes t) 256 && are_different (names_in p)) (found_then (names_with p t R) (λ S. expression_type S i)) None
+
+-- each type that names have has at most 256 nodes
+abbrev pub NamesFit : Names → Type 0
+NamesFit R = (x : Name) (t : Kind) → type_of_name x R ≡ Some t → nodes t ≤ 256

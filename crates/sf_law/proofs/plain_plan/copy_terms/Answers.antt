@@ -1,0 +1,30 @@
+use Rattle.std.proofs.Common.{◌∙◌, sym, subst, arith}
+use Rattle.sf_expr.specs.Arena.{IsCopy}
+use Rattle.sf_term.specs.Arena.{expressions_of as program_expressions, PartsBelow}
+use Rattle.sf_law.specs.Arena.{AddsNode}
+use Rattle.sf_law.proofs.Copied.{shows_next, shows_all, parts_fit}
+use Rattle.sf_law.proofs.plain_plan.copy_terms.Goals as goal
+
+pub add-requires-clause-held : goal.add-requires-clause-held
+add-requires-clause-held c =
+    let below = subst (λ k. PartsBelow c.node.result k) c.term.ensures c.node.ensures.below in
+    rw (c.plan_node.ensures, c.loop-number.invariant.count) (parts_fit c.node.result c.loop-number.number below)
+
+pub loop-number-preserved : goal.loop-number-preserved
+loop-number-preserved c =
+    let p = c.args.program.now in
+    let old = c.loop-number.plan in
+    let i = c.loop-number in
+    let node = c.node.result in
+    let copy = subst (λ x. IsCopy (program_expressions p) x) (sym i.invariant.expressions) c.requires.same in
+    let below = subst (λ k. PartsBelow node k) c.term.ensures c.node.ensures.below in
+    let added = subst (λ n. AddsNode old c.add.new.self c.in_ok-add.field-0 n) c.plan_node.ensures c.in_ok-add.ensures.ok in
+    record {
+      expressions = c.add.ensures.kept.expressions ∙ i.invariant.expressions;
+      count = omega (arith, added.counted, i.invariant.count);
+      headers = c.add.ensures.templates ∙ i.invariant.headers;
+      shows = shows_next p old c.add.new.self node c.term.result c.in_ok-add.field-0 i.number copy i.invariant.count c.term.ensures i.invariant.shows c.node.ensures.builds below added c.add.ensures.kept;
+    }
+
+pub returns-clause-terms : goal.returns-clause-terms
+returns-clause-terms c = shows_all c.args.program.now c.loop-number.plan c.loop-number.number (omega (arith, c.len-number-end.ensures, c.loop-number-test.false)) c.loop-number.invariant.count c.loop-number.invariant.shows

@@ -1,0 +1,21 @@
+use Rattle.std.proofs.Common.{refl, arith}
+use Rattle.sf_law.proofs.Placed.{arena_put}
+use Rattle.sf_law.proofs.Kept.{pushed_keeps, same_keeps, adds_pushed}
+use Rattle.sf_law.proofs.plan.Plan.add.Goals as goal
+
+pub invariant_of-self : goal.invariant_of-self
+invariant_of-self c =
+    let p = c.args.self.now in
+    record {
+      arena = arena_put p.nodes.items c.push.new.self.items c.args.node _ c.push.ensures.items p.arena c.requires.held c.requires.whole;
+      same = p.same;
+    }
+
+pub returns-in_err-push-clause-kept : goal.returns-in_err-push-clause-kept
+returns-in_err-push-clause-kept c = same_keeps c.args.self.now _ refl c.in_err-push.ensures.items
+
+pub returns-clause-ok : goal.returns-clause-ok
+returns-clause-ok c = adds_pushed c.args.self.now _ c.args.node _ refl c.in_ok-push.ensures.items (omega (arith, c.len.ensures, c.args.self.now.nodes.ok.0)) c.requires.whole
+
+pub returns-clause-kept : goal.returns-clause-kept
+returns-clause-kept c = pushed_keeps c.args.self.now _ c.args.node refl c.in_ok-push.ensures.items

@@ -1,0 +1,231 @@
+-- The output types that are found are those that terms take inputs to.
+use Rattle.std.proofs.Common.{◌≡◌, Bool, true, false, ◌&&◌, cond, Some, None, refl, sym, ap, subst, ◌∙◌}
+use Rattle.std.specs.Prelude.{Option, nat_le}
+use mathlib.Core.Path.{ap₂}
+use Rattle.sf_value.specs.Values.{Kind, int_kind, pair_kind, nodes}
+use Rattle.sf_expr.specs.Expressions.{Expression}
+use Rattle.sf_expr.specs.Typing.{Fits, HasType}
+use Rattle.sf_expr.specs.Inference.{found_then, fitting, expression_type}
+use Rattle.sf_expr.proofs.Inferred.{test_fits, fits_test, fitting_is, fitting_found, found_typed, typed_found, output_takes, takes_output}
+use Rattle.sf_term.specs.declared.form.Bare.TheVariants.{Identity}
+use Rattle.sf_term.specs.declared.form.WithValue.TheVariants.{Constant, InitialPre}
+use Rattle.sf_term.specs.declared.form.Join.{Join}
+use Rattle.sf_term.specs.declared.form.Join.TheVariants.{InSequence, InParallel, FannedOut}
+use Rattle.sf_term.specs.declared.form.Side.{Side}
+use Rattle.sf_term.specs.declared.form.Side.TheVariants.{First, Second}
+use Rattle.sf_term.specs.declared.form.Heading.TheVariants.{LoopPre}
+use Rattle.sf_term.specs.Trees.{Chain, lone, chained, on_side, on_both, fanned, Primitive, bare, with_value, arrow, fused, Term, primitive, joined, sided, headed, staged}
+use Rattle.sf_mean.specs.Contexts.{Context, names_of_values}
+use Rattle.sf_mean.specs.Typing.{ChainTakes, lone_takes, chained_takes, on_first_takes, on_second_takes, on_both_takes, fanned_takes, PrimitiveTakes, identity_takes, constant_takes, initial_pre_takes, arrow_takes, fused_takes, Takes, takes, FormTakes, primitive_takes, sequence_takes, parallel_takes, fan_takes, first_takes, second_takes, loop_takes, stages_take}
+use Rattle.sf_mean.specs.Inference.{Finds, same_kind, both_outputs, join_output, side_output, first_beside, heading_output, chain_output, primitive_output, with_fitting, form_output, term_output}
+
+-- ## The same types
+
+pub both_true : (a b : Bool) → a && b ≡ true → (a ≡ true) × (b ≡ true)
+both_true true b h = (refl, h)
+both_true false b h = absurd cc
+
+pub same_is : (t u : Kind) → same_kind t u ≡ true → t ≡ u
+same_is int_kind int_kind h = refl
+same_is (pair_kind t u) (pair_kind v w) h = let k = both_true (same_kind t v) (same_kind u w) h in ap₂ pair_kind (same_is t v k.0) (same_is u w k.1)
+same_is int_kind (pair_kind v w) h = absurd cc
+same_is (pair_kind t u) int_kind h = absurd cc
+
+pub is_same : (t : Kind) → same_kind t t ≡ true
+is_same int_kind = refl
+is_same (pair_kind t u) = rw (is_same t) (is_same u)
+
+-- ## What was found, by the groups of forms
+
+-- what was found and then went on
+pub data Went (f g : Finds) (a c : Kind) : Type 0 where
+  went : {b : Kind} → f a ≡ Some b → g b ≡ Some c → Went f g a c
+
+found_went : (f g : Finds) (a c : Kind) → found_then (f a) g ≡ Some c → Went f g a c
+found_went f g a c = each (f a) refl
+  where
+    each : (o : Option Kind) → f a ≡ o → found_then o g ≡ Some c → Went f g a c
+    each (Some b) h e = went h e
+    each None h e = absurd cc
+
+-- two outputs that make a type of pairs
+pub data Pairs (o p : Option Kind) (c : Kind) : Type 0 where
+  pairs : {t u : Kind} → o ≡ Some t → p ≡ Some u → pair_kind t u ≡ c → Pairs o p c
+
+found_pairs : (o p : Option Kind) (c : Kind) → both_outputs o p ≡ Some c → Pairs o p c
+found_pairs (Some t) (Some u) c h = pairs refl refl cc
+found_pairs (Some t) None c h = absurd cc
+found_pairs None p c h = absurd cc
+
+pub data JoinIs (f g : Finds) : Join → Kind → Kind → Type 0 where
+  in_sequence : {a c : Kind} → Went f g a c → JoinIs f g InSequence a c
+  in_parallel : {a b c d : Kind} → f a ≡ Some b → g c ≡ Some d → JoinIs f g InParallel (pair_kind a c) (pair_kind b d)
+  fanned_out : {a b c : Kind} → f a ≡ Some b → g a ≡ Some c → JoinIs f g FannedOut a (pair_kind b c)
+
+join_found : (j : Join) (f g : Finds) (a c : Kind) → join_output j f g a ≡ Some c → JoinIs f g j a c
+join_found InSequence f g a c h = in_sequence (found_went f g a c h)
+join_found InParallel f g int_kind c h = absurd cc
+join_found InParallel f g (pair_kind a b) c h = elim (found_pairs (f a) (g b) c h) [ pairs o p e ↦ subst (JoinIs f g InParallel (pair_kind a b)) e (in_parallel o p) ]
+join_found FannedOut f g a c h = elim (found_pairs (f a) (g a) c h) [ pairs o p e ↦ subst (JoinIs f g FannedOut a) e (fanned_out o p) ]
+
+pub data SideIs (f : Finds) : Side → Kind → Kind → Type 0 where
+  on_the_first : {a b c : Kind} → f a ≡ Some b → SideIs f First (pair_kind a c) (pair_kind b c)
+  on_the_second : {a b c : Kind} → f a ≡ Some b → SideIs f Second (pair_kind c a) (pair_kind c b)
+
+side_found : (d : Side) (f : Finds) (a b : Kind) → side_output d f a ≡ Some b → SideIs f d a b
+side_found d f int_kind b h = absurd cc
+side_found First f (pair_kind a c) b h = elim (found_went f (λ b. Some (pair_kind b c)) a b h) [ went {b = d} k e ↦ let is : pair_kind d c ≡ b = cc in subst (SideIs f First (pair_kind a c)) is (on_the_first k) ]
+side_found Second f (pair_kind c a) b h = elim (found_went f (λ b. Some (pair_kind c b)) a b h) [ went {b = d} k e ↦ let is : pair_kind c d ≡ b = cc in subst (SideIs f Second (pair_kind c a)) is (on_the_second k) ]
+
+-- ## Within the bound
+
+pub record Fitting (f : Finds) (a b : Kind) : Type 0 where
+  pub input : Fits a
+  pub output : Fits b
+  pub is : f a ≡ Some b
+
+fitting_inside : (f : Finds) (a b : Kind) → with_fitting f a ≡ Some b → Fitting f a b
+fitting_inside f a b = each (nat_le (nodes a) 256) refl
+  where
+    each : (t : Bool) → nat_le (nodes a) 256 ≡ t → cond t (found_then (f a) fitting) None ≡ Some b → Fitting f a b
+    each true h e = elim (found_went f fitting a b e) [
+      | went {b = c} k g ↦
+          let fit = fitting_found c b g in
+          record { input = fits_test a h; output = subst Fits fit.is fit.fits; is = k ∙ ap Some fit.is }
+    ]
+    each false h e = absurd cc
+
+inside_fitting : (f : Finds) (a b : Kind) → Fits a → Fits b → f a ≡ Some b → with_fitting f a ≡ Some b
+inside_fitting f a b h k e = rw (test_fits a h, e) (fitting_is b k)
+
+module _ {Γ : Context} where
+  -- ## Functions made into one
+
+  pub chain_takes : (f : Chain) (a b : Kind) → chain_output Γ f a ≡ Some b → ChainTakes Γ f a b
+  chain_takes (lone f) a b h = lone_takes (output_takes (names_of_values Γ) f a b h)
+  chain_takes (chained f g) a b h = joins f g (chain_takes f) (chain_takes g) (join_found InSequence (chain_output Γ f) (chain_output Γ g) a b h)
+    where
+      joins : (f g : Chain) → ((a b : Kind) → chain_output Γ f a ≡ Some b → ChainTakes Γ f a b) → ((a b : Kind) → chain_output Γ g a ≡ Some b → ChainTakes Γ g a b) → JoinIs (chain_output Γ f) (chain_output Γ g) InSequence a b → ChainTakes Γ (chained f g) a b
+      joins f g F G (in_sequence (went h k)) = chained_takes (F _ _ h) (G _ _ k)
+  chain_takes (on_side d f) a b h = sides d f (chain_takes f) (side_found d (chain_output Γ f) a b h)
+    where
+      sides : (d : Side) (f : Chain) → ((a b : Kind) → chain_output Γ f a ≡ Some b → ChainTakes Γ f a b) → {a b : Kind} → SideIs (chain_output Γ f) d a b → ChainTakes Γ (on_side d f) a b
+      sides First f F (on_the_first h) = on_first_takes (F _ _ h)
+      sides Second f F (on_the_second h) = on_second_takes (F _ _ h)
+  chain_takes (on_both f g) a b h = joins f g (chain_takes f) (chain_takes g) (join_found InParallel (chain_output Γ f) (chain_output Γ g) a b h)
+    where
+      joins : (f g : Chain) → ((a b : Kind) → chain_output Γ f a ≡ Some b → ChainTakes Γ f a b) → ((a b : Kind) → chain_output Γ g a ≡ Some b → ChainTakes Γ g a b) → {a b : Kind} → JoinIs (chain_output Γ f) (chain_output Γ g) InParallel a b → ChainTakes Γ (on_both f g) a b
+      joins f g F G (in_parallel h k) = on_both_takes (F _ _ h) (G _ _ k)
+  chain_takes (fanned f g) a b h = joins f g (chain_takes f) (chain_takes g) (join_found FannedOut (chain_output Γ f) (chain_output Γ g) a b h)
+    where
+      joins : (f g : Chain) → ((a b : Kind) → chain_output Γ f a ≡ Some b → ChainTakes Γ f a b) → ((a b : Kind) → chain_output Γ g a ≡ Some b → ChainTakes Γ g a b) → {a b : Kind} → JoinIs (chain_output Γ f) (chain_output Γ g) FannedOut a b → ChainTakes Γ (fanned f g) a b
+      joins f g F G (fanned_out h k) = fanned_takes (F _ _ h) (G _ _ k)
+
+  pub chain_found : {f : Chain} {a b : Kind} → ChainTakes Γ f a b → chain_output Γ f a ≡ Some b
+  chain_found (lone_takes F) = takes_output F
+  chain_found (chained_takes F G) = rw (chain_found F) (chain_found G)
+  chain_found (on_first_takes F) = rw (chain_found F) refl
+  chain_found (on_second_takes F) = rw (chain_found F) refl
+  chain_found (on_both_takes F G) = rw (chain_found F, chain_found G) refl
+  chain_found (fanned_takes F G) = rw (chain_found F, chain_found G) refl
+
+  -- ## Primitives
+
+  pre_takes : (e : Expression) (a b c : Kind) → expression_type (names_of_values Γ) e ≡ Some c → (t : Bool) → same_kind a c ≡ t → cond t (Some a) None ≡ Some b → PrimitiveTakes Γ (with_value InitialPre e) a b
+  pre_takes e a b c h true k g =
+      let is : a ≡ b = cc in
+      let E : HasType (names_of_values Γ) e a = found_typed (names_of_values Γ) e a (h ∙ ap Some (sym (same_is a c k))) in
+      subst (PrimitiveTakes Γ (with_value InitialPre e) a) is (initial_pre_takes E)
+  pre_takes e a b c h false k g = absurd cc
+
+  pub primitive_found : (p : Primitive) (a b : Kind) → primitive_output Γ p a ≡ Some b → PrimitiveTakes Γ p a b
+  primitive_found (bare Identity) a b h = let is : a ≡ b = cc in subst (PrimitiveTakes Γ (bare Identity) a) is identity_takes
+  primitive_found (with_value Constant e) a b h = constant_takes (found_typed (names_of_values Γ) e b h)
+  primitive_found (with_value InitialPre e) a b h = each (expression_type (names_of_values Γ) e) refl h
+    where
+      each : (o : Option Kind) → expression_type (names_of_values Γ) e ≡ o → found_then o (λ b. cond (same_kind a b) (Some a) None) ≡ Some b → PrimitiveTakes Γ (with_value InitialPre e) a b
+      each (Some c) k g = pre_takes e a b c k (same_kind a c) refl g
+      each None k g = absurd cc
+  primitive_found (arrow f) a b h = arrow_takes (output_takes (names_of_values Γ) f a b h)
+  primitive_found (fused f) a b h = elim (found_went (chain_output Γ f) fitting a b h) [
+    | went {b = c} k e ↦
+        let fit = fitting_found c b e in
+        fused_takes (chain_takes f a b (k ∙ ap Some fit.is)) (subst Fits fit.is fit.fits)
+  ]
+
+  pub primitive_is : {p : Primitive} {a b : Kind} → PrimitiveTakes Γ p a b → primitive_output Γ p a ≡ Some b
+  primitive_is identity_takes = refl
+  primitive_is (constant_takes E) = typed_found E
+  primitive_is (initial_pre_takes {a = a} E) = ap (λ o. found_then o (λ b. cond (same_kind a b) (Some a) None)) (typed_found E) ∙ ap (λ t. cond t (Some a) None) (is_same a)
+  primitive_is (arrow_takes F) = takes_output F
+  primitive_is (fused_takes {b = b} F h) = ap (λ o. found_then o fitting) (chain_found F) ∙ fitting_is b h
+
+  -- ## Terms: each takes what is found for its form, within the bound
+
+  within : (t : Term) → ((a b : Kind) → form_output Γ t a ≡ Some b → FormTakes Γ t a b) → (a b : Kind) → term_output Γ t a ≡ Some b → Takes Γ t a b
+  within t F a b h = let k = fitting_inside (form_output Γ t) a b h in takes k.input k.output (F a b k.is)
+
+  joins : (j : Join) (f g : Term) → ((a b : Kind) → term_output Γ f a ≡ Some b → Takes Γ f a b) → ((a b : Kind) → term_output Γ g a ≡ Some b → Takes Γ g a b) → {a b : Kind} → JoinIs (term_output Γ f) (term_output Γ g) j a b → FormTakes Γ (joined j f g) a b
+  joins j f g F G (in_sequence (went h k)) = sequence_takes (F _ _ h) (G _ _ k)
+  joins j f g F G (in_parallel h k) = parallel_takes (F _ _ h) (G _ _ k)
+  joins j f g F G (fanned_out h k) = fan_takes (F _ _ h) (G _ _ k)
+
+  sides : (d : Side) (t : Term) → ((a b : Kind) → term_output Γ t a ≡ Some b → Takes Γ t a b) → {a b : Kind} → SideIs (term_output Γ t) d a b → FormTakes Γ (sided d t) a b
+  sides d t F (on_the_first h) = first_takes (F _ _ h)
+  sides d t F (on_the_second h) = second_takes (F _ _ h)
+
+  loops : (e : Expression) (t : Term) → ((a b : Kind) → term_output Γ t a ≡ Some b → Takes Γ t a b) → (a b c : Kind) → expression_type (names_of_values Γ) e ≡ Some c → Went (term_output Γ t) (first_beside c) (pair_kind a c) b → FormTakes Γ (headed LoopPre e t) a b
+  loops e t F a b c h (went {b = int_kind} k g) = absurd cc
+  loops e t F a b c h (went {b = pair_kind v w} k g) = each (same_kind c w) refl g
+    where
+      each : (s : Bool) → same_kind c w ≡ s → cond s (Some v) None ≡ Some b → FormTakes Γ (headed LoopPre e t) a b
+      each true q g =
+          let is : v ≡ b = cc in
+          subst (FormTakes Γ (headed LoopPre e t) a) is (loop_takes (found_typed (names_of_values Γ) e c h) (F (pair_kind a c) (pair_kind v c) (k ∙ ap (λ d. Some (pair_kind v d)) (sym (same_is c w q)))))
+      each false q g = absurd cc
+
+  looped : (e : Expression) (t : Term) → ((a b : Kind) → term_output Γ t a ≡ Some b → Takes Γ t a b) → (a b : Kind) (o : Option Kind) → expression_type (names_of_values Γ) e ≡ o → heading_output LoopPre o (term_output Γ t) a ≡ Some b → FormTakes Γ (headed LoopPre e t) a b
+  looped e t F a b (Some c) h k = loops e t F a b c h (found_went (term_output Γ t) (first_beside c) (pair_kind a c) b k)
+  looped e t F a b None h k = absurd cc
+
+  form_found : (t : Term) → (a b : Kind) → form_output Γ t a ≡ Some b → FormTakes Γ t a b
+  form_found (primitive p) a b h = primitive_takes (primitive_found p a b h)
+  form_found (joined j f g) a b h = joins j f g (within f (form_found f)) (within g (form_found g)) (join_found j (term_output Γ f) (term_output Γ g) a b h)
+  form_found (sided d t) a b h = sides d t (within t (form_found t)) (side_found d (term_output Γ t) a b h)
+  form_found (headed LoopPre e t) a b h = looped e t (within t (form_found t)) a b (expression_type (names_of_values Γ) e) refl h
+  form_found (staged x f g) a b h = stages (within f (form_found f)) (within g (form_found g)) (found_went (term_output Γ f) (term_output Γ g) a b h)
+    where
+      stages : ((a b : Kind) → term_output Γ f a ≡ Some b → Takes Γ f a b) → ((a b : Kind) → term_output Γ g a ≡ Some b → Takes Γ g a b) → Went (term_output Γ f) (term_output Γ g) a b → FormTakes Γ (staged x f g) a b
+      stages F G (went h k) = stages_take (F _ _ h) (G _ _ k)
+
+  pub output_found : (t : Term) (a b : Kind) → term_output Γ t a ≡ Some b → Takes Γ t a b
+  output_found t = within t (form_found t)
+
+  mutual
+    pub takes_found : {t : Term} {a b : Kind} → Takes Γ t a b → term_output Γ t a ≡ Some b
+    takes_found {t} {a} {b} (takes p q F) = inside_fitting (form_output Γ t) a b p q (form_is F)
+
+    form_is : {t : Term} {a b : Kind} → FormTakes Γ t a b → form_output Γ t a ≡ Some b
+    form_is (primitive_takes P) = primitive_is P
+    form_is (sequence_takes F G) = rw (takes_found F) (takes_found G)
+    form_is (parallel_takes F G) = rw (takes_found F, takes_found G) refl
+    form_is (fan_takes F G) = rw (takes_found F, takes_found G) refl
+    form_is (first_takes F) = rw (takes_found F) refl
+    form_is (second_takes F) = rw (takes_found F) refl
+    form_is (loop_takes {t = t} {a = a} {b = b} {c = c} E F) =
+        ap (λ o. heading_output LoopPre o (term_output Γ t) a) (typed_found E) ∙ ap (λ o. found_then o (first_beside c)) (takes_found F) ∙ ap (λ s. cond s (Some b) None) (is_same c)
+    form_is (stages_take F G) = rw (takes_found F) (takes_found G)
+
+  -- ## What follows for terms that take inputs
+
+  pub takes_one : {t : Term} {a b c : Kind} → Takes Γ t a b → Takes Γ t a c → b ≡ c
+  takes_one h k = let f = takes_found h in let g = takes_found k in cc
+
+  pub input_fits : {t : Term} {a b : Kind} → Takes Γ t a b → Fits a
+  input_fits (takes f g h) = f
+
+  pub output_fits : {t : Term} {a b : Kind} → Takes Γ t a b → Fits b
+  output_fits (takes f g h) = g
+
+  pub form_of : {t : Term} {a b : Kind} → Takes Γ t a b → FormTakes Γ t a b
+  form_of (takes f g h) = h

@@ -1,0 +1,189 @@
+-- Where each life before gives a value, there is an outcome.
+use Rattle.std.proofs.Common.{◌≡◌, List, [], ◌∷◌, refl, sym, ap, ◌∙◌, subst}
+use Rattle.sf_value.specs.Values.{Data, pair, first_of, second_of}
+use Rattle.sf_value.specs.declared.fault.ValueFault.{ValueFault}
+use Rattle.sf_expr.specs.Expressions.{Expression}
+use Rattle.sf_expr.specs.Evaluation.{Evaluated, answer, failed, ◌>>=◌, eval}
+use Rattle.sf_term.specs.declared.form.Join.{Join}
+use Rattle.sf_term.specs.declared.form.Join.TheVariants.{InSequence, InParallel, FannedOut}
+use Rattle.sf_term.specs.declared.form.Side.{Side}
+use Rattle.sf_term.specs.declared.form.Heading.TheVariants.{LoopPre}
+use Rattle.sf_term.specs.Trees.{Extent, Term, primitive, joined, sided, headed, staged}
+use Rattle.sf_mean.specs.Lives.{Step, step, wait_of, input_of, Life, Process, closure, Environment, scope_of, with_inputs, fed, fed_back, older}
+use Rattle.sf_mean.specs.Formulas.{side_of}
+use Rattle.sf_mean.specs.Meaning.{Network, Outcome, gave, faulted, Cost, Made, value_made, left_life, right_life, Gives, gives, Outputs, not_begun, and_gave, Sample, of_constants, of_form, Form, of_primitive, of_join, of_side, of_loop, of_stages, goes_on, stops, Loops, no_loop, and_looped}
+use Rattle.sf_mean.proofs.TypedProcesses.{made_in}
+
+data Known {A : Type 0} (q : Evaluated A) : Type 0 where
+  answered : (a : A) → q ≡ answer a → Known q
+  refused : (x : ValueFault) → q ≡ failed x → Known q
+
+known : {A : Type 0} (q : Evaluated A) → Known q
+known (answer a) = answered a refl
+known (failed x) = refused x refl
+
+abbrev IsGave : Outcome → Type 0
+IsGave (gave y r) = Unit {0}
+IsGave (faulted x) = ⊥
+
+-- the newest step of the left part
+abbrev newest_left : Join → Step → Step
+newest_left InSequence s = s
+newest_left InParallel s = step (wait_of s) (first_of (input_of s))
+newest_left FannedOut s = s
+
+-- the newest step of the right part, where the left one gives y
+abbrev newest_right : Join → Step → Data → Step
+newest_right InSequence s y = step (wait_of s) y
+newest_right InParallel s y = step (wait_of s) (second_of (input_of s))
+newest_right FannedOut s y = s
+
+module _ (n : Network) where
+  pub data Has (P : Process) (s : Step) (L : Life) : Type 0 where
+    has : {o : Outcome} {c : Cost} → Sample n P s L o c → Has P s L
+
+  data Lived (P : Process) (L : Life) : Type 0 where
+    lived : {ys : List Data} → Outputs n P L ys → Lived P L
+
+  whole : {P : Process} {L : Life} {o : Outcome} {c : Cost} → Gives n P L o c → IsGave o → Lived P L
+  whole (gives {o = gave y r} A B) h = lived (and_gave A B)
+  whole (gives {o = faulted x} A B) h = absurd h
+
+  left_gives : (j : Join) (s : Step) (L : Life) {P : Process} {ys : List Data} {o : Outcome} {c : Cost} → Outputs n P (left_life j L) ys → Sample n P (newest_left j s) (left_life j L) o c → Gives n P (left_life j (s ∷ L)) o c
+  left_gives InSequence s L A B = gives A B
+  left_gives InParallel s L A B = gives A B
+  left_gives FannedOut s L A B = gives A B
+
+  right_gives : (j : Join) (s : Step) (y : Data) (L : Life) (ys : List Data) {P : Process} {zs : List Data} {o : Outcome} {c : Cost} → Outputs n P (right_life j L ys) zs → Sample n P (newest_right j s y) (right_life j L ys) o c → Gives n P (right_life j (s ∷ L) (y ∷ ys)) o c
+  right_gives InSequence s y L ys A B = gives A B
+  right_gives InParallel s y L ys A B = gives A B
+  right_gives FannedOut s y L ys A B = gives A B
+
+  left_outputs : (j : Join) (s : Step) (L : Life) {P : Process} {ys : List Data} {y : Data} {r : _} {c : Cost} → Outputs n P (left_life j L) ys → Gives n P (left_life j (s ∷ L)) (gave y r) c → Outputs n P (left_life j (s ∷ L)) (y ∷ ys)
+  left_outputs InSequence s L A (gives A' B) = and_gave A B
+  left_outputs InParallel s L A (gives A' B) = and_gave A B
+  left_outputs FannedOut s L A (gives A' B) = and_gave A B
+
+  data Joined (j : Join) (f g : Term) (e : Environment) (L : Life) : Type 0 where
+    joined_so : {ys : List Data} → Outputs n (closure f e) (left_life j L) ys → Lived (closure g e) (right_life j L ys) → Joined j f g e L
+
+  from_join : {j : Join} {f g : Term} {e : Environment} {m : Made} {s : Step} {L : Life} {q : Outcome} {c : Cost} → Form n (joined j f g) e m s L q c → IsGave q → Joined j f g e (s ∷ L)
+  from_join (of_join {j = j} {s = s} {L = L} {o = gave y r} {o' = gave z k} A B (goes_on D)) h = joined_so (left_outputs j s L A B) (whole D tt)
+  from_join (of_join {o = gave y r} {o' = faulted x} A B C) h = absurd h
+  from_join (of_join {o = faulted x} A B C) h = absurd h
+
+  join_at : {j : Join} {f g : Term} {e : Environment} {s : Step} {L : Life} {q : Outcome} {c : Cost} → Sample n (closure (joined j f g) e) s L q c → IsGave q → Joined j f g e (s ∷ L)
+  join_at (of_constants h) i = absurd i
+  join_at (of_form h F) i = from_join F i
+
+  no_join : (j : Join) {f g : Term} {e : Environment} → Joined j f g e []
+  no_join InSequence = joined_so not_begun (lived not_begun)
+  no_join InParallel = joined_so not_begun (lived not_begun)
+  no_join FannedOut = joined_so {ys = []} not_begun (lived not_begun)
+
+  join_lived : {j : Join} {f g : Term} {e : Environment} {L : Life} {ws : List Data} → Outputs n (closure (joined j f g) e) L ws → Joined j f g e L
+  join_lived {j = j} not_begun = no_join j
+  join_lived (and_gave A B) = join_at B tt
+
+  from_side : {d : Side} {t : Term} {e : Environment} {m : Made} {s : Step} {L : Life} {q : Outcome} {c : Cost} → Form n (sided d t) e m s L q c → IsGave q → Lived (closure t e) (with_inputs (side_of d) (s ∷ L))
+  from_side (of_side {o = gave y r} B) h = whole B tt
+  from_side (of_side {o = faulted x} B) h = absurd h
+
+  side_at : {d : Side} {t : Term} {e : Environment} {s : Step} {L : Life} {q : Outcome} {c : Cost} → Sample n (closure (sided d t) e) s L q c → IsGave q → Lived (closure t e) (with_inputs (side_of d) (s ∷ L))
+  side_at (of_constants h) i = absurd i
+  side_at (of_form h F) i = from_side F i
+
+  side_lived : {d : Side} {t : Term} {e : Environment} {L : Life} {ws : List Data} → Outputs n (closure (sided d t) e) L ws → Lived (closure t e) (with_inputs (side_of d) L)
+  side_lived not_begun = lived not_begun
+  side_lived (and_gave A B) = side_at B tt
+
+  -- a pipeline's values are those of its stages in sequence
+  as_joined_form : {x : Extent} {f g : Term} {e : Environment} {m : Made} {s : Step} {L : Life} {q : Outcome} {c : Cost} → Form n (staged x f g) e m s L q c → (d : Cost) × Form n (joined InSequence f g) e m s L q d
+  as_joined_form (of_stages A B C) = (_, of_join A B C)
+
+  as_joined_sample : {x : Extent} {f g : Term} {e : Environment} {s : Step} {L : Life} {q : Outcome} {c : Cost} → Sample n (closure (staged x f g) e) s L q c → (d : Cost) × Sample n (closure (joined InSequence f g) e) s L q d
+  as_joined_sample (of_constants h) = (_, of_constants h)
+  as_joined_sample (of_form h F) = (_, of_form h (as_joined_form F).1)
+
+  as_joined : {x : Extent} {f g : Term} {e : Environment} {L : Life} {ws : List Data} → Outputs n (closure (staged x f g) e) L ws → Outputs n (closure (joined InSequence f g) e) L ws
+  as_joined not_begun = not_begun
+  as_joined (and_gave A B) = and_gave (as_joined A) (as_joined_sample B).1
+
+  as_staged_form : (x : Extent) {f g : Term} {e : Environment} {m : Made} {s : Step} {L : Life} {q : Outcome} {c : Cost} → Form n (joined InSequence f g) e m s L q c → (d : Cost) × Form n (staged x f g) e m s L q d
+  as_staged_form x (of_join A B C) = (_, of_stages A B C)
+
+  as_staged : {x : Extent} {f g : Term} {e : Environment} {s : Step} {L : Life} → Has (closure (joined InSequence f g) e) s L → Has (closure (staged x f g) e) s L
+  as_staged (has (of_constants h)) = has (of_constants h)
+  as_staged {x = x} (has (of_form h F)) = has (of_form h (as_staged_form x F).1)
+
+  data Looped (v : Data) (P : Process) (L : Life) : Type 0 where
+    looped : {zs : List Data} → Loops n v P L zs → Lived P (fed v L (older zs)) → Looped v P L
+
+  from_loop : {i : Expression} {t : Term} {e : Environment} {v : Data} {m : Made} {s : Step} {L : Life} {q : Outcome} {c : Cost} → m ≡ value_made v → Form n (headed LoopPre i t) e m s L q c → IsGave q → Looped v (closure t e) (s ∷ L)
+  from_loop {t = t} {e = e} {v = v} k (of_loop {v = w} {s = s} {L = L} {o = gave z r} A B) h =
+      let N : Data → Type 0 = λ x. Looped x (closure t e) (s ∷ L) in
+      subst N (ap (λ m. made_in v (answer m)) k) (looped (and_looped A B) (whole B tt))
+  from_loop k (of_loop {o = faulted x} A B) h = absurd h
+
+  abbrev opened : Evaluated Data → Evaluated Made
+  opened q = q >>= λ v. answer (value_made v)
+
+  abbrev made_of : Evaluated Made → Made → Made
+  made_of (answer m) d = m
+  made_of (failed x) d = d
+
+  loop_at : {i : Expression} {t : Term} {e : Environment} {v : Data} {s : Step} {L : Life} {q : Outcome} {c : Cost} → eval i (scope_of e) ≡ answer v → Sample n (closure (headed LoopPre i t) e) s L q c → IsGave q → Looped v (closure t e) (s ∷ L)
+  loop_at k (of_constants h) z = absurd z
+  loop_at {v = v} k (of_form {m = m} h F) z = from_loop (ap (λ q. made_of q m) (sym h ∙ ap opened k)) F z
+
+  loop_lived : {i : Expression} {t : Term} {e : Environment} {v : Data} {L : Life} {ws : List Data} → eval i (scope_of e) ≡ answer v → Outputs n (closure (headed LoopPre i t) e) L ws → Looped v (closure t e) L
+  loop_lived k not_begun = looped no_loop (lived not_begun)
+  loop_lived k (and_gave A B) = loop_at k B tt
+
+  no_fault : {i : Expression} {t : Term} {e : Environment} {x : ValueFault} {s : Step} {L : Life} {q : Outcome} {c : Cost} → eval i (scope_of e) ≡ failed x → Sample n (closure (headed LoopPre i t) e) s L q c → IsGave q → ⊥
+  no_fault k (of_constants h) z = z
+  no_fault k (of_form h F) z = absurd (let e = sym (ap opened k) ∙ h in cc)
+
+  with_right : {j : Join} {f g : Term} {e : Environment} {s : Step} {L : Life} {ys : List Data} {y : Data} {r : _} {c : Cost} {zs : List Data}
+      → Outputs n (closure f e) (left_life j L) ys → Gives n (closure f e) (left_life j (s ∷ L)) (gave y r) c → Outputs n (closure g e) (right_life j L ys) zs
+      → Has (closure g e) (newest_right j s y) (right_life j L ys) → Has (closure (joined j f g) e) s L
+  with_right {j = j} {s = s} {L = L} {ys = ys} {y = y} A G B (has S) = has (of_form refl (of_join A G (goes_on (right_gives j s y L ys B S))))
+
+  with_left : {j : Join} {f g : Term} {e : Environment} {s : Step} {L : Life} {ys : List Data}
+      → Outputs n (closure f e) (left_life j L) ys → Lived (closure g e) (right_life j L ys) → Has (closure f e) (newest_left j s) (left_life j L)
+      → ((y : Data) (zs : List Data) → Outputs n (closure g e) (right_life j L ys) zs → Has (closure g e) (newest_right j s y) (right_life j L ys)) → Has (closure (joined j f g) e) s L
+  with_left {j = j} {s = s} {L = L} A (lived {ys = zs} B) (has {o = gave y r} S) right = with_right A (left_gives j s L A S) B (right y zs B)
+  with_left {j = j} {s = s} {L = L} A (lived B) (has {o = faulted x} S) right = has (of_form refl (of_join A (left_gives j s L A S) stops))
+
+  with_part : {d : Side} {t : Term} {e : Environment} {s : Step} {L : Life} {ys : List Data}
+      → Outputs n (closure t e) (with_inputs (side_of d) L) ys → Has (closure t e) (step (wait_of s) (side_of d (input_of s))) (with_inputs (side_of d) L) → Has (closure (sided d t) e) s L
+  with_part A (has S) = has (of_form refl (of_side (gives A S)))
+
+  with_loop : {i : Expression} {t : Term} {e : Environment} {v : Data} {s : Step} {L : Life} {zs us : List Data}
+      → eval i (scope_of e) ≡ answer v → Loops n v (closure t e) L zs → Outputs n (closure t e) (fed v L (older zs)) us
+      → Has (closure t e) (step (wait_of s) (pair (input_of s) (fed_back v zs))) (fed v L (older zs)) → Has (closure (headed LoopPre i t) e) s L
+  with_loop k A B (has S) = has (of_form (ap opened k) (of_loop A (gives B S)))
+
+  constants_fail : {i : Expression} {t : Term} {e : Environment} {x : ValueFault} (s : Step) {L : Life} {ws : List Data} → eval i (scope_of e) ≡ failed x → Outputs n (closure (headed LoopPre i t) e) L ws → Has (closure (headed LoopPre i t) e) s L
+  constants_fail s k not_begun = has (of_constants (ap opened k))
+  constants_fail s k (and_gave A B) = absurd (no_fault k B tt)
+
+  pub total : (t : Term) (e : Environment) (s : Step) (L : Life) {ws : List Data} → Outputs n (closure t e) L ws → Has (closure t e) s L
+  total (primitive p) e s L O = has (of_form refl (of_primitive refl))
+  total (joined j f g) e s L O =
+      elim (join_lived O) [ joined_so A B ↦ with_left A B (total f e (newest_left j s) (left_life j L) A) (λ y zs B'. total g e (newest_right j s y) _ B') ]
+  total (sided d t) e s L O =
+      elim (side_lived O) [ lived A ↦ with_part A (total t e _ _ A) ]
+  total (headed LoopPre i t) e s L O =
+      elim (known (eval i (scope_of e))) [
+        | refused x k ↦ constants_fail s k O
+        | answered v k ↦ elim (loop_lived k O) [ looped A R ↦ elim R [ lived B ↦ with_loop k A B (total t e _ _ B) ] ]
+      ]
+  total (staged x f g) e s L O =
+      elim (join_lived (as_joined O)) [ joined_so A B ↦ as_staged (with_left A B (total f e s L A) (λ y zs B'. total g e (step (wait_of s) y) _ B')) ]
+
+  found : {P : Process} {s : Step} {L : Life} {ws : List Data} → Outputs n P L ws → Has P s L → (o : Outcome) × ((c : Cost) × Gives n P (s ∷ L) o c)
+  found O (has S) = (_, (_, gives O S))
+
+  pub some_outcome : (P : Process) (s : Step) (L : Life) {ws : List Data} → Outputs n P L ws → (o : Outcome) × ((c : Cost) × Gives n P (s ∷ L) o c)
+  some_outcome (closure t e) s L O = found O (total t e s L O)

@@ -1,0 +1,50 @@
+-- What terms are typed under.
+use Rattle.std.specs.Prelude.{List, [], ◌∷◌, map}
+use Rattle.sf_value.specs.Values.{Name, Kind}
+use Rattle.sf_expr.specs.Typing.{Names}
+use Rattle.sf_term.specs.Trees.{Template, Templates}
+
+-- What a name stands for: a value of a type. Processes from a type to a type and keyed collections of a type will be
+-- further constructors, when there are forms that bind them.
+pub data NameKind : Type 0 where
+  value : Kind → NameKind
+
+-- The names that are bound where a term stands, each with what it stands for, the innermost first.
+abbrev pub Bindings : Type 0
+Bindings = List (Name × NameKind)
+
+-- What calls know of a template: its name, and the types of its inputs and outputs. Its parameters will stand beside them.
+pub record Signature : Type 0 where
+  pub name : Name
+  pub input : Kind
+  pub output : Kind
+
+-- the signature in a template's header
+abbrev pub signature_of : Template → Signature
+signature_of t = record { name = t.name; input = t.input; output = t.output }
+
+-- What a term is typed under: the names that are bound around it, and the signatures of the templates.
+pub record Context : Type 0 where
+  pub bindings : Bindings
+  pub signatures : List Signature
+
+-- the names that are bound, over the signatures of templates
+abbrev pub context_with : Bindings → Templates → Context
+context_with bs ts = record { bindings = bs; signatures = map signature_of ts }
+
+-- what the body of a template is typed under: no names
+abbrev pub context_of : Templates → Context
+context_of ts = context_with [] ts
+
+-- names with one more, if it stands for a value
+abbrev pub with_value_of : Name → NameKind → Names → Names
+with_value_of x (value t) R = (x, t) ∷ R
+
+-- the names that stand for values, with their types
+abbrev pub values_in : Bindings → Names
+values_in [] = []
+values_in (b ∷ bs) = with_value_of b.0 b.1 (values_in bs)
+
+-- what expressions are typed under
+abbrev pub names_of_values : Context → Names
+names_of_values Γ = values_in Γ.bindings

@@ -1,0 +1,85 @@
+-- The output types of terms under a context, found by a function.
+use Rattle.std.specs.Prelude.{Bool, true, false, ◌&&◌, nat_le, cond, Option, Some, None}
+use Rattle.sf_value.specs.Values.{Kind, int_kind, pair_kind, nodes}
+use Rattle.sf_expr.specs.Inference.{found_then, fitting, expression_type, function_output}
+use Rattle.sf_term.specs.declared.form.Bare.TheVariants.{Identity}
+use Rattle.sf_term.specs.declared.form.WithValue.TheVariants.{Constant, InitialPre}
+use Rattle.sf_term.specs.declared.form.Join.{Join}
+use Rattle.sf_term.specs.declared.form.Join.TheVariants.{InSequence, InParallel, FannedOut}
+use Rattle.sf_term.specs.declared.form.Side.{Side}
+use Rattle.sf_term.specs.declared.form.Side.TheVariants.{First, Second}
+use Rattle.sf_term.specs.declared.form.Heading.{Heading}
+use Rattle.sf_term.specs.declared.form.Heading.TheVariants.{LoopPre}
+use Rattle.sf_term.specs.Trees.{Chain, lone, chained, on_side, on_both, fanned, Primitive, bare, with_value, arrow, fused, Term, primitive, joined, sided, headed, staged}
+use Rattle.sf_mean.specs.Contexts.{Context, names_of_values}
+
+-- What finds an output type for an input type, if inputs of that type are taken.
+abbrev pub Finds : Type 0
+Finds = Kind → Option Kind
+
+-- whether two types are the same
+abbrev pub same_kind : Kind → Kind → Bool
+same_kind int_kind int_kind = true
+same_kind (pair_kind t u) (pair_kind v w) = same_kind t v && same_kind u w
+same_kind t u = false
+
+-- the type of pairs of two outputs
+abbrev pub both_outputs : Option Kind → Option Kind → Option Kind
+both_outputs (Some t) (Some u) = Some (pair_kind t u)
+both_outputs (Some t) None = None
+both_outputs None u = None
+
+-- the output of two parts that are joined
+abbrev pub join_output : Join → Finds → Finds → Finds
+join_output InSequence f g a = found_then (f a) g
+join_output InParallel f g int_kind = None
+join_output InParallel f g (pair_kind a c) = both_outputs (f a) (g c)
+join_output FannedOut f g a = both_outputs (f a) (g a)
+
+-- the output of a part on one side of a pair
+abbrev pub side_output : Side → Finds → Finds
+side_output d f int_kind = None
+side_output First f (pair_kind a c) = found_then (f a) (λ b. Some (pair_kind b c))
+side_output Second f (pair_kind c a) = found_then (f a) (λ b. Some (pair_kind c b))
+
+-- the first part of a type of pairs whose second part is this type
+abbrev pub first_beside : Kind → Finds
+first_beside c int_kind = None
+first_beside c (pair_kind b d) = cond (same_kind c d) (Some b) None
+
+-- the output of a part whose second output is fed back, at first as a value of the type that was found
+abbrev pub heading_output : Heading → Option Kind → Finds → Finds
+heading_output LoopPre None f a = None
+heading_output LoopPre (Some c) f a = found_then (f (pair_kind a c)) (first_beside c)
+
+-- the output of functions made into one
+abbrev pub chain_output : Context → Chain → Finds
+chain_output Γ (lone f) a = function_output (names_of_values Γ) f a
+chain_output Γ (chained f g) a = join_output InSequence (chain_output Γ f) (chain_output Γ g) a
+chain_output Γ (on_side d f) a = side_output d (chain_output Γ f) a
+chain_output Γ (on_both f g) a = join_output InParallel (chain_output Γ f) (chain_output Γ g) a
+chain_output Γ (fanned f g) a = join_output FannedOut (chain_output Γ f) (chain_output Γ g) a
+
+-- the output of a primitive
+abbrev pub primitive_output : Context → Primitive → Finds
+primitive_output Γ (bare Identity) a = Some a
+primitive_output Γ (with_value Constant e) a = expression_type (names_of_values Γ) e
+primitive_output Γ (with_value InitialPre e) a = found_then (expression_type (names_of_values Γ) e) (λ b. cond (same_kind a b) (Some a) None)
+primitive_output Γ (arrow f) a = function_output (names_of_values Γ) f a
+primitive_output Γ (fused f) a = found_then (chain_output Γ f a) fitting
+
+-- inputs and outputs have types of at most 256 nodes
+abbrev pub with_fitting : Finds → Finds
+with_fitting f a = cond (nat_le (nodes a) 256) (found_then (f a) fitting) None
+
+-- the output of each form of terms, where the types of its parts have at most 256 nodes
+abbrev pub form_output : Context → Term → Finds
+form_output Γ (primitive p) a = primitive_output Γ p a
+form_output Γ (joined j f g) a = join_output j (with_fitting (form_output Γ f)) (with_fitting (form_output Γ g)) a
+form_output Γ (sided d t) a = side_output d (with_fitting (form_output Γ t)) a
+form_output Γ (headed h e t) a = heading_output h (expression_type (names_of_values Γ) e) (with_fitting (form_output Γ t)) a
+form_output Γ (staged x f g) a = join_output InSequence (with_fitting (form_output Γ f)) (with_fitting (form_output Γ g)) a
+
+-- the type of the outputs of a term for inputs of a type, if it takes them
+abbrev pub term_output : Context → Term → Finds
+term_output Γ t = with_fitting (form_output Γ t)

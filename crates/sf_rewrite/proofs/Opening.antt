@@ -1,0 +1,53 @@
+-- Networks opened down to the forms that no law looks into, and closed again.
+use Rattle.std.proofs.Common.{◌≡◌, List, refl, ap}
+use Rattle.sf_value.specs.Values.{Data}
+use Rattle.sf_value.specs.declared.fault.ValueFault.{ValueFault}
+use Rattle.sf_expr.specs.Evaluation.{Evaluated, answer, failed, ◌>>=◌}
+use Rattle.sf_term.specs.Trees.{Term}
+use Rattle.sf_mean.specs.Lives.{Step, Life, closure, Environment}
+use Rattle.sf_mean.specs.Meaning.{Network, Outcome, Cost, Made, value_made, Gives, gives, Outputs, not_begun, and_gave, Sample, of_constants, of_form, of_primitive, of_join, of_side, of_loop, of_stages, Next, goes_on, stops, Loops, no_loop, and_looped}
+use Rattle.sf_mean.proofs.Once.{fault_of}
+use Rattle.sf_mean.proofs.TypedProcesses.{made_in}
+use Rattle.sf_rewrite.proofs.Parts.{Leaves, Part, part, Parts, begins, then_gave, At, at_leaf, at_primitive, at_join, at_stages, at_side, at_loop, at_constant, Then, then_part, then_stops, Rounds, no_round, one_round}
+
+-- a head's value, from what a form is made with
+abbrev made : Evaluated Data → Evaluated Made
+made v = v >>= λ v. answer (value_made v)
+
+pub made_answer : (q : Evaluated Data) {v : Data} → made q ≡ answer (value_made v) → q ≡ answer v
+made_answer (answer w) {v} h = ap (λ m. answer (made_in v m)) h
+made_answer (failed x) h = absurd cc
+
+pub made_fault : (q : Evaluated Data) {x : ValueFault} → made q ≡ failed x → q ≡ failed x
+made_fault (answer w) h = absurd cc
+made_fault (failed y) h = ap (λ m. failed (fault_of m)) h
+
+-- back to processes
+module _ (n : Network) where
+  abbrev pub Leaf : Leaves
+  Leaf t e s L o c = Sample n (closure t e) s L o c
+
+  mutual
+    pub closed : {t : Term} {e : Environment} {s : Step} {L : Life} {o : Outcome} {c : Cost} → At Leaf t e s L o c → Sample n (closure t e) s L o c
+    closed (at_leaf h A) = A
+    closed at_primitive = of_form refl (of_primitive refl)
+    closed (at_join A B C) = of_form refl (of_join (closed_all A) (closed_part B) (closed_then C))
+    closed (at_stages A B C) = of_form refl (of_stages (closed_all A) (closed_part B) (closed_then C))
+    closed (at_side A) = of_form refl (of_side (closed_part A))
+    closed (at_loop h A B) = of_form (ap made h) (of_loop (closed_rounds A) (closed_part B))
+    closed (at_constant h) = of_constants (ap made h)
+
+    pub closed_part : {t : Term} {e : Environment} {L : Life} {o : Outcome} {c : Cost} → Part Leaf t e L o c → Gives n (closure t e) L o c
+    closed_part (part A B) = gives (closed_all A) (closed B)
+
+    pub closed_all : {t : Term} {e : Environment} {L : Life} {ys : List Data} → Parts Leaf t e L ys → Outputs n (closure t e) L ys
+    closed_all begins = not_begun
+    closed_all (then_gave A B) = and_gave (closed_all A) (closed B)
+
+    pub closed_then : {p : Outcome} {t : Term} {e : Environment} {L : Life} {o : Outcome} {c : Cost} → Then Leaf p t e L o c → Next n p t e L o c
+    closed_then (then_part A) = goes_on (closed_part A)
+    closed_then then_stops = stops
+
+    closed_rounds : {v : Data} {t : Term} {e : Environment} {L : Life} {ys : List Data} → Rounds Leaf v t e L ys → Loops n v (closure t e) L ys
+    closed_rounds no_round = no_loop
+    closed_rounds (one_round A B) = and_looped (closed_rounds A) (closed_part B)

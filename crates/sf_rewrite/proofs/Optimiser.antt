@@ -1,0 +1,394 @@
+-- Each network has a plan: an optimiser on trees, with what its laws make and the form of it.
+use Rattle.std.proofs.Common.{pos, ◌≡◌, Bool, true, false, IsTrue, refl, sym, subst, ◌⊎◌, inl, inr}
+use Rattle.sf_expr.specs.declared.operator.Operator.TheVariants.{Divide}
+use Rattle.sf_expr.specs.Expressions.{Expression, unnamed, literal, int_literal, operation, Function, function}
+use Rattle.sf_term.specs.declared.form.Bare.TheVariants.{Identity}
+use Rattle.sf_term.specs.declared.form.WithValue.TheVariants.{Constant, InitialPre}
+use Rattle.sf_term.specs.declared.form.Join.TheVariants.{InSequence, InParallel, FannedOut}
+use Rattle.sf_term.specs.declared.form.Side.{Side}
+use Rattle.sf_term.specs.declared.form.Side.TheVariants.{First, Second}
+use Rattle.sf_term.specs.declared.form.Heading.TheVariants.{LoopPre}
+use Rattle.sf_term.specs.Trees.{Chain, lone, chained, on_side, on_both, fanned, bare, with_value, arrow, fused, Extent, whole, rest, Term, primitive, joined, sided, headed, staged}
+use Rattle.sf_rewrite.specs.Quiet.{is_quiet_expression, is_quiet}
+use Rattle.sf_rewrite.specs.Laws.{identity, constant, arr, loop_pre, Laws, unchanged, in_turn, in_join, in_stages, in_side, as_pipeline, within_pipeline, associate_right, associate_left, identity_before, identity_after, arr_as_chain, arr_composed, arr_on_side, arr_in_parallel, arr_fanned_out, sides_composed, exchanged, constant_after, left_tightened, right_tightened}
+use Rattle.sf_rewrite.specs.Plans.{Plans, plans, of_primitive, of_join, of_side, of_heading}
+use Rattle.sf_rewrite.specs.Normal.{is_arr, is_stage, may_meet, IsPlan, plan_primitive, plan_join, plan_side, plan_heading, plan_pipeline, IsRest, last_stage, more_stages, is_written}
+use Rattle.sf_rewrite.proofs.Parts.{no_truth}
+use Rattle.sf_mean.proofs.Inferred.{both_true}
+
+-- what laws make of a term: a plan
+pub record Planned (t : Term) : Type 0 where
+  pub term : Term
+  pub is : IsPlan term
+  pub law : Laws t term
+
+pub decided : (b : Bool) → IsTrue b ⊎ (b ≡ false)
+decided true = inl refl
+decided false = inr refl
+
+-- ## What is `arr`
+
+data Arr (t : Term) : Type 0 where
+  an_arr : (f : Chain) → Laws t (arr f) → is_arr t ≡ true → Arr t
+  no_arr : is_arr t ≡ false → Arr t
+
+arr_view : (t : Term) → Arr t
+arr_view (primitive (bare k)) = no_arr refl
+arr_view (primitive (with_value k i)) = no_arr refl
+arr_view (primitive (arrow f)) = an_arr (lone f) arr_as_chain refl
+arr_view (primitive (fused f)) = an_arr f unchanged refl
+arr_view (joined j f g) = no_arr refl
+arr_view (sided d t) = no_arr refl
+arr_view (headed h i t) = no_arr refl
+arr_view (staged x f g) = no_arr refl
+
+data IsConstant (t : Term) : Type 0 where
+  a_constant : (i : Expression) → t ≡ constant i → IsConstant t
+  no_constant : IsConstant t
+
+constant_view : (t : Term) → IsConstant t
+constant_view (primitive (bare k)) = no_constant
+constant_view (primitive (with_value Constant i)) = a_constant i refl
+constant_view (primitive (with_value InitialPre i)) = no_constant
+constant_view (primitive (arrow f)) = no_constant
+constant_view (primitive (fused f)) = no_constant
+constant_view (joined j f g) = no_constant
+constant_view (sided d t) = no_constant
+constant_view (headed h i t) = no_constant
+constant_view (staged x f g) = no_constant
+
+-- ## Neighbours
+
+meets_left : (a b : Bool) → a ≡ false → IsTrue (may_meet a b)
+meets_left true b h = absurd (no_truth (sym h))
+meets_left false b h = refl
+
+meets_right : (a b : Bool) → b ≡ false → IsTrue (may_meet a b)
+meets_right true true h = absurd (no_truth (sym h))
+meets_right true false h = refl
+meets_right false b h = refl
+
+-- two neighbours become one, which is `arr` where the second was; or they stay
+data Merged (a b : Term) : Type 0 where
+  into : (c : Term) → IsPlan c → IsTrue (is_stage c) → is_arr c ≡ is_arr b → ((x : Extent) → Laws (staged x a b) c) → Merged a b
+  apart : IsTrue (may_meet (is_arr a) (is_arr b)) → Merged a b
+
+-- a quiet stage before a constant is dropped
+before_constant : (a : Term) (i : Expression) → Merged a (constant i)
+before_constant a i = elim (decided (is_quiet a)) [
+  | inl h ↦ into (constant i) plan_primitive refl refl (λ x. constant_after h)
+  | inr h ↦ apart (meets_right (is_arr a) false refl)
+]
+
+-- two functions become one
+arrs : (a b : Term) → Arr a → Arr b → Merged a b
+arrs a b (an_arr f F k) (an_arr g G l) = into (arr (chained f g)) plan_primitive refl (sym l) (λ x. in_turn (in_stages F G) arr_composed)
+arrs a b (an_arr f F k) (no_arr l) = apart (meets_right (is_arr a) (is_arr b) l)
+arrs a b (no_arr k) B = apart (meets_left (is_arr a) (is_arr b) k)
+
+merged : (a b : Term) → Merged a b
+merged a b = elim (constant_view b) [
+  | a_constant i h ↦ subst (Merged a) (sym h) (before_constant a i)
+  | no_constant ↦ arrs a b (arr_view a) (arr_view b)
+]
+
+-- ## The rest of a pipeline
+
+rest_after : {a c r : Term} → is_arr c ≡ is_arr a → IsRest a r → IsRest c r
+rest_after e (last_stage {t = t} P S M) = last_stage P S (subst (λ b. IsTrue (may_meet b (is_arr t))) (sym e) M)
+rest_after e (more_stages {t = t} P S M R) = more_stages P S (subst (λ b. IsTrue (may_meet b (is_arr t))) (sym e) M) R
+
+-- stages that stand after none
+abbrev IsTail : Term → Type 0
+IsTail r = IsRest identity r
+
+record Tail (t : Term) : Type 0 where
+  term : Term
+  is : IsTail term
+  law : Laws t term
+
+-- a stage before others
+pushed : (a : Term) → IsPlan a → IsTrue (is_stage a) → {r : Term} → IsTail r → Tail (staged rest a r)
+pushed a P S (last_stage {t = b} Q T M) = elim (merged a b) [
+  | into c C D e law ↦ record { term = c; is = last_stage C D refl; law = law rest }
+  | apart h ↦ record { term = staged rest a b; is = more_stages P S refl (last_stage Q T h); law = unchanged }
+]
+pushed a P S (more_stages {t = b} {r = r} Q T M R) = elim (merged a b) [
+  | into c C D e law ↦ record { term = staged rest c r; is = more_stages C D refl (rest_after e R); law = in_turn associate_left (in_stages (law rest) unchanged) }
+  | apart h ↦ record { term = staged rest a (staged rest b r); is = more_stages P S refl (more_stages Q T h R); law = unchanged }
+]
+
+-- the same at the head of a pipeline
+headed_by : (a : Term) → IsPlan a → IsTrue (is_stage a) → {r : Term} → IsTail r → Planned (staged whole a r)
+headed_by a P S (last_stage {t = b} Q T M) = elim (merged a b) [
+  | into c C D e law ↦ record { term = c; is = C; law = law whole }
+  | apart h ↦ record { term = staged whole a b; is = plan_pipeline P S (last_stage Q T h); law = unchanged }
+]
+headed_by a P S (more_stages {t = b} {r = r} Q T M R) = elim (merged a b) [
+  | into c C D e law ↦ record { term = staged whole c r; is = plan_pipeline C D (rest_after e R); law = in_turn associate_left (in_stages (law rest) unchanged) }
+  | apart h ↦ record { term = staged whole a (staged rest b r); is = plan_pipeline P S (more_stages Q T h R); law = unchanged }
+]
+
+-- stages before others
+appended : {a r g : Term} → IsRest a r → IsTail g → Tail (staged rest r g)
+appended (last_stage {t = t} P S M) G = pushed t P S G
+appended (more_stages {t = t} P S M R) G =
+    let k = appended R G in
+    let l = pushed t P S k.is in
+    record { term = l.term; is = l.is; law = in_turn associate_right (in_turn (in_stages unchanged k.law) l.law) }
+
+-- ## Pipelines
+
+-- a plan by its stages
+data Staged (t : Term) : Type 0 where
+  no_stage : t ≡ identity → Staged t
+  one_stage : IsTrue (is_stage t) → Staged t
+  some_stages : (a r : Term) → t ≡ staged whole a r → IsPlan a → IsTrue (is_stage a) → IsRest a r → Staged t
+
+stages : {t : Term} → IsPlan t → Staged t
+stages (plan_primitive {p = bare Identity}) = no_stage refl
+stages (plan_primitive {p = with_value k i}) = one_stage refl
+stages (plan_primitive {p = arrow f}) = one_stage refl
+stages (plan_primitive {p = fused f}) = one_stage refl
+stages (plan_join h P Q) = one_stage h
+stages (plan_side P) = one_stage refl
+stages (plan_heading P) = one_stage refl
+stages (plan_pipeline P S R) = some_stages _ _ refl P S R
+
+-- what stands after others, as stages
+tail : {g : Term} → IsPlan g → Staged g → (g ≡ identity) ⊎ Tail g
+tail G (no_stage h) = inl h
+tail G (one_stage S) = inr (record { term = _; is = last_stage G S refl; law = unchanged })
+tail {g} G (some_stages b r h P S R) = inr (subst Tail (sym h) (record { term = staged rest b r; is = more_stages P S refl R; law = within_pipeline }))
+
+before_tail : {f g : Term} → IsPlan f → Staged f → IsPlan g → Tail g → Planned (staged whole f g)
+before_tail {f} {g} F (no_stage h) G k = subst (λ f. Planned (staged whole f g)) (sym h) (record { term = g; is = G; law = identity_before })
+before_tail {f} {g} F (one_stage S) G k = let l = headed_by f F S k.is in record { term = l.term; is = l.is; law = in_turn (in_stages unchanged k.law) l.law }
+before_tail {f} {g} F (some_stages a r h P S R) G k =
+    let m = appended R k.is in
+    let l = headed_by a P S m.is in
+    subst (λ f. Planned (staged whole f g)) (sym h) (record {
+      term = l.term;
+      is = l.is;
+      law = in_turn (in_stages within_pipeline k.law) (in_turn associate_right (in_turn (in_stages unchanged m.law) l.law));
+    })
+
+one_after_another : {f g : Term} → IsPlan f → IsPlan g → Planned (staged whole f g)
+one_after_another {f} {g} F G = elim (tail G (stages G)) [
+  | inl h ↦ subst (λ g. Planned (staged whole f g)) (sym h) (record { term = f; is = F; law = identity_after })
+  | inr k ↦ before_tail F (stages F) G k
+]
+
+-- ## Forms with parts
+
+in_planned : {t u : Term} → Laws t u → Planned u → Planned t
+in_planned A k = record { term = k.term; is = k.is; law = in_turn A k.law }
+
+on_a_side : (d : Side) {t : Term} → IsPlan t → Planned (sided d t)
+on_a_side d {t} P = elim (arr_view t) [
+  | an_arr f F h ↦ record { term = arr (on_side d f); is = plan_primitive; law = in_turn (in_side F) arr_on_side }
+  | no_arr h ↦ record { term = sided d t; is = plan_side P; law = unchanged }
+]
+
+side_by_side : {f g : Term} → IsPlan f → IsPlan g → Arr f → Arr g → Planned (joined InParallel f g)
+side_by_side F G (an_arr f k h) (an_arr g l i) = record { term = arr (on_both f g); is = plan_primitive; law = in_turn (in_join k l) arr_in_parallel }
+side_by_side F G (an_arr f k h) (no_arr i) = record { term = _; is = plan_join refl F G; law = unchanged }
+side_by_side F G (no_arr h) B = record { term = _; is = plan_join refl F G; law = unchanged }
+
+in_parallel : {f g : Term} → IsPlan f → IsPlan g → Planned (joined InParallel f g)
+in_parallel {f} {g} F G = side_by_side F G (arr_view f) (arr_view g)
+
+both_on : {f g : Term} → IsPlan f → IsPlan g → Arr f → Arr g → Planned (joined FannedOut f g)
+both_on F G (an_arr f k h) (an_arr g l i) = record { term = arr (fanned f g); is = plan_primitive; law = in_turn (in_join k l) arr_fanned_out }
+both_on F G (an_arr f k h) (no_arr i) = record { term = _; is = plan_join refl F G; law = unchanged }
+both_on F G (no_arr h) B = record { term = _; is = plan_join refl F G; law = unchanged }
+
+fanned_out : {f g : Term} → IsPlan f → IsPlan g → Planned (joined FannedOut f g)
+fanned_out {f} {g} F G = both_on F G (arr_view f) (arr_view g)
+
+-- ## `>>>`
+
+compose_sides : (d : Side) {f g : Term} → Planned (staged whole f g) → Planned (staged whole (sided d f) (sided d g))
+compose_sides d k = in_planned (in_turn sides_composed (in_side k.law)) (on_a_side d k.is)
+
+exchange : {f g h k : Term} → Laws (staged whole (joined InParallel f g) (joined InParallel h k)) (joined InParallel (staged whole f h) (staged whole g k)) → Planned (staged whole f h) → Planned (staged whole g k)
+    → Planned (staged whole (joined InParallel f g) (joined InParallel h k))
+exchange law p q = in_planned (in_turn law (in_join p.law q.law)) (in_parallel p.is q.is)
+
+pub in_sequence : {f g : Term} → IsPlan f → IsPlan g → Planned (staged whole f g)
+in_sequence (plan_side {d = First} F) (plan_side {d = First} G) = compose_sides First (in_sequence F G)
+in_sequence (plan_side {d = Second} F) (plan_side {d = Second} G) = compose_sides Second (in_sequence F G)
+in_sequence (plan_join {j = InParallel} {f = f} {g = g} x F G) (plan_join {j = InParallel} {f = h} {g = k} y H K) = elim (decided (is_quiet g)) [
+  | inl q ↦ exchange (exchanged (inl q)) (in_sequence F H) (in_sequence G K)
+  | inr q ↦ elim (decided (is_quiet h)) [
+    | inl q ↦ exchange (exchanged (inr q)) (in_sequence F H) (in_sequence G K)
+    | inr q ↦ one_after_another (plan_join x F G) (plan_join y H K)
+  ]
+]
+in_sequence F G = one_after_another F G
+
+-- ## Loops
+
+looped : {i : Expression} {t : Term} → IsPlan t → Planned (loop_pre i t)
+looped P = record { term = _; is = plan_heading P; law = unchanged }
+
+-- what comes before and isn't fed back
+before_loop : {i : Expression} {f g : Term} → IsPlan f → IsPlan g → IsTrue (is_stage g) → Planned (loop_pre i (staged whole (sided First f) g))
+before_loop {i} {f} {g} F G S = elim (decided (is_quiet_expression i)) [
+  | inl q ↦ in_planned (left_tightened (inl q)) (in_sequence F (plan_heading {h = LoopPre} {i = i} G))
+  | inr q ↦ elim (decided (is_quiet f)) [
+    | inl q ↦ in_planned (left_tightened (inr q)) (in_sequence F (plan_heading {h = LoopPre} {i = i} G))
+    | inr q ↦ looped (plan_pipeline (plan_side F) refl (last_stage G S refl))
+  ]
+]
+
+pub in_loop : {i : Expression} {t : Term} → IsPlan t → Planned (loop_pre i t)
+in_loop {i = i} (plan_pipeline P S (last_stage (plan_side {d = First} Q) T M)) = in_planned right_tightened (in_sequence (plan_heading {h = LoopPre} {i = i} P) Q)
+in_loop (plan_pipeline (plan_side {d = First} P) S (last_stage Q T M)) = before_loop P Q T
+in_loop P = looped P
+
+-- ## Networks
+
+pub record Optimised (t : Term) : Type 0 where
+  pub term : Term
+  pub plans : Plans t term
+  pub is : IsPlan term
+
+pub optimised : (t : Term) → IsTrue (is_written t) → Optimised t
+optimised (primitive p) h = record { term = primitive p; plans = plans of_primitive unchanged; is = plan_primitive }
+optimised (joined InSequence f g) h =
+    let w = both_true (is_written f) (is_written g) h in
+    let p = optimised f w.0 in
+    let q = optimised g w.1 in
+    let k = in_sequence p.is q.is in
+    record { term = k.term; plans = plans (of_join p.plans q.plans) (in_turn as_pipeline k.law); is = k.is }
+optimised (joined InParallel f g) h =
+    let w = both_true (is_written f) (is_written g) h in
+    let p = optimised f w.0 in
+    let q = optimised g w.1 in
+    let k = in_parallel p.is q.is in
+    record { term = k.term; plans = plans (of_join p.plans q.plans) k.law; is = k.is }
+optimised (joined FannedOut f g) h =
+    let w = both_true (is_written f) (is_written g) h in
+    let p = optimised f w.0 in
+    let q = optimised g w.1 in
+    let k = fanned_out p.is q.is in
+    record { term = k.term; plans = plans (of_join p.plans q.plans) k.law; is = k.is }
+optimised (sided d t) h =
+    let p = optimised t h in
+    let k = on_a_side d p.is in
+    record { term = k.term; plans = plans (of_side p.plans) k.law; is = k.is }
+optimised (headed LoopPre i t) h =
+    let p = optimised t h in
+    let k = in_loop p.is in
+    record { term = k.term; plans = plans (of_heading p.plans) k.law; is = k.is }
+optimised (staged x f g) h = absurd (no_truth h)
+
+-- ## Each law is applied where its left side stands alone
+
+abbrev one : Expression
+one = literal (int_literal (pos 1))
+
+abbrev two : Expression
+two = operation one Divide one
+
+-- a quiet part, and parts that may fail
+abbrev q : Term
+q = primitive (with_value InitialPre one)
+
+abbrev f : Term
+f = primitive (with_value InitialPre two)
+
+abbrev g : Term
+g = joined InParallel f f
+
+abbrev x : Function
+x = function unnamed one
+
+abbrev y : Function
+y = function unnamed two
+
+abbrev on : Function → Term
+on k = primitive (arrow k)
+
+identity_before_applied : (optimised (joined InSequence identity f) refl).term ≡ f
+unfolding optimised in_sequence one_after_another before_tail tail stages headed_by pushed appended merged arrs before_constant arr_view constant_view in_parallel side_by_side fanned_out both_on on_a_side in_loop before_loop looped compose_sides exchange in_planned decided
+identity_before_applied = refl
+
+identity_after_applied : (optimised (joined InSequence f identity) refl).term ≡ f
+unfolding optimised in_sequence one_after_another before_tail tail stages headed_by pushed appended merged arrs before_constant arr_view constant_view in_parallel side_by_side fanned_out both_on on_a_side in_loop before_loop looped compose_sides exchange in_planned decided
+identity_after_applied = refl
+
+brackets_dropped : (optimised (joined InSequence (joined InSequence f g) (joined InSequence f g)) refl).term ≡ staged whole f (staged rest g (staged rest f g))
+unfolding optimised in_sequence one_after_another before_tail tail stages headed_by pushed appended merged arrs before_constant arr_view constant_view in_parallel side_by_side fanned_out both_on on_a_side in_loop before_loop looped compose_sides exchange in_planned decided
+brackets_dropped = refl
+
+arr_composed_applied : (optimised (joined InSequence (joined InSequence f (on x)) (joined InSequence (on y) g)) refl).term ≡ staged whole f (staged rest (arr (chained (lone x) (lone y))) g)
+unfolding optimised in_sequence one_after_another before_tail tail stages headed_by pushed appended merged arrs before_constant arr_view constant_view in_parallel side_by_side fanned_out both_on on_a_side in_loop before_loop looped compose_sides exchange in_planned decided
+arr_composed_applied = refl
+
+arr_on_first_applied : (optimised (sided First (on x)) refl).term ≡ arr (on_side First (lone x))
+unfolding optimised in_sequence one_after_another before_tail tail stages headed_by pushed appended merged arrs before_constant arr_view constant_view in_parallel side_by_side fanned_out both_on on_a_side in_loop before_loop looped compose_sides exchange in_planned decided
+arr_on_first_applied = refl
+
+arr_on_second_applied : (optimised (sided Second (on x)) refl).term ≡ arr (on_side Second (lone x))
+unfolding optimised in_sequence one_after_another before_tail tail stages headed_by pushed appended merged arrs before_constant arr_view constant_view in_parallel side_by_side fanned_out both_on on_a_side in_loop before_loop looped compose_sides exchange in_planned decided
+arr_on_second_applied = refl
+
+arr_in_parallel_applied : (optimised (joined InParallel (on x) (on y)) refl).term ≡ arr (on_both (lone x) (lone y))
+unfolding optimised in_sequence one_after_another before_tail tail stages headed_by pushed appended merged arrs before_constant arr_view constant_view in_parallel side_by_side fanned_out both_on on_a_side in_loop before_loop looped compose_sides exchange in_planned decided
+arr_in_parallel_applied = refl
+
+arr_fanned_out_applied : (optimised (joined FannedOut (on x) (on y)) refl).term ≡ arr (fanned (lone x) (lone y))
+unfolding optimised in_sequence one_after_another before_tail tail stages headed_by pushed appended merged arrs before_constant arr_view constant_view in_parallel side_by_side fanned_out both_on on_a_side in_loop before_loop looped compose_sides exchange in_planned decided
+arr_fanned_out_applied = refl
+
+first_composed : (optimised (joined InSequence (sided First f) (sided First g)) refl).term ≡ sided First (staged whole f g)
+unfolding optimised in_sequence one_after_another before_tail tail stages headed_by pushed appended merged arrs before_constant arr_view constant_view in_parallel side_by_side fanned_out both_on on_a_side in_loop before_loop looped compose_sides exchange in_planned decided
+first_composed = refl
+
+second_composed : (optimised (joined InSequence (sided Second f) (sided Second g)) refl).term ≡ sided Second (staged whole f g)
+unfolding optimised in_sequence one_after_another before_tail tail stages headed_by pushed appended merged arrs before_constant arr_view constant_view in_parallel side_by_side fanned_out both_on on_a_side in_loop before_loop looped compose_sides exchange in_planned decided
+second_composed = refl
+
+exchanged_left_quiet : (optimised (joined InSequence (joined InParallel f q) (joined InParallel g f)) refl).term ≡ joined InParallel (staged whole f g) (staged whole q f)
+unfolding optimised in_sequence one_after_another before_tail tail stages headed_by pushed appended merged arrs before_constant arr_view constant_view in_parallel side_by_side fanned_out both_on on_a_side in_loop before_loop looped compose_sides exchange in_planned decided
+exchanged_left_quiet = refl
+
+exchanged_right_quiet : (optimised (joined InSequence (joined InParallel f g) (joined InParallel q f)) refl).term ≡ joined InParallel (staged whole f q) (staged whole g f)
+unfolding optimised in_sequence one_after_another before_tail tail stages headed_by pushed appended merged arrs before_constant arr_view constant_view in_parallel side_by_side fanned_out both_on on_a_side in_loop before_loop looped compose_sides exchange in_planned decided
+exchanged_right_quiet = refl
+
+-- together with both identities
+exchanged_with_identities : (optimised (joined InSequence (joined InParallel f identity) (joined InParallel identity g)) refl).term ≡ joined InParallel f g
+unfolding optimised in_sequence one_after_another before_tail tail stages headed_by pushed appended merged arrs before_constant arr_view constant_view in_parallel side_by_side fanned_out both_on on_a_side in_loop before_loop looped compose_sides exchange in_planned decided
+exchanged_with_identities = refl
+
+-- without a quiet part it isn't applied
+not_exchanged : (optimised (joined InSequence (joined InParallel f g) (joined InParallel f g)) refl).term ≡ staged whole (joined InParallel f g) (joined InParallel f g)
+unfolding optimised in_sequence one_after_another before_tail tail stages headed_by pushed appended merged arrs before_constant arr_view constant_view in_parallel side_by_side fanned_out both_on on_a_side in_loop before_loop looped compose_sides exchange in_planned decided
+not_exchanged = refl
+
+constant_after_applied : (optimised (joined InSequence q (primitive (with_value Constant two))) refl).term ≡ constant two
+unfolding optimised in_sequence one_after_another before_tail tail stages headed_by pushed appended merged arrs before_constant arr_view constant_view in_parallel side_by_side fanned_out both_on on_a_side in_loop before_loop looped compose_sides exchange in_planned decided
+constant_after_applied = refl
+
+not_forgotten : (optimised (joined InSequence (on y) (primitive (with_value Constant one))) refl).term ≡ staged whole (on y) (constant one)
+unfolding optimised in_sequence one_after_another before_tail tail stages headed_by pushed appended merged arrs before_constant arr_view constant_view in_parallel side_by_side fanned_out both_on on_a_side in_loop before_loop looped compose_sides exchange in_planned decided
+not_forgotten = refl
+
+left_tightened_quiet_value : (optimised (headed LoopPre one (joined InSequence (sided First f) g)) refl).term ≡ staged whole f (loop_pre one g)
+unfolding optimised in_sequence one_after_another before_tail tail stages headed_by pushed appended merged arrs before_constant arr_view constant_view in_parallel side_by_side fanned_out both_on on_a_side in_loop before_loop looped compose_sides exchange in_planned decided
+left_tightened_quiet_value = refl
+
+left_tightened_quiet_part : (optimised (headed LoopPre two (joined InSequence (sided First q) g)) refl).term ≡ staged whole q (loop_pre two g)
+unfolding optimised in_sequence one_after_another before_tail tail stages headed_by pushed appended merged arrs before_constant arr_view constant_view in_parallel side_by_side fanned_out both_on on_a_side in_loop before_loop looped compose_sides exchange in_planned decided
+left_tightened_quiet_part = refl
+
+not_left_tightened : (optimised (headed LoopPre two (joined InSequence (sided First f) g)) refl).term ≡ loop_pre two (staged whole (sided First f) g)
+unfolding optimised in_sequence one_after_another before_tail tail stages headed_by pushed appended merged arrs before_constant arr_view constant_view in_parallel side_by_side fanned_out both_on on_a_side in_loop before_loop looped compose_sides exchange in_planned decided
+not_left_tightened = refl
+
+pub right_tightened_applied : (optimised (headed LoopPre two (joined InSequence g (sided First f))) refl).term ≡ staged whole (loop_pre two g) f
+unfolding optimised in_sequence one_after_another before_tail tail stages headed_by pushed appended merged arrs before_constant arr_view constant_view in_parallel side_by_side fanned_out both_on on_a_side in_loop before_loop looped compose_sides exchange in_planned decided
+right_tightened_applied = refl

@@ -1,0 +1,134 @@
+-- Quiet terms give a value without readings at each step, and cost their text.
+use Rattle.std.proofs.Common.{◌≡◌, IsTrue, List, [], ◌∷◌, refl, ap, ◌∙◌, subst}
+use Rattle.sf_value.specs.Values.{Data, pair, first_of, second_of}
+use Rattle.sf_expr.specs.Expressions.{Expression, variable, literal, paired as paired_expression, operation, Function, function}
+use Rattle.sf_expr.specs.Evaluation.{Evaluated, answer, ◌>>=◌, Scope, bound_in, eval, apply}
+use Rattle.sf_term.specs.declared.form.Bare.TheVariants.{Identity}
+use Rattle.sf_term.specs.declared.form.Join.{Join}
+use Rattle.sf_term.specs.declared.form.Join.TheVariants.{InSequence, InParallel, FannedOut}
+use Rattle.sf_term.specs.declared.form.Heading.TheVariants.{LoopPre}
+use Rattle.sf_term.specs.Trees.{Chain, lone, chained as chained_functions, on_side, on_both, fanned, Primitive, bare, with_value, arrow, fused, Extent, Term, primitive, joined, sided, headed, staged}
+use Rattle.sf_mean.specs.Lives.{Step, step, wait_of, input_of, Life, Environment, scope_of, with_inputs, relay, fed}
+use Rattle.sf_mean.specs.Formulas.{side_of, with_side, apply_chain, value_formula, formula}
+use Rattle.sf_mean.specs.Meaning.{Outcome, gave, as_outcome, Cost, one_term, text_cost}
+use Rattle.sf_mean.proofs.Inferred.{both_true}
+use Rattle.sf_rewrite.specs.Quiet.{is_quiet_expression, is_quiet_function, is_quiet_chain, is_quiet_primitive, is_quiet}
+use Rattle.sf_rewrite.proofs.Parts.{Leaves, Part, part, Parts, begins, then_gave, At, at_primitive, at_join, at_stages, at_side, at_loop, then_part, Rounds, no_round, one_round, no_truth, OneLeaf, once_at}
+
+abbrev pub Answers : Evaluated Data → Type 0
+Answers v = (y : Data) × (v ≡ answer y)
+
+-- an answer, and then another
+next : (v : Evaluated Data) (f : Data → Evaluated Data) → Answers v → ((y : Data) → Answers (f y)) → Answers (v >>= f)
+next v f a b = ((b a.0).0, ap (λ v. v >>= f) a.1 ∙ (b a.0).1)
+
+pub quiet_eval : (i : Expression) → IsTrue (is_quiet_expression i) → (sc : Scope) → Answers (eval i sc)
+quiet_eval (variable x) h sc = (_, refl)
+quiet_eval (literal n) h sc = (_, refl)
+quiet_eval (paired_expression a b) h sc =
+    let k = both_true (is_quiet_expression a) (is_quiet_expression b) h in
+    next (eval a sc) (λ x. eval b sc >>= λ y. answer (pair x y)) (quiet_eval a k.0 sc) (λ x. next (eval b sc) (λ y. answer (pair x y)) (quiet_eval b k.1 sc) (λ y. (pair x y, refl)))
+quiet_eval (operation a o b) h sc = absurd (no_truth h)
+
+quiet_apply : (f : Function) → IsTrue (is_quiet_function f) → (x : Data) (sc : Scope) → Answers (apply f x sc)
+quiet_apply (function p i) h x sc = quiet_eval i h (bound_in p x sc)
+
+pub quiet_chain : (f : Chain) → IsTrue (is_quiet_chain f) → (x : Data) (sc : Scope) → Answers (apply_chain f x sc)
+quiet_chain (lone f) h x sc = quiet_apply f h x sc
+quiet_chain (chained_functions f g) h x sc =
+    let k = both_true (is_quiet_chain f) (is_quiet_chain g) h in
+    next (apply_chain f x sc) (λ y. apply_chain g y sc) (quiet_chain f k.0 x sc) (λ y. quiet_chain g k.1 y sc)
+quiet_chain (on_side d f) h x sc = next (apply_chain f (side_of d x) sc) (λ y. answer (with_side d x y)) (quiet_chain f h (side_of d x) sc) (λ y. (with_side d x y, refl))
+quiet_chain (on_both f g) h x sc =
+    let k = both_true (is_quiet_chain f) (is_quiet_chain g) h in
+    next (apply_chain f (first_of x) sc) (λ y. apply_chain g (second_of x) sc >>= λ z. answer (pair y z)) (quiet_chain f k.0 (first_of x) sc)
+    (λ y. next (apply_chain g (second_of x) sc) (λ z. answer (pair y z)) (quiet_chain g k.1 (second_of x) sc) (λ z. (pair y z, refl)))
+quiet_chain (fanned f g) h x sc =
+    let k = both_true (is_quiet_chain f) (is_quiet_chain g) h in
+    next (apply_chain f x sc) (λ y. apply_chain g x sc >>= λ z. answer (pair y z)) (quiet_chain f k.0 x sc)
+    (λ y. next (apply_chain g x sc) (λ z. answer (pair y z)) (quiet_chain g k.1 x sc) (λ z. (pair y z, refl)))
+
+quiet_formula : (p : Primitive) → IsTrue (is_quiet_primitive p) → (sc : Scope) (s : Step) (L : Life) → Answers (formula p sc s L)
+quiet_formula (bare Identity) h sc s L = (input_of s, refl)
+quiet_formula (with_value k i) h sc s L = next (eval i sc) (λ v. answer (value_formula k v s L)) (quiet_eval i h sc) (λ v. (value_formula k v s L, refl))
+quiet_formula (arrow f) h sc s L = quiet_apply f h (input_of s) sc
+quiet_formula (fused f) h sc s L = quiet_chain f h (input_of s) sc
+
+module _ (Q : Leaves) (one : OneLeaf Q) where
+  -- a value without readings at each step, at the cost of the text
+  abbrev pub Steps : Term → Type 0
+  Steps t = (e : Environment) (s : Step) (L : Life) (ys : List Data) → Parts Q t e L ys → (y : Data) × At Q t e s L (gave y []) (text_cost t)
+
+  pub all_steps : {t : Term} → Steps t → (e : Environment) (L : Life) → (ys : List Data) × Parts Q t e L ys
+  all_steps S e [] = ([], begins)
+  all_steps S e (s ∷ L) =
+      let k = all_steps S e L in
+      let r = S e s L k.0 k.1 in
+      (r.0 ∷ k.0, then_gave k.1 r.1)
+
+  -- a part at its newest step
+  pub last_step : {t : Term} → Steps t → (e : Environment) (s : Step) (L : Life) → (y : Data) × Part Q t e (s ∷ L) (gave y []) (text_cost t)
+  last_step S e s L =
+      let k = all_steps S e L in
+      let r = S e s L k.0 k.1 in
+      (r.0, part k.1 r.1)
+
+  steps_join : (j : Join) {f g : Term} → Steps f → Steps g → Steps (joined j f g)
+  steps_join InSequence S T e s L zs P =
+      let k = all_steps S e L in
+      let r = last_step S e s L in
+      let q = last_step T e (step (wait_of s) r.0) (relay L k.0) in
+      (q.0, at_join k.1 r.1 (then_part q.1))
+  steps_join InParallel S T e s L zs P =
+      let k = all_steps S e (with_inputs first_of L) in
+      let r = last_step S e (step (wait_of s) (first_of (input_of s))) (with_inputs first_of L) in
+      let q = last_step T e (step (wait_of s) (second_of (input_of s))) (with_inputs second_of L) in
+      (pair r.0 q.0, at_join k.1 r.1 (then_part q.1))
+  steps_join FannedOut S T e s L zs P =
+      let k = all_steps S e L in
+      let r = last_step S e s L in
+      let q = last_step T e s L in
+      (pair r.0 q.0, at_join k.1 r.1 (then_part q.1))
+
+  steps_stages : {x : Extent} {f g : Term} → Steps f → Steps g → Steps (staged x f g)
+  steps_stages S T e s L zs P =
+      let k = all_steps S e L in
+      let r = last_step S e s L in
+      let q = last_step T e (step (wait_of s) r.0) (relay L k.0) in
+      (q.0, at_stages k.1 r.1 (then_part q.1))
+
+  fed_step : {t : Term} → Steps t → (e : Environment) (v : Data) (s : Step) (L : Life) (zs : List Data) → (y : Data) × Part Q t e (fed v (s ∷ L) zs) (gave y []) (text_cost t)
+  fed_step S e v s L zs = last_step S e _ _
+
+  all_rounds : {t : Term} → Steps t → (e : Environment) (v : Data) (L : Life) → (zs : List Data) × Rounds Q v t e L zs
+  all_rounds S e v [] = ([], no_round)
+  all_rounds S e v (s ∷ L) =
+      let k = all_rounds S e v L in
+      let r = fed_step S e v s L k.0 in
+      (r.0 ∷ k.0, one_round k.1 r.1)
+
+  steps_loop : (i : Expression) {t : Term} → IsTrue (is_quiet_expression i) → Steps t → Steps (headed LoopPre i t)
+  steps_loop i h S e s L zs P =
+      let v = quiet_eval i h (scope_of e) in
+      let k = all_rounds S e v.0 L in
+      let r = fed_step S e v.0 s L k.0 in
+      (first_of r.0, at_loop v.1 k.1 r.1)
+
+  pub quiet_steps : (t : Term) → IsTrue (is_quiet t) → Steps t
+  quiet_steps (primitive p) h = λ e s L ys P.
+      let r = quiet_formula p h (scope_of e) s L in
+      let N : Evaluated Data → Type 0 = λ v. At Q (primitive p) e s L (as_outcome v []) one_term in
+      (r.0, subst N r.1 at_primitive)
+  quiet_steps (joined j f g) h = let k = both_true (is_quiet f) (is_quiet g) h in steps_join j (quiet_steps f k.0) (quiet_steps g k.1)
+  quiet_steps (sided d t) h = λ e s L ys P.
+      let r = last_step (quiet_steps t h) e (step (wait_of s) (side_of d (input_of s))) (with_inputs (side_of d) L) in
+      (with_side d (input_of s) r.0, at_side r.1)
+  quiet_steps (headed LoopPre i t) h = let k = both_true (is_quiet_expression i) (is_quiet t) h in steps_loop i k.0 (quiet_steps t k.1)
+  quiet_steps (staged x f g) h = let k = both_true (is_quiet f) (is_quiet g) h in steps_stages (quiet_steps f k.0) (quiet_steps g k.1)
+
+  -- what a quiet term gave
+  pub quiet_gave : {t : Term} {e : Environment} {s : Step} {L : Life} {ys : List Data} {o : Outcome} {c : Cost} → IsTrue (is_quiet t) → Parts Q t e L ys → At Q t e s L o c → (y : Data) × (o ≡ gave y []) × (c ≡ text_cost t)
+  quiet_gave {t} {e} {s} {L} {ys} h P A =
+      let r = quiet_steps t h e s L ys P in
+      let q = once_at Q one A r.1 in
+      (r.0, q.0, q.1)

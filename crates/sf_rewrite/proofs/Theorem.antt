@@ -1,0 +1,59 @@
+-- The theorems on plans.
+use Rattle.std.proofs.Common.{◌≤◌, true, false, IsTrue, [], ◌∷◌, refl, sym}
+use Rattle.sf_value.specs.Values.{Data}
+use Rattle.sf_term.specs.Trees.{Term, Templates}
+use Rattle.sf_mean.specs.Lives.{Step, closure, Environment, empty, Life}
+use Rattle.sf_mean.specs.Meaning.{Network, Outcome, gave, Cost, count, height, text_cost, Gives}
+use Rattle.sf_mean.proofs.Once.{once_sample}
+use Rattle.sf_rewrite.specs.Quiet.{is_quiet}
+use Rattle.sf_rewrite.specs.Laws.{unchanged}
+use Rattle.sf_rewrite.specs.Plans.{Plans, plans, PlansParts, PlansAll, no_templates, one_more}
+use Rattle.sf_rewrite.specs.Plans.{of_primitive, of_join, of_side, of_heading}
+use Rattle.sf_rewrite.proofs.Parts.{OneLeaf}
+use Rattle.sf_rewrite.proofs.Quiet.{last_step, quiet_steps}
+use Rattle.sf_rewrite.proofs.Lowered.{lowered}
+use Rattle.sf_rewrite.proofs.Opening.{Leaf, closed_part}
+use Rattle.sf_rewrite.proofs.Main.{to_plan, from_plan, Alike, alike, Formed, same_primitive, same_join, same_side, same_heading, alike_closure, alike_empty, AlikeAll, none_alike, more_alike, keeps}
+
+mutual
+  onto : {t u : Term} → Plans t u → Alike true t u
+  onto (plans A B) = alike (to_plan unchanged) (onto_parts A) (to_plan B)
+
+  onto_parts : {t u : Term} → PlansParts t u → Formed true t u
+  onto_parts of_primitive = same_primitive
+  onto_parts (of_join A B) = same_join (onto A) (onto B)
+  onto_parts (of_side A) = same_side (onto A)
+  onto_parts (of_heading A) = same_heading (onto A)
+
+mutual
+  from : {t u : Term} → Plans t u → Alike false u t
+  from (plans A B) = alike (from_plan B) (from_parts A) (from_plan unchanged)
+
+  from_parts : {t u : Term} → PlansParts t u → Formed false u t
+  from_parts of_primitive = same_primitive
+  from_parts (of_join A B) = same_join (from A) (from B)
+  from_parts (of_side A) = same_side (from A)
+  from_parts (of_heading A) = same_heading (from A)
+
+onto_all : {n m : Templates} → PlansAll n m → AlikeAll true n m
+onto_all no_templates = none_alike
+onto_all (one_more A B) = more_alike (record { name = A.name; body = onto A.body }) (onto_all B)
+
+from_all : {n m : Templates} → PlansAll n m → AlikeAll false m n
+from_all no_templates = none_alike
+from_all (one_more A B) = more_alike (record { name = sym A.name; body = from A.body }) (from_all B)
+
+one_leaf : (n : Network) → OneLeaf (Leaf n)
+one_leaf n t e s L a b c d A B = once_sample n A B
+
+pub plan_gives : (n m : Network) (t u : Term) (L : Life) (o : Outcome) (c : Cost) → PlansAll n.templates m.templates → Plans t u → Gives n (closure t empty) L o c
+    → (d : Cost) × Gives m (closure u empty) L o d × (count d ≤ count c) × (height d ≤ height c)
+plan_gives n m t u L o c N T G =
+    elim (keeps true n m (onto_all N) (one_leaf n) (one_leaf m) (alike_closure (onto T) alike_empty) G) [ lowered A h ↦ (_, A, h.counts refl, h.heights refl) ]
+
+pub plan_no_more : (n m : Network) (t u : Term) (L : Life) (o : Outcome) (d : Cost) → PlansAll n.templates m.templates → Plans t u → Gives m (closure u empty) L o d → (c : Cost) × Gives n (closure t empty) L o c
+plan_no_more n m t u L o d N T G =
+    elim (keeps false m n (from_all N) (one_leaf m) (one_leaf n) (alike_closure (from T) alike_empty) G) [ lowered A h ↦ (_, A) ]
+
+pub quiet_gives : (n : Network) (t : Term) (e : Environment) (s : Step) (L : Life) → IsTrue (is_quiet t) → (y : Data) × Gives n (closure t e) (s ∷ L) (gave y []) (text_cost t)
+quiet_gives n t e s L h = let r = last_step (Leaf n) (one_leaf n) (quiet_steps (Leaf n) (one_leaf n) t h) e s L in (r.0, closed_part n r.1)

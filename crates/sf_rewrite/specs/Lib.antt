@@ -1,0 +1,4 @@
+pub mod Quiet
+pub mod Laws
+pub mod Plans
+pub mod Normal

@@ -1,0 +1,68 @@
+-- What a plan looks like when no law about pipelines is left to apply.
+use Rattle.std.specs.Prelude.{Bool, true, false, ◌&&◌, IsTrue}
+use Rattle.sf_expr.specs.Expressions.{Expression}
+use Rattle.sf_term.specs.declared.form.Bare.TheVariants.{Identity}
+use Rattle.sf_term.specs.declared.form.Join.{Join}
+use Rattle.sf_term.specs.declared.form.Join.TheVariants.{InSequence, InParallel, FannedOut}
+use Rattle.sf_term.specs.declared.form.Side.{Side}
+use Rattle.sf_term.specs.declared.form.Heading.{Heading}
+use Rattle.sf_term.specs.Trees.{Primitive, bare, with_value, arrow, fused, whole, rest, Term, primitive, joined, sided, headed, staged}
+
+-- `arr`, of one function or of functions made into one
+abbrev pub is_arr : Term → Bool
+is_arr (primitive (bare k)) = false
+is_arr (primitive (with_value k i)) = false
+is_arr (primitive (arrow f)) = true
+is_arr (primitive (fused f)) = true
+is_arr (joined j f g) = false
+is_arr (sided d t) = false
+is_arr (headed h i t) = false
+is_arr (staged x f g) = false
+
+-- the joins that stay as they are: all but `>>>`
+abbrev pub is_left : Join → Bool
+is_left InSequence = false
+is_left InParallel = true
+is_left FannedOut = true
+
+-- a stage is neither a pipeline nor the identity
+abbrev pub is_stage : Term → Bool
+is_stage (primitive (bare Identity)) = false
+is_stage (primitive (with_value k i)) = true
+is_stage (primitive (arrow f)) = true
+is_stage (primitive (fused f)) = true
+is_stage (joined j f g) = is_left j
+is_stage (sided d t) = true
+is_stage (headed h i t) = true
+is_stage (staged x f g) = false
+
+-- two neighbours, where it is said of each whether it is `arr`
+abbrev pub may_meet : Bool → Bool → Bool
+may_meet true true = false
+may_meet true false = true
+may_meet false b = true
+
+mutual
+  -- A plan has no `>>>`. Its pipelines have two stages or more.
+  pub data IsPlan : Term → Type 0 where
+    plan_primitive : {p : Primitive} → IsPlan (primitive p)
+    plan_join : {j : Join} {f g : Term} → IsTrue (is_left j) → IsPlan f → IsPlan g → IsPlan (joined j f g)
+    plan_side : {d : Side} {t : Term} → IsPlan t → IsPlan (sided d t)
+    plan_heading : {h : Heading} {i : Expression} {t : Term} → IsPlan t → IsPlan (headed h i t)
+    plan_pipeline : {f r : Term} → IsPlan f → IsTrue (is_stage f) → IsRest f r → IsPlan (staged whole f r)
+
+  -- the rest of a pipeline after a stage: no two neighbours are `arr`
+  pub data IsRest : Term → Term → Type 0 where
+    last_stage : {f t : Term} → IsPlan t → IsTrue (is_stage t) → IsTrue (may_meet (is_arr f) (is_arr t)) → IsRest f t
+    more_stages : {f t r : Term} → IsPlan t → IsTrue (is_stage t) → IsTrue (may_meet (is_arr f) (is_arr t)) → IsRest t r → IsRest f (staged rest t r)
+
+-- a term of a network: no form of plans stands in it
+abbrev pub is_written : Term → Bool
+is_written (primitive (bare k)) = true
+is_written (primitive (with_value k i)) = true
+is_written (primitive (arrow f)) = true
+is_written (primitive (fused f)) = false
+is_written (joined j f g) = is_written f && is_written g
+is_written (sided d t) = is_written t
+is_written (headed h i t) = is_written t
+is_written (staged x f g) = false

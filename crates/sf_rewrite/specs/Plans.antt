@@ -1,0 +1,31 @@
+-- The plans of networks.
+use Rattle.std.specs.Prelude.{◌≡◌, [], ◌∷◌}
+use Rattle.sf_expr.specs.Expressions.{Expression}
+use Rattle.sf_term.specs.declared.form.Join.{Join}
+use Rattle.sf_term.specs.declared.form.Side.{Side}
+use Rattle.sf_term.specs.declared.form.Heading.{Heading}
+use Rattle.sf_term.specs.Trees.{Primitive, Term, primitive, joined, sided, headed, Template, Templates}
+use Rattle.sf_rewrite.specs.Laws.{Laws}
+
+mutual
+  -- A plan of a term: its parts and bodies are plans, then laws are applied.
+  pub data Plans : Term → Term → Type 0 where
+    plans : {t u v : Term} → PlansParts t u → Laws u v → Plans t v
+
+  pub data PlansParts : Term → Term → Type 0 where
+    of_primitive : {p : Primitive} → PlansParts (primitive p) (primitive p)
+    of_join : {j : Join} {f f' g g' : Term} → Plans f f' → Plans g g' → PlansParts (joined j f g) (joined j f' g')
+    of_side : {d : Side} {t t' : Term} → Plans t t' → PlansParts (sided d t) (sided d t')
+    of_heading : {h : Heading} {i : Expression} {t t' : Term} → Plans t t' → PlansParts (headed h i t) (headed h i t')
+
+-- a template with the plan of its term
+pub record PlansTemplate (s t : Template) : Type 0 where
+  pub name : t.name ≡ s.name
+  pub input : t.input ≡ s.input
+  pub output : t.output ≡ s.output
+  pub body : Plans s.body t.body
+
+-- each template's term has its plan
+pub data PlansAll : Templates → Templates → Type 0 where
+  no_templates : PlansAll [] []
+  one_more : {s t : Template} {ss ts : Templates} → PlansTemplate s t → PlansAll ss ts → PlansAll (s ∷ ss) (t ∷ ts)

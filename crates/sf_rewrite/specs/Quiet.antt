@@ -1,0 +1,39 @@
+-- Quiet terms: by their text they give a value without readings at each step, whatever their input. What they would give
+-- can be left out, and they can change places with a part that may fail.
+use Rattle.std.specs.Prelude.{Bool, true, false, ◌&&◌}
+use Rattle.sf_expr.specs.Expressions.{Expression, variable, literal, paired, operation, Function, function}
+use Rattle.sf_term.specs.Trees.{Chain, lone, chained, on_side, on_both, fanned, Primitive, bare, with_value, arrow, fused, Term, primitive, joined, sided, headed, staged}
+
+-- an expression that calculates nothing has a value
+abbrev pub is_quiet_expression : Expression → Bool
+is_quiet_expression (variable x) = true
+is_quiet_expression (literal l) = true
+is_quiet_expression (paired i j) = is_quiet_expression i && is_quiet_expression j
+is_quiet_expression (operation i o j) = false
+
+-- so has a function whose body calculates nothing
+abbrev pub is_quiet_function : Function → Bool
+is_quiet_function (function p i) = is_quiet_expression i
+
+-- so have functions made into one, if each of them calculates nothing
+abbrev pub is_quiet_chain : Chain → Bool
+is_quiet_chain (lone f) = is_quiet_function f
+is_quiet_chain (chained f g) = is_quiet_chain f && is_quiet_chain g
+is_quiet_chain (on_side d f) = is_quiet_chain f
+is_quiet_chain (on_both f g) = is_quiet_chain f && is_quiet_chain g
+is_quiet_chain (fanned f g) = is_quiet_chain f && is_quiet_chain g
+
+-- a primitive of a quiet expression or function
+abbrev pub is_quiet_primitive : Primitive → Bool
+is_quiet_primitive (bare k) = true
+is_quiet_primitive (with_value k i) = is_quiet_expression i
+is_quiet_primitive (arrow f) = is_quiet_function f
+is_quiet_primitive (fused f) = is_quiet_chain f
+
+-- a term whose constants and parts are quiet
+abbrev pub is_quiet : Term → Bool
+is_quiet (primitive p) = is_quiet_primitive p
+is_quiet (joined j f g) = is_quiet f && is_quiet g
+is_quiet (sided d t) = is_quiet t
+is_quiet (headed h i t) = is_quiet_expression i && is_quiet t
+is_quiet (staged x f g) = is_quiet f && is_quiet g

@@ -1,0 +1,7 @@
+use Rattle.std.proofs.Common.{take}
+use Rattle.sf_law.specs.declared.plan.Plan.{Plan}
+use Rattle.sf_state.specs.Standing.{AllFollow}
+use Rattle.sf_state.proofs.state.freeze_all.Given as goal
+
+abbrev pub invariant-loop-state : goal.invariant-loop-state
+invariant-loop-state l = (p : Plan) → AllFollow p (take l.state-index l.states) l.frozen.items

@@ -1,0 +1,287 @@
+-- Stages that are stepped one after another.
+use Rattle.std.proofs.Common.{◌≡◌, ℕ, ◌+◌, ◌<◌, suc, List, [], ◌∷◌, ◌++◌, length, get_or, set, take, drop, map, Vec, Result, Ok, Err, refl, sym, ap, ◌∙◌, subst, append_assoc, arith, drop-cons, IsTrue}
+use Rattle.std.specs.Prelude.{nat_le}
+use Rattle.std.specs.declared.alloc.Global.{Global}
+use Rattle.std.proofs.lemmas.List.{drop-set-lt, take_more_set}
+use Rattle.std.proofs.Math.Seq.{take-length, drop-length, take-suc}
+use Rattle.std.proofs.lemmas.List.{append-nil}
+use Rattle.sf_value.specs.Values.{Kind, Data, HasKind}
+use Rattle.sf_value.specs.declared.fault.Fault.{Fault}
+use Rattle.sf_term.specs.declared.form.Join.TheVariants.{InSequence}
+use Rattle.sf_term.specs.Trees.{rest, Term, joined, staged}
+use Rattle.sf_mean.specs.Lives.{Step, step, Life, Process, closure, Environment, first_input, relay}
+use Rattle.sf_mean.specs.Meaning.{Network, Outcome, gave, faulted, combined, value_in, Cost, both_costs, over, text_cost, Made, nothing_made, join_value, Gives, gives, Outputs, not_begun, and_gave, of_form, Form, of_join, of_stages, Next, goes_on, stops}
+use Rattle.sf_mean.specs.Typing.{takes, sequence_takes, stages_take}
+use Rattle.sf_mean.specs.Soundness.{LifeHas, more_steps, ProcessTakes, closure_takes}
+use Rattle.sf_mean.proofs.TypedLives.{relay_has}
+use Rattle.sf_mean.proofs.Once.{onces}
+use Rattle.sf_law.specs.declared.plan.Plan.{Plan}
+use Rattle.sf_law.specs.declared.node.PlanId.{PlanId}
+use Rattle.sf_law.specs.declared.node.PlanNode.TheVariants.{Pipeline as NPipeline}
+use Rattle.sf_law.specs.Entries.{stages, pipeline}
+use Rattle.sf_law.specs.Arena.{tree, network_of_plan, Builds, builds_pipeline}
+use Rattle.sf_state.specs.declared.state.State.{State}
+use Rattle.sf_state.specs.declared.state.State.TheVariants.{Unborn}
+use Rattle.sf_state.specs.declared.state.Process.TheVariants.{Closure as SClosure}
+use Rattle.sf_state.specs.declared.state.Env.{Env}
+use Rattle.sf_state.specs.declared.state.Live.{items_hidden-the_row-State-0}
+use Rattle.sf_state.specs.declared.state.Live.TheVariants.{Pipeline as LPipeline}
+use Rattle.sf_state.specs.Standing.{is_closure, IsNames, Stands, unborn, alive, settles, Ready, ready, lives_pipeline, IsPipeline, is_stages, is_sequence, StagesStand, last_stands, stage_stands}
+use Rattle.sf_state.proofs.Copies.{pipeline_lives}
+use Rattle.sf_step.specs.declared.meter.Meter.{Meter}
+use Rattle.sf_step.specs.Sampling.{Rel, Ticks, Fails, Answers, answers, fails, StateSteps, LiveSteps, Opens, opens, AllBegin, none_begin, more_begin, IsLiveFed, is_live_fed}
+use Rattle.sf_step.specs.Stepping.{IsFed, is_fed}
+use Rattle.sf_step.proofs.Parts.{Over, counted, Then, then_on, then_stop, Alike, over_spent, both_spent, fails_alike, over_fails, then_fails, rest_fails, answered, failed}
+use Rattle.sf_step.proofs.Forms.{single_gives, gave_outputs, form_alike, gives_form}
+use Rattle.sf_step.proofs.Typed.{gives_typed, outputs_typed}
+
+-- the answer of stages, behind those that have been stepped
+abbrev pub behind : List State → Result (List State × Data) Fault → Result (List State × Data) Fault
+behind done (Ok y) = Ok (done ++ y.0, y.1)
+behind done (Err f) = Err f
+
+module _ (n : Network) where
+  -- ## The rest of a pipeline is its first stage, and then the others
+
+  abbrev RestRel : Term → Term → Environment → Step → Life → List Data → Rel
+  RestRel f g e s L ys = Then (Gives n (closure f e) (s ∷ L)) (join_value InSequence) (text_cost g) (λ y. Gives n (closure g e) (relay (s ∷ L) (y ∷ ys)))
+
+  module _ (f g : Term) (e : Environment) (m : Made) (s : Step) (L : Life) (ys : List Data) (O : Outputs n (closure f e) L ys) where
+    rest_to : (o : Outcome) (k : Cost) → RestRel f g e s L ys o k → Form n (staged rest f g) e m s L o k
+    rest_to o k (then_on G H) = of_stages O G (goes_on H)
+    rest_to o k (then_stop G) = of_stages O G stops
+
+    rest_next : (q : Outcome) {o : Outcome} {k l : Cost} → Gives n (closure f e) (s ∷ L) q k → Next n q g e (relay (s ∷ L) (value_in q ∷ ys)) o l → RestRel f g e s L ys (combined (join_value InSequence) q o) (both_costs k l)
+    rest_next (gave y r) G (goes_on H) = then_on G H
+    rest_next (faulted x) G stops = then_stop G
+
+    rest_back : (o : Outcome) (k : Cost) → Form n (staged rest f g) e m s L o k → RestRel f g e s L ys o k
+    rest_back o k (of_stages {ys = zs} {o = q} {o' = q'} {c' = l} O' G N) =
+        rest_next q G (subst (λ (ys : List Data). Next n q g e (relay (s ∷ L) (value_in q ∷ ys)) q' l) (onces n O' O) N)
+
+    rest_form_alike : Alike (RestRel f g e s L ys) (Form n (staged rest f g) e m s L)
+    rest_form_alike = record { to = rest_to; back = rest_back }
+
+  pub rest_alike : (f g : Term) (e : Environment) (s : Step) (L : Life) (ys zs : List Data) → Outputs n (closure f e) L ys → Outputs n (closure (staged rest f g) e) L zs
+      → Alike (RestRel f g e s L ys) (Gives n (closure (staged rest f g) e) (s ∷ L))
+  rest_alike f g e s L ys zs O Z =
+      let a = rest_form_alike f g e nothing_made s L ys O in
+      let b = form_alike n s L refl Z in
+      record { to = λ o k R. b.to o k (a.to o k R); back = λ o k G. a.back o k (b.back o k G) }
+
+  -- ## A pipeline counts, over its stages
+
+  whole_form : {t u : Term} {e : Environment} {m m' : Made} {s : Step} {L : Life} {o : Outcome} {k : Cost} → IsPipeline t u → Form n u e m s L o k → Form n t e m' s L o (over k)
+  whole_form is_stages (of_stages O G N) = of_stages O G N
+  whole_form is_sequence (of_stages O G N) = of_join O G N
+
+  pipeline_to : {t u : Term} {e : Environment} {m : Made} (s : Step) (L : Life) {o : Outcome} {k : Cost} → IsPipeline t u → Over (Gives n (closure u e) (s ∷ L)) o k → Form n t e m s L o k
+  pipeline_to s L is_stages (counted G) = whole_form is_stages (gives_form n s L refl G)
+  pipeline_to s L is_sequence (counted G) = whole_form is_sequence (gives_form n s L refl G)
+
+  pipeline_back : {t u : Term} {e : Environment} {m : Made} (s : Step) (L : Life) {zs : List Data} {o : Outcome} {k : Cost} → Outputs n (closure u e) L zs → IsPipeline t u → Form n t e m s L o k → Over (Gives n (closure u e) (s ∷ L)) o k
+  pipeline_back s L Z is_stages (of_stages O G N) = counted (gives Z (of_form {m = nothing_made} refl (of_stages O G N)))
+  pipeline_back s L Z is_sequence (of_join O G N) = counted (gives Z (of_form {m = nothing_made} refl (of_stages O G N)))
+
+  pub pipeline_alike : {t u : Term} {e : Environment} {m : Made} (s : Step) (L : Life) {zs : List Data} → IsPipeline t u → Outputs n (closure u e) L zs → Alike (Over (Gives n (closure u e) (s ∷ L))) (Form n t e m s L)
+  pipeline_alike s L Q Z = record { to = λ o k R. pipeline_to s L Q R; back = λ o k F. pipeline_back s L Z Q F }
+
+  -- the outputs of stages are those of the last one
+  staged_outputs : {f g : Term} {e : Environment} {L : Life} {ys zs : List Data} → Outputs n (closure f e) L ys → Outputs n (closure g e) (relay L ys) zs → Outputs n (closure (staged rest f g) e) L zs
+  staged_outputs not_begun not_begun = not_begun
+  staged_outputs (and_gave O S) (and_gave O' S') = and_gave (staged_outputs O O') (of_form {m = nothing_made} refl (of_stages O (gives O S) (goes_on (gives O' S'))))
+
+module _ (p : Plan) where
+  abbrev net : Network
+  net = network_of_plan p
+
+  -- what a process gave so far
+  abbrev Gave : Process → Life → Type 0
+  Gave P L = (ys : List Data) × Outputs net P L ys
+
+  state_gave : {a : State} {P : Process} {L : Life} → Stands p a P L → Gave P L
+  state_gave (unborn Q) = ([], not_begun)
+  state_gave (alive N (settles (ready h O K))) = (_, O)
+
+  stages_gave : {bs : List State} {u : Term} {e : Environment} {L : Life} → StagesStand p bs u e L → Gave (closure u e) L
+  stages_gave (last_stands A) = state_gave A
+  stages_gave (stage_stands O A S) = let r = stages_gave S in (r.0, staged_outputs net O r.1)
+
+  -- ## Steps
+
+  -- Stages step to the outcome of the rest of a pipeline; without stages the value stays.
+  abbrev pub StagesStep : List State → ℕ → Data → Result (List State × Data) Fault → Meter → Meter → ℕ → Type 0
+  StagesStep [] d x r m n inside = (r ≡ Ok ([], x)) × (n ≡ m)
+  StagesStep (a ∷ bs) d x r m n inside = (u : Term) (e : Environment) (L : Life) → StagesStand p (a ∷ bs) u e L
+      → Answers (λ y. y.1) (λ y. StagesStand p y.0 u e (step d x ∷ L)) (Gives net (closure u e) (step d x ∷ L)) r m n inside
+
+  module _ (a : State) (d : ℕ) (x : Data) (m n : Meter) (inside : ℕ) where
+    -- a stage fails
+    pub stage_fails : (bs : List State) (f : Fault) → StateSteps p a (step d x) (Err f) m n inside → StagesStep (a ∷ bs) d x (Err f) m n inside
+    stage_fails bs f hs u e L (last_stands A) = fails (failed (hs _ _ A))
+    stage_fails bs f hs u e L (stage_stands {f = t} {g = g} {ys = ys} O A S) =
+        let Z = staged_outputs net O (stages_gave S).1 in
+        fails (fails_alike (rest_alike net t g e (step d x) L ys _ O Z) (then_fails (failed (hs _ _ A))))
+
+    module _ (a' : State) (y : Data) (hs : StateSteps p a (step d x) (Ok (a', y)) m n inside) where
+      last_steps : (u : Term) (e : Environment) (L : Life) → StagesStand p (a ∷ []) u e L
+          → Answers {A = List State × Data} (λ y. y.1) (λ y. StagesStand p y.0 u e (step d x ∷ L)) (Gives net (closure u e) (step d x ∷ L)) (Ok (a' ∷ [], y)) m n inside
+      last_steps u e L (last_stands A) = let w = answered (hs _ _ A) in answers w.given w.spent (last_stands w.holds)
+      last_steps u e L (stage_stands O A S) = elim S [ ]
+
+      stage_and : (n' : Meter) (b : State) (bs : List State) (r : Result (List State × Data) Fault) (u : Term) (e : Environment) (L : Life) → StagesStep (b ∷ bs) d y r n n' inside → StagesStand p (a ∷ b ∷ bs) u e L
+          → Answers {A = List State × Data} (λ y. y.1) (λ y. StagesStand p y.0 u e (step d x ∷ L)) (Gives net (closure u e) (step d x ∷ L)) (behind (a' ∷ []) r) m n' inside
+      stage_and n' b bs (Ok z) u e L h (stage_stands {f = t} {g = g} {ys = ys} O A S) =
+          let one = answered (hs _ _ A) in
+          let two = answered (h g e (relay L ys) S) in
+          let Z = staged_outputs net O (stages_gave S).1 in
+          answers ((rest_alike net t g e (step d x) L ys _ O Z).to _ _ (then_on one.given two.given)) (both_spent one.spent two.spent) (stage_stands (gave_outputs net O one.given) one.holds two.holds)
+      stage_and n' b bs (Err q) u e L h (stage_stands {f = t} {g = g} {ys = ys} O A S) =
+          let one = answered (hs _ _ A) in
+          let Z = staged_outputs net O (stages_gave S).1 in
+          fails (fails_alike (rest_alike net t g e (step d x) L ys _ O Z)
+          (rest_fails (λ z. Gives net (closure g e) (relay (step d x ∷ L) (z ∷ ys))) (single_gives net _ _) one.given one.spent (failed (h g e (relay L ys) S))))
+
+      -- a stage steps, and the others on its value
+      pub stage_steps : (n' : Meter) (bs : List State) (r : Result (List State × Data) Fault) → StagesStep bs d y r n n' inside → StagesStep (a ∷ bs) d x (behind (a' ∷ []) r) m n' inside
+      stage_steps n' [] r h u e L S =
+          subst (λ (k : Meter). Answers (λ y. y.1) (λ y. StagesStand p y.0 u e (step d x ∷ L)) (Gives net (closure u e) (step d x ∷ L)) (behind (a' ∷ []) r) m k inside) (sym h.1)
+          (subst (λ r. Answers (λ y. y.1) (λ y. StagesStand p y.0 u e (step d x ∷ L)) (Gives net (closure u e) (step d x ∷ L)) (behind (a' ∷ []) r) m n inside) (sym h.0) (last_steps u e L S))
+      stage_steps n' (b ∷ bs) r h u e L S = stage_and n' b bs r u e L h S
+
+  -- the answer of stages that stand
+  stages_answer : (bs : List State) (d : ℕ) (x : Data) (r : Result (List State × Data) Fault) (m n : Meter) (inside : ℕ) (u : Term) (e : Environment) (L : Life) → StagesStep bs d x r m n inside → StagesStand p bs u e L
+      → Answers (λ y. y.1) (λ y. StagesStand p y.0 u e (step d x ∷ L)) (Gives net (closure u e) (step d x ∷ L)) r m n inside
+  stages_answer [] d x r m n inside u e L h S = elim S [ ]
+  stages_answer (a ∷ bs) d x r m n inside u e L h S = h u e L S
+
+  stands_at : (v : Vec State Global) {u : Term} {e : Environment} {L : Life} {bs : List State} → bs ≡ v.items → StagesStand p bs u e L → StagesStand p v.items u e L
+  stands_at v {u = u} {e = e} {L = L} h S = subst (λ (bs : List State). StagesStand p bs u e L) h S
+
+  module _ (v : Vec State Global) (d : ℕ) (x : Data) (n n' : Meter) (inside : ℕ) where
+    -- a pipeline steps as its stages do
+    pub pipeline_steps : (w : Vec State Global) (y : Data) → StagesStep v.items d x (Ok (w.items, y)) n n' inside → LiveSteps p (LPipeline v) (step d x) (Ok (LPipeline w, y)) n n' inside
+    pipeline_steps w y hs m depth t P L (ready {m = made} h O (lives_pipeline {u = u} {e = e} Q S)) =
+        let T = stands_at v (items_hidden-the_row-State-0 v) S in
+        let one = answered (stages_answer v.items d x _ n n' inside u e L hs T) in
+        let F = (pipeline_alike net {m = made} (step d x) L Q (stages_gave T).1).to _ _ (counted one.given) in
+        answers (gives O (of_form h F)) (over_spent t one.spent) (settles (ready h (and_gave O (of_form h F)) (pipeline_lives p w Q one.holds)))
+
+    pub pipeline_fails : (f : Fault) → StagesStep v.items d x (Err f) n n' inside
+        → (m : Meter) (depth : ℕ) → Ticks m n depth inside → (P : Process) (L : Life) → Ready p (LPipeline v) P (first_input (step d x) L) L → Fails (Gives net P (step d x ∷ L)) f m n' depth
+    pipeline_fails f hs m depth t P L (ready {m = made} h O (lives_pipeline {u = u} {e = e} Q S)) =
+        let T = stands_at v (items_hidden-the_row-State-0 v) S in
+        fails_alike (form_alike net (step d x) L h O) (fails_alike (pipeline_alike net {m = made} (step d x) L Q (stages_gave T).1)
+        (over_fails t (failed (stages_answer v.items d x _ n n' inside u e L hs T))))
+
+  -- ## The loop
+
+  -- the stage at an index, before those that are left after it
+  left_from : (now : List State) (i : ℕ) (any : State) → i < length now → drop i now ≡ get_or now i any ∷ drop (i + 1) now
+  left_from now i any short = let more : suc i ≡ i + 1 = omega arith in drop-cons now i any short ∙ ap (λ k. get_or now i any ∷ drop k now) more
+
+  -- what the stages that are left answer is the answer of all, behind those that are done
+  abbrev pub Continues : List State → ℕ → Data → Meter → List State → List State → Data → Meter → ℕ → Type 0
+  Continues all d x m done left y n inside = (r : Result (List State × Data) Fault) (n' : Meter) → StagesStep left d y r n n' inside → StagesStep all d x (behind done r) m n' inside
+
+  pub continues_first : (bs : List State) (d : ℕ) (x : Data) (m : Meter) (inside : ℕ) → Continues bs d x m [] bs x m inside
+  continues_first bs d x m inside (Ok y) n' h = h
+  continues_first bs d x m inside (Err f) n' h = h
+
+  behind_one : (done : List State) (a : State) (r : Result (List State × Data) Fault) → behind done (behind (a ∷ []) r) ≡ behind (done ++ a ∷ []) r
+  behind_one done a (Ok y) = ap (λ (bs : List State). Ok (bs, y.1)) (sym (append_assoc done (a ∷ []) y.0))
+  behind_one done a (Err f) = refl
+
+  module _ (all : List State) (d : ℕ) (x : Data) (m : Meter) (now : List State) (i : ℕ) (y : Data) (n : Meter) (inside : ℕ) (any : State) (short : i < length now) (c : Continues all d x m (take i now) (drop i now) y n inside) where
+    abbrev a : State
+    a = get_or now i any
+
+    left_is : drop i now ≡ a ∷ drop (i + 1) now
+    left_is = left_from now i any short
+
+    pub continues_next : (a' : State) (z : Data) (n' : Meter) → StateSteps p a (step d y) (Ok (a', z)) n n' inside
+        → Continues all d x m (take (i + 1) (set now i a')) (drop (i + 1) (set now i a')) z n' inside
+    continues_next a' z n' hs r k h =
+        let rest_same = drop-set-lt (i + 1) now i a' (omega arith) in
+        let one = stage_steps a d y n n' inside a' z hs k (drop (i + 1) now) r (subst (λ (bs : List State). StagesStep bs d z r n' k inside) rest_same h) in
+        let two = c (behind (a' ∷ []) r) k (subst (λ (bs : List State). StagesStep bs d y (behind (a' ∷ []) r) n k inside) (sym left_is) one) in
+        subst (λ r. StagesStep all d x r m k inside) (behind_one (take i now) a' r ∙ ap (λ (bs : List State). behind bs r) (sym (take_more_set now i a' short))) two
+
+    pub continues_fails : (f : Fault) (n' : Meter) → StateSteps p a (step d y) (Err f) n n' inside → StagesStep all d x (Err f) m n' inside
+    continues_fails f n' hs = c (Err f) n' (subst (λ (bs : List State). StagesStep bs d y (Err f) n n' inside) (sym left_is) (stage_fails a d y n n' inside (drop (i + 1) now) f hs))
+
+  -- all stages are done
+  pub continues_last : (all : List State) (d : ℕ) (x : Data) (m : Meter) (now : List State) (i : ℕ) (y : Data) (n : Meter) (inside : ℕ) → i ≡ length now → Continues all d x m (take i now) (drop i now) y n inside → StagesStep all d x (Ok (now, y)) m n inside
+  continues_last all d x m now i y n inside e c =
+      let none : drop i now ≡ [] = ap (λ k. drop k now) e ∙ drop-length now in
+      let done : take i now ≡ now = ap (λ k. take k now) e ∙ take-length now in
+      let last = c (Ok ([], y)) n (subst (λ (bs : List State). StagesStep bs d y (Ok ([], y)) n n inside) (sym none) (refl, refl)) in
+      subst (λ (bs : List State). StagesStep all d x (Ok (bs, y)) m n inside) (append-nil (take i now) ∙ done) last
+
+  -- ## Types
+
+  -- the input has the type of the stages that it is fed to
+  pub data AreFed (bs : List State) (x : Data) : Type 0 where
+    are_fed : {u : Term} {e : Environment} {L : Life} {b c : Kind} → StagesStand p bs u e L → ProcessTakes (network_of_plan p) (closure u e) b c → LifeHas L b → HasKind x b → AreFed bs x
+
+  abbrev pub RestFed : List State → Data → Type 0
+  RestFed [] x = Unit {0}
+  RestFed (a ∷ bs) x = AreFed (a ∷ bs) x
+
+  pub stages_fed : (v : Vec State Global) (d : ℕ) (x : Data) → IsLiveFed p (LPipeline v) (step d x) → AreFed v.items x
+  stages_fed v d x (is_live_fed (ready h O (lives_pipeline is_stages S)) (closure_takes E (takes a b (stages_take F G))) l k) =
+      are_fed (stands_at v (items_hidden-the_row-State-0 v) S) (closure_takes E (takes a b (stages_take F G))) l k
+  stages_fed v d x (is_live_fed (ready h O (lives_pipeline is_sequence S)) (closure_takes E (takes a b (sequence_takes F G))) l k) =
+      are_fed (stands_at v (items_hidden-the_row-State-0 v) S) (closure_takes E (takes a b (stages_take F G))) l k
+
+  pub rest_fed : (bs : List State) (x : Data) → AreFed bs x → RestFed bs x
+  rest_fed [] x h = tt
+  rest_fed (a ∷ bs) x h = h
+
+  first_stage_fed : (a : State) (bs : List State) (x : Data) → AreFed (a ∷ bs) x → IsFed p a x
+  first_stage_fed a bs x (are_fed (last_stands A) T l k) = is_fed A T l k
+  first_stage_fed a bs x (are_fed (stage_stands O A S) (closure_takes E (takes _ _ (stages_take F G))) l k) = is_fed A (closure_takes E F) l k
+
+  others_fed : (a a' : State) (bs : List State) (d : ℕ) (x y : Data) (m n : Meter) (inside : ℕ) → StateSteps p a (step d x) (Ok (a', y)) m n inside → AreFed (a ∷ bs) x → RestFed bs y
+  others_fed a a' [] d x y m n inside hs h = tt
+  others_fed a a' (b ∷ bs) d x y m n inside hs (are_fed (stage_stands O A S) (closure_takes E (takes _ _ (stages_take F G))) l k) =
+      let one = answered (hs _ _ A) in
+      are_fed S (closure_takes E G) (relay_has l (outputs_typed net O (closure_takes E F) l)) (gives_typed net one.given (closure_takes E F) (more_steps {s = step d x} k l))
+
+  -- what the stage at an index is fed with
+  pub item_fed : (now : List State) (i : ℕ) (any : State) (y : Data) → i < length now → RestFed (drop i now) y → IsFed p (get_or now i any) y
+  item_fed now i any y short h = first_stage_fed _ _ y (subst (λ (bs : List State). RestFed bs y) (left_from now i any short) h)
+
+  pub next_fed : (now : List State) (i : ℕ) (any a' : State) (d : ℕ) (y z : Data) (m n : Meter) (inside : ℕ) → i < length now → StateSteps p (get_or now i any) (step d y) (Ok (a', z)) m n inside
+      → RestFed (drop i now) y → RestFed (drop (i + 1) (set now i a')) z
+  next_fed now i any a' d y z m n inside short hs h =
+      subst (λ (bs : List State). RestFed bs z) (sym (drop-set-lt (i + 1) now i a' (omega arith)))
+      (others_fed _ a' (drop (i + 1) now) d y z m n inside hs (subst (λ (bs : List State). RestFed bs y) (left_from now i any short) h))
+
+  -- ## Before the first sample
+
+  begin_stand : (i : PlanId) (ids : List PlanId) (bs : List State) (e : Environment) → AllBegin p e (i ∷ ids) bs → StagesStand p bs (stages rest (tree p i) (map (λ j. tree p j) ids)) e []
+  begin_stand i [] bs e (more_begin A none_begin) = last_stands A
+  begin_stand i (j ∷ ids) bs e (more_begin A B) = stage_stands not_begun A (begin_stand j ids _ e B)
+
+  open_pipeline : (ids : List PlanId) (w : Vec State Global) (e : Environment) → IsTrue (nat_le 2 (length ids)) → AllBegin p e ids w.items → Opens p (pipeline (map (λ j. tree p j) ids)) e (Ok (LPipeline w))
+  open_pipeline [] w e two B = absurd cc
+  open_pipeline (i ∷ []) w e two B = absurd cc
+  open_pipeline (i ∷ j ∷ ids) w e two B = opens (λ x. ready refl not_begun (pipeline_lives p w is_stages (begin_stand i (j ∷ ids) w.items e B)))
+
+  pub open_staged : (v : Vec PlanId Global) (t : Term) (w : Vec State Global) (e : Environment) → Builds p (NPipeline v) t → AllBegin p e v.items w.items → Opens p t e (Ok (LPipeline w))
+  open_staged v t w e (builds_pipeline two) B = open_pipeline v.items w e two B
+
+  -- a sequence is a pipeline of two stages
+  pub open_sequence : (a b : PlanId) (w : Vec State Global) (e : Environment) → AllBegin p e (a ∷ b ∷ []) w.items → Opens p (joined InSequence (tree p a) (tree p b)) e (Ok (LPipeline w))
+  open_sequence a b w e B = opens (λ x. ready refl not_begun (pipeline_lives p w is_sequence (begin_stand a (b ∷ []) w.items e B)))
+
+  -- one more stage begins
+  begin_push : (i : PlanId) (ids : List PlanId) (a : State) (bs : List State) (e : Environment) → AllBegin p e ids bs → Stands p a (closure (tree p i) e) [] → AllBegin p e (ids ++ i ∷ []) (bs ++ a ∷ [])
+  begin_push i [] a bs e none_begin A = more_begin A none_begin
+  begin_push i (j ∷ ids) a bs e (more_begin B C) A = more_begin B (begin_push i ids a _ e C A)
+
+  pub begin_next : (ids : List PlanId) (k : ℕ) (names : Env) (bs cs : List State) (e : Environment) (d : PlanId) → AllBegin p e (take k ids) bs → k < length ids → IsNames p names e → cs ≡ bs ++ Unborn (SClosure (get_or ids k d) names) ∷ [] → AllBegin p e (take (k + 1) ids) cs
+  begin_next ids k names bs cs e d B short N same =
+      let more : k + 1 ≡ suc k = omega arith in
+      rw (ap (λ j. take j ids) more ∙ take-suc ids k d short, same) (begin_push _ _ _ _ e B (unborn (is_closure N)))
