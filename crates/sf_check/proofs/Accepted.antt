@@ -1,20 +1,22 @@
 -- Which networks are accepted.
-use Rattle.std.proofs.Common.{◌≡◌, ℕ, Option, Some, None, slice_get, ap, ◌∙◌, sym, subst, refl}
+use Rattle.std.proofs.Common.{◌≡◌, ℕ, Option, Some, None, slice_get, ap, ◌∙◌, sym, refl}
 use Rattle.std.specs.Option.{option_map}
 use Rattle.std.proofs.lemmas.Option.{slice_get-map, same_Some, none-some}
+use Rattle.sf_refusal.specs.declared.refusal.Breach.{Breach}
+use Rattle.sf_refusal.specs.declared.refusal.Refusal.{Refusal}
+use Rattle.sf_refusal.specs.declared.refusal.Refusal.TheVariants.{Memory}
+use Rattle.sf_refusal.specs.Refusals.{OrMemory, because, no_memory}
+use Rattle.sf_refusal.proofs.Explained.{or_memory}
 use Rattle.sf_value.specs.Values.{Name}
 use Rattle.sf_term.specs.declared.program.Program.{Program}
 use Rattle.sf_term.specs.Trees.{Template, Templates}
 use Rattle.sf_term.specs.Arena.{templates_of, template_in}
-use Rattle.sf_mean.specs.Networks.{main_of as main_in}
+use Rattle.sf_mean.specs.Networks.{main_of}
 use Rattle.sf_mean.specs.Contexts.{context_of}
 use Rattle.sf_mean.specs.Typing.{IsTyped, Accepted}
-use Rattle.sf_check.specs.declared.refusal.CheckRefusal.{CheckRefusal}
-use Rattle.sf_check.specs.declared.refusal.CheckRefusal.TheVariants.{Memory}
 use Rattle.sf_check.specs.Names.{names, Repeats, HasDifferentNames}
 use Rattle.sf_check.specs.Breaking.{AreTyped, IsFirstBreak}
-use Rattle.sf_check.specs.Answering.{OrMemory, because, no_memory}
-use Rattle.sf_check.specs.Refusing.{Refuses, name_refused, type_refused, main_missing, out_of_memory}
+use Rattle.sf_check.specs.Refusing.{RefusesNetwork, name_refused, type_refused, main_missing}
 use Rattle.sf_check.proofs.Templates.{template_at}
 use Rattle.sf_check.proofs.Broken.{template_untyped}
 use Rattle.sf_check.proofs.Settled.{⊥-prop, settled}
@@ -32,7 +34,7 @@ template_there ts i x e = by (slice_get ts i) refl
     by None at = absurd (none-some x (ap (option_map (λ (t : Template). t.name)) (sym at) ∙ sym (slice_get-map (λ (t : Template). t.name) ts i) ∙ e))
     by (Some t) at = (t, at, same_Some _ _ (sym (name_there ts i t at) ∙ e))
 
-pub accepted_by : (p : Program) (t : Template) → HasDifferentNames p → AreTyped p → main_in (templates_of p) ≡ Some t → Accepted (templates_of p)
+pub accepted_by : (p : Program) (t : Template) → HasDifferentNames p → AreTyped p → main_of (templates_of p) ≡ Some t → Accepted (templates_of p)
 accepted_by p t different typed main = record {
   different = λ i j s t below at at' same.
       different j (record { earlier = i; before = below; name = s.name; there = name_there (templates_of p) i s at; here = name_there (templates_of p) j t at' ∙ ap Some (sym same) });
@@ -46,23 +48,23 @@ repeats_refuses ts place again accepted =
     let t = template_there ts place again.name again.here in
     accepted.different again.earlier place s.0 t.0 again.before s.1 t.1 (s.2 ∙ sym t.2)
 
+-- a network that breaks a rule is not accepted
+pub refused_network : (p : Program) (b : Breach) → RefusesNetwork p b → Accepted (templates_of p) → ⊥
+refused_network p b (name_refused again) accepted = repeats_refuses (templates_of p) again.place again.repeats accepted
+refused_network p b (type_refused different h) accepted = template_untyped h.broken (accepted.typed h.place (template_in p h.header) (template_at p h.place h.header h.at))
+refused_network p b (main_missing different typed none) accepted = none-some accepted.has_main.0 (sym none ∙ accepted.has_main.1)
+
 -- a network that keeps all rules is refused for want of memory alone
-pub refused_memory : (p : Program) (e : CheckRefusal) → Refuses p e → Accepted (templates_of p) → e ≡ Memory
-refused_memory p e (name_refused again) accepted = absurd (repeats_refuses (templates_of p) again.place again.repeats accepted)
-refused_memory p e (type_refused different h) accepted = absurd (template_untyped h.broken (accepted.typed h.place (template_in p h.header) (template_at p h.place h.header h.at)))
-refused_memory p e (main_missing different typed none) accepted = absurd (none-some accepted.has_main.0 (sym none ∙ accepted.has_main.1))
-refused_memory p e out_of_memory accepted = refl
+pub refused_memory : (p : Program) (e : Refusal) → OrMemory (RefusesNetwork p) e → Accepted (templates_of p) → e ≡ Memory
+refused_memory p e (because {b = b} h) accepted = absurd (refused_network p b h accepted)
+refused_memory p e no_memory accepted = refl
 
-pub memory_refuses : (p : Program) (e : CheckRefusal) → e ≡ Memory → Refuses p e
-memory_refuses p e is = subst (Refuses p) (sym is) out_of_memory
-
-pub types_refuse : (p : Program) (e : CheckRefusal) → HasDifferentNames p → OrMemory (IsFirstBreak p) e → Refuses p e
-types_refuse p e different (because h) = type_refused different h
-types_refuse p e different no_memory = out_of_memory
+pub types_refuse : (p : Program) (e : Refusal) → HasDifferentNames p → OrMemory (IsFirstBreak p) e → OrMemory (RefusesNetwork p) e
+types_refuse p e different h = or_memory (λ b k. type_refused different k) h
 
 -- ## What is known to be accepted, is
 
-module _ (ts : Templates) (t : Template) (main : main_in ts ≡ Some t) (known : ∥ Accepted ts ∥₁) where
+module _ (ts : Templates) (t : Template) (main : main_of ts ≡ Some t) (known : ∥ Accepted ts ∥₁) where
   -- a template is typed
   each_typed : (i : ℕ) (s : Template) → slice_get ts i ≡ Some s → IsTyped ts s
   each_typed i s at = settled (context_of ts) s.body s.input s.output (∥∥₁_map known (λ k. k.typed i s at))

@@ -2,7 +2,10 @@
 use Rattle.std.proofs.Common.{◌≡◌, ◌≢◌, ℕ, zero, suc, ◌<◌, Bool, true, false, ◌⊎◌, inl, inr, refl, sym, ap, subst, ◌∙◌, arith}
 use Rattle.std.proofs.lemmas.Bool.{cases_lt}
 use Rattle.sf_value.specs.Values.{Kind, int_kind, pair_kind, nodes as nodes_of}
-use Rattle.sf_expr.specs.declared.spot.Spot.{Spot}
+use Rattle.sf_refusal.specs.declared.spot.Spot.{Spot}
+use Rattle.sf_refusal.specs.declared.rule.Rule.TheVariants.{TypeTooLarge}
+use Rattle.sf_refusal.specs.declared.refusal.Breach.{Breach}
+use Rattle.sf_refusal.specs.Refusals.{breach_of}
 use Rattle.sf_expr.specs.declared.exprs.ExprId.{ExprId}
 use Rattle.sf_expr.specs.declared.exprs.Exprs.{Exprs}
 use Rattle.sf_expr.specs.Arena.{expression}
@@ -21,21 +24,19 @@ use Rattle.sf_term.specs.declared.node.Primitive.TheVariants as primitives
 use Rattle.sf_term.specs.declared.node.Node.{Node}
 use Rattle.sf_term.specs.declared.node.Node.TheVariants as nodes
 use Rattle.sf_term.specs.declared.program.Program.{Program}
-use Rattle.sf_term.specs.Arena.{id_number, tree, node_at, entry_of, spot_at, expressions_of, PartsBelow}
+use Rattle.sf_term.specs.Arena.{term_number, tree, term_node_at, term_entry_of, term_spot_at, expressions_of, TermPartsBelow}
 use Rattle.sf_term.proofs.Kept.{parts_below}
 use Rattle.sf_mean.specs.Contexts.{Context, names_of_values}
 use Rattle.sf_mean.specs.Typing.{PrimitiveTakes, identity_takes, constant_takes, initial_pre_takes, arrow_takes, Takes, FormTakes, primitive_takes, sequence_takes, parallel_takes, fan_takes, first_takes, second_takes, loop_takes}
 use Rattle.sf_mean.specs.Inference.{same_kind}
 use Rattle.sf_mean.proofs.Inferred.{same_is, is_same, output_fits}
-use Rattle.sf_check.specs.declared.refusal.CheckRefusal.{CheckRefusal}
-use Rattle.sf_check.specs.declared.refusal.CheckRefusal.TheVariants.{TypeTooLarge}
-use Rattle.sf_check.specs.Breaking.{Exceeds, PrimitiveBreaks, value_refused, initial_differs, function_refused, BreaksItself, primitive_breaks, parallel_input, parallel_exceeds, fan_exceeds, side_input, first_exceeds, second_exceeds, start_refused, fed_exceeds, loop_differs, Reaches, sequence_left, sequence_right, parallel_left, parallel_right, fan_left, fan_right, first_part, second_part, loop_part, Breaks, itself, within}
+use Rattle.sf_check.specs.Breaking.{Exceeds, PrimitiveBreaks, value_refused, initial_differs, function_refused, FormBreaks, primitive_breaks, parallel_input, parallel_exceeds, fan_exceeds, side_input, first_exceeds, second_exceeds, start_refused, fed_exceeds, loop_differs, Reaches, sequence_left, sequence_right, parallel_left, parallel_right, fan_left, fan_right, first_part, second_part, loop_part, TermBreaks, itself, within}
 use Rattle.sf_check.specs.Answering.{primitive_in}
 use Rattle.sf_check.proofs.Made.{made}
 use Rattle.sf_check.proofs.Terms.{form_ok}
 use Rattle.sf_check.proofs.Types.{primitive_fits}
 
-kinds_or : (t u : Kind) → (t ≡ u) ⊎ (t ≢ u)
+pub kinds_or : (t u : Kind) → (t ≡ u) ⊎ (t ≢ u)
 kinds_or t u = each (same_kind t u) refl
   where
     each : (b : Bool) → same_kind t u ≡ b → (t ≡ u) ⊎ (t ≢ u)
@@ -45,7 +46,7 @@ kinds_or t u = each (same_kind t u) refl
 -- ## Primitives
 
 abbrev pub PrimitiveAnswered : Exprs → Context → Primitive → Kind → Spot → Type 0
-PrimitiveAnswered x Γ q a s = ((b : Kind) × PrimitiveTakes Γ (primitive_in x q) a b) ⊎ ((e : CheckRefusal) × PrimitiveBreaks x Γ s q a e)
+PrimitiveAnswered x Γ q a s = ((b : Kind) × PrimitiveTakes Γ (primitive_in x q) a b) ⊎ ((e : Breach) × PrimitiveBreaks x Γ s q a e)
 
 value_answered : (x : Exprs) (Γ : Context) (k : WithValue) (v : ExprId) (a : Kind) (s : Spot) (b : Kind) → HasType (names_of_values Γ) (expression x v) b → PrimitiveAnswered x Γ (primitives.WithValue k v) a s
 value_answered x Γ Constant v a s b h = inl (b, constant_takes h)
@@ -64,38 +65,38 @@ primitive_answered x Γ (primitives.Arrow g) a s fit f = elim (function_answered
 module _ (p : Program) (Γ : Context) (names : NamesFit (names_of_values Γ)) where
   -- a term takes inputs of a type, or a rule is broken
   abbrev pub IsAnswered : TermId → Kind → Type 0
-  IsAnswered t a = ((b : Kind) × Takes Γ (tree p t) a b) ⊎ ((e : CheckRefusal) × Breaks p Γ t a e)
+  IsAnswered t a = ((b : Kind) × Takes Γ (tree p t) a b) ⊎ ((e : Breach) × TermBreaks p Γ t a e)
 
-  module _ (t : TermId) (n : Node) (a : Kind) (is : node_at p t ≡ n) (fits : Fits a) where
-    broken : {e : CheckRefusal} → BreaksItself p Γ (spot_at p t) n a e → IsAnswered t a
-    broken {e} h = inr (e, itself (subst (λ m. BreaksItself p Γ (spot_at p t) m a e) (sym is) h))
+  module _ (t : TermId) (n : Node) (a : Kind) (is : term_node_at p t ≡ n) (fits : Fits a) where
+    broken : {e : Breach} → FormBreaks p Γ (term_spot_at p t) n a e → IsAnswered t a
+    broken {e} h = inr (e, itself (subst (λ m. FormBreaks p Γ (term_spot_at p t) m a e) (sym is) h))
 
-    in_part : {j : TermId} {b : Kind} {e : CheckRefusal} → Reaches p Γ n a j b → Breaks p Γ j b e → IsAnswered t a
+    in_part : {j : TermId} {b : Kind} {e : Breach} → Reaches p Γ n a j b → TermBreaks p Γ j b e → IsAnswered t a
     in_part {j} {b} {e} r h = inr (e, within (subst (λ m. Reaches p Γ m a j b) (sym is) r) h)
 
     taken : (b : Kind) → Fits b → FormTakes Γ (made p n) a b → IsAnswered t a
     taken b f h = inl (b, form_ok p Γ t n a is b fits f h)
 
-    pair_taken : (b c : Kind) → FormTakes Γ (made p n) a (pair_kind b c) → (Exceeds (pair_kind b c) → BreaksItself p Γ (spot_at p t) n a (TypeTooLarge (spot_at p t))) → IsAnswered t a
+    pair_taken : (b c : Kind) → FormTakes Γ (made p n) a (pair_kind b c) → (Exceeds (pair_kind b c) → FormBreaks p Γ (term_spot_at p t) n a (breach_of TypeTooLarge (term_spot_at p t))) → IsAnswered t a
     pair_taken b c h big = elim (cases_lt 256 (nodes_of (pair_kind b c))) [ inl q ↦ broken (big q) | inr f ↦ taken (pair_kind b c) f h ]
 
   abbrev Parts : TermId → Type 0
-  Parts t = (j : TermId) → id_number j < id_number t → (b : Kind) → Fits b → IsAnswered j b
+  Parts t = (j : TermId) → term_number j < term_number t → (b : Kind) → Fits b → IsAnswered j b
 
-  of_primitive : (t : TermId) (q : Primitive) (a : Kind) → node_at p t ≡ nodes.Primitive q → Fits a → IsAnswered t a
-  of_primitive t q a is f = elim (primitive_answered (expressions_of p) Γ q a (spot_at p t) names f) [
+  of_primitive : (t : TermId) (q : Primitive) (a : Kind) → term_node_at p t ≡ nodes.Primitive q → Fits a → IsAnswered t a
+  of_primitive t q a is f = elim (primitive_answered (expressions_of p) Γ q a (term_spot_at p t) names f) [
     | inl h ↦ taken t (nodes.Primitive q) a is f h.0 (primitive_fits f h.1) (primitive_takes h.1)
     | inr r ↦ broken t (nodes.Primitive q) a is f (primitive_breaks r.1)
   ]
 
-  of_sequence : (t f g : TermId) (a : Kind) → node_at p t ≡ nodes.Joined InSequence f g → Fits a → IsAnswered f a → ((b : Kind) → Fits b → IsAnswered g b) → IsAnswered t a
+  of_sequence : (t f g : TermId) (a : Kind) → term_node_at p t ≡ nodes.Joined InSequence f g → Fits a → IsAnswered f a → ((b : Kind) → Fits b → IsAnswered g b) → IsAnswered t a
   of_sequence t f g a is k (inr r) G = in_part t _ a is k sequence_left r.1
   of_sequence t f g a is k (inl h) G = elim (G h.0 (output_fits h.1)) [
     | inr r ↦ in_part t _ a is k (sequence_right h.1) r.1
     | inl i ↦ taken t _ a is k i.0 (output_fits i.1) (sequence_takes h.1 i.1)
   ]
 
-  of_parallel : (t f g : TermId) (a : Kind) → node_at p t ≡ nodes.Joined InParallel f g → Fits a → ((b : Kind) → Fits b → IsAnswered f b) → ((b : Kind) → Fits b → IsAnswered g b) → IsAnswered t a
+  of_parallel : (t f g : TermId) (a : Kind) → term_node_at p t ≡ nodes.Joined InParallel f g → Fits a → ((b : Kind) → Fits b → IsAnswered f b) → ((b : Kind) → Fits b → IsAnswered g b) → IsAnswered t a
   of_parallel t f g int_kind is k F G = broken t _ int_kind is k (parallel_input (λ x y e. cc))
   of_parallel t f g (pair_kind a c) is k F G = elim (F a (omega arith)) [
     | inr r ↦ in_part t _ (pair_kind a c) is k parallel_left r.1
@@ -105,33 +106,33 @@ module _ (p : Program) (Γ : Context) (names : NamesFit (names_of_values Γ)) wh
     ]
   ]
 
-  of_fan : (t f g : TermId) (a : Kind) → node_at p t ≡ nodes.Joined FannedOut f g → Fits a → IsAnswered f a → IsAnswered g a → IsAnswered t a
+  of_fan : (t f g : TermId) (a : Kind) → term_node_at p t ≡ nodes.Joined FannedOut f g → Fits a → IsAnswered f a → IsAnswered g a → IsAnswered t a
   of_fan t f g a is k (inr r) G = in_part t _ a is k fan_left r.1
   of_fan t f g a is k (inl h) (inr r) = in_part t _ a is k (fan_right h.1) r.1
   of_fan t f g a is k (inl h) (inl i) = pair_taken t _ a is k h.0 i.0 (fan_takes h.1 i.1) (fan_exceeds h.1 i.1)
 
-  of_first : (t f : TermId) (a : Kind) → node_at p t ≡ nodes.Sided First f → Fits a → ((b : Kind) → Fits b → IsAnswered f b) → IsAnswered t a
+  of_first : (t f : TermId) (a : Kind) → term_node_at p t ≡ nodes.Sided First f → Fits a → ((b : Kind) → Fits b → IsAnswered f b) → IsAnswered t a
   of_first t f int_kind is k F = broken t _ int_kind is k (side_input (λ x y e. cc))
   of_first t f (pair_kind a c) is k F = elim (F a (omega arith)) [
     | inr r ↦ in_part t _ (pair_kind a c) is k first_part r.1
     | inl h ↦ pair_taken t _ (pair_kind a c) is k h.0 c (first_takes h.1) (first_exceeds h.1)
   ]
 
-  of_second : (t f : TermId) (a : Kind) → node_at p t ≡ nodes.Sided Second f → Fits a → ((b : Kind) → Fits b → IsAnswered f b) → IsAnswered t a
+  of_second : (t f : TermId) (a : Kind) → term_node_at p t ≡ nodes.Sided Second f → Fits a → ((b : Kind) → Fits b → IsAnswered f b) → IsAnswered t a
   of_second t f int_kind is k F = broken t _ int_kind is k (side_input (λ x y e. cc))
   of_second t f (pair_kind c a) is k F = elim (F a (omega arith)) [
     | inr r ↦ in_part t _ (pair_kind c a) is k second_part r.1
     | inl h ↦ pair_taken t _ (pair_kind c a) is k c h.0 (second_takes h.1) (second_exceeds h.1)
   ]
 
-  looped : (t : TermId) (v : ExprId) (f : TermId) (a c d : Kind) → node_at p t ≡ nodes.Headed LoopPre v f → Fits a → HasType (names_of_values Γ) (expression (expressions_of p) v) c → Takes Γ (tree p f) (pair_kind a c) d → IsAnswered t a
+  looped : (t : TermId) (v : ExprId) (f : TermId) (a c d : Kind) → term_node_at p t ≡ nodes.Headed LoopPre v f → Fits a → HasType (names_of_values Γ) (expression (expressions_of p) v) c → Takes Γ (tree p f) (pair_kind a c) d → IsAnswered t a
   looped t v f a c int_kind is k E T = broken t _ a is k (loop_differs E T (λ x e. cc))
   looped t v f a c (pair_kind b w) is k E T = elim (kinds_or w c) [
     | inl e ↦ let fit = output_fits T in taken t _ a is k b (omega arith) (loop_takes E (subst (λ w. Takes Γ (tree p f) (pair_kind a c) (pair_kind b w)) e T))
     | inr other ↦ broken t _ a is k (loop_differs E T (λ x e. other cc))
   ]
 
-  of_loop : (t : TermId) (v : ExprId) (f : TermId) (a : Kind) → node_at p t ≡ nodes.Headed LoopPre v f → Fits a → ((b : Kind) → Fits b → IsAnswered f b) → IsAnswered t a
+  of_loop : (t : TermId) (v : ExprId) (f : TermId) (a : Kind) → term_node_at p t ≡ nodes.Headed LoopPre v f → Fits a → ((b : Kind) → Fits b → IsAnswered f b) → IsAnswered t a
   of_loop t v f a is k F = elim (answered (expressions_of p) (names_of_values Γ) names v) [
     | inr r ↦ broken t _ a is k (start_refused r.1)
     | inl c ↦ elim (cases_lt 256 (nodes_of (pair_kind a c.0))) [
@@ -143,15 +144,15 @@ module _ (p : Program) (Γ : Context) (names : NamesFit (names_of_values Γ)) wh
     ]
   ]
 
-  node_parts : (t : TermId) → PartsBelow (node_at p t) (id_number t)
-  unfolding node_at entry_of
+  node_parts : (t : TermId) → TermPartsBelow (term_node_at p t) (term_number t)
+  unfolding term_node_at term_entry_of
   node_parts t = parts_below p t
 
-  answered_within : (fuel : ℕ) (t : TermId) → id_number t < fuel → (a : Kind) → Fits a → IsAnswered t a
+  answered_within : (fuel : ℕ) (t : TermId) → term_number t < fuel → (a : Kind) → Fits a → IsAnswered t a
   answered_within zero t h a f = absurd (omega arith)
-  answered_within (suc fuel) t h a f = by_node (node_at p t) refl (node_parts t) (λ j k. answered_within fuel j (omega arith))
+  answered_within (suc fuel) t h a f = by_node (term_node_at p t) refl (node_parts t) (λ j k. answered_within fuel j (omega arith))
     where
-      by_node : (n : Node) → node_at p t ≡ n → PartsBelow n (id_number t) → Parts t → IsAnswered t a
+      by_node : (n : Node) → term_node_at p t ≡ n → TermPartsBelow n (term_number t) → Parts t → IsAnswered t a
       by_node (nodes.Primitive q) is b parts = of_primitive t q a is f
       by_node (nodes.Joined InSequence l r) is b parts = of_sequence t l r a is f (parts l b.0 a f) (parts r b.1)
       by_node (nodes.Joined InParallel l r) is b parts = of_parallel t l r a is f (parts l b.0) (parts r b.1)
@@ -161,4 +162,4 @@ module _ (p : Program) (Γ : Context) (names : NamesFit (names_of_values Γ)) wh
       by_node (nodes.Headed LoopPre v j) is b parts = of_loop t v j a is f (parts j b)
 
   pub term_answered : (t : TermId) (a : Kind) → Fits a → IsAnswered t a
-  term_answered t a f = answered_within (suc (id_number t)) t (omega arith) a f
+  term_answered t a f = answered_within (suc (term_number t)) t (omega arith) a f

@@ -5,17 +5,19 @@ use Rattle.std.specs.Str.{bytes_eq}
 use Rattle.indexmap.specs.IndexSet.{IndexSet, index_of_by}
 use Rattle.std.proofs.lemmas.Iterator.Adapters.{position_from-zero}
 use Rattle.std.proofs.lemmas.List.{length-map}
-use Rattle.std.proofs.lemmas.Option.{slice_get_within}
+use Rattle.std.proofs.lemmas.Option.{slice_get_within, same_Some, none-some}
+use Rattle.std.specs.Bool.{Decides}
+use Rattle.std.proofs.lemmas.Slice.Eq.{bytes_eq-Decides}
 use Rattle.sf_value.specs.Values.{Name}
 use Rattle.sf_term.specs.Trees.{Template, Templates}
-use Rattle.sf_mean.specs.Networks.{template_named, main_of as main_in}
+use Rattle.sf_mean.specs.Networks.{template_named, main_of}
 use Rattle.sf_mean.specs.Typing.{IsTyped, Accepted}
 use Rattle.sf_term.specs.declared.program.Program.{Program}
 use Rattle.sf_term.specs.Headers.{Header}
 use Rattle.sf_term.specs.Arena.{headers_of, template_in, templates_of}
 use Rattle.sf_check.specs.declared.checked.Checked.{Checked}
-use Rattle.sf_check.specs.Accepting.{program_of, main_of, no_main}
-use Rattle.sf_check.specs.Names.{names, names_in, program_names}
+use Rattle.sf_check.specs.Accepting.{program_of, checked_main, no_main}
+use Rattle.sf_check.specs.Names.{names, names_of_set, program_names, IsHeaderNamed}
 use Rattle.sf_check.proofs.Templates.{template_at}
 use Rattle.sf_check.proofs.Accepted.{settled_accepted}
 
@@ -62,8 +64,17 @@ module _ (x : Name) where
   none_named ts e = subst (Places ts 0) e (placed ts)
 
 -- the place of a name in a set
-pub place_in : {Y S : Type 0} (set : IndexSet (String Y) S) (x : Name) (ns : List Name) → names_in set ≡ ns → index_of_by (λ k. bytes_eq x (string_bytes k)) set ≡ position (bytes_eq x) ns
+pub place_in : {Y S : Type 0} (set : IndexSet (String Y) S) (x : Name) (ns : List Name) → names_of_set set ≡ ns → index_of_by (λ k. bytes_eq x (string_bytes k)) set ≡ position (bytes_eq x) ns
 place_in set x ns e = sym (position-map string_bytes (bytes_eq x) set.keys) ∙ ap (position (bytes_eq x)) e
+
+-- the first template of a name has the name
+named_so : (x : Name) (ts : Templates) (t : Template) → template_named x ts ≡ Some t → t.name ≡ x
+named_so x [] t e = absurd (none-some t e)
+named_so x (u ∷ ts) t e = by (bytes_eq x u.name) (bytes_eq-Decides x u.name) (named_so x ts t) e
+  where
+    by : (b : Bool) → Decides b (x ≡ u.name) → (template_named x ts ≡ Some t → t.name ≡ x) → cond b (Some u) (template_named x ts) ≡ Some t → t.name ≡ x
+    by true d rest q = ap (λ (t : Template). t.name) (sym (same_Some _ _ q)) ∙ sym (d.0 refl)
+    by false d rest q = rest q
 
 -- the template at the place of a name
 module _ (p : Program) (x : Name) (i : ℕ) (place : position (bytes_eq x) (program_names p) ≡ Some i) where
@@ -79,29 +90,32 @@ module _ (p : Program) (x : Name) (i : ℕ) (place : position (bytes_eq x) (prog
       let there = named_at x (templates_of p) i place in
       sym (template_at p i h at) ∙ there.at ∙ sym there.named
 
+  pub header_named : (h : Header) → slice_get (headers_of p) i ≡ Some h → IsHeaderNamed p x h
+  header_named h at = record { place = i; at = at; named = named_so x (templates_of p) (template_in p h) (sym (named_is h at)) }
+
 -- ## `main`
 
 module _ (c : Checked) where
   pub main_within : c.main < length (headers_of (program_of c))
   main_within = named_within (program_of c) (codes "main") c.main c.main_found
 
-  main_there : (t : Template) → main_in (templates_of (program_of c)) ≡ Some t → main_of c ≡ t
-  unfolding main_of
+  main_there : (t : Template) → main_of (templates_of (program_of c)) ≡ Some t → checked_main c ≡ t
+  unfolding checked_main
   main_there t e = ap (λ o. unwrap_or o no_main) e
 
-  pub main_named : main_in (templates_of (program_of c)) ≡ Some (main_of c)
+  pub main_named : main_of (templates_of (program_of c)) ≡ Some (checked_main c)
   main_named =
       let there = named_at (codes "main") (templates_of (program_of c)) c.main c.main_found in
       there.named ∙ ap Some (sym (main_there there.template there.named))
 
-  pub main_is : (h : Header) → slice_get (headers_of (program_of c)) c.main ≡ Some h → template_in (program_of c) h ≡ main_of c
+  pub main_is : (h : Header) → slice_get (headers_of (program_of c)) c.main ≡ Some h → template_in (program_of c) h ≡ checked_main c
   main_is h at = sym (main_there (template_in (program_of c) h) (sym (named_is (program_of c) (codes "main") c.main c.main_found h at)))
 
   pub now_accepted : Accepted (templates_of (program_of c))
-  now_accepted = settled_accepted (templates_of (program_of c)) (main_of c) main_named c.accepted
+  now_accepted = settled_accepted (templates_of (program_of c)) (checked_main c) main_named c.accepted
 
   -- the template that is run is typed
-  pub main_typed : IsTyped (templates_of (program_of c)) (main_of c)
+  pub main_typed : IsTyped (templates_of (program_of c)) (checked_main c)
   main_typed =
       let there = named_at (codes "main") (templates_of (program_of c)) c.main c.main_found in
       subst (IsTyped (templates_of (program_of c))) (sym (main_there there.template there.named)) (now_accepted.typed c.main there.template there.at)

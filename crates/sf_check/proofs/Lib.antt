@@ -9,3 +9,4 @@ pub mod Accepted
 pub mod Once
 pub mod Finding
 pub mod Answered
+pub mod Decided

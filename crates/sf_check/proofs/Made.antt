@@ -1,5 +1,5 @@
 -- The terms that nodes stand for.
-use Rattle.std.proofs.Common.{◌≡◌, sym, ap, ◌∙◌}
+use Rattle.std.proofs.Common.{◌≡◌, refl, sym, ap, ◌∙◌}
 use Rattle.sf_expr.specs.Arena.{expression}
 use Rattle.sf_term.specs.declared.node.TermId.{TermId}
 use Rattle.sf_term.specs.declared.node.Primitive.TheVariants as primitives
@@ -7,8 +7,8 @@ use Rattle.sf_term.specs.declared.node.Node.{Node}
 use Rattle.sf_term.specs.declared.node.Node.TheVariants as nodes
 use Rattle.sf_term.specs.declared.program.Program.{Program}
 use Rattle.sf_term.specs.Trees.{Term, primitive, joined, sided, headed, with_value, arrow}
-use Rattle.sf_term.specs.Arena.{tree, node_at, expressions_of, Builds}
-use Rattle.sf_term.proofs.Kept.{node_builds, is_bare, is_with_value, is_arrow, is_joined, is_sided, is_headed, expression_in, function_at_in}
+use Rattle.sf_term.specs.Arena.{tree, term_node_at, expressions_of, term_of}
+use Rattle.sf_term.proofs.Kept.{node_builds, expression_in, function_at_in}
 use Rattle.sf_check.specs.Answering.{primitive_in}
 
 -- the term that a node makes of its parts
@@ -18,13 +18,13 @@ made p (nodes.Joined j f g) = joined j (tree p f) (tree p g)
 made p (nodes.Sided d f) = sided d (tree p f)
 made p (nodes.Headed h v f) = headed h (expression (expressions_of p) v) (tree p f)
 
-pub tree_made : (p : Program) (t : TermId) (n : Node) → node_at p t ≡ n → tree p t ≡ made p n
-tree_made p t n e = by n (node_builds p t n e)
+pub tree_made : (p : Program) (t : TermId) (n : Node) → term_node_at p t ≡ n → tree p t ≡ made p n
+tree_made p t n e = node_builds p t n e ∙ by n
   where
-    by : (n : Node) {u : Term} → Builds p n u → u ≡ made p n
-    by (nodes.Primitive (primitives.Bare k)) b = is_bare b
-    by (nodes.Primitive (primitives.WithValue k v)) b = is_with_value b ∙ ap (λ e. primitive (with_value k e)) (sym (expression_in p v))
-    by (nodes.Primitive (primitives.Arrow f)) b = is_arrow b ∙ ap (λ f. primitive (arrow f)) (sym (function_at_in p f))
-    by (nodes.Joined j f g) b = is_joined b
-    by (nodes.Sided d f) b = is_sided b
-    by (nodes.Headed h v f) b = is_headed b ∙ ap (λ e. headed h e (tree p f)) (sym (expression_in p v))
+    by : (n : Node) → term_of p n ≡ made p n
+    by (nodes.Primitive (primitives.Bare k)) = refl
+    by (nodes.Primitive (primitives.WithValue k v)) = ap (λ e. primitive (with_value k e)) (sym (expression_in p v))
+    by (nodes.Primitive (primitives.Arrow f)) = ap (λ f. primitive (arrow f)) (sym (function_at_in p f))
+    by (nodes.Joined j f g) = refl
+    by (nodes.Sided d f) = refl
+    by (nodes.Headed h v f) = ap (λ e. headed h e (tree p f)) (sym (expression_in p v))

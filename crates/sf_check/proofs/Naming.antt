@@ -9,12 +9,12 @@ use Rattle.std.proofs.lemmas.Option.{slice_get_within, slice_get_read, get_or_fr
 use Rattle.std.proofs.lemmas.List.{get_or-take, length-take, length-map, take_more, take_all, map-append}
 use Rattle.std.proofs.lemmas.List.Folds.{list_any_at}
 use Rattle.sf_value.specs.Values.{Name}
-use Rattle.sf_expr.specs.declared.spot.Spot.{Spot}
+use Rattle.sf_refusal.specs.declared.spot.Spot.{Spot}
 use Rattle.sf_term.specs.declared.program.Program.{Program}
 use Rattle.sf_term.specs.Trees.{Template}
 use Rattle.sf_term.specs.Arena.{headers_of, template_in, templates_of, spots_of}
 use Rattle.sf_check.proofs.Templates.{lt_or_eq}
-use Rattle.sf_check.specs.Names.{names_in, program_names, Repeats, HasDifferentNames, IsFirstRepeat}
+use Rattle.sf_check.specs.Names.{names_of_set, program_names, Repeats, HasDifferentNames, IsFirstRepeat}
 
 -- an item of a list is one of its front
 in_front : {X : Type 0} (xs : List X) (n i : ℕ) (x : X) → i < n → slice_get xs i ≡ Some x → slice_get (take n xs) i ≡ Some x
@@ -53,7 +53,7 @@ among x ns i e =
     let same : bytes_eq x x ≡ true = bytes_eq-refl x in
     list_any_at (bytes_eq x) ns i x (slice_get_within ns i x e) (ap (bytes_eq x) (get_or_from_slice_get ns i x x e) ∙ same)
 
-not_below : (n m : ℕ) → (m < n → ⊥) → n ≤ m
+pub not_below : (n m : ℕ) → (m < n → ⊥) → n ≤ m
 not_below n m none = grind arith
 
 -- The names of the first templates, which differ.
@@ -108,19 +108,19 @@ string_any k [] = refl
 string_any k (x ∷ xs) = ap (λ b. bytes_eq (string_bytes k) (string_bytes x) || b) (string_any k xs)
 
 module _ {Y S : Type 0} (set : IndexSet (String Y) S) (k : String Y) (added : Bool) (is : added ≡ not (contains string_eq set k)) where
-  pub present : added ≡ false → list_any (bytes_eq (string_bytes k)) (names_in set) ≡ true
+  pub present : added ≡ false → list_any (bytes_eq (string_bytes k)) (names_of_set set) ≡ true
   present e = sym (string_any k set.keys) ∙ not_false _ (sym is ∙ e)
     where
       not_false : (b : Bool) → not b ≡ false → b ≡ true
       not_false true h = refl
       not_false false h = sym h
 
-  pub absent : added ≡ true → list_any (bytes_eq (string_bytes k)) (names_in set) ≡ false
+  pub absent : added ≡ true → list_any (bytes_eq (string_bytes k)) (names_of_set set) ≡ false
   absent e = sym (string_any k set.keys) ∙ not_true _ (sym is ∙ e)
     where
       not_true : (b : Bool) → not b ≡ true → b ≡ false
       not_true true h = sym h
       not_true false h = refl
 
-  pub named_after : {T : Type 0} (after : IndexSet (String Y) T) → added ≡ true → after.keys ≡ insert_key string_eq set.keys k → names_in after ≡ names_in set ++ string_bytes k ∷ []
+  pub named_after : {T : Type 0} (after : IndexSet (String Y) T) → added ≡ true → after.keys ≡ insert_key string_eq set.keys k → names_of_set after ≡ names_of_set set ++ string_bytes k ∷ []
   named_after after e made = ap (map string_bytes) (made ∙ ap (λ b. cond b set.keys (set.keys ++ k ∷ [])) (string_any k set.keys ∙ absent e)) ∙ map-append string_bytes set.keys (k ∷ [])

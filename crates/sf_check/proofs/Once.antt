@@ -1,9 +1,12 @@
 -- A network is refused in one way at most.
-use Rattle.std.proofs.Common.{◌≡◌, ◌≢◌, ◌<◌, ℕ, slice_get, refl, sym, ◌∙◌, ap, subst, arith}
+use Rattle.std.proofs.Common.{◌≡◌, ◌<◌, ℕ, slice_get, refl, sym, ◌∙◌, ap, subst, arith}
 use Rattle.std.proofs.lemmas.Option.{same_Some}
 use Rattle.sf_value.specs.Values.{Kind, pair_kind}
 use Rattle.sf_expr.specs.declared.exprs.Exprs.{Exprs}
-use Rattle.sf_expr.specs.declared.spot.Spot.{Spot}
+use Rattle.sf_refusal.specs.declared.spot.Spot.{Spot}
+use Rattle.sf_refusal.specs.declared.rule.Rule.TheVariants.{DuplicateName}
+use Rattle.sf_refusal.specs.declared.refusal.Breach.{Breach}
+use Rattle.sf_refusal.specs.Refusals.{breach_of, broken}
 use Rattle.sf_expr.proofs.Judged.{refused_untyped}
 use Rattle.sf_expr.proofs.Once.{refused_once, function_refused_once}
 use Rattle.sf_term.specs.declared.node.TermId.{TermId}
@@ -14,27 +17,24 @@ use Rattle.sf_term.specs.Headers.{Header}
 use Rattle.sf_term.specs.Arena.{tree, headers_of, spots_of, template_in}
 use Rattle.sf_mean.specs.Contexts.{Context}
 use Rattle.sf_mean.specs.Typing.{Takes}
-use Rattle.sf_check.specs.declared.refusal.CheckRefusal.{CheckRefusal}
-use Rattle.sf_check.specs.declared.refusal.CheckRefusal.TheVariants.{DuplicateName, Memory}
-use Rattle.sf_check.specs.Carrying.{carried}
 use Rattle.sf_check.specs.Names.{IsFirstRepeat}
-use Rattle.sf_check.specs.Breaking.{PrimitiveBreaks, value_refused, initial_differs, function_refused, BreaksItself, primitive_breaks, parallel_input, parallel_exceeds, fan_exceeds, side_input, first_exceeds, second_exceeds, start_refused, fed_exceeds, loop_differs, Reaches, sequence_left, sequence_right, parallel_left, parallel_right, fan_left, fan_right, first_part, second_part, loop_part, Breaks, itself, within, BreaksIn, breaks_within, breaks_header, IsFirstBreak}
-use Rattle.sf_check.specs.Refusing.{Refuses, name_refused, type_refused, main_missing, out_of_memory}
+use Rattle.sf_check.specs.Breaking.{PrimitiveBreaks, value_refused, initial_differs, function_refused, FormBreaks, primitive_breaks, parallel_input, parallel_exceeds, fan_exceeds, side_input, first_exceeds, second_exceeds, start_refused, fed_exceeds, loop_differs, Reaches, sequence_left, sequence_right, parallel_left, parallel_right, fan_left, fan_right, first_part, second_part, loop_part, TermBreaks, itself, within, TemplateBreaks, breaks_within, breaks_header, IsFirstBreak}
+use Rattle.sf_check.specs.Refusing.{RefusesNetwork, name_refused, type_refused, main_missing}
 use Rattle.sf_check.proofs.Types.{expression_one, takes_one, input_fits}
 use Rattle.sf_check.proofs.Broken.{too_large, breaks_untyped, template_untyped}
 use Rattle.sf_check.proofs.Templates.{template_at}
 
 -- ## One form
 
-primitive_once : {x : Exprs} {Γ : Context} {s : Spot} {q : Primitive} {a : Kind} {e f : CheckRefusal} → PrimitiveBreaks x Γ s q a e → PrimitiveBreaks x Γ s q a f → e ≡ f
-primitive_once (value_refused h) (value_refused k) = ap carried (refused_once h k)
+primitive_once : {x : Exprs} {Γ : Context} {s : Spot} {q : Primitive} {a : Kind} {e f : Breach} → PrimitiveBreaks x Γ s q a e → PrimitiveBreaks x Γ s q a f → e ≡ f
+primitive_once (value_refused h) (value_refused k) = refused_once h k
 primitive_once (value_refused h) (initial_differs k other) = absurd (refused_untyped h k)
 primitive_once (initial_differs k other) (value_refused h) = absurd (refused_untyped h k)
 primitive_once (initial_differs h other) (initial_differs k more) = refl
-primitive_once (function_refused h) (function_refused k) = ap carried (function_refused_once h k)
+primitive_once (function_refused h) (function_refused k) = function_refused_once h k
 
 module _ {p : Program} {Γ : Context} where
-  itself_once : {s : Spot} {n : Node} {a : Kind} {e f : CheckRefusal} → BreaksItself p Γ s n a e → BreaksItself p Γ s n a f → e ≡ f
+  itself_once : {s : Spot} {n : Node} {a : Kind} {e f : Breach} → FormBreaks p Γ s n a e → FormBreaks p Γ s n a f → e ≡ f
   itself_once (primitive_breaks h) (primitive_breaks k) = primitive_once h k
   itself_once (parallel_input none) (parallel_input more) = refl
   itself_once (parallel_input none) (parallel_exceeds h k big) = absurd (none _ _ refl)
@@ -48,7 +48,7 @@ module _ {p : Program} {Γ : Context} where
   itself_once (first_exceeds h big) (first_exceeds k more) = refl
   itself_once (second_exceeds h big) (side_input none) = absurd (none _ _ refl)
   itself_once (second_exceeds h big) (second_exceeds k more) = refl
-  itself_once (start_refused h) (start_refused k) = ap carried (refused_once h k)
+  itself_once (start_refused h) (start_refused k) = refused_once h k
   itself_once (start_refused h) (fed_exceeds k big) = absurd (refused_untyped h k)
   itself_once (start_refused h) (loop_differs k l none) = absurd (refused_untyped h k)
   itself_once (fed_exceeds k big) (start_refused h) = absurd (refused_untyped h k)
@@ -59,7 +59,7 @@ module _ {p : Program} {Γ : Context} where
   itself_once (loop_differs h k none) (loop_differs l m more) = refl
 
   -- where the form itself breaks a rule, no part that is typed next does
-  itself_parts : {s : Spot} {n : Node} {j : TermId} {a b : Kind} {e f : CheckRefusal} → BreaksItself p Γ s n a e → Reaches p Γ n a j b → Breaks p Γ j b f → ⊥
+  itself_parts : {s : Spot} {n : Node} {j : TermId} {a b : Kind} {e f : Breach} → FormBreaks p Γ s n a e → Reaches p Γ n a j b → TermBreaks p Γ j b f → ⊥
   itself_parts (primitive_breaks h) reached broken = elim reached [ ]
   itself_parts (parallel_input none) parallel_left broken = none _ _ refl
   itself_parts (parallel_input none) (parallel_right h) broken = none _ _ refl
@@ -78,12 +78,12 @@ module _ {p : Program} {Γ : Context} where
       breaks_untyped broken (subst P (expression_one h k) l)
 
   -- of the parts, one at most breaks a rule where it is typed next
-  parts_once : {n : Node} {i j : TermId} {a b c : Kind} {e f : CheckRefusal} → Reaches p Γ n a i b → Reaches p Γ n a j c → Breaks p Γ i b e → ((g : CheckRefusal) → Breaks p Γ i b g → e ≡ g) → Breaks p Γ j c f → e ≡ f
+  parts_once : {n : Node} {i j : TermId} {a b c : Kind} {e f : Breach} → Reaches p Γ n a i b → Reaches p Γ n a j c → TermBreaks p Γ i b e → ((g : Breach) → TermBreaks p Γ i b g → e ≡ g) → TermBreaks p Γ j c f → e ≡ f
   parts_once sequence_left sequence_left broken once other = once _ other
   parts_once sequence_left (sequence_right h) broken once other = absurd (breaks_untyped broken h)
   parts_once (sequence_right h) sequence_left broken once other = absurd (breaks_untyped other h)
   parts_once {f = f} (sequence_right {g = g} h) (sequence_right k) broken once other =
-      let P : Kind → Type 0 = λ b. Breaks p Γ g b f in
+      let P : Kind → Type 0 = λ b. TermBreaks p Γ g b f in
       once f (subst P (takes_one k h) other)
   parts_once parallel_left parallel_left broken once other = once _ other
   parts_once parallel_left (parallel_right h) broken once other = absurd (breaks_untyped broken h)
@@ -96,35 +96,35 @@ module _ {p : Program} {Γ : Context} where
   parts_once first_part first_part broken once other = once _ other
   parts_once second_part second_part broken once other = once _ other
   parts_once {f = f} (loop_part {t = t} {a = a} h fits) (loop_part k more) broken once other =
-      let P : Kind → Type 0 = λ c. Breaks p Γ t (pair_kind a c) f in
+      let P : Kind → Type 0 = λ c. TermBreaks p Γ t (pair_kind a c) f in
       once f (subst P (expression_one k h) other)
 
   -- ## Terms, templates, networks
 
-  breaks_once : {i : TermId} {a : Kind} {e f : CheckRefusal} → Breaks p Γ i a e → Breaks p Γ i a f → e ≡ f
+  breaks_once : {i : TermId} {a : Kind} {e f : Breach} → TermBreaks p Γ i a e → TermBreaks p Γ i a f → e ≡ f
   breaks_once (itself h) (itself k) = itself_once h k
   breaks_once (itself h) (within reached k) = absurd (itself_parts h reached k)
   breaks_once (within reached h) (itself k) = absurd (itself_parts k reached h)
   breaks_once (within reached h) (within more k) = parts_once reached more h (λ g l. breaks_once h l) k
 
 module _ {p : Program} where
-  template_once : {h : Header} {e f : CheckRefusal} → BreaksIn p h e → BreaksIn p h f → e ≡ f
+  template_once : {h : Header} {e f : Breach} → TemplateBreaks p h e → TemplateBreaks p h f → e ≡ f
   template_once (breaks_within h) (breaks_within k) = breaks_once h k
   template_once (breaks_within h) (breaks_header k other) = absurd (breaks_untyped h k)
   template_once (breaks_header k other) (breaks_within h) = absurd (breaks_untyped h k)
   template_once (breaks_header h other) (breaks_header k more) = refl
 
   -- a template that stands before the first break is typed
-  before_first : {e f : CheckRefusal} (h : IsFirstBreak p e) (k : IsFirstBreak p f) → h.place < k.place → ⊥
+  before_first : {e f : Breach} (h : IsFirstBreak p e) (k : IsFirstBreak p f) → h.place < k.place → ⊥
   before_first h k before = template_untyped h.broken (k.typed h.place (template_in p h.header) before (template_at p h.place h.header h.at))
 
-  first_once : {e f : CheckRefusal} → IsFirstBreak p e → IsFirstBreak p f → e ≡ f
+  first_once : {e f : Breach} → IsFirstBreak p e → IsFirstBreak p f → e ≡ f
   first_once {e} {f} h k =
       let below : h.place < k.place → ⊥ = before_first h k in
       let above : k.place < h.place → ⊥ = before_first k h in
       let place : k.place ≡ h.place = no_order k.place h.place above below in
       let same : k.header ≡ h.header = same_Some _ _ (sym k.at ∙ ap (slice_get (headers_of p)) place ∙ h.at) in
-      template_once h.broken (subst (λ g. BreaksIn p g f) same k.broken)
+      template_once h.broken (subst (λ g. TemplateBreaks p g f) same k.broken)
     where
       no_order : (m n : ℕ) → (m < n → ⊥) → (n < m → ⊥) → m ≡ n
       no_order m n below above = grind arith
@@ -136,17 +136,13 @@ module _ {p : Program} where
       let place : h.place ≡ k.place = omega arith in
       same_Some _ _ (sym h.stands ∙ ap (slice_get (spots_of p)) place ∙ k.stands)
 
-  pub refuses_once : {e f : CheckRefusal} → Refuses p e → Refuses p f → e ≢ Memory → f ≢ Memory → e ≡ f
-  refuses_once (name_refused h) (name_refused k) m n = ap DuplicateName (repeat_once h k)
-  refuses_once (name_refused h) (type_refused different k) m n = absurd (different h.place h.repeats)
-  refuses_once (name_refused h) (main_missing different typed none) m n = absurd (different h.place h.repeats)
-  refuses_once (name_refused h) out_of_memory m n = absurd (n refl)
-  refuses_once (type_refused different h) (name_refused k) m n = absurd (different k.place k.repeats)
-  refuses_once (type_refused different h) (type_refused more k) m n = first_once h k
-  refuses_once (type_refused different h) (main_missing more typed none) m n = absurd (template_untyped h.broken (typed h.place (template_in p h.header) (template_at p h.place h.header h.at)))
-  refuses_once (type_refused different h) out_of_memory m n = absurd (n refl)
-  refuses_once (main_missing different typed none) (name_refused k) m n = absurd (different k.place k.repeats)
-  refuses_once (main_missing different typed none) (type_refused more k) m n = absurd (template_untyped k.broken (typed k.place (template_in p k.header) (template_at p k.place k.header k.at)))
-  refuses_once (main_missing different typed none) (main_missing more all missing) m n = refl
-  refuses_once (main_missing different typed none) out_of_memory m n = absurd (n refl)
-  refuses_once out_of_memory k m n = absurd (m refl)
+  pub refuses_once : {e f : Breach} → RefusesNetwork p e → RefusesNetwork p f → e ≡ f
+  refuses_once (name_refused h) (name_refused k) = ap (breach_of DuplicateName) (repeat_once h k)
+  refuses_once (name_refused h) (type_refused different k) = absurd (different h.place h.repeats)
+  refuses_once (name_refused h) (main_missing different typed none) = absurd (different h.place h.repeats)
+  refuses_once (type_refused different h) (name_refused k) = absurd (different k.place k.repeats)
+  refuses_once (type_refused different h) (type_refused more k) = first_once h k
+  refuses_once (type_refused different h) (main_missing more typed none) = absurd (template_untyped h.broken (typed h.place (template_in p h.header) (template_at p h.place h.header h.at)))
+  refuses_once (main_missing different typed none) (name_refused k) = absurd (different k.place k.repeats)
+  refuses_once (main_missing different typed none) (type_refused more k) = absurd (template_untyped k.broken (typed k.place (template_in p k.header) (template_at p k.place k.header k.at)))
+  refuses_once (main_missing different typed none) (main_missing more all missing) = refl

@@ -3,15 +3,16 @@ use Rattle.std.proofs.Common.{◌≡◌, ℕ, ◌+◌, ◌<◌, ◌≤◌, lengt
 use Rattle.std.proofs.lemmas.Option.{slice_get-map, slice_get_within, slice_get_read, same_Some}
 use Rattle.std.proofs.lemmas.List.{length-map}
 use Rattle.std.specs.Option.{option_map}
+use Rattle.sf_refusal.specs.declared.refusal.Refusal.{Refusal}
+use Rattle.sf_refusal.specs.Refusals.{broken, OrMemory}
+use Rattle.sf_refusal.proofs.Explained.{or_memory}
 use Rattle.sf_term.specs.declared.program.Program.{Program}
 use Rattle.sf_term.specs.Headers.{Header}
 use Rattle.sf_term.specs.Trees.{Template}
 use Rattle.sf_term.specs.Arena.{headers_of, template_in, templates_of, spots_of}
 use Rattle.sf_mean.specs.Typing.{IsTyped}
-use Rattle.sf_check.specs.declared.refusal.CheckRefusal.{CheckRefusal}
 use Rattle.sf_check.specs.Names.{program_names}
-use Rattle.sf_check.specs.Breaking.{AreTyped, BreaksIn, IsFirstBreak}
-use Rattle.sf_check.specs.Answering.{OrMemory, because, no_memory}
+use Rattle.sf_check.specs.Breaking.{AreTyped, TemplateBreaks, IsFirstBreak}
 
 pub lt_or_eq : (m n : ℕ) → m < n + 1 → (m < n) ⊎ (m ≡ n)
 lt_or_eq m n h = grind arith
@@ -44,6 +45,5 @@ module _ (p : Program) (n : ℕ) (typed : (i : ℕ) (t : Template) → i < n →
       let count = length-map (headers_of p) (template_in p) in
       typed i t (omega arith) at
 
-  pub template_breaks : (h : Header) → slice_get (headers_of p) n ≡ Some h → (e : CheckRefusal) → OrMemory (BreaksIn p h) e → OrMemory (IsFirstBreak p) e
-  template_breaks h here e (because broken) = because (record { place = n; header = h; at = here; typed = typed; broken = broken })
-  template_breaks h here e no_memory = no_memory
+  pub template_breaks : (h : Header) → slice_get (headers_of p) n ≡ Some h → (e : Refusal) → OrMemory (TemplateBreaks p h) e → OrMemory (IsFirstBreak p) e
+  template_breaks h here e broken = or_memory (λ b k. record { place = n; header = h; at = here; typed = typed; broken = k }) broken

@@ -5,7 +5,7 @@ use Rattle.sf_term.specs.declared.form.Bare.TheVariants.{Identity}
 use Rattle.sf_term.specs.declared.program.Program.{Program}
 use Rattle.sf_term.specs.Trees.{Template, primitive, bare}
 use Rattle.sf_term.specs.Arena.{templates_of}
-use Rattle.sf_mean.specs.Networks.{main_of as main_in}
+use Rattle.sf_mean.specs.Networks.{main_of}
 use Rattle.sf_check.specs.declared.checked.Checked.{Checked}
 
 -- the program that was accepted
@@ -17,5 +17,5 @@ abbrev pub no_main : Template
 no_main = record { name = []; input = int_kind; output = int_kind; body = primitive (bare Identity) }
 
 -- the template that is run, `main`
-unfoldable pub main_of : Checked → Template
-main_of c = unwrap_or (main_in (templates_of (program_of c))) no_main
+unfoldable pub checked_main : Checked → Template
+checked_main c = unwrap_or (main_of (templates_of (program_of c))) no_main

@@ -1,11 +1,13 @@
 -- Where rules of types are broken, under a context.
 use Rattle.std.specs.Prelude.{◌≡◌, ◌≢◌, ◌<◌, ℕ, Some, slice_get}
 use Rattle.sf_value.specs.Values.{Kind, pair_kind, nodes as nodes_of}
-use Rattle.sf_expr.specs.declared.spot.Spot.{Spot}
+use Rattle.sf_refusal.specs.declared.spot.Spot.{Spot}
+use Rattle.sf_refusal.specs.declared.rule.Rule.TheVariants.{Mismatch, TypeTooLarge}
+use Rattle.sf_refusal.specs.declared.refusal.Breach.{Breach}
+use Rattle.sf_refusal.specs.Refusals.{breach_of}
 use Rattle.sf_expr.specs.declared.exprs.ExprId.{ExprId}
 use Rattle.sf_expr.specs.declared.exprs.FunctionId.{FunctionId}
 use Rattle.sf_expr.specs.declared.exprs.Exprs.{Exprs}
-use Rattle.sf_expr.specs.declared.typing.TypeRefusal.{TypeRefusal}
 use Rattle.sf_expr.specs.Arena.{expression}
 use Rattle.sf_expr.specs.Refusals.{Refused, FunctionRefused}
 use Rattle.sf_expr.specs.Typing.{Fits, HasType}
@@ -24,12 +26,9 @@ use Rattle.sf_term.specs.declared.node.Node.TheVariants as nodes
 use Rattle.sf_term.specs.declared.program.Program.{Program}
 use Rattle.sf_term.specs.Headers.{Header}
 use Rattle.sf_term.specs.Trees.{Template}
-use Rattle.sf_term.specs.Arena.{tree, node_at, spot_at, expressions_of, headers_of, templates_of}
+use Rattle.sf_term.specs.Arena.{tree, term_node_at, term_spot_at, expressions_of, headers_of, templates_of}
 use Rattle.sf_mean.specs.Contexts.{Context, names_of_values, context_of}
 use Rattle.sf_mean.specs.Typing.{Takes, IsTyped}
-use Rattle.sf_check.specs.declared.refusal.CheckRefusal.{CheckRefusal}
-use Rattle.sf_check.specs.declared.refusal.CheckRefusal.TheVariants.{Mismatch, TypeTooLarge}
-use Rattle.sf_check.specs.Carrying.{carried}
 
 -- a type is none of pairs
 abbrev pub IsNoPair : Kind → Type 0
@@ -43,25 +42,25 @@ IsNoPairWith u a = (t : Kind) → a ≢ pair_kind t u
 abbrev pub Exceeds : Kind → Type 0
 Exceeds t = 256 < nodes_of t
 
--- On inputs of a type, a primitive at a spot breaks its rule, which a refusal names. An expression or a function that is
--- refused names its own place.
-pub data PrimitiveBreaks (x : Exprs) (Γ : Context) (s : Spot) : Primitive → Kind → CheckRefusal → Type 0 where
-  value_refused : {k : WithValue} {v : ExprId} {a : Kind} {r : TypeRefusal} → Refused x (names_of_values Γ) v r → PrimitiveBreaks x Γ s (primitives.WithValue k v) a (carried r)
-  initial_differs : {v : ExprId} {a b : Kind} → HasType (names_of_values Γ) (expression x v) b → b ≢ a → PrimitiveBreaks x Γ s (primitives.WithValue InitialPre v) a (Mismatch s)
-  function_refused : {f : FunctionId} {a : Kind} {r : TypeRefusal} → FunctionRefused x (names_of_values Γ) f a s r → PrimitiveBreaks x Γ s (primitives.Arrow f) a (carried r)
+-- On inputs of a type, a primitive at a spot breaks a rule, at a place. An expression or a function that is refused
+-- has its own place.
+pub data PrimitiveBreaks (x : Exprs) (Γ : Context) (s : Spot) : Primitive → Kind → Breach → Type 0 where
+  value_refused : {k : WithValue} {v : ExprId} {a : Kind} {r : Breach} → Refused x (names_of_values Γ) v r → PrimitiveBreaks x Γ s (primitives.WithValue k v) a r
+  initial_differs : {v : ExprId} {a b : Kind} → HasType (names_of_values Γ) (expression x v) b → b ≢ a → PrimitiveBreaks x Γ s (primitives.WithValue InitialPre v) a (breach_of Mismatch s)
+  function_refused : {f : FunctionId} {a : Kind} {r : Breach} → FunctionRefused x (names_of_values Γ) f a s r → PrimitiveBreaks x Γ s (primitives.Arrow f) a r
 
--- On inputs of a type, a form at a spot, with these parts, breaks a rule of its own, which a refusal names.
-pub data BreaksItself (p : Program) (Γ : Context) (s : Spot) : Node → Kind → CheckRefusal → Type 0 where
-  primitive_breaks : {q : Primitive} {a : Kind} {e : CheckRefusal} → PrimitiveBreaks (expressions_of p) Γ s q a e → BreaksItself p Γ s (nodes.Primitive q) a e
-  parallel_input : {f g : TermId} {a : Kind} → IsNoPair a → BreaksItself p Γ s (nodes.Joined InParallel f g) a (Mismatch s)
-  parallel_exceeds : {f g : TermId} {a b c d : Kind} → Takes Γ (tree p f) a b → Takes Γ (tree p g) c d → Exceeds (pair_kind b d) → BreaksItself p Γ s (nodes.Joined InParallel f g) (pair_kind a c) (TypeTooLarge s)
-  fan_exceeds : {f g : TermId} {a b c : Kind} → Takes Γ (tree p f) a b → Takes Γ (tree p g) a c → Exceeds (pair_kind b c) → BreaksItself p Γ s (nodes.Joined FannedOut f g) a (TypeTooLarge s)
-  side_input : {d : Side} {t : TermId} {a : Kind} → IsNoPair a → BreaksItself p Γ s (nodes.Sided d t) a (Mismatch s)
-  first_exceeds : {t : TermId} {a b c : Kind} → Takes Γ (tree p t) a b → Exceeds (pair_kind b c) → BreaksItself p Γ s (nodes.Sided First t) (pair_kind a c) (TypeTooLarge s)
-  second_exceeds : {t : TermId} {a b c : Kind} → Takes Γ (tree p t) a b → Exceeds (pair_kind c b) → BreaksItself p Γ s (nodes.Sided Second t) (pair_kind c a) (TypeTooLarge s)
-  start_refused : {h : Heading} {v : ExprId} {t : TermId} {a : Kind} {r : TypeRefusal} → Refused (expressions_of p) (names_of_values Γ) v r → BreaksItself p Γ s (nodes.Headed h v t) a (carried r)
-  fed_exceeds : {v : ExprId} {t : TermId} {a c : Kind} → HasType (names_of_values Γ) (expression (expressions_of p) v) c → Exceeds (pair_kind a c) → BreaksItself p Γ s (nodes.Headed LoopPre v t) a (TypeTooLarge s)
-  loop_differs : {v : ExprId} {t : TermId} {a c d : Kind} → HasType (names_of_values Γ) (expression (expressions_of p) v) c → Takes Γ (tree p t) (pair_kind a c) d → IsNoPairWith c d → BreaksItself p Γ s (nodes.Headed LoopPre v t) a (Mismatch s)
+-- On inputs of a type, a form at a spot, with these parts, breaks a rule of its own, at a place.
+pub data FormBreaks (p : Program) (Γ : Context) (s : Spot) : Node → Kind → Breach → Type 0 where
+  primitive_breaks : {q : Primitive} {a : Kind} {e : Breach} → PrimitiveBreaks (expressions_of p) Γ s q a e → FormBreaks p Γ s (nodes.Primitive q) a e
+  parallel_input : {f g : TermId} {a : Kind} → IsNoPair a → FormBreaks p Γ s (nodes.Joined InParallel f g) a (breach_of Mismatch s)
+  parallel_exceeds : {f g : TermId} {a b c d : Kind} → Takes Γ (tree p f) a b → Takes Γ (tree p g) c d → Exceeds (pair_kind b d) → FormBreaks p Γ s (nodes.Joined InParallel f g) (pair_kind a c) (breach_of TypeTooLarge s)
+  fan_exceeds : {f g : TermId} {a b c : Kind} → Takes Γ (tree p f) a b → Takes Γ (tree p g) a c → Exceeds (pair_kind b c) → FormBreaks p Γ s (nodes.Joined FannedOut f g) a (breach_of TypeTooLarge s)
+  side_input : {d : Side} {t : TermId} {a : Kind} → IsNoPair a → FormBreaks p Γ s (nodes.Sided d t) a (breach_of Mismatch s)
+  first_exceeds : {t : TermId} {a b c : Kind} → Takes Γ (tree p t) a b → Exceeds (pair_kind b c) → FormBreaks p Γ s (nodes.Sided First t) (pair_kind a c) (breach_of TypeTooLarge s)
+  second_exceeds : {t : TermId} {a b c : Kind} → Takes Γ (tree p t) a b → Exceeds (pair_kind c b) → FormBreaks p Γ s (nodes.Sided Second t) (pair_kind c a) (breach_of TypeTooLarge s)
+  start_refused : {h : Heading} {v : ExprId} {t : TermId} {a : Kind} {r : Breach} → Refused (expressions_of p) (names_of_values Γ) v r → FormBreaks p Γ s (nodes.Headed h v t) a r
+  fed_exceeds : {v : ExprId} {t : TermId} {a c : Kind} → HasType (names_of_values Γ) (expression (expressions_of p) v) c → Exceeds (pair_kind a c) → FormBreaks p Γ s (nodes.Headed LoopPre v t) a (breach_of TypeTooLarge s)
+  loop_differs : {v : ExprId} {t : TermId} {a c d : Kind} → HasType (names_of_values Γ) (expression (expressions_of p) v) c → Takes Γ (tree p t) (pair_kind a c) d → IsNoPairWith c d → FormBreaks p Γ s (nodes.Headed LoopPre v t) a (breach_of Mismatch s)
 
 -- In a form on inputs of a type, a part is typed next, on inputs of its own: what stands before it in the text keeps its rules.
 pub data Reaches (p : Program) (Γ : Context) : Node → Kind → TermId → Kind → Type 0 where
@@ -75,25 +74,25 @@ pub data Reaches (p : Program) (Γ : Context) : Node → Kind → TermId → Kin
   second_part : {t : TermId} {a c : Kind} → Reaches p Γ (nodes.Sided Second t) (pair_kind c a) t a
   loop_part : {v : ExprId} {t : TermId} {a c : Kind} → HasType (names_of_values Γ) (expression (expressions_of p) v) c → Fits (pair_kind a c) → Reaches p Γ (nodes.Headed LoopPre v t) a t (pair_kind a c)
 
--- In the term at an id, on inputs of a type, a refusal names the first rule, in the order of the text, that is broken: that
--- of the form at the id itself, or one within the part that is typed next.
-pub data Breaks (p : Program) (Γ : Context) : TermId → Kind → CheckRefusal → Type 0 where
-  itself : {i : TermId} {a : Kind} {e : CheckRefusal} → BreaksItself p Γ (spot_at p i) (node_at p i) a e → Breaks p Γ i a e
-  within : {i j : TermId} {a b : Kind} {e : CheckRefusal} → Reaches p Γ (node_at p i) a j b → Breaks p Γ j b e → Breaks p Γ i a e
+-- In the term at an id, on inputs of a type, this is the first rule, in the order of the text, that is broken: that of the
+-- form at the id itself, or one within the part that is typed next.
+pub data TermBreaks (p : Program) (Γ : Context) : TermId → Kind → Breach → Type 0 where
+  itself : {i : TermId} {a : Kind} {e : Breach} → FormBreaks p Γ (term_spot_at p i) (term_node_at p i) a e → TermBreaks p Γ i a e
+  within : {i j : TermId} {a b : Kind} {e : Breach} → Reaches p Γ (term_node_at p i) a j b → TermBreaks p Γ j b e → TermBreaks p Γ i a e
 
--- In a template, a refusal names the first rule that is broken, or that the whole term doesn't give its header's output.
-pub data BreaksIn (p : Program) (h : Header) : CheckRefusal → Type 0 where
-  breaks_within : {e : CheckRefusal} → Breaks p (context_of (templates_of p)) h.body h.input e → BreaksIn p h e
-  breaks_header : {b : Kind} → Takes (context_of (templates_of p)) (tree p h.body) h.input b → b ≢ h.output → BreaksIn p h (Mismatch (spot_at p h.body))
+-- In a template, this is the first rule that is broken, or that the whole term doesn't give its header's output.
+pub data TemplateBreaks (p : Program) (h : Header) : Breach → Type 0 where
+  breaks_within : {e : Breach} → TermBreaks p (context_of (templates_of p)) h.body h.input e → TemplateBreaks p h e
+  breaks_header : {b : Kind} → Takes (context_of (templates_of p)) (tree p h.body) h.input b → b ≢ h.output → TemplateBreaks p h (breach_of Mismatch (term_spot_at p h.body))
 
 -- each template's term takes its header's input to its header's output
 abbrev pub AreTyped : Program → Type 0
 AreTyped p = (i : ℕ) (t : Template) → slice_get (templates_of p) i ≡ Some t → IsTyped (templates_of p) t
 
--- In the first template that isn't typed, a refusal names the first rule that is broken.
-pub record IsFirstBreak (p : Program) (e : CheckRefusal) : Type 0 where
+-- In the first template that isn't typed, this is the first rule that is broken.
+pub record IsFirstBreak (p : Program) (e : Breach) : Type 0 where
   pub place : ℕ
   pub header : Header
   pub at : slice_get (headers_of p) place ≡ Some header
   pub typed : (i : ℕ) (t : Template) → i < place → slice_get (templates_of p) i ≡ Some t → IsTyped (templates_of p) t
-  pub broken : BreaksIn p header e
+  pub broken : TemplateBreaks p header e

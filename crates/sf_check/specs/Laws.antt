@@ -1,23 +1,35 @@
 -- What holds of refusals.
-use Rattle.std.specs.Prelude.{◌≡◌, ◌≢◌, ◌⊎◌}
+use Rattle.std.specs.Prelude.{◌≡◌, ◌⊎◌, ℕ, Some, slice_get}
+use Rattle.sf_refusal.specs.declared.refusal.Breach.{Breach}
 use Rattle.sf_value.specs.Values.{Kind}
 use Rattle.sf_expr.specs.Typing.{Fits}
 use Rattle.sf_expr.specs.Inference.{NamesFit}
 use Rattle.sf_term.specs.declared.node.TermId.{TermId}
 use Rattle.sf_term.specs.declared.program.Program.{Program}
-use Rattle.sf_term.specs.Arena.{tree}
+use Rattle.sf_term.specs.Trees.{Template}
+use Rattle.sf_term.specs.Arena.{tree, templates_of}
 use Rattle.sf_mean.specs.Contexts.{Context, names_of_values}
-use Rattle.sf_mean.specs.Typing.{Takes}
-use Rattle.sf_check.specs.declared.refusal.CheckRefusal.{CheckRefusal}
-use Rattle.sf_check.specs.declared.refusal.CheckRefusal.TheVariants.{Memory}
-use Rattle.sf_check.specs.Breaking.{Breaks}
-use Rattle.sf_check.specs.Refusing.{Refuses}
+use Rattle.sf_mean.specs.Typing.{Takes, Accepted}
+use Rattle.sf_check.specs.Breaking.{TermBreaks}
+use Rattle.sf_check.specs.Refusing.{RefusesNetwork}
 
--- A network is refused in one way at most, beside want of memory.
+-- A network breaks one rule at most first, at one place.
 abbrev pub EachNetworkRefusedOnce : Type 0
-EachNetworkRefusedOnce = (p : Program) (e f : CheckRefusal) → Refuses p e → Refuses p f → e ≢ Memory → f ≢ Memory → e ≡ f
+EachNetworkRefusedOnce = (p : Program) (b c : Breach) → RefusesNetwork p b → RefusesNetwork p c → b ≡ c
+
+-- the types of the inputs of headers have at most 256 nodes, as those of a network that was read
+abbrev pub HeadersFit : Program → Type 0
+HeadersFit p = (i : ℕ) (t : Template) → slice_get (templates_of p) i ≡ Some t → Fits t.input
+
+-- A network is accepted, or breaks a rule.
+abbrev pub EachNetworkAnswered : Type 0
+EachNetworkAnswered = (p : Program) → HeadersFit p → Accepted (templates_of p) ⊎ ((b : Breach) × RefusesNetwork p b)
+
+-- A network that breaks a rule is not accepted.
+abbrev pub RefusedOrAccepted : Type 0
+RefusedOrAccepted = (p : Program) (b : Breach) → RefusesNetwork p b → Accepted (templates_of p) → ⊥
 
 -- Under a context whose names have types of at most 256 nodes, a term takes inputs of a type to outputs of another, or breaks
 -- a rule on them.
 abbrev pub EachTermAnswered : Type 0
-EachTermAnswered = (p : Program) (Γ : Context) (t : TermId) (a : Kind) → NamesFit (names_of_values Γ) → Fits a → ((b : Kind) × Takes Γ (tree p t) a b) ⊎ ((e : CheckRefusal) × Breaks p Γ t a e)
+EachTermAnswered = (p : Program) (Γ : Context) (t : TermId) (a : Kind) → NamesFit (names_of_values Γ) → Fits a → ((b : Kind) × Takes Γ (tree p t) a b) ⊎ ((c : Breach) × TermBreaks p Γ t a c)

@@ -1,7 +1,6 @@
 pub mod Accepting
 pub mod Names
 pub mod Contexts
-pub mod Carrying
 pub mod Breaking
 pub mod Answering
 pub mod Refusing

@@ -2,10 +2,11 @@
 use Rattle.std.specs.Prelude.{◌≡◌, ℕ, ◌<◌, ◌≤◌, List, map, Some, slice_get, string_bytes, String}
 use Rattle.indexmap.specs.IndexSet.{IndexSet}
 use Rattle.sf_value.specs.Values.{Name}
-use Rattle.sf_expr.specs.declared.spot.Spot.{Spot}
+use Rattle.sf_refusal.specs.declared.spot.Spot.{Spot}
 use Rattle.sf_term.specs.declared.program.Program.{Program}
+use Rattle.sf_term.specs.Headers.{Header}
 use Rattle.sf_term.specs.Trees.{Templates}
-use Rattle.sf_term.specs.Arena.{templates_of, spots_of}
+use Rattle.sf_term.specs.Arena.{headers_of, templates_of, spots_of}
 
 -- the names of templates, in order
 abbrev pub names : Templates → List Name
@@ -15,8 +16,14 @@ abbrev pub program_names : Program → List Name
 program_names p = names (templates_of p)
 
 -- the names in a set, in order
-abbrev pub names_in : {Y S : Type 0} → IndexSet (String Y) S → List Name
-names_in set = map string_bytes set.keys
+abbrev pub names_of_set : {Y S : Type 0} → IndexSet (String Y) S → List Name
+names_of_set set = map string_bytes set.keys
+
+-- A program has this header, of a template of this name.
+pub record IsHeaderNamed (p : Program) (x : Name) (h : Header) : Type 0 where
+  pub place : ℕ
+  pub at : slice_get (headers_of p) place ≡ Some h
+  pub named : h.name ≡ x
 
 -- The template at a place has the name of one before it.
 pub record Repeats (ts : Templates) (place : ℕ) : Type 0 where

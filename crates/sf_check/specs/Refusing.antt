@@ -1,18 +1,18 @@
 -- Why networks are refused.
 use Rattle.std.specs.Prelude.{◌≡◌, None}
-use Rattle.sf_expr.specs.declared.spot.Spot.{Spot}
+use Rattle.sf_refusal.specs.declared.spot.Spot.{Spot}
+use Rattle.sf_refusal.specs.declared.rule.Rule.TheVariants.{DuplicateName, NoMain}
+use Rattle.sf_refusal.specs.declared.refusal.Breach.{Breach}
+use Rattle.sf_refusal.specs.Refusals.{first_spot, breach_of}
 use Rattle.sf_term.specs.declared.program.Program.{Program}
 use Rattle.sf_term.specs.Arena.{templates_of}
-use Rattle.sf_mean.specs.Networks.{main_of as main_in}
-use Rattle.sf_check.specs.declared.refusal.CheckRefusal.{CheckRefusal}
-use Rattle.sf_check.specs.declared.refusal.CheckRefusal.TheVariants.{DuplicateName, NoMain, Memory}
+use Rattle.sf_mean.specs.Networks.{main_of}
 use Rattle.sf_check.specs.Names.{HasDifferentNames, IsFirstRepeat}
 use Rattle.sf_check.specs.Breaking.{AreTyped, IsFirstBreak}
 
--- Names of templates are looked at first, then types, then `main`; the first rule that is broken is named at its place. Want
--- of memory says nothing.
-pub data Refuses (p : Program) : CheckRefusal → Type 0 where
-  name_refused : {spot : Spot} → IsFirstRepeat p spot → Refuses p (DuplicateName spot)
-  type_refused : {e : CheckRefusal} → HasDifferentNames p → IsFirstBreak p e → Refuses p e
-  main_missing : HasDifferentNames p → AreTyped p → main_in (templates_of p) ≡ None → Refuses p NoMain
-  out_of_memory : Refuses p Memory
+-- Names of templates are looked at first, then types, then `main`; the first rule that is broken is named at its place. That
+-- there is no `main` is named at the beginning of the text.
+pub data RefusesNetwork (p : Program) : Breach → Type 0 where
+  name_refused : {spot : Spot} → IsFirstRepeat p spot → RefusesNetwork p (breach_of DuplicateName spot)
+  type_refused : {b : Breach} → HasDifferentNames p → IsFirstBreak p b → RefusesNetwork p b
+  main_missing : HasDifferentNames p → AreTyped p → main_of (templates_of p) ≡ None → RefusesNetwork p (breach_of NoMain first_spot)

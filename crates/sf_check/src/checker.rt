@@ -3,14 +3,15 @@ ghost use Rattle.std.specs.Prelude.{◌≡◌, Some, IfOk, IfErr, OnOk, MatchRes
 ghost use Rattle.sf_term.specs.Arena.{templates_of};
 ghost use Rattle.sf_mean.specs.Typing.{Accepted};
 ghost use Rattle.sf_check.specs.Accepting.{program_of};
-ghost use Rattle.sf_check.specs.Names.{names_in, program_names};
-ghost use Rattle.sf_check.specs.Refusing.{Refuses};
+ghost use Rattle.sf_check.specs.Names.{names_of_set, program_names};
+ghost use Rattle.sf_check.specs.Refusing.{RefusesNetwork};
+ghost use Rattle.sf_refusal.specs.Refusals.{OrMemory};
 
 use crate::checked::Checked;
 use crate::names::template_names;
-use crate::refusal::CheckRefusal;
 use crate::typing::check_templates;
 use indexmap::IndexSet;
+use sf_refusal::{Refusal, Rule, Spot};
 use sf_term::Program;
 use std::alloc::Global;
 
@@ -22,17 +23,17 @@ struct Found {
 }
 
 /// What an accepted network has, or the first rule that is broken.
-fn examined(alloc: Global, program: &Program) -> Result<Found, CheckRefusal>
+fn examined(alloc: Global, program: &Program) -> Result<Found, Refusal>
     ensures accepted { OnOk result (Accepted (templates_of program.now)) }
-    ensures named { IfOk result (λ found. names_in found.names ≡ program_names program.now) }
+    ensures named { IfOk result (λ found. names_of_set found.names ≡ program_names program.now) }
     ensures main { IfOk result (λ found. position (bytes_eq (codes "main")) (program_names program.now) ≡ Some found.main) }
-    ensures refused { IfErr result (λ e. Refuses program.now e) }
+    ensures refused { IfErr result (OrMemory (RefusesNetwork program.now)) }
 {
     let names = template_names(alloc, program)?;
     check_templates(alloc, program)?;
     match names.get_index_of("main") {
         Some(main) => Ok(Found { names, main }),
-        None => Err(CheckRefusal::NoMain),
+        None => Err(Refusal::broken(Rule::NoMain, Spot::FIRST)),
     }
 }
 
@@ -44,14 +45,14 @@ fn examined(alloc: Global, program: &Program) -> Result<Found, CheckRefusal>
 /// is looked at after its parts, but before a part what is needed to type it: that the input is of pairs, the names of a
 /// pattern and then whether it fits, the value of a loop (`UnknownName`, `DuplicateName`, `Mismatch`, `TypeTooLarge`).
 /// The header's output comes last (`Mismatch` at the template's term). `Memory` says nothing of the network.
-pub fn check(alloc: Global, program: Program) -> Result<Checked, (CheckRefusal, Program)>
+pub fn check(alloc: Global, program: Program) -> Result<Checked, (Refusal, Program)>
     ensures accepted { OnOk result (Accepted (templates_of program)) }
     ensures kept { IfOk result (λ checked. program_of checked ≡ program) }
     ensures handed_back { IfErr result (λ refused. refused.1 ≡ program) }
     // The first rule that is broken, in the order of the text, at its place.
-    ensures refused { IfErr result (λ refused. Refuses program refused.0) }
+    ensures refused { IfErr result (λ refused. OrMemory (RefusesNetwork program) refused.0) }
     // A network that keeps all rules is refused for want of memory alone.
-    ensures only { Accepted (templates_of program) → MatchResult result (λ _. ⊤) (λ refused. refused.0 ≡ CheckRefusal.Memory) }
+    ensures only { Accepted (templates_of program) → MatchResult result (λ _. ⊤) (λ refused. refused.0 ≡ Refusal.Memory) }
 {
     match examined(alloc, &program) {
         Ok(found) => Ok(Checked {

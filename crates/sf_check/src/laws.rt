@@ -1,7 +1,7 @@
 //! What holds of refusals.
-ghost use Rattle.sf_check.specs.Laws.{EachNetworkRefusedOnce, EachTermAnswered};
+ghost use Rattle.sf_check.specs.Laws.{EachNetworkRefusedOnce, EachNetworkAnswered, RefusedOrAccepted, EachTermAnswered};
 
-/// Beside want of memory, a network has one refusal at most: which rule is named, and at which place, is fixed.
+/// A network breaks one rule at most first: which rule is named, and at which place, is fixed.
 pub fn one_refusal()
     ensures { EachNetworkRefusedOnce }
 {}
@@ -10,4 +10,11 @@ pub fn one_refusal()
 /// another or breaks a rule on them: no term is left without an answer.
 pub fn some_answer()
     ensures { EachTermAnswered }
+{}
+
+/// Each network whose headers' types are within bounds, as those of each network that is read, is accepted or breaks a
+/// rule, and not both.
+pub fn accepted_or_refused()
+    ensures one { EachNetworkAnswered }
+    ensures not_both { RefusedOrAccepted }
 {}

@@ -6,13 +6,12 @@ mod checker;
 mod context;
 mod laws;
 mod names;
-mod refusal;
 mod typing;
 
 pub use checked::Checked;
 pub use checker::check;
-pub use laws::{one_refusal, some_answer};
-pub use refusal::CheckRefusal;
+pub use laws::{accepted_or_refused, one_refusal, some_answer};
+pub use sf_refusal::{Breach, Refusal, Rule, Spot};
 
 #[cfg(test)]
 mod tests;

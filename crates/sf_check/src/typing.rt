@@ -1,20 +1,22 @@
 //! The types of terms, under contexts.
 ghost use Rattle.std.specs.Prelude.{◌≡◌, ◌<◌, IfOk, IfErr, OnOk};
 ghost use Rattle.sf_value.specs.Values.{pair_kind};
+ghost use Rattle.sf_refusal.specs.Refusals.{broken, OrMemory};
+ghost use Rattle.sf_refusal.specs.declared.rule.Rule.TheVariants.{Mismatch};
 ghost use Rattle.sf_expr.specs.Refusals.{Judges};
 ghost use Rattle.sf_expr.specs.Typing.{Fits};
-ghost use Rattle.sf_term.specs.Arena.{id_number, node_at, expressions_of, template_in, templates_of};
+ghost use Rattle.sf_term.specs.Arena.{term_number, term_node_at, expressions_of, template_in, templates_of};
 ghost use Rattle.sf_mean.specs.Contexts.{names_of_values};
 ghost use Rattle.sf_mean.specs.Typing.{IsTyped};
 ghost use Rattle.sf_check.specs.Contexts.{program_in, context_in};
-ghost use Rattle.sf_check.specs.Answering.{OrMemory, AnswersPair, AnswersPrimitive, AnswersTerm};
-ghost use Rattle.sf_check.specs.Breaking.{IsNoPair, IsNoPairWith, BreaksIn, AreTyped, IsFirstBreak};
+ghost use Rattle.sf_check.specs.Answering.{AnswersPrimitive, AnswersTerm};
+ghost use Rattle.sf_check.specs.Breaking.{IsNoPair, IsNoPairWith, TemplateBreaks, AreTyped, IsFirstBreak};
 
 use crate::context::TypingContext;
-use crate::refusal::CheckRefusal;
-use sf_expr::{ExprId, Spot, TypeRefusal, function_type, type_of};
+use sf_expr::{ExprId, function_type, pair_type, type_of};
+use sf_refusal::{Refusal, Rule, Spot};
 use sf_term::{Bare, Heading, Join, Node, Primitive, Program, Side, Template, TermId, WithValue};
-use sf_value::{Ty, TyForm, TyRefusal, same_type};
+use sf_value::{Ty, TyForm, same_type};
 use std::alloc::Global;
 
 /// The type itself, which is made of at most 256 types.
@@ -27,29 +29,18 @@ fn bounded(ty: &Ty) -> &Ty
 }
 
 /// The two parts of a type of pairs; `Mismatch` at the spot for another type.
-fn parts(ty: &Ty, spot: Spot) -> Result<(&Ty, &Ty), CheckRefusal>
+fn parts(ty: &Ty, spot: Spot) -> Result<(&Ty, &Ty), Refusal>
     ensures ok { IfOk result (λ parts. ty.now ≡ pair_kind parts.0.now parts.1.now) }
-    ensures err { IfErr result (λ e. (e ≡ CheckRefusal.Mismatch spot) × IsNoPair ty.now) }
+    ensures err { IfErr result (λ e. (e ≡ broken Mismatch spot) × IsNoPair ty.now) }
 {
     match ty.form() {
         TyForm::Pair(first, second) => Ok((first, second)),
-        TyForm::Int => Err(CheckRefusal::Mismatch(spot)),
-    }
-}
-
-/// The type of pairs of two types; `TypeTooLarge` at the spot where it is made of more than 256 types.
-fn pair_at(alloc: Global, first: Ty, second: Ty, spot: Spot) -> Result<Ty, CheckRefusal>
-    ensures { AnswersPair first second spot result }
-{
-    match Ty::pair(alloc, first, second) {
-        Ok(pair) => Ok(pair),
-        Err(TyRefusal::TypeTooLarge) => Err(CheckRefusal::TypeTooLarge(spot)),
-        Err(TyRefusal::Memory) => Err(CheckRefusal::Memory),
+        TyForm::Int => Err(Refusal::broken(Rule::Mismatch, spot)),
     }
 }
 
 /// The type of a constant.
-fn constant_type(alloc: Global, context: &TypingContext, value: ExprId) -> Result<Ty, TypeRefusal>
+fn constant_type(alloc: Global, context: &TypingContext, value: ExprId) -> Result<Ty, Refusal>
     ensures { Judges (expressions_of (program_in context.now)) (names_of_values (context_in context.now)) value result }
 {
     type_of(alloc, context.program.expressions(), value, &context.names)
@@ -63,7 +54,7 @@ fn value_output(
     value: ExprId,
     input: &Ty,
     spot: Spot,
-) -> Result<Ty, CheckRefusal>
+) -> Result<Ty, Refusal>
     ensures { AnswersPrimitive (expressions_of (program_in context.now)) (context_in context.now) (Primitive.WithValue kind value) input.now spot result }
 {
     let given = constant_type(alloc, context, value)?;
@@ -73,7 +64,7 @@ fn value_output(
             if same_type(&given, input) {
                 Ok(given)
             } else {
-                Err(CheckRefusal::Mismatch(spot))
+                Err(Refusal::broken(Rule::Mismatch, spot))
             }
         }
     }
@@ -86,7 +77,7 @@ fn primitive_output(
     primitive: Primitive,
     input: &Ty,
     spot: Spot,
-) -> Result<Ty, CheckRefusal>
+) -> Result<Ty, Refusal>
     ensures { AnswersPrimitive (expressions_of (program_in context.now)) (context_in context.now) primitive input.now spot result }
 {
     match primitive {
@@ -100,13 +91,13 @@ fn primitive_output(
 }
 
 /// The type of the outputs of a loop, by the type of its part's outputs: pairs, whose second parts are fed back.
-fn loop_output(output: Ty, fed: &Ty, spot: Spot) -> Result<Ty, CheckRefusal>
+fn loop_output(output: Ty, fed: &Ty, spot: Spot) -> Result<Ty, Refusal>
     ensures ok { IfOk result (λ t. output ≡ pair_kind t fed.now) }
-    ensures err { IfErr result (λ e. (e ≡ CheckRefusal.Mismatch spot) × IsNoPairWith fed.now output) }
+    ensures err { IfErr result (λ e. (e ≡ broken Mismatch spot) × IsNoPairWith fed.now output) }
 {
     match output.into_form() {
         TyForm::Pair(first, second) if same_type(&second, fed) => Ok(Box::into_inner(first)),
-        _ => Err(CheckRefusal::Mismatch(spot)),
+        _ => Err(Refusal::broken(Rule::Mismatch, spot)),
     }
 }
 
@@ -120,10 +111,10 @@ fn joined_output(
     left: TermId,
     right: TermId,
     input: &Ty,
-) -> Result<Ty, CheckRefusal>
+) -> Result<Ty, Refusal>
     requires fits { Fits input.now }
-    requires there { node_at (program_in context.now) term ≡ Node.Joined join left right }
-    requires below { (id_number left < id_number term) × (id_number right < id_number term) }
+    requires there { term_node_at (program_in context.now) term ≡ Node.Joined join left right }
+    requires below { (term_number left < term_number term) × (term_number right < term_number term) }
     ensures { AnswersTerm (program_in context.now) (context_in context.now) term input.now result }
 {
     let spot = context.program.spot(term);
@@ -136,12 +127,12 @@ fn joined_output(
             let (a, b) = parts(input, spot)?;
             let first = output_of(alloc, context, left, a)?;
             let second = output_of(alloc, context, right, b)?;
-            pair_at(alloc, first, second, spot)
+            pair_type(alloc, first, second, spot)
         }
         Join::FannedOut => {
             let first = output_of(alloc, context, left, input)?;
             let second = output_of(alloc, context, right, input)?;
-            pair_at(alloc, first, second, spot)
+            pair_type(alloc, first, second, spot)
         }
     }
 }
@@ -155,10 +146,10 @@ fn sided_output(
     side: Side,
     part: TermId,
     input: &Ty,
-) -> Result<Ty, CheckRefusal>
+) -> Result<Ty, Refusal>
     requires fits { Fits input.now }
-    requires there { node_at (program_in context.now) term ≡ Node.Sided side part }
-    requires below { id_number part < id_number term }
+    requires there { term_node_at (program_in context.now) term ≡ Node.Sided side part }
+    requires below { term_number part < term_number term }
     ensures { AnswersTerm (program_in context.now) (context_in context.now) term input.now result }
 {
     let spot = context.program.spot(term);
@@ -166,11 +157,11 @@ fn sided_output(
     match side {
         Side::First => {
             let first = output_of(alloc, context, part, a)?;
-            pair_at(alloc, first, b.clone_in(alloc)?, spot)
+            pair_type(alloc, first, b.clone_in(alloc)?, spot)
         }
         Side::Second => {
             let second = output_of(alloc, context, part, b)?;
-            pair_at(alloc, a.clone_in(alloc)?, second, spot)
+            pair_type(alloc, a.clone_in(alloc)?, second, spot)
         }
     }
 }
@@ -184,15 +175,15 @@ fn headed_output(
     start: ExprId,
     part: TermId,
     input: &Ty,
-) -> Result<Ty, CheckRefusal>
+) -> Result<Ty, Refusal>
     requires fits { Fits input.now }
-    requires there { node_at (program_in context.now) term ≡ Node.Headed Heading.LoopPre start part }
-    requires below { id_number part < id_number term }
+    requires there { term_node_at (program_in context.now) term ≡ Node.Headed Heading.LoopPre start part }
+    requires below { term_number part < term_number term }
     ensures { AnswersTerm (program_in context.now) (context_in context.now) term input.now result }
 {
     let spot = context.program.spot(term);
     let fed = constant_type(alloc, context, start)?;
-    let given = pair_at(alloc, input.clone_in(alloc)?, fed.clone_in(alloc)?, spot)?;
+    let given = pair_type(alloc, input.clone_in(alloc)?, fed.clone_in(alloc)?, spot)?;
     let output = output_of(alloc, context, part, &given)?;
     loop_output(output, &fed, spot)
 }
@@ -204,7 +195,7 @@ fn output_of(
     context: &TypingContext,
     term: TermId,
     input: &Ty,
-) -> Result<Ty, CheckRefusal>
+) -> Result<Ty, Refusal>
     requires { Fits input.now }
     ensures { AnswersTerm (program_in context.now) (context_in context.now) term input.now result }
 {
@@ -223,23 +214,23 @@ fn output_of(
 }
 
 /// Whether a template's term takes its header's input to its header's output.
-fn check_template(alloc: Global, program: &Program, template: &Template) -> Result<(), CheckRefusal>
+fn check_template(alloc: Global, program: &Program, template: &Template) -> Result<(), Refusal>
     ensures ok { OnOk result (IsTyped (templates_of program.now) (template_in program.now template.now)) }
-    ensures err { IfErr result (λ e. OrMemory (BreaksIn program.now template.now) e) }
+    ensures err { IfErr result (OrMemory (TemplateBreaks program.now template.now)) }
 {
     let context = TypingContext::of_body(alloc, program);
     let output = output_of(alloc, &context, template.body(), bounded(template.input()))?;
     if same_type(&output, template.output()) {
         Ok(())
     } else {
-        Err(CheckRefusal::Mismatch(program.spot(template.body())))
+        Err(Refusal::broken(Rule::Mismatch, program.spot(template.body())))
     }
 }
 
 /// Whether each template's term takes its header's input to its header's output.
-pub(crate) fn check_templates(alloc: Global, program: &Program) -> Result<(), CheckRefusal>
+pub(crate) fn check_templates(alloc: Global, program: &Program) -> Result<(), Refusal>
     ensures ok { OnOk result (AreTyped program.now) }
-    ensures err { IfErr result (λ e. OrMemory (IsFirstBreak program.now) e) }
+    ensures err { IfErr result (OrMemory (IsFirstBreak program.now)) }
 {
     for template in program.templates() {
         check_template(alloc, program, template)?;

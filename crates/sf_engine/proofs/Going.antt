@@ -5,11 +5,11 @@ use Rattle.sf_value.specs.Values.{Kind, Data, HasKind, number}
 use Rattle.sf_value.specs.declared.fault.Fault.{Fault}
 use Rattle.sf_law.specs.declared.plan.Plan.{Plan}
 use Rattle.sf_term.specs.Trees.{Template}
-use Rattle.sf_law.specs.Arena.{tree}
+use Rattle.sf_law.specs.Arena.{plan_tree}
 use Rattle.sf_mean.specs.Lives.{Step, step, input_of, Life, time, closure, empty}
 use Rattle.sf_mean.specs.Meaning.{Network, gave, faulted, Gives}
 use Rattle.sf_law.specs.Arena.{network_of_plan}
-use Rattle.sf_law.specs.Arena.{main_of}
+use Rattle.sf_law.specs.Arena.{plan_main}
 use Rattle.sf_state.specs.declared.state.State.{State}
 use Rattle.sf_state.specs.Standing.{Stands}
 use Rattle.sf_step.specs.declared.meter.Meter.{Meter}
@@ -34,7 +34,7 @@ pub goes_to : {o e : Engine} {n : Network} {m : Template} {L : Life} {d : ℕ} {
 goes_to {o = o} {e = e} {n = n} {m = m} {L = L} {d = d} {x = x} R H plan input stopped later last S = record {
   goes_on = stopped ∙ R.goes_on;
   network = ap (λ p. network_of_plan p) plan ∙ R.network;
-  main = ap (λ p. tree p (main_of p)) plan ∙ R.main;
+  main = ap (λ p. plan_tree p (plan_main p)) plan ∙ R.main;
   input = input ∙ R.input;
   state = subst (λ p. Stands p e.state (closure m.body empty) (step d x ∷ L)) (sym plan) S;
   time = later ∙ ap (λ t. t + d) R.time ∙ sym (time-step d x L H.begins);

@@ -4,13 +4,13 @@ use Rattle.std.proofs.Math.Logic.{∥∥₁_map, ∥∥₁_map₂}
 use Rattle.sf_value.specs.Values.{Kind, Data, HasKind}
 use Rattle.sf_law.specs.declared.plan.Plan.{Plan}
 use Rattle.sf_term.specs.Trees.{Template}
-use Rattle.sf_law.specs.Arena.{tree}
+use Rattle.sf_law.specs.Arena.{plan_tree}
 use Rattle.sf_mean.specs.Lives.{step, Life, Process, closure, empty}
 use Rattle.sf_mean.specs.Meaning.{Network}
 use Rattle.sf_mean.specs.Contexts.{context_of}
 use Rattle.sf_mean.specs.Typing.{Takes}
 use Rattle.sf_mean.specs.Soundness.{LifeHas, no_steps, more_steps, has_nothing, closure_takes}
-use Rattle.sf_law.specs.Arena.{main_of, network_of_plan}
+use Rattle.sf_law.specs.Arena.{plan_main, network_of_plan}
 use Rattle.sf_state.specs.declared.state.State.{State}
 use Rattle.sf_state.specs.Standing.{Stands}
 use Rattle.sf_step.specs.declared.meter.Meter.{Meter}
@@ -19,8 +19,8 @@ use Rattle.sf_engine.specs.Histories.{newest_input}
 use Rattle.sf_engine.specs.Keeping.{IsReady, is_ready}
 
 -- before the start
-pub ready_first : {p : Plan} {a : State} {k : Kind} {n : Network} (m : Template) → Stands p a (closure (tree p (main_of p)) empty) []
-    → network_of_plan p ≡ n → tree p (main_of p) ≡ m.body → k ≡ m.input → Takes (context_of n.templates) m.body m.input m.output → IsReady p a k None
+pub ready_first : {p : Plan} {a : State} {k : Kind} {n : Network} (m : Template) → Stands p a (closure (plan_tree p (plan_main p)) empty) []
+    → network_of_plan p ≡ n → plan_tree p (plan_main p) ≡ m.body → k ≡ m.input → Takes (context_of n.templates) m.body m.input m.output → IsReady p a k None
 ready_first {p = p} {a = a} {k = k} {n = n} m S network main input T =
     is_ready
     (subst (λ t. Stands p a (closure t empty) []) main S)

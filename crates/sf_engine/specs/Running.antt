@@ -3,11 +3,11 @@ use Rattle.std.specs.Prelude.{◌≡◌, ◌≢◌, ℕ, Option, Some, None, IfS
 use Rattle.sf_value.specs.Values.{Kind, Data, HasKind}
 use Rattle.sf_value.specs.declared.fault.Fault.{Fault}
 use Rattle.sf_term.specs.Trees.{Template}
-use Rattle.sf_law.specs.Arena.{tree}
+use Rattle.sf_law.specs.Arena.{plan_tree}
 use Rattle.sf_mean.specs.Lives.{Life, closure, empty, time}
 use Rattle.sf_mean.specs.Meaning.{Network}
 use Rattle.sf_law.specs.Arena.{network_of_plan}
-use Rattle.sf_law.specs.Arena.{main_of}
+use Rattle.sf_law.specs.Arena.{plan_main}
 use Rattle.sf_state.specs.Standing.{Stands}
 use Rattle.sf_engine.specs.declared.engine.Engine.{Engine}
 use Rattle.sf_engine.specs.declared.engine.Sample.{Sample}
@@ -19,7 +19,7 @@ use Rattle.sf_engine.specs.Histories.{newest_input, IsHistory, CanWait}
 pub record Runs (e : Engine) (n : Network) (m : Template) (L : Life) : Type 0 where
   pub goes_on : e.stopped ≡ None
   pub network : network_of_plan e.plan ≡ n
-  pub main : tree e.plan (main_of e.plan) ≡ m.body
+  pub main : plan_tree e.plan (plan_main e.plan) ≡ m.body
   pub input : e.input ≡ m.input
   pub state : Stands e.plan e.state (closure m.body empty) L
   pub time : e.time ≡ time L

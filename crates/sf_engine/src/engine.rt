@@ -80,14 +80,14 @@ impl Engine {
     ghost use Rattle.sf_mean.specs.Lives.{Life, step, time};
     ghost use Rattle.sf_mean.specs.Meaning.{Network};
     ghost use Rattle.sf_mean.specs.Networks.{network_of};
-    ghost use Rattle.sf_check.specs.Accepting.{program_of, main_of};
+    ghost use Rattle.sf_check.specs.Accepting.{program_of, checked_main};
     ghost use Rattle.sf_engine.specs.Histories.{IsHistory, CanWait, after_start, after_step};
     ghost use Rattle.sf_engine.specs.Running.{Runs, IsStopped, StopsWith, time_of, input_kind, last_of, MayStart, MayStep};
     ghost use Rattle.sf_engine.specs.Sampling.{Sampled, Starts, Advances};
 
     /// An engine before its start. For want of memory it hands the network back.
     pub fn new(alloc: Global, checked: Checked, mode: Mode) -> Result<Engine, Checked>
-        ensures runs { IfOk result (λ e. Runs e (network_of (program_of checked)) (main_of checked) []) }
+        ensures runs { IfOk result (λ e. Runs e (network_of (program_of checked)) (checked_main checked) []) }
         ensures handed_back { IfErr result (λ c. c ≡ checked) }
     {
         let Ok(plan) = planned(alloc, &checked, mode) else {

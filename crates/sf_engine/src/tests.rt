@@ -1,7 +1,7 @@
 use crate::engine::{Engine, EngineError, Mode, Sample};
-use sf_check::{CheckRefusal, check};
+use sf_check::{Refusal, check};
 use sf_expr::Spot;
-use sf_term::{Bare, Program, WithValue};
+use sf_term::{Bare, Node, Primitive, Program, WithValue};
 use sf_value::{Form, Ty, Value, same_type};
 use std::alloc::Global;
 use std::test::Fail;
@@ -10,7 +10,10 @@ use std::test::Fail;
 fn delayed_by_one(alloc: Global, mode: Mode) -> Result<Engine, Fail> {
     let mut program = Program::new(alloc);
     let seven = program.int(7, Spot::NONE)?;
-    let body = program.with_value(WithValue::InitialPre, seven, Spot::NONE)?;
+    let body = program.add(
+        Node::Primitive(Primitive::WithValue(WithValue::InitialPre, seven)),
+        Spot::NONE,
+    )?;
     let name = String::from_str(alloc, "main")?;
     program.template(name, Spot::NONE, Ty::int(), Ty::int(), body)?;
     engine_of(alloc, program, mode)
@@ -19,7 +22,7 @@ fn delayed_by_one(alloc: Global, mode: Mode) -> Result<Engine, Fail> {
 /// An engine of `identity` on pairs of numbers.
 fn same_pairs(alloc: Global) -> Result<Engine, Fail> {
     let mut program = Program::new(alloc);
-    let body = program.bare(Bare::Identity, Spot::NONE)?;
+    let body = program.add(Node::Primitive(Primitive::Bare(Bare::Identity)), Spot::NONE)?;
     let name = String::from_str(alloc, "main")?;
     let input = Ty::pair(alloc, Ty::int(), Ty::int())?;
     let output = Ty::pair(alloc, Ty::int(), Ty::int())?;
@@ -38,7 +41,7 @@ fn engine_of(alloc: Global, program: Program, mode: Mode) -> Result<Engine, Fail
     }
 }
 
-fn refused(refusal: CheckRefusal) -> Fail {
+fn refused(refusal: Refusal) -> Fail {
     Fail::from(refusal)
 }
 

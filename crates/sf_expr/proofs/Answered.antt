@@ -6,30 +6,29 @@ use Rattle.std.proofs.lemmas.Bool.{cases_lt}
 use Rattle.std.proofs.lemmas.Slice.Eq.{bytes_eq-Decides}
 use Rattle.std.proofs.lemmas.List.Elements.{All-contains}
 use Rattle.sf_value.specs.Values.{Name, Kind, int_kind, pair_kind, nodes as nodes_of}
-use Rattle.sf_expr.specs.declared.spot.Spot.{Spot}
+use Rattle.sf_refusal.specs.declared.spot.Spot.{Spot}
 use Rattle.sf_expr.specs.declared.exprs.ExprId.{ExprId}
 use Rattle.sf_expr.specs.declared.exprs.FunctionId.{FunctionId}
 use Rattle.sf_expr.specs.declared.exprs.ExprNode.{ExprNode}
 use Rattle.sf_expr.specs.declared.exprs.ExprNode.TheVariants as nodes
 use Rattle.sf_expr.specs.declared.exprs.Exprs.{Exprs}
 use Rattle.sf_expr.specs.declared.operator.Operator.{Operator}
-use Rattle.sf_expr.specs.declared.typing.TypeRefusal.{TypeRefusal}
-use Rattle.sf_expr.specs.declared.typing.TypeRefusal.TheVariants.{DuplicateName}
+use Rattle.sf_refusal.specs.declared.refusal.Breach.{Breach}
 use Rattle.sf_expr.specs.Expressions.{Pattern, names_in}
 use Rattle.sf_expr.specs.Patterns.{PlacedPattern, placed_unnamed, placed_name, placed_both, pattern_of}
 use Rattle.sf_expr.specs.Entries.{has_narrow}
 use Rattle.sf_expr.specs.Arena.{id_number, expression, node_at, name_at, entry_of, pattern_at, body_at, function_at, PartsBelow}
-use Rattle.sf_expr.specs.Typing.{Names, Fits, type_of_name, AllDifferent, Adds, adds_nothing, adds_name, adds_both, HasType, FunctionTakes, function_takes}
+use Rattle.sf_expr.specs.Typing.{Names, Fits, type_of_name, AllDifferent, AddsNames, adds_nothing, adds_name, adds_both, HasType, FunctionTakes, function_takes}
 use Rattle.sf_expr.specs.Inference.{is_among, names_with, NamesFit}
 use Rattle.sf_expr.specs.Refusals.{Refused, unknown_name, first_part, second_part, pair_too_large, left_operand, right_operand, no_number, IsRepeated, FunctionRefused, repeated_name, no_fit, body_refused}
 use Rattle.sf_expr.proofs.Entered.{node_builds, parts_below, narrow_node}
 use Rattle.sf_expr.proofs.Judged.{int_typed, name_typed, pair_has_type, operation_has_type}
-use Rattle.sf_expr.proofs.Apart.{apart_push, name_repeated, first_repeated, second_repeated}
+use Rattle.sf_expr.proofs.Apart.{apart_push, name_repeated, repeated_first, repeated_second}
 use Rattle.sf_expr.proofs.Inferred.{not_among, with_adds, adds_with}
 
 -- a type, or a refusal
 abbrev pub IsAnswered : Exprs → Names → ExprId → Type 0
-IsAnswered x R i = ((t : Kind) × HasType R (expression x i) t) ⊎ ((r : TypeRefusal) × Refused x R i r)
+IsAnswered x R i = ((t : Kind) × HasType R (expression x i) t) ⊎ ((r : Breach) × Refused x R i r)
 
 node_parts : (x : Exprs) (i : ExprId) → PartsBelow (node_at x i) (id_number i)
 unfolding node_at entry_of
@@ -97,9 +96,9 @@ apart_or : (seen : List Name) (p : PlacedPattern) → AllDifferent seen → AllD
 apart_or seen placed_unnamed h = inl (subst (λ ns. AllDifferent ns) (sym (append-nil seen)) h)
 apart_or seen (placed_name n s) h = elim (contains_or seen n) [ inl c ↦ inr (s, name_repeated seen n s h c) | inr away ↦ inl (apart_push seen n h away) ]
 apart_or seen (placed_both p q) h = elim (apart_or seen p h) [
-  | inr r ↦ inr (r.0, first_repeated seen p q (DuplicateName r.0) r.1)
+  | inr r ↦ inr (r.0, repeated_first seen p q r.0 r.1)
   | inl d ↦ elim (apart_or (seen ++ names_in (pattern_of p)) q d) [
-    | inr r ↦ inr (r.0, second_repeated seen p q (DuplicateName r.0) r.1)
+    | inr r ↦ inr (r.0, repeated_second seen p q r.0 r.1)
     | inl k ↦ inl (subst (λ ns. AllDifferent ns) (append_assoc seen (names_in (pattern_of p)) (names_in (pattern_of q))) k)
   ]
 ]
@@ -112,7 +111,7 @@ named_fit n t R f fit y u = each (bytes_eq y n)
     each true e = let is : t ≡ u = cc in subst (λ (t : Kind). Fits t) is f
     each false e = fit y u e
 
-adds_fit : {p : Pattern} {t : Kind} {R S : Names} → Adds p t R S → Fits t → NamesFit R → NamesFit S
+adds_fit : {p : Pattern} {t : Kind} {R S : Names} → AddsNames p t R S → Fits t → NamesFit R → NamesFit S
 adds_fit adds_nothing f fit = fit
 adds_fit (adds_name {x = n} {t = t} {R = R}) f fit = named_fit n t R f fit
 adds_fit (adds_both a b) f fit = adds_fit b (omega arith) (adds_fit a (omega arith) fit)
@@ -120,7 +119,7 @@ adds_fit (adds_both a b) f fit = adds_fit b (omega arith) (adds_fit a (omega ari
 -- ## Functions
 
 abbrev pub IsAnsweredFunction : Exprs → Names → FunctionId → Kind → Spot → Type 0
-IsAnsweredFunction x R f a at = ((b : Kind) × FunctionTakes R (function_at x f) a b) ⊎ ((r : TypeRefusal) × FunctionRefused x R f a at r)
+IsAnsweredFunction x R f a at = ((b : Kind) × FunctionTakes R (function_at x f) a b) ⊎ ((r : Breach) × FunctionRefused x R f a at r)
 
 pub function_answered : (x : Exprs) (R : Names) (f : FunctionId) (a : Kind) (at : Spot) → NamesFit R → Fits a → IsAnsweredFunction x R f a at
 function_answered x R f a at fit fits = elim (apart_or [] (pattern_at x f) tt) [

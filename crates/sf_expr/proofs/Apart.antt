@@ -1,5 +1,5 @@
 -- Names that are all different.
-use Rattle.std.proofs.Common.{◌≡◌, ◌≢◌, ℕ, zero, suc, ◌+◌, List, [], ◌∷◌, ◌++◌, length, Some, Bool, true, false, ◌||◌, IsTrue, Contains, ◌↔◌, refl, sym, ◌∙◌, ap, subst, arith, append_assoc, Result, Ok, Err, IfErr, IsErrAnd}
+use Rattle.std.proofs.Common.{◌≡◌, ◌≢◌, ℕ, zero, suc, ◌+◌, List, [], ◌∷◌, ◌++◌, length, Some, Bool, true, false, ◌||◌, IsTrue, Contains, ◌↔◌, refl, sym, ◌∙◌, ap, subst, arith, append_assoc}
 use Rattle.std.specs.Prelude.{slice_get, bytes_eq}
 use Rattle.std.specs.List.{list_any}
 use Rattle.std.specs.Bool.{Decides}
@@ -9,9 +9,10 @@ use Rattle.std.proofs.lemmas.List.Elements.{All-push}
 use Rattle.std.proofs.lemmas.Slice.Eq.{bytes_eq-Decides}
 use Rattle.std.proofs.Math.Seq.{get_or-append_seam}
 use Rattle.sf_value.specs.Values.{Name}
-use Rattle.sf_expr.specs.declared.spot.Spot.{Spot}
-use Rattle.sf_expr.specs.declared.typing.TypeRefusal.{TypeRefusal}
-use Rattle.sf_expr.specs.declared.typing.TypeRefusal.TheVariants.{UnknownName, DuplicateName, Mismatch, TypeTooLarge, Memory}
+use Rattle.sf_refusal.specs.declared.spot.Spot.{Spot}
+use Rattle.sf_refusal.specs.declared.refusal.Refusal.{Refusal}
+use Rattle.sf_refusal.specs.Refusals.{OrMemory}
+use Rattle.sf_refusal.proofs.Explained.{or_memory}
 use Rattle.sf_expr.specs.Expressions.{names_in}
 use Rattle.sf_expr.specs.Patterns.{PlacedPattern, placed_unnamed, placed_name, placed_both, pattern_of, spots_in}
 use Rattle.sf_expr.specs.Typing.{AllDifferent}
@@ -76,7 +77,7 @@ name_repeated seen n s apart h = record {
   place = refl;
 }
 
-repeated_first : (seen : List Name) (p q : PlacedPattern) (s : Spot) → IsRepeated seen p s → IsRepeated seen (placed_both p q) s
+pub repeated_first : (seen : List Name) (p q : PlacedPattern) (s : Spot) → IsRepeated seen p s → IsRepeated seen (placed_both p q) s
 repeated_first seen p q s r = record {
   before = r.before;
   name = r.name;
@@ -87,7 +88,7 @@ repeated_first seen p q s r = record {
   place = get_left (spots_in p) (spots_in q) (length r.before) s r.place;
 }
 
-repeated_second : (seen : List Name) (p q : PlacedPattern) (s : Spot) → IsRepeated (seen ++ names_in (pattern_of p)) q s → IsRepeated seen (placed_both p q) s
+pub repeated_second : (seen : List Name) (p q : PlacedPattern) (s : Spot) → IsRepeated (seen ++ names_in (pattern_of p)) q s → IsRepeated seen (placed_both p q) s
 repeated_second seen p q s r = record {
   before = names_in (pattern_of p) ++ r.before;
   name = r.name;
@@ -99,20 +100,8 @@ repeated_second seen p q s r = record {
 }
 
 -- a refusal of a part of a pattern is one of the pattern
-pub first_repeated : (seen : List Name) (p q : PlacedPattern) (r : TypeRefusal) → RepeatRefused seen p r → RepeatRefused seen (placed_both p q) r
-first_repeated seen p q Memory h = tt
-first_repeated seen p q (UnknownName s) h = h
-first_repeated seen p q (DuplicateName s) h = repeated_first seen p q s h
-first_repeated seen p q (Mismatch s) h = h
-first_repeated seen p q (TypeTooLarge s) h = h
+pub first_repeated : (seen : List Name) (p q : PlacedPattern) (r : Refusal) → OrMemory (RepeatRefused seen p) r → OrMemory (RepeatRefused seen (placed_both p q)) r
+first_repeated seen p q r h = or_memory (λ b k. (k.0, repeated_first seen p q b.spot k.1)) h
 
-pub second_repeated : (seen : List Name) (p q : PlacedPattern) (r : TypeRefusal) → RepeatRefused (seen ++ names_in (pattern_of p)) q r → RepeatRefused seen (placed_both p q) r
-second_repeated seen p q Memory h = tt
-second_repeated seen p q (UnknownName s) h = h
-second_repeated seen p q (DuplicateName s) h = repeated_second seen p q s h
-second_repeated seen p q (Mismatch s) h = h
-second_repeated seen p q (TypeTooLarge s) h = h
-
-pub refused_on : (answer : Result (Unit {0}) TypeRefusal) (r : TypeRefusal) (seen : List Name) (p : PlacedPattern) → IsErrAnd answer (λ e. e ≡ r) → RepeatRefused seen p r → IfErr answer (λ e. RepeatRefused seen p e)
-refused_on (Ok x) r seen p e h = tt
-refused_on (Err f) r seen p e h = subst (λ (g : TypeRefusal). RepeatRefused seen p g) (sym e) h
+pub second_repeated : (seen : List Name) (p q : PlacedPattern) (r : Refusal) → OrMemory (RepeatRefused (seen ++ names_in (pattern_of p)) q) r → OrMemory (RepeatRefused seen (placed_both p q)) r
+second_repeated seen p q r h = or_memory (λ b k. (k.0, repeated_second seen p q b.spot k.1)) h

@@ -1,9 +1,14 @@
 -- Scopes, to which a name is put behind the others.
-use Rattle.std.proofs.Common.{◌≡◌, [], ◌∷◌, ◌++◌, Option, ◌∙◌, ap, sym, subst, fold, Result, Ok, Err, OnOk}
-use Rattle.sf_value.specs.Values.{Kind, pair_kind}
-use Rattle.sf_expr.specs.Expressions.{both}
+use Rattle.std.proofs.Common.{◌≡◌, [], ◌∷◌, ◌++◌, Option, ◌∙◌, ap, sym, subst, fold, Result, Ok, Err, OnOk, IfErr}
+use Rattle.sf_value.specs.Values.{Kind, int_kind, pair_kind}
+use Rattle.sf_refusal.specs.declared.spot.Spot.{Spot}
+use Rattle.sf_refusal.specs.declared.refusal.Refusal.{Refusal}
+use Rattle.sf_refusal.specs.Refusals.{OrMemory}
+use Rattle.sf_refusal.proofs.Explained.{or_memory}
+use Rattle.sf_expr.specs.Expressions.{Pattern, both}
+use Rattle.sf_expr.specs.Refusals.{BindRefused}
 use Rattle.sf_expr.specs.Patterns.{PlacedPattern, placed_both, pattern_of}
-use Rattle.sf_expr.specs.Typing.{Names, Adds, adds_both}
+use Rattle.sf_expr.specs.Typing.{Names, AddsNames, adds_both}
 use Rattle.std.proofs.lemmas.List.Sums.{fold-append}
 use Rattle.sf_expr.specs.Evaluation.{no_names}
 use Rattle.sf_expr.specs.Scopes.{scope_of, with_binding, names_of, with_name}
@@ -34,13 +39,39 @@ unfolding names_of
 names_pushed old new n e = ap (λ ns. fold with_name [] ns) e ∙ fold-append with_name [] old.names.items (n ∷ [])
 
 -- both parts of a pattern add their names
-pub both_adds : (p p1 p2 q1 q2 : PlacedPattern) (t t1 t2 u1 u2 : Kind) {R S T : Names} → p ≡ placed_both p1 p2 → q1 ≡ p1 → q2 ≡ p2 → t ≡ pair_kind t1 t2 → u1 ≡ t1 → u2 ≡ t2 → Adds (pattern_of q1) u1 R S → Adds (pattern_of q2) u2 S T → Adds (pattern_of p) t R T
+pub both_adds : (p p1 p2 q1 q2 : PlacedPattern) (t t1 t2 u1 u2 : Kind) {R S T : Names} → p ≡ placed_both p1 p2 → q1 ≡ p1 → q2 ≡ p2 → t ≡ pair_kind t1 t2 → u1 ≡ t1 → u2 ≡ t2 → AddsNames (pattern_of q1) u1 R S → AddsNames (pattern_of q2) u2 S T → AddsNames (pattern_of p) t R T
 both_adds p p1 p2 q1 q2 t t1 t2 u1 u2 {R} {S} {T} e e1 e2 f f1 f2 h k =
-    let first : Adds (pattern_of p1) t1 R S = subst (λ (q : PlacedPattern). Adds (pattern_of q) t1 R S) e1 (subst (λ (u : Kind). Adds (pattern_of q1) u R S) f1 h) in
-    let second : Adds (pattern_of p2) t2 S T = subst (λ (q : PlacedPattern). Adds (pattern_of q) t2 S T) e2 (subst (λ (u : Kind). Adds (pattern_of q2) u S T) f2 k) in
-    subst (λ (q : PlacedPattern). Adds (pattern_of q) t R T) (sym e) (subst (λ (u : Kind). Adds (both (pattern_of p1) (pattern_of p2)) u R T) (sym f) (adds_both first second))
+    let first : AddsNames (pattern_of p1) t1 R S = subst (λ (q : PlacedPattern). AddsNames (pattern_of q) t1 R S) e1 (subst (λ (u : Kind). AddsNames (pattern_of q1) u R S) f1 h) in
+    let second : AddsNames (pattern_of p2) t2 S T = subst (λ (q : PlacedPattern). AddsNames (pattern_of q) t2 S T) e2 (subst (λ (u : Kind). AddsNames (pattern_of q2) u S T) f2 k) in
+    subst (λ (q : PlacedPattern). AddsNames (pattern_of q) t R T) (sym e) (subst (λ (u : Kind). AddsNames (both (pattern_of p1) (pattern_of p2)) u R T) (sym f) (adds_both first second))
+
+-- a pattern that fits no part of a type of pairs does not fit the type
+both_parts : {p q : Pattern} {t u : Kind} {R T : Names} → AddsNames (both p q) (pair_kind t u) R T → (S : Names) × AddsNames p t R S × AddsNames q u S T
+both_parts (adds_both h k) = (_, h, k)
+
+module _ (p p1 p2 q : PlacedPattern) (t t1 t2 u : Kind) (at : Spot) (r : Refusal) (is : p ≡ placed_both p1 p2) (of : t ≡ pair_kind t1 t2) where
+  parts : {R T : Names} → AddsNames (pattern_of p) t R T → (S : Names) × AddsNames (pattern_of p1) t1 R S × AddsNames (pattern_of p2) t2 S T
+  parts {R} {T} h = both_parts (subst (λ (v : Kind). AddsNames (both (pattern_of p1) (pattern_of p2)) v R T) of (subst (λ (w : PlacedPattern). AddsNames (pattern_of w) t R T) is h))
+
+  pub first_unbound : q ≡ p1 → u ≡ t1 → OrMemory (BindRefused (pattern_of q) u at) r → OrMemory (BindRefused (pattern_of p) t at) r
+  first_unbound e f h = or_memory (λ b k. (k.0, λ R T a. let s = parts a in k.1 R s.0 (subst (λ (v : Kind). AddsNames (pattern_of q) v R s.0) (sym f) (subst (λ (w : PlacedPattern). AddsNames (pattern_of w) t1 R s.0) (sym e) s.1)))) h
+
+  pub second_unbound : q ≡ p2 → u ≡ t2 → OrMemory (BindRefused (pattern_of q) u at) r → OrMemory (BindRefused (pattern_of p) t at) r
+  second_unbound e f h = or_memory (λ b k. (k.0, λ R T a. let s = parts a in k.1 s.0 T (subst (λ (v : Kind). AddsNames (pattern_of q) v s.0 T) (sym f) (subst (λ (w : PlacedPattern). AddsNames (pattern_of w) t2 s.0 T) (sym e) s.2)))) h
+
+-- a pattern of pairs does not fit the type of numbers
+pub number_unbound : (p p1 p2 : PlacedPattern) (t : Kind) → p ≡ placed_both p1 p2 → t ≡ int_kind → (R T : Names) → AddsNames (pattern_of p) t R T → ⊥
+number_unbound p p1 p2 t is of R T h = none (subst (λ (v : Kind). AddsNames (both (pattern_of p1) (pattern_of p2)) v R T) of (subst (λ (w : PlacedPattern). AddsNames (pattern_of w) t R T) is h))
+  where
+    none : AddsNames (both (pattern_of p1) (pattern_of p2)) int_kind R T → ⊥
+    none h = elim h [ ]
 
 -- what follows where there is an answer
 pub on_ok : {A E P Q : Type 0} (r : Result A E) → (P → Q) → OnOk r P → OnOk r Q
 on_ok (Ok x) f h = f h
 on_ok (Err e) f h = tt
+
+-- what follows where there is a refusal
+pub on_err : {A E : Type 0} {P Q : E → Type 0} (r : Result A E) → ((e : E) → P e → Q e) → IfErr r P → IfErr r Q
+on_err (Ok x) f h = tt
+on_err (Err e) f h = f e h

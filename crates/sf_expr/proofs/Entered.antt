@@ -1,233 +1,245 @@
--- An arena of expressions, of which one more is put behind.
-use Rattle.std.proofs.Common.{◌≡◌, ℕ, ◌+◌, ◌<◌, ◌≤◌, List, [], ◌∷◌, ◌++◌, length, get_or, Bool, true, false, cond, refl, sym, ◌∙◌, ap, subst, arith, ◌⊎◌, inl, inr, ⊎_elim, IsTrue, pos, Result, Ok, Err, IfOk, OnErr}
+-- An arena of expressions, to which more is added.
+use Rattle.std.proofs.Common.{◌≡◌, ℕ, ◌+◌, ◌<◌, ◌≤◌, List, [], ◌∷◌, ◌++◌, length, get_or, Bool, true, false, cond, refl, sym, ◌∙◌, ap, subst, arith, ◌↔◌, ◌⊎◌, inl, inr, ⊎_elim, IsTrue, pos, Result, Ok, Err, IfOk, OnErr}
 use mathlib.Core.Path.{ap₂}
 use Rattle.std.proofs.lemmas.Bool.{cases_eq, cases_lt}
-use Rattle.std.proofs.lemmas.List.{length-append, get_or_append_left, get_or_push, get_or_past}
+use Rattle.std.proofs.lemmas.List.Elements.{All-nil, All-push, All-weaker, All-get_or}
+use Rattle.std.proofs.lemmas.List.{length-append, get_or_append_left, get_or_past}
 use Rattle.sf_value.specs.Values.{Name}
+use Rattle.sf_refusal.specs.declared.spot.Spot.{Spot}
+use Rattle.sf_arena.specs.declared.arena.ArenaRefusal.{ArenaRefusal}
+use Rattle.sf_arena.specs.declared.arena.ArenaRefusal.TheVariants.{TooMany, TooDeep, Memory}
+use Rattle.sf_arena.specs.declared.entry.Entry.{Entry}
+use Rattle.sf_arena.specs.Arenas.{entries_of}
+use Rattle.sf_arena.specs.Folded.{trees, tree_at}
+use Rattle.sf_arena.specs.Items.{Added}
+use Rattle.sf_arena.proofs.Grown.{added_counted, added_within, added_fresh, added_item, item_kept, each_item, tree_kept, tree_added, each_tree, tree_made, trees-same, added_or_same, Grows, grows_same, grows_added, shallow_at, few_entries, shallow_entries}
 use Rattle.sf_expr.specs.declared.exprs.ExprNode.{ExprNode}
 use Rattle.sf_expr.specs.declared.exprs.ExprNode.TheVariants as nodes
 use Rattle.sf_expr.specs.declared.exprs.ExprId.{ExprId}
 use Rattle.sf_expr.specs.declared.exprs.NameId.{NameId}
 use Rattle.sf_expr.specs.declared.exprs.FunctionId.{FunctionId}
-use Rattle.sf_expr.specs.declared.exprs.ExprRefusal.{ExprRefusal}
 use Rattle.sf_expr.specs.declared.exprs.Exprs.{Exprs}
-use Rattle.sf_expr.specs.declared.entry.Stored.{Stored}
-use Rattle.sf_expr.specs.declared.entry.Stored.TheVariants.{Int, Name as NameIs, Pair, Operation}
-use Rattle.sf_expr.specs.declared.entry.Entry.{Entry}
-use Rattle.sf_expr.specs.declared.entry.StoredFunction.{StoredFunction}
-use Rattle.sf_expr.specs.declared.spot.Spot.{Spot}
-use Rattle.sf_expr.specs.Expressions.{Expression, variable, literal, int_literal, paired, operation, function, depth, pattern_depth, function_depth}
+use Rattle.sf_expr.specs.declared.stored.StoredFunction.{StoredFunction}
+use Rattle.sf_expr.specs.Expressions.{Expression, variable, paired, operation, function, depth, pattern_depth, function_depth}
 use Rattle.sf_expr.specs.Patterns.{PlacedPattern, pattern_of}
-use Rattle.sf_expr.specs.Entries.{IsArena, AreFunctions, among, made_over, needs, node_of, name_in, has_narrow, stored_narrow, zero_entry, entry_at, expressions, expression_at, no_function, function_entry}
-use Rattle.sf_expr.specs.Arena.{count_of, function_count, Holds, HoldsFunction, expression, entry_of, node_at, name_at, spot_at, pattern_at, body_at, function_at, made_in, Builds, builds_int, builds_name, builds_pair, builds_operation, PartsBelow, HoldsParts, Keeps, Adds, AddsFunction, IsUnchanged, id_number}
-use Rattle.sf_expr.specs.Folded.{trees}
-use Rattle.sf_expr.proofs.Grown.{trees-length, tree-other, tree-pushed, item-other, tree-built}
+use Rattle.sf_expr.specs.Entries.{IsArena, IsClosed, AreFunctions, zero_expression, among, name_among, made_over, entry_made, needs, needs_names, has_narrow, zero_entry, entry_at, expressions, expression_at, no_function, function_entry}
+use Rattle.sf_expr.specs.Arena.{count_of, function_count, name_count, next_name, Holds, HoldsFunction, HoldsName, expression, entry_of, node_at, name_at, spot_at, pattern_at, body_at, function_at, expression_of, Builds, builds_int, builds_name, builds_pair, builds_operation, PartsBelow, HoldsParts, Keeps, Adds, AddsName, AddsFunction, IsUnchanged, id_number}
 
 -- what an expression is made over are its parts alone
-local : (es more : List Expression) (entry : Entry) → needs entry.stored ≤ length es → made_over (es ++ more) entry.stored ≡ made_over es entry.stored
-local es more entry h = at_stored entry.stored h
+local : (names : List Name) (es more : List Expression) (entry : Entry ExprNode) → needs entry.node ≤ length es → entry_made names (es ++ more) entry ≡ entry_made names es entry
+local names es more entry h = at_node entry.node h
   where
     part : (i : ℕ) → i < length es → among (es ++ more) i ≡ among es i
-    part i q = get_or_append_left es more (literal (int_literal (pos 0))) i q
+    part i q = get_or_append_left es more zero_expression i q
 
-    at_stored : (n : Stored) → needs n ≤ length es → made_over (es ++ more) n ≡ made_over es n
-    at_stored (Int z) h = refl
-    at_stored (NameIs n) h = refl
-    at_stored (Pair a b) h = ap₂ (λ i j. paired i j) (part a.0 (omega arith)) (part b.0 (omega arith))
-    at_stored (Operation a op b) h = ap₂ (λ i j. operation i op j) (part a.0 (omega arith)) (part b.0 (omega arith))
+    at_node : (n : ExprNode) → needs n ≤ length es → made_over names (es ++ more) n ≡ made_over names es n
+    at_node (nodes.Int z) h = refl
+    at_node (nodes.Name n) h = refl
+    at_node (nodes.Pair a b) h = ap₂ (λ i j. paired i j) (part a.0 (omega arith)) (part b.0 (omega arith))
+    at_node (nodes.Operation a op b) h = ap₂ (λ i j. operation i op j) (part a.0 (omega arith)) (part b.0 (omega arith))
 
-pub expression-other : (entries : List Entry) (entry : Entry) (i : ℕ) → (i ≡ length entries → ⊥) → expression_at (entries ++ entry ∷ []) i ≡ expression_at entries i
-unfolding expression_at expressions
-expression-other entries entry i h = tree-other (λ es n. made_over es n.stored) entries entry i (literal (int_literal (pos 0))) h
+-- an expression is the same where there are more names
+same_named : (names more : List Name) (es : List Expression) (n : ExprNode) → needs_names n ≤ length names → made_over (names ++ more) es n ≡ made_over names es n
+same_named names more es (nodes.Int z) h = refl
+same_named names more es (nodes.Name n) h = ap variable (get_or_append_left names more [] n.0 (omega arith))
+same_named names more es (nodes.Pair a b) h = refl
+same_named names more es (nodes.Operation a op b) h = refl
 
-pub expression-pushed : (entries : List Entry) (entry : Entry) (i : ℕ) → i ≡ length entries → expression_at (entries ++ entry ∷ []) i ≡ made_over (expressions entries) entry.stored
-unfolding expression_at expressions
-expression-pushed entries entry i e = tree-pushed (λ es n. made_over es n.stored) entries entry i (literal (int_literal (pos 0))) e
-
-pub entry-other : (entries : List Entry) (entry : Entry) (i : ℕ) → (i ≡ length entries → ⊥) → entry_at (entries ++ entry ∷ []) i ≡ entry_at entries i
-entry-other entries entry i h = item-other entries entry i zero_entry h
-
-pub entry-pushed : (entries : List Entry) (entry : Entry) (i : ℕ) → i ≡ length entries → entry_at (entries ++ entry ∷ []) i ≡ entry
-entry-pushed entries entry i e = get_or_push entries entry zero_entry i (sym e)
-
--- what holds at each place, once an entry stands behind
-each : (P : ℕ → Entry → Expression → Type 0) (entries : List Entry) (entry : Entry) → ((i : ℕ) → P i (entry_at entries i) (expression_at entries i)) → P (length entries) entry (made_over (expressions entries) entry.stored) → (i : ℕ) → P i (entry_at (entries ++ entry ∷ []) i) (expression_at (entries ++ entry ∷ []) i)
-each P entries entry h here i = ⊎_elim at other (cases_eq i (length entries))
-  where
-    at : i ≡ length entries → P i (entry_at (entries ++ entry ∷ []) i) (expression_at (entries ++ entry ∷ []) i)
-    at e = rw (entry-pushed entries entry i e, expression-pushed entries entry i e, e) here
-
-    other : (i ≡ length entries → ⊥) → P i (entry_at (entries ++ entry ∷ []) i) (expression_at (entries ++ entry ∷ []) i)
-    other q = rw (entry-other entries entry i q, expression-other entries entry i q) (h i)
+expressions_named : (names more : List Name) (entries : List (Entry ExprNode)) → IsArena names entries → (i : ℕ) → expression_at (names ++ more) entries i ≡ expression_at names entries i
+unfolding tree_at
+expressions_named names more entries a i =
+    ap (λ es. among es i) (trees-same (entry_made (names ++ more)) (entry_made names) zero_entry entries (λ j es h. same_named names more es (entry_at entries j).node (a.named j)))
 
 -- nothing is an arena
-pub arena_empty : IsArena []
-unfolding expression_at expressions trees
-arena_empty = record {
-  few = omega arith;
+pub arena_empty : (names : List Name) → IsArena names []
+unfolding tree_at trees
+arena_empty names = record {
   in_order = λ i. omega arith;
+  named = λ i. omega arith;
   measured = λ i. refl;
-  shallow = λ i. omega arith;
   narrow = λ i. refl;
 }
 
--- the arena once an entry stands behind
-pub arena_pushed : (entries : List Entry) (entry : Entry) → IsArena entries → length entries < 100000 → needs entry.stored ≤ length entries → entry.depth ≡ depth (made_over (expressions entries) entry.stored) → entry.depth ≤ 64 → IsTrue (stored_narrow entry.stored) → IsArena (entries ++ entry ∷ [])
-arena_pushed entries entry a few in_order measured shallow narrow = record {
-  few = omega (arith, length-append entries (entry ∷ []));
-  in_order = each (λ i n e. needs n.stored ≤ i) entries entry a.in_order in_order;
-  measured = each (λ i n e. n.depth ≡ depth e) entries entry a.measured measured;
-  shallow = each (λ i n e. n.depth ≤ 64) entries entry a.shallow shallow;
-  narrow = each (λ i n e. IsTrue (stored_narrow n.stored)) entries entry a.narrow narrow;
+-- the arena once an entry is added
+arena_added : (names : List Name) (old new : List (Entry ExprNode)) (entry : Entry ExprNode) (n : ℕ) → Added old new entry n → IsArena names old → needs entry.node ≤ length old → needs_names entry.node ≤ length names → entry.depth ≡ depth (entry_made names (expressions names old) entry) → IsTrue (has_narrow entry.node) → IsArena names new
+arena_added names old new entry n added a in_order named measured narrow = record {
+  in_order = each_item old new entry n added (λ i e. needs e.node ≤ i) zero_entry a.in_order (omega (arith, added.next));
+  named = each_item old new entry n added (λ i e. needs_names e.node ≤ length names) zero_entry a.named named;
+  measured = each_tree old new entry n added (entry_made names) zero_expression (λ i e t. e.depth ≡ depth t) zero_entry a.measured measured;
+  narrow = each_item old new entry n added (λ i e. IsTrue (has_narrow e.node)) zero_entry a.narrow narrow;
 }
 
--- the same, where it may be that nothing was put
-pub arena_put : (old new : List Entry) (entry : Entry) (put : Bool) → new ≡ cond put (old ++ entry ∷ []) old → IsArena old → length old < 100000 → needs entry.stored ≤ length old → entry.depth ≡ depth (made_over (expressions old) entry.stored) → entry.depth ≤ 64 → IsTrue (stored_narrow entry.stored) → IsArena new
-arena_put old new entry true e a few in_order measured shallow narrow = subst (λ es. IsArena es) (sym e) (arena_pushed old entry a few in_order measured shallow narrow)
-arena_put old new entry false e a few in_order measured shallow narrow = subst (λ es. IsArena es) (sym e) a
+-- the arena once a name is added
+arena_named : (names more : List Name) (entries : List (Entry ExprNode)) → IsArena names entries → IsArena (names ++ more) entries
+arena_named names more entries a = record {
+  in_order = a.in_order;
+  named = λ i. omega (arith, a.named i, length-append names more);
+  measured = λ i. a.measured i ∙ ap depth (sym (expressions_named names more entries a i));
+  narrow = a.narrow;
+}
+
+pub arena_put_name : (old new : List Name) (name : Name) (entries : List (Entry ExprNode)) (put : Bool) → new ≡ cond put (old ++ name ∷ []) old → IsArena old entries → IsArena new entries
+arena_put_name old new name entries true e a = subst (λ names. IsArena names entries) (sym e) (arena_named old (name ∷ []) entries a)
+arena_put_name old new name entries false e a = subst (λ names. IsArena names entries) (sym e) a
+
+-- the expression of a node, as the entries make it
+made_expression : (x : Exprs) (n : ExprNode) → made_over x.names.items (expressions x.names.items (entries_of x.arena)) n ≡ expression_of x n
+unfolding expression name_at tree_at
+made_expression x (nodes.Int z) = refl
+made_expression x (nodes.Name n) = refl
+made_expression x (nodes.Pair a b) = refl
+made_expression x (nodes.Operation a op b) = refl
+
+-- what a node of which the parts are held needs
+needed : (x : Exprs) (n : ExprNode) → HoldsParts x n → (needs n ≤ length (entries_of x.arena)) × (needs_names n ≤ length x.names.items)
+unfolding Holds HoldsName
+needed x (nodes.Int z) h = (omega arith, omega arith)
+needed x (nodes.Name n) h = (omega arith, h)
+needed x (nodes.Pair a b) h = (omega (arith, h.0, h.1), omega arith)
+needed x (nodes.Operation a op b) h = (omega (arith, h.0, h.1), omega arith)
+
+-- the entries after a call that adds, whatever it answers
+pub arena_put : (x : Exprs) (new : List (Entry ExprNode)) (n : ExprNode) (d : ℕ) (s : Spot) (r : Result ℕ ArenaRefusal) → IfOk r (Added (entries_of x.arena) new (record { node = n; depth = d; spot = s })) → OnErr r (new ≡ entries_of x.arena) → HoldsParts x n → d ≡ depth (expression_of x n) → IsTrue (has_narrow n) → IsArena x.names.items new
+arena_put x new n d s r ok err held measured narrow = ⊎_elim added same (added_or_same (entries_of x.arena) new (record { node = n; depth = d; spot = s }) r ok err)
+  where
+    added : Added (entries_of x.arena) new (record { node = n; depth = d; spot = s }) (length (entries_of x.arena)) → IsArena x.names.items new
+    added a =
+        let parts = needed x n held in
+        arena_added x.names.items (entries_of x.arena) new _ _ a x.ordered parts.0 parts.1 (measured ∙ ap depth (sym (made_expression x n))) narrow
+
+    same : new ≡ entries_of x.arena → IsArena x.names.items new
+    same e = subst (λ es. IsArena x.names.items es) (sym e) x.ordered
 
 -- no functions, of an arena with any number of expressions
 pub functions_empty : (n : ℕ) → AreFunctions n []
-functions_empty n = record { bodies = λ i h. absurd (omega arith); shallow = λ i. omega arith }
+functions_empty n = All-nil (IsClosed n)
 
 -- the functions where there are more expressions
 pub functions_grown : (m n : ℕ) (fs : List StoredFunction) → m ≤ n → AreFunctions m fs → AreFunctions n fs
-functions_grown m n fs h a = record { bodies = λ i q. omega (arith, a.bodies i q); shallow = a.shallow }
-
-pub function-other : (fs : List StoredFunction) (f : StoredFunction) (i : ℕ) → (i ≡ length fs → ⊥) → function_entry (fs ++ f ∷ []) i ≡ function_entry fs i
-function-other fs f i h = item-other fs f i no_function h
-
-pub function-pushed : (fs : List StoredFunction) (f : StoredFunction) (i : ℕ) → i ≡ length fs → function_entry (fs ++ f ∷ []) i ≡ f
-function-pushed fs f i e = get_or_push fs f no_function i (sym e)
-
--- the functions once one stands behind
-pub functions_pushed : (n : ℕ) (fs : List StoredFunction) (f : StoredFunction) → AreFunctions n fs → f.body.0 < n → pattern_depth (pattern_of f.pattern) ≤ 64 → AreFunctions n (fs ++ f ∷ [])
-functions_pushed n fs f a body shallow = record {
-  bodies = λ i h. ⊎_elim (λ e. subst (λ (g : StoredFunction). g.body.0 < n) (sym (function-pushed fs f i e)) body) (λ q. subst (λ (g : StoredFunction). g.body.0 < n) (sym (function-other fs f i q)) (a.bodies i (omega (arith, length-append fs (f ∷ []))))) (cases_eq i (length fs));
-  shallow = λ i. ⊎_elim (λ e. subst (λ (g : StoredFunction). pattern_depth (pattern_of g.pattern) ≤ 64) (sym (function-pushed fs f i e)) shallow) (λ q. subst (λ (g : StoredFunction). pattern_depth (pattern_of g.pattern) ≤ 64) (sym (function-other fs f i q)) (a.shallow i)) (cases_eq i (length fs));
-}
+functions_grown m n fs h a = All-weaker (IsClosed m) (IsClosed n) (λ f q. (omega (arith, q.0), q.1)) fs a
 
 pub functions_put : (n : ℕ) (old new : List StoredFunction) (f : StoredFunction) (put : Bool) → new ≡ cond put (old ++ f ∷ []) old → AreFunctions n old → f.body.0 < n → pattern_depth (pattern_of f.pattern) ≤ 64 → AreFunctions n new
-functions_put n old new f true e a body shallow = subst (λ fs. AreFunctions n fs) (sym e) (functions_pushed n old f a body shallow)
+functions_put n old new f true e a body shallow = subst (λ fs. AreFunctions n fs) (sym e) (All-push (IsClosed n) old f a (body, shallow))
 functions_put n old new f false e a body shallow = subst (λ fs. AreFunctions n fs) (sym e) a
 
--- functions stay where expressions are kept
-meaning_kept : (old new : Exprs) → ((i : ExprId) → Holds old i → expression new i ≡ expression old i) → (f : FunctionId) → HoldsFunction old f → pattern_at new f ≡ pattern_at old f → body_at new f ≡ body_at old f → function_at new f ≡ function_at old f
-unfolding body_at Holds HoldsFunction
-meaning_kept old new trees f h p b =
-    ap₂ (λ q e. function q e) (ap pattern_of p) (ap (λ i. expression new i) b ∙ trees (body_at old f) (old.closed.bodies f.0 h))
+-- an arena of which each list has grown keeps what it held, where the expressions stay
+keeps : (old new : Exprs) → Grows (entries_of old.arena) (entries_of new.arena) → Grows old.names.items new.names.items → Grows old.functions.items new.functions.items → ((i : ExprId) → Holds old i → expression new i ≡ expression old i) → Keeps old new
+unfolding Holds HoldsName HoldsFunction node_at spot_at name_at pattern_at body_at
+keeps old new e n f trees = record {
+  holds = λ i h. omega (arith, e.longer);
+  nodes = λ i h. ap (λ (k : Entry ExprNode). k.node) (e.same i.0 zero_entry h);
+  trees = trees;
+  spots = λ i h. ap (λ (k : Entry ExprNode). k.spot) (e.same i.0 zero_entry h);
+  functions = λ g h. omega (arith, f.longer);
+  patterns = λ g h. ap (λ (k : StoredFunction). k.pattern) (f.same g.0 no_function h);
+  bodies = λ g h. ap (λ (k : StoredFunction). k.body) (f.same g.0 no_function h);
+  meanings = λ g h. ap₂ (λ p b. function (pattern_of p) b)
+      (ap (λ (k : StoredFunction). k.pattern) (f.same g.0 no_function h))
+      (ap (λ (k : StoredFunction). expression new k.body) (f.same g.0 no_function h) ∙ trees (function_entry old.functions.items g.0).body (All-get_or (IsClosed (length (entries_of old.arena))) old.functions.items g.0 no_function h old.closed).0);
+  holds_names = λ m h. omega (arith, n.longer);
+  names = λ m h. n.same m.0 [] h;
+}
 
--- an entry put behind keeps what was there
-pushed_keeps : (old new : Exprs) (entry : Entry) → new.entries.items ≡ old.entries.items ++ entry ∷ [] → new.functions.items ≡ old.functions.items → Keeps old new
-unfolding Holds expression node_at spot_at HoldsFunction pattern_at body_at
-pushed_keeps old new entry grown same = record {
-  holds = λ i h. omega (arith, ap length grown, length-append old.entries.items (entry ∷ []));
-  nodes = λ i h. ap (λ (n : Entry). node_of n.stored i) (other i h);
-  trees = kept;
-  spots = λ i h. ap (λ (n : Entry). n.spot) (other i h);
-  functions = λ f h. omega (arith, ap length same);
-  patterns = λ f h. ap (λ fs. (function_entry fs f.0).pattern) same;
-  bodies = λ f h. ap (λ fs. (function_entry fs f.0).body) same;
-  meanings = λ f h. meaning_kept old new kept f h (ap (λ fs. (function_entry fs f.0).pattern) same) (ap (λ fs. (function_entry fs f.0).body) same);
+-- an entry that is added adds its expression
+pub adds_added : (old new : Exprs) (id : ExprId) (n : ExprNode) (d : ℕ) (s : Spot) → Added (entries_of old.arena) (entries_of new.arena) (record { node = n; depth = d; spot = s }) id.0 → new.names.items ≡ old.names.items → new.functions.items ≡ old.functions.items → Adds old new id n (expression_of old n) s
+unfolding count_of function_count name_count Holds expression node_at spot_at
+adds_added old new id n d s added same_names same_functions = record {
+  within = added_within _ _ _ _ added;
+  fresh = added_fresh _ _ _ _ added;
+  node = ap (λ (k : Entry ExprNode). k.node) here;
+  is = ap (λ names. expression_at names (entries_of new.arena) id.0) same_names ∙ tree_added _ _ _ _ added (entry_made old.names.items) zero_expression ∙ made_expression old n;
+  spotted = ap (λ (k : Entry ExprNode). k.spot) here;
+  kept = keeps old new (grows_added _ _ _ _ added) (grows_same _ _ same_names) (grows_same _ _ same_functions)
+      (λ i h. ap (λ names. expression_at names (entries_of new.arena) i.0) same_names ∙ tree_kept _ _ _ _ added (entry_made old.names.items) zero_expression i.0 h);
+  count = added_counted _ _ _ _ added;
+  functions = ap length same_functions;
+  names = ap length same_names;
 }
   where
-    kept : (i : ExprId) → Holds old i → expression new i ≡ expression old i
-    kept i h = ap (λ es. expression_at es i.0) grown ∙ expression-other old.entries.items entry i.0 (λ e. omega arith)
+    here : entry_at (entries_of new.arena) id.0 ≡ record { node = n; depth = d; spot = s }
+    here = added_item _ _ _ _ added zero_entry
 
-    other : (i : ExprId) → Holds old i → entry_at new.entries.items i.0 ≡ entry_at old.entries.items i.0
-    other i h = ap (λ es. entry_at es i.0) grown ∙ entry-other old.entries.items entry i.0 (λ e. omega arith)
-
--- an entry put behind adds its expression
-pub adds_pushed : (old new : Exprs) (entry : Entry) (id : ExprId) → new.entries.items ≡ old.entries.items ++ entry ∷ [] → new.functions.items ≡ old.functions.items → id.0 ≡ length old.entries.items → Adds old new id (node_of entry.stored id) (made_in old entry.stored) entry.spot
-unfolding count_of function_count Holds expression node_at spot_at made_in
-adds_pushed old new entry id grown same at = record {
-  within = omega (arith, long);
-  fresh = λ h. omega arith;
-  node = ap (λ (n : Entry). node_of n.stored id) here;
-  is = ap (λ es. expression_at es id.0) grown ∙ expression-pushed old.entries.items entry id.0 at;
-  spotted = ap (λ (n : Entry). n.spot) here;
-  kept = pushed_keeps old new entry grown same;
-  count = long;
-  functions = ap length same;
+-- a name that is put behind is added
+pub adds_name_put : (old new : Exprs) (n : NameId) (x : Name) → Added old.names.items new.names.items x n.0 → entries_of new.arena ≡ entries_of old.arena → new.functions.items ≡ old.functions.items → AddsName old new n x
+unfolding count_of function_count name_count next_name Holds HoldsName expression node_at spot_at name_at pattern_at body_at
+adds_name_put old new n x added same_entries same_functions = record {
+  next = ap (λ (i : ℕ). record { 0 = i }) added.next;
+  within = added_within _ _ _ _ added;
+  is = added_item _ _ _ _ added [];
+  kept = keeps old new (grows_same _ _ same_entries) (grows_added _ _ _ _ added) (grows_same _ _ same_functions) (λ i h. trees i);
+  nodes = λ i. ap (λ es. (entry_at es i.0).node) same_entries;
+  trees = trees;
+  spots = λ i. ap (λ es. (entry_at es i.0).spot) same_entries;
+  patterns = λ f. ap (λ fs. (function_entry fs f.0).pattern) same_functions;
+  bodies = λ f. ap (λ fs. (function_entry fs f.0).body) same_functions;
+  count = ap length same_entries;
+  functions = ap length same_functions;
+  names = added_counted _ _ _ _ added;
 }
   where
-    long : length new.entries.items ≡ length old.entries.items + 1
-    long = ap length grown ∙ omega (arith, length-append old.entries.items (entry ∷ []))
+    trees : (i : ExprId) → expression new i ≡ expression old i
+    trees i = ap₂ (λ names es. expression_at names es i.0) added.grown same_entries ∙ expressions_named old.names.items (x ∷ []) (entries_of old.arena) old.ordered i.0
 
-    here : entry_at new.entries.items id.0 ≡ entry
-    here = ap (λ es. entry_at es id.0) grown ∙ entry-pushed old.entries.items entry id.0 at
-
--- a function put behind adds it
-pub adds_function_pushed : (old new : Exprs) (f : StoredFunction) (id : FunctionId) → new.entries.items ≡ old.entries.items → new.functions.items ≡ old.functions.items ++ f ∷ [] → id.0 ≡ length old.functions.items → AddsFunction old new id f.pattern f.body
-unfolding count_of function_count Holds HoldsFunction expression node_at spot_at pattern_at body_at
-adds_function_pushed old new f id same grown at = record {
-  within = omega (arith, long);
-  fresh = λ h. omega arith;
-  pattern = ap (λ (g : StoredFunction). g.pattern) here;
-  body = ap (λ (g : StoredFunction). g.body) here;
-  is = ap₂ (λ q e. function q e) (ap (λ (g : StoredFunction). pattern_of g.pattern) here) (ap₂ (λ es (g : StoredFunction). expression_at es g.body.0) same here);
-  kept = record {
-    holds = λ i h. omega (arith, ap length same);
-    nodes = λ i h. ap (λ es. node_of (entry_at es i.0).stored i) same;
-    trees = kept;
-    spots = λ i h. ap (λ es. (entry_at es i.0).spot) same;
-    functions = λ g h. omega (arith, long);
-    patterns = λ g h. ap (λ (e : StoredFunction). e.pattern) (other g h);
-    bodies = λ g h. ap (λ (e : StoredFunction). e.body) (other g h);
-    meanings = λ g h. meaning_kept old new kept g h (ap (λ (e : StoredFunction). e.pattern) (other g h)) (ap (λ (e : StoredFunction). e.body) (other g h));
-  };
-  count = ap length same;
-  functions = long;
+-- a function that is put behind is added
+pub adds_function_put : (old new : Exprs) (f : StoredFunction) (id : FunctionId) → Added old.functions.items new.functions.items f id.0 → entries_of new.arena ≡ entries_of old.arena → new.names.items ≡ old.names.items → AddsFunction old new id f.pattern f.body
+unfolding count_of function_count name_count Holds HoldsFunction expression pattern_at body_at
+adds_function_put old new f id added same_entries same_names = record {
+  within = added_within _ _ _ _ added;
+  fresh = added_fresh _ _ _ _ added;
+  pattern = ap (λ (k : StoredFunction). k.pattern) here;
+  body = ap (λ (k : StoredFunction). k.body) here;
+  is = ap₂ (λ q e. function q e) (ap (λ (k : StoredFunction). pattern_of k.pattern) here) (ap (λ (k : StoredFunction). expression new k.body) here ∙ trees f.body);
+  kept = keeps old new (grows_same _ _ same_entries) (grows_same _ _ same_names) (grows_added _ _ _ _ added) (λ i h. trees i);
+  count = ap length same_entries;
+  functions = added_counted _ _ _ _ added;
+  names = ap length same_names;
 }
   where
-    long : length new.functions.items ≡ length old.functions.items + 1
-    long = ap length grown ∙ omega (arith, length-append old.functions.items (f ∷ []))
-
     here : function_entry new.functions.items id.0 ≡ f
-    here = ap (λ fs. function_entry fs id.0) grown ∙ function-pushed old.functions.items f id.0 at
+    here = added_item _ _ _ _ added no_function
 
-    kept : (i : ExprId) → Holds old i → expression new i ≡ expression old i
-    kept i h = ap (λ es. expression_at es i.0) same
+    trees : (i : ExprId) → expression new i ≡ expression old i
+    trees i = ap₂ (λ names es. expression_at names es i.0) same_names same_entries
 
-    other : (g : FunctionId) → HoldsFunction old g → function_entry new.functions.items g.0 ≡ function_entry old.functions.items g.0
-    other g h = ap (λ fs. function_entry fs g.0) grown ∙ function-other old.functions.items f g.0 (λ e. omega arith)
-
--- the same entries and functions show the same
-pub unchanged : (old new : Exprs) → new.entries.items ≡ old.entries.items → new.functions.items ≡ old.functions.items → IsUnchanged old new
-unfolding count_of function_count expression node_at spot_at pattern_at body_at
-unchanged old new e f = record {
+-- the same entries, names and functions show the same
+pub unchanged : (old new : Exprs) → entries_of new.arena ≡ entries_of old.arena → new.names.items ≡ old.names.items → new.functions.items ≡ old.functions.items → IsUnchanged old new
+unfolding count_of function_count name_count expression node_at spot_at name_at pattern_at body_at
+unchanged old new e n f = record {
   count = ap length e;
   functions = ap length f;
-  nodes = λ i. ap (λ es. node_of (entry_at es i.0).stored i) e;
-  trees = λ i. ap (λ es. expression_at es i.0) e;
+  name_counted = ap length n;
+  nodes = λ i. ap (λ es. (entry_at es i.0).node) e;
+  trees = λ i. ap₂ (λ names es. expression_at names es i.0) n e;
   spots = λ i. ap (λ es. (entry_at es i.0).spot) e;
   patterns = λ i. ap (λ fs. (function_entry fs i.0).pattern) f;
   bodies = λ i. ap (λ fs. (function_entry fs i.0).body) f;
+  names = λ i. ap (λ names. name_among names i.0) n;
 }
 
--- the expression at a place is made over all expressions
-expression-built : (entries : List Entry) (i : ℕ) → IsArena entries → expression_at entries i ≡ made_over (expressions entries) (entry_at entries i).stored
-unfolding expression_at expressions
-expression-built entries i a = ⊎_elim inside past (cases_lt i (length entries))
-  where
-    inside : i < length entries → get_or (trees (λ es n. made_over es n.stored) entries) i (literal (int_literal (pos 0))) ≡ made_over (trees (λ es n. made_over es n.stored) entries) (entry_at entries i).stored
-    inside h = tree-built (λ es n. made_over es n.stored) (λ n. needs n.stored) zero_entry local entries i (literal (int_literal (pos 0))) a.in_order h
+-- the same lists make an arena
+pub arena_same : (x : Exprs) (names : List Name) (entries : List (Entry ExprNode)) (fs : List StoredFunction) → names ≡ x.names.items → entries ≡ entries_of x.arena → fs ≡ x.functions.items → IsArena names entries × AreFunctions (length entries) fs
+arena_same x names entries fs n e f = (
+  subst (λ ns. IsArena ns entries) (sym n) (subst (λ es. IsArena x.names.items es) (sym e) x.ordered),
+  subst (λ gs. AreFunctions (length entries) gs) (sym f) (subst (λ (es : List (Entry ExprNode)). AreFunctions (length es) x.functions.items) (sym e) x.closed),
+)
 
-    past : length entries ≤ i → get_or (trees (λ es n. made_over es n.stored) entries) i (literal (int_literal (pos 0))) ≡ made_over (trees (λ es n. made_over es n.stored) entries) (entry_at entries i).stored
-    past h =
-        get_or_past (trees (λ es n. made_over es n.stored) entries) i (literal (int_literal (pos 0))) (omega (arith, trees-length (λ es n. made_over es n.stored) entries))
-        ∙ ap (λ (n : Entry). made_over (trees (λ es n. made_over es n.stored) entries) n.stored) (sym (get_or_past entries i zero_entry h))
+-- the expression at an id is that of its node
+pub expression_node : (x : Exprs) (id : ExprId) → expression x id ≡ expression_of x (node_at x id)
+unfolding expression node_at
+expression_node x id =
+    tree_made (entry_made x.names.items) (λ n. needs n.node) zero_entry (local x.names.items) (entries_of x.arena) zero_expression (λ ts. refl) x.ordered.in_order id.0
+    ∙ made_expression x (entry_at (entries_of x.arena) id.0).node
 
 -- a node stands for the expression at its id
-pub builds : (x : Exprs) (id : ExprId) → Builds x (node_of (entry_of x id).stored id) (expression x id)
-unfolding entry_of expression expression_at name_at
-builds x id = subst (λ e. Builds x (node_of (entry_at x.entries.items id.0).stored id) e) (sym (expression-built x.entries.items id.0 x.arena)) (of_stored (entry_at x.entries.items id.0).stored refl)
+pub builds : (x : Exprs) (id : ExprId) → Builds x (entry_of x id).node (expression x id)
+unfolding entry_of node_at
+builds x id = subst (λ e. Builds x (entry_of x id).node e) (sym (expression_node x id)) (of_node (entry_of x id).node)
   where
-    of_stored : (n : Stored) → n ≡ (entry_at x.entries.items id.0).stored → Builds x (node_of n id) (made_over (expressions x.entries.items) n)
-    of_stored (Int z) e = builds_int
-    of_stored (NameIs n) e = subst (λ m. Builds x (node_of (NameIs n) id) (variable m)) (sym (ap name_in e)) builds_name
-    of_stored (Pair a b) e = builds_pair
-    of_stored (Operation a op b) e = builds_operation
+    of_node : (n : ExprNode) → Builds x n (expression_of x n)
+    of_node (nodes.Int z) = builds_int
+    of_node (nodes.Name n) = builds_name
+    of_node (nodes.Pair a b) = builds_pair
+    of_node (nodes.Operation a op b) = builds_operation
 
 -- what a node stands for
 pub node_builds : (x : Exprs) (id : ExprId) (n : ExprNode) → node_at x id ≡ n → Builds x n (expression x id)
@@ -242,52 +254,46 @@ name_shown x id n y e f = let b : Builds x (nodes.Name n) (variable y) = subst (
     shown builds_name e = cc
 
 -- past the end stands the number 0
-pub past_builds : (x : Exprs) (id : ExprId) → length x.entries.items ≤ id.0 → Builds x (nodes.Int (pos 0)) (expression x id)
+pub past_builds : (x : Exprs) (id : ExprId) → length (entries_of x.arena) ≤ id.0 → Builds x (nodes.Int (pos 0)) (expression x id)
 unfolding entry_of
-past_builds x id h = subst (λ (n : Entry). Builds x (node_of n.stored id) (expression x id)) (get_or_past x.entries.items id.0 zero_entry h) (builds x id)
+past_builds x id h = subst (λ (n : Entry ExprNode). Builds x n.node (expression x id)) (get_or_past (entries_of x.arena) id.0 zero_entry h) (builds x id)
 
 -- the parts of a node stand before it
-pub parts_below : (x : Exprs) (id : ExprId) → PartsBelow (node_of (entry_of x id).stored id) (id_number id)
+pub parts_below : (x : Exprs) (id : ExprId) → PartsBelow (entry_of x id).node (id_number id)
 unfolding entry_of
-parts_below x id = of_stored (entry_at x.entries.items id.0).stored (x.arena.in_order id.0)
+parts_below x id = of_node (entry_at (entries_of x.arena) id.0).node (x.ordered.in_order id.0)
   where
-    of_stored : (n : Stored) → needs n ≤ id.0 → PartsBelow (node_of n id) id.0
-    of_stored (Int z) h = tt
-    of_stored (NameIs n) h = tt
-    of_stored (Pair a b) h = (omega arith, omega arith)
-    of_stored (Operation a op b) h = (omega arith, omega arith)
+    of_node : (n : ExprNode) → needs n ≤ id.0 → PartsBelow n id.0
+    of_node (nodes.Int z) h = tt
+    of_node (nodes.Name n) h = tt
+    of_node (nodes.Pair a b) h = (omega arith, omega arith)
+    of_node (nodes.Operation a op b) h = (omega arith, omega arith)
 
 -- the parts of a node are held
-pub parts_held : (x : Exprs) (id : ExprId) → HoldsParts x (node_of (entry_of x id).stored id)
-unfolding entry_of Holds
-parts_held x id = of_stored (entry_at x.entries.items id.0).stored (x.arena.in_order id.0) within
+pub parts_held : (x : Exprs) (id : ExprId) → HoldsParts x (entry_of x id).node
+unfolding entry_of Holds HoldsName
+parts_held x id = of_node (entry_at (entries_of x.arena) id.0).node (x.ordered.in_order id.0) (x.ordered.named id.0) within
   where
-    within : (needs (entry_at x.entries.items id.0).stored ≡ 0) ⊎ (id.0 < length x.entries.items)
-    within = elim (cases_lt id.0 (length x.entries.items)) [ inl h ↦ inr h | inr h ↦ inl (ap (λ (n : Entry). needs n.stored) (get_or_past x.entries.items id.0 zero_entry h)) ]
+    within : (needs (entry_at (entries_of x.arena) id.0).node ≡ 0) ⊎ (id.0 < length (entries_of x.arena))
+    within = elim (cases_lt id.0 (length (entries_of x.arena))) [ inl h ↦ inr h | inr h ↦ inl (ap (λ (n : Entry ExprNode). needs n.node) (get_or_past (entries_of x.arena) id.0 zero_entry h)) ]
 
-    of_stored : (n : Stored) → needs n ≤ id.0 → (needs n ≡ 0) ⊎ (id.0 < length x.entries.items) → HoldsParts x (node_of n id)
-    of_stored (Int z) b w = tt
-    of_stored (NameIs n) b w = tt
-    of_stored (Pair a c) b (inl z) = absurd (omega arith)
-    of_stored (Pair a c) b (inr h) = (omega arith, omega arith)
-    of_stored (Operation a op c) b (inl z) = absurd (omega arith)
-    of_stored (Operation a op c) b (inr h) = (omega arith, omega arith)
+    of_node : (n : ExprNode) → needs n ≤ id.0 → needs_names n ≤ length x.names.items → (needs n ≡ 0) ⊎ (id.0 < length (entries_of x.arena)) → HoldsParts x n
+    of_node (nodes.Int z) b k w = tt
+    of_node (nodes.Name n) b k w = k
+    of_node (nodes.Pair a c) b k (inl z) = absurd (omega arith)
+    of_node (nodes.Pair a c) b k (inr h) = (omega arith, omega arith)
+    of_node (nodes.Operation a op c) b k (inl z) = absurd (omega arith)
+    of_node (nodes.Operation a op c) b k (inr h) = (omega arith, omega arith)
 
 -- the numbers of a node are narrow
-pub narrow_node : (x : Exprs) (id : ExprId) → IsTrue (has_narrow (node_of (entry_of x id).stored id))
+pub narrow_node : (x : Exprs) (id : ExprId) → IsTrue (has_narrow (entry_of x id).node)
 unfolding entry_of
-narrow_node x id = of_stored (entry_at x.entries.items id.0).stored (x.arena.narrow id.0)
-  where
-    of_stored : (n : Stored) → IsTrue (stored_narrow n) → IsTrue (has_narrow (node_of n id))
-    of_stored (Int z) h = h
-    of_stored (NameIs n) h = refl
-    of_stored (Pair a b) h = refl
-    of_stored (Operation a op b) h = refl
+narrow_node x id = x.ordered.narrow id.0
 
 -- the body of a function that is held is held
 pub body_held : (x : Exprs) (f : FunctionId) → HoldsFunction x f → Holds x (body_at x f)
 unfolding HoldsFunction Holds body_at
-body_held x f h = x.closed.bodies f.0 h
+body_held x f h = (All-get_or (IsClosed (length (entries_of x.arena))) x.functions.items f.0 no_function h x.closed).0
 
 -- an arena holds what stands below its count
 pub holds_below : (x : Exprs) (id : ExprId) → Holds x id → id_number id < count_of x
@@ -305,6 +311,14 @@ function_below x f h = h
 pub below_function : (x : Exprs) (f : FunctionId) → f.0 < function_count x → HoldsFunction x f
 unfolding HoldsFunction function_count
 below_function x f h = h
+
+pub name_below : (x : Exprs) (n : NameId) → HoldsName x n → n.0 < name_count x
+unfolding HoldsName name_count
+name_below x n h = h
+
+pub below_name : (x : Exprs) (n : NameId) → n.0 < name_count x → HoldsName x n
+unfolding HoldsName name_count
+below_name x n h = h
 
 -- what adding keeps
 pub adds_keeps : (old new : Exprs) (id : ExprId) (n : ExprNode) (e : Expression) (s : Spot) → Adds old new id n e s → Keeps old new
@@ -324,6 +338,8 @@ unchanged_keeps old new u = record {
   patterns = λ f h. u.patterns f;
   bodies = λ f h. u.bodies f;
   meanings = λ f h. rw (u.patterns f, u.bodies f, u.trees (body_at old f)) refl;
+  holds_names = λ n h. below_name new n (omega (arith, name_below old n h, u.name_counted));
+  names = λ n h. u.names n;
 }
 
 pub keeps_trans : (a b c : Exprs) → Keeps a b → Keeps b c → Keeps a c
@@ -336,36 +352,45 @@ keeps_trans a b c f g = record {
   patterns = λ i h. g.patterns i (f.functions i h) ∙ f.patterns i h;
   bodies = λ i h. g.bodies i (f.functions i h) ∙ f.bodies i h;
   meanings = λ i h. g.meanings i (f.functions i h) ∙ f.meanings i h;
+  holds_names = λ i h. g.holds_names i (f.holds_names i h);
+  names = λ i h. g.names i (f.holds_names i h) ∙ f.names i h;
 }
 
 -- no arena holds more than 100,000 expressions
 pub few_expressions : (x : Exprs) → count_of x ≤ 100000
 unfolding count_of
-few_expressions x = x.arena.few
+few_expressions x = few_entries x.arena
 
 -- no more than 64 expressions stand one inside another
 pub expression_shallow : (x : Exprs) (id : ExprId) → depth (expression x id) ≤ 64
 unfolding expression
-expression_shallow x id = omega (arith, x.arena.measured id.0, x.arena.shallow id.0)
+expression_shallow x id = omega (arith, x.ordered.measured id.0, shallow_at (entries_of x.arena) zero_entry id.0 (shallow_entries x.arena) (omega arith))
 
 -- no more than 64 patterns or expressions stand one inside another in a function
 pub pattern_shallow : (x : Exprs) (f : FunctionId) → pattern_depth (pattern_of (pattern_at x f)) ≤ 64
 unfolding pattern_at
-pattern_shallow x f = x.closed.shallow f.0
+pattern_shallow x f = ⊎_elim
+    (λ h. (All-get_or (IsClosed (length (entries_of x.arena))) x.functions.items f.0 no_function h x.closed).1)
+    (λ h. subst (λ (g : StoredFunction). pattern_depth (pattern_of g.pattern) ≤ 64) (sym (get_or_past x.functions.items f.0 no_function h)) (omega arith))
+    (cases_lt f.0 (length x.functions.items))
 
 pub function_shallow : (x : Exprs) (f : FunctionId) → function_depth (function_at x f) ≤ 64
 function_shallow x f = omega (arith, expression_shallow x (body_at x f), pattern_shallow x f)
 
 -- what a builder leaves keeps what was there, whatever it answers
-pub kept_by : (x y : Exprs) (r : Result ExprId ExprRefusal) (n : ExprId → ExprNode) (e : Expression) (s : Spot) → IfOk r (λ id. Adds x y id (n id) e s) → OnErr r (IsUnchanged x y) → Keeps x y
+pub kept_by : (x y : Exprs) (r : Result ExprId ArenaRefusal) (n : ExprNode) (e : Expression) (s : Spot) → IfOk r (λ id. Adds x y id n e s) → OnErr r (IsUnchanged x y) → Keeps x y
 kept_by x y (Ok id) n e s a u = a.kept
 kept_by x y (Err f) n e s a u = unchanged_keeps x y u
 
-pub more_by : (x y : Exprs) (r : Result ExprId ExprRefusal) (n : ExprId → ExprNode) (e : Expression) (s : Spot) → IfOk r (λ id. Adds x y id (n id) e s) → OnErr r (IsUnchanged x y) → count_of x ≤ count_of y
+pub more_by : (x y : Exprs) (r : Result ExprId ArenaRefusal) (n : ExprNode) (e : Expression) (s : Spot) → IfOk r (λ id. Adds x y id n e s) → OnErr r (IsUnchanged x y) → count_of x ≤ count_of y
 more_by x y (Ok id) n e s a u = omega (arith, a.count)
 more_by x y (Err f) n e s a u = omega (arith, u.count)
 
-pub function_kept_by : (x y : Exprs) (r : Result FunctionId ExprRefusal) (p : PlacedPattern) (b : ExprId) → IfOk r (λ f. AddsFunction x y f p b) → OnErr r (IsUnchanged x y) → Keeps x y
+pub name_kept_by : {E : Type 0} (x y : Exprs) (r : Result NameId E) (n : Name) → IfOk r (λ id. AddsName x y id n) → OnErr r (IsUnchanged x y) → Keeps x y
+name_kept_by x y (Ok id) n a u = a.kept
+name_kept_by x y (Err e) n a u = unchanged_keeps x y u
+
+pub function_kept_by : (x y : Exprs) (r : Result FunctionId ArenaRefusal) (p : PlacedPattern) (b : ExprId) → IfOk r (λ f. AddsFunction x y f p b) → OnErr r (IsUnchanged x y) → Keeps x y
 function_kept_by x y (Ok f) p b a u = a.kept
 function_kept_by x y (Err e) p b a u = unchanged_keeps x y u
 
@@ -373,3 +398,14 @@ function_kept_by x y (Err e) p b a u = unchanged_keeps x y u
 pub on_any_err : {A E P : Type 0} (r : Result A E) → P → OnErr r P
 on_any_err (Ok x) p = tt
 on_any_err (Err e) p = p
+
+-- a refusal says the same of calls that answer other things
+pub many_still : {A B : Type 0} (P : Type 0) (f : ArenaRefusal) → (◌≡◌ {A = Result A ArenaRefusal} (Err f) (Err TooMany) ↔ P) → ◌≡◌ {A = Result B ArenaRefusal} (Err f) (Err TooMany) ↔ P
+many_still P TooMany h = (λ q. h.0 refl, λ p. refl)
+many_still P TooDeep h = (λ q. cc, λ p. let q = h.1 p in cc)
+many_still P Memory h = (λ q. cc, λ p. let q = h.1 p in cc)
+
+pub deep_still : {A B : Type 0} (P : Type 0) (f : ArenaRefusal) → (◌≡◌ {A = Result A ArenaRefusal} (Err f) (Err TooDeep) ↔ P) → ◌≡◌ {A = Result B ArenaRefusal} (Err f) (Err TooDeep) ↔ P
+deep_still P TooDeep h = (λ q. h.0 refl, λ p. refl)
+deep_still P TooMany h = (λ q. cc, λ p. let q = h.1 p in cc)
+deep_still P Memory h = (λ q. cc, λ p. let q = h.1 p in cc)

@@ -13,7 +13,7 @@ use Rattle.sf_expr.specs.declared.fault.EvalFault.{EvalFault}
 use Rattle.sf_expr.specs.declared.fault.EvalFault.TheVariants.{Value, Memory}
 use Rattle.sf_expr.specs.Expressions.{Pattern, Expression, function}
 use Rattle.sf_expr.specs.Evaluation.{Evaluated, answer, ◌>>=◌, Scope, no_names, pattern_fits, bound_in, eval, operated}
-use Rattle.sf_expr.specs.Typing.{Names, type_of_name, Adds, adds_nothing, adds_name, adds_both, HasType, variable_has, pair_has, operation_has, function_takes}
+use Rattle.sf_expr.specs.Typing.{Names, type_of_name, AddsNames, adds_nothing, adds_name, adds_both, HasType, variable_has, pair_has, operation_has, function_takes}
 use Rattle.sf_expr.specs.Soundness.{Yields, yields, fails, ScopeHas, has_no_names, has_name, IsTypedIn, typed_in, TakesValue, takes_value}
 use Rattle.sf_expr.specs.Scopes.{is_bound}
 use Rattle.sf_expr.specs.Answers.{Evaluates}
@@ -100,7 +100,7 @@ pub passed_on : (r : Result Data EvalFault) (fault : EvalFault) (o : Evaluated D
 passed_on (Ok d) fault o e h = absurd e
 passed_on (Err f) fault o e h = subst (λ (g : EvalFault). Evaluates (Err g) o) (sym e) h
 
-adds_fits : {p : Pattern} {t : Kind} {R S : Names} {d : Data} → Adds p t R S → HasKind d t → IsTrue (pattern_fits p d)
+adds_fits : {p : Pattern} {t : Kind} {R S : Names} {d : Data} → AddsNames p t R S → HasKind d t → IsTrue (pattern_fits p d)
 adds_fits adds_nothing h = refl
 adds_fits adds_name h = refl
 adds_fits (adds_both {q = q} a b) (has_pair {y = y} h k) = subst (λ (c : Bool). IsTrue (cond c (pattern_fits q y) false)) (sym (adds_fits a h)) (adds_fits b k)

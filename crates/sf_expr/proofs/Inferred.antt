@@ -8,7 +8,7 @@ use Rattle.std.proofs.lemmas.Bool.Decides.{nat_tests}
 use Rattle.sf_value.specs.Values.{Name, Kind, int_kind, pair_kind, nodes, is_narrow, has_int}
 use Rattle.sf_expr.specs.Expressions.{Pattern, unnamed, named, both, names_in, Literal, int_literal, Expression, variable, literal, paired, operation, Function, function}
 use Rattle.sf_expr.specs.declared.operator.Operator.{Operator}
-use Rattle.sf_expr.specs.Typing.{Names, type_of_name, Fits, AllDifferent, Adds, adds_nothing, adds_name, adds_both, HasType, variable_has, literal_has, pair_has, operation_has, FunctionTakes, function_takes}
+use Rattle.sf_expr.specs.Typing.{Names, type_of_name, Fits, AllDifferent, AddsNames, adds_nothing, adds_name, adds_both, HasType, variable_has, literal_has, pair_has, operation_has, FunctionTakes, function_takes}
 use Rattle.sf_expr.specs.Inference.{found_then, fitting, literal_type, pair_type, number_type, expression_type, names_with, is_among, are_different, function_output}
 
 -- ## Types that fit
@@ -79,17 +79,17 @@ typed_found (operation_has h k) = rw (typed_found h, typed_found k) refl
 
 -- ## Patterns
 
-pub with_adds : (p : Pattern) (t : Kind) (R S : Names) → names_with p t R ≡ Some S → Adds p t R S
-with_adds unnamed t R S h = let is : R ≡ S = cc in subst (λ (S : Names). Adds unnamed t R S) is adds_nothing
-with_adds (named x) t R S h = let is : (x, t) ∷ R ≡ S = cc in subst (λ (S : Names). Adds (named x) t R S) is adds_name
+pub with_adds : (p : Pattern) (t : Kind) (R S : Names) → names_with p t R ≡ Some S → AddsNames p t R S
+with_adds unnamed t R S h = let is : R ≡ S = cc in subst (λ (S : Names). AddsNames unnamed t R S) is adds_nothing
+with_adds (named x) t R S h = let is : (x, t) ∷ R ≡ S = cc in subst (λ (S : Names). AddsNames (named x) t R S) is adds_name
 with_adds (both p q) int_kind R S h = absurd cc
 with_adds (both p q) (pair_kind t u) R S h = each (names_with p t R) (with_adds p t R) (λ T. with_adds q u T S) h
   where
-    each : (o : Option Names) → ((T : Names) → o ≡ Some T → Adds p t R T) → ((T : Names) → names_with q u T ≡ Some S → Adds q u T S) → found_then o (names_with q u) ≡ Some S → Adds (both p q) (pair_kind t u) R S
+    each : (o : Option Names) → ((T : Names) → o ≡ Some T → AddsNames p t R T) → ((T : Names) → names_with q u T ≡ Some S → AddsNames q u T S) → found_then o (names_with q u) ≡ Some S → AddsNames (both p q) (pair_kind t u) R S
     each (Some T) a b e = adds_both (a T refl) (b T e)
     each None a b e = absurd cc
 
-pub adds_with : {p : Pattern} {t : Kind} {R S : Names} → Adds p t R S → names_with p t R ≡ Some S
+pub adds_with : {p : Pattern} {t : Kind} {R S : Names} → AddsNames p t R S → names_with p t R ≡ Some S
 adds_with adds_nothing = refl
 adds_with adds_name = refl
 adds_with (adds_both {q = q} {u = u} a b) = ap (λ o. found_then o (names_with q u)) (adds_with a) ∙ adds_with b
@@ -124,7 +124,7 @@ different_test (x ∷ xs) h = rw (among_not x xs h.0) (different_test xs h.1)
 
 -- ## Functions
 
-body_found : (R : Names) (p : Pattern) (i : Expression) (t u : Kind) → Fits t → AllDifferent (names_in p) → (o : Option Names) → ((S : Names) → o ≡ Some S → Adds p t R S) → found_then o (λ S. expression_type S i) ≡ Some u → FunctionTakes R (function p i) t u
+body_found : (R : Names) (p : Pattern) (i : Expression) (t u : Kind) → Fits t → AllDifferent (names_in p) → (o : Option Names) → ((S : Names) → o ≡ Some S → AddsNames p t R S) → found_then o (λ S. expression_type S i) ≡ Some u → FunctionTakes R (function p i) t u
 body_found R p i t u f d (Some S) a e = function_takes f (record { adds = a S refl; apart = d }) (found_typed S i u e)
 body_found R p i t u f d None a e = absurd cc
 

@@ -1,5 +1,5 @@
 -- Expressions have at most one type, and one that is refused has none.
-use Rattle.std.proofs.Common.{◌≡◌, ◌<◌, ◌≤◌, [], Some, ⊎_elim, refl, sym, ◌∙◌, subst, arith, IsTrue, Result, Ok, Err, IsErrAnd}
+use Rattle.std.proofs.Common.{◌≡◌, ◌<◌, ◌≤◌, [], Some, ⊎_elim, refl, sym, ◌∙◌, ap, subst, arith, IsTrue, Result, Ok, Err, IsErrAnd}
 use Rattle.std.specs.Prelude.{ℤ}
 use mathlib.Core.Path.{ap₂}
 use Rattle.std.proofs.lemmas.Bool.{cases_lt}
@@ -10,15 +10,19 @@ use Rattle.sf_expr.specs.declared.exprs.FunctionId.{FunctionId}
 use Rattle.sf_expr.specs.declared.operator.Operator.{Operator}
 use Rattle.sf_expr.specs.declared.exprs.ExprNode.TheVariants as nodes
 use Rattle.sf_expr.specs.declared.exprs.Exprs.{Exprs}
-use Rattle.sf_expr.specs.declared.spot.Spot.{Spot}
-use Rattle.sf_expr.specs.declared.typing.TypeRefusal.{TypeRefusal}
-use Rattle.sf_expr.specs.declared.typing.TypeRefusal.TheVariants.{UnknownName, DuplicateName, Mismatch, TypeTooLarge, Memory}
+use Rattle.sf_refusal.specs.declared.spot.Spot.{Spot}
+use Rattle.sf_refusal.specs.declared.rule.Rule.TheVariants.{TypeTooLarge}
+use Rattle.sf_refusal.specs.declared.refusal.Breach.{Breach}
+use Rattle.sf_refusal.specs.declared.refusal.Refusal.{Refusal}
+use Rattle.sf_refusal.specs.declared.refusal.Refusal.TheVariants.{Memory}
+use Rattle.sf_refusal.specs.Refusals.{breach_of, OrMemory, no_memory}
+use Rattle.sf_refusal.proofs.Explained.{or_memory}
 use Rattle.sf_expr.specs.Expressions.{Pattern, names_in, Literal, int_literal, Expression, variable, paired, operation}
 use Rattle.sf_expr.specs.Patterns.{pattern_of}
-use Rattle.sf_expr.specs.Arena.{expression, node_at, name_at, pattern_at, body_at, function_at, Builds}
+use Rattle.sf_expr.specs.Arena.{expression, node_at, name_at, spot_at, pattern_at, body_at, function_at, Builds}
 use Rattle.sf_expr.specs.Evaluation.{literal_value}
-use Rattle.sf_expr.specs.Typing.{Names, Fits, type_of_name, AllDifferent, Adds, adds_nothing, adds_name, adds_both, HasType, variable_has, literal_has, pair_has, operation_has, FunctionTakes, function_takes}
-use Rattle.sf_expr.specs.Refusals.{Types, TypesFunction, Refused, unknown_name, first_part, second_part, pair_too_large, left_operand, right_operand, no_number, Judges, FunctionRefused, repeated_name, no_fit, body_refused, JudgesFunction, RepeatRefused, BindRefused}
+use Rattle.sf_expr.specs.Typing.{Names, Fits, type_of_name, AllDifferent, AddsNames, adds_nothing, adds_name, adds_both, HasType, variable_has, literal_has, pair_has, operation_has, FunctionTakes, function_takes}
+use Rattle.sf_expr.specs.Refusals.{Types, TypesFunction, Refused, unknown_name, first_part, second_part, pair_too_large, left_operand, right_operand, no_number, Judges, FunctionRefused, repeated_name, no_fit, body_refused, JudgesFunction, RepeatRefused, BindRefused, AnswersPair}
 use Rattle.sf_expr.proofs.Apart.{repeated_apart}
 use Rattle.sf_expr.proofs.Entered.{node_builds}
 use Rattle.sf_expr.proofs.Typed.{is_int, is_name, is_pair, is_operation}
@@ -34,10 +38,10 @@ one_type (pair_has h i f) (pair_has k j g) = ap₂ pair_kind (one_type h k) (one
 one_type (operation_has h i) (operation_has k j) = refl
 
 -- a pattern adds one list of names
-pub one_scope : {p : Pattern} {t : Kind} {R S T : Names} → Adds p t R S → Adds p t R T → S ≡ T
+pub one_scope : {p : Pattern} {t : Kind} {R S T : Names} → AddsNames p t R S → AddsNames p t R T → S ≡ T
 one_scope adds_nothing adds_nothing = refl
 one_scope adds_name adds_name = refl
-one_scope {S = S} (adds_both {q = q} {u = u} a b) (adds_both c d) = one_scope (subst (λ (R : Names). Adds q u R S) (one_scope a c) b) d
+one_scope {S = S} (adds_both {q = q} {u = u} a b) (adds_both c d) = one_scope (subst (λ (R : Names). AddsNames q u R S) (one_scope a c) b) d
 
 variable_typed : {R : Names} (e : Expression) (y : Name) {t : Kind} → e ≡ variable y → HasType R e t → type_of_name y R ≡ Some t
 variable_typed {R} e y {t} q h = inverted y (subst (λ (e : Expression). HasType R e t) q h)
@@ -60,7 +64,7 @@ operation_typed {R} e a b op {t} q h = inverted t (subst (λ (e : Expression). H
     inverted t (operation_has h k) = (h, k)
 
 -- what is refused has no type
-pub refused_untyped : {x : Exprs} {R : Names} {i : ExprId} {r : TypeRefusal} {t : Kind} → Refused x R i r → HasType R (expression x i) t → ⊥
+pub refused_untyped : {x : Exprs} {R : Names} {i : ExprId} {r : Breach} {t : Kind} → Refused x R i r → HasType R (expression x i) t → ⊥
 refused_untyped {x} {R} {i} (unknown_name {n = n} e q) h =
     let some = variable_typed (expression x i) _ (is_name (node_builds x i _ e)) h in cc
 refused_untyped {x} {R} {i} (first_part {a = a} {b = b} e q) h =
@@ -78,45 +82,28 @@ refused_untyped {x} {R} {i} (right_operand {a = a} {b = b} {op = op} e k q) h =
 refused_untyped {x} {R} {i} (no_number {a = a} {b = b} {op = op} e k l q) h =
     let parts = operation_typed (expression x i) (expression x a) (expression x b) op (is_operation (node_builds x i _ e)) h in q (one_type k parts.0, one_type l parts.1)
 
-pub judged_types : (x : Exprs) (R : Names) (i : ExprId) (r : Result Kind TypeRefusal) → Judges x R i r → Types R (expression x i) r
+pub judged_types : (x : Exprs) (R : Names) (i : ExprId) (r : Result Kind Refusal) → Judges x R i r → Types R (expression x i) r
 judged_types x R i (Ok t) h = h
-judged_types x R i (Err Memory) h = tt
-judged_types x R i (Err (UnknownName s)) h = λ t k. refused_untyped h k
-judged_types x R i (Err (DuplicateName s)) h = λ t k. refused_untyped h k
-judged_types x R i (Err (Mismatch s)) h = λ t k. refused_untyped h k
-judged_types x R i (Err (TypeTooLarge s)) h = λ t k. refused_untyped h k
+judged_types x R i (Err r) h = or_memory (λ b k t l. refused_untyped k l) h
 
--- what a refusal answers
-pub refused_judged : (x : Exprs) (R : Names) (i : ExprId) (r : TypeRefusal) → Refused x R i r → Judges x R i (Err r)
-refused_judged x R i Memory h = tt
-refused_judged x R i (UnknownName s) h = h
-refused_judged x R i (DuplicateName s) h = h
-refused_judged x R i (Mismatch s) h = h
-refused_judged x R i (TypeTooLarge s) h = h
-
--- a refusal of a part is one of the whole
-through : (x : Exprs) (R : Names) (i j : ExprId) (r : TypeRefusal) → (Refused x R j r → Refused x R i r) → Judges x R j (Err r) → Judges x R i (Err r)
-through x R i j Memory f h = tt
-through x R i j (UnknownName s) f h = f h
-through x R i j (DuplicateName s) f h = f h
-through x R i j (Mismatch s) f h = f h
-through x R i j (TypeTooLarge s) f h = f h
-
-on : (x : Exprs) (R : Names) (i : ExprId) (answer : Result Kind TypeRefusal) (r : TypeRefusal) → IsErrAnd answer (λ e. e ≡ r) → Judges x R i (Err r) → Judges x R i answer
+on : (x : Exprs) (R : Names) (i : ExprId) (answer : Result Kind Refusal) (r : Refusal) → IsErrAnd answer (λ e. e ≡ r) → OrMemory (Refused x R i) r → Judges x R i answer
 on x R i (Ok t) r e h = absurd e
-on x R i (Err f) r e h = subst (λ (g : TypeRefusal). Judges x R i (Err g)) (sym e) h
+on x R i (Err f) r e h = subst (λ (g : Refusal). OrMemory (Refused x R i) g) (sym e) h
 
-pub first_judged : (x : Exprs) (R : Names) (i a b : ExprId) (answer : Result Kind TypeRefusal) (r : TypeRefusal) → node_at x i ≡ nodes.Pair a b → IsErrAnd answer (λ e. e ≡ r) → Judges x R a (Err r) → Judges x R i answer
-first_judged x R i a b answer r e q h = on x R i answer r q (through x R i a r (λ k. first_part e k) h)
+pub memory_judged : (x : Exprs) (R : Names) (i : ExprId) (answer : Result Kind Refusal) → IsErrAnd answer (λ e. e ≡ Memory) → Judges x R i answer
+memory_judged x R i answer e = on x R i answer Memory e no_memory
 
-pub second_judged : (x : Exprs) (R : Names) (i a b : ExprId) (t : Kind) (answer : Result Kind TypeRefusal) (r : TypeRefusal) → node_at x i ≡ nodes.Pair a b → HasType R (expression x a) t → IsErrAnd answer (λ e. e ≡ r) → Judges x R b (Err r) → Judges x R i answer
-second_judged x R i a b t answer r e typed q h = on x R i answer r q (through x R i b r (λ k. second_part e typed k) h)
+pub first_judged : (x : Exprs) (R : Names) (i a b : ExprId) (answer : Result Kind Refusal) (r : Refusal) → node_at x i ≡ nodes.Pair a b → IsErrAnd answer (λ e. e ≡ r) → Judges x R a (Err r) → Judges x R i answer
+first_judged x R i a b answer r e q h = on x R i answer r q (or_memory (λ s k. first_part e k) h)
 
-pub left_judged : (x : Exprs) (R : Names) (i a b : ExprId) (op : Operator) (answer : Result Kind TypeRefusal) (r : TypeRefusal) → node_at x i ≡ nodes.Operation a op b → IsErrAnd answer (λ e. e ≡ r) → Judges x R a (Err r) → Judges x R i answer
-left_judged x R i a b op answer r e q h = on x R i answer r q (through x R i a r (λ k. left_operand e k) h)
+pub second_judged : (x : Exprs) (R : Names) (i a b : ExprId) (t : Kind) (answer : Result Kind Refusal) (r : Refusal) → node_at x i ≡ nodes.Pair a b → HasType R (expression x a) t → IsErrAnd answer (λ e. e ≡ r) → Judges x R b (Err r) → Judges x R i answer
+second_judged x R i a b t answer r e typed q h = on x R i answer r q (or_memory (λ s k. second_part e typed k) h)
 
-pub right_judged : (x : Exprs) (R : Names) (i a b : ExprId) (op : Operator) (t : Kind) (answer : Result Kind TypeRefusal) (r : TypeRefusal) → node_at x i ≡ nodes.Operation a op b → HasType R (expression x a) t → IsErrAnd answer (λ e. e ≡ r) → Judges x R b (Err r) → Judges x R i answer
-right_judged x R i a b op t answer r e typed q h = on x R i answer r q (through x R i b r (λ k. right_operand e typed k) h)
+pub left_judged : (x : Exprs) (R : Names) (i a b : ExprId) (op : Operator) (answer : Result Kind Refusal) (r : Refusal) → node_at x i ≡ nodes.Operation a op b → IsErrAnd answer (λ e. e ≡ r) → Judges x R a (Err r) → Judges x R i answer
+left_judged x R i a b op answer r e q h = on x R i answer r q (or_memory (λ s k. left_operand e k) h)
+
+pub right_judged : (x : Exprs) (R : Names) (i a b : ExprId) (op : Operator) (t : Kind) (answer : Result Kind Refusal) (r : Refusal) → node_at x i ≡ nodes.Operation a op b → HasType R (expression x a) t → IsErrAnd answer (λ e. e ≡ r) → Judges x R b (Err r) → Judges x R i answer
+right_judged x R i a b op t answer r e typed q h = on x R i answer r q (or_memory (λ s k. right_operand e typed k) h)
 
 -- the types of the forms of nodes
 pub int_typed : (x : Exprs) (R : Names) (i : ExprId) (z : ℤ) → Builds x (nodes.Int z) (expression x i) → IsTrue (is_narrow z) → HasType R (expression x i) int_kind
@@ -128,62 +115,42 @@ name_typed x R i n t b e f = subst (λ (e : Expression). HasType R e t) (sym (is
 pub pair_has_type : (x : Exprs) (R : Names) (i a b : ExprId) (t u : Kind) → Builds x (nodes.Pair a b) (expression x i) → HasType R (expression x a) t → HasType R (expression x b) u → Fits (pair_kind t u) → HasType R (expression x i) (pair_kind t u)
 pair_has_type x R i a b t u q h k f = subst (λ (e : Expression). HasType R e (pair_kind t u)) (sym (is_pair q)) (pair_has h k f)
 
+pub pair_judged : (x : Exprs) (R : Names) (i a b : ExprId) (t u : Kind) (s : Spot) (r : Result Kind Refusal) → node_at x i ≡ nodes.Pair a b → HasType R (expression x a) t → HasType R (expression x b) u → s ≡ spot_at x i → AnswersPair t u s r → Judges x R i r
+pair_judged x R i a b t u s (Ok w) e h k at answer =
+    let fits : Fits (pair_kind t u) = subst (λ (v : Kind). Fits v) answer.0 answer.1 in
+    subst (λ (v : Kind). HasType R (expression x i) v) (sym answer.0) (pair_has_type x R i a b t u (node_builds x i _ e) h k fits)
+pair_judged x R i a b t u s (Err r) e h k at answer = or_memory (λ c q. subst (λ (c : Breach). Refused x R i c) (sym (q.0 ∙ ap (breach_of TypeTooLarge) at)) (pair_too_large e h k q.1)) answer
+
 pub operation_has_type : (x : Exprs) (R : Names) (i a b : ExprId) (op : Operator) → Builds x (nodes.Operation a op b) (expression x i) → HasType R (expression x a) int_kind → HasType R (expression x b) int_kind → HasType R (expression x i) int_kind
 operation_has_type x R i a b op q h k = subst (λ (e : Expression). HasType R e int_kind) (sym (is_operation q)) (operation_has h k)
 
 -- a function that is refused takes no value
-pub refused_takes_none : {x : Exprs} {R : Names} {f : FunctionId} {a : Kind} {at : Spot} {r : TypeRefusal} {b : Kind} → FunctionRefused x R f a at r → FunctionTakes R (function_at x f) a b → ⊥
+pub refused_takes_none : {x : Exprs} {R : Names} {f : FunctionId} {a : Kind} {at : Spot} {r : Breach} {b : Kind} → FunctionRefused x R f a at r → FunctionTakes R (function_at x f) a b → ⊥
 refused_takes_none (repeated_name q) (function_takes fits binds h) = repeated_apart q.before q.name q.after (subst (λ ns. AllDifferent ns) q.names binds.apart) q.stood
 refused_takes_none (no_fit apart none) (function_takes {S = S} fits binds h) = none S binds.adds
 refused_takes_none {x} {f = f} {b = b} (body_refused apart adds q) (function_takes fits binds h) = refused_untyped q (subst (λ (S : Names). HasType S (expression x (body_at x f)) b) (one_scope binds.adds adds) h)
 
--- what a refusal of a function answers
-function_refused : (x : Exprs) (R : Names) (f : FunctionId) (a : Kind) (at : Spot) (r : TypeRefusal) → FunctionRefused x R f a at r → JudgesFunction x R f a at (Err r)
-function_refused x R f a at Memory h = tt
-function_refused x R f a at (UnknownName s) h = h
-function_refused x R f a at (DuplicateName s) h = h
-function_refused x R f a at (Mismatch s) h = h
-function_refused x R f a at (TypeTooLarge s) h = h
+module _ (x : Exprs) (R : Names) (f : FunctionId) (a : Kind) (at : Spot) where
+  on_function : (answer : Result Kind Refusal) (r : Refusal) → IsErrAnd answer (λ e. e ≡ r) → OrMemory (FunctionRefused x R f a at) r → JudgesFunction x R f a at answer
+  on_function (Ok t) r e h = absurd e
+  on_function (Err g) r e h = subst (λ (k : Refusal). OrMemory (FunctionRefused x R f a at) k) (sym e) h
 
-on_function : (x : Exprs) (R : Names) (f : FunctionId) (a : Kind) (at : Spot) (answer : Result Kind TypeRefusal) (r : TypeRefusal) → IsErrAnd answer (λ e. e ≡ r) → JudgesFunction x R f a at (Err r) → JudgesFunction x R f a at answer
-on_function x R f a at (Ok t) r e h = absurd e
-on_function x R f a at (Err g) r e h = subst (λ (k : TypeRefusal). JudgesFunction x R f a at (Err k)) (sym e) h
+  pub memory_takes : (answer : Result Kind Refusal) → IsErrAnd answer (λ e. e ≡ Memory) → JudgesFunction x R f a at answer
+  memory_takes answer e = on_function answer Memory e no_memory
 
-pub names_judged : (x : Exprs) (R : Names) (f : FunctionId) (a : Kind) (at : Spot) (answer : Result Kind TypeRefusal) (r : TypeRefusal) → IsErrAnd answer (λ e. e ≡ r) → RepeatRefused [] (pattern_at x f) r → JudgesFunction x R f a at answer
-names_judged x R f a at answer r e h = on_function x R f a at answer r e (of_refusal r h)
-  where
-    of_refusal : (r : TypeRefusal) → RepeatRefused [] (pattern_at x f) r → JudgesFunction x R f a at (Err r)
-    of_refusal Memory h = tt
-    of_refusal (UnknownName s) h = absurd h
-    of_refusal (DuplicateName s) h = repeated_name h
-    of_refusal (Mismatch s) h = absurd h
-    of_refusal (TypeTooLarge s) h = absurd h
+  pub names_judged : (answer : Result Kind Refusal) (r : Refusal) → IsErrAnd answer (λ e. e ≡ r) → OrMemory (RepeatRefused [] (pattern_at x f)) r → JudgesFunction x R f a at answer
+  names_judged answer r e h = on_function answer r e (or_memory (λ b k. subst (λ rule. FunctionRefused x R f a at (breach_of rule b.spot)) (sym k.0) (repeated_name k.1)) h)
 
-pub bind_judged : (x : Exprs) (R : Names) (f : FunctionId) (a : Kind) (at : Spot) (answer : Result Kind TypeRefusal) (r : TypeRefusal) → AllDifferent (names_in (pattern_of (pattern_at x f))) → IsErrAnd answer (λ e. e ≡ r) → BindRefused (pattern_of (pattern_at x f)) a at r → JudgesFunction x R f a at answer
-bind_judged x R f a at answer r apart e h = on_function x R f a at answer r e (of_refusal r h)
-  where
-    of_refusal : (r : TypeRefusal) → BindRefused (pattern_of (pattern_at x f)) a at r → JudgesFunction x R f a at (Err r)
-    of_refusal Memory h = tt
-    of_refusal (UnknownName s) h = absurd h
-    of_refusal (DuplicateName s) h = absurd h
-    of_refusal (Mismatch s) h = subst (λ (s : Spot). FunctionRefused x R f a at (Mismatch s)) (sym h.0) (no_fit apart (h.1 R))
-    of_refusal (TypeTooLarge s) h = absurd h
+  pub bind_judged : (answer : Result Kind Refusal) (r : Refusal) → AllDifferent (names_in (pattern_of (pattern_at x f))) → IsErrAnd answer (λ e. e ≡ r) → OrMemory (BindRefused (pattern_of (pattern_at x f)) a at) r → JudgesFunction x R f a at answer
+  bind_judged answer r apart e h = on_function answer r e (or_memory (λ b k. subst (λ (b : Breach). FunctionRefused x R f a at b) (sym k.0) (no_fit apart (k.1 R))) h)
 
-pub body_judged : (x : Exprs) (R S : Names) (f : FunctionId) (a : Kind) (at : Spot) (r : Result Kind TypeRefusal) → AllDifferent (names_in (pattern_of (pattern_at x f))) → Fits a → Adds (pattern_of (pattern_at x f)) a R S → Judges x S (body_at x f) r → JudgesFunction x R f a at r
-body_judged x R S f a at (Ok t) apart fits adds h = function_takes fits (record { adds = adds; apart = apart }) h
-body_judged x R S f a at (Err Memory) apart fits adds h = tt
-body_judged x R S f a at (Err (UnknownName s)) apart fits adds h = body_refused apart adds h
-body_judged x R S f a at (Err (DuplicateName s)) apart fits adds h = body_refused apart adds h
-body_judged x R S f a at (Err (Mismatch s)) apart fits adds h = body_refused apart adds h
-body_judged x R S f a at (Err (TypeTooLarge s)) apart fits adds h = body_refused apart adds h
+  pub body_judged : (S : Names) (r : Result Kind Refusal) → AllDifferent (names_in (pattern_of (pattern_at x f))) → Fits a → AddsNames (pattern_of (pattern_at x f)) a R S → Judges x S (body_at x f) r → JudgesFunction x R f a at r
+  body_judged S (Ok t) apart fits adds h = function_takes fits (record { adds = adds; apart = apart }) h
+  body_judged S (Err r) apart fits adds h = or_memory (λ b k. body_refused apart adds k) h
 
-pub judged_types_function : (x : Exprs) (R : Names) (f : FunctionId) (a : Kind) (at : Spot) (r : Result Kind TypeRefusal) → JudgesFunction x R f a at r → TypesFunction R (function_at x f) a r
+pub judged_types_function : (x : Exprs) (R : Names) (f : FunctionId) (a : Kind) (at : Spot) (r : Result Kind Refusal) → JudgesFunction x R f a at r → TypesFunction R (function_at x f) a r
 judged_types_function x R f a at (Ok t) h = h
-judged_types_function x R f a at (Err Memory) h = tt
-judged_types_function x R f a at (Err (UnknownName s)) h = λ t k. refused_takes_none h k
-judged_types_function x R f a at (Err (DuplicateName s)) h = λ t k. refused_takes_none h k
-judged_types_function x R f a at (Err (Mismatch s)) h = λ t k. refused_takes_none h k
-judged_types_function x R f a at (Err (TypeTooLarge s)) h = λ t k. refused_takes_none h k
+judged_types_function x R f a at (Err r) h = or_memory (λ b k t l. refused_takes_none k l) h
 
 -- a type that is not too large fits
 pub small_enough : (t : Kind) → (256 < nodes_of t → ⊥) → Fits t

@@ -1,6 +1,5 @@
 pub mod Sound
 pub mod Bound
-pub mod Grown
 pub mod Entered
 pub mod Typed
 pub mod Division

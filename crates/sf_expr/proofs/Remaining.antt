@@ -8,25 +8,25 @@ use Rattle.sf_value.specs.Values.{number, is_narrow}
 use Rattle.sf_value.specs.declared.fault.ValueFault.TheVariants.{Overflow}
 use Rattle.sf_expr.specs.declared.operator.Operator.TheVariants.{Divide, Modulo}
 use Rattle.sf_expr.specs.Evaluation.{answer, failed, quotient, remainder, tested, of_numbers}
-use Rattle.sf_expr.specs.Remainders.{IsRest}
+use Rattle.sf_expr.specs.Remainders.{IsRemainder}
 use Rattle.sf_expr.proofs.Division.{remainder_above, remainder_below}
 
 put_together : (a p : ℤ) → a ≡ p +ℤ (a -ℤ p)
 put_together a p = omega (arith, ints)
 
-euclid_rest : (a : ℤ) (n : ℕ) → IsRest (int_rem_euclid a (pos (suc n))) (pos (suc n))
+euclid_rest : (a : ℤ) (n : ℕ) → IsRemainder (int_rem_euclid a (pos (suc n))) (pos (suc n))
 euclid_rest (pos m) n = let h : m % suc n < suc n = omega arith in (omega (arith, ints), omega (arith, ints))
 euclid_rest (negsuc m) n = let h : m % suc n < suc n = omega arith in (omega (arith, ints), omega (arith, ints))
 
-turned : (r : ℤ) (n : ℕ) → IsRest r (pos (suc n)) → IsRest (neg_ℤ r) (negsuc n)
+turned : (r : ℤ) (n : ℕ) → IsRemainder r (pos (suc n)) → IsRemainder (neg_ℤ r) (negsuc n)
 turned r n h = (omega (arith, ints), omega (arith, ints))
 
-rest : (a b : ℤ) → b ≢ pos 0 → IsRest (remainder a b) b
+rest : (a b : ℤ) → b ≢ pos 0 → IsRemainder (remainder a b) b
 rest a (pos zero) h = absurd (h refl)
-rest a (pos (suc n)) h = subst (λ (r : ℤ). IsRest r (pos (suc n))) (remainder_above a n) (euclid_rest a n)
-rest a (negsuc n) h = subst (λ (r : ℤ). IsRest r (negsuc n)) (remainder_below a n) (turned _ n (euclid_rest (neg_ℤ a) n))
+rest a (pos (suc n)) h = subst (λ (r : ℤ). IsRemainder r (pos (suc n))) (remainder_above a n) (euclid_rest a n)
+rest a (negsuc n) h = subst (λ (r : ℤ). IsRemainder r (negsuc n)) (remainder_below a n) (turned _ n (euclid_rest (neg_ℤ a) n))
 
-pub divided : (a b : ℤ) → b ≢ pos 0 → (a ≡ (b *ℤ quotient a b) +ℤ remainder a b) × IsRest (remainder a b) b
+pub divided : (a b : ℤ) → b ≢ pos 0 → (a ≡ (b *ℤ quotient a b) +ℤ remainder a b) × IsRemainder (remainder a b) b
 divided a b h = (put_together a (b *ℤ quotient a b), rest a b h)
 
 -- a number that was tested is the answer
@@ -37,12 +37,12 @@ tested_is z q = each (is_narrow z)
     each true e = cc
     each false e = absurd cc
 
-both : (a b q r : ℤ) → b ≢ pos 0 → quotient a b ≡ q → remainder a b ≡ r → (a ≡ (b *ℤ q) +ℤ r) × IsRest r b
+both : (a b q r : ℤ) → b ≢ pos 0 → quotient a b ≡ q → remainder a b ≡ r → (a ≡ (b *ℤ q) +ℤ r) × IsRemainder r b
 both a b q r h e f =
-    let N : ℤ → ℤ → Type 0 = λ q r. (a ≡ (b *ℤ q) +ℤ r) × IsRest r b in
+    let N : ℤ → ℤ → Type 0 = λ q r. (a ≡ (b *ℤ q) +ℤ r) × IsRemainder r b in
     subst₂ N e f (divided a b h)
 
-pub operators_divide : (a b q r : ℤ) → of_numbers Divide a b ≡ answer (number q) → of_numbers Modulo a b ≡ answer (number r) → (a ≡ (b *ℤ q) +ℤ r) × IsRest r b
+pub operators_divide : (a b q r : ℤ) → of_numbers Divide a b ≡ answer (number q) → of_numbers Modulo a b ≡ answer (number r) → (a ≡ (b *ℤ q) +ℤ r) × IsRemainder r b
 operators_divide a (pos zero) q r e f = absurd cc
 operators_divide a (pos (suc n)) q r e f = both a (pos (suc n)) q r (λ h. absurd cc) (tested_is _ q e) (tested_is _ r f)
 operators_divide a (negsuc n) q r e f = both a (negsuc n) q r (λ h. absurd cc) (tested_is _ q e) (tested_is _ r f)

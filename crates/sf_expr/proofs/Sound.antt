@@ -7,7 +7,7 @@ use Rattle.sf_expr.specs.declared.operator.Operator.{Operator}
 use Rattle.sf_expr.specs.declared.operator.Operator.TheVariants.{Plus, Minus, Times, Divide, Modulo}
 use Rattle.sf_expr.specs.Expressions.{Pattern, Expression, Function}
 use Rattle.sf_expr.specs.Evaluation.{Evaluated, answer, failed, ◌>>=◌, Scope, value_of, bound_in, tested, quotient, remainder, divide, of_numbers, operated, eval, apply}
-use Rattle.sf_expr.specs.Typing.{Names, type_of_name, Adds, adds_nothing, adds_name, adds_both, HasType, variable_has, literal_has, pair_has, operation_has, FunctionTakes, function_takes}
+use Rattle.sf_expr.specs.Typing.{Names, type_of_name, AddsNames, adds_nothing, adds_name, adds_both, HasType, variable_has, literal_has, pair_has, operation_has, FunctionTakes, function_takes}
 use Rattle.sf_expr.specs.Soundness.{Yields, yields, fails, ScopeHas, has_no_names, has_name}
 
 -- what is done with an answer of a type
@@ -46,7 +46,7 @@ value_has x {t} (has_name {x = y} {v = v} {t = u} {s = s} {R = R} p q) e = by_te
     by_test false e f = f e
 
 -- the names of a pattern have the types of the parts
-pub bound_has : {p : Pattern} {t : Kind} {R S : Names} {d : Data} {s : Scope} → Adds p t R S → HasKind d t → ScopeHas s R → ScopeHas (bound_in p d s) S
+pub bound_has : {p : Pattern} {t : Kind} {R S : Names} {d : Data} {s : Scope} → AddsNames p t R S → HasKind d t → ScopeHas s R → ScopeHas (bound_in p d s) S
 bound_has adds_nothing h k = k
 bound_has adds_name h k = has_name h k
 bound_has (adds_both a b) (has_pair h i) k = bound_has b i (bound_has a h k)

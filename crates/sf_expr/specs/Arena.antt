@@ -1,7 +1,9 @@
 -- Arenas of expressions, seen by their trees.
 use Rattle.std.specs.Prelude.{◌≡◌, ℕ, ◌+◌, ◌<◌, length}
 use Rattle.sf_value.specs.Values.{Name}
-use Rattle.sf_expr.specs.declared.spot.Spot.{Spot}
+use Rattle.sf_refusal.specs.declared.spot.Spot.{Spot}
+use Rattle.sf_arena.specs.declared.entry.Entry.{Entry}
+use Rattle.sf_arena.specs.Arenas.{entries_of}
 use Rattle.sf_expr.specs.declared.operator.Operator.{Operator}
 use Rattle.sf_expr.specs.declared.exprs.ExprId.{ExprId}
 use Rattle.sf_expr.specs.declared.exprs.NameId.{NameId}
@@ -9,11 +11,9 @@ use Rattle.sf_expr.specs.declared.exprs.FunctionId.{FunctionId}
 use Rattle.sf_expr.specs.declared.exprs.ExprNode.{ExprNode}
 use Rattle.sf_expr.specs.declared.exprs.ExprNode.TheVariants as nodes
 use Rattle.sf_expr.specs.declared.exprs.Exprs.{Exprs}
-use Rattle.sf_expr.specs.declared.entry.Stored.{Stored}
-use Rattle.sf_expr.specs.declared.entry.Entry.{Entry}
 use Rattle.sf_expr.specs.Expressions.{Expression, variable, literal, int_literal, paired, operation, Function, function}
 use Rattle.sf_expr.specs.Patterns.{PlacedPattern, pattern_of}
-use Rattle.sf_expr.specs.Entries.{entry_at, expression_at, expressions, made_over, node_of, name_in, function_entry}
+use Rattle.sf_expr.specs.Entries.{name_among, entry_at, expression_at, function_entry}
 
 -- the number of an id
 abbrev pub id_number : ExprId → ℕ
@@ -21,43 +21,51 @@ id_number id = id.0
 
 -- how many expressions an arena holds
 unfoldable pub count_of : Exprs → ℕ
-count_of x = length x.entries.items
+count_of x = length (entries_of x.arena)
 
 -- how many functions an arena holds
 unfoldable pub function_count : Exprs → ℕ
 function_count x = length x.functions.items
 
+-- how many names an arena holds
+unfoldable pub name_count : Exprs → ℕ
+name_count x = length x.names.items
+
+-- the id of the next name
+unfoldable pub next_name : Exprs → NameId
+next_name x = record { 0 = length x.names.items }
+
 -- an arena holds an expression under an id
 unfoldable pub Holds : Exprs → ExprId → Type 0
-Holds x id = id.0 < length x.entries.items
+Holds x id = id.0 < length (entries_of x.arena)
 
 -- an arena holds a function under an id
 unfoldable pub HoldsFunction : Exprs → FunctionId → Type 0
 HoldsFunction x f = f.0 < length x.functions.items
 
+-- an arena holds a name under an id
+unfoldable pub HoldsName : Exprs → NameId → Type 0
+HoldsName x n = n.0 < length x.names.items
+
 -- the expression at an id; the number 0 where the arena holds none
 unfoldable pub expression : Exprs → ExprId → Expression
-expression x id = expression_at x.entries.items id.0
+expression x id = expression_at x.names.items (entries_of x.arena) id.0
 
 -- the entry at an id
-unfoldable pub entry_of : Exprs → ExprId → Entry
-entry_of x id = entry_at x.entries.items id.0
+unfoldable pub entry_of : Exprs → ExprId → Entry ExprNode
+entry_of x id = entry_at (entries_of x.arena) id.0
 
 -- the node at an id, with the ids of its parts; the number 0 where the arena holds none
 unfoldable pub node_at : Exprs → ExprId → ExprNode
-node_at x id = node_of (entry_at x.entries.items id.0).stored id
+node_at x id = (entry_at (entries_of x.arena) id.0).node
 
 -- the name at an id of names; the empty one where the arena holds none
 unfoldable pub name_at : Exprs → NameId → Name
-name_at x n = name_in (entry_at x.entries.items n.0).stored
+name_at x n = name_among x.names.items n.0
 
 -- where the expression at an id stands in the text
 unfoldable pub spot_at : Exprs → ExprId → Spot
-spot_at x id = (entry_at x.entries.items id.0).spot
-
--- the id of the name that stands at an id
-unfoldable pub name_id : ExprId → NameId
-name_id id = record { 0 = id.0 }
+spot_at x id = (entry_at (entries_of x.arena) id.0).spot
 
 -- the pattern of the function at an id; the one that binds nothing where the arena holds none
 unfoldable pub pattern_at : Exprs → FunctionId → PlacedPattern
@@ -71,9 +79,12 @@ body_at x f = (function_entry x.functions.items f.0).body
 abbrev pub function_at : Exprs → FunctionId → Function
 function_at x f = function (pattern_of (pattern_at x f)) (expression x (body_at x f))
 
--- the expression that what is stored makes in an arena
-unfoldable pub made_in : Exprs → Stored → Expression
-made_in x stored = made_over (expressions x.entries.items) stored
+-- the expression that a node stands for in an arena
+abbrev pub expression_of : Exprs → ExprNode → Expression
+expression_of x (nodes.Int z) = literal (int_literal z)
+expression_of x (nodes.Name n) = variable (name_at x n)
+expression_of x (nodes.Pair a b) = paired (expression x a) (expression x b)
+expression_of x (nodes.Operation a op b) = operation (expression x a) op (expression x b)
 
 -- A node with the ids of its parts stands for an expression with their trees.
 pub data Builds (x : Exprs) : ExprNode → Expression → Type 0 where
@@ -92,7 +103,7 @@ PartsBelow (nodes.Operation a op b) n = (id_number a < n) × (id_number b < n)
 -- the parts of a node are held
 abbrev pub HoldsParts : Exprs → ExprNode → Type 0
 HoldsParts x (nodes.Int z) = Unit {0}
-HoldsParts x (nodes.Name n) = Unit {0}
+HoldsParts x (nodes.Name n) = HoldsName x n
 HoldsParts x (nodes.Pair a b) = Holds x a × Holds x b
 HoldsParts x (nodes.Operation a op b) = Holds x a × Holds x b
 
@@ -106,6 +117,8 @@ pub record Keeps (old new : Exprs) : Type 0 where
   pub patterns : (f : FunctionId) → HoldsFunction old f → pattern_at new f ≡ pattern_at old f
   pub bodies : (f : FunctionId) → HoldsFunction old f → body_at new f ≡ body_at old f
   pub meanings : (f : FunctionId) → HoldsFunction old f → function_at new f ≡ function_at old f
+  pub holds_names : (n : NameId) → HoldsName old n → HoldsName new n
+  pub names : (n : NameId) → HoldsName old n → name_at new n ≡ name_at old n
 
 -- an expression was added under a new id, with the parts that its node names, and what was there stands
 pub record Adds (old new : Exprs) (id : ExprId) (n : ExprNode) (e : Expression) (s : Spot) : Type 0 where
@@ -117,6 +130,22 @@ pub record Adds (old new : Exprs) (id : ExprId) (n : ExprNode) (e : Expression) 
   pub kept : Keeps old new
   pub count : count_of new ≡ count_of old + 1
   pub functions : function_count new ≡ function_count old
+  pub names : name_count new ≡ name_count old
+
+-- a name was added under the next id, and what was there stands: at each id the same expressions and functions are shown
+pub record AddsName (old new : Exprs) (n : NameId) (x : Name) : Type 0 where
+  pub next : n ≡ next_name old
+  pub within : HoldsName new n
+  pub is : name_at new n ≡ x
+  pub kept : Keeps old new
+  pub nodes : (i : ExprId) → node_at new i ≡ node_at old i
+  pub trees : (i : ExprId) → expression new i ≡ expression old i
+  pub spots : (i : ExprId) → spot_at new i ≡ spot_at old i
+  pub patterns : (f : FunctionId) → pattern_at new f ≡ pattern_at old f
+  pub bodies : (f : FunctionId) → body_at new f ≡ body_at old f
+  pub count : count_of new ≡ count_of old
+  pub functions : function_count new ≡ function_count old
+  pub names : name_count new ≡ name_count old + 1
 
 -- a function was added under a new id, and what was there stands
 pub record AddsFunction (old new : Exprs) (f : FunctionId) (p : PlacedPattern) (b : ExprId) : Type 0 where
@@ -128,16 +157,19 @@ pub record AddsFunction (old new : Exprs) (f : FunctionId) (p : PlacedPattern) (
   pub kept : Keeps old new
   pub count : count_of new ≡ count_of old
   pub functions : function_count new ≡ function_count old + 1
+  pub names : name_count new ≡ name_count old
 
 -- two arenas show the same at each id
 pub record IsUnchanged (old new : Exprs) : Type 0 where
   pub count : count_of new ≡ count_of old
   pub functions : function_count new ≡ function_count old
+  pub name_counted : name_count new ≡ name_count old
   pub nodes : (i : ExprId) → node_at new i ≡ node_at old i
   pub trees : (i : ExprId) → expression new i ≡ expression old i
   pub spots : (i : ExprId) → spot_at new i ≡ spot_at old i
   pub patterns : (f : FunctionId) → pattern_at new f ≡ pattern_at old f
   pub bodies : (f : FunctionId) → body_at new f ≡ body_at old f
+  pub names : (n : NameId) → name_at new n ≡ name_at old n
 
 -- an arena is a copy of another: it shows the same at each id
 abbrev pub IsCopy : Exprs → Exprs → Type 0

@@ -1,11 +1,11 @@
 -- What holds of expressions.
 use Rattle.std.specs.Prelude.{◌≡◌}
 use Rattle.sf_value.specs.Values.{Kind, Data, HasKind}
-use Rattle.sf_expr.specs.declared.spot.Spot.{Spot}
+use Rattle.sf_refusal.specs.declared.spot.Spot.{Spot}
+use Rattle.sf_refusal.specs.declared.refusal.Breach.{Breach}
 use Rattle.sf_expr.specs.declared.exprs.ExprId.{ExprId}
 use Rattle.sf_expr.specs.declared.exprs.FunctionId.{FunctionId}
 use Rattle.sf_expr.specs.declared.exprs.Exprs.{Exprs}
-use Rattle.sf_expr.specs.declared.typing.TypeRefusal.{TypeRefusal}
 use Rattle.sf_expr.specs.Expressions.{Expression, Function}
 use Rattle.sf_expr.specs.Evaluation.{Scope, eval, apply}
 use Rattle.sf_expr.specs.Typing.{Names, HasType, FunctionTakes}
@@ -20,10 +20,10 @@ EachExpressionYields = (R : Names) (s : Scope) (e : Expression) (t : Kind) → H
 abbrev pub EachFunctionYields : Type 0
 EachFunctionYields = (R : Names) (s : Scope) (f : Function) (a b : Kind) (d : Data) → FunctionTakes R f a b → ScopeHas s R → HasKind d a → Yields b (apply f d s)
 
--- An expression is refused in one way at most.
+-- An expression breaks one rule at most first, at one place.
 abbrev pub EachExpressionRefusedOnce : Type 0
-EachExpressionRefusedOnce = (x : Exprs) (R : Names) (i : ExprId) (r q : TypeRefusal) → Refused x R i r → Refused x R i q → r ≡ q
+EachExpressionRefusedOnce = (x : Exprs) (R : Names) (i : ExprId) (r q : Breach) → Refused x R i r → Refused x R i q → r ≡ q
 
--- A function of values of a type is refused in one way at most.
+-- A function of values of a type breaks one rule at most first, at one place.
 abbrev pub EachFunctionRefusedOnce : Type 0
-EachFunctionRefusedOnce = (x : Exprs) (R : Names) (f : FunctionId) (a : Kind) (at : Spot) (r q : TypeRefusal) → FunctionRefused x R f a at r → FunctionRefused x R f a at q → r ≡ q
+EachFunctionRefusedOnce = (x : Exprs) (R : Names) (f : FunctionId) (a : Kind) (at : Spot) (r q : Breach) → FunctionRefused x R f a at r → FunctionRefused x R f a at q → r ≡ q

@@ -7,7 +7,6 @@ pub mod Evaluation
 pub mod Typing
 pub mod Soundness
 pub mod Scopes
-pub mod Folded
 pub mod Entries
 pub mod Arena
 pub mod Answers

@@ -3,41 +3,41 @@ use Rattle.std.specs.Prelude.{◌≡◌, ℕ, List, [], ◌∷◌, refl}
 use Rattle.std.proofs.Common.{ap, ◌∙◌}
 use Rattle.sf_expr.specs.Patterns.{PlacedPattern, placed_unnamed, placed_name, placed_both}
 
-pub data Mark : Type 0 where
-  is_unnamed : Mark
-  is_name : List ℕ → ℕ → ℕ → Mark
-  is_both : Mark
+pub data PatternMark : Type 0 where
+  is_unnamed : PatternMark
+  is_name : List ℕ → ℕ → ℕ → PatternMark
+  is_both : PatternMark
 
-abbrev pub marks : PlacedPattern → List Mark → List Mark
-marks placed_unnamed more = is_unnamed ∷ more
-marks (placed_name x s) more = is_name x s.line s.column ∷ more
-marks (placed_both p q) more = is_both ∷ marks p (marks q more)
+abbrev pub pattern_marks : PlacedPattern → List PatternMark → List PatternMark
+pattern_marks placed_unnamed more = is_unnamed ∷ more
+pattern_marks (placed_name x s) more = is_name x s.line s.column ∷ more
+pattern_marks (placed_both p q) more = is_both ∷ pattern_marks p (pattern_marks q more)
 
 -- the patterns of the marks after this one, and this one's
-abbrev pub put : Mark → List PlacedPattern → List PlacedPattern
-put is_unnamed ps = placed_unnamed ∷ ps
-put (is_name x line column) ps = placed_name x (record { line = line; column = column }) ∷ ps
-put is_both (p ∷ q ∷ ps) = placed_both p q ∷ ps
-put m ps = ps
+abbrev pub put_pattern : PatternMark → List PlacedPattern → List PlacedPattern
+put_pattern is_unnamed ps = placed_unnamed ∷ ps
+put_pattern (is_name x line column) ps = placed_name x (record { line = line; column = column }) ∷ ps
+put_pattern is_both (p ∷ q ∷ ps) = placed_both p q ∷ ps
+put_pattern m ps = ps
 
-abbrev pub patterns : List Mark → List PlacedPattern
+abbrev pub patterns : List PatternMark → List PlacedPattern
 patterns [] = []
-patterns (m ∷ ms) = put m (patterns ms)
+patterns (m ∷ ms) = put_pattern m (patterns ms)
 
-abbrev first : List PlacedPattern → PlacedPattern
-first [] = placed_unnamed
-first (p ∷ ps) = p
+abbrev first_pattern : List PlacedPattern → PlacedPattern
+first_pattern [] = placed_unnamed
+first_pattern (p ∷ ps) = p
 
-abbrev pub marks_of : PlacedPattern → List Mark
-marks_of p = marks p []
+abbrev pub pattern_marks_of : PlacedPattern → List PatternMark
+pattern_marks_of p = pattern_marks p []
 
-abbrev pub pattern_from : List Mark → PlacedPattern
-pattern_from ms = first (patterns ms)
+abbrev pub pattern_from : List PatternMark → PlacedPattern
+pattern_from ms = first_pattern (patterns ms)
 
-patterns-marks : (p : PlacedPattern) (more : List Mark) → patterns (marks p more) ≡ p ∷ patterns more
+patterns-marks : (p : PlacedPattern) (more : List PatternMark) → patterns (pattern_marks p more) ≡ p ∷ patterns more
 patterns-marks placed_unnamed more = refl
 patterns-marks (placed_name x s) more = refl
-patterns-marks (placed_both p q) more = ap (put is_both) (patterns-marks p (marks q more) ∙ ap (λ ps. p ∷ ps) (patterns-marks q more))
+patterns-marks (placed_both p q) more = ap (put_pattern is_both) (patterns-marks p (pattern_marks q more) ∙ ap (λ ps. p ∷ ps) (patterns-marks q more))
 
-pub pattern_from-marks_of : (p : PlacedPattern) → pattern_from (marks_of p) ≡ p
-pattern_from-marks_of p = ap first (patterns-marks p [])
+pub pattern_from-marks_of : (p : PlacedPattern) → pattern_from (pattern_marks_of p) ≡ p
+pattern_from-marks_of p = ap first_pattern (patterns-marks p [])

@@ -1,7 +1,7 @@
 -- Patterns with the places of their names.
 use Rattle.std.specs.Prelude.{ℕ, suc, ◌+◌, List, [], ◌∷◌, ◌++◌}
 use Rattle.sf_value.specs.Values.{Name}
-use Rattle.sf_expr.specs.declared.spot.Spot.{Spot}
+use Rattle.sf_refusal.specs.declared.spot.Spot.{Spot}
 use Rattle.sf_expr.specs.Expressions.{Pattern, unnamed, named, both}
 
 -- A pattern, of which each name has its place in the text.

@@ -1,52 +1,57 @@
 -- Why expressions and functions have no type.
 use Rattle.std.specs.Prelude.{◌≡◌, ◌<◌, List, [], ◌∷◌, ◌++◌, length, slice_get, Some, None, Result, Ok, Err, Contains}
 use Rattle.sf_value.specs.Values.{Name, Kind, int_kind, pair_kind, nodes as nodes_of}
-use Rattle.sf_expr.specs.declared.spot.Spot.{Spot}
+use Rattle.sf_refusal.specs.declared.spot.Spot.{Spot}
+use Rattle.sf_refusal.specs.declared.rule.Rule.TheVariants.{UnknownName, DuplicateName, Mismatch, TypeTooLarge}
+use Rattle.sf_refusal.specs.declared.refusal.Breach.{Breach}
+use Rattle.sf_refusal.specs.declared.refusal.Refusal.{Refusal}
+use Rattle.sf_refusal.specs.Refusals.{breach_of, OrMemory}
 use Rattle.sf_expr.specs.declared.exprs.ExprId.{ExprId}
 use Rattle.sf_expr.specs.declared.exprs.NameId.{NameId}
 use Rattle.sf_expr.specs.declared.exprs.FunctionId.{FunctionId}
 use Rattle.sf_expr.specs.declared.exprs.ExprNode.TheVariants as nodes
 use Rattle.sf_expr.specs.declared.exprs.Exprs.{Exprs}
 use Rattle.sf_expr.specs.declared.operator.Operator.{Operator}
-use Rattle.sf_expr.specs.declared.typing.TypeRefusal.{TypeRefusal}
-use Rattle.sf_expr.specs.declared.typing.TypeRefusal.TheVariants.{UnknownName, DuplicateName, Mismatch, TypeTooLarge, Memory}
 use Rattle.sf_expr.specs.Expressions.{Pattern, names_in, Expression, Function}
 use Rattle.sf_expr.specs.Patterns.{PlacedPattern, pattern_of, spots_in}
 use Rattle.sf_expr.specs.Arena.{expression, node_at, name_at, spot_at, pattern_at, body_at, function_at}
-use Rattle.sf_expr.specs.Typing.{Names, type_of_name, AllDifferent, Adds, HasType, FunctionTakes}
+use Rattle.sf_expr.specs.Typing.{Names, Fits, type_of_name, AllDifferent, AddsNames, HasType, FunctionTakes}
 
 -- The answer for an expression: its type, or a refusal, where it has none. Want of memory says nothing of it.
-abbrev pub Types : Names → Expression → Result Kind TypeRefusal → Type 0
+abbrev pub Types : Names → Expression → Result Kind Refusal → Type 0
 Types R e (Ok t) = HasType R e t
-Types R e (Err Memory) = Unit {0}
-Types R e (Err _) = (t : Kind) → HasType R e t → ⊥
+Types R e (Err r) = OrMemory (λ _. (t : Kind) → HasType R e t → ⊥) r
 
 -- The answer for a function of values of a type: the type that it takes them to, or a refusal, where there is none.
-abbrev pub TypesFunction : Names → Function → Kind → Result Kind TypeRefusal → Type 0
+abbrev pub TypesFunction : Names → Function → Kind → Result Kind Refusal → Type 0
 TypesFunction R f a (Ok b) = FunctionTakes R f a b
-TypesFunction R f a (Err Memory) = Unit {0}
-TypesFunction R f a (Err _) = (b : Kind) → FunctionTakes R f a b → ⊥
+TypesFunction R f a (Err r) = OrMemory (λ _. (b : Kind) → FunctionTakes R f a b → ⊥) r
 
--- The first refusal of an expression: parts are looked at from left to right, and then the form itself.
-pub data Refused (x : Exprs) (R : Names) : ExprId → TypeRefusal → Type 0 where
-  unknown_name : {i : ExprId} {n : NameId} → node_at x i ≡ nodes.Name n → type_of_name (name_at x n) R ≡ None → Refused x R i (UnknownName (spot_at x i))
-  first_part : {i a b : ExprId} {r : TypeRefusal} → node_at x i ≡ nodes.Pair a b → Refused x R a r → Refused x R i r
-  second_part : {i a b : ExprId} {t : Kind} {r : TypeRefusal} → node_at x i ≡ nodes.Pair a b → HasType R (expression x a) t → Refused x R b r → Refused x R i r
+-- The first rule that an expression breaks, and where: parts are looked at from left to right, and then the form itself.
+pub data Refused (x : Exprs) (R : Names) : ExprId → Breach → Type 0 where
+  unknown_name : {i : ExprId} {n : NameId} → node_at x i ≡ nodes.Name n → type_of_name (name_at x n) R ≡ None → Refused x R i (breach_of UnknownName (spot_at x i))
+  first_part : {i a b : ExprId} {r : Breach} → node_at x i ≡ nodes.Pair a b → Refused x R a r → Refused x R i r
+  second_part : {i a b : ExprId} {t : Kind} {r : Breach} → node_at x i ≡ nodes.Pair a b → HasType R (expression x a) t → Refused x R b r → Refused x R i r
   pair_too_large : {i a b : ExprId} {t u : Kind}
-      → node_at x i ≡ nodes.Pair a b → HasType R (expression x a) t → HasType R (expression x b) u → 256 < nodes_of (pair_kind t u) → Refused x R i (TypeTooLarge (spot_at x i))
-  left_operand : {i a b : ExprId} {op : Operator} {r : TypeRefusal} → node_at x i ≡ nodes.Operation a op b → Refused x R a r → Refused x R i r
-  right_operand : {i a b : ExprId} {op : Operator} {t : Kind} {r : TypeRefusal} → node_at x i ≡ nodes.Operation a op b → HasType R (expression x a) t → Refused x R b r → Refused x R i r
+      → node_at x i ≡ nodes.Pair a b → HasType R (expression x a) t → HasType R (expression x b) u → 256 < nodes_of (pair_kind t u) → Refused x R i (breach_of TypeTooLarge (spot_at x i))
+  left_operand : {i a b : ExprId} {op : Operator} {r : Breach} → node_at x i ≡ nodes.Operation a op b → Refused x R a r → Refused x R i r
+  right_operand : {i a b : ExprId} {op : Operator} {t : Kind} {r : Breach} → node_at x i ≡ nodes.Operation a op b → HasType R (expression x a) t → Refused x R b r → Refused x R i r
   no_number : {i a b : ExprId} {op : Operator} {t u : Kind}
-      → node_at x i ≡ nodes.Operation a op b → HasType R (expression x a) t → HasType R (expression x b) u → ¬ ((t ≡ int_kind) × (u ≡ int_kind)) → Refused x R i (Mismatch (spot_at x i))
+      → node_at x i ≡ nodes.Operation a op b → HasType R (expression x a) t → HasType R (expression x b) u → ¬ ((t ≡ int_kind) × (u ≡ int_kind)) → Refused x R i (breach_of Mismatch (spot_at x i))
 
--- The answer for an expression: its type, or its first refusal. Want of memory says nothing of it.
-abbrev pub Judges : Exprs → Names → ExprId → Result Kind TypeRefusal → Type 0
+-- The answer for an expression: its type, or the first rule that it breaks.
+abbrev pub Judges : Exprs → Names → ExprId → Result Kind Refusal → Type 0
 Judges x R i (Ok t) = HasType R (expression x i) t
-Judges x R i (Err Memory) = Unit {0}
-Judges x R i (Err (UnknownName s)) = Refused x R i (UnknownName s)
-Judges x R i (Err (DuplicateName s)) = Refused x R i (DuplicateName s)
-Judges x R i (Err (Mismatch s)) = Refused x R i (Mismatch s)
-Judges x R i (Err (TypeTooLarge s)) = Refused x R i (TypeTooLarge s)
+Judges x R i (Err r) = OrMemory (Refused x R i) r
+
+-- why there is no type of pairs of two types, at a place
+abbrev pub PairRefused : Kind → Kind → Spot → Breach → Type 0
+PairRefused t u at b = (b ≡ breach_of TypeTooLarge at) × (256 < nodes_of (pair_kind t u))
+
+-- the answer for the type of pairs of two types, at a place
+abbrev pub AnswersPair : Kind → Kind → Spot → Result Kind Refusal → Type 0
+AnswersPair t u at (Ok w) = (w ≡ pair_kind t u) × Fits w
+AnswersPair t u at (Err r) = OrMemory (PairRefused t u at) r
 
 -- At a place stands the first name of a pattern that was seen, or stands before in the pattern.
 pub record IsRepeated (seen : List Name) (p : PlacedPattern) (s : Spot) : Type 0 where
@@ -59,29 +64,22 @@ pub record IsRepeated (seen : List Name) (p : PlacedPattern) (s : Spot) : Type 0
   pub place : slice_get (spots_in p) (length before) ≡ Some s
 
 -- why the names of a pattern are not put behind those that were seen
-abbrev pub RepeatRefused : List Name → PlacedPattern → TypeRefusal → Type 0
-RepeatRefused seen p Memory = Unit {0}
-RepeatRefused seen p (DuplicateName s) = IsRepeated seen p s
-RepeatRefused seen p _ = ⊥
+abbrev pub RepeatRefused : List Name → PlacedPattern → Breach → Type 0
+RepeatRefused seen p b = (b.rule ≡ DuplicateName) × IsRepeated seen p b.spot
 
 -- why a pattern is not bound to a type
-abbrev pub BindRefused : Pattern → Kind → Spot → TypeRefusal → Type 0
-BindRefused p t at Memory = Unit {0}
-BindRefused p t at (Mismatch s) = (s ≡ at) × ((R S : Names) → Adds p t R S → ⊥)
-BindRefused p t at _ = ⊥
+abbrev pub BindRefused : Pattern → Kind → Spot → Breach → Type 0
+BindRefused p t at b = (b ≡ breach_of Mismatch at) × ((R S : Names) → AddsNames p t R S → ⊥)
 
--- The first refusal of a function of values of a type: the names of its pattern, then the pattern, then the body.
-pub data FunctionRefused (x : Exprs) (R : Names) (f : FunctionId) (a : Kind) (at : Spot) : TypeRefusal → Type 0 where
-  repeated_name : {s : Spot} → IsRepeated [] (pattern_at x f) s → FunctionRefused x R f a at (DuplicateName s)
-  no_fit : AllDifferent (names_in (pattern_of (pattern_at x f))) → ((S : Names) → Adds (pattern_of (pattern_at x f)) a R S → ⊥) → FunctionRefused x R f a at (Mismatch at)
-  body_refused : {S : Names} {r : TypeRefusal}
-      → AllDifferent (names_in (pattern_of (pattern_at x f))) → Adds (pattern_of (pattern_at x f)) a R S → Refused x S (body_at x f) r → FunctionRefused x R f a at r
+-- The first rule that a function of values of a type breaks, and where: the names of its pattern, then the pattern, then the
+-- body.
+pub data FunctionRefused (x : Exprs) (R : Names) (f : FunctionId) (a : Kind) (at : Spot) : Breach → Type 0 where
+  repeated_name : {s : Spot} → IsRepeated [] (pattern_at x f) s → FunctionRefused x R f a at (breach_of DuplicateName s)
+  no_fit : AllDifferent (names_in (pattern_of (pattern_at x f))) → ((S : Names) → AddsNames (pattern_of (pattern_at x f)) a R S → ⊥) → FunctionRefused x R f a at (breach_of Mismatch at)
+  body_refused : {S : Names} {r : Breach}
+      → AllDifferent (names_in (pattern_of (pattern_at x f))) → AddsNames (pattern_of (pattern_at x f)) a R S → Refused x S (body_at x f) r → FunctionRefused x R f a at r
 
--- The answer for a function of values of a type: the type that it takes them to, or its first refusal.
-abbrev pub JudgesFunction : Exprs → Names → FunctionId → Kind → Spot → Result Kind TypeRefusal → Type 0
+-- The answer for a function of values of a type: the type that it takes them to, or the first rule that it breaks.
+abbrev pub JudgesFunction : Exprs → Names → FunctionId → Kind → Spot → Result Kind Refusal → Type 0
 JudgesFunction x R f a at (Ok b) = FunctionTakes R (function_at x f) a b
-JudgesFunction x R f a at (Err Memory) = Unit {0}
-JudgesFunction x R f a at (Err (UnknownName s)) = FunctionRefused x R f a at (UnknownName s)
-JudgesFunction x R f a at (Err (DuplicateName s)) = FunctionRefused x R f a at (DuplicateName s)
-JudgesFunction x R f a at (Err (Mismatch s)) = FunctionRefused x R f a at (Mismatch s)
-JudgesFunction x R f a at (Err (TypeTooLarge s)) = FunctionRefused x R f a at (TypeTooLarge s)
+JudgesFunction x R f a at (Err r) = OrMemory (FunctionRefused x R f a at) r

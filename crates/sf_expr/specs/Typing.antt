@@ -24,14 +24,14 @@ AllDifferent [] = ⊤
 AllDifferent (x ∷ xs) = All (λ y. x ≢ y) xs × AllDifferent xs
 
 -- A pattern for a type adds names to those around it.
-pub data Adds : Pattern → Kind → Names → Names → Type 0 where
-  adds_nothing : {t : Kind} {R : Names} → Adds unnamed t R R
-  adds_name : {x : Name} {t : Kind} {R : Names} → Adds (named x) t R ((x, t) ∷ R)
-  adds_both : {p q : Pattern} {t u : Kind} {R S T : Names} → Adds p t R S → Adds q u S T → Adds (both p q) (pair_kind t u) R T
+pub data AddsNames : Pattern → Kind → Names → Names → Type 0 where
+  adds_nothing : {t : Kind} {R : Names} → AddsNames unnamed t R R
+  adds_name : {x : Name} {t : Kind} {R : Names} → AddsNames (named x) t R ((x, t) ∷ R)
+  adds_both : {p q : Pattern} {t u : Kind} {R S T : Names} → AddsNames p t R S → AddsNames q u S T → AddsNames (both p q) (pair_kind t u) R T
 
 -- A pattern is bound: it adds its names, which are different.
 pub record Binds (p : Pattern) (t : Kind) (R S : Names) : Type 0 where
-  pub adds : Adds p t R S
+  pub adds : AddsNames p t R S
   pub apart : AllDifferent (names_in p)
 
 -- An expression has a type, where the names have types. Each type has at most 256 nodes.

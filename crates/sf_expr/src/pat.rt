@@ -4,7 +4,7 @@ ghost use Rattle.sf_expr.specs.Expressions.{pattern_depth};
 ghost use Rattle.sf_expr.specs.Patterns.{placed_unnamed, placed_name, placed_both, pattern_of};
 ghost use Rattle.sf_expr.specs.PatternView.{placed_of};
 
-use crate::spot::Spot;
+use sf_refusal::Spot;
 use std::alloc::{AllocError, Global};
 use std::marker::Model;
 
@@ -31,11 +31,11 @@ impl Model for Pat {
     ghost use Rattle.std.specs.Prelude.{List};
     ghost use Rattle.std.specs.Coded.{code_by, codes};
     ghost use Rattle.sf_expr.specs.Patterns.{PlacedPattern, pattern_size};
-    ghost use Rattle.sf_expr.specs.PatternCodes.{Mark, marks_of, pattern_from, pattern_from-marks_of};
+    ghost use Rattle.sf_expr.specs.PatternCodes.{PatternMark, pattern_marks_of, pattern_from, pattern_from-marks_of};
 
     ghost Value = { PlacedPattern };
 
-    ghost coded = { code_by (List Mark) (Prim.hlevel codes) marks_of pattern_from pattern_from-marks_of };
+    ghost coded = { code_by (List PatternMark) (Prim.hlevel codes) pattern_marks_of pattern_from pattern_from-marks_of };
 
     ghost use Rattle.sf_expr.specs.PatternView.{placed_of};
 

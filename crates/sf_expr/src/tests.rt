@@ -1,14 +1,15 @@
 ghost use Rattle.std.specs.Prelude.{IfOk};
 ghost use Rattle.sf_expr.specs.Arena.{Holds};
 
-use crate::exprs::{ExprId, ExprNode, ExprRefusal, Exprs, FunctionId};
+use crate::exprs::{ExprId, ExprNode, Exprs, FunctionId};
 use crate::fault::EvalFault;
 use crate::operator::Operator;
 use crate::pat::{Pat, PatForm};
 use crate::scope::Scope;
-use crate::spot::Spot;
-use crate::typing::{TypeRefusal, TypeScope, function_type, type_of};
+use crate::typing::{TypeScope, function_type, type_of};
 use crate::{apply, eval, one_refusal, typed_expression};
+use sf_arena::ArenaRefusal;
+use sf_refusal::{Refusal, Spot};
 use sf_value::{Form, Ty, Value, ValueFault, has_type, same, same_type};
 use std::alloc::{AllocError, AllocFailed, Global};
 use std::test::Fail;
@@ -17,17 +18,17 @@ fn at(column: u32) -> Spot {
     Spot { line: 1, column }
 }
 
-fn three_numbers(alloc: Global) -> Result<(Exprs, ExprId, ExprId, ExprId), ExprRefusal> {
+fn three_numbers(alloc: Global) -> Result<(Exprs, ExprId, ExprId, ExprId), ArenaRefusal> {
     let mut exprs = Exprs::new(alloc);
-    let first = exprs.int(7, Spot { line: 1, column: 4 })?;
-    let least = exprs.int(
-        i64::MIN,
+    let first = exprs.add(ExprNode::Int(7), Spot { line: 1, column: 4 })?;
+    let least = exprs.add(
+        ExprNode::Int(i64::MIN),
         Spot {
             line: 2,
             column: 30,
         },
     )?;
-    let last = exprs.int(-1, Spot::NONE)?;
+    let last = exprs.add(ExprNode::Int(-1), Spot::NONE)?;
     Ok((exprs, first, least, last))
 }
 
@@ -56,60 +57,18 @@ fn ids_of_another_arena_are_the_number_0(rt: HostRuntime) -> Result<(), Fail> {
     Ok(())
 }
 
-#[test]
-fn more_than_100000_are_refused(rt: HostRuntime) -> Result<(), Fail> {
-    let alloc = rt.alloc();
-    let mut exprs = Exprs::new(alloc);
-    for n in 0..100_000i64 {
-        exprs.int(n, Spot::NONE)?;
-    }
-    let x = String::from_str(alloc, "x")?;
-    assert_eq!(rt; exprs.int(5, Spot::NONE), Err(ExprRefusal::TooMany));
-    assert_eq!(rt; exprs.name(x, Spot::NONE), Err(ExprRefusal::TooMany));
-    assert_eq!(rt; exprs.len(), 100_000);
-    Ok(())
-}
-
-/// Numbers of so many expressions one inside another.
-fn nested(exprs: &mut Exprs, depth: u32) -> Result<ExprId, ExprRefusal>
-    ensures { IfOk result (λ id. Holds exprs.new id) }
-{
-    if depth <= 1 {
-        return exprs.int(1, Spot::NONE);
-    }
-    let left = nested(exprs, depth - 1)?;
-    let right = exprs.int(2, Spot::NONE)?;
-    exprs.operation(left, Operator::Plus, right, Spot::NONE)
-}
-
-#[test]
-fn depth_64_is_the_last(rt: HostRuntime) -> Result<(), Fail> {
-    let alloc = rt.alloc();
-    let mut exprs = Exprs::new(alloc);
-    let whole = nested(&mut exprs, 64)?;
-    assert_eq!(rt; exprs.depth(whole), 64);
-    let deep = exprs.function(Pat::unnamed(), whole)?;
-    assert_eq!(rt; exprs.function_depth(deep), 64);
-    let mut pattern = Pat::unnamed();
-    for _ in 1..65 {
-        pattern = Pat::both(alloc, pattern, Pat::unnamed())?;
-    }
-    assert_eq!(rt; pattern.depth(), 65);
-    assert_eq!(rt; exprs.function(pattern, whole), Err(ExprRefusal::TooDeep));
-    assert_eq!(rt; nested(&mut exprs, 65), Err(ExprRefusal::TooDeep));
-    Ok(())
-}
-
 /// `(x, (x - 1))`, whose parts stand at the columns 2 and 5.
 fn beside_itself(alloc: Global) -> Result<(Exprs, ExprId), Fail>
     ensures { IfOk result (λ (exprs, id). Holds exprs id) }
 {
     let mut exprs = Exprs::new(alloc);
-    let x = exprs.name(String::from_str(alloc, "x")?, at(2))?;
-    let again = exprs.name(String::from_str(alloc, "x")?, at(6))?;
-    let one = exprs.int(1, at(10))?;
-    let less = exprs.operation(again, Operator::Minus, one, at(5))?;
-    let pair = exprs.pair(x, less, at(1))?;
+    let x = exprs.name(String::from_str(alloc, "x")?)?;
+    let x = exprs.add(ExprNode::Name(x), at(2))?;
+    let again = exprs.name(String::from_str(alloc, "x")?)?;
+    let again = exprs.add(ExprNode::Name(again), at(6))?;
+    let one = exprs.add(ExprNode::Int(1), at(10))?;
+    let less = exprs.add(ExprNode::Operation(again, Operator::Minus, one), at(5))?;
+    let pair = exprs.add(ExprNode::Pair(x, less), at(1))?;
     Ok((exprs, pair))
 }
 
@@ -180,9 +139,9 @@ fn computed(
     right: i64,
 ) -> Result<Result<i64, EvalFault>, Fail> {
     let mut exprs = Exprs::new(alloc);
-    let a = exprs.int(left, Spot::NONE)?;
-    let b = exprs.int(right, Spot::NONE)?;
-    let whole = exprs.operation(a, operator, b, Spot::NONE)?;
+    let a = exprs.add(ExprNode::Int(left), Spot::NONE)?;
+    let b = exprs.add(ExprNode::Int(right), Spot::NONE)?;
+    let whole = exprs.add(ExprNode::Operation(a, operator, b), Spot::NONE)?;
     match worth(alloc, &exprs, whole)? {
         Ok(value) => match value.into_form() {
             Form::Int(n) => Ok(Ok(n)),
@@ -229,13 +188,16 @@ fn results_outside_64_bits_are_faults(rt: HostRuntime) -> Result<(), Fail> {
 fn the_first_fault_is_answered(rt: HostRuntime) -> Result<(), Fail> {
     let alloc = rt.alloc();
     let mut exprs = Exprs::new(alloc);
-    let one = exprs.int(1, Spot::NONE)?;
-    let nought = exprs.int(0, Spot::NONE)?;
-    let left = exprs.operation(one, Operator::Divide, nought, Spot::NONE)?;
-    let most = exprs.int(i64::MAX, Spot::NONE)?;
-    let two = exprs.int(2, Spot::NONE)?;
-    let right = exprs.operation(most, Operator::Times, two, Spot::NONE)?;
-    let pair = exprs.pair(left, right, Spot::NONE)?;
+    let one = exprs.add(ExprNode::Int(1), Spot::NONE)?;
+    let nought = exprs.add(ExprNode::Int(0), Spot::NONE)?;
+    let left = exprs.add(
+        ExprNode::Operation(one, Operator::Divide, nought),
+        Spot::NONE,
+    )?;
+    let most = exprs.add(ExprNode::Int(i64::MAX), Spot::NONE)?;
+    let two = exprs.add(ExprNode::Int(2), Spot::NONE)?;
+    let right = exprs.add(ExprNode::Operation(most, Operator::Times, two), Spot::NONE)?;
+    let pair = exprs.add(ExprNode::Pair(left, right), Spot::NONE)?;
     match worth(alloc, &exprs, pair)? {
         Err(EvalFault::Value(ValueFault::DivideByZero)) => Ok(()),
         _ => Err(Fail::new("another answer")),
@@ -249,7 +211,7 @@ fn output_type(
     function: FunctionId,
     from: &Ty,
     at: Spot,
-) -> Result<Ty, TypeRefusal> {
+) -> Result<Ty, Refusal> {
     let none = TypeScope::new(alloc);
     function_type(alloc, exprs, function, from, &none, at)
 }
@@ -273,9 +235,11 @@ fn answered(
 /// A function of a pair: `(a, b) => (a operator b)`.
 fn of_both(alloc: Global, operator: Operator) -> Result<(Exprs, FunctionId), Fail> {
     let mut exprs = Exprs::new(alloc);
-    let a = exprs.name(String::from_str(alloc, "a")?, at(14))?;
-    let b = exprs.name(String::from_str(alloc, "b")?, at(18))?;
-    let body = exprs.operation(a, operator, b, at(13))?;
+    let a = exprs.name(String::from_str(alloc, "a")?)?;
+    let a = exprs.add(ExprNode::Name(a), at(14))?;
+    let b = exprs.name(String::from_str(alloc, "b")?)?;
+    let b = exprs.add(ExprNode::Name(b), at(18))?;
+    let body = exprs.add(ExprNode::Operation(a, operator, b), at(13))?;
     let first = Pat::name(String::from_str(alloc, "a")?, at(6));
     let second = Pat::name(String::from_str(alloc, "b")?, at(9));
     let pattern = Pat::both(alloc, first, second)?;
@@ -304,68 +268,14 @@ fn patterns_bind_the_parts(rt: HostRuntime) -> Result<(), Fail> {
 fn pairs_have_values_and_types(rt: HostRuntime) -> Result<(), Fail> {
     let alloc = rt.alloc();
     let mut exprs = Exprs::new(alloc);
-    let seven = exprs.int(7, Spot::NONE)?;
-    let least = exprs.int(i64::MIN, Spot::NONE)?;
-    let pair = exprs.pair(seven, least, Spot::NONE)?;
+    let seven = exprs.add(ExprNode::Int(7), Spot::NONE)?;
+    let least = exprs.add(ExprNode::Int(i64::MIN), Spot::NONE)?;
+    let pair = exprs.add(ExprNode::Pair(seven, least), Spot::NONE)?;
     let value = worth(alloc, &exprs, pair)??;
     assert!(rt; same(&value, &pair_of(alloc, 7, i64::MIN)?));
     let numbers = Ty::pair(alloc, Ty::int(), Ty::int())?;
     let ty = type_of(alloc, &exprs, pair, &TypeScope::new(alloc))?;
     assert!(rt; same_type(&ty, &numbers));
-    Ok(())
-}
-
-fn refusal(answer: Result<Ty, TypeRefusal>) -> Option<TypeRefusal> {
-    answer.err()
-}
-
-#[test]
-fn refusals_have_their_places(rt: HostRuntime) -> Result<(), Fail> {
-    let alloc = rt.alloc();
-    let (exprs, function) = of_both(alloc, Operator::Plus)?;
-    let body = exprs.body(function);
-    let none = TypeScope::new(alloc);
-    let unknown = type_of(alloc, &exprs, body, &none);
-    assert_eq!(rt; refusal(unknown), Some(TypeRefusal::UnknownName(at(14))));
-    let number = output_type(alloc, &exprs, function, &Ty::int(), at(1));
-    assert_eq!(rt; refusal(number), Some(TypeRefusal::Mismatch(at(1))));
-    let numbers = Ty::pair(alloc, Ty::int(), Ty::int())?;
-    let nested = Ty::pair(alloc, numbers, Ty::int())?;
-    let deep = output_type(alloc, &exprs, function, &nested, at(1));
-    assert_eq!(rt; refusal(deep), Some(TypeRefusal::Mismatch(at(13))));
-    Ok(())
-}
-
-#[test]
-fn repeated_names_are_refused(rt: HostRuntime) -> Result<(), Fail> {
-    let alloc = rt.alloc();
-    let mut exprs = Exprs::new(alloc);
-    let body = exprs.int(1, at(20))?;
-    let first = Pat::name(String::from_str(alloc, "a")?, at(6));
-    let second = Pat::name(String::from_str(alloc, "a")?, at(9));
-    let pattern = Pat::both(alloc, first, second)?;
-    let function = exprs.function(pattern, body)?;
-    let answer = output_type(alloc, &exprs, function, &Ty::int(), at(1));
-    assert_eq!(rt; refusal(answer), Some(TypeRefusal::DuplicateName(at(9))));
-    Ok(())
-}
-
-#[test]
-fn types_of_more_than_256_are_refused(rt: HostRuntime) -> Result<(), Fail> {
-    let alloc = rt.alloc();
-    let mut exprs = Exprs::new(alloc);
-    let x = exprs.name(String::from_str(alloc, "x")?, at(7))?;
-    let again = exprs.name(String::from_str(alloc, "x")?, at(10))?;
-    let body = exprs.pair(x, again, at(6))?;
-    let function = exprs.function(Pat::name(String::from_str(alloc, "x")?, at(1)), body)?;
-    let mut from = Ty::int();
-    for _ in 0..7 {
-        let copy = from.clone_in(alloc)?;
-        from = Ty::pair(alloc, from, copy)?;
-    }
-    assert_eq!(rt; from.nodes(), 255);
-    let answer = output_type(alloc, &exprs, function, &from, at(1));
-    assert_eq!(rt; refusal(answer), Some(TypeRefusal::TypeTooLarge(at(6))));
     Ok(())
 }
 
@@ -375,7 +285,7 @@ fn copies_are_the_same(rt: HostRuntime) -> Result<(), Fail> {
     let (mut exprs, pair) = beside_itself(alloc)?;
     let function = exprs.function(three_parts(alloc)?, pair)?;
     let mut copy = exprs.clone_in(alloc)?;
-    let more = copy.int(9, Spot::NONE)?;
+    let more = copy.add(ExprNode::Int(9), Spot::NONE)?;
     assert_eq!(rt; exprs.len(), 5);
     assert_eq!(rt; copy.len(), 6);
     assert_eq!(rt; copy.node(pair), exprs.node(pair));
@@ -399,47 +309,16 @@ fn errors_become_faults(rt: HostRuntime) {
         EvalFault::from(AllocFailed { value: 1u8 }),
         EvalFault::Memory
     );
-    assert_eq!(rt; TypeRefusal::from(AllocError), TypeRefusal::Memory);
-    assert_eq!(rt;
-        TypeRefusal::from(AllocFailed { value: 1u8 }),
-        TypeRefusal::Memory
-    );
-    assert_eq!(rt;
-        ExprRefusal::from(AllocFailed { value: 1u8 }),
-        ExprRefusal::Memory
-    );
 }
 
 #[test]
 fn errors_are_printed(rt: HostRuntime) -> Result<(), Fail> {
     let alloc = rt.alloc();
-    let refusals = format!(in alloc;
-        "{}, {}, {}",
-        ExprRefusal::TooMany,
-        ExprRefusal::TooDeep,
-        ExprRefusal::Memory
-    )?;
-    assert_eq!(rt;
-        refusals.as_str(),
-        "too many expressions, too many expressions one inside another, out of memory"
-    );
     let faults = format!(in alloc;
         "{}, {}",
         EvalFault::Value(ValueFault::Overflow),
         EvalFault::Memory
     )?;
     assert_eq!(rt; faults.as_str(), "overflow, out of memory");
-    let types = format!(in alloc;
-        "{}, {}, {}, {}, {}",
-        TypeRefusal::UnknownName(at(1)),
-        TypeRefusal::DuplicateName(at(1)),
-        TypeRefusal::Mismatch(at(1)),
-        TypeRefusal::TypeTooLarge(at(1)),
-        TypeRefusal::Memory
-    )?;
-    assert_eq!(rt;
-        types.as_str(),
-        "unknown name, duplicate name, mismatch of types, type too large, out of memory"
-    );
     Ok(())
 }

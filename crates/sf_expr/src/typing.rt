@@ -1,59 +1,21 @@
 //! The types of expressions.
 ghost use Rattle.std.specs.Prelude.{◌≡◌, ◌++◌, [], ◌↔◌, IsTrue, OnOk, IfOk, IfSome, IfNone, IfErr, Contains};
 ghost use Rattle.sf_value.specs.Values.{int_kind};
-ghost use Rattle.sf_expr.specs.Typing.{Fits, Adds, AllDifferent, type_of_name};
+ghost use Rattle.sf_expr.specs.Typing.{Fits, AddsNames, AllDifferent, type_of_name};
 ghost use Rattle.sf_expr.specs.Expressions.{names_in};
 ghost use Rattle.sf_expr.specs.Arena.{expression, function_at, pattern_at};
 ghost use Rattle.sf_expr.specs.Patterns.{pattern_of};
 ghost use Rattle.sf_expr.specs.Scopes.{names_of, names_seen};
-ghost use Rattle.sf_expr.specs.Refusals.{Types, TypesFunction, Judges, JudgesFunction, BindRefused, RepeatRefused};
-ghost use Rattle.sf_expr.specs.declared.typing.TypeRefusal.TheVariants.{Memory};
+ghost use Rattle.sf_expr.specs.Refusals.{Types, TypesFunction, Judges, JudgesFunction, AnswersPair, BindRefused, RepeatRefused};
+ghost use Rattle.sf_refusal.specs.Refusals.{OrMemory};
 
 use crate::exprs::{ExprId, ExprNode, Exprs, FunctionId};
 use crate::pat::{Pat, PatForm};
-use crate::spot::Spot;
 use crate::typed_name::TypedName;
+use sf_refusal::{Refusal, Rule, Spot};
 use sf_value::{Ty, TyForm, TyRefusal};
 use smallvec::SmallVec;
-use std::alloc::{AllocError, AllocFailed, Global};
-use thiserror::Error;
-
-/// Why an expression or a function got no type, with the place: of the name, or of the first token of the form whose
-/// rule is broken.
-#[derive(Clone, Copy, Debug, PartialEq, Eq, Error)]
-pub enum TypeRefusal {
-    /// A name is not there.
-    #[error("unknown name")]
-    UnknownName(Spot),
-    /// Two names of a pattern are the same; the place is that of the later one.
-    #[error("duplicate name")]
-    DuplicateName(Spot),
-    /// Types do not fit.
-    #[error("mismatch of types")]
-    Mismatch(Spot),
-    /// A type would be made of more than 256 types.
-    #[error("type too large")]
-    TypeTooLarge(Spot),
-    /// Memory was wanting.
-    #[error("out of memory")]
-    Memory,
-}
-
-impl From<AllocError> for TypeRefusal {
-    ghost from_gives = { λ _ e. e ≡ Memory };
-
-    fn from(_error: AllocError) -> TypeRefusal {
-        TypeRefusal::Memory
-    }
-}
-
-impl<T: Drop> From<AllocFailed<T>> for TypeRefusal {
-    ghost from_gives = { λ _ e. e ≡ Memory };
-
-    fn from(_error: AllocFailed<T>) -> TypeRefusal {
-        TypeRefusal::Memory
-    }
-}
+use std::alloc::{AllocError, Global};
 
 /// The names that an expression may use, with their types, the innermost last.
 #[derive(Drop)]
@@ -103,9 +65,9 @@ impl<'a> TypeScope<'a> {
     /// Puts the names of a pattern behind the names that are there, with the types of the parts of a type. Refused with
     /// `Mismatch` at `at` where the pattern does not fit the type, and with `Memory`; only some of the names may be
     /// there then.
-    fn bind(&mut self, pattern: &'a Pat, ty: &'a Ty, at: Spot) -> Result<(), TypeRefusal>
-        ensures ok { OnOk result (Adds (pattern_of pattern.now) ty.now (names_of self.old) (names_of self.new)) }
-        ensures err { IfErr result (λ r. BindRefused (pattern_of pattern.now) ty.now at r) }
+    fn bind(&mut self, pattern: &'a Pat, ty: &'a Ty, at: Spot) -> Result<(), Refusal>
+        ensures ok { OnOk result (AddsNames (pattern_of pattern.now) ty.now (names_of self.old) (names_of self.new)) }
+        ensures err { IfErr result (OrMemory (BindRefused (pattern_of pattern.now) ty.now at)) }
         ensures fits { Fits ty.now }
     {
         match (pattern.form(), ty.form()) {
@@ -119,7 +81,7 @@ impl<'a> TypeScope<'a> {
                 self.bind(first, left, at)?;
                 self.bind(second, right, at)
             }
-            (PatForm::Both(_, _), TyForm::Int) => Err(TypeRefusal::Mismatch(at)),
+            (PatForm::Both(_, _), TyForm::Int) => Err(Refusal::broken(Rule::Mismatch, at)),
         }
     }
 }
@@ -133,18 +95,18 @@ fn was_seen(seen: &[&str], name: &str) -> bool
 
 /// Puts the names of a pattern behind those that were seen. Refused with `DuplicateName` at the first name that was seen
 /// before, and with `Memory`; only some of the names may be there then.
-fn see<'a>(pattern: &'a Pat, seen: &mut SmallVec<&'a str, 4>) -> Result<(), TypeRefusal>
+fn see<'a>(pattern: &'a Pat, seen: &mut SmallVec<&'a str, 4>) -> Result<(), Refusal>
     requires { AllDifferent (names_seen seen.old.items) }
     ensures seen { OnOk result (names_seen seen.new.items ≡ names_seen seen.old.items ++ names_in (pattern_of pattern.now)) }
     ensures apart { OnOk result (AllDifferent (names_seen seen.new.items)) }
-    ensures err { IfErr result (λ r. RepeatRefused (names_seen seen.old.items) pattern.now r) }
+    ensures err { IfErr result (OrMemory (RepeatRefused (names_seen seen.old.items) pattern.now)) }
 {
     match pattern.form() {
         PatForm::Unnamed => {}
         PatForm::Name(name, spot) => {
             let name = name.as_str();
             if was_seen(seen.as_slice(), name) {
-                return Err(TypeRefusal::DuplicateName(*spot));
+                return Err(Refusal::broken(Rule::DuplicateName, *spot));
             }
             seen.push(name)?;
         }
@@ -163,24 +125,31 @@ fn are_numbers(left: &Ty, right: &Ty) -> bool
     matches!((left.form(), right.form()), (TyForm::Int, TyForm::Int))
 }
 
+/// The type of pairs of two types; refused with `TypeTooLarge` at `at` where it would be made of more than 256 types.
+pub fn pair_type(alloc: Global, first: Ty, second: Ty, at: Spot) -> Result<Ty, Refusal>
+    ensures { AnswersPair first second at result }
+{
+    match Ty::pair(alloc, first, second) {
+        Ok(pair) => Ok(pair),
+        Err(TyRefusal::TypeTooLarge) => Err(Refusal::broken(Rule::TypeTooLarge, at)),
+        Err(TyRefusal::Memory) => Err(Refusal::Memory),
+    }
+}
+
 /// The type of an expression, or the first refusal, parts first.
-fn judge(alloc: Global, exprs: &Exprs, id: ExprId, names: &TypeScope) -> Result<Ty, TypeRefusal>
+fn judge(alloc: Global, exprs: &Exprs, id: ExprId, names: &TypeScope) -> Result<Ty, Refusal>
     ensures { Judges exprs.now (names_of names.now) id result }
 {
     match exprs.node(id) {
         ExprNode::Int(_) => Ok(Ty::int()),
         ExprNode::Name(name) => match names.ty(exprs.name_of(name)) {
             Some(ty) => Ok(ty.clone_in(alloc)?),
-            None => Err(TypeRefusal::UnknownName(exprs.spot(id))),
+            None => Err(Refusal::broken(Rule::UnknownName, exprs.spot(id))),
         },
         ExprNode::Pair(first, second) => {
             let first = judge(alloc, exprs, first, names)?;
             let second = judge(alloc, exprs, second, names)?;
-            match Ty::pair(alloc, first, second) {
-                Ok(ty) => Ok(ty),
-                Err(TyRefusal::TypeTooLarge) => Err(TypeRefusal::TypeTooLarge(exprs.spot(id))),
-                Err(TyRefusal::Memory) => Err(TypeRefusal::Memory),
-            }
+            pair_type(alloc, first, second, exprs.spot(id))
         }
         ExprNode::Operation(left, _, right) => {
             let left = judge(alloc, exprs, left, names)?;
@@ -188,7 +157,7 @@ fn judge(alloc: Global, exprs: &Exprs, id: ExprId, names: &TypeScope) -> Result<
             if are_numbers(&left, &right) {
                 Ok(Ty::int())
             } else {
-                Err(TypeRefusal::Mismatch(exprs.spot(id)))
+                Err(Refusal::broken(Rule::Mismatch, exprs.spot(id)))
             }
         }
     }
@@ -199,12 +168,7 @@ fn judge(alloc: Global, exprs: &Exprs, id: ExprId, names: &TypeScope) -> Result<
 /// Both operands are typed before a mismatch in either is answered. The place is that of an unknown name, else that of
 /// the first token of the form whose rule is broken.
 #[tactic(auto, using(crate::proofs::Judged::judged_types))]
-pub fn type_of(
-    alloc: Global,
-    exprs: &Exprs,
-    id: ExprId,
-    names: &TypeScope,
-) -> Result<Ty, TypeRefusal>
+pub fn type_of(alloc: Global, exprs: &Exprs, id: ExprId, names: &TypeScope) -> Result<Ty, Refusal>
     ensures typed { Types (names_of names.now) (expression exprs.now id) result }
     ensures first { Judges exprs.now (names_of names.now) id result }
 {
@@ -219,7 +183,7 @@ fn judge_function<'a>(
     from: &'a Ty,
     around: &TypeScope<'a>,
     at: Spot,
-) -> Result<Ty, TypeRefusal>
+) -> Result<Ty, Refusal>
     ensures { JudgesFunction exprs.now (names_of around.now) function from.now at result }
 {
     let pattern = exprs.pattern(function);
@@ -241,7 +205,7 @@ pub fn function_type<'a>(
     from: &'a Ty,
     names: &TypeScope<'a>,
     at: Spot,
-) -> Result<Ty, TypeRefusal>
+) -> Result<Ty, Refusal>
     ensures typed { TypesFunction (names_of names.now) (function_at exprs.now function) from.now result }
     ensures first { JudgesFunction exprs.now (names_of names.now) function from.now at result }
 {

@@ -1,41 +1,35 @@
 -- Plans that show the terms of a program.
 use Rattle.std.proofs.Common.{◌≡◌, ℕ, ◌+◌, ◌<◌, ◌≤◌, List, [], ◌∷◌, map, IsTrue, refl, sym, ◌∙◌, ap, arith, ⊎_elim}
 use mathlib.Core.Path.{ap₂}
-use Rattle.std.proofs.lemmas.List.{get_or_past}
 use Rattle.std.proofs.lemmas.Bool.{cases_lt}
 use Rattle.sf_expr.specs.declared.exprs.ExprId.{ExprId}
 use Rattle.sf_expr.specs.declared.exprs.FunctionId.{FunctionId}
 use Rattle.sf_expr.specs.Expressions.{function}
 use Rattle.sf_expr.specs.Patterns.{pattern_of}
 use Rattle.sf_expr.specs.Arena.{expression, function_at, pattern_at, body_at, IsCopy}
-use Rattle.sf_expr.specs.Folded.{trees}
-use Rattle.sf_expr.proofs.Grown.{trees-length}
-use Rattle.sf_term.specs.declared.form.Bare.TheVariants.{Identity}
 use Rattle.sf_term.specs.declared.node.TermId.{TermId}
 use Rattle.sf_term.specs.declared.node.Node.{Node}
 use Rattle.sf_term.specs.declared.node.Node.TheVariants as ast
 use Rattle.sf_term.specs.declared.node.Primitive.TheVariants as primitives
-use Rattle.sf_term.specs.declared.node.Entry.{Entry}
 use Rattle.sf_term.specs.declared.program.Program.{Program}
 use Rattle.sf_term.specs.Trees.{Term, Template, primitive, joined, sided, headed, bare, with_value, arrow}
 use Rattle.sf_term.specs.Headers.{Header as TermHeader}
-use Rattle.sf_term.specs.Entries.{terms, term_at, made_over}
-use Rattle.sf_term.specs.Arena.{term_count, tree as term, expression_at, function_in, expressions_of as program_expressions, Builds as BuildsTerm, builds_bare as was_bare, builds_with_value as was_with_value, builds_arrow as was_arrow, builds_joined as was_joined, builds_sided as was_sided, builds_headed as was_headed, PartsBelow, headers_of as program_headers, template_in as term_template}
+use Rattle.sf_term.specs.Arena.{term_count, tree as term, expression_under, function_in, expressions_of as program_expressions, term_of, TermPartsBelow, headers_of as program_headers, template_in as term_template}
 use Rattle.sf_mean.specs.Networks.{network_of}
-use Rattle.sf_term.proofs.Kept.{expression_in, function_at_in}
+use Rattle.sf_term.proofs.Kept.{term_past, expression_in, function_at_in}
 use Rattle.sf_law.specs.declared.node.PlanId.{PlanId}
 use Rattle.sf_law.specs.declared.plan.Plan.{Plan}
 use Rattle.sf_law.specs.Entries.{parts_end, is_whole}
-use Rattle.sf_law.specs.Arena.{expressions_of, node_count, tree, headers_of, template_in, network_of_plan, Builds, builds_bare, builds_with_value, builds_arrow, builds_joined, builds_sided, builds_headed, Keeps, AddsNode}
+use Rattle.sf_law.specs.Arena.{plan_expressions, node_count, plan_tree, plan_headers, plan_template, network_of_plan, BuildsPlan, builds_bare, builds_with_value, builds_arrow, builds_joined, builds_sided, builds_headed, KeepsPlan, AddsNode}
 use Rattle.sf_law.specs.Copies.{plan_id, plan_node, plan_header, ShowsTerms}
 use Rattle.sf_law.proofs.Kept.{tree_past}
 
 -- a plan shows a program's terms below a number
 abbrev pub ShowsBelow : Program → Plan → ℕ → Type 0
-ShowsBelow p q i = (t : TermId) → t.0 < i → tree q (plan_id t) ≡ term p t
+ShowsBelow p q i = (t : TermId) → t.0 < i → plan_tree q (plan_id t) ≡ term p t
 
 -- a node's parts are below a number where the program's are
-pub parts_fit : (n : Node) (i : ℕ) → PartsBelow n i → parts_end (plan_node n) ≤ i
+pub parts_fit : (n : Node) (i : ℕ) → TermPartsBelow n i → parts_end (plan_node n) ≤ i
 parts_fit (ast.Primitive q) i h = omega arith
 parts_fit (ast.Joined j a b) i h = omega (arith, h.0, h.1)
 parts_fit (ast.Sided d a) i h = omega arith
@@ -48,55 +42,50 @@ no_pipeline (ast.Joined j a b) = refl
 no_pipeline (ast.Sided d a) = refl
 no_pipeline (ast.Headed k e a) = refl
 
-module _ (p : Program) (q : Plan) (copy : IsCopy (program_expressions p) (expressions_of q)) where
-  value_same : (e : ExprId) → expression (expressions_of q) e ≡ expression_at p e
+module _ (p : Program) (q : Plan) (copy : IsCopy (program_expressions p) (plan_expressions q)) where
+  value_same : (e : ExprId) → expression (plan_expressions q) e ≡ expression_under p e
   value_same e = copy.trees e ∙ expression_in p e
 
-  function_same : (f : FunctionId) → function_at (expressions_of q) f ≡ function_in p f
+  function_same : (f : FunctionId) → function_at (plan_expressions q) f ≡ function_in p f
   function_same f =
       let x = program_expressions p in
-      ap₂ (λ r b. function (pattern_of r) (expression (expressions_of q) b)) (copy.patterns f) (copy.bodies f)
+      ap₂ (λ r b. function (pattern_of r) (expression (plan_expressions q) b)) (copy.patterns f) (copy.bodies f)
       ∙ ap (λ v. function (pattern_of (pattern_at x f)) v) (copy.trees (body_at x f)) ∙ function_at_in p f
 
   -- the same node stands for the same term
-  same_term : (n : Node) (t u : Term) (i : ℕ) → PartsBelow n i → ShowsBelow p q i → BuildsTerm p n t → Builds q (plan_node n) u → u ≡ t
-  same_term (ast.Primitive (primitives.Bare k)) t u i below shows was_bare builds_bare = refl
-  same_term (ast.Primitive (primitives.WithValue k e)) t u i below shows was_with_value builds_with_value = ap (λ v. primitive (with_value k v)) (value_same e)
-  same_term (ast.Primitive (primitives.Arrow f)) t u i below shows was_arrow builds_arrow = ap (λ v. primitive (arrow v)) (function_same f)
-  same_term (ast.Joined j a b) t u i below shows was_joined builds_joined = ap₂ (λ f g. joined j f g) (shows a below.0) (shows b below.1)
-  same_term (ast.Sided d a) t u i below shows was_sided builds_sided = ap (λ f. sided d f) (shows a below)
-  same_term (ast.Headed k e a) t u i below shows was_headed builds_headed = ap₂ (λ v f. headed k v f) (value_same e) (shows a below)
+  same_term : (n : Node) (u : Term) (i : ℕ) → TermPartsBelow n i → ShowsBelow p q i → BuildsPlan q (plan_node n) u → u ≡ term_of p n
+  same_term (ast.Primitive (primitives.Bare k)) u i below shows builds_bare = refl
+  same_term (ast.Primitive (primitives.WithValue k e)) u i below shows builds_with_value = ap (λ v. primitive (with_value k v)) (value_same e)
+  same_term (ast.Primitive (primitives.Arrow f)) u i below shows builds_arrow = ap (λ v. primitive (arrow v)) (function_same f)
+  same_term (ast.Joined j a b) u i below shows builds_joined = ap₂ (λ f g. joined j f g) (shows a below.0) (shows b below.1)
+  same_term (ast.Sided d a) u i below shows builds_sided = ap (λ f. sided d f) (shows a below)
+  same_term (ast.Headed k e a) u i below shows builds_headed = ap₂ (λ v f. headed k v f) (value_same e) (shows a below)
 
 -- one more term is shown
-pub shows_next : (p : Program) (old new : Plan) (n : Node) (t : TermId) (a : PlanId) (i : ℕ) → IsCopy (program_expressions p) (expressions_of old) → node_count old ≡ i → t.0 ≡ i → ShowsBelow p old i
-    → BuildsTerm p n (term p t) → PartsBelow n i → AddsNode old new a (plan_node n) → Keeps old new → ShowsBelow p new (i + 1)
+pub shows_next : (p : Program) (old new : Plan) (n : Node) (t : TermId) (a : PlanId) (i : ℕ) → IsCopy (program_expressions p) (plan_expressions old) → node_count old ≡ i → t.0 ≡ i → ShowsBelow p old i
+    → term p t ≡ term_of p n → TermPartsBelow n i → AddsNode old new a (plan_node n) → KeepsPlan old new → ShowsBelow p new (i + 1)
 shows_next p old new n t a i copy count at shows was below added kept u h = ⊎_elim before here (cases_lt u.0 i)
   where
-    before : u.0 < i → tree new (plan_id u) ≡ term p u
+    before : u.0 < i → plan_tree new (plan_id u) ≡ term p u
     before b = kept.trees (plan_id u) (omega (arith, count)) ∙ shows u b
 
-    here : i ≤ u.0 → tree new (plan_id u) ≡ term p u
+    here : i ≤ u.0 → plan_tree new (plan_id u) ≡ term p u
     here b =
         let same : u.0 ≡ i = omega arith in
         let id : plan_id u ≡ a = ap (λ k. record { 0 = k }) (same ∙ sym count ∙ sym added.next) in
         let term_id : t ≡ u = ap (λ k. record { 0 = k }) (at ∙ sym same) in
-        ap (λ a. tree new a) id ∙ same_term p old copy n (term p t) (tree new a) i below shows was added.builds ∙ ap (λ t. term p t) term_id
-
--- the term at an id that the program doesn't hold
-program_past : (p : Program) (t : TermId) → term_count p ≤ t.0 → term p t ≡ primitive (bare Identity)
-unfolding term_count term term_at terms
-program_past p t h = get_or_past (trees (λ ts (entry : Entry). made_over p.expressions ts entry.node) p.terms.items) t.0 (primitive (bare Identity)) (omega (arith, trees-length (λ ts (entry : Entry). made_over p.expressions ts entry.node) p.terms.items))
+        ap (λ a. plan_tree new a) id ∙ same_term p old copy n (plan_tree new a) i below shows added.builds ∙ sym was ∙ ap (λ t. term p t) term_id
 
 -- all terms are shown
 pub shows_all : (p : Program) (q : Plan) (i : ℕ) → term_count p ≤ i → node_count q ≡ i → ShowsBelow p q i → ShowsTerms p q
-shows_all p q i all count shows t = ⊎_elim (λ h. shows t h) (λ h. tree_past q (plan_id t) (omega (arith, count)) ∙ sym (program_past p t (omega (arith, all)))) (cases_lt t.0 i)
+shows_all p q i all count shows t = ⊎_elim (λ h. shows t h) (λ h. tree_past q (plan_id t) (omega (arith, count)) ∙ sym (term_past p t (omega (arith, all)))) (cases_lt t.0 i)
 
 -- the templates are the same where the terms are
-same_templates : (p : Program) (q : Plan) (hs : List TermHeader) → ShowsTerms p q → map (template_in q) (map plan_header hs) ≡ map (term_template p) hs
+same_templates : (p : Program) (q : Plan) (hs : List TermHeader) → ShowsTerms p q → map (plan_template q) (map plan_header hs) ≡ map (term_template p) hs
 same_templates p q [] shows = refl
 same_templates p q (h ∷ hs) shows =
     ap₂ (λ (b : Term) (us : List Template). record { name = h.name; input = h.input; output = h.output; body = b } ∷ us) (shows h.body) (same_templates p q hs shows)
 
 -- a plan that shows the terms and has the templates has the network
-pub same_network : (p : Program) (q : Plan) → ShowsTerms p q → headers_of q ≡ map plan_header (program_headers p) → network_of_plan q ≡ network_of p
-same_network p q shows headers = ap (λ ts. record { templates = ts }) (ap (λ hs. map (template_in q) hs) headers ∙ same_templates p q (program_headers p) shows)
+pub same_network : (p : Program) (q : Plan) → ShowsTerms p q → plan_headers q ≡ map plan_header (program_headers p) → network_of_plan q ≡ network_of p
+same_network p q shows headers = ap (λ ts. record { templates = ts }) (ap (λ hs. map (plan_template q) hs) headers ∙ same_templates p q (program_headers p) shows)

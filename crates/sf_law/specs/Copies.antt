@@ -10,8 +10,8 @@ use Rattle.sf_law.specs.declared.node.PlanId.{PlanId}
 use Rattle.sf_law.specs.declared.node.PlanNode.{PlanNode}
 use Rattle.sf_law.specs.declared.node.PlanNode.TheVariants as plans
 use Rattle.sf_law.specs.declared.plan.Plan.{Plan}
-use Rattle.sf_law.specs.Headers.{Header}
-use Rattle.sf_law.specs.Arena.{tree}
+use Rattle.sf_law.specs.Headers.{PlanHeader}
+use Rattle.sf_law.specs.Arena.{plan_tree}
 
 -- the id of the same number
 abbrev pub plan_id : TermId → PlanId
@@ -25,9 +25,9 @@ plan_node (terms.Sided d a) = plans.Sided d (plan_id a)
 plan_node (terms.Headed h e a) = plans.Headed h e (plan_id a)
 
 -- a template with the id of the same number
-abbrev pub plan_header : TermHeader → Header
+abbrev pub plan_header : TermHeader → PlanHeader
 plan_header h = record { name = h.name; input = h.input; output = h.output; body = plan_id h.body }
 
 -- a plan shows a program's terms under the ids of the same numbers
 abbrev pub ShowsTerms : Program → Plan → Type 0
-ShowsTerms p q = (t : TermId) → tree q (plan_id t) ≡ term p t
+ShowsTerms p q = (t : TermId) → plan_tree q (plan_id t) ≡ term p t

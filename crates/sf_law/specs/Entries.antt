@@ -2,9 +2,10 @@
 use Rattle.std.specs.Prelude.{ℕ, suc, ◌≤◌, max, Bool, true, nat_le, IsTrue, List, [], ◌∷◌, length, map, slice_index_or}
 use Rattle.sf_expr.specs.declared.exprs.Exprs.{Exprs}
 use Rattle.sf_expr.specs.Arena.{expression, function_at}
-use Rattle.sf_expr.specs.Folded.{trees}
+use Rattle.sf_arena.specs.Folded.{trees, tree_at}
 use Rattle.sf_term.specs.declared.form.Bare.TheVariants.{Identity}
 use Rattle.sf_term.specs.declared.node.Primitive.TheVariants as primitives
+use Rattle.sf_term.specs.Entries.{identity_term, term_among}
 use Rattle.sf_term.specs.Trees.{Extent, whole, rest, Term, primitive, joined, sided, headed, staged, bare, with_value, arrow}
 use Rattle.sf_law.specs.declared.node.PlanId.{PlanId}
 use Rattle.sf_law.specs.declared.node.PlanNode.{PlanNode}
@@ -17,22 +18,18 @@ stages x f (g ∷ gs) = staged x f (stages rest g gs)
 
 -- a pipeline of stages; the identity where there are none
 abbrev pub pipeline : List Term → Term
-pipeline [] = primitive (bare Identity)
+pipeline [] = identity_term
 pipeline (f ∷ fs) = stages whole f fs
 
--- the term at a place; the identity past the end
-abbrev pub among : List Term → ℕ → Term
-among ts i = slice_index_or ts i (primitive (bare Identity))
-
 -- the term of a node, over the terms before it
-abbrev pub made_over : Exprs → List Term → PlanNode → Term
-made_over x ts (nodes.Primitive (primitives.Bare k)) = primitive (bare k)
-made_over x ts (nodes.Primitive (primitives.WithValue k e)) = primitive (with_value k (expression x e))
-made_over x ts (nodes.Primitive (primitives.Arrow f)) = primitive (arrow (function_at x f))
-made_over x ts (nodes.Joined j a b) = joined j (among ts a.0) (among ts b.0)
-made_over x ts (nodes.Sided d a) = sided d (among ts a.0)
-made_over x ts (nodes.Headed h e a) = headed h (expression x e) (among ts a.0)
-made_over x ts (nodes.Pipeline v) = pipeline (map (λ (a : PlanId). among ts a.0) v.items)
+abbrev pub plan_over : Exprs → List Term → PlanNode → Term
+plan_over x ts (nodes.Primitive (primitives.Bare k)) = primitive (bare k)
+plan_over x ts (nodes.Primitive (primitives.WithValue k e)) = primitive (with_value k (expression x e))
+plan_over x ts (nodes.Primitive (primitives.Arrow f)) = primitive (arrow (function_at x f))
+plan_over x ts (nodes.Joined j a b) = joined j (term_among ts a.0) (term_among ts b.0)
+plan_over x ts (nodes.Sided d a) = sided d (term_among ts a.0)
+plan_over x ts (nodes.Headed h e a) = headed h (expression x e) (term_among ts a.0)
+plan_over x ts (nodes.Pipeline v) = pipeline (map (λ (a : PlanId). term_among ts a.0) v.items)
 
 -- the least number above ids
 abbrev pub ids_end : List PlanId → ℕ
@@ -64,14 +61,14 @@ abbrev pub node_among : List PlanNode → ℕ → PlanNode
 node_among ns i = slice_index_or ns i identity_node
 
 -- the terms of nodes
-unfoldable pub terms : Exprs → List PlanNode → List Term
-terms x ns = trees (made_over x) ns
+abbrev pub plan_terms : Exprs → List PlanNode → List Term
+plan_terms x ns = trees (plan_over x) ns
 
 -- the term at a place; the identity past the end
-unfoldable pub term_at : Exprs → List PlanNode → ℕ → Term
-term_at x ns i = among (terms x ns) i
+abbrev pub plan_term : Exprs → List PlanNode → ℕ → Term
+plan_term x ns i = tree_at (plan_over x) identity_term ns i
 
--- What holds of the nodes of an arena.
-pub record IsArena (ns : List PlanNode) : Type 0 where
+-- What holds of the nodes of a plan.
+pub record ArePlanNodes (ns : List PlanNode) : Type 0 where
   pub in_order : (i : ℕ) → parts_end (node_among ns i) ≤ i
   pub wholes : (i : ℕ) → IsTrue (is_whole (node_among ns i))

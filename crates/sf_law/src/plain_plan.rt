@@ -3,7 +3,7 @@ ghost use Rattle.std.specs.Prelude.{◌≡◌, ◌<◌, [], map, IfOk, OnOk};
 ghost use Rattle.sf_expr.specs.Arena.{IsCopy};
 ghost use Rattle.sf_term.specs.Arena.{expressions_of as program_expressions, headers_of as program_headers};
 ghost use Rattle.sf_law.specs.declared.node.PlanId.{PlanId as PlanIdOf};
-ghost use Rattle.sf_law.specs.Arena.{expressions_of, node_count, tree, headers_of};
+ghost use Rattle.sf_law.specs.Arena.{plan_expressions, node_count, plan_tree, plan_headers};
 ghost use Rattle.sf_law.specs.Copies.{plan_id as id_of, plan_node as node_of, plan_header, ShowsTerms};
 ghost use Rattle.sf_law.specs.Plans.{IsPlainPlan};
 
@@ -27,9 +27,9 @@ pub fn plain(alloc: Global, checked: &Checked) -> Result<Plan, AllocError>
 // The terms of a program, under ids of the same numbers.
 fn copy_terms(plan: &mut Plan, program: &Program) -> Result<(), AllocError>
     requires empty { node_count plan.old ≡ 0 }
-    requires same { IsCopy (program_expressions program.now) (expressions_of plan.old) }
+    requires same { IsCopy (program_expressions program.now) (plan_expressions plan.old) }
     ensures terms { OnOk result (ShowsTerms program.now plan.new) }
-    ensures templates { headers_of plan.new ≡ headers_of plan.old }
+    ensures templates { plan_headers plan.new ≡ plan_headers plan.old }
 {
     for number in 0..program.len() {
         plan.add(plan_node(program.node(program.term(number))))?;
@@ -39,9 +39,9 @@ fn copy_terms(plan: &mut Plan, program: &Program) -> Result<(), AllocError>
 
 // The templates of a program, behind those of the plan.
 fn copy_templates(alloc: Global, plan: &mut Plan, program: &Program) -> Result<(), AllocError>
-    requires { headers_of plan.old ≡ [] }
-    ensures templates { OnOk result (headers_of plan.new ≡ map plan_header (program_headers program.now)) }
-    ensures trees { (a : PlanIdOf) → tree plan.new a ≡ tree plan.old a }
+    requires { plan_headers plan.old ≡ [] }
+    ensures templates { OnOk result (plan_headers plan.new ≡ map plan_header (program_headers program.now)) }
+    ensures trees { (a : PlanIdOf) → plan_tree plan.new a ≡ plan_tree plan.old a }
 {
     for template in program.templates() {
         let name = String::from_str(alloc, template.name())?;

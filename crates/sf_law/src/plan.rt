@@ -3,8 +3,8 @@ ghost use Rattle.std.specs.Prelude.{◌≡◌, [], ◌∷◌, ◌++◌, ◌≤�
 ghost use Rattle.sf_term.specs.declared.form.Bare.TheVariants.{Identity as identity_form};
 ghost use Rattle.sf_term.specs.declared.node.Primitive.TheVariants.{Bare as bare_node};
 ghost use Rattle.sf_law.specs.declared.node.PlanNode.TheVariants.{Primitive as primitive_node};
-ghost use Rattle.sf_law.specs.Headers.{Header};
-ghost use Rattle.sf_law.specs.Entries.{IsArena, is_whole, parts_end};
+ghost use Rattle.sf_law.specs.Headers.{PlanHeader};
+ghost use Rattle.sf_law.specs.Entries.{ArePlanNodes, is_whole, parts_end};
 
 use crate::node::{PlanId, PlanNode};
 use crate::template::PlanTemplate;
@@ -21,20 +21,20 @@ pub struct Plan {
     templates: Vec<PlanTemplate>,
     main: PlanId,
     identity: PlanNode,
-    ghost arena: { IsArena nodes.items },
+    ghost arena: { ArePlanNodes nodes.items },
     ghost same: { identity ≡ primitive_node (bare_node identity_form) },
 }
 
 impl Plan {
     ghost use Rattle.sf_law.specs.declared.node.PlanId.{PlanId as PlanIdOf};
-    ghost use Rattle.sf_law.specs.Arena.{expressions_of, node_count, node_at, tree, headers_of, main_of};
-    ghost use Rattle.sf_law.specs.Arena.{id_number, Builds, Keeps, AddsNode};
+    ghost use Rattle.sf_law.specs.Arena.{plan_expressions, node_count, plan_node_at, plan_tree, plan_headers, plan_main};
+    ghost use Rattle.sf_law.specs.Arena.{plan_number, BuildsPlan, KeepsPlan, AddsNode};
 
     /// A plan over these expressions, with no term and no template yet.
     pub(crate) fn new(alloc: Global, expressions: Exprs) -> Plan
-        ensures expressions { expressions_of result ≡ expressions }
+        ensures expressions { plan_expressions result ≡ expressions }
         ensures nodes { node_count result ≡ 0 }
-        ensures templates { headers_of result ≡ [] }
+        ensures templates { plan_headers result ≡ [] }
     {
         Plan {
             expressions,
@@ -51,9 +51,9 @@ impl Plan {
         requires whole { IsTrue (is_whole node) }
         ensures ok { IfOk result (λ id. AddsNode self.old self.new id node) }
         ensures err { OnErr result (node_count self.new ≡ node_count self.old) }
-        ensures kept { Keeps self.old self.new }
-        ensures templates { headers_of self.new ≡ headers_of self.old }
-        ensures main { main_of self.new ≡ main_of self.old }
+        ensures kept { KeepsPlan self.old self.new }
+        ensures templates { plan_headers self.new ≡ plan_headers self.old }
+        ensures main { plan_main self.new ≡ plan_main self.old }
     {
         let id = PlanId(self.nodes.len());
         self.nodes.push(node)?;
@@ -61,7 +61,7 @@ impl Plan {
     }
 
     /// Puts a template behind the others. A refused call changes nothing.
-    #[tactic(auto, unfolding(crate::specs::Arena::tree))]
+    #[tactic(auto, unfolding(crate::specs::Arena::plan_tree))]
     pub(crate) fn template(
         &mut self,
         name: String,
@@ -69,11 +69,11 @@ impl Plan {
         output: Ty,
         body: PlanId,
     ) -> Result<(), AllocError>
-        ensures ok { let header : Header = record { name = string_bytes name; input = input; output = output; body = body } in
-            OnOk result (headers_of self.new ≡ headers_of self.old ++ header ∷ []) }
-        ensures err { OnErr result (headers_of self.new ≡ headers_of self.old) }
-        ensures trees { (a : PlanIdOf) → tree self.new a ≡ tree self.old a }
-        ensures main { main_of self.new ≡ main_of self.old }
+        ensures ok { let header : PlanHeader = record { name = string_bytes name; input = input; output = output; body = body } in
+            OnOk result (plan_headers self.new ≡ plan_headers self.old ++ header ∷ []) }
+        ensures err { OnErr result (plan_headers self.new ≡ plan_headers self.old) }
+        ensures trees { (a : PlanIdOf) → plan_tree self.new a ≡ plan_tree self.old a }
+        ensures main { plan_main self.new ≡ plan_main self.old }
     {
         self.templates
             .push(PlanTemplate::new(name, input, output, body))?;
@@ -81,11 +81,11 @@ impl Plan {
     }
 
     /// The plan with another term that is run.
-    #[tactic(auto, unfolding(crate::specs::Arena::tree))]
+    #[tactic(auto, unfolding(crate::specs::Arena::plan_tree))]
     pub(crate) fn with_main(self, main: PlanId) -> Plan
-        ensures main { main_of result ≡ main }
-        ensures trees { (a : PlanIdOf) → tree result a ≡ tree self a }
-        ensures templates { headers_of result ≡ headers_of self }
+        ensures main { plan_main result ≡ main }
+        ensures trees { (a : PlanIdOf) → plan_tree result a ≡ plan_tree self a }
+        ensures templates { plan_headers result ≡ plan_headers self }
     {
         let mut plan = self;
         plan.main = main;
@@ -93,11 +93,11 @@ impl Plan {
     }
 
     /// The node at an id, with the ids of its parts; the identity at an id that the plan does not hold.
-    #[tactic(auto, using(crate::proofs::Kept::builds, crate::proofs::Kept::parts_below, crate::proofs::Kept::parts_held), unfolding(crate::specs::Arena::node_at))]
+    #[tactic(auto, using(crate::proofs::Kept::builds, crate::proofs::Kept::parts_below, crate::proofs::Kept::parts_held), unfolding(crate::specs::Arena::plan_node_at))]
     pub fn node(&self, id: PlanId) -> &PlanNode
-        ensures value { result.now ≡ node_at self.now id }
-        ensures builds { Builds self.now result.now (tree self.now id) }
-        ensures below { parts_end result.now ≤ id_number id }
+        ensures value { result.now ≡ plan_node_at self.now id }
+        ensures builds { BuildsPlan self.now result.now (plan_tree self.now id) }
+        ensures below { parts_end result.now ≤ plan_number id }
         ensures held { parts_end result.now ≤ node_count self.now }
     {
         match self.nodes.get(id.0) {
@@ -108,14 +108,14 @@ impl Plan {
 
     /// The expressions.
     pub fn expressions(&self) -> &Exprs
-        ensures { result.now ≡ expressions_of self.now }
+        ensures { result.now ≡ plan_expressions self.now }
     {
         &self.expressions
     }
 
     /// The term that is run.
     pub fn main(&self) -> PlanId
-        ensures { result ≡ main_of self.now }
+        ensures { result ≡ plan_main self.now }
     {
         self.main
     }

@@ -16,11 +16,11 @@ pub(crate) struct PlanTemplate {
 
 impl Model for PlanTemplate {
     ghost use Rattle.std.specs.Prelude.{string_bytes};
-    ghost use Rattle.sf_law.specs.Headers.{Header};
+    ghost use Rattle.sf_law.specs.Headers.{PlanHeader};
     ghost use Rattle.std.specs.Coded.{codes};
     ghost use Rattle.sf_value.specs.contracts.ty.Ty as ty;
 
-    ghost Value = { Header };
+    ghost Value = { PlanHeader };
 
     ghost coded = { Prim.hlevel (codes, ty.the_row.coded) };
 

@@ -1,13 +1,13 @@
 ghost use Rattle.std.specs.Prelude.{◌≡◌, ◌<◌, IfOk};
 ghost use Rattle.sf_term.specs.Trees.{whole, rest, staged};
-ghost use Rattle.sf_law.specs.Arena.{id_number, node_count, tree};
+ghost use Rattle.sf_law.specs.Arena.{plan_number, node_count, plan_tree};
 
 use crate::node::{PlanId, PlanNode};
 use crate::plain_plan::plain;
 use crate::plan::Plan;
 use sf_check::check;
 use sf_expr::{Exprs, Spot};
-use sf_term::{Bare, Heading, Join, Primitive, Program, Side, WithValue};
+use sf_term::{Bare, Heading, Join, Node, Primitive, Program, Side, WithValue};
 use sf_value::Ty;
 use std::alloc::{AllocError, Global};
 use std::test::Fail;
@@ -16,14 +16,17 @@ use std::test::Fail;
 fn a_plain_plan_is_the_network(rt: HostRuntime) -> Result<(), Fail> {
     let alloc = rt.alloc();
     let mut program = Program::new(alloc);
-    let same = program.bare(Bare::Identity, Spot::NONE)?;
+    let same = program.add(Node::Primitive(Primitive::Bare(Bare::Identity)), Spot::NONE)?;
     let name = String::from_str(alloc, "go")?;
     program.template(name, Spot::NONE, Ty::int(), Ty::int(), same)?;
     let five = program.int(5, Spot::NONE)?;
-    let before = program.with_value(WithValue::InitialPre, five, Spot::NONE)?;
-    let first = program.sided(Side::First, before, Spot::NONE)?;
-    let both = program.joined(Join::InSequence, first, first, Spot::NONE)?;
-    let main = program.headed(Heading::LoopPre, five, both, Spot::NONE)?;
+    let before = program.add(
+        Node::Primitive(Primitive::WithValue(WithValue::InitialPre, five)),
+        Spot::NONE,
+    )?;
+    let first = program.add(Node::Sided(Side::First, before), Spot::NONE)?;
+    let both = program.add(Node::Joined(Join::InSequence, first, first), Spot::NONE)?;
+    let main = program.add(Node::Headed(Heading::LoopPre, five, both), Spot::NONE)?;
     let name = String::from_str(alloc, "main")?;
     program.template(name, Spot::NONE, Ty::int(), Ty::int(), main)?;
     let Ok(checked) = check(alloc, program) else {
@@ -60,11 +63,11 @@ fn pipeline(
     second: PlanId,
     third: PlanId,
 ) -> Result<PlanId, AllocError>
-    requires first_held { id_number first < node_count plan.old }
-    requires second_held { id_number second < node_count plan.old }
-    requires third_held { id_number third < node_count plan.old }
-    ensures { let stages = staged whole (tree plan.old first) (staged rest (tree plan.old second) (tree plan.old third)) in
-        IfOk result (λ id. tree plan.new id ≡ stages) }
+    requires first_held { plan_number first < node_count plan.old }
+    requires second_held { plan_number second < node_count plan.old }
+    requires third_held { plan_number third < node_count plan.old }
+    ensures { let stages = staged whole (plan_tree plan.old first) (staged rest (plan_tree plan.old second) (plan_tree plan.old third)) in
+        IfOk result (λ id. plan_tree plan.new id ≡ stages) }
 {
     let stages = vec![in alloc; first, second, third]?;
     plan.add(PlanNode::Pipeline(stages))

@@ -8,11 +8,11 @@ use Rattle.std.proofs.lemmas.List.{take_all, take_more, get_or-drop, get_or-take
 use Rattle.std.proofs.lemmas.Str.{utf8_valid_len-IsValidUpTo, IsUtf8-append}
 use Rattle.sf_lex.proofs.Readable.{single_utf8}
 use Rattle.sf_lex.specs.Words.{is_digit}
-use Rattle.sf_lex.specs.declared.lexer.Fault.{Fault}
-use Rattle.sf_lex.specs.declared.lexer.Fault.TheVariants.{BadByte}
+use Rattle.sf_refusal.specs.declared.rule.Rule.{Rule}
+use Rattle.sf_refusal.specs.declared.rule.Rule.TheVariants.{BadByte}
 use Rattle.sf_lex.specs.Tokens.{number, Located, place_at}
-use Rattle.sf_lex.specs.Cutting.{Piece, gap, token, fits, IsLongest, located, Cuts, here, more, byte_limit, Lexes, IsWrong, large, open_text, escape, nothing, SpellsNumber, unsigned, negative, IsDigits, Breaks, no_text, wrong, BreaksFirst, IsValidLen, IsCutTo}
-use Rattle.sf_lex.specs.Scanning.{Next, piece, fail, next, narrow, within}
+use Rattle.sf_lex.specs.Cutting.{Piece, gap, token, fits, IsLongest, located, IsCutInto, here, more, byte_limit, Lexes, IsWrong, large, open_text, escape, nothing, SpellsNumber, unsigned, negative, IsDigits, HasFaultAt, no_text, wrong, IsFirstFault, IsValidLen, IsCutTo}
+use Rattle.sf_lex.specs.Scanning.{NextPiece, piece, fail, next, in_range, within}
 use Rattle.sf_lex.proofs.Pieces.{next_from_longest, piece_some}
 use Rattle.sf_lex.proofs.Faults.{wrong_found, scan_wrong, wrong_within, scan_longest, longest_scan}
 
@@ -23,28 +23,28 @@ Stuck bytes = (p : Piece) (n : ℕ) → IsLongest bytes p n → fits p ≡ true 
 pub stuck_nil : Stuck []
 stuck_nil p n l f = let some = piece_some p (take n []) l.is in omega (arith, length-take {A = ℕ} n [])
 
-stuck_fail : (bytes : List ℕ) (f : Fault) (k : ℕ) → narrow (next bytes) ≡ fail f k → Stuck bytes
+stuck_fail : (bytes : List ℕ) (f : Rule) (k : ℕ) → in_range (next bytes) ≡ fail f k → Stuck bytes
 stuck_fail bytes f k e p n l t = let s = longest_scan bytes p n l t in cc
 
-stuck_wrong : (bytes : List ℕ) (k : ℕ) (f : Fault) → IsWrong bytes k f → Stuck bytes
+stuck_wrong : (bytes : List ℕ) (k : ℕ) (f : Rule) → IsWrong bytes k f → Stuck bytes
 stuck_wrong bytes k f w = let found = wrong_found bytes k f w in stuck_fail bytes f found.at found.is
 
 located_append : (at : ℕ) (p : Piece) (f g : List Located) → located at p (f ++ g) ≡ located at p f ++ g
 located_append at gap f g = refl
 located_append at (token t) f g = refl
 
-pub cuts_join : (a b c : ℕ) (x y z : List ℕ) (f g : List Located) → Cuts a x f b y → Cuts b y g c z → Cuts a x (f ++ g) c z
+pub cuts_join : (a b c : ℕ) (x y z : List ℕ) (f g : List Located) → IsCutInto a x f b y → IsCutInto b y g c z → IsCutInto a x (f ++ g) c z
 cuts_join a b c x y z f g here d = d
 cuts_join a b c x y z f g (more {n = n} {p = p} {found = h} l t k) d =
-    subst (λ (v : List Located). Cuts a x v c z) (located_append a p h g) (more l t (cuts_join (a + n) b c (drop n x) y z h g k d))
+    subst (λ (v : List Located). IsCutInto a x v c z) (located_append a p h g) (more l t (cuts_join (a + n) b c (drop n x) y z h g k d))
 
 -- from where the first cut ends the second goes on
 pub record GoesOn (f all : List Located) (b c : ℕ) (y z : List ℕ) : Type 0 where
   pub found : List Located
-  pub cut : Cuts b y found c z
+  pub cut : IsCutInto b y found c z
   pub is : all ≡ f ++ found
 
-pub further : (a b c : ℕ) (x y z : List ℕ) (f g : List Located) → Cuts a x f b y → Cuts a x g c z → Stuck z → GoesOn f g b c y z
+pub further : (a b c : ℕ) (x y z : List ℕ) (f g : List Located) → IsCutInto a x f b y → IsCutInto a x g c z → Stuck z → GoesOn f g b c y z
 further a b c x y z f g here d s = record { found = g; cut = d; is = refl }
 further a b c x y z f g (more {n = n} {p = p} l t k) here s = absurd (s p n l t)
 further a b c x y z f g (more {n = n} {p = p} {found = f'} l t k) (more {n = m} {p = q} {found = g'} l' t' k') s =
@@ -52,25 +52,25 @@ further a b c x y z f g (more {n = n} {p = p} {found = f'} l t k) (more {n = m} 
     let e' = next_from_longest x q m l' in
     let same : q ≡ p = cc in
     let long : m ≡ n = cc in
-    let k'' : Cuts (a + n) (drop n x) g' c z = subst (λ (v : ℕ). Cuts (a + v) (drop v x) g' c z) long k' in
+    let k'' : IsCutInto (a + n) (drop n x) g' c z = subst (λ (v : ℕ). IsCutInto (a + v) (drop v x) g' c z) long k' in
     let i = further (a + n) b c (drop n x) y z f' g' k k'' s in
     record { found = i.found; cut = i.cut; is = ap (λ v. located a v g') same ∙ ap (located a p) i.is ∙ located_append a p f' i.found }
 
-cuts_up : (a b : ℕ) (x y : List ℕ) (f : List Located) → Cuts a x f b y → a ≤ b
+cuts_up : (a b : ℕ) (x y : List ℕ) (f : List Located) → IsCutInto a x f b y → a ≤ b
 cuts_up a b x y f here = omega arith
 cuts_up a b x y f (more {n = n} {found = g} l t k) = omega (arith, cuts_up (a + n) b (drop n x) y g k)
 
-pub cuts_nil : (a b : ℕ) (y : List ℕ) (f : List Located) → Cuts a [] f b y → f ≡ []
+pub cuts_nil : (a b : ℕ) (y : List ℕ) (f : List Located) → IsCutInto a [] f b y → f ≡ []
 cuts_nil a b y f here = refl
 cuts_nil a b y f (more {n = n} {p = p} l t k) = absurd (stuck_nil p n l t)
 
 -- how far the scan looked before it knew
-abbrev extent : Next → ℕ
+abbrev extent : NextPiece → ℕ
 extent (piece p n) = n
 extent (fail f k) = k
 
 -- no fault comes before that
-ahead : (a b k : ℕ) (x y : List ℕ) (found : List Located) (f : Fault) → Cuts a x found b y → IsWrong y k f → a + extent (narrow (next x)) ≤ b + k
+ahead : (a b k : ℕ) (x y : List ℕ) (found : List Located) (f : Rule) → IsCutInto a x found b y → IsWrong y k f → a + extent (in_range (next x)) ≤ b + k
 ahead a b k x y found f here w = let g = wrong_found x k f w in let e = ap extent g.is in omega (arith, g.early)
 ahead a b k x y found f (more {n = n} {p = p} {found = rest} l t c) w =
     let e = ap extent (longest_scan x p n l t) in omega (arith, cuts_up (a + n) b (drop n x) y rest c)
@@ -87,19 +87,19 @@ valid_short bytes n (inl u) l = absurd (omega (arith, u.1))
 valid_short bytes n (inr u) l = u
 
 -- a fault is no earlier than the scan looked, and no earlier than the bytes stay UTF-8
-least_break : (bytes : List ℕ) (at valid m other : ℕ) (f : Fault) → IsCutTo bytes at → IsValidLen bytes valid → m ≤ at + extent (narrow (next (drop at bytes))) → m ≤ valid → Breaks bytes other f → m ≤ other
+least_break : (bytes : List ℕ) (at valid m other : ℕ) (f : Rule) → IsCutTo bytes at → IsValidLen bytes valid → m ≤ at + extent (in_range (next (drop at bytes))) → m ≤ valid → HasFaultAt bytes other f → m ≤ other
 least_break bytes at valid m other f c v near low (no_text u) = omega (arith, valid_same bytes valid other v u)
 least_break bytes at valid m other f c v near low (wrong {rest = rest} {at = b} {k = k} {found = found} d w) =
     let g = further 0 at b bytes (drop at bytes) rest c.found found c.cut d (stuck_wrong rest k f w) in
     omega (arith, ahead at b k (drop at bytes) rest g.found f g.cut w)
 
 -- a scan that fails ends the cut
-no_lexes : (bytes : List ℕ) (at k : ℕ) (f : Fault) (found : List Located) → IsCutTo bytes at → at < length bytes → narrow (next (drop at bytes)) ≡ fail f k → Lexes bytes found → ⊥
+no_lexes : (bytes : List ℕ) (at k : ℕ) (f : Rule) (found : List Located) → IsCutTo bytes at → at < length bytes → in_range (next (drop at bytes)) ≡ fail f k → Lexes bytes found → ⊥
 no_lexes bytes at k f found c l e x =
     let g = further 0 at x.end bytes (drop at bytes) [] c.found found c.cut x.cut stuck_nil in
     ended at x.end (drop at bytes) g.found g.cut (stuck_fail (drop at bytes) f k e) (omega (arith, length-drop at bytes))
   where
-    ended : (a b : ℕ) (y : List ℕ) (g : List Located) → Cuts a y g b [] → Stuck y → 0 < length y → ⊥
+    ended : (a b : ℕ) (y : List ℕ) (g : List Located) → IsCutInto a y g b [] → Stuck y → 0 < length y → ⊥
     ended a b y g here s some = omega arith
     ended a b y g (more {n = n} {p = p} l t k) s some = s p n l t
 
@@ -128,25 +128,25 @@ first_low bytes n z l =
     rw (← get_or-take n bytes 0 0 has) (spelling_low z (take n bytes) l.is)
 
 -- a fault other than a wrong byte is at an ASCII byte
-low_byte : (bytes : List ℕ) (k : ℕ) (f : Fault) → IsWrong bytes k f → (f ≡ BadByte) ⊎ (get_or bytes k 0 < 128)
+low_byte : (bytes : List ℕ) (k : ℕ) (f : Rule) → IsWrong bytes k f → (f ≡ BadByte) ⊎ (get_or bytes k 0 < 128)
 low_byte bytes k f (large {n = n} {z = z} l wide) = inr (first_low bytes n z l)
 low_byte bytes k f (open_text h) = inr (omega arith)
 low_byte bytes k f (escape inner before behind rest c body is front none) = inl refl
 low_byte bytes k f (nothing n none) = inl refl
 
-cuts_rest : (a b : ℕ) (x y : List ℕ) (f : List Located) → Cuts a x f b y → y ≡ drop (b - a) x
+cuts_rest : (a b : ℕ) (x y : List ℕ) (f : List Located) → IsCutInto a x f b y → y ≡ drop (b - a) x
 cuts_rest a b x y f here = let none : a - a ≡ 0 = omega arith in ap (λ n. drop n x) (sym none)
 cuts_rest a b x y f (more {n = n} {found = g} l t k) =
     let low = cuts_up (a + n) b (drop n x) y g k in
     let all : n + (b - (a + n)) ≡ b - a = omega arith in
     cuts_rest (a + n) b (drop n x) y g k ∙ drop-drop (b - (a + n)) n x ∙ ap (λ m. drop m x) all
 
-stuck_same : (a b : ℕ) (x y : List ℕ) (f : List Located) → Cuts a x f b y → Stuck x → x ≡ y
+stuck_same : (a b : ℕ) (x y : List ℕ) (f : List Located) → IsCutInto a x f b y → Stuck x → x ≡ y
 stuck_same a b x y f here s = refl
 stuck_same a b x y f (more {n = n} {p = p} l t k) s = absurd (s p n l t)
 
 -- what is no part of UTF-8 is a wrong byte in any case
-text_fault : (bytes rest : List ℕ) (at k offset : ℕ) (found : List Located) (f : Fault) → IsValidUpTo bytes offset → Cuts 0 bytes found at rest → IsWrong rest k f → offset ≡ at + k → f ≡ BadByte
+text_fault : (bytes rest : List ℕ) (at k offset : ℕ) (found : List Located) (f : Rule) → IsValidUpTo bytes offset → IsCutInto 0 bytes found at rest → IsWrong rest k f → offset ≡ at + k → f ≡ BadByte
 text_fault bytes rest at k offset found f u c w e =
     elim (low_byte rest k f w) [
       | inl is ↦ is
@@ -157,7 +157,7 @@ text_fault bytes rest at k offset found f u c w e =
     ]
 
 -- faults at one offset are one
-same_break : (bytes : List ℕ) (m n : ℕ) (f g : Fault) → m ≡ n → Breaks bytes m f → Breaks bytes n g → g ≡ f
+same_break : (bytes : List ℕ) (m n : ℕ) (f g : Rule) → m ≡ n → HasFaultAt bytes m f → HasFaultAt bytes n g → g ≡ f
 same_break bytes m n f g e (no_text u) (no_text v) = refl
 same_break bytes m n f g e (no_text u) (wrong {rest = rest} {at = at} {k = k} {found = found} c w) = text_fault bytes rest at k m found g u c w e
 same_break bytes m n f g e (wrong {rest = rest} {at = at} {k = k} {found = found} c w) (no_text u) = sym (text_fault bytes rest at k n found f u c w (sym e))
@@ -166,11 +166,11 @@ same_break bytes m n f g e (wrong {rest = x} {at = a} {k = j} {found = h} c v) (
     let same = stuck_same a b x y on.found on.cut (stuck_wrong x j f v) in
     let p = wrong_found x j f v in
     let q = wrong_found y k g w in
-    let r : fail f p.at ≡ fail g q.at = sym p.is ∙ ap (λ z. narrow (next z)) same ∙ q.is in
+    let r : fail f p.at ≡ fail g q.at = sym p.is ∙ ap (λ z. in_range (next z)) same ∙ q.is in
     cc
 
-pub breaks_wrong : (bytes : List ℕ) (at valid k : ℕ) (f : Fault) → length bytes ≤ byte_limit → IsCutTo bytes at → at < length bytes → IsValidLen bytes valid
-    → narrow (next (drop at bytes)) ≡ fail f k → at + k ≤ valid → BreaksFirst bytes f (place_at bytes (at + k))
+pub breaks_wrong : (bytes : List ℕ) (at valid k : ℕ) (f : Rule) → length bytes ≤ byte_limit → IsCutTo bytes at → at < length bytes → IsValidLen bytes valid
+    → in_range (next (drop at bytes)) ≡ fail f k → at + k ≤ valid → IsFirstFault bytes f (place_at bytes (at + k))
 breaks_wrong bytes at valid k f short c l v e near = record {
   short = short;
   offset = at + k;
@@ -182,7 +182,7 @@ breaks_wrong bytes at valid k f short c l v e near = record {
 }
 
 pub breaks_text : (bytes : List ℕ) (at valid : ℕ) → length bytes ≤ byte_limit → IsCutTo bytes at → IsValidLen bytes valid
-    → valid < length bytes → valid ≤ at + extent (narrow (next (drop at bytes))) → BreaksFirst bytes BadByte (place_at bytes valid)
+    → valid < length bytes → valid ≤ at + extent (in_range (next (drop at bytes))) → IsFirstFault bytes BadByte (place_at bytes valid)
 breaks_text bytes at valid short c v l near =
     let u = valid_short bytes valid v l in
     record {
@@ -196,25 +196,25 @@ breaks_text bytes at valid short c v l near =
     }
 
 -- the scan stays within the bytes
-extent_within : (bytes : List ℕ) → 0 < length bytes → extent (narrow (next bytes)) ≤ length bytes
+extent_within : (bytes : List ℕ) → 0 < length bytes → extent (in_range (next bytes)) ≤ length bytes
 extent_within bytes some =
-    (elim (narrow (next bytes)) as (λ x. narrow (next bytes) ≡ x → extent x ≤ length bytes) [
+    (elim (in_range (next bytes)) as (λ x. in_range (next bytes) ≡ x → extent x ≤ length bytes) [
       | piece p n ↦ λ e. (scan_longest bytes p n e).0.within
       | fail f k ↦ λ e. (let w = wrong_within bytes k f (scan_wrong bytes f k some e) in omega arith)
     ]) refl
 
 -- a fault within the bytes that are UTF-8, or the end of these
-pub breaks_first : (bytes : List ℕ) (at valid k : ℕ) (f : Fault) → length bytes ≤ byte_limit → IsCutTo bytes at → at < length bytes → at ≤ valid → IsValidLen bytes valid
-    → within (valid - at) (narrow (next (drop at bytes))) ≡ fail f k → BreaksFirst bytes f (place_at bytes (at + k))
+pub breaks_first : (bytes : List ℕ) (at valid k : ℕ) (f : Rule) → length bytes ≤ byte_limit → IsCutTo bytes at → at < length bytes → at ≤ valid → IsValidLen bytes valid
+    → within (valid - at) (in_range (next (drop at bytes))) ≡ fail f k → IsFirstFault bytes f (place_at bytes (at + k))
 breaks_first bytes at valid k f short c l low v e =
-    (elim (narrow (next (drop at bytes))) as (λ x. narrow (next (drop at bytes)) ≡ x → within (valid - at) x ≡ fail f k → BreaksFirst bytes f (place_at bytes (at + k))) [
+    (elim (in_range (next (drop at bytes))) as (λ x. in_range (next (drop at bytes)) ≡ x → within (valid - at) x ≡ fail f k → IsFirstFault bytes f (place_at bytes (at + k))) [
       | piece p n ↦ λ is h.
-          (elim (nat_le n (valid - at)) as (λ t. nat_le n (valid - at) ≡ t → cond t (piece p n) (fail BadByte (valid - at)) ≡ fail f k → BreaksFirst bytes f (place_at bytes (at + k))) [
+          (elim (nat_le n (valid - at)) as (λ t. nat_le n (valid - at) ≡ t → cond t (piece p n) (fail BadByte (valid - at)) ≡ fail f k → IsFirstFault bytes f (place_at bytes (at + k))) [
             | true ↦ λ near i. cc
             | false ↦ λ far i. beyond (ap extent is) (leb-false n (valid - at) far) i
           ]) refl h
       | fail g j ↦ λ is h.
-          (elim (nat_le j (valid - at)) as (λ t. nat_le j (valid - at) ≡ t → cond t (fail g j) (fail BadByte (valid - at)) ≡ fail f k → BreaksFirst bytes f (place_at bytes (at + k))) [
+          (elim (nat_le j (valid - at)) as (λ t. nat_le j (valid - at) ≡ t → cond t (fail g j) (fail BadByte (valid - at)) ≡ fail f k → IsFirstFault bytes f (place_at bytes (at + k))) [
             | true ↦ λ near i.
                 (let place : j ≡ k = cc in let m = leb-true j (valid - at) near in
                 breaks_wrong bytes at valid k f short c l v (is ∙ i) (omega arith))
@@ -222,11 +222,11 @@ breaks_first bytes at valid k f short c l low v e =
           ]) refl h
     ]) refl e
   where
-    beyond : {n : ℕ} → extent (narrow (next (drop at bytes))) ≡ n → valid - at < n → fail BadByte (valid - at) ≡ fail f k → BreaksFirst bytes f (place_at bytes (at + k))
+    beyond : {n : ℕ} → extent (in_range (next (drop at bytes))) ≡ n → valid - at < n → fail BadByte (valid - at) ≡ fail f k → IsFirstFault bytes f (place_at bytes (at + k))
     beyond {n} is far i =
         let inside = extent_within (drop at bytes) (omega (arith, length-drop at bytes)) in
         let b = breaks_text bytes at valid short c v (omega (arith, length-drop at bytes)) (omega arith) in
         let same : BadByte ≡ f = cc in
         let place : valid - at ≡ k = cc in
         let offset : valid ≡ at + k = omega arith in
-        subst (λ (x : Fault). BreaksFirst bytes x (place_at bytes (at + k))) same (subst (λ (x : ℕ). BreaksFirst bytes BadByte (place_at bytes x)) offset b)
+        subst (λ (x : Rule). IsFirstFault bytes x (place_at bytes (at + k))) same (subst (λ (x : ℕ). IsFirstFault bytes BadByte (place_at bytes x)) offset b)

@@ -3,28 +3,29 @@ use Rattle.std.proofs.Common.{◌≡◌, ◌≢◌, ℕ, suc, ◌+◌, ◌≤◌
 use Rattle.std.specs.List.{prefix_len}
 use Rattle.std.proofs.lemmas.List.{take_at, length-take, take-append-drop}
 use Rattle.std.proofs.lemmas.Bool.{eqb-true, eqb-false}
-use Rattle.sf_lex.specs.declared.lexer.Fault.{Fault}
-use Rattle.sf_lex.specs.declared.lexer.Fault.TheVariants.{BadByte, NumberTooLarge, OpenText}
+use Rattle.sf_refusal.specs.declared.rule.Rule.{Rule}
+use Rattle.sf_refusal.specs.declared.rule.Rule.TheVariants.{BadByte, NumberTooLarge, OpenText}
 use Rattle.sf_lex.specs.declared.piece.Start.{Start}
 use Rattle.sf_lex.specs.declared.piece.Start.TheVariants as starts
 use Rattle.sf_lex.specs.Words.{is_digit}
 use Rattle.sf_lex.specs.Tokens.{keyword, name, number, text, symbol}
-use Rattle.sf_lex.specs.Cutting.{Piece, gap, token, fits, is_narrow, IsPiece, IsLongest, IsBody, escape_of, IsWrong, large, open_text, escape, nothing}
-use Rattle.sf_lex.specs.Scanning.{piece, fail, next, next_by, start_of, text_next, closed_next, body_next, text_len, bad_escape, symbol_next, symbol_of, minus_next, begins_with_digit, narrow}
+use Rattle.sf_decimal.specs.Decimals.{is_narrow}
+use Rattle.sf_lex.specs.Cutting.{Piece, gap, token, fits, IsPiece, IsLongest, IsBody, escape_of, IsWrong, large, open_text, escape, nothing}
+use Rattle.sf_lex.specs.Scanning.{piece, fail, next, next_by, start_of, text_next, closed_next, body_next, text_len, bad_escape, symbol_next, symbol_of, minus_next, begins_with_digit, in_range}
 use Rattle.sf_lex.proofs.Pieces.{StartIs, start_is, next_at, next_stands, longest_from_next, next_from_longest, piece_some, reach, reaches}
 use Rattle.sf_lex.proofs.Texts.{text_len_closes, text_len_body, bad_escape_wrong, FoundBy, bad_escape_by}
 
 -- the fault is found, and no later than k
-pub record Found (bytes : List ℕ) (k : ℕ) (fault : Fault) : Type 0 where
+pub record Found (bytes : List ℕ) (k : ℕ) (fault : Rule) : Type 0 where
   pub at : ℕ
-  pub is : narrow (next bytes) ≡ fail fault at
+  pub is : in_range (next bytes) ≡ fail fault at
   pub early : at ≤ k
 
-pub fault_of_number : (bytes : List ℕ) (n : ℕ) (z : ℤ) → next bytes ≡ piece (token (number z)) n → is_narrow z ≡ false → narrow (next bytes) ≡ fail NumberTooLarge 0
-fault_of_number bytes n z e wide = ap narrow e ∙ ap (λ t. cond t (piece (token (number z)) n) (fail NumberTooLarge 0)) wide
+pub fault_of_number : (bytes : List ℕ) (n : ℕ) (z : ℤ) → next bytes ≡ piece (token (number z)) n → is_narrow z ≡ false → in_range (next bytes) ≡ fail NumberTooLarge 0
+fault_of_number bytes n z e wide = ap in_range e ∙ ap (λ t. cond t (piece (token (number z)) n) (fail NumberTooLarge 0)) wide
 
 -- behind a byte that is no quote only the byte itself is wrong
-fault_at_start : (s : Start) (b : ℕ) (bytes : List ℕ) (f : Fault) (k : ℕ) → StartIs s b → b ≢ 34 → next_by s b bytes ≡ fail f k → (f ≡ BadByte) × (k ≡ 0)
+fault_at_start : (s : Start) (b : ℕ) (bytes : List ℕ) (f : Rule) (k : ℕ) → StartIs s b → b ≢ 34 → next_by s b bytes ≡ fail f k → (f ≡ BadByte) × (k ≡ 0)
 fault_at_start starts.Blank b bytes f k h n e = cc
 fault_at_start starts.Comment b bytes f k h n e = cc
 fault_at_start starts.Letter b bytes f k h n e = cc
@@ -52,7 +53,7 @@ open_found : (body : List ℕ) → ((inner rest : List ℕ) → IsBody inner →
 open_found body h =
     (elim (text_len 0 false body) as (λ o. text_len 0 false body ≡ o → Found (34 ∷ body) 0 OpenText) [
       | Some m ↦ λ e. (let c = text_len_closes 0 false body m e in absurd (h c.inner c.rest c.body c.is))
-      | None ↦ λ e. record { at = 0; is = ap narrow (quote_next body ∙ ap (closed_next body) e); early = omega arith }
+      | None ↦ λ e. record { at = 0; is = ap in_range (quote_next body ∙ ap (closed_next body) e); early = omega arith }
     ]) refl
 
 escape_found : (inner before behind rest : List ℕ) (c : ℕ) → IsBody inner → inner ≡ before ++ 92 ∷ c ∷ behind → IsBody before → escape_of c ≡ None → Found (34 ∷ (inner ++ 34 ∷ rest)) (length before + 2) BadByte
@@ -60,7 +61,7 @@ escape_found inner before behind rest c body is front none =
     let found : FoundBy 0 inner (0 + length before + 1) = subst (λ (x : List ℕ). FoundBy 0 x (0 + length before + 1)) (sym is) (bad_escape_by 0 c before behind front none) in
     record {
       at = found.at + 1;
-      is = ap narrow (quote_next (inner ++ 34 ∷ rest) ∙ body_at inner rest body ∙ ap (body_next inner) found.is);
+      is = ap in_range (quote_next (inner ++ 34 ∷ rest) ∙ body_at inner rest body ∙ ap (body_next inner) found.is);
       early = omega (arith, found.early);
     }
 
@@ -70,21 +71,21 @@ nothing_found b rest n none =
       | piece p m ↦ λ e. (let s = next_stands (b ∷ rest) p m e in absurd (none p m s.within s.is))
       | fail f k ↦ λ e.
           (let h = fault_at_start (start_of b) b rest f k (start_is b) n (sym (next_at b rest (start_of b) refl) ∙ e) in
-          record { at = k; is = ap narrow e ∙ ap (λ (x : Fault). fail x k) h.0; early = omega (arith, h.1) })
+          record { at = k; is = ap in_range e ∙ ap (λ (x : Rule). fail x k) h.0; early = omega (arith, h.1) })
     ]) refl
 
-pub wrong_found : (bytes : List ℕ) (k : ℕ) (f : Fault) → IsWrong bytes k f → Found bytes k f
+pub wrong_found : (bytes : List ℕ) (k : ℕ) (f : Rule) → IsWrong bytes k f → Found bytes k f
 wrong_found bytes k f (large {n = n} {z = z} l wide) = record { at = 0; is = fault_of_number bytes n z (next_from_longest bytes (token (number z)) n l) wide; early = omega arith }
 wrong_found bytes k f (open_text {body = body} h) = open_found body h
 wrong_found bytes k f (escape inner before behind rest c body is front none) = escape_found inner before behind rest c body is front none
 wrong_found bytes k f (nothing {b = b} {rest = rest} n none) = nothing_found b rest n none
 
-wrong_at : (bytes : List ℕ) (f g : Fault) (j k : ℕ) → fail g j ≡ fail f k → IsWrong bytes j g → IsWrong bytes k f
+wrong_at : (bytes : List ℕ) (f g : Rule) (j k : ℕ) → fail g j ≡ fail f k → IsWrong bytes j g → IsWrong bytes k f
 wrong_at bytes f g j k e w =
     let same : g ≡ f = cc in let place : j ≡ k = cc in
-    subst (λ (x : Fault). IsWrong bytes k x) same (subst (λ (x : ℕ). IsWrong bytes x g) place w)
+    subst (λ (x : Rule). IsWrong bytes k x) same (subst (λ (x : ℕ). IsWrong bytes x g) place w)
 
-text_wrong : (bytes : List ℕ) (f : Fault) (k : ℕ) → text_next bytes ≡ fail f k → IsWrong (34 ∷ bytes) k f
+text_wrong : (bytes : List ℕ) (f : Rule) (k : ℕ) → text_next bytes ≡ fail f k → IsWrong (34 ∷ bytes) k f
 text_wrong bytes f k e =
     (elim (text_len 0 false bytes) as (λ o. text_len 0 false bytes ≡ o → closed_next bytes o ≡ fail f k → IsWrong (34 ∷ bytes) k f) [
       | None ↦ λ is g. wrong_at (34 ∷ bytes) f OpenText 0 k g (open_text (λ inner rest body same.
@@ -114,7 +115,7 @@ number_wrong bytes (token (text k)) n l e = cc
 number_wrong bytes (token (symbol k)) n l e = cc
 number_wrong bytes gap n l e = cc
 
-fault_wrong : (b : ℕ) (rest : List ℕ) (f : Fault) (k : ℕ) → next (b ∷ rest) ≡ fail f k → IsWrong (b ∷ rest) k f
+fault_wrong : (b : ℕ) (rest : List ℕ) (f : Rule) (k : ℕ) → next (b ∷ rest) ≡ fail f k → IsWrong (b ∷ rest) k f
 fault_wrong b rest f k e =
     (elim (b == 34) as (λ t. b == 34 ≡ t → IsWrong (b ∷ rest) k f) [
       | true ↦ λ is.
@@ -131,10 +132,10 @@ fault_wrong b rest f k e =
           absurd (omega arith)))))
     ]) refl
 
-pub scan_wrong : (bytes : List ℕ) (f : Fault) (k : ℕ) → 0 < length bytes → narrow (next bytes) ≡ fail f k → IsWrong bytes k f
+pub scan_wrong : (bytes : List ℕ) (f : Rule) (k : ℕ) → 0 < length bytes → in_range (next bytes) ≡ fail f k → IsWrong bytes k f
 scan_wrong [] f k l e = absurd (omega arith)
 scan_wrong (b ∷ rest) f k l e =
-    (elim (next (b ∷ rest)) as (λ x. next (b ∷ rest) ≡ x → narrow x ≡ fail f k → IsWrong (b ∷ rest) k f) [
+    (elim (next (b ∷ rest)) as (λ x. next (b ∷ rest) ≡ x → in_range x ≡ fail f k → IsWrong (b ∷ rest) k f) [
       | fail g j ↦ λ is h. fault_wrong b rest f k (is ∙ h)
       | piece p n ↦ λ is h.
           (elim (fits p) as (λ t. fits p ≡ t → cond t (piece p n) (fail NumberTooLarge 0) ≡ fail f k → IsWrong (b ∷ rest) k f) [
@@ -143,7 +144,7 @@ scan_wrong (b ∷ rest) f k l e =
           ]) refl h
     ]) refl e
 
-pub wrong_within : (bytes : List ℕ) (k : ℕ) (f : Fault) → IsWrong bytes k f → k < length bytes
+pub wrong_within : (bytes : List ℕ) (k : ℕ) (f : Rule) → IsWrong bytes k f → k < length bytes
 wrong_within bytes k f (large {n = n} {z = z} l wide) = let some = piece_some (token (number z)) (take n bytes) l.is in omega (arith, length-take n bytes)
 wrong_within bytes k f (open_text h) = omega arith
 wrong_within bytes k f (escape inner before behind rest c body is front none) =
@@ -154,9 +155,9 @@ wrong_within bytes k f (escape inner before behind rest c body is front none) =
 wrong_within bytes k f (nothing n none) = omega arith
 
 -- a piece that is found is the longest, and fits
-pub scan_longest : (bytes : List ℕ) (p : Piece) (n : ℕ) → narrow (next bytes) ≡ piece p n → IsLongest bytes p n × (fits p ≡ true)
+pub scan_longest : (bytes : List ℕ) (p : Piece) (n : ℕ) → in_range (next bytes) ≡ piece p n → IsLongest bytes p n × (fits p ≡ true)
 scan_longest bytes p n e =
-    (elim (next bytes) as (λ x. next bytes ≡ x → narrow x ≡ piece p n → IsLongest bytes p n × (fits p ≡ true)) [
+    (elim (next bytes) as (λ x. next bytes ≡ x → in_range x ≡ piece p n → IsLongest bytes p n × (fits p ≡ true)) [
       | fail g j ↦ λ is h. cc
       | piece q m ↦ λ is h.
           (elim (fits q) as (λ t. fits q ≡ t → cond t (piece q m) (fail NumberTooLarge 0) ≡ piece p n → IsLongest bytes p n × (fits p ≡ true)) [
@@ -165,5 +166,5 @@ scan_longest bytes p n e =
           ]) refl h
     ]) refl e
 
-pub longest_scan : (bytes : List ℕ) (p : Piece) (n : ℕ) → IsLongest bytes p n → fits p ≡ true → narrow (next bytes) ≡ piece p n
-longest_scan bytes p n l e = ap narrow (next_from_longest bytes p n l) ∙ ap (λ t. cond t (piece p n) (fail NumberTooLarge 0)) e
+pub longest_scan : (bytes : List ℕ) (p : Piece) (n : ℕ) → IsLongest bytes p n → fits p ≡ true → in_range (next bytes) ≡ piece p n
+longest_scan bytes p n l e = ap in_range (next_from_longest bytes p n l) ∙ ap (λ t. cond t (piece p n) (fail NumberTooLarge 0)) e

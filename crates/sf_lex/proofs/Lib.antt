@@ -1,7 +1,7 @@
+pub mod Answered
 pub mod Before
 pub mod Cuts
 pub mod Faults
-pub mod Numbers
 pub mod Pieces
 pub mod Places
 pub mod Readable

@@ -15,7 +15,7 @@ use Rattle.sf_lex.specs.Words.{is_digit, is_letter, is_word_byte, is_word, keywo
 use Rattle.sf_lex.specs.Symbols.{symbol_bytes}
 use Rattle.sf_lex.specs.Tokens.{keyword, name, number, text, symbol, is_in_line}
 use Rattle.sf_lex.specs.Cutting.{Piece, gap, token, IsPiece, IsGap, blank, comment, Spells, SpellsNumber, unsigned, negative, IsDigits, IsLongest, IsBody, Quotes, is_blank}
-use Rattle.sf_lex.specs.Scanning.{Next, piece, fail, next, next_by, start_of, word_next, word_token, keyword_of, digits_next, minus_next, text_next, closed_next, body_next, text_len, bad_escape, unescaped, symbol_next, symbol_of, other_next, begins_with_digit}
+use Rattle.sf_lex.specs.Scanning.{NextPiece, piece, fail, next, next_by, start_of, word_next, word_token, keyword_of, digits_next, minus_next, text_next, closed_next, body_next, text_len, bad_escape, unescaped, symbol_next, symbol_of, other_next, begins_with_digit}
 use Rattle.sf_lex.proofs.Words.{keyword_is, keyword_again, name_from, name_other}
 use Rattle.sf_lex.proofs.Tables.{keyword_word, symbol_begins, symbol_again, symbol_longest, symbol_stands, Longer, is_other, begins_well}
 use Rattle.sf_lex.proofs.Texts.{text_len_closes, text_len_body, quotes_from, quotes_body, quotes_good, quotes_unescaped}
@@ -179,14 +179,14 @@ next_stands [] p n e = cc
 next_stands (b ∷ bytes) p n e = stands_by (start_of b) b bytes p n (start_is b) e
 
 -- how long the piece is that bytes begin with
-abbrev pub reach : Next → ℕ
+abbrev pub reach : NextPiece → ℕ
 reach (piece p n) = n
 reach (fail f k) = 0
 
 gap_reaches : (w r : List ℕ) → IsGap w → length w ≤ reach (next (w ++ r))
-gap_reaches w r (blank {b = b} h) = subst (λ (x : Next). 1 ≤ reach x) (sym (next_at b r starts.Blank (start_blank b h))) (omega arith)
+gap_reaches w r (blank {b = b} h) = subst (λ (x : NextPiece). 1 ≤ reach x) (sym (next_at b r starts.Blank (start_blank b h))) (omega arith)
 gap_reaches w r (comment {line = line} h) =
-    subst (λ (x : Next). suc (length line) ≤ reach x) (sym (next_at 35 (line ++ r) starts.Comment refl)) (omega (arith, prefix_reaches is_in_line line r h))
+    subst (λ (x : NextPiece). suc (length line) ≤ reach x) (sym (next_at 35 (line ++ r) starts.Comment refl)) (omega (arith, prefix_reaches is_in_line line r h))
 
 gap_exact : (w : List ℕ) → IsGap w → next w ≡ piece gap (length w)
 gap_exact w (blank {b = b} h) = next_at b [] starts.Blank (start_blank b h)
@@ -196,7 +196,7 @@ word_reaches : (w r : List ℕ) → is_word w ≡ true → length w ≤ reach (n
 word_reaches [] r e = cc
 word_reaches (b ∷ tail) r e =
     let h = and_parts (is_letter b) (list_all is_word_byte tail) e in
-    subst (λ (x : Next). suc (length tail) ≤ reach x) (sym (next_at b (tail ++ r) starts.Letter (start_letter b h.0))) (omega (arith, prefix_reaches is_word_byte tail r h.1))
+    subst (λ (x : NextPiece). suc (length tail) ≤ reach x) (sym (next_at b (tail ++ r) starts.Letter (start_letter b h.0))) (omega (arith, prefix_reaches is_word_byte tail r h.1))
 
 word_exact : (w : List ℕ) → is_word w ≡ true → next w ≡ piece (token (word_token w (keyword_of w))) (length w)
 word_exact [] e = cc
@@ -213,7 +213,7 @@ unsigned_reaches : (ds r : List ℕ) → IsDigits ds → length ds ≤ reach (ne
 unsigned_reaches [] r d = omega arith
 unsigned_reaches (x ∷ ds) r d =
     let h = and_parts (is_digit x) (list_all is_digit ds) d.all in
-    subst (λ (y : Next). suc (length ds) ≤ reach y) (sym (next_at x (ds ++ r) starts.Digit (start_digit x h.0))) (omega (arith, prefix_reaches is_digit ds r h.1))
+    subst (λ (y : NextPiece). suc (length ds) ≤ reach y) (sym (next_at x (ds ++ r) starts.Digit (start_digit x h.0))) (omega (arith, prefix_reaches is_digit ds r h.1))
 
 pub minus_next_is : (x : ℕ) (rest : List ℕ) → is_digit x ≡ true → next (45 ∷ x ∷ rest) ≡ minus_next (prefix_len is_digit (x ∷ rest)) (x ∷ rest)
 minus_next_is x rest e =
@@ -223,7 +223,7 @@ negative_reaches : (ds r : List ℕ) → IsDigits ds → suc (length ds) ≤ rea
 negative_reaches [] r d = absurd (omega (arith, d.some))
 negative_reaches (x ∷ ds) r d =
     let h = and_parts (is_digit x) (list_all is_digit ds) d.all in
-    subst (λ (y : Next). suc (suc (length ds)) ≤ reach y) (sym (minus_next_is x (ds ++ r) h.0)) (omega (arith, prefix_reaches is_digit (x ∷ ds) r d.all))
+    subst (λ (y : NextPiece). suc (suc (length ds)) ≤ reach y) (sym (minus_next_is x (ds ++ r) h.0)) (omega (arith, prefix_reaches is_digit (x ∷ ds) r d.all))
 
 number_reaches : (z : ℤ) (w r : List ℕ) → SpellsNumber z w → length w ≤ reach (next (w ++ r))
 number_reaches z w r (unsigned {digits = digits} d) = unsigned_reaches digits r d
@@ -259,7 +259,7 @@ text_next_is chars inner r q =
 
 text_reaches : (chars inner r : List ℕ) → Quotes chars inner → length inner + 2 ≤ reach (next ((34 ∷ (inner ++ 34 ∷ [])) ++ r))
 text_reaches chars inner r q =
-    subst (λ (x : Next). length inner + 2 ≤ reach x) (sym (next_at 34 ((inner ++ 34 ∷ []) ++ r) starts.Quote refl ∙ ap text_next (append_assoc inner (34 ∷ []) r) ∙ text_next_is chars inner r q)) (omega arith)
+    subst (λ (x : NextPiece). length inner + 2 ≤ reach x) (sym (next_at 34 ((inner ++ 34 ∷ []) ++ r) starts.Quote refl ∙ ap text_next (append_assoc inner (34 ∷ []) r) ∙ text_next_is chars inner r q)) (omega arith)
 
 text_exact : (chars inner : List ℕ) → Quotes chars inner → next (34 ∷ (inner ++ 34 ∷ [])) ≡ piece (token (text chars)) (length (34 ∷ (inner ++ 34 ∷ [])))
 text_exact chars inner q =
@@ -289,7 +289,7 @@ symbol_reaches : (s : Symbol) (w r : List ℕ) → w ≡ symbol_bytes s → begi
 symbol_reaches s [] r e b = cc
 symbol_reaches s (c ∷ cs) r e b =
     let h = and_parts (is_other (start_of c)) (not (begins_with_digit cs)) b in
-    subst (λ (x : Next). suc (length cs) ≤ reach x) (sym (next_at c (cs ++ r) starts.Other (other_start c h.0))) (other_reaches s c cs r e (not-true (begins_with_digit cs) h.1))
+    subst (λ (x : NextPiece). suc (length cs) ≤ reach x) (sym (next_at c (cs ++ r) starts.Other (other_start c h.0))) (other_reaches s c cs r e (not-true (begins_with_digit cs) h.1))
 
 symbol_exact : (s : Symbol) (w : List ℕ) → w ≡ symbol_bytes s → begins_well w ≡ true → next w ≡ piece (token (symbol s)) (length w)
 symbol_exact s [] e b = cc
@@ -306,7 +306,7 @@ reaches gap w r i = gap_reaches w r i
 reaches (token (keyword k)) w r i =
     elim (keyword_word k) [
       | inl is ↦ word_reaches w r (ap is_word i ∙ is)
-      | inr is ↦ subst (λ (x : List ℕ). length x ≤ reach (next (x ++ r))) (sym (i ∙ is)) (subst (λ (x : Next). 1 ≤ reach x) (sym (low_line_next r)) (omega arith))
+      | inr is ↦ subst (λ (x : List ℕ). length x ≤ reach (next (x ++ r))) (sym (i ∙ is)) (subst (λ (x : NextPiece). 1 ≤ reach x) (sym (low_line_next r)) (omega arith))
     ]
 reaches (token (name n)) w r i = word_reaches w r (ap is_word i.0 ∙ i.1.word)
 reaches (token (number z)) w r i = number_reaches z w r i

@@ -3,12 +3,12 @@ use Rattle.std.proofs.Common.{◌≡◌, ℕ, ◌+◌, ◌≤◌, List, [], ◌�
 use Rattle.std.specs.List.{prefix_len, suffix_len}
 use Rattle.std.proofs.lemmas.List.{append-nil, reverse-append, length-take, length-reverse}
 use Rattle.std.proofs.lemmas.List.Sums.{count_by-le-length, sum_by-append}
-use Rattle.sf_lex.specs.declared.token.Place.{Place}
+use Rattle.sf_refusal.specs.declared.spot.Spot.{Spot}
 use Rattle.sf_lex.specs.Tokens.{is_line_feed, is_in_line, line_at, column_at, place_at, place_step}
 use Rattle.sf_lex.proofs.Pieces.{prefix_le}
 
 -- the place behind these bytes
-abbrev place_behind : List ℕ → Place
+abbrev place_behind : List ℕ → Spot
 place_behind xs = record { line = count_by is_line_feed xs + 1; column = suffix_len is_in_line xs + 1 }
 
 place_push : (xs : List ℕ) (b : ℕ) → place_step (place_behind xs) b ≡ place_behind (xs ++ b ∷ [])
@@ -22,7 +22,7 @@ place_push xs b =
       | false ↦ λ l c. same_place _ _ _ _ (omega arith) (omega arith)
     ]) lines columns
   where
-    placed : ℕ → ℕ → Place
+    placed : ℕ → ℕ → Spot
     placed l c = record { line = l; column = c }
 
     same_place : (l m c d : ℕ) → l ≡ m → c ≡ d → placed l c ≡ placed m d
@@ -36,16 +36,16 @@ at_behind : (bytes : List ℕ) (at : ℕ) → place_at bytes at ≡ place_behind
 unfolding line_at column_at
 at_behind bytes at = refl
 
-pub place_on : (bytes rest : List ℕ) (at n : ℕ) (place next : Place) → rest ≡ drop at bytes → place ≡ place_at bytes at → next ≡ fold place_step place (take n rest) → next ≡ place_at bytes (at + n)
+pub place_on : (bytes rest : List ℕ) (at n : ℕ) (place next : Spot) → rest ≡ drop at bytes → place ≡ place_at bytes at → next ≡ fold place_step place (take n rest) → next ≡ place_at bytes (at + n)
 place_on bytes rest at n place next r e f =
     f ∙ ap (λ x. fold place_step place (take n x)) r ∙ ap (λ p. fold place_step p (take n (drop at bytes))) (e ∙ at_behind bytes at) ∙ place_fold (take n (drop at bytes)) (take at bytes)
     ∙ ap place_behind (sym (take-add at n bytes)) ∙ sym (at_behind bytes (at + n))
 
-pub place_small : (bytes : List ℕ) (at : ℕ) (place : Place) → place ≡ place_at bytes at → (place.line ≤ at + 1) × (place.column ≤ at + 1)
+pub place_small : (bytes : List ℕ) (at : ℕ) (place : Spot) → place ≡ place_at bytes at → (place.line ≤ at + 1) × (place.column ≤ at + 1)
 place_small bytes at place e =
     let f = e ∙ at_behind bytes at in
-    let l = ap (λ (p : Place). p.line) f in
-    let c = ap (λ (p : Place). p.column) f in (
+    let l = ap (λ (p : Spot). p.line) f in
+    let c = ap (λ (p : Spot). p.column) f in (
       omega (arith, count_by-le-length is_line_feed (take at bytes), length-take at bytes),
       omega (arith, prefix_le is_in_line (reverse (take at bytes)), length-reverse (take at bytes), length-take at bytes),
     )

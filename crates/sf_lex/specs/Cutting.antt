@@ -1,17 +1,20 @@
 -- How bytes are cut into tokens, and where they cannot be.
-use Rattle.std.specs.Prelude.{◌≡◌, ◌≢◌, ◌⊎◌, ℕ, ◌+◌, ◌<◌, ◌≤◌, ◌^◌, ℤ, pos, negsuc, neg_ℤ, Bool, true, false, List, [], ◌∷◌, ◌++◌, length, take, drop, map, not, ◌&&◌, ◌||◌, ◌==◌, nat_lt, Option, Some, None, if◌then◌else◌}
+use Rattle.std.specs.Prelude.{◌≡◌, ◌≢◌, ◌⊎◌, ℕ, ◌+◌, ◌<◌, ◌≤◌, ℤ, pos, neg_ℤ, Bool, true, false, List, [], ◌∷◌, ◌++◌, length, take, drop, map, not, ◌&&◌, ◌||◌, ◌==◌, Option, Some, None, if◌then◌else◌}
 use Rattle.std.specs.List.{list_all}
 use Rattle.std.specs.Str.{IsUtf8, IsValidUpTo}
 use Rattle.std.specs.Str.Parse.{digits_value}
+use Rattle.sf_decimal.specs.Decimals.{is_narrow}
 use Rattle.sf_lex.specs.Words.{is_digit, keyword_bytes, IsName}
 use Rattle.sf_lex.specs.Symbols.{symbol_bytes}
 use Rattle.sf_lex.specs.Tokens.{Tok, keyword, name, number, text, symbol, Located, is_in_line, seen, shown, place_at}
 use Rattle.sf_lex.specs.declared.token.PlacedToken.{PlacedToken}
-use Rattle.sf_lex.specs.declared.token.Place.{Place}
-use Rattle.sf_lex.specs.declared.lexer.Fault.{Fault}
-use Rattle.sf_lex.specs.declared.lexer.Fault.TheVariants.{BadByte, NumberTooLarge, OpenText}
-use Rattle.sf_lex.specs.declared.lexer.LexRefusal.{LexRefusal}
-use Rattle.sf_lex.specs.declared.lexer.LexRefusal.TheVariants as refusals
+use Rattle.sf_refusal.specs.declared.spot.Spot.{Spot}
+use Rattle.sf_refusal.specs.declared.rule.Rule.{Rule}
+use Rattle.sf_refusal.specs.declared.rule.Rule.TheVariants.{BadByte, NumberTooLarge, OpenText, TooLong}
+use Rattle.sf_refusal.specs.Refusals.{first_spot, breach_of}
+use Rattle.sf_refusal.specs.declared.refusal.Breach.{Breach}
+use Rattle.sf_refusal.specs.declared.refusal.Refusal.{Refusal}
+use Rattle.sf_refusal.specs.declared.refusal.Refusal.TheVariants.{Broken, Memory}
 
 -- space, tab, line feed or carriage return
 abbrev pub is_blank : ℕ → Bool
@@ -26,11 +29,6 @@ pub record IsDigits (digits : List ℕ) : Type 0 where
 pub data SpellsNumber : ℤ → List ℕ → Type 0 where
   unsigned : {digits : List ℕ} → IsDigits digits → SpellsNumber (pos (digits_value 10 digits)) digits
   negative : {digits : List ℕ} → IsDigits digits → SpellsNumber (neg_ℤ (pos (digits_value 10 digits))) (45 ∷ digits)
-
--- within signed 64 bits
-abbrev pub is_narrow : ℤ → Bool
-is_narrow (pos n) = nat_lt n (2 ^ 63)
-is_narrow (negsuc n) = nat_lt n (2 ^ 63)
 
 -- no line feed, quote or backslash
 abbrev pub is_plain : ℕ → Bool
@@ -91,10 +89,10 @@ located at gap found = found
 located at (token t) found = record { offset = at; token = t } ∷ found
 
 -- the bytes, of which the first is at the offset `at`, are cut into the longest pieces up to the offset `end`, where `rest` begins
-pub data Cuts : ℕ → List ℕ → List Located → ℕ → List ℕ → Type 0 where
-  here : {at : ℕ} {bytes : List ℕ} → Cuts at bytes [] at bytes
+pub data IsCutInto : ℕ → List ℕ → List Located → ℕ → List ℕ → Type 0 where
+  here : {at : ℕ} {bytes : List ℕ} → IsCutInto at bytes [] at bytes
   more : {at n end : ℕ} {bytes rest : List ℕ} {p : Piece} {found : List Located} → IsLongest bytes p n → fits p ≡ true
-      → Cuts (at + n) (drop n bytes) found end rest → Cuts at bytes (located at p found) end rest
+      → IsCutInto (at + n) (drop n bytes) found end rest → IsCutInto at bytes (located at p found) end rest
 
 abbrev pub byte_limit : ℕ
 byte_limit = 1048576
@@ -104,7 +102,7 @@ pub record Lexes (bytes : List ℕ) (found : List Located) : Type 0 where
   pub short : length bytes ≤ byte_limit
   pub utf8 : IsUtf8 bytes
   pub end : ℕ
-  pub cut : Cuts 0 bytes found end []
+  pub cut : IsCutInto 0 bytes found end []
 
 -- what was found are the tokens of the bytes, the only ones, each at its place
 pub record AreTokensOf (bytes : List ℕ) (found : List PlacedToken) : Type 0 where
@@ -114,7 +112,7 @@ pub record AreTokensOf (bytes : List ℕ) (found : List PlacedToken) : Type 0 wh
   pub shows : map seen found ≡ map (shown bytes) located
 
 -- what is wrong at the front of the bytes, k bytes on
-pub data IsWrong : List ℕ → ℕ → Fault → Type 0 where
+pub data IsWrong : List ℕ → ℕ → Rule → Type 0 where
   -- a number of any length, at its first byte
   large : {bytes : List ℕ} {n : ℕ} {z : ℤ} → IsLongest bytes (token (number z)) n → is_narrow z ≡ false → IsWrong bytes 0 NumberTooLarge
   -- a quote that no quote on its line closes
@@ -126,19 +124,19 @@ pub data IsWrong : List ℕ → ℕ → Fault → Type 0 where
   nothing : {b : ℕ} {rest : List ℕ} → b ≢ 34 → ((p : Piece) (n : ℕ) → n ≤ length (b ∷ rest) → IsPiece p (take n (b ∷ rest)) → ⊥) → IsWrong (b ∷ rest) 0 BadByte
 
 -- the bytes have this fault at this offset
-pub data Breaks : List ℕ → ℕ → Fault → Type 0 where
+pub data HasFaultAt : List ℕ → ℕ → Rule → Type 0 where
   -- the first byte that is no part of UTF-8
-  no_text : {bytes : List ℕ} {offset : ℕ} → IsValidUpTo bytes offset → Breaks bytes offset BadByte
+  no_text : {bytes : List ℕ} {offset : ℕ} → IsValidUpTo bytes offset → HasFaultAt bytes offset BadByte
   -- behind tokens
-  wrong : {bytes rest : List ℕ} {at k : ℕ} {fault : Fault} {found : List Located} → Cuts 0 bytes found at rest → IsWrong rest k fault → Breaks bytes (at + k) fault
+  wrong : {bytes rest : List ℕ} {at k : ℕ} {fault : Rule} {found : List Located} → IsCutInto 0 bytes found at rest → IsWrong rest k fault → HasFaultAt bytes (at + k) fault
 
 -- the first fault is this one and no other, at this place, and there are no tokens
-pub record BreaksFirst (bytes : List ℕ) (fault : Fault) (place : Place) : Type 0 where
+pub record IsFirstFault (bytes : List ℕ) (fault : Rule) (place : Spot) : Type 0 where
   pub short : length bytes ≤ byte_limit
   pub offset : ℕ
-  pub breaks : Breaks bytes offset fault
-  pub least : (other : ℕ) (another : Fault) → Breaks bytes other another → offset ≤ other
-  pub only : (another : Fault) → Breaks bytes offset another → another ≡ fault
+  pub breaks : HasFaultAt bytes offset fault
+  pub least : (other : ℕ) (another : Rule) → HasFaultAt bytes other another → offset ≤ other
+  pub only : (another : Rule) → HasFaultAt bytes offset another → another ≡ fault
   pub at : place ≡ place_at bytes offset
   pub none : (found : List Located) → Lexes bytes found → ⊥
 
@@ -149,7 +147,7 @@ IsValidLen bytes n = (IsUtf8 bytes × (n ≡ length bytes)) ⊎ IsValidUpTo byte
 -- the bytes are cut up to the offset
 pub record IsCutTo (bytes : List ℕ) (at : ℕ) : Type 0 where
   pub found : List Located
-  pub cut : Cuts 0 bytes found at (drop at bytes)
+  pub cut : IsCutInto 0 bytes found at (drop at bytes)
 
 -- what was found so far are the tokens up to the offset
 pub record AreTokensTo (bytes : List ℕ) (at : ℕ) (found : List PlacedToken) : Type 0 where
@@ -162,19 +160,19 @@ IsReadable (text chars) = IsUtf8 chars
 IsReadable (name n) = IsUtf8 n
 IsReadable _ = Unit {0}
 
-abbrev pub refusal_of : Fault → Place → LexRefusal
-refusal_of BadByte place = refusals.BadByte place
-refusal_of NumberTooLarge place = refusals.NumberTooLarge place
-refusal_of OpenText place = refusals.OpenText place
+-- a rule of the content of bytes, and not of their number
+abbrev pub IsContentRule : Rule → Type 0
+IsContentRule TooLong = ⊥
+IsContentRule _ = Unit {0}
 
--- a refusal for something else than the size
-abbrev pub IsOfContent : LexRefusal → Type 0
-IsOfContent refusals.TooLong = ⊥
-IsOfContent _ = Unit {0}
+-- a breach of such a rule
+abbrev pub IsOfContent : Refusal → Type 0
+IsOfContent (Broken b) = IsContentRule b.rule
+IsOfContent Memory = Unit {0}
 
-abbrev pub Refuses : List ℕ → LexRefusal → Type 0
-Refuses bytes refusals.TooLong = byte_limit < length bytes
-Refuses bytes (refusals.BadByte place) = BreaksFirst bytes BadByte place
-Refuses bytes (refusals.NumberTooLarge place) = BreaksFirst bytes NumberTooLarge place
-Refuses bytes (refusals.OpenText place) = BreaksFirst bytes OpenText place
-Refuses bytes refusals.Memory = Unit {0}
+-- bytes break a rule of tokens at a place, and have none
+pub data BreaksLexis (bytes : List ℕ) (b : Breach) : Type 0 where
+  -- there are too many of them
+  too_long : byte_limit < length bytes → b ≡ breach_of TooLong first_spot → BreaksLexis bytes b
+  -- they have a fault, and this is the first
+  at_fault : IsFirstFault bytes b.rule b.spot → BreaksLexis bytes b

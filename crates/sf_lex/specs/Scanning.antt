@@ -12,8 +12,8 @@ use Rattle.sf_lex.specs.declared.word.Keyword.TheVariants.{Underscore}
 use Rattle.sf_lex.specs.declared.word.TheConstants.{KEYWORDS}
 use Rattle.sf_lex.specs.declared.symbol.Symbol.{Symbol}
 use Rattle.sf_lex.specs.declared.symbol.TheConstants.{SYMBOLS}
-use Rattle.sf_lex.specs.declared.lexer.Fault.{Fault}
-use Rattle.sf_lex.specs.declared.lexer.Fault.TheVariants.{BadByte, NumberTooLarge, OpenText}
+use Rattle.sf_refusal.specs.declared.rule.Rule.{Rule}
+use Rattle.sf_refusal.specs.declared.rule.Rule.TheVariants.{BadByte, NumberTooLarge, OpenText}
 use Rattle.sf_lex.specs.declared.piece.Start.{Start}
 use Rattle.sf_lex.specs.declared.piece.Start.TheVariants as starts
 use Rattle.sf_lex.specs.declared.piece.Lexeme.{Lexeme}
@@ -22,9 +22,9 @@ use Rattle.sf_lex.specs.declared.piece.Scanned.{Scanned}
 use Rattle.sf_lex.specs.declared.piece.Scanned.TheVariants as scans
 
 -- a piece and its length, or a fault and its offset
-pub data Next : Type 0 where
-  piece : Piece → ℕ → Next
-  fail : Fault → ℕ → Next
+pub data NextPiece : Type 0 where
+  piece : Piece → ℕ → NextPiece
+  fail : Rule → ℕ → NextPiece
 
 abbrev pub is_keyword : List ℕ → Keyword → Bool
 is_keyword word k = bytes_eq (keyword_bytes k) word
@@ -51,13 +51,13 @@ word_token word (Some k) = keyword k
 word_token word None = name word
 
 -- n bytes are the word
-abbrev pub word_next : ℕ → List ℕ → Next
+abbrev pub word_next : ℕ → List ℕ → NextPiece
 word_next n bytes = piece (token (word_token (take n bytes) (keyword_of (take n bytes)))) n
 
-abbrev pub digits_next : ℕ → List ℕ → Next
+abbrev pub digits_next : ℕ → List ℕ → NextPiece
 digits_next n bytes = piece (token (number (pos (digits_value 10 (take n bytes))))) n
 
-abbrev pub minus_next : ℕ → List ℕ → Next
+abbrev pub minus_next : ℕ → List ℕ → NextPiece
 minus_next n digits = piece (token (number (neg_ℤ (pos (digits_value 10 (take n digits)))))) (suc n)
 
 -- where the text that goes on with these bytes is closed; i bytes and maybe a backslash stand before them
@@ -81,18 +81,18 @@ unescaped escaped [] = []
 unescaped true (b ∷ bytes) = unescaped_byte b ∷ unescaped false bytes
 unescaped false (b ∷ bytes) = if b == 92 then unescaped true bytes else b ∷ unescaped false bytes
 
-abbrev pub body_next : List ℕ → Option ℕ → Next
+abbrev pub body_next : List ℕ → Option ℕ → NextPiece
 body_next body (Some k) = fail BadByte (k + 1)
 body_next body None = piece (token (text (unescaped false body))) (length body + 2)
 
-abbrev pub closed_next : List ℕ → Option ℕ → Next
+abbrev pub closed_next : List ℕ → Option ℕ → NextPiece
 closed_next bytes (Some n) = body_next (take n bytes) (bad_escape 0 false (take n bytes))
 closed_next bytes None = fail OpenText 0
 
-abbrev pub text_next : List ℕ → Next
+abbrev pub text_next : List ℕ → NextPiece
 text_next bytes = closed_next bytes (text_len 0 false bytes)
 
-abbrev pub symbol_next : Option Symbol → Next
+abbrev pub symbol_next : Option Symbol → NextPiece
 symbol_next (Some s) = piece (token (symbol s)) (length (symbol_bytes s))
 symbol_next None = fail BadByte 0
 
@@ -100,10 +100,10 @@ abbrev pub begins_with_digit : List ℕ → Bool
 begins_with_digit [] = false
 begins_with_digit (b ∷ bytes) = is_digit b
 
-abbrev pub other_next : ℕ → List ℕ → Next
+abbrev pub other_next : ℕ → List ℕ → NextPiece
 other_next b bytes = if b == 45 && begins_with_digit bytes then minus_next (prefix_len is_digit bytes) bytes else symbol_next (symbol_of (b ∷ bytes))
 
-abbrev pub next_by : Start → ℕ → List ℕ → Next
+abbrev pub next_by : Start → ℕ → List ℕ → NextPiece
 next_by starts.Blank b bytes = piece gap 1
 next_by starts.Comment b bytes = piece gap (suc (prefix_len is_in_line bytes))
 next_by starts.Letter b bytes = word_next (suc (prefix_len is_word_byte bytes)) (b ∷ bytes)
@@ -113,17 +113,17 @@ next_by starts.Quote b bytes = text_next bytes
 next_by starts.Other b bytes = other_next b bytes
 
 -- what the bytes begin with
-unfoldable pub next : List ℕ → Next
+unfoldable pub next : List ℕ → NextPiece
 next [] = fail BadByte 0
 next (b ∷ bytes) = next_by (start_of b) b bytes
 
 -- a number outside 64 bits is a fault
-abbrev pub narrow : Next → Next
-narrow (piece p n) = if fits p then piece p n else fail NumberTooLarge 0
-narrow (fail f k) = fail f k
+abbrev pub in_range : NextPiece → NextPiece
+in_range (piece p n) = if fits p then piece p n else fail NumberTooLarge 0
+in_range (fail f k) = fail f k
 
 -- after `room` bytes stands a byte that is no part of UTF-8
-abbrev pub within : ℕ → Next → Next
+abbrev pub within : ℕ → NextPiece → NextPiece
 within room (piece p n) = if nat_le n room then piece p n else fail BadByte room
 within room (fail f k) = if nat_le k room then fail f k else fail BadByte room
 
@@ -135,7 +135,7 @@ lexeme_of (lexemes.Number z) = number z
 lexeme_of (lexemes.Text s) = text (unescaped false s.now)
 lexeme_of (lexemes.Symbol s) = symbol s
 
-abbrev pub next_of : Scanned → Next
+abbrev pub next_of : Scanned → NextPiece
 next_of (scans.Gap n) = piece gap n
 next_of (scans.Token l n) = piece (token (lexeme_of l)) n
 next_of (scans.Fault f k) = fail f k

@@ -6,7 +6,7 @@ use Rattle.sf_lex.specs.declared.word.Keyword.{Keyword}
 use Rattle.sf_lex.specs.declared.symbol.Symbol.{Symbol}
 use Rattle.sf_lex.specs.declared.token.Token.{Token}
 use Rattle.sf_lex.specs.declared.token.Token.TheVariants as variants
-use Rattle.sf_lex.specs.declared.token.Place.{Place}
+use Rattle.sf_refusal.specs.declared.spot.Spot.{Spot}
 use Rattle.sf_lex.specs.declared.token.PlacedToken.{PlacedToken}
 
 -- a token, whatever text it was read from
@@ -43,16 +43,16 @@ line_at bytes offset = count_by is_line_feed (take offset bytes) + 1
 unfoldable pub column_at : List ℕ → ℕ → ℕ
 column_at bytes offset = suffix_len is_in_line (take offset bytes) + 1
 
-abbrev pub place_at : List ℕ → ℕ → Place
+abbrev pub place_at : List ℕ → ℕ → Spot
 place_at bytes offset = record { line = line_at bytes offset; column = column_at bytes offset }
 
 -- the place one byte on
-abbrev pub place_step : Place → ℕ → Place
+abbrev pub place_step : Spot → ℕ → Spot
 place_step p b = if b == 10 then record { line = p.line + 1; column = 1 } else record { line = p.line; column = p.column + 1 }
 
 -- a token with its place, as the code has it and as the bytes have it
-abbrev pub seen : PlacedToken → Tok × Place
-seen p = (token_of p.token, p.place)
+abbrev pub seen : PlacedToken → Tok × Spot
+seen p = (token_of p.token, p.spot)
 
-abbrev pub shown : List ℕ → Located → Tok × Place
+abbrev pub shown : List ℕ → Located → Tok × Spot
 shown bytes l = (l.token, place_at bytes l.offset)

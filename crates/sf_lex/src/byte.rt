@@ -53,14 +53,6 @@ pub(crate) fn word_len(bytes: &[u8]) -> usize
     bytes.iter().take_while(|b| is_word_byte(**b)).count()
 }
 
-/// How many bytes at the front are digits.
-pub(crate) fn digits_len(bytes: &[u8]) -> usize
-    ensures len { result ≡ prefix_len is_digit bytes.now }
-    ensures within { result ≤ length bytes.now }
-{
-    bytes.iter().take_while(|b| is_digit(**b)).count()
-}
-
 /// How many bytes stand in front of the first line feed, or at all.
 pub(crate) fn line_len(bytes: &[u8]) -> usize
     ensures len { result ≡ prefix_len is_in_line bytes.now }

@@ -2,8 +2,8 @@
 #![tactic(auto)]
 
 mod byte;
+mod laws;
 mod lexer;
-mod number;
 mod piece;
 mod place;
 mod symbol;
@@ -13,7 +13,9 @@ mod text;
 mod token;
 mod word;
 
-pub use lexer::{LexRefusal, tokens};
+pub use laws::tokens_or_a_breach;
+pub use lexer::tokens;
+pub use sf_refusal::{Refusal, Spot};
 pub use symbol::Symbol;
-pub use token::{Place, PlacedToken, Token};
+pub use token::{PlacedToken, Token};
 pub use word::{Keyword, is_name};

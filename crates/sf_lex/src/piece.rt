@@ -1,19 +1,17 @@
-ghost use Rattle.std.specs.Prelude.{◌≡◌, ◌≤◌, length, take, true, IfOk};
-ghost use Rattle.std.specs.List.{list_all};
-ghost use Rattle.sf_lex.specs.Words.{is_digit, is_word_byte};
+ghost use Rattle.std.specs.Prelude.{◌≡◌, ◌≤◌, length, IfOk};
+ghost use Rattle.std.specs.List.{prefix_len};
+ghost use Rattle.sf_lex.specs.Words.{is_digit};
 ghost use Rattle.sf_lex.specs.Tokens.{token_of};
 ghost use Rattle.sf_lex.specs.Cutting.{IsReadable};
-ghost use Rattle.sf_lex.specs.Scanning.{lexeme_of, start_of, next_of, next, narrow, within, word_next, digits_next, minus_next, text_next, symbol_next, symbol_of};
+ghost use Rattle.sf_lex.specs.Scanning.{lexeme_of, start_of, next_of, next, in_range, within, word_next, digits_next, minus_next, text_next, symbol_next, symbol_of};
 
-use crate::byte::{
-    begins_with_digit, digits_len, is_blank, is_digit, is_letter, line_len, word_len,
-};
-use crate::lexer::Fault;
-use crate::number::number;
+use crate::byte::{begins_with_digit, is_blank, is_digit, is_letter, line_len, word_len};
 use crate::symbol::{Symbol, symbol_of};
 use crate::text::{bad_escape, text_len, unescaped};
 use crate::token::Token;
 use crate::word::{Keyword, keyword_of};
+use sf_decimal::{digits_at, signed};
+use sf_refusal::Rule;
 use std::alloc::{AllocError, Global};
 use std::str;
 
@@ -58,12 +56,12 @@ impl<'a> Lexeme<'a> {
     }
 }
 
-/// What bytes begin with: a blank or a comment, a token, each with its length, or a fault with its offset.
+/// What bytes begin with: a blank or a comment, a token, each with its length, or a rule that is broken with its offset.
 #[derive(Clone, Copy)]
 pub(crate) enum Scanned<'a> {
     Gap(usize),
     Token(Lexeme<'a>, usize),
-    Fault(Fault, usize),
+    Fault(Rule, usize),
 }
 
 fn start_of(b: u8) -> Start
@@ -103,72 +101,67 @@ fn word(bytes: &[u8], n: usize) -> Scanned<'_>
     }
 }
 
-/// The first n bytes as a number.
-fn digits(bytes: &[u8], n: usize) -> Scanned<'_>
-    requires within { n ≤ length bytes.now }
-    requires digits { list_all is_digit (take n bytes.now) ≡ true }
-    ensures { next_of result ≡ narrow (digits_next n bytes.now) }
+/// The digits at the front as a number.
+fn digits(bytes: &[u8]) -> Scanned<'_>
+    ensures { next_of result ≡ in_range (digits_next (prefix_len is_digit bytes.now) bytes.now) }
 {
-    match number(&bytes[..n], false) {
-        Some(number) => Scanned::Token(Lexeme::Number(number), n),
-        None => Scanned::Fault(Fault::NumberTooLarge, 0),
+    let run = digits_at(bytes);
+    match signed(run.number, false) {
+        Some(number) => Scanned::Token(Lexeme::Number(number), run.len),
+        None => Scanned::Fault(Rule::NumberTooLarge, 0),
     }
 }
 
-/// The first n bytes and the minus in front of them as a number.
-fn negative(bytes: &[u8], n: usize) -> Scanned<'_>
-    requires within { n ≤ length bytes.now }
-    requires digits { list_all is_digit (take n bytes.now) ≡ true }
-    ensures { next_of result ≡ narrow (minus_next n bytes.now) }
+/// The digits at the front and the minus before them as a number.
+fn negative(bytes: &[u8]) -> Scanned<'_>
+    ensures { next_of result ≡ in_range (minus_next (prefix_len is_digit bytes.now) bytes.now) }
 {
-    match number(&bytes[..n], true) {
-        Some(number) => Scanned::Token(Lexeme::Number(number), n + 1),
-        None => Scanned::Fault(Fault::NumberTooLarge, 0),
+    let run = digits_at(bytes);
+    match signed(run.number, true) {
+        Some(number) => Scanned::Token(Lexeme::Number(number), run.len + 1),
+        None => Scanned::Fault(Rule::NumberTooLarge, 0),
     }
 }
 
 /// What a text goes on with behind its quote.
 fn text(bytes: &[u8]) -> Scanned<'_>
-    ensures { next_of result ≡ narrow (text_next bytes.now) }
+    ensures { next_of result ≡ in_range (text_next bytes.now) }
 {
     let Some(n) = text_len(bytes) else {
-        return Scanned::Fault(Fault::OpenText, 0);
+        return Scanned::Fault(Rule::OpenText, 0);
     };
     let body = &bytes[..n];
     match bad_escape(body) {
-        Some(k) => Scanned::Fault(Fault::BadByte, k + 1),
+        Some(k) => Scanned::Fault(Rule::BadByte, k + 1),
         None => Scanned::Token(Lexeme::Text(body), n + 2),
     }
 }
 
 fn symbol(bytes: &[u8]) -> Scanned<'_>
-    ensures { next_of result ≡ narrow (symbol_next (symbol_of bytes.now)) }
+    ensures { next_of result ≡ in_range (symbol_next (symbol_of bytes.now)) }
 {
     match symbol_of(bytes) {
         Some(symbol) => Scanned::Token(Lexeme::Symbol(symbol), symbol.text().len()),
-        None => Scanned::Fault(Fault::BadByte, 0),
+        None => Scanned::Fault(Rule::BadByte, 0),
     }
 }
 
 /// What the bytes begin with.
 #[tactic(auto, unfolding(crate::specs::Scanning::next))]
 pub(crate) fn scan(bytes: &[u8]) -> Scanned<'_>
-    ensures { next_of result ≡ narrow (next bytes.now) }
+    ensures { next_of result ≡ in_range (next bytes.now) }
 {
     let [first, rest @ ..] = bytes else {
-        return Scanned::Fault(Fault::BadByte, 0);
+        return Scanned::Fault(Rule::BadByte, 0);
     };
     match start_of(*first) {
         Start::Blank => Scanned::Gap(1),
         Start::Comment => Scanned::Gap(1 + line_len(rest)),
         Start::Letter => word(bytes, 1 + word_len(rest)),
         Start::Underscore => Scanned::Token(Lexeme::Keyword(Keyword::Underscore), 1),
-        Start::Digit => digits(bytes, 1 + digits_len(rest)),
+        Start::Digit => digits(bytes),
         Start::Quote => text(rest),
-        Start::Other if *first == b'-' && begins_with_digit(rest) => negative(
-            rest,
-            digits_len(rest),
-        ),
+        Start::Other if *first == b'-' && begins_with_digit(rest) => negative(rest),
         Start::Other => symbol(bytes),
     }
 }
@@ -186,6 +179,6 @@ impl<'a> Scanned<'a> {
         if extent <= room {
             return self;
         }
-        Scanned::Fault(Fault::BadByte, room)
+        Scanned::Fault(Rule::BadByte, room)
     }
 }

@@ -13,7 +13,7 @@ fn lexed(rt: &HostRuntime, bytes: &[u8]) -> Result<String, Fail> {
         }
     };
     for placed in &found {
-        let place = placed.place;
+        let place = placed.spot;
         match &placed.token {
             Token::Keyword(keyword) => write!(out, "{place} {} ", keyword.word())?,
             Token::Name(name) => write!(out, "{place} `{name}` ")?,

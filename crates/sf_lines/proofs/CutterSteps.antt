@@ -10,10 +10,11 @@ use Rattle.sf_lines.specs.declared.cutter.Cut.{Cut}
 use Rattle.sf_lines.specs.declared.cutter.Cut.TheVariants.{Line, Part}
 use Rattle.sf_lines.specs.declared.refusal.LineRefusal.{LineRefusal}
 use Rattle.sf_lines.specs.declared.refusal.LineRefusal.TheVariants.{BadLine, LineTooLong, TooManyLines, NotStarted, Started, BadStep, BadValue, OutOfRange, Memory}
-use Rattle.sf_lines.specs.Lines.{NoFeed, Splits, lines_of, onto_first}
+use Rattle.std.specs.List.{onto_first}
+use Rattle.sf_lines.specs.Lines.{NoFeed, Splits, lines_of}
 use Rattle.sf_lines.specs.Limits.{limit_refusal, RefusesNext}
-use Rattle.sf_lines.specs.Cutting.{pending, line_of, lines_taken, refused_at, unfinished_at, complete_at, Grows, Completes, Passes, IsTooMany, CutRefused, Cuts, Ends}
-use Rattle.sf_lines.specs.Standing.{CutterStands, Takes, TakesBytes, Finishes, FinishesBytes, CompletesLine}
+use Rattle.sf_lines.specs.Cutting.{pending, line_of, lines_taken, refused_at, unfinished_at, complete_at, Grows, Completes, Passes, IsTooMany, CutRefused, CutsPiece, Ends}
+use Rattle.sf_lines.specs.Standing.{CutterStands, TakesPiece, TakesBytes, Finishes, FinishesBytes, CompletesLine}
 use Rattle.sf_lines.proofs.Splitting.{lines_of-splits, Splits-grow, Splits-line, first_long, lines_of-unfinished}
 
 -- the bytes held are as many as the vector says
@@ -156,7 +157,7 @@ refuses_next old stream lines piece BadValue s k = absurd k
 refuses_next old stream lines piece OutOfRange s k = absurd k
 refuses_next old stream lines piece Memory s k = absurd k
 
-pub takes_cut : (old new : Cutter) (stream : List ℕ) (lines : List (List ℕ)) (piece : List ℕ) (cut : Cut) → CutterStands old stream lines → Cuts old piece (Ok cut) new → Takes stream lines piece (Ok cut) new
+pub takes_cut : (old new : Cutter) (stream : List ℕ) (lines : List (List ℕ)) (piece : List ℕ) (cut : Cut) → CutterStands old stream lines → CutsPiece old piece (Ok cut) new → TakesPiece stream lines piece (Ok cut) new
 takes_cut old new stream lines piece (Line used) s k = stands_completes old new stream lines piece used s k
 takes_cut old new stream lines piece Part s k = stands_grows old new stream lines piece s k
 
@@ -173,7 +174,7 @@ completes_size old new piece used k =
       },
     )
 
-pub takes_bytes : (old new : Cutter) (piece : List ℕ) (cut : Cut) → Cuts old piece (Ok cut) new → TakesBytes old piece (Ok cut) new
+pub takes_bytes : (old new : Cutter) (piece : List ℕ) (cut : Cut) → CutsPiece old piece (Ok cut) new → TakesBytes old piece (Ok cut) new
 takes_bytes old new piece (Line used) k = completes_size old new piece used k
 takes_bytes old new piece Part k = record {
   none = no_line_at new k.state;

@@ -1,63 +1,13 @@
 -- A line has one form at most, and says one thing at most.
-use Rattle.std.proofs.Common.{◌≡◌, ℕ, zero, suc, ◌-◌, ◌<◌, ◌≤◌, Bool, List, [], ◌∷◌, ◌++◌, codes, Option, Some, None, Result, Ok, Err, refl, sym, ◌∙◌, ap, subst, arith, ◌⊎◌, inl, inr, ⊎_elim}
+use Rattle.std.proofs.Common.{◌≡◌, ℕ, Bool, List, [], ◌∷◌, ◌++◌, codes, Option, Some, None, Result, Ok, Err, refl, sym, ◌∙◌, ap, subst, arith, ◌⊎◌, inl, inr, ⊎_elim}
 use Rattle.sf_value.specs.Values.{Kind, Data}
-use Rattle.sf_value.specs.Digits.{BeginsNoDigit, value_after, digits_at, after_digits}
-use Rattle.sf_value.specs.Spelling.{natural}
+use Rattle.sf_decimal.specs.Decimals.{natural}
 use Rattle.sf_value.specs.Reading.{Refusal, Reads}
-use Rattle.sf_value.proofs.Numbers.{natural_small}
-use Rattle.sf_value.proofs.Digits.{numeral, digits_at-append, after_digits-append}
+use Rattle.sf_decimal.proofs.Digits.{Behind, natural-cut, natural-head}
 use Rattle.sf_value.proofs.Unique.{one_reading}
 use Rattle.sf_lines.specs.declared.refusal.LineRefusal.{LineRefusal}
 use Rattle.sf_lines.specs.declared.refusal.LineRefusal.TheVariants.{BadLine}
-use Rattle.sf_lines.specs.Asking.{Form, blank, sampled, repeated, HasForm, empty, comment, with_value, unchanged, Asked, nothing, advance, step_of, step_refusal, value_refusal, asked_at, Says, formless, silent, untimely, unread, read, again}
-
-natural_zero : natural 0 ≡ 48 ∷ []
-natural_zero = natural_small 0 (omega arith)
-
--- what stands behind a number of a line's front
-abbrev pub Behind : ℕ → List ℕ → Type 0
-Behind d rest = 0 < d → BeginsNoDigit rest
-
--- bytes begin with a number in one way
-pub natural-cut : (d e : ℕ) (rest more : List ℕ) → Behind d rest → Behind e more → natural d ++ rest ≡ natural e ++ more → (d ≡ e) × (rest ≡ more)
-natural-cut zero zero rest more p q h = (refl, tails (ap (λ x. x ++ rest) (sym natural_zero) ∙ h ∙ ap (λ x. x ++ more) natural_zero))
-  where
-    tails : 48 ∷ rest ≡ 48 ∷ more → rest ≡ more
-    tails e = cc
-natural-cut zero (suc e) rest more p q h =
-    let n = numeral (suc e) (omega arith) in
-    absurd (heads n.head n.tail n.low (ap (λ x. x ++ rest) (sym natural_zero) ∙ h ∙ ap (λ x. x ++ more) n.is))
-  where
-    heads : (head : ℕ) (tail : List ℕ) → 49 ≤ head → 48 ∷ rest ≡ (head ∷ tail) ++ more → ⊥
-    heads head tail low e = let same : 48 ≡ head = cc in omega arith
-natural-cut (suc d) zero rest more p q h =
-    let n = numeral (suc d) (omega arith) in
-    absurd (heads n.head n.tail n.low (ap (λ x. x ++ more) (sym natural_zero) ∙ sym h ∙ ap (λ x. x ++ rest) n.is))
-  where
-    heads : (head : ℕ) (tail : List ℕ) → 49 ≤ head → 48 ∷ more ≡ (head ∷ tail) ++ rest → ⊥
-    heads head tail low e = let same : 48 ≡ head = cc in omega arith
-natural-cut (suc d) (suc e) rest more p q h =
-    let n = numeral (suc d) (omega arith) in
-    let m = numeral (suc e) (omega arith) in
-    let whole : n.head ∷ (n.tail ++ rest) ≡ m.head ∷ (m.tail ++ more) = ap (λ x. x ++ rest) (sym n.is) ∙ h ∙ ap (λ x. x ++ more) m.is in
-    let first : n.head ≡ m.head = cc in
-    let others : n.tail ++ rest ≡ m.tail ++ more = cc in
-    let tails : n.tail ≡ m.tail = sym (digits_at-append n.tail rest n.digits (p (omega arith))) ∙ ap digits_at others ∙ digits_at-append m.tail more m.digits (q (omega arith)) in (
-      sym n.value ∙ ap (λ x. value_after (x - 48) n.tail) first ∙ ap (value_after (m.head - 48)) tails ∙ m.value,
-      sym (after_digits-append n.tail rest n.digits (p (omega arith))) ∙ ap after_digits others ∙ after_digits-append m.tail more m.digits (q (omega arith)),
-    )
-
--- a number begins with a digit
-pub record Begins (d : ℕ) : Type 0 where
-  pub head : ℕ
-  pub tail : List ℕ
-  pub is : natural d ≡ head ∷ tail
-  pub low : 48 ≤ head
-  pub high : head < 58
-
-pub natural-head : (d : ℕ) → Begins d
-natural-head zero = record { head = 48; tail = []; is = natural_zero; low = omega arith; high = omega arith }
-natural-head (suc d) = let n = numeral (suc d) (omega arith) in record { head = n.head; tail = n.tail; is = n.is; low = omega (arith, n.low); high = n.high }
+use Rattle.sf_lines.specs.Asking.{LineForm, blank, sampled, repeated, HasForm, empty, comment, with_value, unchanged, Asked, nothing, advance, step_of, step_refusal, value_refusal, asked_at, Says, formless, silent, untimely, unread, read, again}
 
 not_empty : (d : ℕ) (rest : List ℕ) → [] ≡ natural d ++ rest → ⊥
 not_empty d rest e = let n = natural-head d in let f : [] ≡ n.head ∷ (n.tail ++ rest) = e ∙ ap (λ x. x ++ rest) n.is in cc
@@ -72,7 +22,7 @@ not_comment d rest text e =
 pub no_digit : (d : ℕ) (rest : List ℕ) → Behind d (32 ∷ rest)
 no_digit d rest some = refl
 
-pub one_form : (line : List ℕ) (f g : Form) → HasForm line f → HasForm line g → f ≡ g
+pub one_form : (line : List ℕ) (f g : LineForm) → HasForm line f → HasForm line g → f ≡ g
 one_form _ _ _ empty empty = refl
 one_form _ _ _ empty (with_value {d = d} e n) = absurd (not_empty d _ e)
 one_form _ _ _ empty (unchanged {d = d} e n) = absurd (not_empty d _ e)
@@ -117,7 +67,7 @@ abbrev GivesValue : Kind → ℕ → List ℕ → Result Asked LineRefusal → T
 GivesValue k d value answer = (r : Result Data Refusal) × Reads k value r × (answer ≡ answer_at d r)
 
 -- what a form gives
-abbrev Gives : Bool → Kind → Form → Result Asked LineRefusal → Type 0
+abbrev Gives : Bool → Kind → LineForm → Result Asked LineRefusal → Type 0
 Gives s k blank answer = answer ≡ Ok nothing
 Gives s k (sampled d value) answer = RefusedOr (step_refusal s d) (GivesValue k d value) answer
 Gives s k (repeated d) answer = RefusedOr (step_refusal s d) (λ a. a ≡ Ok (advance d None)) answer
@@ -130,12 +80,12 @@ refused_as : (o : Option LineRefusal) (P : Result Asked LineRefusal → Type 0) 
 refused_as None P r e = cc
 refused_as (Some q) P r e = cc
 
-gives_refused : (s : Bool) (k : Kind) (form : Form) (d : ℕ) (r : LineRefusal) → step_of form ≡ Some d → step_refusal s d ≡ Some r → Gives s k form (Err r)
+gives_refused : (s : Bool) (k : Kind) (form : LineForm) (d : ℕ) (r : LineRefusal) → step_of form ≡ Some d → step_refusal s d ≡ Some r → Gives s k form (Err r)
 gives_refused s k blank d r e h = cc
 gives_refused s k (sampled t value) d r e h = let same : t ≡ d = cc in refused_as (step_refusal s t) (GivesValue k t value) r (ap (step_refusal s) same ∙ h)
 gives_refused s k (repeated t) d r e h = let same : t ≡ d = cc in refused_as (step_refusal s t) (λ a. a ≡ Ok (advance t None)) r (ap (step_refusal s) same ∙ h)
 
-gives : (s : Bool) (k : Kind) (line : List ℕ) (answer : Result Asked LineRefusal) (f : Form) → Says s k line answer → HasForm line f → Gives s k f answer
+gives : (s : Bool) (k : Kind) (line : List ℕ) (answer : Result Asked LineRefusal) (f : LineForm) → Says s k line answer → HasForm line f → Gives s k f answer
 gives s k line _ f (formless none) h = absurd (none f h)
 gives s k line _ f (silent g) h = subst (λ x. Gives s k x (Ok nothing)) (one_form line blank f g h) refl
 gives s k line _ f (untimely {form = form} {d = d} {r = r} g is late) h = subst (λ x. Gives s k x (Err r)) (one_form line form f g h) (gives_refused s k form d r is late)
@@ -153,14 +103,14 @@ one_or : (o : Option LineRefusal) (P : Result Asked LineRefusal → Type 0) (a b
 one_or None P a b one p q = one p q
 one_or (Some r) P a b one p q = p ∙ sym q
 
-one_given : (s : Bool) (k : Kind) (f : Form) (a b : Result Asked LineRefusal) → Gives s k f a → Gives s k f b → a ≡ b
+one_given : (s : Bool) (k : Kind) (f : LineForm) (a b : Result Asked LineRefusal) → Gives s k f a → Gives s k f b → a ≡ b
 one_given s k blank a b p q = p ∙ sym q
 one_given s k (sampled d value) a b p q = one_or (step_refusal s d) (GivesValue k d value) a b (one_value k d value a b) p q
 one_given s k (repeated d) a b p q = one_or (step_refusal s d) (λ x. x ≡ Ok (advance d None)) a b (λ x y. x ∙ sym y) p q
 
 -- the line has a form, or none
 abbrev Formed : List ℕ → Result Asked LineRefusal → Type 0
-Formed line answer = ((f : Form) × HasForm line f) ⊎ (((f : Form) → HasForm line f → ⊥) × (answer ≡ Err BadLine))
+Formed line answer = ((f : LineForm) × HasForm line f) ⊎ (((f : LineForm) → HasForm line f → ⊥) × (answer ≡ Err BadLine))
 
 formed : (s : Bool) (k : Kind) (line : List ℕ) (answer : Result Asked LineRefusal) → Says s k line answer → Formed line answer
 formed s k line _ (formless none) = inr (none, refl)
@@ -173,9 +123,9 @@ formed s k line _ (again {d = d} g timely) = inl (repeated d, g)
 -- a line says one thing at most
 pub one_answer : (s : Bool) (k : Kind) (line : List ℕ) (a b : Result Asked LineRefusal) → Says s k line a → Says s k line b → a ≡ b
 one_answer s k line a b p q = ⊎_elim
-    (λ (f : (f : Form) × HasForm line f). one_given s k f.0 a b (gives s k line a f.0 p f.1) (gives s k line b f.0 q f.1))
-    (λ (none : ((f : Form) → HasForm line f → ⊥) × (a ≡ Err BadLine)). ⊎_elim
-    (λ (f : (f : Form) × HasForm line f). absurd (none.0 f.0 f.1))
-    (λ (other : ((f : Form) → HasForm line f → ⊥) × (b ≡ Err BadLine)). none.1 ∙ sym other.1)
+    (λ (f : (f : LineForm) × HasForm line f). one_given s k f.0 a b (gives s k line a f.0 p f.1) (gives s k line b f.0 q f.1))
+    (λ (none : ((f : LineForm) → HasForm line f → ⊥) × (a ≡ Err BadLine)). ⊎_elim
+    (λ (f : (f : LineForm) × HasForm line f). absurd (none.0 f.0 f.1))
+    (λ (other : ((f : LineForm) → HasForm line f → ⊥) × (b ≡ Err BadLine)). none.1 ∙ sym other.1)
     (formed s k line b q))
     (formed s k line a p)

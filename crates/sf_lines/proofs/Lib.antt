@@ -1,7 +1,6 @@
 pub mod Splitting
 pub mod CutterSteps
 pub mod Forms
-pub mod Capped
 pub mod Parsed
-pub mod Sizes
+pub mod Answered
 pub mod Timely

@@ -1,28 +1,28 @@
 -- What the parts of a line make of it.
-use Rattle.std.proofs.Common.{◌≡◌, ◌≢◌, ◌↔◌, ℕ, suc, ◌+◌, ◌-◌, ◌<◌, ◌≤◌, min, Bool, true, false, List, [], ◌∷◌, ◌++◌, length, take, drop, get_or, codes, Some, None, Result, Ok, Err, refl, sym, ◌∙◌, ap, subst, arith}
+use Rattle.std.proofs.Common.{◌≡◌, ◌≢◌, ◌↔◌, ℕ, suc, ◌-◌, ◌<◌, ◌≤◌, min, Bool, true, false, List, [], ◌∷◌, ◌++◌, length, take, drop, get_or, codes, Some, None, Result, Ok, Err, refl, sym, ◌∙◌, ap, subst, arith}
 use Rattle.std.specs.Prelude.{IsTrue, IfOk, IfErr, not, nat_eq}
 use Rattle.std.specs.Cmp.Lexicographic.{pointwise, same_text, other_text}
 use Rattle.std.specs.Char.{is_ascii_digit}
+use Rattle.std.specs.Str.Parse.{digits_value}
 use Rattle.std.proofs.lemmas.Bool.{false≢true}
 use Rattle.std.proofs.lemmas.Bool.Decides.{nat_tests}
 use Rattle.sf_value.specs.Values.{Kind, Data}
-use Rattle.sf_value.specs.Digits.{BeginsNoDigit, value_after, digits_at, after_digits}
-use Rattle.sf_value.specs.Spelling.{natural}
+use Rattle.sf_decimal.specs.Decimals.{natural, BeginsNoDigit, digits_at, after_digits}
 use Rattle.sf_value.specs.Reading.{Refusal, bad_value, out_of_range, Reads}
 use Rattle.sf_value.specs.Refuses.{Refuses}
 use Rattle.sf_value.specs.declared.read.ReadRefusal.{ReadRefusal}
 use Rattle.sf_value.specs.declared.read.ReadRefusal.TheVariants as read
-use Rattle.sf_value.proofs.Numbers.{natural_small}
-use Rattle.sf_value.proofs.Digits.{digit_low, digit_high, digit_from, natural_after, cut}
+use Rattle.sf_decimal.proofs.Numbers.{natural_small}
+use Rattle.sf_decimal.proofs.Digits.{digit_low, digit_from, numeral_at, natural-cut, natural-head}
+use Rattle.sf_decimal.proofs.Runs.{take_whole}
 use Rattle.sf_lines.specs.declared.refusal.LineRefusal.{LineRefusal}
 use Rattle.sf_lines.specs.declared.refusal.LineRefusal.TheVariants.{Memory}
 use Rattle.sf_lines.specs.Refusals.{refusal_from}
-use Rattle.sf_lines.specs.Asking.{Form, blank, sampled, repeated, HasForm, empty, comment, with_value, unchanged, advance, step_of, step_refusal, value_refusal, asked_at, Says, untimely, unread, read, again, HasTimelyValue}
+use Rattle.sf_lines.specs.Asking.{LineForm, blank, sampled, repeated, HasForm, empty, comment, with_value, unchanged, advance, step_of, step_refusal, value_refusal, asked_at, Says, untimely, unread, read, again, HasTimelyValue}
 use Rattle.sf_lines.specs.declared.reader.Command.{Command}
 use Rattle.sf_lines.specs.Commands.{asked_of}
 use Rattle.sf_lines.specs.Parsing.{step_cap, NumberThen, BeginsNoNumber, StepThen, BeginsNoStep}
-use Rattle.sf_lines.proofs.Capped.{take_whole}
-use Rattle.sf_lines.proofs.Forms.{natural-cut, natural-head, no_digit}
+use Rattle.sf_lines.proofs.Forms.{no_digit}
 
 -- a value that is not read is refused, unless memory runs out
 pub read_failed : (k : Kind) (bytes : List ℕ) (e : ReadRefusal) (r : LineRefusal) → Refuses k bytes e → r ≡ refusal_from e → r ≢ Memory → (why : Refusal) × Reads k bytes (Err why) × (r ≡ value_refusal why)
@@ -60,19 +60,17 @@ number_zero bytes rest e = record {
   ends = λ some. absurd (omega arith);
 }
 
-pub number_some : (bytes : List ℕ) (c : ℕ) (rest : List ℕ) (n : ℕ) (more : List ℕ) → bytes ≡ c ∷ rest → c ≢ 48 → is_ascii_digit c ≡ true → n ≡ min (value_after (c - 48) (digits_at rest)) step_cap → more ≡ after_digits rest → NumberThen bytes n more
+pub number_some : (bytes : List ℕ) (c : ℕ) (rest : List ℕ) (n : ℕ) (more : List ℕ) → bytes ≡ c ∷ rest → c ≢ 48 → is_ascii_digit c ≡ true → n ≡ min (digits_value 10 (digits_at bytes)) step_cap → more ≡ after_digits bytes → NumberThen bytes n more
 number_some bytes c rest n more b other digit e f =
     let low = digit_low c digit in
-    let high = digit_high c digit in
-    let k = cut rest in
-    let same : 48 + (c - 48) ≡ c = omega arith in
-    let one : natural (c - 48) ≡ c ∷ [] = natural_small (c - 48) (omega arith) ∙ ap (λ x. x ∷ []) same in
-    let is : natural (value_after (c - 48) (digits_at rest)) ≡ c ∷ digits_at rest = natural_after (c - 48) (digits_at rest) (omega arith) k.0 ∙ ap (λ x. x ++ digits_at rest) one in
+    let is = numeral_at c rest (omega arith) digit in
+    let number = digits_value 10 (digits_at (c ∷ rest)) in
+    let same : more ≡ after_digits (c ∷ rest) = f ∙ ap after_digits b in
     record {
-      number = value_after (c - 48) (digits_at rest);
-      capped = e;
-      cut = b ∙ ap (λ x. c ∷ x) k.1 ∙ ap (λ x. x ++ after_digits rest) (sym is) ∙ ap (λ x. natural (value_after (c - 48) (digits_at rest)) ++ x) (sym f);
-      ends = λ some. subst BeginsNoDigit (sym f) k.2;
+      number = number;
+      capped = e ∙ ap (λ x. min (digits_value 10 (digits_at x)) step_cap) b;
+      cut = b ∙ is.1 ∙ ap (λ x. natural number ++ x) (sym same);
+      ends = λ some. subst BeginsNoDigit (sym same) is.2;
     }
 
 -- another byte than a space behind the number
@@ -96,20 +94,20 @@ step_then bytes n rest value h e = record {
 }
 
 -- a line without a step has no form but the blank one
-pub formless_none : (bytes : List ℕ) → (HasForm bytes blank → ⊥) → BeginsNoStep bytes → (form : Form) → HasForm bytes form → ⊥
+pub formless_none : (bytes : List ℕ) → (HasForm bytes blank → ⊥) → BeginsNoStep bytes → (form : LineForm) → HasForm bytes form → ⊥
 formless_none bytes some none form h = at bytes form h some none
   where
-    at : (bytes : List ℕ) (form : Form) → HasForm bytes form → (HasForm bytes blank → ⊥) → BeginsNoStep bytes → ⊥
+    at : (bytes : List ℕ) (form : LineForm) → HasForm bytes form → (HasForm bytes blank → ⊥) → BeginsNoStep bytes → ⊥
     at _ _ empty some none = some empty
     at _ _ comment some none = some comment
     at _ _ (with_value {value = value} {d = d} e n) some none = none d value e
     at _ _ (unchanged {d = d} e n) some none = none d (codes "=") e
 
 -- a step of 0 with the input unchanged
-pub formless_zero : (bytes : List ℕ) (n : ℕ) (value : List ℕ) → (HasForm bytes blank → ⊥) → StepThen bytes n value → value ≡ codes "=" → n ≡ 0 → (form : Form) → HasForm bytes form → ⊥
+pub formless_zero : (bytes : List ℕ) (n : ℕ) (value : List ℕ) → (HasForm bytes blank → ⊥) → StepThen bytes n value → value ≡ codes "=" → n ≡ 0 → (form : LineForm) → HasForm bytes form → ⊥
 formless_zero bytes n value some s is zero_step form h = at bytes form h some s
   where
-    at : (bytes : List ℕ) (form : Form) → HasForm bytes form → (HasForm bytes blank → ⊥) → StepThen bytes n value → ⊥
+    at : (bytes : List ℕ) (form : LineForm) → HasForm bytes form → (HasForm bytes blank → ⊥) → StepThen bytes n value → ⊥
     at _ _ empty some s = some empty
     at _ _ comment some s = some comment
     at _ _ (with_value {value = other} {d = d} e other_value) some s =
@@ -172,7 +170,7 @@ pub step_positive : (n d : ℕ) → n ≡ min d step_cap → 0 < n → 0 < d
 step_positive n d e h = omega arith
 
 -- a refused time step refuses the line
-pub says_untimely : (s : Bool) (k : Kind) (bytes : List ℕ) (form : Form) (n d : ℕ) (r : LineRefusal) → n ≡ min d step_cap → HasForm bytes form → step_of form ≡ Some d → Some r ≡ step_refusal s n → Says s k bytes (Err r)
+pub says_untimely : (s : Bool) (k : Kind) (bytes : List ℕ) (form : LineForm) (n d : ℕ) (r : LineRefusal) → n ≡ min d step_cap → HasForm bytes form → step_of form ≡ Some d → Some r ≡ step_refusal s n → Says s k bytes (Err r)
 says_untimely s k bytes form n d r e h is refused = untimely h is (sym (step_refusal-capped s n d e) ∙ sym refused)
 
 -- no time step is refused for want of memory

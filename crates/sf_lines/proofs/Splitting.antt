@@ -4,7 +4,8 @@ use Rattle.std.proofs.lemmas.List.{append-nil}
 use Rattle.std.proofs.lemmas.Grind.{flat_map-append}
 use Rattle.std.proofs.lemmas.List.Elements.{All-head, All-tail, All-append, All-push, All-nil}
 use Rattle.std.proofs.lemmas.Bool.Decides.{nat_tests}
-use Rattle.sf_lines.specs.Lines.{NoFeed, Splits, ended, lines_of, onto_first}
+use Rattle.std.specs.List.{onto_first}
+use Rattle.sf_lines.specs.Lines.{NoFeed, Splits, ended, lines_of}
 
 at_other : {X : Type 0} (b : ℕ) (x y : X) → b ≢ 10 → cond (eqb b 10) x y ≡ y
 at_other b x y h = grind (arith, nat_tests)

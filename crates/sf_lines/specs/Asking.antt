@@ -1,20 +1,20 @@
 -- The grammar of input lines, and what a line asks for.
 use Rattle.std.specs.Prelude.{◌≡◌, ◌≢◌, ℕ, zero, suc, ◌<◌, ◌==◌, Bool, true, false, nat_lt, if◌then◌else◌, List, [], ◌∷◌, ◌++◌, codes, Option, Some, None, Result, Ok, Err}
 use Rattle.sf_value.specs.Values.{Kind, Data}
-use Rattle.sf_value.specs.Spelling.{natural}
+use Rattle.sf_decimal.specs.Decimals.{natural}
 use Rattle.sf_value.specs.Reading.{Refusal, bad_value, out_of_range, Reads}
 use Rattle.sf_lines.specs.declared.refusal.LineRefusal.{LineRefusal}
 use Rattle.sf_lines.specs.declared.refusal.LineRefusal.TheVariants.{BadLine, NotStarted, Started, BadStep, BadValue, OutOfRange}
 
 -- The parts of a line: nothing, or a comment; a time step in milliseconds and the bytes of a value; a time step
 -- with the input unchanged.
-pub data Form : Type 0 where
-  blank : Form
-  sampled : ℕ → List ℕ → Form
-  repeated : ℕ → Form
+pub data LineForm : Type 0 where
+  blank : LineForm
+  sampled : ℕ → List ℕ → LineForm
+  repeated : ℕ → LineForm
 
 -- a line has these parts
-pub data HasForm : List ℕ → Form → Type 0 where
+pub data HasForm : List ℕ → LineForm → Type 0 where
   empty : HasForm [] blank
   comment : {rest : List ℕ} → HasForm (35 ∷ rest) blank
   with_value : {line value : List ℕ} {d : ℕ} → line ≡ natural d ++ (codes " " ++ value) → value ≢ codes "=" → HasForm line (sampled d value)
@@ -28,7 +28,7 @@ pub data Asked : Type 0 where
   advance : ℕ → Option Data → Asked
 
 -- the time step of a line
-abbrev pub step_of : Form → Option ℕ
+abbrev pub step_of : LineForm → Option ℕ
 step_of blank = None
 step_of (sampled d value) = Some d
 step_of (repeated d) = Some d
@@ -57,9 +57,9 @@ asked_at (suc d) x = advance (suc d) (Some x)
 
 -- What a line asks for, or the refusal that comes first: of its form, of its time step, of its value.
 pub data Says (started : Bool) (input : Kind) : List ℕ → Result Asked LineRefusal → Type 0 where
-  formless : {line : List ℕ} → ((form : Form) → HasForm line form → ⊥) → Says started input line (Err BadLine)
+  formless : {line : List ℕ} → ((form : LineForm) → HasForm line form → ⊥) → Says started input line (Err BadLine)
   silent : {line : List ℕ} → HasForm line blank → Says started input line (Ok nothing)
-  untimely : {line : List ℕ} {form : Form} {d : ℕ} {r : LineRefusal} → HasForm line form → step_of form ≡ Some d → step_refusal started d ≡ Some r → Says started input line (Err r)
+  untimely : {line : List ℕ} {form : LineForm} {d : ℕ} {r : LineRefusal} → HasForm line form → step_of form ≡ Some d → step_refusal started d ≡ Some r → Says started input line (Err r)
   unread : {line value : List ℕ} {d : ℕ} (r : Refusal) → HasForm line (sampled d value) → step_refusal started d ≡ None → Reads input value (Err r) → Says started input line (Err (value_refusal r))
   read : {line value : List ℕ} {d : ℕ} {x : Data} → HasForm line (sampled d value) → step_refusal started d ≡ None → Reads input value (Ok x) → Says started input line (Ok (asked_at d x))
   again : {line : List ℕ} {d : ℕ} → HasForm line (repeated d) → step_refusal started d ≡ None → Says started input line (Ok (advance d None))

@@ -37,11 +37,11 @@ abbrev pub lines_taken : Cutter → ℕ
 lines_taken c = c.count
 
 -- the refusal that each later call answers
-abbrev pub refusal_of : Cutter → Option LineRefusal
-refusal_of c = refused_at c.state
+abbrev pub stopped_by : Cutter → Option LineRefusal
+stopped_by c = refused_at c.state
 
-abbrev pub Refuses : Cutter → LineRefusal → Type 0
-Refuses c r = refusal_of c ≡ Some r
+abbrev pub IsStoppedBy : Cutter → LineRefusal → Type 0
+IsStoppedBy c r = stopped_by c ≡ Some r
 
 -- a complete line is let go
 pub record IsBegun (old new : Cutter) : Type 0 where
@@ -88,10 +88,10 @@ CutRefused old piece BadValue = ⊥
 CutRefused old piece OutOfRange = ⊥
 CutRefused old piece Memory = ⊥
 
-abbrev pub Cuts : Cutter → List ℕ → Result Cut LineRefusal → Cutter → Type 0
-Cuts old piece (Ok (Line used)) new = Completes old piece used new
-Cuts old piece (Ok Part) new = Grows old piece new
-Cuts old piece (Err r) new = CutRefused old piece r
+abbrev pub CutsPiece : Cutter → List ℕ → Result Cut LineRefusal → Cutter → Type 0
+CutsPiece old piece (Ok (Line used)) new = Completes old piece used new
+CutsPiece old piece (Ok Part) new = Grows old piece new
+CutsPiece old piece (Err r) new = CutRefused old piece r
 
 -- unfinished bytes are a line at the end of the stream
 pub record Closes (old : Cutter) (new : Cutter) : Type 0 where

@@ -1,14 +1,13 @@
 -- What the parts of the reader answer.
-use Rattle.std.specs.Prelude.{◌≡◌, ℕ, ◌<◌, min, List, ◌∷◌, ◌++◌}
-use Rattle.sf_value.specs.Digits.{BeginsNoDigit}
-use Rattle.sf_value.specs.Spelling.{natural}
+use Rattle.std.specs.Prelude.{◌≡◌, ℕ, ◌<◌, ◌-◌, ◌^◌, min, List, ◌∷◌, ◌++◌}
+use Rattle.sf_decimal.specs.Decimals.{natural, BeginsNoDigit}
 use Rattle.sf_lines.specs.declared.reader.Parts.{Parts}
 use Rattle.sf_lines.specs.declared.reader.Parts.TheVariants.{Blank, Sampled, Repeated}
 use Rattle.sf_lines.specs.Asking.{blank, sampled, repeated, HasForm}
 
 -- past every time step that may be
 abbrev pub step_cap : ℕ
-step_cap = 3600001
+step_cap = 2 ^ 64 - 1
 
 -- the bytes begin with a number, which is n or both are past the cap, and the rest follows its last digit
 pub record NumberThen (bytes : List ℕ) (n : ℕ) (rest : List ℕ) : Type 0 where

@@ -6,7 +6,7 @@ use Rattle.sf_lines.specs.declared.cutter.Cut.TheVariants.{Line, Part}
 use Rattle.sf_lines.specs.declared.refusal.LineRefusal.{LineRefusal}
 use Rattle.sf_lines.specs.Lines.{Splits, lines_of}
 use Rattle.sf_lines.specs.Limits.{limit_refusal, RefusesNext}
-use Rattle.sf_lines.specs.Cutting.{pending, line_of, lines_taken, refusal_of}
+use Rattle.sf_lines.specs.Cutting.{pending, line_of, lines_taken, stopped_by}
 
 -- The cutter stands for each stream of as many complete lines as it has counted, at most 1,000,000 of at most
 -- 65,536 bytes each, and then the unfinished bytes that it holds, which are within those limits too.
@@ -16,13 +16,13 @@ pub record CutterStands (c : Cutter) (stream : List ℕ) (lines : List (List ℕ
   pub few : length lines ≤ 1000000
   pub short : All (λ line. length line ≤ 65536) lines
   pub unfinished : pending c ≢ [] → limit_refusal (length lines) (pending c) ≡ None
-  pub accepts : refusal_of c ≡ None
+  pub accepts : stopped_by c ≡ None
 
 -- what a piece gives behind a stream of these lines
-abbrev pub Takes : List ℕ → List (List ℕ) → List ℕ → Result Cut LineRefusal → Cutter → Type 0
-Takes stream lines piece (Ok (Line used)) new = CutterStands new (stream ++ take used piece) (lines ++ line_of new ∷ [])
-Takes stream lines piece (Ok Part) new = CutterStands new (stream ++ piece) lines
-Takes stream lines piece (Err r) new = RefusesNext (stream ++ piece) lines r
+abbrev pub TakesPiece : List ℕ → List (List ℕ) → List ℕ → Result Cut LineRefusal → Cutter → Type 0
+TakesPiece stream lines piece (Ok (Line used)) new = CutterStands new (stream ++ take used piece) (lines ++ line_of new ∷ [])
+TakesPiece stream lines piece (Ok Part) new = CutterStands new (stream ++ piece) lines
+TakesPiece stream lines piece (Err r) new = RefusesNext (stream ++ piece) lines r
 
 -- what the end gives behind a stream of these lines: unfinished bytes are then a line, as if a line feed followed
 abbrev pub Finishes : List ℕ → List (List ℕ) → Result Cut LineRefusal → Cutter → Type 0

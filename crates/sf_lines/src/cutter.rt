@@ -39,8 +39,8 @@ pub struct Cutter {
 }
 
 impl Cutter {
-    ghost use Rattle.sf_lines.specs.Cutting.{line_of, refusal_of, Refuses, IsBegun, Cuts, Ends};
-    ghost use Rattle.sf_lines.specs.Standing.{CutterStands, Takes, TakesBytes, Finishes, FinishesBytes};
+    ghost use Rattle.sf_lines.specs.Cutting.{line_of, stopped_by, IsStoppedBy, IsBegun, CutsPiece, Ends};
+    ghost use Rattle.sf_lines.specs.Standing.{CutterStands, TakesPiece, TakesBytes, Finishes, FinishesBytes};
 
     /// A cutter at the beginning of a stream, with room for a line.
     pub fn new(alloc: Global) -> Result<Cutter, AllocError>
@@ -54,17 +54,17 @@ impl Cutter {
         })
     }
 
-    /// Takes the bytes of a piece up to and with its first line feed, or all where it has none. It takes no memory.
+    /// TakesPiece the bytes of a piece up to and with its first line feed, or all where it has none. It takes no memory.
     ///
     /// `TooManyLines` comes at the first byte of line 1,000,001, and else `LineTooLong` at the 65,537th byte of a
     /// line. After a refusal each later call answers it again.
     pub fn take(&mut self, piece: &[u8]) -> Result<Cut, LineRefusal>
         // Whatever stream the cutter stands for, the bytes follow it.
         ensures cuts { (stream : List ℕ) (lines : List (List ℕ)) →
-            CutterStands self.old stream lines → Takes stream lines piece.now result self.new }
+            CutterStands self.old stream lines → TakesPiece stream lines piece.now result self.new }
         ensures sizes { TakesBytes self.old piece.now result self.new }
-        ensures again { (r : LineRefusal) → Refuses self.old r → result ≡ Err r }
-        ensures refused { IfErr result (Refuses self.new) }
+        ensures again { (r : LineRefusal) → IsStoppedBy self.old r → result ≡ Err r }
+        ensures refused { IfErr result (IsStoppedBy self.new) }
     {
         if let State::Refused(refusal) = self.state {
             return Err(refusal);
@@ -85,8 +85,8 @@ impl Cutter {
         ensures ends { (stream : List ℕ) (lines : List (List ℕ)) →
             CutterStands self.old stream lines → Finishes stream lines result self.new }
         ensures sizes { FinishesBytes self.old result self.new }
-        ensures again { (r : LineRefusal) → Refuses self.old r → result ≡ Err r }
-        ensures refused { IfErr result (Refuses self.new) }
+        ensures again { (r : LineRefusal) → IsStoppedBy self.old r → result ≡ Err r }
+        ensures refused { IfErr result (IsStoppedBy self.new) }
     {
         if let State::Refused(refusal) = self.state {
             return Err(refusal);
@@ -105,8 +105,8 @@ impl Cutter {
     }
 
     fn cut(&mut self, piece: &[u8]) -> Result<Cut, LineRefusal>
-        requires { refusal_of self.old ≡ None }
-        ensures { Cuts self.old piece.now result self.new }
+        requires { stopped_by self.old ≡ None }
+        ensures { CutsPiece self.old piece.now result self.new }
     {
         self.begin();
         if piece.is_empty() {
@@ -136,7 +136,7 @@ impl Cutter {
     }
 
     fn end(&mut self) -> Cut
-        requires { refusal_of self.old ≡ None }
+        requires { stopped_by self.old ≡ None }
         ensures { Ends self.old result self.new }
     {
         self.begin();
@@ -150,7 +150,7 @@ impl Cutter {
 
     // A complete line is let go, and the next one begins.
     fn begin(&mut self)
-        requires { refusal_of self.old ≡ None }
+        requires { stopped_by self.old ≡ None }
         ensures { IsBegun self.old self.new }
     {
         if let State::Complete = self.state {

@@ -9,3 +9,9 @@ pub fn one_answer()
     ensures { (started : Bool) (input : Kind) (line : List ℕ) (a b : Result Asked LineRefusal) →
         Says started input line a → Says started input line b → a ≡ b }
 {}
+
+/// Each line asks for something or is refused: with `one_answer`, all lines have exactly one answer.
+pub fn some_answer()
+    ensures { (started : Bool) (input : Kind) (line : List ℕ) →
+        (answer : Result Asked LineRefusal) × Says started input line answer }
+{}

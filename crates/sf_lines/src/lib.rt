@@ -15,7 +15,7 @@ mod tests;
 mod writer;
 
 pub use cutter::{Cut, Cutter};
-pub use laws::one_answer;
+pub use laws::{one_answer, some_answer};
 pub use reader::{Command, read_line};
 pub use refusal::LineRefusal;
 pub use short::ShortLine;

@@ -1,14 +1,14 @@
 //! Input lines.
-ghost use Rattle.std.specs.Prelude.{◌≡◌, ◌≢◌, ◌≤◌, ◌<◌, ◌+◌, ◌*◌, ℕ, IfOk, IfErr, IsTrue, ◌↔◌, MatchOption, min, Ok, Err};
+ghost use Rattle.std.specs.Prelude.{◌≡◌, ◌≢◌, IfOk, IfErr, IsTrue, ◌↔◌, MatchOption, Ok, Err};
 ghost use Rattle.sf_value.specs.Values.{Data};
-ghost use Rattle.sf_value.specs.Digits.{value_after, digits_at, after_digits};
 ghost use Rattle.sf_value.specs.Reading.{Refusal, Reads};
 ghost use Rattle.sf_lines.specs.declared.refusal.LineRefusal.TheVariants.{Memory};
-ghost use Rattle.sf_lines.specs.Asking.{Form, blank, HasForm, step_refusal, value_refusal, asked_at, Says, HasTimelyValue};
+ghost use Rattle.sf_lines.specs.Asking.{LineForm, blank, HasForm, step_refusal, value_refusal, asked_at, Says, HasTimelyValue};
 ghost use Rattle.sf_lines.specs.Commands.{asked_of};
-ghost use Rattle.sf_lines.specs.Parsing.{step_cap, NumberThen, BeginsNoNumber, StepThen, BeginsNoStep, HasParts};
+ghost use Rattle.sf_lines.specs.Parsing.{NumberThen, BeginsNoNumber, StepThen, BeginsNoStep, HasParts};
 
 use crate::refusal::LineRefusal;
+use sf_decimal::digits_at;
 use sf_value::{Ty, Value, read_value};
 use std::alloc::Global;
 
@@ -110,7 +110,7 @@ fn refusal_of_step(started: bool, step: u64) -> Option<LineRefusal>
 /// The parts of a line, where it has a form.
 fn parts_of(bytes: &[u8]) -> Option<Parts<'_>>
     ensures { MatchOption result
-        ((form : Form) → HasForm bytes.now form → ⊥)
+        ((form : LineForm) → HasForm bytes.now form → ⊥)
         (HasParts bytes.now) }
 {
     if is_blank(bytes) {
@@ -169,37 +169,11 @@ fn number_at(bytes: &[u8]) -> Option<(u64, &[u8])>
             if *c == b'0' {
                 Some((0, rest))
             } else if c.is_ascii_digit() {
-                Some(digits_after((*c - b'0') as u64, rest))
+                let run = digits_at(bytes);
+                Some((run.number, run.rest))
             } else {
                 None
             }
         }
     }
-}
-
-/// The number that the digits at the front make after a first digit, up to the cap, and what is after them.
-fn digits_after(first: u64, bytes: &[u8]) -> (u64, &[u8])
-    requires { first < 10 }
-    ensures number { result.0 ≡ min (value_after first (digits_at bytes.now)) step_cap }
-    ensures rest { result.1.now ≡ after_digits bytes.now }
-{
-    let mut n = first;
-    let mut left = bytes;
-    while let [c, rest @ ..] = left {
-        if !c.is_ascii_digit() {
-            break;
-        }
-        n = grown(n, *c - b'0');
-        left = rest;
-    }
-    (n, left)
-}
-
-/// One more digit, up to the cap.
-fn grown(n: u64, digit: u8) -> u64
-    requires capped { n ≤ step_cap }
-    requires digit { digit < 10 }
-    ensures { result ≡ min (n * 10 + digit) step_cap }
-{
-    (n * 10 + digit as u64).min(LONGEST_STEP + 1)
 }

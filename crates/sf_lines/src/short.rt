@@ -1,6 +1,5 @@
 //! Lines that take no memory.
 ghost use Rattle.std.specs.Prelude.{◌≡◌, ◌+◌, ◌<◌, ◌≤◌, length, List, [], ◌∷◌, ◌++◌};
-ghost use Rattle.sf_value.specs.Spelling.{natural};
 
 use std::marker::Model;
 
@@ -45,19 +44,6 @@ impl ShortLine {
     {
         for byte in text {
             self.push(*byte);
-        }
-    }
-
-    pub(crate) fn put_natural(&mut self, n: u64)
-        requires { length self.old + length (natural n) ≤ 64 }
-        ensures text { self.new ≡ self.old ++ natural n }
-        ensures size { length self.new ≡ length self.old + length (natural n) }
-    {
-        if n < 10 {
-            self.push(b'0' + n as u8);
-        } else {
-            self.put_natural(n / 10);
-            self.push(b'0' + (n % 10) as u8);
         }
     }
 

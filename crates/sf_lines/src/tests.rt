@@ -1,8 +1,8 @@
 ghost use Rattle.std.specs.Prelude.{◌<◌};
 
 use crate::{
-    Command, Cut, Cutter, LineRefusal, one_answer, read_line, write_fault, write_refusal,
-    write_sample,
+    Command, Cut, Cutter, LineRefusal, one_answer, read_line, some_answer, write_fault,
+    write_refusal, write_sample,
 };
 use sf_value::{Fault, Form, ReadRefusal, Ty, Value, ValueFault};
 use std::alloc::Global;
@@ -207,6 +207,7 @@ fn failures_to_read_are_refusals(rt: HostRuntime) {
     );
     assert_eq!(rt; LineRefusal::from(ReadRefusal::Memory), LineRefusal::Memory);
     one_answer();
+    some_answer();
 }
 
 /// The lines of a text that comes in pieces of a size, each with `|` behind it.

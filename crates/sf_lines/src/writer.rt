@@ -5,7 +5,8 @@ ghost use Rattle.sf_lines.specs.Written.{sample_line, fault_line, refusal_line};
 
 use crate::refusal::LineRefusal;
 use crate::short::ShortLine;
-use sf_value::{Fault, Value, ValueFault, write_natural, write_value};
+use sf_decimal::{Numeral, write_natural};
+use sf_value::{Fault, Value, ValueFault, write_value};
 use std::alloc::AllocError;
 
 /// Appends the line of a sample, `> T VALUE`, at a time in milliseconds. An error leaves what was there.
@@ -22,13 +23,12 @@ pub fn write_sample(time: u64, value: &Value, out: &mut Vec<u8>) -> Result<(), A
 }
 
 /// The line of a fault, `! T FAULT`, at a time in milliseconds.
-#[tactic(auto, using(crate::proofs::Sizes::natural_size))]
 pub fn write_fault(time: u64, fault: Fault) -> ShortLine
     ensures { result ≡ fault_line time fault }
 {
     let mut line = ShortLine::new();
     line.put(b"! ");
-    line.put_natural(time);
+    line.put(Numeral::new().natural(time));
     line.put(b" ");
     line.put(name_of_fault(fault));
     line.put(b"\n");
@@ -36,13 +36,12 @@ pub fn write_fault(time: u64, fault: Fault) -> ShortLine
 }
 
 /// The line of a refusal, `! line N REFUSAL`, of the input line with this number from 1.
-#[tactic(auto, using(crate::proofs::Sizes::natural_size))]
 pub fn write_refusal(line: u64, refusal: LineRefusal) -> ShortLine
     ensures { result ≡ refusal_line line refusal }
 {
     let mut text = ShortLine::new();
     text.put(b"! line ");
-    text.put_natural(line);
+    text.put(Numeral::new().natural(line));
     text.put(b" ");
     text.put(name_of_refusal(refusal));
     text.put(b"\n");

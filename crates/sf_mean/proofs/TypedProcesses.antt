@@ -7,7 +7,7 @@ use Rattle.sf_expr.specs.Typing.{Names, HasType, FunctionTakes}
 use Rattle.sf_expr.specs.Soundness.{Yields, yields, fails, ScopeHas, has_no_names}
 use Rattle.sf_term.specs.declared.form.Side.TheVariants.{First, Second}
 use Rattle.sf_term.specs.Trees.{Chain, Primitive, Term}
-use Rattle.sf_mean.specs.Lives.{Step, input_of, Life, Environment, scope_of, Process, first_input as input_at_first}
+use Rattle.sf_mean.specs.Lives.{Step, input_of, Life, Environment, scope_around, Process, first_input as input_at_first}
 use Rattle.sf_mean.specs.Formulas.{before, with_side, apply_chain, formula}
 use Rattle.sf_mean.specs.Meaning.{Network, Outcome, Cost, Made, value_made, make, Gives, gives, Outputs, not_begun, and_gave, Sample, of_constants, of_form, Form, of_primitive, of_join, of_side, of_loop, of_stages, Next, goes_on, stops, Loops, no_loop, and_looped}
 use Rattle.sf_mean.specs.Contexts.{Bindings, values_in, context_with, Context, names_of_values}
@@ -47,7 +47,7 @@ made_has {t = t} {v = v} (yields {d = d} h) e = subst (λ w. HasKind w t) (ap (m
 made_has fails e = absurd cc
 
 -- the values of an environment have the types of their names
-pub environment_scope : {e : Environment} {bs : Bindings} → EnvironmentHas e bs → ScopeHas (scope_of e) (values_in bs)
+pub environment_scope : {e : Environment} {bs : Bindings} → EnvironmentHas e bs → ScopeHas (scope_around e) (values_in bs)
 environment_scope has_nothing = has_no_names
 
 module _ (n : Network) (eval_is : EvalsTyped) (apply_is : AppliesTyped) where

@@ -46,8 +46,8 @@ pub data Process : Type 0 where
   closure : Term → Environment → Process
 
 -- the scope of expressions
-abbrev pub scope_of : Environment → Scope
-scope_of empty = no_names
+abbrev pub scope_around : Environment → Scope
+scope_around empty = no_names
 
 -- the same times, with another input made of each
 abbrev pub with_inputs : (Data → Data) → Life → Life

@@ -9,7 +9,7 @@ use Rattle.sf_term.specs.declared.form.Join.TheVariants.{InSequence, InParallel,
 use Rattle.sf_term.specs.declared.form.Side.{Side}
 use Rattle.sf_term.specs.declared.form.Heading.TheVariants.{LoopPre}
 use Rattle.sf_term.specs.Trees.{Primitive, Extent, whole, rest, Term, primitive, joined, sided, headed, staged, Templates}
-use Rattle.sf_mean.specs.Lives.{Step, input_of, Life, Process, closure, Environment, scope_of, with_inputs, relay, fed, first_input as input_at_first}
+use Rattle.sf_mean.specs.Lives.{Step, input_of, Life, Process, closure, Environment, scope_around, with_inputs, relay, fed, first_input as input_at_first}
 use Rattle.sf_mean.specs.Formulas.{side_of, with_side, formula}
 
 -- A network: its templates. What its stored functions answer will stand beside them.
@@ -97,7 +97,7 @@ abbrev pub make : Network → Term → Environment → Data → Evaluated Made
 make n (primitive p) e x = answer nothing_made
 make n (joined j f g) e x = answer nothing_made
 make n (sided d t) e x = answer nothing_made
-make n (headed h i t) e x = eval i (scope_of e) >>= λ v. answer (value_made v)
+make n (headed h i t) e x = eval i (scope_around e) >>= λ v. answer (value_made v)
 make n (staged x f g) e y = answer nothing_made
 
 -- what the left part of a join lives
@@ -146,7 +146,7 @@ mutual
   pub data Form (n : Network) : Term → Environment → Made → Step → Life → Outcome → Cost → Type 0 where
     -- a primitive gives its formula
     of_primitive : {p : Primitive} {e : Environment} {m : Made} {s : Step} {L : Life} {o : Outcome}
-        → as_outcome (formula p (scope_of e) s L) [] ≡ o
+        → as_outcome (formula p (scope_around e) s L) [] ≡ o
         → Form n (primitive p) e m s L o one_term
     -- left before right, each on its own life
     of_join : {j : Join} {f g : Term} {e : Environment} {m : Made} {s : Step} {L : Life} {ys : List Data} {o o' : Outcome} {c c' : Cost}

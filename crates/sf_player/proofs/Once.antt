@@ -13,7 +13,7 @@ use Rattle.sf_lines.specs.Asking.{Asked, nothing, start, advance, Says}
 use Rattle.sf_lines.specs.Written.{sample_line, fault_line, refusal_line}
 use Rattle.sf_lines.specs.declared.refusal.LineRefusal.{LineRefusal}
 use Rattle.sf_lines.proofs.Forms.{one_answer}
-use Rattle.sf_player.specs.Scripts.{Moment, has_begun, life_after, IsSample, Ending, input_ended, sample_faulted, line_refused, Turn, goes_on, ends, Replies, past_limits, refused, quiet, gives_value, gives_fault, gives_none, Reaches, no_line, one_more, Script, to_the_end, up_to, Agree, both_go_on, both_end}
+use Rattle.sf_player.specs.Scripts.{Moment, has_begun, life_after, IsSample, Ending, input_ended, sample_faulted, line_refused, Turn, goes_on, ends, Replies, past_limits, refused, quiet, gives_value, gives_fault, gives_none, LeadsTo, no_line, one_more, Script, to_the_end, up_to, Agree, both_go_on, both_end}
 
 -- what a sample gives
 data SampleGives (n : Network) (m : Template) (taken : ℕ) (L : Life) : List ℕ → Turn → Type 0 where
@@ -92,7 +92,7 @@ data Spoken (n : Network) (m : Template) : Moment → List (List ℕ) → List �
   ending : {now : Moment} {line text : List ℕ} {e : Ending} (others : List (List ℕ)) → Replies n m now line text (ends e) → Spoken n m now (line ∷ others) text e
   going : {now between : Moment} {line text said : List ℕ} {others : List (List ℕ)} {e : Ending} → Replies n m now line text (goes_on between) → Spoken n m between others said e → Spoken n m now (line ∷ others) (text ++ said) e
 
-spoken_after : {n : Network} {m : Template} {now between : Moment} {front : List (List ℕ)} {said text : List ℕ} {others : List (List ℕ)} {e : Ending} → Reaches n m now front said between → Spoken n m between others text e → Spoken n m now (front ++ others) (said ++ text) e
+spoken_after : {n : Network} {m : Template} {now between : Moment} {front : List (List ℕ)} {said text : List ℕ} {others : List (List ℕ)} {e : Ending} → LeadsTo n m now front said between → Spoken n m between others text e → Spoken n m now (front ++ others) (said ++ text) e
 spoken_after no_line S = S
 spoken_after {n = n} {m = m} {now = now} {text = text} {others = others} {e = e} (one_more {lines = lines} {line = line} {said = said} {text = more} R r) S =
     subst (λ (ls : List (List ℕ)). Spoken n m now ls ((said ++ more) ++ text) e) (sym (append_assoc lines (line ∷ []) others))
@@ -105,16 +105,16 @@ spoken {n = n} {m = m} {now = now} {lines = lines} {x = x} (to_the_end R) =
 spoken {n = n} {m = m} {now = now} {x = x} {e = e} (up_to others R r q) = subst (λ (ls : List (List ℕ)). Spoken n m now ls x e) (sym q) (spoken_after R (ending others r))
 
 -- a line, and then what the others give
-Reaches-cons : {n : Network} {m : Template} {now between later : Moment} {line text said : List ℕ} {front : List (List ℕ)} → Replies n m now line text (goes_on between) → Reaches n m between front said later → Reaches n m now (line ∷ front) (text ++ said) later
-Reaches-cons {n = n} {m = m} {now = now} {later = later} {line = line} {text = text} r no_line =
-    subst (λ (x : List ℕ). Reaches n m now (line ∷ []) x later) (sym (append-nil text)) (one_more no_line r)
-Reaches-cons {n = n} {m = m} {now = now} {later = later} {line = line} {text = text} r (one_more {lines = lines} {line = last} {said = said} {text = more} R s) =
-    subst (λ (x : List ℕ). Reaches n m now (line ∷ (lines ++ last ∷ [])) x later) (append_assoc text said more) (one_more (Reaches-cons r R) s)
+LeadsTo-cons : {n : Network} {m : Template} {now between later : Moment} {line text said : List ℕ} {front : List (List ℕ)} → Replies n m now line text (goes_on between) → LeadsTo n m between front said later → LeadsTo n m now (line ∷ front) (text ++ said) later
+LeadsTo-cons {n = n} {m = m} {now = now} {later = later} {line = line} {text = text} r no_line =
+    subst (λ (x : List ℕ). LeadsTo n m now (line ∷ []) x later) (sym (append-nil text)) (one_more no_line r)
+LeadsTo-cons {n = n} {m = m} {now = now} {later = later} {line = line} {text = text} r (one_more {lines = lines} {line = last} {said = said} {text = more} R s) =
+    subst (λ (x : List ℕ). LeadsTo n m now (line ∷ (lines ++ last ∷ [])) x later) (append_assoc text said more) (one_more (LeadsTo-cons r R) s)
 
 script_then : {n : Network} {m : Template} {now between : Moment} {line text said : List ℕ} {others : List (List ℕ)} {e : Ending} → Replies n m now line text (goes_on between) → Script n m between others said e → Script n m now (line ∷ others) (text ++ said) e
-script_then r (to_the_end R) = to_the_end (Reaches-cons r R)
+script_then r (to_the_end R) = to_the_end (LeadsTo-cons r R)
 script_then {n = n} {m = m} {now = now} {line = line} {text = text} {others = others} {e = e} r (up_to {said = said} {text = last} rest R s q) =
-    subst (λ (x : List ℕ). Script n m now (line ∷ others) x e) (append_assoc text said last) (up_to rest (Reaches-cons r R) s (ap (λ ls. line ∷ ls) q))
+    subst (λ (x : List ℕ). Script n m now (line ∷ others) x e) (append_assoc text said last) (up_to rest (LeadsTo-cons r R) s (ap (λ ls. line ∷ ls) q))
 
 script : {n : Network} {m : Template} {now : Moment} {lines : List (List ℕ)} {x : List ℕ} {e : Ending} → Spoken n m now lines x e → Script n m now lines x e
 script at_the_end = to_the_end no_line
@@ -142,9 +142,9 @@ script_once S T = spoken_once (spoken S) (spoken T)
 agree_then : {n : Network} {m : Template} {now between : Moment} {line text x y : List ℕ} {front others more : List (List ℕ)} {d e : Ending} → Replies n m now line text (goes_on between) → Agree n m between front others more x d y e → Agree n m now (line ∷ front) others more (text ++ x) d (text ++ y) e
 agree_then {n = n} {m = m} {now = now} {line = line} {text = text} {front = front} {others = others} {more = more} r (both_go_on {said = said} {x = x} {y = y} {d = d} {e = e} R S T) =
     subst (λ (z : List ℕ). Agree n m now (line ∷ front) others more z d (text ++ (said ++ y)) e) (append_assoc text said x)
-    (subst (λ (z : List ℕ). Agree n m now (line ∷ front) others more ((text ++ said) ++ x) d z e) (append_assoc text said y) (both_go_on (Reaches-cons r R) S T))
+    (subst (λ (z : List ℕ). Agree n m now (line ∷ front) others more ((text ++ said) ++ x) d z e) (append_assoc text said y) (both_go_on (LeadsTo-cons r R) S T))
 agree_then {n = n} {m = m} {now = now} {line = line} {text = text} {front = front} {others = others} {more = more} r (both_end {said = said} {text = last} {e = e} behind R s q) =
-    subst (λ (z : List ℕ). Agree n m now (line ∷ front) others more z e z e) (append_assoc text said last) (both_end behind (Reaches-cons r R) s (ap (λ ls. line ∷ ls) q))
+    subst (λ (z : List ℕ). Agree n m now (line ∷ front) others more z e z e) (append_assoc text said last) (both_end behind (LeadsTo-cons r R) s (ap (λ ls. line ∷ ls) q))
 
 agree : {n : Network} {m : Template} {now : Moment} {x y : List ℕ} {d e : Ending} (front others more : List (List ℕ)) → Spoken n m now (front ++ others) x d → Spoken n m now (front ++ more) y e → Agree n m now front others more x d y e
 agree [] others more S T = both_go_on no_line (script S) (script T)

@@ -9,11 +9,11 @@ use Rattle.sf_lines.specs.Cutting.{pending}
 use Rattle.sf_lines.specs.Written.{refusal_line}
 use Rattle.sf_lines.specs.declared.refusal.LineRefusal.TheVariants.{Memory as MemoryRefusal}
 use Rattle.sf_lines.proofs.Splitting.{lines_of-splits}
-use Rattle.sf_player.specs.Scripts.{at_start, Reaches}
-use Rattle.sf_player.specs.Telling.{Stops, without_memory_for_lines, Gives, so_far, in_all, by_its_end, by_a_read_fault, by_a_write_fault, Told}
+use Rattle.sf_player.specs.Scripts.{at_start, LeadsTo}
+use Rattle.sf_player.specs.Telling.{RunGives, without_memory_for_lines, CanBeGiven, so_far, in_all, by_its_end, by_a_read_fault, by_a_write_fault, Told}
 use Rattle.sf_player.specs.Statuses.{is_said}
 use Rattle.sf_player.specs.Counting.{WritesFront, CountsReads}
-use Rattle.sf_player.specs.Playing.{Played, Feeds, Finishes, weight, line_in, IsCleared, WritesOut, runs_on, ended, failed}
+use Rattle.sf_player.specs.Playing.{Played, Feeds, EndsInput, weight, line_in, IsCleared, WritesOut, runs_on, ended, failed}
 use Rattle.sf_player.specs.declared.end.PlayEnd.{PlayEnd}
 use Rattle.sf_player.specs.declared.end.PlayEnd.TheVariants.{Done, Fault, BadLine, Network as Refused, ReadFault, WriteFault}
 use Rattle.sf_player.specs.declared.player.Player.{Player}
@@ -39,7 +39,7 @@ cleared_at {n = n} {m = m} {read = read} {written = written} {mid = mid} {new = 
   stands = rw C.cutter P.stands;
   reaches =
       let same : (written ++ mid.out.items) ++ new.out.items ≡ written ++ mid.out.items = ap (λ x. (written ++ mid.out.items) ++ x) C.empty ∙ append-nil (written ++ mid.out.items) in
-      subst (λ (x : List ℕ). Reaches n m at_start P.lines x P.now) (sym same) P.reaches;
+      subst (λ (x : List ℕ). LeadsTo n m at_start P.lines x P.now) (sym same) P.reaches;
   at = record {
     runs = rw C.engine P.at.runs;
     slow = P.at.slow;
@@ -68,22 +68,22 @@ comes_further n m read written p piece stop F (failed w) e = cc
 comes_further n m read written p piece (Some s) F (ended w) e = cc
 
 -- what was to be written, where a piece was played
-feeds_give : (n : Network) (m : Template) (written : List ℕ) (p mid : Player) (read piece : List ℕ) (stop : Option Stop) → Feeds n m read written p piece stop mid → (left : List ℕ) → Gives n m (lines_of ((read ++ piece) ++ left)) (written ++ (mid.out.items ++ line_in stop))
+feeds_give : (n : Network) (m : Template) (written : List ℕ) (p mid : Player) (read piece : List ℕ) (stop : Option Stop) → Feeds n m read written p piece stop mid → (left : List ℕ) → CanBeGiven n m (lines_of ((read ++ piece) ++ left)) (written ++ (mid.out.items ++ line_in stop))
 feeds_give n m written p mid read piece None P left =
-    subst (λ (x : List ℕ). Gives n m (lines_of ((read ++ piece) ++ left)) (written ++ x)) (sym (append-nil mid.out.items))
+    subst (λ (x : List ℕ). CanBeGiven n m (lines_of ((read ++ piece) ++ left)) (written ++ x)) (sym (append-nil mid.out.items))
     (so_far (lines_of (pending mid.cutter ++ left)) P.played.reaches (lines_of-splits (read ++ piece) P.played.lines (pending mid.cutter) left P.played.stands.splits))
 feeds_give n m written p mid read piece (Some s) halted left =
-    subst (λ (x : List ℕ). Gives n m (lines_of ((read ++ piece) ++ left)) x) (append_assoc written mid.out.items s.line) (in_all (halted left))
+    subst (λ (x : List ℕ). CanBeGiven n m (lines_of ((read ++ piece) ++ left)) x) (append_assoc written mid.out.items s.line) (in_all (halted left))
 
-finish_gives : (n : Network) (m : Template) (read written : List ℕ) (mid : Player) (stop : Option Stop) → Finishes n m read written stop mid → Gives n m (lines_of read) (written ++ (mid.out.items ++ line_in stop))
+finish_gives : (n : Network) (m : Template) (read written : List ℕ) (mid : Player) (stop : Option Stop) → EndsInput n m read written stop mid → CanBeGiven n m (lines_of read) (written ++ (mid.out.items ++ line_in stop))
 finish_gives n m read written mid None S =
-    subst (λ (x : List ℕ). Gives n m (lines_of read) (written ++ x)) (sym (append-nil mid.out.items)) (in_all S)
+    subst (λ (x : List ℕ). CanBeGiven n m (lines_of read) (written ++ x)) (sym (append-nil mid.out.items)) (in_all S)
 finish_gives n m read written mid (Some s) S =
-    subst (λ (x : List ℕ). Gives n m (lines_of read) x) (append_assoc written mid.out.items s.line) (in_all S)
+    subst (λ (x : List ℕ). CanBeGiven n m (lines_of read) x) (append_assoc written mid.out.items s.line) (in_all S)
 
 -- a front of what was to be written
-front_gives : {n : Network} {m : Template} {lines : List (List ℕ)} {text : List ℕ} (written front more : List ℕ) → Gives n m lines (written ++ text) → text ≡ front ++ more → Gives n m lines ((written ++ front) ++ more)
-front_gives {n = n} {m = m} {lines = lines} written front more G e = subst (λ (x : List ℕ). Gives n m lines x) (ap (λ x. written ++ x) e ∙ sym (append_assoc written front more)) G
+front_gives : {n : Network} {m : Template} {lines : List (List ℕ)} {text : List ℕ} (written front more : List ℕ) → CanBeGiven n m lines (written ++ text) → text ≡ front ++ more → CanBeGiven n m lines ((written ++ front) ++ more)
+front_gives {n = n} {m = m} {lines = lines} written front more G e = subst (λ (x : List ℕ). CanBeGiven n m lines x) (ap (λ x. written ++ x) e ∙ sym (append_assoc written front more)) G
 
 -- a piece ends the run
 pub told_midway : {n : Network} {m : Template} {before mid_read after held mid_held holds : Option (List ℕ)} {p mid new : Player} {r : Option PlayEnd} (piece : List ℕ) (stop : Option Stop) (e : PlayEnd) (R : Running n m before mid_read held mid_held p) → Consumes mid_read after piece
@@ -105,7 +105,7 @@ told_midway {n = n} {m = m} {before = before} {mid_read = b} {after = after} {he
       said = R.written ++ (mid.out.items ++ s.line);
       consumed = Consumes-more before b after R.read piece R.consumed took;
       written = Appends-more held i holds R.written (mid.out.items ++ s.line) R.appended wrote;
-      tells = λ left h. by_its_end (subst (λ (x : List ℕ). Stops n m (lines_of ((R.read ++ piece) ++ left)) x s.end) (append_assoc R.written mid.out.items s.line) (F left));
+      tells = λ left h. by_its_end (subst (λ (x : List ℕ). RunGives n m (lines_of ((R.read ++ piece) ++ left)) x s.end) (append_assoc R.written mid.out.items s.line) (F left));
     })
 
 -- how a run ended, by what writing answered
@@ -113,13 +113,13 @@ abbrev pub end_by : Option PlayEnd → PlayEnd
 end_by None = Done
 end_by (Some e) = e
 
-at_end : {n : Network} {m : Template} {c : Option (List ℕ)} {said left : List ℕ} {e : PlayEnd} (read : List ℕ) → IsAtEnd c → c ≡ Some left → Stops n m (lines_of read) said e → Stops n m (lines_of (read ++ left)) said e
+at_end : {n : Network} {m : Template} {c : Option (List ℕ)} {said left : List ℕ} {e : PlayEnd} (read : List ℕ) → IsAtEnd c → c ≡ Some left → RunGives n m (lines_of read) said e → RunGives n m (lines_of (read ++ left)) said e
 at_end {n = n} {m = m} {c = c} {said = said} {left = left} {e = e} read ends h S =
-    subst (λ (x : List ℕ). Stops n m (lines_of x) said e) (sym (ap (λ x. read ++ x) (nothing_left c left h ends) ∙ append-nil read)) S
+    subst (λ (x : List ℕ). RunGives n m (lines_of x) said e) (sym (ap (λ x. read ++ x) (nothing_left c left h ends) ∙ append-nil read)) S
 
 -- the input ends the run
 pub told_at_end : {n : Network} {m : Template} {before mid_read after held mid_held holds : Option (List ℕ)} {p mid new : Player} {r : Option PlayEnd} (stop : Option Stop) (R : Running n m before mid_read held mid_held p) → Consumes mid_read after [] → IsAtEnd after
-    → Finishes n m R.read R.written stop mid → WritesOut mid mid_held holds stop r new → Told n m before after held holds (end_by r)
+    → EndsInput n m R.read R.written stop mid → WritesOut mid mid_held holds stop r new → Told n m before after held holds (end_by r)
 told_at_end {before = before} {mid_read = b} {after = after} {held = held} {mid_held = i} {holds = holds} {mid = mid} None R took ends F (runs_on wrote clear) = record {
   read = R.read;
   said = R.written ++ mid.out.items;
@@ -133,18 +133,18 @@ told_at_end {n = n} {m = m} {before = before} {mid_read = b} {after = after} {he
   consumed = rw (sym (append-nil R.read)) (Consumes-more before b after R.read [] R.consumed took);
   written = Appends-more held i holds R.written w.0 R.appended w.2;
   tells = λ left h. by_a_write_fault w.1
-      (subst (λ (x : List ℕ). Gives n m (lines_of x) ((R.written ++ w.0) ++ w.1)) (sym (ap (λ x. R.read ++ x) (nothing_left after left h ends) ∙ append-nil R.read)) (front_gives R.written w.0 w.1 (finish_gives n m R.read R.written mid stop F) w.3));
+      (subst (λ (x : List ℕ). CanBeGiven n m (lines_of x) ((R.written ++ w.0) ++ w.1)) (sym (ap (λ x. R.read ++ x) (nothing_left after left h ends) ∙ append-nil R.read)) (front_gives R.written w.0 w.1 (finish_gives n m R.read R.written mid stop F) w.3));
 }
 told_at_end {n = n} {m = m} {before = before} {mid_read = b} {after = after} {held = held} {mid_held = i} {holds = holds} {mid = mid} (Some s) R took ends F (ended wrote) = record {
   read = R.read;
   said = R.written ++ (mid.out.items ++ s.line);
   consumed = rw (sym (append-nil R.read)) (Consumes-more before b after R.read [] R.consumed took);
   written = Appends-more held i holds R.written (mid.out.items ++ s.line) R.appended wrote;
-  tells = λ left h. by_its_end (at_end R.read ends h (subst (λ (x : List ℕ). Stops n m (lines_of R.read) x s.end) (append_assoc R.written mid.out.items s.line) F));
+  tells = λ left h. by_its_end (at_end R.read ends h (subst (λ (x : List ℕ). RunGives n m (lines_of R.read) x s.end) (append_assoc R.written mid.out.items s.line) F));
 }
 
 pub told_at_end_by : {n : Network} {m : Template} {before mid_read after held mid_held holds : Option (List ℕ)} {p mid new : Player} {r : Option PlayEnd} (stop : Option Stop) (e : PlayEnd) (R : Running n m before mid_read held mid_held p) → Consumes mid_read after [] → IsAtEnd after
-    → Finishes n m R.read R.written stop mid → WritesOut mid mid_held holds stop r new → end_by r ≡ e → Told n m before after held holds e
+    → EndsInput n m R.read R.written stop mid → WritesOut mid mid_held holds stop r new → end_by r ≡ e → Told n m before after held holds e
 told_at_end_by {n = n} {m = m} {before = before} {after = after} {held = held} {holds = holds} stop e R took ends F W same = subst (λ x. Told n m before after held holds x) same (told_at_end stop R took ends F W)
 
 -- a read fault ends the run
@@ -155,7 +155,7 @@ told_read_fault {n = n} {m = m} {before = before} {mid_read = b} {after = after}
   consumed = Consumes-kept before b after R.read R.consumed kept;
   written = R.appended;
   tells = λ left h. by_a_read_fault R.played.stands.splits
-      (subst (λ (x : List ℕ). Reaches n m at_start R.played.lines x R.played.now) (ap (λ x. R.written ++ x) R.empty ∙ append-nil R.written) R.played.reaches);
+      (subst (λ (x : List ℕ). LeadsTo n m at_start R.played.lines x R.played.now) (ap (λ x. R.written ++ x) R.empty ∙ append-nil R.written) R.played.reaches);
 }
 
 -- there is no memory for lines
@@ -174,7 +174,7 @@ told_no_memory_front n m input held holds w = record {
   said = w.0;
   consumed = Consumes-none input;
   written = w.2;
-  tells = λ left h. by_a_write_fault w.1 (subst (λ (x : List ℕ). Gives n m (lines_of left) x) w.3 (in_all without_memory_for_lines));
+  tells = λ left h. by_a_write_fault w.1 (subst (λ (x : List ℕ). CanBeGiven n m (lines_of left) x) w.3 (in_all without_memory_for_lines));
 }
 
 -- writing ends a run by a line or by a write fault

@@ -19,7 +19,7 @@ use Rattle.sf_lines.specs.declared.refusal.LineRefusal.{LineRefusal}
 use Rattle.sf_lines.specs.declared.refusal.LineRefusal.TheVariants.{Memory as MemoryRefusal}
 use Rattle.sf_lines.specs.Written.{sample_line, fault_line, refusal_line}
 use Rattle.sf_player.specs.Scripts.{Moment, has_begun, life_after, IsSample, Asks, refused, quiet, gives_value, gives_fault}
-use Rattle.sf_player.specs.Playing.{IsAt, GoesOn, Answers, Halts, faults, refuses, lacks_memory, is_too_large, lacks_memory_for_its_value}
+use Rattle.sf_player.specs.Playing.{IsAt, PlaysOn, PlaysLine, Halts, faults, refuses, lacks_memory, is_too_large, lacks_memory_for_its_value}
 use Rattle.sf_player.proofs.Asked.{advance_asked, start_asked, begun, not_begun, can_wait}
 use Rattle.sf_player.specs.declared.end.PlayEnd.{PlayEnd}
 use Rattle.sf_player.specs.declared.end.PlayEnd.TheVariants.{Fault as PlayFault, BadLine}
@@ -41,7 +41,7 @@ pub value_said : {n : Network} {m : Template} {now : Moment} {line : List ℕ} {
     → Sampled n m (life_after a now.lived) (Ok s) o.engine → t ≡ time (life_after a now.lived) → t ≤ 3600000 * (now.taken + 1) → o.taken ≡ now.taken
     → e.engine ≡ o.engine → e.cutter ≡ o.cutter → e.taken ≡ o.taken + 1
     → e.out.items ≡ o.out.items ++ sample_line s.time s.value
-    → GoesOn n m now line o e
+    → PlaysOn n m now line o e
 value_said {n = n} {m = m} {now = now} {a = a} {s = s} {o = o} t asked sample (gave_value G at R) later slow taken engine cutter count out =
     let L : Life = life_after a now.lived in
     record {
@@ -123,7 +123,7 @@ time_at {b = b} {d = d} {x = x} L same at says =
 -- a line that asks for nothing
 pub nothing_said : {n : Network} {m : Template} {now : Moment} {line : List ℕ} {o e : Player} → Asks n m now line nothing → IsAt n m o now
     → e.engine ≡ o.engine → e.cutter ≡ o.cutter → e.taken ≡ o.taken + 1 → e.out.items ≡ o.out.items
-    → GoesOn n m now line o e
+    → PlaysOn n m now line o e
 nothing_said {n = n} {m = m} {now = now} {o = o} asked at engine cutter count out = record {
   text = [];
   later = record now { taken = now.taken + 1 };
@@ -151,6 +151,6 @@ refusal_said {n = n} {m = m} {now = now} line b k p r input taken within begun s
     halts r says lacks = refused_so r (says (λ q. cc))
 
 -- what was said of a line by a player with the same output and cutter
-pub same_answers : (n : Network) (m : Template) (now : Moment) (line : List ℕ) (mid old : Player) (r : Option Stop) (new : Player) → mid.out.items ≡ old.out.items → mid.cutter ≡ old.cutter → Answers n m now line mid r new → Answers n m now line old r new
+pub same_answers : (n : Network) (m : Template) (now : Moment) (line : List ℕ) (mid old : Player) (r : Option Stop) (new : Player) → mid.out.items ≡ old.out.items → mid.cutter ≡ old.cutter → PlaysLine n m now line mid r new → PlaysLine n m now line old r new
 same_answers n m now line mid old None new out cut G = record { text = G.text; later = G.later; replies = G.replies; at = G.at; said = G.said ∙ ap (λ x. x ++ G.text) out; cutter = G.cutter ∙ cut }
 same_answers n m now line mid old (Some s) new out cut E = record { halts = E.halts; said = E.said ∙ out }

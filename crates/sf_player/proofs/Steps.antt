@@ -14,9 +14,9 @@ use Rattle.sf_lines.specs.declared.cutter.Cutter.{Cutter}
 use Rattle.sf_lines.specs.declared.refusal.LineRefusal.{LineRefusal}
 use Rattle.sf_lines.proofs.Splitting.{lines_of-splits}
 use Rattle.sf_lines.proofs.CutterSteps.{line_of-short, lines_taken-few, pending-short, limit_refusal-none}
-use Rattle.sf_player.specs.Scripts.{Moment, at_start, Turn, goes_on, Replies, past_limits, refused, quiet, gives_value, gives_fault, gives_none, Reaches, no_line, one_more, to_the_end, up_to}
-use Rattle.sf_player.specs.Telling.{Stops, with_the_input, at_a_fault, at_a_refusal, without_memory, too_large, without_memory_for_a_value}
-use Rattle.sf_player.specs.Playing.{Halts, faults, refuses, lacks_memory, is_too_large, lacks_memory_for_its_value, GoesOn, EndsRun, Answers, Finishes, weight, Played, PlayedMore, Halted}
+use Rattle.sf_player.specs.Scripts.{Moment, at_start, Turn, goes_on, Replies, past_limits, refused, quiet, gives_value, gives_fault, gives_none, LeadsTo, no_line, one_more, to_the_end, up_to}
+use Rattle.sf_player.specs.Telling.{RunGives, with_the_input, at_a_fault, at_a_refusal, without_memory, too_large, without_memory_for_a_value}
+use Rattle.sf_player.specs.Playing.{Halts, faults, refuses, lacks_memory, is_too_large, lacks_memory_for_its_value, PlaysOn, EndsRun, PlaysLine, EndsInput, weight, Played, PlayedMore, Halted}
 use Rattle.sf_player.specs.declared.end.PlayEnd.{PlayEnd}
 use Rattle.sf_player.specs.declared.end.PlayEnd.TheVariants.{Done, BadLine}
 use Rattle.sf_player.specs.declared.player.Player.{Player}
@@ -32,23 +32,23 @@ Replies-taken {now = now} {later = later} (gives_fault a s q G) h = absurd cc
 Replies-taken {now = now} {later = later} (gives_none a s q none) h = absurd cc
 
 -- each line is counted
-pub Reaches-taken : {n : Network} {m : Template} {now later : Moment} {lines : List (List ℕ)} {said : List ℕ} → Reaches n m now lines said later → now.taken + length lines ≡ later.taken
-Reaches-taken no_line = omega arith
-Reaches-taken {now = now} (one_more {lines = lines} {line = line} R r) =
-    let before = Reaches-taken R in
+pub LeadsTo-taken : {n : Network} {m : Template} {now later : Moment} {lines : List (List ℕ)} {said : List ℕ} → LeadsTo n m now lines said later → now.taken + length lines ≡ later.taken
+LeadsTo-taken no_line = omega arith
+LeadsTo-taken {now = now} (one_more {lines = lines} {line = line} R r) =
+    let before = LeadsTo-taken R in
     let more = Replies-taken r refl in
     simp length-append (omega arith)
 
 -- a line that the cutter completed is within the limits
 pub line_within : {n : Network} {m : Template} {read written : List ℕ} {p : Player} {size : ℕ} {c : Cutter} → (P : Played n m read written p) → CompletesLine p.cutter size c → limit_refusal P.now.taken (line_of c) ≡ None
 line_within {c = c} P done =
-    let taken = Reaches-taken P.reaches in
+    let taken = LeadsTo-taken P.reaches in
     let counted = P.stands.counted in
     let more = done.counted in
     limit_refusal-none P.now.taken (line_of c) (let few = lines_taken-few c in omega arith) (line_of-short c)
 
 -- a line that goes on
-pub plays_line : {n : Network} {m : Template} {read written line : List ℕ} {p mid new : Player} (bytes : List ℕ) (P : Played n m read written p) → CutterStands mid.cutter (read ++ bytes) (P.lines ++ line ∷ []) → GoesOn n m P.now line mid new → mid.out.items ≡ p.out.items → Played n m (read ++ bytes) written new
+pub plays_line : {n : Network} {m : Template} {read written line : List ℕ} {p mid new : Player} (bytes : List ℕ) (P : Played n m read written p) → CutterStands mid.cutter (read ++ bytes) (P.lines ++ line ∷ []) → PlaysOn n m P.now line mid new → mid.out.items ≡ p.out.items → Played n m (read ++ bytes) written new
 plays_line {n = n} {m = m} {read = read} {written = written} {line = line} {p = p} {new = new} bytes P S G out = record {
   lines = P.lines ++ line ∷ [];
   now = G.later;
@@ -56,20 +56,20 @@ plays_line {n = n} {m = m} {read = read} {written = written} {line = line} {p = 
   reaches =
       let text : (written ++ p.out.items) ++ G.text ≡ written ++ new.out.items =
       append_assoc written p.out.items G.text ∙ ap (λ x. written ++ (x ++ G.text)) (sym out) ∙ ap (λ x. written ++ x) (sym G.said) in
-      subst (λ (x : List ℕ). Reaches n m at_start (P.lines ++ line ∷ []) x G.later) text (one_more P.reaches G.replies);
+      subst (λ (x : List ℕ). LeadsTo n m at_start (P.lines ++ line ∷ []) x G.later) text (one_more P.reaches G.replies);
   at = G.at;
 }
 
 -- a line that ends the run
-pub stops_by : {n : Network} {m : Template} {front lines : List (List ℕ)} {line said : List ℕ} {between : Moment} {text : List ℕ} {e : PlayEnd} (others : List (List ℕ)) → Reaches n m at_start front said between → Halts n m between line text e → lines ≡ front ++ line ∷ others → Stops n m lines (said ++ text) e
+pub stops_by : {n : Network} {m : Template} {front lines : List (List ℕ)} {line said : List ℕ} {between : Moment} {text : List ℕ} {e : PlayEnd} (others : List (List ℕ)) → LeadsTo n m at_start front said between → Halts n m between line text e → lines ≡ front ++ line ∷ others → RunGives n m lines (said ++ text) e
 stops_by others R (faults r) q = at_a_fault (up_to others R r q)
 stops_by others R (refuses r) q = at_a_refusal (up_to others R r q)
 stops_by others R (lacks_memory a s) q = without_memory others R q a s
 stops_by others R (is_too_large a s l) q = too_large others R q a s l
 stops_by others R (lacks_memory_for_its_value within value) q = without_memory_for_a_value others R q within value
 
-said_so : {n : Network} {m : Template} {lines : List (List ℕ)} {e : PlayEnd} (written line a b : List ℕ) → Stops n m lines ((written ++ a) ++ line) e → b ≡ a → Stops n m lines ((written ++ b) ++ line) e
-said_so {n = n} {m = m} {lines = lines} {e = e} written line a b S same = subst (λ (x : List ℕ). Stops n m lines ((written ++ x) ++ line) e) (sym same) S
+said_so : {n : Network} {m : Template} {lines : List (List ℕ)} {e : PlayEnd} (written line a b : List ℕ) → RunGives n m lines ((written ++ a) ++ line) e → b ≡ a → RunGives n m lines ((written ++ b) ++ line) e
+said_so {n = n} {m = m} {lines = lines} {e = e} written line a b S same = subst (λ (x : List ℕ). RunGives n m lines ((written ++ x) ++ line) e) (sym same) S
 
 pub line_halts : {n : Network} {m : Template} {read written line : List ℕ} {p mid new : Player} {s : Stop} (piece : List ℕ) (used : ℕ) (P : Played n m read written p) → CutterStands mid.cutter (read ++ take used piece) (P.lines ++ line ∷ []) → EndsRun n m P.now line mid s new → mid.out.items ≡ p.out.items → Halted n m (read ++ piece) (written ++ new.out.items) s
 line_halts {read = read} {written = written} {line = line} {p = p} {mid = mid} {new = new} {s = s} piece used P S E out = λ left.
@@ -86,28 +86,28 @@ line_halts {read = read} {written = written} {line = line} {p = p} {mid = mid} {
 pub refusal_halts : {n : Network} {m : Template} {read written : List ℕ} {p : Player} {r : LineRefusal} (s : Stop) (piece : List ℕ) (P : Played n m read written p) → RefusesNext (read ++ piece) P.lines r → s.end ≡ BadLine → s.line ≡ refusal_line (p.taken + 1) r → Halted n m (read ++ piece) (written ++ p.out.items) s
 refusal_halts {n = n} {m = m} {read = read} {written = written} {p = p} {r = r} s piece P next_refused end line = λ left.
     let next = next_refused left in
-    let taken = Reaches-taken P.reaches in
+    let taken = LeadsTo-taken P.reaches in
     let late : limit_refusal P.now.taken next.0 ≡ Some r = ap (λ k. limit_refusal k next.0) (let e : P.now.taken ≡ length P.lines = omega arith in e) ∙ next.3 in
     let halts : Halts n m P.now next.0 s.line s.end =
     subst (λ e. Halts n m P.now next.0 s.line e) (sym end) (subst (λ (x : List ℕ). Halts n m P.now next.0 x BadLine) (ap (λ k. refusal_line (k + 1) r) (sym P.at.taken) ∙ sym line) (refuses (past_limits late))) in
     stops_by next.1 P.reaches halts next.2
 
 -- the last line
-pub ends_played : {n : Network} {m : Template} {read written : List ℕ} {p : Player} (P : Played n m read written p) → lines_of read ≡ P.lines → Stops n m (lines_of read) (written ++ p.out.items) Done
+pub ends_played : {n : Network} {m : Template} {read written : List ℕ} {p : Player} (P : Played n m read written p) → lines_of read ≡ P.lines → RunGives n m (lines_of read) (written ++ p.out.items) Done
 ends_played {n = n} {m = m} {written = written} {p = p} P all =
-    subst (λ (ls : List (List ℕ)). Stops n m ls (written ++ p.out.items) Done) (sym all) (with_the_input (to_the_end P.reaches))
+    subst (λ (ls : List (List ℕ)). RunGives n m ls (written ++ p.out.items) Done) (sym all) (with_the_input (to_the_end P.reaches))
 
-last_line_ends : {n : Network} {m : Template} {read written line : List ℕ} {p mid new : Player} (P : Played n m read written p) → lines_of read ≡ P.lines ++ line ∷ [] → GoesOn n m P.now line mid new → mid.out.items ≡ p.out.items → Stops n m (lines_of read) (written ++ new.out.items) Done
+last_line_ends : {n : Network} {m : Template} {read written line : List ℕ} {p mid new : Player} (P : Played n m read written p) → lines_of read ≡ P.lines ++ line ∷ [] → PlaysOn n m P.now line mid new → mid.out.items ≡ p.out.items → RunGives n m (lines_of read) (written ++ new.out.items) Done
 last_line_ends {n = n} {m = m} {read = read} {written = written} {line = line} {p = p} {new = new} P all G out =
     let text : (written ++ p.out.items) ++ G.text ≡ written ++ new.out.items =
     append_assoc written p.out.items G.text ∙ ap (λ x. written ++ (x ++ G.text)) (sym out) ∙ ap (λ x. written ++ x) (sym G.said) in
-    subst (λ (ls : List (List ℕ)). Stops n m ls (written ++ new.out.items) Done) (sym all)
-    (subst (λ (x : List ℕ). Stops n m (P.lines ++ line ∷ []) x Done) text (with_the_input (to_the_end (one_more P.reaches G.replies))))
+    subst (λ (ls : List (List ℕ)). RunGives n m ls (written ++ new.out.items) Done) (sym all)
+    (subst (λ (x : List ℕ). RunGives n m (P.lines ++ line ∷ []) x Done) text (with_the_input (to_the_end (one_more P.reaches G.replies))))
 
-last_line_halts : {n : Network} {m : Template} {read written line : List ℕ} {p mid new : Player} {s : Stop} (P : Played n m read written p) → lines_of read ≡ P.lines ++ line ∷ [] → EndsRun n m P.now line mid s new → mid.out.items ≡ p.out.items → Stops n m (lines_of read) ((written ++ new.out.items) ++ s.line) s.end
+last_line_halts : {n : Network} {m : Template} {read written line : List ℕ} {p mid new : Player} {s : Stop} (P : Played n m read written p) → lines_of read ≡ P.lines ++ line ∷ [] → EndsRun n m P.now line mid s new → mid.out.items ≡ p.out.items → RunGives n m (lines_of read) ((written ++ new.out.items) ++ s.line) s.end
 last_line_halts {written = written} {p = p} {new = new} {s = s} P all E out = said_so written s.line p.out.items new.out.items (stops_by [] P.reaches E.halts all) (E.said ∙ out)
 
-pub last_line : (n : Network) (m : Template) (read written line : List ℕ) {p : Player} (mid new : Player) (r : Option Stop) (P : Played n m read written p) → lines_of read ≡ P.lines ++ line ∷ [] → mid.out.items ≡ p.out.items → Answers n m P.now line mid r new → Finishes n m read written r new
+pub last_line : (n : Network) (m : Template) (read written line : List ℕ) {p : Player} (mid new : Player) (r : Option Stop) (P : Played n m read written p) → lines_of read ≡ P.lines ++ line ∷ [] → mid.out.items ≡ p.out.items → PlaysLine n m P.now line mid r new → EndsInput n m read written r new
 last_line n m read written line mid new None P all out G = last_line_ends P all G out
 last_line n m read written line mid new (Some s) P all out E = last_line_halts P all E out
 
@@ -158,7 +158,7 @@ pub Halted-more : {n : Network} {m : Template} (s : Stop) (said read piece : Lis
 Halted-more {n = n} {m = m} s said read piece at h =
     let whole : (read ++ take at piece) ++ take (length piece - at) (drop at piece) ≡ read ++ piece =
     append_assoc read (take at piece) (take (length piece - at) (drop at piece)) ∙ ap (λ x. read ++ (take at piece ++ x)) (slice_from at piece) ∙ ap (λ x. read ++ x) (take-append-drop at piece) in
-    λ left. subst (λ (x : List ℕ). Stops n m (lines_of (x ++ left)) (said ++ s.line) s.end) whole (h left)
+    λ left. subst (λ (x : List ℕ). RunGives n m (lines_of (x ++ left)) (said ++ s.line) s.end) whole (h left)
 
 -- a player at its start
 pub starts_played : {n : Network} {m : Template} (p : Player) → CutterStands p.cutter [] [] → Runs p.engine n m [] → p.taken ≡ 0 → p.out.items ≡ [] → Played n m [] [] p
@@ -166,6 +166,6 @@ starts_played {n = n} {m = m} p stands runs count out = record {
   lines = [];
   now = at_start;
   stands = stands;
-  reaches = subst (λ (x : List ℕ). Reaches n m at_start [] x at_start) (sym out) no_line;
+  reaches = subst (λ (x : List ℕ). LeadsTo n m at_start [] x at_start) (sym out) no_line;
   at = record { runs = runs; slow = omega arith; taken = count };
 }

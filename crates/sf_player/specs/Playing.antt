@@ -19,8 +19,8 @@ use Rattle.sf_lines.specs.Asking.{Asked, HasTimelyValue}
 use Rattle.sf_lines.specs.Written.{fault_line, refusal_line}
 use Rattle.sf_lines.specs.declared.cutter.Cutter.{Cutter}
 use Rattle.sf_lines.specs.declared.refusal.LineRefusal.TheVariants.{Memory as MemoryRefusal}
-use Rattle.sf_player.specs.Scripts.{Moment, at_start, has_begun, life_after, IsSample, sample_faulted, line_refused, goes_on, ends, Asks, Replies, Reaches}
-use Rattle.sf_player.specs.Telling.{Stops}
+use Rattle.sf_player.specs.Scripts.{Moment, at_start, has_begun, life_after, IsSample, sample_faulted, line_refused, goes_on, ends, Asks, Replies, LeadsTo}
+use Rattle.sf_player.specs.Telling.{RunGives}
 use Rattle.sf_player.specs.Counting.{WritesFront}
 use Rattle.sf_player.specs.declared.end.PlayEnd.{PlayEnd}
 use Rattle.sf_player.specs.declared.end.PlayEnd.TheVariants.{Done, Fault as PlayFault, BadLine, WriteFault}
@@ -50,7 +50,7 @@ module _ (n : Network) (m : Template) where
         → Halts now line (refusal_line (now.taken + 1) MemoryRefusal) BadLine
 
   -- A line was played: its text was gathered, and the player is at the moment behind it.
-  pub record GoesOn (now : Moment) (line : List ℕ) (old new : Player) : Type 0 where
+  pub record PlaysOn (now : Moment) (line : List ℕ) (old new : Player) : Type 0 where
     pub text : List ℕ
     pub later : Moment
     pub replies : Replies n m now line text (goes_on later)
@@ -64,21 +64,21 @@ module _ (n : Network) (m : Template) where
     pub said : new.out.items ≡ old.out.items
 
   -- What comes of a line.
-  abbrev pub Answers : Moment → List ℕ → Player → Option Stop → Player → Type 0
-  Answers now line old None new = GoesOn now line old new
-  Answers now line old (Some s) new = EndsRun now line old s new
+  abbrev pub PlaysLine : Moment → List ℕ → Player → Option Stop → Player → Type 0
+  PlaysLine now line old None new = PlaysOn now line old new
+  PlaysLine now line old (Some s) new = EndsRun now line old s new
 
   -- So much was read, and so much written but for what is gathered.
   pub record Played (read written : List ℕ) (p : Player) : Type 0 where
     pub lines : List (List ℕ)
     pub now : Moment
     pub stands : CutterStands p.cutter read lines
-    pub reaches : Reaches n m at_start lines (written ++ p.out.items) now
+    pub reaches : LeadsTo n m at_start lines (written ++ p.out.items) now
     pub at : IsAt p now
 
   -- So much was read and said, but for a last line. Whatever follows, the run ends with it.
   abbrev pub Halted : List ℕ → List ℕ → Stop → Type 0
-  Halted read said s = (left : List ℕ) → Stops n m (lines_of (read ++ left)) (said ++ s.line) s.end
+  Halted read said s = (left : List ℕ) → RunGives n m (lines_of (read ++ left)) (said ++ s.line) s.end
 
   -- Bytes were played.
   pub record PlayedMore (read written : List ℕ) (old : Player) (bytes : List ℕ) (new : Player) : Type 0 where
@@ -86,9 +86,9 @@ module _ (n : Network) (m : Template) where
     pub further : weight old.cutter + length bytes ≤ weight new.cutter
 
   -- What comes of a part of a piece.
-  abbrev pub Advances : List ℕ → List ℕ → Player → List ℕ → Result ℕ Stop → Player → Type 0
-  Advances read written old piece (Ok used) new = PlayedMore read written old (take used piece) new
-  Advances read written old piece (Err s) new = Halted (read ++ piece) (written ++ new.out.items) s
+  abbrev pub PlaysPart : List ℕ → List ℕ → Player → List ℕ → Result ℕ Stop → Player → Type 0
+  PlaysPart read written old piece (Ok used) new = PlayedMore read written old (take used piece) new
+  PlaysPart read written old piece (Err s) new = Halted (read ++ piece) (written ++ new.out.items) s
 
   -- What comes of a piece.
   abbrev pub Feeds : List ℕ → List ℕ → Player → List ℕ → Option Stop → Player → Type 0
@@ -96,9 +96,9 @@ module _ (n : Network) (m : Template) where
   Feeds read written old piece (Some s) new = Halted (read ++ piece) (written ++ new.out.items) s
 
   -- What comes of the end of the input.
-  abbrev pub Finishes : List ℕ → List ℕ → Option Stop → Player → Type 0
-  Finishes read written None new = Stops n m (lines_of read) (written ++ new.out.items) Done
-  Finishes read written (Some s) new = Stops n m (lines_of read) ((written ++ new.out.items) ++ s.line) s.end
+  abbrev pub EndsInput : List ℕ → List ℕ → Option Stop → Player → Type 0
+  EndsInput read written None new = RunGives n m (lines_of read) (written ++ new.out.items) Done
+  EndsInput read written (Some s) new = RunGives n m (lines_of read) ((written ++ new.out.items) ++ s.line) s.end
 
 -- A player has played something.
 pub record IsPlaying (p : Player) : Type 0 where

@@ -81,26 +81,26 @@ module _ (n : Network) (m : Template) where
         → Replies now line (fault_line (time L) Large) (ends sample_faulted)
 
   -- The text that lines give from a moment on, after which the run goes on from another.
-  pub data Reaches (now : Moment) : List (List ℕ) → List ℕ → Moment → Type 0 where
-    no_line : Reaches now [] [] now
+  pub data LeadsTo (now : Moment) : List (List ℕ) → List ℕ → Moment → Type 0 where
+    no_line : LeadsTo now [] [] now
     one_more : {lines : List (List ℕ)} {line said text : List ℕ} {between later : Moment}
-        → Reaches now lines said between → Replies between line text (goes_on later)
-        → Reaches now (lines ++ line ∷ []) (said ++ text) later
+        → LeadsTo now lines said between → Replies between line text (goes_on later)
+        → LeadsTo now (lines ++ line ∷ []) (said ++ text) later
 
   -- The script of lines from a moment on: all text that they give, and how it ends.
   pub data Script (now : Moment) (lines : List (List ℕ)) : List ℕ → Ending → Type 0 where
     to_the_end : {text : List ℕ} {later : Moment}
-        → Reaches now lines text later → Script now lines text input_ended
+        → LeadsTo now lines text later → Script now lines text input_ended
     up_to : {front : List (List ℕ)} {line said text : List ℕ} {between : Moment} {e : Ending} (others : List (List ℕ))
-        → Reaches now front said between → Replies between line text (ends e) → lines ≡ front ++ line ∷ others
+        → LeadsTo now front said between → Replies between line text (ends e) → lines ≡ front ++ line ∷ others
         → Script now lines (said ++ text) e
 
   -- Two scripts of lines with the same front agree on what it gives: both begin with its text and go on by the scripts
   -- of the lines behind it, or both end within it and are the same.
   pub data Agree (now : Moment) (front others more : List (List ℕ)) : List ℕ → Ending → List ℕ → Ending → Type 0 where
     both_go_on : {said x y : List ℕ} {later : Moment} {d e : Ending}
-        → Reaches now front said later → Script later others x d → Script later more y e
+        → LeadsTo now front said later → Script later others x d → Script later more y e
         → Agree now front others more (said ++ x) d (said ++ y) e
     both_end : {within : List (List ℕ)} {line said text : List ℕ} {between : Moment} {e : Ending} (behind : List (List ℕ))
-        → Reaches now within said between → Replies between line text (ends e) → front ≡ within ++ line ∷ behind
+        → LeadsTo now within said between → Replies between line text (ends e) → front ≡ within ++ line ∷ behind
         → Agree now front others more (said ++ text) e (said ++ text) e

@@ -1,68 +1,60 @@
 -- What was written when a run ended.
-use Rattle.std.specs.Prelude.{◌≡◌, ◌≢◌, ℕ, ◌+◌, List, ◌∷◌, ◌++◌, Option, Some, None, ⊤}
+use Rattle.std.specs.Prelude.{◌≡◌, ℕ, ◌+◌, List, ◌∷◌, ◌++◌, Option, Some, None}
 use Rattle.std.specs.Io.KnownBytes.{Keeps, Consumes, Appends}
 use Rattle.sf_value.specs.declared.fault.Fault.TheVariants.{Large, Memory as NoMemory}
+use Rattle.sf_refusal.specs.declared.refusal.Refusal.{Refusal}
+use Rattle.sf_refusal.specs.Refusals.{OrMemory}
 use Rattle.sf_term.specs.Trees.{Template, Templates}
-use Rattle.sf_term.specs.Arena.{templates_of}
-use Rattle.sf_term.specs.declared.program.Program.{Program}
 use Rattle.sf_mean.specs.Lives.{time}
 use Rattle.sf_mean.specs.Meaning.{Network}
 use Rattle.sf_mean.specs.Networks.{main_of}
 use Rattle.sf_mean.specs.Typing.{Accepted}
 use Rattle.sf_engine.specs.Sampling.{IsTooLarge}
 use Rattle.sf_text.specs.Spelling.{IsNetworkText}
-use Rattle.sf_text.specs.Placing.{IsPlacedIn}
-use Rattle.sf_text.specs.Stopping.{Refuses as TextRefuses}
-use Rattle.sf_text.specs.declared.refusal.TextRefusal.{TextRefusal}
-use Rattle.sf_text.specs.declared.refusal.TextRefusal.TheVariants as text
-use Rattle.sf_check.specs.Refusing.{Refuses as CheckRefuses}
-use Rattle.sf_check.specs.declared.refusal.CheckRefusal.{CheckRefusal}
-use Rattle.sf_check.specs.declared.refusal.CheckRefusal.TheVariants as check
 use Rattle.sf_lines.specs.Lines.{Splits, lines_of}
 use Rattle.sf_lines.specs.Asking.{Asked, HasTimelyValue}
 use Rattle.sf_lines.specs.Limits.{limit_refusal}
 use Rattle.sf_lines.specs.Written.{fault_line, refusal_line}
 use Rattle.sf_lines.specs.declared.refusal.LineRefusal.TheVariants.{Memory as MemoryRefusal}
-use Rattle.sf_player.specs.Scripts.{Moment, at_start, has_begun, life_after, IsSample, input_ended, sample_faulted, line_refused, Asks, Reaches, Script}
+use Rattle.sf_player.specs.Scripts.{Moment, at_start, has_begun, life_after, IsSample, input_ended, sample_faulted, line_refused, Asks, LeadsTo, Script}
 use Rattle.sf_player.specs.declared.end.PlayEnd.{PlayEnd}
 use Rattle.sf_player.specs.declared.end.PlayEnd.TheVariants.{Done, Fault, BadLine, Network as NetworkRefused, ReadFault, WriteFault}
-use Rattle.sf_player.specs.declared.refusal.NetRefusal.{NetRefusal}
-use Rattle.sf_player.specs.declared.refusal.NetRefusal.TheVariants.{Text, Check, Memory}
+use Rattle.sf_player.specs.Refusals.{IsRefusedFor}
 
 module _ (n : Network) (m : Template) where
   -- All that is written for lines, and how the run ends: their script; or, where memory ran out for a sample or for the
   -- value of a line, or a sample was too large, what the lines before give and then the line that says so; or, where there
   -- was no memory to begin with, only the line that says so.
-  pub data Stops (lines : List (List ℕ)) : List ℕ → PlayEnd → Type 0 where
-    with_the_input : {text : List ℕ} → Script n m at_start lines text input_ended → Stops lines text Done
-    at_a_fault : {text : List ℕ} → Script n m at_start lines text sample_faulted → Stops lines text Fault
-    at_a_refusal : {text : List ℕ} → Script n m at_start lines text line_refused → Stops lines text BadLine
+  pub data RunGives (lines : List (List ℕ)) : List ℕ → PlayEnd → Type 0 where
+    with_the_input : {text : List ℕ} → Script n m at_start lines text input_ended → RunGives lines text Done
+    at_a_fault : {text : List ℕ} → Script n m at_start lines text sample_faulted → RunGives lines text Fault
+    at_a_refusal : {text : List ℕ} → Script n m at_start lines text line_refused → RunGives lines text BadLine
     without_memory : {front : List (List ℕ)} {line said : List ℕ} {between : Moment} {a : Asked} (others : List (List ℕ))
-        → Reaches n m at_start front said between → lines ≡ front ++ line ∷ others → Asks n m between line a → IsSample a
-        → Stops lines (said ++ fault_line (time (life_after a between.lived)) NoMemory) Fault
+        → LeadsTo n m at_start front said between → lines ≡ front ++ line ∷ others → Asks n m between line a → IsSample a
+        → RunGives lines (said ++ fault_line (time (life_after a between.lived)) NoMemory) Fault
     too_large : {front : List (List ℕ)} {line said : List ℕ} {between : Moment} {a : Asked} (others : List (List ℕ))
-        → Reaches n m at_start front said between → lines ≡ front ++ line ∷ others → Asks n m between line a → IsSample a
+        → LeadsTo n m at_start front said between → lines ≡ front ++ line ∷ others → Asks n m between line a → IsSample a
         → IsTooLarge n m (life_after a between.lived)
-        → Stops lines (said ++ fault_line (time (life_after a between.lived)) Large) Fault
+        → RunGives lines (said ++ fault_line (time (life_after a between.lived)) Large) Fault
     without_memory_for_a_value : {front : List (List ℕ)} {line said : List ℕ} {between : Moment} (others : List (List ℕ))
-        → Reaches n m at_start front said between → lines ≡ front ++ line ∷ others
+        → LeadsTo n m at_start front said between → lines ≡ front ++ line ∷ others
         → limit_refusal between.taken line ≡ None → HasTimelyValue (has_begun between.lived) line
-        → Stops lines (said ++ refusal_line (between.taken + 1) MemoryRefusal) BadLine
-    without_memory_for_lines : Stops lines (refusal_line 1 MemoryRefusal) BadLine
+        → RunGives lines (said ++ refusal_line (between.taken + 1) MemoryRefusal) BadLine
+    without_memory_for_lines : RunGives lines (refusal_line 1 MemoryRefusal) BadLine
 
   -- What can have been given to the writer: what a front of the lines gives, or all that is written.
-  pub data Gives (lines : List (List ℕ)) : List ℕ → Type 0 where
+  pub data CanBeGiven (lines : List (List ℕ)) : List ℕ → Type 0 where
     so_far : {front : List (List ℕ)} {said : List ℕ} {between : Moment} (others : List (List ℕ))
-        → Reaches n m at_start front said between → lines ≡ front ++ others → Gives lines said
-    in_all : {said : List ℕ} {e : PlayEnd} → Stops lines said e → Gives lines said
+        → LeadsTo n m at_start front said between → lines ≡ front ++ others → CanBeGiven lines said
+    in_all : {said : List ℕ} {e : PlayEnd} → RunGives lines said e → CanBeGiven lines said
 
   -- What was said of an input of which so much was read and so much is left. After a read fault it is what the complete
   -- lines give; after a write fault it is the front of what was to be written.
   pub data Tells (read left said : List ℕ) : PlayEnd → Type 0 where
-    by_its_end : {e : PlayEnd} → Stops (lines_of (read ++ left)) said e → Tells read left said e
+    by_its_end : {e : PlayEnd} → RunGives (lines_of (read ++ left)) said e → Tells read left said e
     by_a_read_fault : {complete : List (List ℕ)} {unfinished : List ℕ} {later : Moment}
-        → Splits read complete unfinished → Reaches n m at_start complete said later → Tells read left said ReadFault
-    by_a_write_fault : (more : List ℕ) → Gives (lines_of (read ++ left)) (said ++ more) → Tells read left said WriteFault
+        → Splits read complete unfinished → LeadsTo n m at_start complete said later → Tells read left said ReadFault
+    by_a_write_fault : (more : List ℕ) → CanBeGiven (lines_of (read ++ left)) (said ++ more) → Tells read left said WriteFault
 
   -- What a run read and wrote, where the reader and the writer tell their bytes.
   pub record Told (before after held holds : Option (List ℕ)) (e : PlayEnd) : Type 0 where
@@ -72,32 +64,10 @@ module _ (n : Network) (m : Template) where
     pub written : Appends held holds said
     pub tells : (left : List ℕ) → after ≡ Some left → Tells read left said e
 
--- The bytes are no network's text: reading them stops for this reason, at its place.
-pub record IsNoNetwork (net : List ℕ) (r : TextRefusal) : Type 0 where
-  pub known : r ≢ text.Memory
-  pub none : (p : Templates) → IsNetworkText net p → ⊥
-  pub why : TextRefuses net r
-
--- The bytes are the text of a program that is not accepted, whose forms stand where they do in the bytes: this is the first
--- rule that it breaks, with its place.
-pub record IsNotAccepted (net : List ℕ) (r : CheckRefusal) : Type 0 where
-  pub known : r ≢ check.Memory
-  pub program : Program
-  pub spelled : IsNetworkText net (templates_of program)
-  pub placed : IsPlacedIn net program
-  pub none : Accepted (templates_of program) → ⊥
-  pub why : CheckRefuses program r
-
--- Why a network is refused. Want of memory says nothing of it.
-abbrev pub IsRefused : List ℕ → NetRefusal → Type 0
-IsRefused net (Text r) = IsNoNetwork net r
-IsRefused net (Check r) = IsNotAccepted net r
-IsRefused net Memory = ⊤
-
 -- What `play` does with a network text, a reader and a writer: it refuses the network and touches neither,
 -- or the text is an accepted network, and what was written is told by its meaning.
 pub data Plays (net : List ℕ) (before after held holds : Option (List ℕ)) : PlayEnd → Type 0 where
-  refuses : {r : NetRefusal} → IsRefused net r → Keeps before after → Keeps held holds → Plays net before after held holds (NetworkRefused r)
+  refuses : {r : Refusal} → OrMemory (IsRefusedFor net) r → Keeps before after → Keeps held holds → Plays net before after held holds (NetworkRefused r)
   plays : {p : Templates} {m : Template} {e : PlayEnd}
       → IsNetworkText net p → Accepted p → main_of p ≡ Some m
       → Told (record { templates = p }) m before after held holds e → Plays net before after held holds e

@@ -2,7 +2,7 @@
 ghost use Rattle.std.specs.Prelude.{◌≡◌};
 ghost use Rattle.sf_player.specs.Statuses.{status_of};
 
-use crate::refusal::NetRefusal;
+use sf_refusal::Refusal;
 
 /// How a run ended.
 #[derive(Clone, Copy, Debug, PartialEq, Eq)]
@@ -14,7 +14,7 @@ pub enum PlayEnd {
     /// A line was refused, and `! line N REFUSAL` was written.
     BadLine,
     /// The network was refused, and nothing was read or written.
-    Network(NetRefusal),
+    Network(Refusal),
     /// The reader failed.
     ReadFault,
     /// The writer failed.

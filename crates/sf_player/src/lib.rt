@@ -7,15 +7,14 @@ mod laws;
 mod network;
 mod options;
 mod player;
-mod refusal;
 mod session;
 
 pub use counted::Counted;
 pub use end::PlayEnd;
 pub use laws::{one_script, prefix_law};
 pub use options::Options;
-pub use refusal::{Breach, NetRefusal};
 pub use session::play;
+pub use sf_refusal::{Breach, Refusal, Rule, Spot};
 
 #[cfg(test)]
 mod tests;

@@ -45,7 +45,7 @@ impl Player {
     ghost use Rattle.sf_lines.specs.Cutting.{line_of};
     ghost use Rattle.sf_player.specs.Scripts.{Moment, life_after, IsSample, Asks};
     ghost use Rattle.sf_player.specs.Counting.{inner_of, failures_of, MayCountWrites};
-    ghost use Rattle.sf_player.specs.Playing.{IsAt, AwaitsLine, Answers, Played, IsPlaying, Advances, Feeds, Finishes, WritesOut};
+    ghost use Rattle.sf_player.specs.Playing.{IsAt, AwaitsLine, PlaysLine, Played, IsPlaying, PlaysPart, Feeds, EndsInput, WritesOut};
 
     /// A run at its start.
     pub(crate) fn new(alloc: Global, engine: Engine) -> Result<Player, AllocError>
@@ -83,7 +83,7 @@ impl Player {
     pub(crate) fn finish(&mut self) -> Option<Stop>
         requires { IsPlaying self.old }
         ensures { (n : Network) (m : Template) (read written : List ℕ)
-            → Played n m read written self.old → Finishes n m read written result self.new }
+            → Played n m read written self.old → EndsInput n m read written result self.new }
     {
         match self.cutter.finish() {
             Ok(Cut::Line(_)) => self.play_line(),
@@ -99,7 +99,7 @@ impl Player {
         ensures some { IfOk result (λ used. length piece.now ≢ 0 → 0 < used) }
         ensures advances { (n : Network) (m : Template) (read written : List ℕ)
             → Played n m read written self.old
-            → Advances n m read written self.old piece.now result self.new }
+            → PlaysPart n m read written self.old piece.now result self.new }
     {
         match self.cutter.take(piece) {
             Ok(Cut::Line(used)) => match self.play_line() {
@@ -115,7 +115,7 @@ impl Player {
     fn play_line(&mut self) -> Option<Stop>
         requires { AwaitsLine self.old }
         ensures { (n : Network) (m : Template) (now : Moment) → IsAt n m self.old now
-            → Answers n m now (line_of self.old.cutter) self.old result self.new }
+            → PlaysLine n m now (line_of self.old.cutter) self.old result self.new }
     {
         let started = self.engine.is_started();
         match read_line(self.alloc, self.cutter.line(), started, self.engine.input()) {
@@ -143,7 +143,7 @@ impl Player {
             → Asks n m now line a → IsSample a
             → Sampled n m (life_after a now.lived) sampled self.old.engine
             → sample_time ≡ time (life_after a now.lived) → sample_time ≤ 3600000 * (now.taken + 1)
-            → self.old.taken ≡ now.taken → Answers n m now line self.old result self.new }
+            → self.old.taken ≡ now.taken → PlaysLine n m now line self.old result self.new }
     {
         match sampled {
             Ok(sample) => match write_sample(sample.time, &sample.value, &mut self.out) {

@@ -1,5 +1,4 @@
-use super::{Counted, NetRefusal, Options, PlayEnd, one_script, play, prefix_law};
-use sf_check::CheckRefusal;
+use super::{Counted, Options, PlayEnd, Refusal, one_script, play, prefix_law};
 use std::alloc::Global;
 use std::io::{self, Error, ErrorKind, Read, Write};
 use std::test::Fail;
@@ -310,19 +309,6 @@ fn large_types(rt: HostRuntime) -> Result<(), Fail> {
     Ok(())
 }
 
-#[test]
-fn breaches(rt: HostRuntime) -> Result<(), Fail> {
-    let Some(breach) = NetRefusal::Check(CheckRefusal::NoMain).breach() else {
-        return Err(Fail::new("no breach"));
-    };
-    assert_eq!(rt; (breach.number, breach.name), ("C7", "NoMain"));
-    assert_eq!(rt; (breach.place.line, breach.place.column), (1, 1));
-    assert!(rt; NetRefusal::Memory.breach().is_none());
-    let memory = format!(in rt.alloc(); "{}", NetRefusal::Memory)?;
-    assert_eq!(rt; memory.as_str(), "Memory");
-    Ok(())
-}
-
 /// Behind the line that ends a run the reader, which would fail, isn't asked again.
 #[test]
 fn nothing_is_read_behind_the_end(rt: HostRuntime) -> Result<(), Fail> {
@@ -405,7 +391,7 @@ fn without_memory(rt: HostRuntime) -> Result<(), Fail> {
                 || text == b"> 0 7\n! line 2 Memory\n".as_slice()
                 || text == b"> 0 7\n> 16 1\n! line 3 Memory\n".as_slice()
         }
-        PlayEnd::Network(NetRefusal::Memory) => text.is_empty(),
+        PlayEnd::Network(Refusal::Memory) => text.is_empty(),
         // The writer of the test wants memory too.
         PlayEnd::WriteFault => b"> 0 7\n> 16 1\n> 32 2\n".starts_with(text),
         _ => false,

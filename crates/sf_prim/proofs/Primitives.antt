@@ -22,7 +22,7 @@ use Rattle.sf_mean.specs.Typing.{constant_takes, initial_pre_takes, arrow_takes}
 use Rattle.sf_prim.specs.declared.prim_state.PrimState.{PrimState}
 use Rattle.sf_prim.specs.declared.prim_state.PrimState.TheVariants.{Identity, Constant, Previous, Arrow}
 use Rattle.sf_prim.specs.Gifts.{gift}
-use Rattle.sf_prim.specs.Keeping.{Keeps, keeps_nothing, keeps_value, keeps_previous, keeps_function, IsTyped, is_typed, IsFed, is_fed, Begins, begins_with_fault, begins_without_memory, GoesOn, goes_on, goes_on_with_fault, goes_on_without_memory}
+use Rattle.sf_prim.specs.Keeping.{Remembers, keeps_nothing, keeps_value, keeps_previous, keeps_function, PrimitiveIsTyped, is_typed, PrimitiveIsFed, is_fed, Begins, begins_with_fault, begins_without_memory, GoesOn, goes_on, goes_on_with_fault, goes_on_without_memory}
 
 -- a primitive with a value gives what its formula makes of it
 value_gives : (k : WithValue) (e : Expression) (scope : Scope) (v : Data) (s : Step) (L : Life)
@@ -30,7 +30,7 @@ value_gives : (k : WithValue) (e : Expression) (scope : Scope) (v : Data) (s : S
 value_gives k e scope v s L h = ap (λ r. r >>= λ v. answer (value_formula k v s L)) h
 
 -- a typed primitive's constant is typed
-pub constant_is_typed : (k : WithValue) (e : Expression) → IsTyped (with_value k e) → IsTypedIn no_names e
+pub constant_is_typed : (k : WithValue) (e : Expression) → PrimitiveIsTyped (with_value k e) → IsTypedIn no_names e
 constant_is_typed k e (is_typed (constant_takes h)) = typed_in has_no_names h
 constant_is_typed k e (is_typed (initial_pre_takes h)) = typed_in has_no_names h
 
@@ -46,29 +46,29 @@ module _ (xs : Exprs) where
   begins_exit k e f (Err q) h g = subst (λ (q : EvalFault). Begins xs (with_value k e) (Err q)) (sym h) (value_fails k e f g)
 
   pub identity_goes_on : (q : Primitive) (scope : Scope) (d : _) (x : Data) (L : Life)
-      → Keeps xs Identity q scope L → GoesOn xs q scope (step d x) L Identity (Ok x)
+      → Remembers xs Identity q scope L → GoesOn xs q scope (step d x) L Identity (Ok x)
   identity_goes_on q scope d x L keeps_nothing = goes_on refl keeps_nothing
 
   pub constant_goes_on : {A : Type 0} (q : Primitive) (scope : Scope) (s : Step) (L : Life) (v w : Data) (r : Result A EvalFault) → OnOk r (w ≡ v) → IfErr r (λ e. e ≡ Memory)
-      → Keeps xs (Constant v) q scope L → GoesOn xs q scope s L (Constant v) (gift r w)
+      → Remembers xs (Constant v) q scope L → GoesOn xs q scope s L (Constant v) (gift r w)
   constant_goes_on q scope s L v w (Ok a) ok err (keeps_value {e = e} h) = goes_on (value_gives VConstant e scope v s L h ∙ ap answer (sym ok)) (keeps_value h)
   constant_goes_on q scope s L v w (Err f) ok err K = subst (λ (f : EvalFault). GoesOn xs q scope s L (Constant v) (Err f)) (sym err) goes_on_without_memory
 
   pub previous_goes_on : (q : Primitive) (scope : Scope) (d : _) (x : Data) (L : Life) (w : Data)
-      → Keeps xs (Previous w) q scope L → GoesOn xs q scope (step d x) L (Previous x) (Ok w)
+      → Remembers xs (Previous w) q scope L → GoesOn xs q scope (step d x) L (Previous x) (Ok w)
   previous_goes_on q scope d x L w (keeps_previous {e = e} {v = v} h g) =
       goes_on (value_gives InitialPre e scope v (step d x) L h ∙ ap answer (sym g)) (keeps_previous h refl)
 
   -- a function takes what its state is fed with
-  pub function_is_fed : (f : FunctionId) (x : Data) → IsFed xs (Arrow f) x → TakesValue no_names (function_at xs f) x
+  pub function_is_fed : (f : FunctionId) (x : Data) → PrimitiveIsFed xs (Arrow f) x → TakesValue no_names (function_at xs f) x
   function_is_fed f x (is_fed keeps_function (arrow_takes h) i) = takes_value has_no_names h i
 
   -- a primitive without constants keeps nothing of the empty life
-  pub bare_keeps : (k : Bare) → Keeps xs Identity (bare k) no_names []
+  pub bare_keeps : (k : Bare) → Remembers xs Identity (bare k) no_names []
   bare_keeps BIdentity = keeps_nothing
 
   pub arrow_goes_on : (f : FunctionId) (d : _) (x : Data) (r : Result Data EvalFault) → Evaluates r (apply (function_at xs f) x no_names)
-      → (q : Primitive) (scope : Scope) (L : Life) → Keeps xs (Arrow f) q scope L → GoesOn xs q scope (step d x) L (Arrow f) r
+      → (q : Primitive) (scope : Scope) (L : Life) → Remembers xs (Arrow f) q scope L → GoesOn xs q scope (step d x) L (Arrow f) r
   arrow_goes_on f d x (Ok v) h q scope L keeps_function = goes_on h keeps_function
   arrow_goes_on f d x (Err (Value y)) h q scope L keeps_function = goes_on_with_fault h
   arrow_goes_on f d x (Err Memory) h q scope L K = goes_on_without_memory

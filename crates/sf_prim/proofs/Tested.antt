@@ -12,23 +12,23 @@ use Rattle.sf_term.specs.Trees.{Primitive, with_value, arrow}
 use Rattle.sf_mean.specs.Lives.{Step, Life}
 use Rattle.sf_mean.specs.Typing.{PrimitiveTakes, constant_takes, initial_pre_takes, arrow_takes}
 use Rattle.sf_prim.specs.declared.prim_state.PrimState.{PrimState}
-use Rattle.sf_prim.specs.Keeping.{without_names, Keeps, IsFed, is_fed, Begins, begins, GoesOn, goes_on}
+use Rattle.sf_prim.specs.Keeping.{without_names, Remembers, PrimitiveIsFed, is_fed, Begins, begins, GoesOn, goes_on}
 
 number_has : (z : ℤ) → IsTrue (is_narrow z) → (x : Data) → x ≡ number z → HasKind x int_kind
 number_has z h x e = subst (λ (x : Data). HasKind x int_kind) (sym e) (has_int h)
 
-pub first_fed : (xs : Exprs) (q : Primitive) (i : PrimState) (x : Data) → x ≡ number (pos 1) → Begins xs q (Ok i) → PrimitiveTakes (without_names []) q int_kind int_kind → IsFed xs i x
+pub first_fed : (xs : Exprs) (q : Primitive) (i : PrimState) (x : Data) → x ≡ number (pos 1) → Begins xs q (Ok i) → PrimitiveTakes (without_names []) q int_kind int_kind → PrimitiveIsFed xs i x
 first_fed xs q i x e (begins K) T = is_fed K T (number_has (pos 1) refl x e)
 
 pub next_fed : (xs : Exprs) (q : Primitive) (i j : PrimState) (s : Step) (v y : Data) → y ≡ number (pos 2) → Begins xs q (Ok i)
-    → ((q : Primitive) (scope : Scope) (L : Life) → Keeps xs i q scope L → GoesOn xs q scope s L j (Ok v)) → PrimitiveTakes (without_names []) q int_kind int_kind → IsFed xs j y
+    → ((q : Primitive) (scope : Scope) (L : Life) → Remembers xs i q scope L → GoesOn xs q scope s L j (Ok v)) → PrimitiveTakes (without_names []) q int_kind int_kind → PrimitiveIsFed xs j y
 next_fed xs q i j s v y e (begins K) h T = kept (h _ _ _ K)
   where
-    kept : {scope : Scope} {L : Life} → GoesOn xs q scope s L j (Ok v) → IsFed xs j y
+    kept : {scope : Scope} {L : Life} → GoesOn xs q scope s L j (Ok v) → PrimitiveIsFed xs j y
     kept (goes_on f K) = is_fed K T (number_has (pos 2) refl y e)
 
 -- what is fed to a state fits its copy
-pub copy_fed : (xs : Exprs) (i j : PrimState) (x : Data) → ((q : Primitive) (scope : Scope) (L : Life) → Keeps xs i q scope L → Keeps xs j q scope L) → IsFed xs i x → IsFed xs j x
+pub copy_fed : (xs : Exprs) (i j : PrimState) (x : Data) → ((q : Primitive) (scope : Scope) (L : Life) → Remembers xs i q scope L → Remembers xs j q scope L) → PrimitiveIsFed xs i x → PrimitiveIsFed xs j x
 copy_fed xs i j x h (is_fed K T k) = is_fed (h _ _ _ K) T k
 
 literal_typed : (z : ℤ) → IsTrue (is_narrow z) → (e : Expression) → e ≡ literal (int_literal z) → HasType [] e int_kind

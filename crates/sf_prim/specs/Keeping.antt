@@ -28,36 +28,36 @@ primitive_over xs (PWithValue k e) = with_value k (expression xs e)
 primitive_over xs (PArrow f) = arrow (function_at xs f)
 
 -- A state keeps what its primitive needs of a life.
-pub data Keeps (xs : Exprs) : PrimState → Primitive → Scope → Life → Type 0 where
-  keeps_nothing : {scope : Scope} {L : Life} → Keeps xs Identity (bare BIdentity) scope L
+pub data Remembers (xs : Exprs) : PrimState → Primitive → Scope → Life → Type 0 where
+  keeps_nothing : {scope : Scope} {L : Life} → Remembers xs Identity (bare BIdentity) scope L
   keeps_value : {e : Expression} {scope : Scope} {v : Data} {L : Life}
-      → eval e scope ≡ answer v → Keeps xs (Constant v) (with_value VConstant e) scope L
+      → eval e scope ≡ answer v → Remembers xs (Constant v) (with_value VConstant e) scope L
   keeps_previous : {e : Expression} {scope : Scope} {v w : Data} {L : Life}
-      → eval e scope ≡ answer v → w ≡ before v L → Keeps xs (Previous w) (with_value InitialPre e) scope L
-  keeps_function : {f : FunctionId} {L : Life} → Keeps xs (Arrow f) (arrow (function_at xs f)) no_names L
+      → eval e scope ≡ answer v → w ≡ before v L → Remembers xs (Previous w) (with_value InitialPre e) scope L
+  keeps_function : {f : FunctionId} {L : Life} → Remembers xs (Arrow f) (arrow (function_at xs f)) no_names L
 
 -- no names, over the signatures of templates
 abbrev pub without_names : List Signature → Context
 without_names ss = record { bindings = []; signatures = ss }
 
 -- A primitive has types, where no names are bound.
-pub data IsTyped (q : Primitive) : Type 0 where
-  is_typed : {ss : List Signature} {a b : Kind} → PrimitiveTakes (without_names ss) q a b → IsTyped q
+pub data PrimitiveIsTyped (q : Primitive) : Type 0 where
+  is_typed : {ss : List Signature} {a b : Kind} → PrimitiveTakes (without_names ss) q a b → PrimitiveIsTyped q
 
 -- The input has the type of a primitive that the state keeps.
-pub data IsFed (xs : Exprs) (i : PrimState) (x : Data) : Type 0 where
+pub data PrimitiveIsFed (xs : Exprs) (i : PrimState) (x : Data) : Type 0 where
   is_fed : {q : Primitive} {scope : Scope} {L : Life} {ss : List Signature} {a b : Kind}
-      → Keeps xs i q scope L → PrimitiveTakes (without_names ss) q a b → HasKind x a → IsFed xs i x
+      → Remembers xs i q scope L → PrimitiveTakes (without_names ss) q a b → HasKind x a → PrimitiveIsFed xs i x
 
 -- A primitive before its first sample, or the fault of its constants, which is that of the first sample.
 pub data Begins (xs : Exprs) (q : Primitive) : Result PrimState EvalFault → Type 0 where
-  begins : {i : PrimState} → Keeps xs i q no_names [] → Begins xs q (Ok i)
+  begins : {i : PrimState} → Remembers xs i q no_names [] → Begins xs q (Ok i)
   begins_with_fault : {x : ValueFault} → ((s : Step) → formula q no_names s [] ≡ failed x) → Begins xs q (Err (Value x))
   begins_without_memory : Begins xs q (Err Memory)
 
 -- A primitive's next sample gives its formula, and its state keeps the longer life.
 pub data GoesOn (xs : Exprs) (q : Primitive) (scope : Scope) (s : Step) (L : Life) : PrimState → Result Data EvalFault → Type 0 where
   goes_on : {i : PrimState} {v : Data}
-      → formula q scope s L ≡ answer v → Keeps xs i q scope (s ∷ L) → GoesOn xs q scope s L i (Ok v)
+      → formula q scope s L ≡ answer v → Remembers xs i q scope (s ∷ L) → GoesOn xs q scope s L i (Ok v)
   goes_on_with_fault : {i : PrimState} {x : ValueFault} → formula q scope s L ≡ failed x → GoesOn xs q scope s L i (Err (Value x))
   goes_on_without_memory : {i : PrimState} → GoesOn xs q scope s L i (Err Memory)

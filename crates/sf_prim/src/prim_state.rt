@@ -33,7 +33,7 @@ impl PrimState {
     ghost use Rattle.sf_expr.specs.declared.exprs.Exprs.{Exprs as ExprsOf};
     ghost use Rattle.sf_term.specs.Trees.{Primitive as Form, bare as bare_form, with_value as form_with_value};
     ghost use Rattle.sf_mean.specs.Lives.{step, Life};
-    ghost use Rattle.sf_prim.specs.Keeping.{primitive_over, Keeps, IsTyped, IsFed, Begins, GoesOn};
+    ghost use Rattle.sf_prim.specs.Keeping.{primitive_over, Remembers, PrimitiveIsTyped, PrimitiveIsFed, Begins, GoesOn};
 
     /// A primitive before its first sample. Its constants are evaluated here; the error is their
     /// first fault, or `Memory`. The primitive has types.
@@ -42,7 +42,7 @@ impl PrimState {
         expressions: &Exprs,
         primitive: Primitive,
     ) -> Result<PrimState, EvalFault>
-        requires { ∥ IsTyped (primitive_over expressions.now primitive) ∥₁ }
+        requires { ∥ PrimitiveIsTyped (primitive_over expressions.now primitive) ∥₁ }
         ensures { Begins expressions.now (primitive_over expressions.now primitive) result }
     {
         match primitive {
@@ -58,7 +58,7 @@ impl PrimState {
 
     // A primitive without constants, before its first sample.
     fn bare(form: Bare) -> PrimState
-        ensures { (xs : ExprsOf) → Keeps xs result (bare_form form) no_names [] }
+        ensures { (xs : ExprsOf) → Remembers xs result (bare_form form) no_names [] }
     {
         match form {
             Bare::Identity => PrimState::Identity,
@@ -68,7 +68,7 @@ impl PrimState {
     // A primitive with its value, before its first sample.
     fn with_value(form: WithValue, value: Value) -> PrimState
         ensures { (xs : ExprsOf) (e : Expression) → worth e no_names ≡ answer value →
-            Keeps xs result (form_with_value form e) no_names [] }
+            Remembers xs result (form_with_value form e) no_names [] }
     {
         match form {
             WithValue::Constant => PrimState::Constant(value),
@@ -87,8 +87,8 @@ impl PrimState {
         dt: u64,
         value: &mut Value,
     ) -> Result<(), EvalFault>
-        requires { ∥ IsFed expressions.now self.old value.old ∥₁ }
-        ensures { (q : Form) (scope : Names) (L : Life) → Keeps expressions.now self.old q scope L →
+        requires { ∥ PrimitiveIsFed expressions.now self.old value.old ∥₁ }
+        ensures { (q : Form) (scope : Names) (L : Life) → Remembers expressions.now self.old q scope L →
             GoesOn expressions.now q scope (step dt value.old) L self.new (gift result value.new) }
     {
         match self {
@@ -105,7 +105,7 @@ impl PrimState {
     /// A copy, which keeps the same of a life.
     pub fn clone_in(&self, alloc: Global) -> Result<PrimState, AllocError>
         ensures { IfOk result (λ copy. (xs : ExprsOf) (q : Form) (scope : Names) (L : Life) →
-            Keeps xs self.now q scope L → Keeps xs copy q scope L) }
+            Remembers xs self.now q scope L → Remembers xs copy q scope L) }
     {
         match self {
             PrimState::Identity => Ok(PrimState::Identity),

@@ -4,7 +4,7 @@ ghost use Rattle.sf_mean.specs.Typing.{PrimitiveTakes};
 ghost use Rattle.sf_prim.specs.Keeping.{primitive_over, without_names};
 
 use crate::prim_state::PrimState;
-use sf_expr::{Exprs, Pat, Spot};
+use sf_expr::{ExprNode, Exprs, Pat, Spot};
 use sf_term::{Bare, Primitive, WithValue};
 use sf_value::{Value, same};
 use std::alloc::Global;
@@ -43,7 +43,7 @@ fn identity_gives_its_inputs(rt: HostRuntime) -> Result<(), Fail> {
 fn a_constant_gives_its_value(rt: HostRuntime) -> Result<(), Fail> {
     let alloc = rt.alloc();
     let mut expressions = Exprs::new(alloc);
-    let seven = expressions.int(7, Spot::NONE)?;
+    let seven = expressions.add(ExprNode::Int(7), Spot::NONE)?;
     let constant = Primitive::WithValue(WithValue::Constant, seven);
     assert!(rt; gives(alloc, &expressions, constant, (7, 7))?);
     Ok(())
@@ -53,7 +53,7 @@ fn a_constant_gives_its_value(rt: HostRuntime) -> Result<(), Fail> {
 fn a_previous_value_is_given(rt: HostRuntime) -> Result<(), Fail> {
     let alloc = rt.alloc();
     let mut expressions = Exprs::new(alloc);
-    let eight = expressions.int(8, Spot::NONE)?;
+    let eight = expressions.add(ExprNode::Int(8), Spot::NONE)?;
     let previous = Primitive::WithValue(WithValue::InitialPre, eight);
     assert!(rt; gives(alloc, &expressions, previous, (8, 1))?);
     Ok(())
@@ -63,7 +63,7 @@ fn a_previous_value_is_given(rt: HostRuntime) -> Result<(), Fail> {
 fn an_arrow_gives_what_its_function_answers(rt: HostRuntime) -> Result<(), Fail> {
     let alloc = rt.alloc();
     let mut expressions = Exprs::new(alloc);
-    let nine = expressions.int(9, Spot::NONE)?;
+    let nine = expressions.add(ExprNode::Int(9), Spot::NONE)?;
     let function = expressions.function(Pat::unnamed(), nine)?;
     let arrow = Primitive::Arrow(function);
     assert!(rt; gives(alloc, &expressions, arrow, (9, 9))?);

@@ -4,7 +4,7 @@ use Rattle.sf_value.specs.Values.{Data}
 use Rattle.sf_expr.specs.Expressions.{Expression}
 use Rattle.sf_term.specs.declared.form.WithValue.TheVariants.{Constant}
 use Rattle.sf_term.specs.Trees.{Extent, with_value, Term, staged}
-use Rattle.sf_mean.specs.Lives.{scope_of, relay}
+use Rattle.sf_mean.specs.Lives.{scope_around, relay}
 use Rattle.sf_mean.specs.Formulas.{formula}
 use Rattle.sf_mean.specs.Meaning.{Outcome, gave, combined, value_in, as_outcome, Cost, both_costs, over_stages, one_term, text_cost}
 use Rattle.sf_rewrite.specs.Quiet.{is_quiet}
@@ -41,4 +41,4 @@ module _ (Q : Leaves) (one : OneLeaf Q) where
       go e s L ys zs o c A B P F =
           let k = quiet_steps Q one f h e s L ys A in
           let M : Outcome → Type 0 = λ o. Chained Q x f (constant i) e s L zs o (over_stages x (both_costs (text_cost f) one_term)) in
-          lowered (subst M (after_value k.0 (as_outcome (formula (with_value Constant i) (scope_of e) s L) []) ∙ sym (once_at Q one F at_primitive).0) (chained A B k.1 (goes at_primitive))) (below_any _ _)
+          lowered (subst M (after_value k.0 (as_outcome (formula (with_value Constant i) (scope_around e) s L) []) ∙ sym (once_at Q one F at_primitive).0) (chained A B k.1 (goes at_primitive))) (below_any _ _)

@@ -8,7 +8,7 @@ use Rattle.sf_term.specs.declared.form.Join.{Join}
 use Rattle.sf_term.specs.declared.form.Side.{Side}
 use Rattle.sf_term.specs.declared.form.Heading.{Heading}
 use Rattle.sf_term.specs.Trees.{Primitive, Term, primitive, joined, sided, headed, staged, Template, Templates}
-use Rattle.sf_mean.specs.Lives.{Step, input_of, Life, Process, closure, Environment, empty, scope_of, first_input}
+use Rattle.sf_mean.specs.Lives.{Step, input_of, Life, Process, closure, Environment, empty, scope_around, first_input}
 use Rattle.sf_mean.specs.Formulas.{formula}
 use Rattle.sf_mean.specs.Meaning.{Network, Readings, Outcome, gave, faulted, as_outcome, Cost, one_term, text_cost, Made, make, Gives, gives, Outputs, not_begun, and_gave, Sample, of_constants, of_form, Form, of_primitive, of_join, of_side, of_loop, of_stages, Next, goes_on, stops, Loops, no_loop, and_looped}
 use Rattle.sf_rewrite.specs.Laws.{Laws}
@@ -50,7 +50,7 @@ pub data AlikeAll (d : Bool) : Templates → Templates → Type 0 where
   none_alike : AlikeAll d [] []
   more_alike : {s t : Template} {ss ts : Templates} → AlikeTemplate d s t → AlikeAll d ss ts → AlikeAll d (s ∷ ss) (t ∷ ts)
 
-scopes : {d : Bool} {e e' : Environment} → AlikeNames d e e' → scope_of e ≡ scope_of e'
+scopes : {d : Bool} {e e' : Environment} → AlikeNames d e e' → scope_around e ≡ scope_around e'
 scopes alike_empty = refl
 
 -- the texts' costs
@@ -179,7 +179,7 @@ module _ (d : Bool) (n n' : Network) (all : AlikeAll d n.templates n'.templates)
   failing (primitive p) h = absurd cc
   failing (joined j f g) h = absurd cc
   failing (sided a t) h = absurd cc
-  failing (headed k i t) {e} h = at_constant (made_fault (eval i (scope_of e)) h)
+  failing (headed k i t) {e} h = at_constant (made_fault (eval i (scope_around e)) h)
   failing (staged x f g) h = absurd cc
 
   mutual
@@ -191,7 +191,7 @@ module _ (d : Bool) (n n' : Network) (all : AlikeAll d n.templates n'.templates)
     ready_form (of_primitive {p = p} {e = e} {s = s} {L = L} h) k = let N : Outcome → Type 0 = λ o. At Q (primitive p) e s L o one_term in subst N h at_primitive
     ready_form (of_join A B C) k = at_join (opened_all (ready_all A)) (opened_part (ready_gives B)) (ready_next C)
     ready_form (of_side A) k = at_side (opened_part (ready_gives A))
-    ready_form (of_loop {i = i} {e = e} A B) k = at_loop (made_answer (eval i (scope_of e)) k) (ready_loops A) (opened_part (ready_gives B))
+    ready_form (of_loop {i = i} {e = e} A B) k = at_loop (made_answer (eval i (scope_around e)) k) (ready_loops A) (opened_part (ready_gives B))
     ready_form (of_stages A B C) k = at_stages (opened_all (ready_all A)) (opened_part (ready_gives B)) (ready_next C)
 
     ready_gives : {P : Process} {L : Life} {o : Outcome} {c : Cost} → Gives n P L o c → ReadyNow P L o c

@@ -12,7 +12,7 @@ use Rattle.sf_term.specs.declared.form.Side.{Side}
 use Rattle.sf_term.specs.declared.form.Heading.{Heading}
 use Rattle.sf_term.specs.declared.form.Heading.TheVariants.{LoopPre}
 use Rattle.sf_term.specs.Trees.{Primitive, Extent, Term, primitive, joined, sided, headed, staged}
-use Rattle.sf_mean.specs.Lives.{Step, input_of, Life, Environment, scope_of, with_inputs, relay, fed}
+use Rattle.sf_mean.specs.Lives.{Step, input_of, Life, Environment, scope_around, with_inputs, relay, fed}
 use Rattle.sf_mean.specs.Formulas.{side_of, with_side, formula}
 use Rattle.sf_mean.specs.Meaning.{Readings, Outcome, gave, faulted, changed, combined, value_in, as_outcome, Cost, both_costs, over, over_stages, one_term, text_cost, left_life, right_life, join_value}
 
@@ -41,7 +41,7 @@ mutual
   pub data At (Q : Leaves) : Term → Environment → Step → Life → Outcome → Cost → Type 0 where
     at_leaf : {t : Term} {e : Environment} {s : Step} {L : Life} {o : Outcome} {c : Cost} → IsTrue (is_leaf t) → Q t e s L o c → At Q t e s L o c
     at_primitive : {p : Primitive} {e : Environment} {s : Step} {L : Life}
-        → At Q (primitive p) e s L (as_outcome (formula p (scope_of e) s L) []) one_term
+        → At Q (primitive p) e s L (as_outcome (formula p (scope_around e) s L) []) one_term
     at_join : {j : Join} {f g : Term} {e : Environment} {s : Step} {L : Life} {ys : List Data} {o o' : Outcome} {c c' : Cost}
         → Parts Q f e (left_life j L) ys
         → Part Q f e (left_life j (s ∷ L)) o c
@@ -56,12 +56,12 @@ mutual
         → Part Q t e (with_inputs (side_of d) (s ∷ L)) o c
         → At Q (sided d t) e s L (changed (with_side d (input_of s)) o) (over c)
     at_loop : {i : Expression} {t : Term} {e : Environment} {v : Data} {s : Step} {L : Life} {zs : List Data} {o : Outcome} {c : Cost}
-        → eval i (scope_of e) ≡ answer v
+        → eval i (scope_around e) ≡ answer v
         → Rounds Q v t e L zs
         → Part Q t e (fed v (s ∷ L) zs) o c
         → At Q (headed LoopPre i t) e s L (changed first_of o) (over c)
     at_constant : {h : Heading} {i : Expression} {t : Term} {e : Environment} {x : ValueFault} {s : Step}
-        → eval i (scope_of e) ≡ failed x
+        → eval i (scope_around e) ≡ failed x
         → At Q (headed h i t) e s [] (faulted x) (over (text_cost t))
 
   pub data Then (Q : Leaves) : Outcome → Term → Environment → Life → Outcome → Cost → Type 0 where

@@ -8,7 +8,7 @@ use Rattle.sf_term.specs.declared.form.Join.{Join}
 use Rattle.sf_term.specs.declared.form.Join.TheVariants.{InSequence, InParallel, FannedOut}
 use Rattle.sf_term.specs.declared.form.Heading.TheVariants.{LoopPre}
 use Rattle.sf_term.specs.Trees.{Chain, lone, chained as chained_functions, on_side, on_both, fanned, Primitive, bare, with_value, arrow, fused, Extent, Term, primitive, joined, sided, headed, staged}
-use Rattle.sf_mean.specs.Lives.{Step, step, wait_of, input_of, Life, Environment, scope_of, with_inputs, relay, fed}
+use Rattle.sf_mean.specs.Lives.{Step, step, wait_of, input_of, Life, Environment, scope_around, with_inputs, relay, fed}
 use Rattle.sf_mean.specs.Formulas.{side_of, with_side, apply_chain, value_formula, formula}
 use Rattle.sf_mean.specs.Meaning.{Outcome, gave, as_outcome, Cost, one_term, text_cost}
 use Rattle.sf_mean.proofs.Inferred.{both_true}
@@ -109,14 +109,14 @@ module _ (Q : Leaves) (one : OneLeaf Q) where
 
   steps_loop : (i : Expression) {t : Term} → IsTrue (is_quiet_expression i) → Steps t → Steps (headed LoopPre i t)
   steps_loop i h S e s L zs P =
-      let v = quiet_eval i h (scope_of e) in
+      let v = quiet_eval i h (scope_around e) in
       let k = all_rounds S e v.0 L in
       let r = fed_step S e v.0 s L k.0 in
       (first_of r.0, at_loop v.1 k.1 r.1)
 
   pub quiet_steps : (t : Term) → IsTrue (is_quiet t) → Steps t
   quiet_steps (primitive p) h = λ e s L ys P.
-      let r = quiet_formula p h (scope_of e) s L in
+      let r = quiet_formula p h (scope_around e) s L in
       let N : Evaluated Data → Type 0 = λ v. At Q (primitive p) e s L (as_outcome v []) one_term in
       (r.0, subst N r.1 at_primitive)
   quiet_steps (joined j f g) h = let k = both_true (is_quiet f) (is_quiet g) h in steps_join j (quiet_steps f k.0) (quiet_steps g k.1)

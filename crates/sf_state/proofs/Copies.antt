@@ -4,13 +4,13 @@ use Rattle.std.proofs.Math.Seq.{take-suc}
 use Rattle.std.specs.declared.alloc.Global.{Global}
 use Rattle.sf_term.specs.declared.form.Join.{Join}
 use Rattle.sf_law.specs.declared.plan.Plan.{Plan}
-use Rattle.sf_law.specs.Arena.{expressions_of}
+use Rattle.sf_law.specs.Arena.{plan_expressions}
 use Rattle.sf_term.specs.Trees.{Term, Primitive}
 use Rattle.sf_expr.specs.Evaluation.{Scope}
 use Rattle.sf_mean.specs.Lives.{Life, Process, Environment}
 use Rattle.sf_mean.specs.Meaning.{Network, Made}
 use Rattle.sf_prim.specs.declared.prim_state.PrimState.{PrimState}
-use Rattle.sf_prim.specs.Keeping.{Keeps}
+use Rattle.sf_prim.specs.Keeping.{Remembers}
 use Rattle.sf_state.specs.declared.state.State.{State}
 use Rattle.sf_state.specs.declared.state.State.TheVariants.{Unborn, Live' as Alive'}
 use Rattle.sf_state.specs.declared.state.Live.{Live}
@@ -39,7 +39,7 @@ module _ (p : Plan) where
   pub alive_follows : {at at' : _} (names around : Env) (l m : Live) → ((e : Environment) → IsNames p names e → IsNames p around e) → NodeFollows l m → Follows (Alive' names at l) (Alive' around at' m)
   alive_follows names around l m h f P L (alive N S) = alive (h _ N) (f _ _ S)
 
-  pub prim_follows : (i i' : PrimState) → ((q : Primitive) (scope : Scope) (L : Life) → Keeps (expressions_of p) i q scope L → Keeps (expressions_of p) i' q scope L) → NodeFollows (LPrim i) (LPrim i')
+  pub prim_follows : (i i' : PrimState) → ((q : Primitive) (scope : Scope) (L : Life) → Remembers (plan_expressions p) i q scope L → Remembers (plan_expressions p) i' q scope L) → NodeFollows (LPrim i) (LPrim i')
   prim_follows i i' f P L (settles (ready h O (lives_primitive K))) = settles (ready h O (lives_primitive (f _ _ _ K)))
 
   pub join_follows : (j : Join) (a a' b b' : State) → Follows a a' → Follows b b' → NodeFollows (LJoin j a b) (LJoin j a' b')

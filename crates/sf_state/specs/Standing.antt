@@ -8,14 +8,14 @@ use Rattle.sf_term.specs.declared.form.Join.TheVariants.{InSequence}
 use Rattle.sf_term.specs.declared.form.Side.TheVariants.{First as OnFirst, Second as OnSecond}
 use Rattle.sf_term.specs.declared.form.Heading.TheVariants.{LoopPre}
 use Rattle.sf_term.specs.Trees.{Primitive, whole, rest, Term, primitive, joined, sided, headed, staged}
-use Rattle.sf_mean.specs.Lives.{Step, Life, Process, closure, Environment, empty, scope_of, first_input, with_inputs, relay, fed_back, older, fed}
+use Rattle.sf_mean.specs.Lives.{Step, Life, Process, closure, Environment, empty, scope_around, first_input, with_inputs, relay, fed_back, older, fed}
 use Rattle.sf_mean.specs.Formulas.{side_of}
 use Rattle.sf_mean.specs.Meaning.{Network, Made, value_made, make, left_life, right_life, Outputs, Loops}
 use Rattle.sf_law.specs.declared.node.PlanId.{PlanId}
 use Rattle.sf_law.specs.declared.plan.Plan.{Plan}
-use Rattle.sf_law.specs.Arena.{expressions_of, tree, network_of_plan}
+use Rattle.sf_law.specs.Arena.{plan_expressions, plan_tree, network_of_plan}
 use Rattle.sf_prim.specs.declared.prim_state.PrimState.{PrimState}
-use Rattle.sf_prim.specs.Keeping.{Keeps}
+use Rattle.sf_prim.specs.Keeping.{Remembers}
 use Rattle.sf_state.specs.declared.state.State.{State}
 use Rattle.sf_state.specs.declared.state.State.TheVariants.{Unborn, Live' as Alive'}
 use Rattle.sf_state.specs.declared.state.Live.{Live}
@@ -65,7 +65,7 @@ mutual
   -- The same by the forms.
   pub data Lives (p : Plan) : Live → Term → Environment → Made → Life → Type 0 where
     lives_primitive : {i : PrimState} {q : Primitive} {e : Environment} {m : Made} {L : Life}
-        → Keeps (expressions_of p) i q (scope_of e) L
+        → Remembers (plan_expressions p) i q (scope_around e) L
         → Lives p (LPrim i) (primitive q) e m L
     -- each part on its own life, both fed at once
     lives_join : {j : Join} {a b : State} {f g : Term} {e : Environment} {m : Made} {L : Life} {ys : List Data}
@@ -92,7 +92,7 @@ mutual
 
   -- what can be run
   pub data IsProcess (p : Plan) : SProcess → Process → Type 0 where
-    is_closure : {t : PlanId} {names : Env} {e : Environment} → IsNames p names e → IsProcess p (SClosure t names) (closure (tree p t) e)
+    is_closure : {t : PlanId} {names : Env} {e : Environment} → IsNames p names e → IsProcess p (SClosure t names) (closure (plan_tree p t) e)
 
   -- what names stand for
   pub data IsNames (p : Plan) : Env → Environment → Type 0 where

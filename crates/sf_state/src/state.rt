@@ -1,7 +1,7 @@
 //! The states of networks.
 ghost use Rattle.std.specs.Prelude.{[], IfOk};
 ghost use Rattle.sf_law.specs.declared.plan.Plan.{Plan};
-ghost use Rattle.sf_law.specs.Arena.{tree};
+ghost use Rattle.sf_law.specs.Arena.{plan_tree};
 ghost use Rattle.sf_mean.specs.Lives.{closure, empty, Environment, Life, Process as ProcessOf};
 ghost use Rattle.sf_state.specs.Standing.{Stands, Settles, IsProcess, IsNames, AllFollow};
 
@@ -64,7 +64,7 @@ pub enum Env {
 impl State {
     /// A term without names, before its first sample.
     pub fn unborn(term: PlanId) -> State
-        ensures { (p : Plan) → Stands p result (closure (tree p term) empty) [] }
+        ensures { (p : Plan) → Stands p result (closure (plan_tree p term) empty) [] }
     {
         State::Unborn(Process::Closure(term, Env::Empty))
     }

@@ -20,13 +20,13 @@ use Rattle.sf_law.specs.declared.node.PlanNode.TheVariants.{Primitive as NPrimit
 use Rattle.sf_term.specs.declared.node.Primitive.{Primitive as SPrimitive}
 use Rattle.sf_law.specs.declared.plan.Plan.{Plan}
 use Rattle.sf_term.specs.Trees.{Primitive, Term, primitive, joined, sided, headed}
-use Rattle.sf_law.specs.Arena.{expressions_of, tree, expression_at, Builds, builds_joined, builds_sided, builds_headed}
-use Rattle.sf_mean.specs.Lives.{Step, step, Life, Process, closure, Environment, empty, scope_of, first_input}
+use Rattle.sf_law.specs.Arena.{plan_expressions, plan_tree, plan_expression_at, BuildsPlan, builds_joined, builds_sided, builds_headed}
+use Rattle.sf_mean.specs.Lives.{Step, step, Life, Process, closure, Environment, empty, scope_around, first_input}
 use Rattle.sf_mean.specs.Formulas.{formula}
 use Rattle.sf_mean.specs.Meaning.{Network, Readings, Outcome, gave, faulted, as_outcome, Cost, count, height, both_costs, over, one_term, Made, nothing_made, value_made, make, left_life, right_life, join_value, Gives, gives, Outputs, not_begun, and_gave, of_constants, of_form, Form, of_primitive, of_join, goes_on}
 use Rattle.sf_law.specs.Arena.{network_of_plan}
 use Rattle.sf_prim.specs.declared.prim_state.PrimState.{PrimState}
-use Rattle.sf_prim.specs.Keeping.{primitive_over, Keeps, Begins, begins, begins_with_fault, GoesOn, goes_on as goes_on_with, goes_on_with_fault}
+use Rattle.sf_prim.specs.Keeping.{primitive_over, Remembers, Begins, begins, begins_with_fault, GoesOn, goes_on as goes_on_with, goes_on_with_fault}
 use Rattle.sf_state.specs.declared.state.State.{State}
 use Rattle.sf_state.specs.declared.state.State.TheVariants.{Unborn, Live' as Alive'}
 use Rattle.sf_state.specs.declared.state.Live.{Live}
@@ -39,7 +39,7 @@ use Rattle.sf_state.specs.Standing.{Stands, unborn, alive, Settles, settles, Rea
 use Rattle.sf_step.specs.declared.meter.Meter.{Meter}
 use Rattle.sf_step.specs.Meters.{entered_of, height_of}
 use Rattle.sf_step.specs.Routing.{left_input, right_input, part_input, wrap_value, kept_after}
-use Rattle.sf_step.specs.Sampling.{Rel, fault_from, Ticks, Ticked, ticked, refused, readings, Spent, AtMost, Within, Fails, faults, large, memory, Answers, answers, fails, StateSteps, LiveSteps, left_or, kept, Opens, opens, opens_with_fault, opens_without_memory}
+use Rattle.sf_step.specs.Sampling.{Rel, fault_from, Ticks, Ticked, ticked, refused, readings, Spent, AtMost, Within, StopsFor, faults, large, memory, Answers, answers, fails, StateSteps, LiveSteps, left_or, kept, Opens, opens, opens_with_fault, opens_without_memory}
 use Rattle.sf_step.specs.Stepping.{EachCostsAtLeast, Steps, stepped, faulted_so, too_large, no_memory}
 use Rattle.sf_step.proofs.Parts.{counted, with_change, over_spent, one_spent, both_spent, fails_alike, over_fails, change_fails, then_fails, rest_fails, spent_within, answered, failed, memory_exit}
 use Rattle.sf_step.proofs.Forms.{left_and, right_and, left_none, right_none, single_gives, gave_outputs, form_alike, join_alike, wrap_alike, wraps_on, counts}
@@ -72,7 +72,7 @@ module _ (p : Plan) where
       go o k G = let c = counts net G in record { entered = let a = t.entered in omega (arith, c.0); high = let a = t.high in let b = t.below in omega (arith, c.1) }
 
   -- one node too many: no outcome fits
-  pub tick_fails : {f : Fault} {m n : Meter} {depth : ℕ} (P : Process) (L : Life) → Ticked m n depth (Err f) → Fails (Gives net P L) f m n depth
+  pub tick_fails : {f : Fault} {m n : Meter} {depth : ℕ} (P : Process) (L : Life) → Ticked m n depth (Err f) → StopsFor (Gives net P L) f m n depth
   tick_fails {m = m} {depth = depth} P L (refused h en hn) = large go (record { most = λ o k G. record { entered = omega arith; high = omega arith } })
     where
       go : (o : Outcome) (k : Cost) → Gives net P L o k → entered_of m + count k ≤ 100000 → depth + height k ≤ 800 → ⊥
@@ -96,10 +96,10 @@ module _ (p : Plan) where
 
     pub join_left_fails : (f : Fault) → StateSteps p a (step d u) (Err f) n n' inside
         → (m : Meter) (depth : ℕ) → Ticks m n depth inside → (P : Process) (L : Life) → Ready p (LJoin j a b) P (first_input (step d x) L) L
-        → Fails (Gives net P (step d x ∷ L)) f m n' depth
+        → StopsFor (Gives net P (step d x ∷ L)) f m n' depth
     join_left_fails q hs m depth t P L (ready {m = made} h O (lives_join {f = f} {g = g} {e = e} {ys = ys} N OL A B)) =
         fails_alike (form_alike net (step d x) L h O) (fails_alike (join_alike net j f g e made (step d x) L ys OL)
-        (over_fails t (then_fails (subst (λ (K : Life). Fails (Gives net (closure f e) K) q n n' inside) (left_at L) (failed (hs _ _ A))))))
+        (over_fails t (then_fails (subst (λ (K : Life). StopsFor (Gives net (closure f e) K) q n n' inside) (left_at L) (failed (hs _ _ A))))))
 
     module _ (a' : State) (y w : Data) (ew : w ≡ right_input j x y) (hs : StateSteps p a (step d u) (Ok (a', y)) n n' inside) where
       right_at : (L : Life) (ys : List Data) → step d w ∷ right_life j L ys ≡ right_life j (step d x ∷ L) (y ∷ ys)
@@ -107,11 +107,11 @@ module _ (p : Plan) where
 
       pub join_right_fails : (n'' : Meter) (f : Fault) → StateSteps p b (step d w) (Err f) n' n'' inside
           → (m : Meter) (depth : ℕ) → Ticks m n depth inside → (P : Process) (L : Life) → Ready p (LJoin j a b) P (first_input (step d x) L) L
-          → Fails (Gives net P (step d x ∷ L)) f m n'' depth
+          → StopsFor (Gives net P (step d x ∷ L)) f m n'' depth
       join_right_fails n'' q hs2 m depth t P L (ready {m = made} h O (lives_join {f = f} {g = g} {e = e} {ys = ys} N OL A B)) =
           let one = answered (hs _ _ A) in
           let G = subst (λ (K : Life). Gives net (closure f e) K (gave y one.r) one.k) (left_at L) one.given in
-          let H = subst (λ (K : Life). Fails (Gives net (closure g e) K) q n' n'' inside) (right_at L ys) (failed (hs2 _ _ B)) in
+          let H = subst (λ (K : Life). StopsFor (Gives net (closure g e) K) q n' n'' inside) (right_at L ys) (failed (hs2 _ _ B)) in
           fails_alike (form_alike net (step d x) L h O) (fails_alike (join_alike net j f g e made (step d x) L ys OL)
           (over_fails t (rest_fails (λ z. Gives net (closure g e) (right_life j (step d x ∷ L) (z ∷ ys))) (single_gives net _ _) G one.spent H)))
 
@@ -143,10 +143,10 @@ module _ (p : Plan) where
 
     pub wrap_fails : (f : Fault) → StateSteps p a (step d u) (Err f) n n' inside
         → (m : Meter) (depth : ℕ) → Ticks m n depth inside → (P : Process) (L : Life) → Ready p (LWrap w a) P (first_input (step d x) L) L
-        → Fails (Gives net P (step d x ∷ L)) f m n' depth
+        → StopsFor (Gives net P (step d x ∷ L)) f m n' depth
     wrap_fails q hs m depth t P L (ready h O (lives_wrap {u = v} {e = e} {K = K} W A)) =
         fails_alike (form_alike net (step d x) L h O) (fails_alike (wrap_alike net d x W)
-        (over_fails t (change_fails (subst (λ (K : Life). Fails (Gives net (closure v e) K) q n n' inside) (part_at K) (failed (hs _ _ A))))))
+        (over_fails t (change_fails (subst (λ (K : Life). StopsFor (Gives net (closure v e) K) q n n' inside) (part_at K) (failed (hs _ _ A))))))
 
     pub wrap_steps : (a' : State) (w' : Wrap) (y v : Data) → w' ≡ kept_after w y → v ≡ wrap_value w x y → StateSteps p a (step d u) (Ok (a', y)) n n' inside
         → LiveSteps p (LWrap w a) (step d x) (Ok (LWrap w' a', v)) n n' inside
@@ -160,25 +160,25 @@ module _ (p : Plan) where
 
   -- ## Primitives
 
-  goes_on_parts : {q : Primitive} {scope : Scope} {s : Step} {L : Life} {i : PrimState} {v : Data} → GoesOn (expressions_of p) q scope s L i (Ok v) → (formula q scope s L ≡ answer v) × Keeps (expressions_of p) i q scope (s ∷ L)
+  goes_on_parts : {q : Primitive} {scope : Scope} {s : Step} {L : Life} {i : PrimState} {v : Data} → GoesOn (plan_expressions p) q scope s L i (Ok v) → (formula q scope s L ≡ answer v) × Remembers (plan_expressions p) i q scope (s ∷ L)
   goes_on_parts (goes_on_with h k) = (h, k)
 
-  goes_on_fault : {q : Primitive} {scope : Scope} {s : Step} {L : Life} {i : PrimState} {x : ValueFault} → GoesOn (expressions_of p) q scope s L i (Err (EValue x)) → formula q scope s L ≡ no_answer x
+  goes_on_fault : {q : Primitive} {scope : Scope} {s : Step} {L : Life} {i : PrimState} {x : ValueFault} → GoesOn (plan_expressions p) q scope s L i (Err (EValue x)) → formula q scope s L ≡ no_answer x
   goes_on_fault (goes_on_with_fault h) = h
 
   module _ (i i' : PrimState) (s : Step) (n : Meter) (inside : ℕ) where
-    pub prim_steps : (v : Data) → ((q : Primitive) (scope : Scope) (L : Life) → Keeps (expressions_of p) i q scope L → GoesOn (expressions_of p) q scope s L i' (Ok v)) → LiveSteps p (LPrim i) s (Ok (LPrim i', v)) n n inside
+    pub prim_steps : (v : Data) → ((q : Primitive) (scope : Scope) (L : Life) → Remembers (plan_expressions p) i q scope L → GoesOn (plan_expressions p) q scope s L i' (Ok v)) → LiveSteps p (LPrim i) s (Ok (LPrim i', v)) n n inside
     prim_steps v hs m depth t P L (ready {m = made} h O (lives_primitive {q = q} {e = e} K)) =
-        let w = goes_on_parts (hs q (scope_of e) L K) in
+        let w = goes_on_parts (hs q (scope_around e) L K) in
         let F : Form net (primitive q) e made s L (gave v []) one_term = of_primitive (ap (λ o. as_outcome o []) w.0) in
         answers (gives O (of_form h F)) (one_spent t) (settles (ready h (and_gave O (of_form h F)) (lives_primitive w.1)))
 
-    pub prim_fails : (n' : Meter) (g : Fault) (f : EvalFault) → g ≡ fault_from f → entered_of n' ≡ entered_of n → height_of n' ≡ height_of n → ((q : Primitive) (scope : Scope) (L : Life) → Keeps (expressions_of p) i q scope L → GoesOn (expressions_of p) q scope s L i' (Err f))
+    pub prim_fails : (n' : Meter) (g : Fault) (f : EvalFault) → g ≡ fault_from f → entered_of n' ≡ entered_of n → height_of n' ≡ height_of n → ((q : Primitive) (scope : Scope) (L : Life) → Remembers (plan_expressions p) i q scope L → GoesOn (plan_expressions p) q scope s L i' (Err f))
         → LiveSteps p (LPrim i) s (Err g) n n' inside
     prim_fails n' g (EValue x) e en hn hs m depth t P L (ready {t = u} {e = names} h O (lives_primitive {q = q} {e = e'} K)) =
-        let w = goes_on_fault (hs q (scope_of e') L K) in
+        let w = goes_on_fault (hs q (scope_around e') L K) in
         let G : Gives net (closure (primitive q) e') (s ∷ L) (faulted x) one_term = gives O (of_form h (of_primitive (ap (λ o. as_outcome o []) w))) in
-        fails (subst (λ (g : Fault). Fails (Gives net (closure (primitive q) e') (s ∷ L)) g m n' depth) (sym e) (faults G ((ticked_within t en hn).most _ _ G)))
+        fails (subst (λ (g : Fault). StopsFor (Gives net (closure (primitive q) e') (s ∷ L)) g m n' depth) (sym e) (faults G ((ticked_within t en hn).most _ _ G)))
     prim_fails n' g EMemory e en hn hs m depth t P L R = early_memory t en hn e
 
   -- ## States
@@ -206,30 +206,30 @@ module _ (p : Plan) where
   opened (opens h) = h
 
   module _ {m n : Meter} {depth inside : ℕ} (term : PlanId) (names : Env) (d : ℕ) (x : Data) (t : Ticks m n depth inside) where
-    module _ {n' : Meter} (l : Live) (ho : (e : Environment) → IsNames p names e → Opens p (tree p term) e (Ok l)) where
+    module _ {n' : Meter} (l : Live) (ho : (e : Environment) → IsNames p names e → Opens p (plan_tree p term) e (Ok l)) where
       pub start_steps : {at : _} (around : Env) (l' kept : Live) (v : Data) → around ≡ names → kept ≡ l' → LiveSteps p l (step d x) (Ok (l', v)) n n' inside
           → StateSteps p (Unborn (SClosure term names)) (step d x) (Ok (Alive' around at kept, v)) m n' depth
       start_steps around l' kept v ea ek hs P L (unborn (is_closure {e = e} N)) =
           let w = answered (hs m depth t _ [] (opened (ho e N) x)) in
-          answers w.given w.spent (alive (subst (λ (names : Env). IsNames p names e) (sym ea) N) (subst (λ (l : Live). Settles p l (closure (tree p term) e) (step d x ∷ [])) (sym ek) w.holds))
+          answers w.given w.spent (alive (subst (λ (names : Env). IsNames p names e) (sym ea) N) (subst (λ (l : Live). Settles p l (closure (plan_tree p term) e) (step d x ∷ [])) (sym ek) w.holds))
 
-      pub start_fails : (f : Fault) → LiveSteps p l (step d x) (Err f) n n' inside → (P : Process) (L : Life) → Stands p (Unborn (SClosure term names)) P L → Fails (Gives net P (step d x ∷ L)) f m n' depth
+      pub start_fails : (f : Fault) → LiveSteps p l (step d x) (Err f) n n' inside → (P : Process) (L : Life) → Stands p (Unborn (SClosure term names)) P L → StopsFor (Gives net P (step d x ∷ L)) f m n' depth
       start_fails f hs P L (unborn (is_closure {e = e} N)) = failed (hs m depth t _ [] (opened (ho e N) x))
 
     module _ {n' : Meter} (en : entered_of n' ≡ entered_of n) (hn : height_of n' ≡ height_of n) where
-      open_fails : (u : Term) (e : Environment) (f : Fault) → Opens p u e (Err f) → Fails (Gives net (closure u e) (step d x ∷ [])) f m n' depth
+      open_fails : (u : Term) (e : Environment) (f : Fault) → Opens p u e (Err f) → StopsFor (Gives net (closure u e) (step d x ∷ [])) f m n' depth
       open_fails u e f (opens_with_fault h) = faults (h (step d x)) ((ticked_within t en hn).most _ _ (h (step d x)))
       open_fails u e f opens_without_memory = memory (ticked_within t en hn)
 
-      pub start_open_fails : (f g : Fault) → g ≡ f → ((e : Environment) → IsNames p names e → Opens p (tree p term) e (Err f)) → StateSteps p (Unborn (SClosure term names)) (step d x) (Err g) m n' depth
-      start_open_fails f g eg ho P L (unborn (is_closure {e = e} N)) = fails (subst (λ (g : Fault). Fails (Gives net (closure (tree p term) e) (step d x ∷ [])) g m n' depth) (sym eg) (open_fails _ e f (ho e N)))
+      pub start_open_fails : (f g : Fault) → g ≡ f → ((e : Environment) → IsNames p names e → Opens p (plan_tree p term) e (Err f)) → StateSteps p (Unborn (SClosure term names)) (step d x) (Err g) m n' depth
+      start_open_fails f g eg ho P L (unborn (is_closure {e = e} N)) = fails (subst (λ (g : Fault). StopsFor (Gives net (closure (plan_tree p term) e) (step d x ∷ [])) g m n' depth) (sym eg) (open_fails _ e f (ho e N)))
 
   -- ## Before the first sample
 
-  prim_opens : (q : Primitive) (e : Environment) (names : Env) (i : PrimState) → IsNames p names e → Begins (expressions_of p) q (Ok i) → Opens p (primitive q) e (Ok (LPrim i))
+  prim_opens : (q : Primitive) (e : Environment) (names : Env) (i : PrimState) → IsNames p names e → Begins (plan_expressions p) q (Ok i) → Opens p (primitive q) e (Ok (LPrim i))
   prim_opens q e names i is_empty (begins K) = opens (λ x. ready refl not_begun (lives_primitive K))
 
-  prim_opens_with_fault : (q : Primitive) (e : Environment) (names : Env) (f : EvalFault) → IsNames p names e → Begins (expressions_of p) q (Err f) → Opens p (primitive q) e (Err (fault_from f))
+  prim_opens_with_fault : (q : Primitive) (e : Environment) (names : Env) (f : EvalFault) → IsNames p names e → Begins (plan_expressions p) q (Err f) → Opens p (primitive q) e (Err (fault_from f))
   prim_opens_with_fault q e names (EValue x) is_empty (begins_with_fault h) = opens_with_fault (λ s. gives not_begun (of_form refl (of_primitive (ap (λ o. as_outcome o []) (h s)))))
   prim_opens_with_fault q e names EMemory N h = opens_without_memory
 
@@ -237,44 +237,44 @@ module _ (p : Plan) where
   open_exit t e (Ok l) h = absurd h
   open_exit t e (Err f) h = subst (λ (f : Fault). Opens p t e (Err f)) (sym h) opens_without_memory
 
-  pub open_prim : (q : SPrimitive) (t : Term) (names : Env) (i : PrimState) → Builds p (NPrimitive q) t → Begins (expressions_of p) (primitive_over (expressions_of p) q) (Ok i) → (e : Environment) → IsNames p names e → Opens p t e (Ok (LPrim i))
+  pub open_prim : (q : SPrimitive) (t : Term) (names : Env) (i : PrimState) → BuildsPlan p (NPrimitive q) t → Begins (plan_expressions p) (primitive_over (plan_expressions p) q) (Ok i) → (e : Environment) → IsNames p names e → Opens p t e (Ok (LPrim i))
   open_prim q t names i B h e N = subst (λ (t : Term). Opens p t e (Ok (LPrim i))) (sym (builds_primitive p B)) (prim_opens _ e names i N h)
 
-  pub open_prim_fails : (q : SPrimitive) (t : Term) (names : Env) (f : EvalFault) → Builds p (NPrimitive q) t → Begins (expressions_of p) (primitive_over (expressions_of p) q) (Err f) → (e : Environment) → IsNames p names e → Opens p t e (Err (fault_from f))
+  pub open_prim_fails : (q : SPrimitive) (t : Term) (names : Env) (f : EvalFault) → BuildsPlan p (NPrimitive q) t → Begins (plan_expressions p) (primitive_over (plan_expressions p) q) (Err f) → (e : Environment) → IsNames p names e → Opens p t e (Err (fault_from f))
   open_prim_fails q t names f B h e N = subst (λ (t : Term). Opens p t e (Err (fault_from f))) (sym (builds_primitive p B)) (prim_opens_with_fault _ e names f N h)
 
   pub open_join : (j : Join) (a b : PlanId) (names one two : Env) → j ≢ InSequence
-      → ((e : Environment) → IsNames p names e → IsNames p one e) → ((e : Environment) → IsNames p names e → IsNames p two e) → (e : Environment) → IsNames p names e → Opens p (joined j (tree p a) (tree p b)) e (Ok (LJoin j (Unborn (SClosure a one)) (Unborn (SClosure b two))))
+      → ((e : Environment) → IsNames p names e → IsNames p one e) → ((e : Environment) → IsNames p names e → IsNames p two e) → (e : Environment) → IsNames p names e → Opens p (joined j (plan_tree p a) (plan_tree p b)) e (Ok (LJoin j (Unborn (SClosure a one)) (Unborn (SClosure b two))))
   open_join j a b names one two side h g e N =
-      let A = subst (λ (K : Life). Stands p (Unborn (SClosure a one)) (closure (tree p a) e) K) (sym (left_none j)) (unborn (is_closure (h e N))) in
-      let B = subst (λ (K : Life). Stands p (Unborn (SClosure b two)) (closure (tree p b) e) K) (sym (right_none j)) (unborn (is_closure (g e N))) in
-      let O = subst (λ (K : Life). Outputs net (closure (tree p a) e) K []) (sym (left_none j)) not_begun in
+      let A = subst (λ (K : Life). Stands p (Unborn (SClosure a one)) (closure (plan_tree p a) e) K) (sym (left_none j)) (unborn (is_closure (h e N))) in
+      let B = subst (λ (K : Life). Stands p (Unborn (SClosure b two)) (closure (plan_tree p b) e) K) (sym (right_none j)) (unborn (is_closure (g e N))) in
+      let O = subst (λ (K : Life). Outputs net (closure (plan_tree p a) e) K []) (sym (left_none j)) not_begun in
       opens (λ x. ready refl not_begun (lives_join side O A B))
 
   -- a node of two parts opens as they do
-  pub open_joined : (j : Join) (a b : PlanId) (t : Term) (names : Env) (l : Live) → Builds p (NJoined j a b) t → ((e : Environment) → IsNames p names e → Opens p (joined j (tree p a) (tree p b)) e (Ok l))
+  pub open_joined : (j : Join) (a b : PlanId) (t : Term) (names : Env) (l : Live) → BuildsPlan p (NJoined j a b) t → ((e : Environment) → IsNames p names e → Opens p (joined j (plan_tree p a) (plan_tree p b)) e (Ok l))
       → (e : Environment) → IsNames p names e → Opens p t e (Ok l)
   open_joined j a b t names l builds_joined h = h
 
   pub open_wrap : (w : Wrap) (a : PlanId) (names inner : Env) → ((e : Environment) → IsNames p names e → IsNames p inner e)
-      → (t : Term) (e : Environment) (m : Made) → IsNames p names e → ((x : Data) → make net t e x ≡ answer m) → Wraps net w t e m [] (tree p a) [] → Opens p t e (Ok (LWrap w (Unborn (SClosure a inner))))
+      → (t : Term) (e : Environment) (m : Made) → IsNames p names e → ((x : Data) → make net t e x ≡ answer m) → Wraps net w t e m [] (plan_tree p a) [] → Opens p t e (Ok (LWrap w (Unborn (SClosure a inner))))
   open_wrap w a names inner g t e m N h W = opens (λ x. ready (h x) not_begun (lives_wrap W (unborn (is_closure (g e N)))))
 
-  pub open_sided : (d : Side) (a : PlanId) (t : Term) (names : Env) (w : Wrap) (r : Result Live Fault) → Builds p (NSided d a) t
+  pub open_sided : (d : Side) (a : PlanId) (t : Term) (names : Env) (w : Wrap) (r : Result Live Fault) → BuildsPlan p (NSided d a) t
       → ((n : Network) (t : Term) (e : Environment) (m : Made) → Wraps n w (sided d t) e m [] t [])
-      → ((p : Plan) (t : Term) (e : Environment) (m : Made) → IsNames p names e → ((x : Data) → make (network_of_plan p) t e x ≡ answer m) → Wraps (network_of_plan p) w t e m [] (tree p a) [] → Opens p t e r)
+      → ((p : Plan) (t : Term) (e : Environment) (m : Made) → IsNames p names e → ((x : Data) → make (network_of_plan p) t e x ≡ answer m) → Wraps (network_of_plan p) w t e m [] (plan_tree p a) [] → Opens p t e r)
       → (e : Environment) → IsNames p names e → Opens p t e r
   open_sided d a t names w r builds_sided W h e N = h p _ e nothing_made N (λ x. refl) (W _ _ _ _)
 
-  pub open_headed : (i : Heading) (j : ExprId) (a : PlanId) (t : Term) (names : Env) (v : Data) (w : Wrap) (r : Result Live Fault) → Builds p (NHeaded i j a) t
-      → eval (expression_at p j) no_names ≡ answer v
+  pub open_headed : (i : Heading) (j : ExprId) (a : PlanId) (t : Term) (names : Env) (v : Data) (w : Wrap) (r : Result Live Fault) → BuildsPlan p (NHeaded i j a) t
+      → eval (plan_expression_at p j) no_names ≡ answer v
       → ((n : Network) (j : Expression) (t : Term) (e : Environment) → Wraps n w (headed i j t) e (value_made v) [] t [])
-      → ((p : Plan) (t : Term) (e : Environment) (m : Made) → IsNames p names e → ((x : Data) → make (network_of_plan p) t e x ≡ answer m) → Wraps (network_of_plan p) w t e m [] (tree p a) [] → Opens p t e r)
+      → ((p : Plan) (t : Term) (e : Environment) (m : Made) → IsNames p names e → ((x : Data) → make (network_of_plan p) t e x ≡ answer m) → Wraps (network_of_plan p) w t e m [] (plan_tree p a) [] → Opens p t e r)
       → (e : Environment) → IsNames p names e → Opens p t e r
   open_headed i j a t names v w r builds_headed g W h e is_empty = h p _ empty (value_made v) is_empty (λ x. ap (λ o. o >>= λ v. answer (value_made v)) g) (W _ _ _ _)
 
-  pub open_headed_fails : (i : Heading) (j : ExprId) (a : PlanId) (t : Term) (names : Env) (f : EvalFault) → Builds p (NHeaded i j a) t
-      → Evaluates (Err f) (eval (expression_at p j) no_names) → (e : Environment) → IsNames p names e → Opens p t e (Err (fault_from f))
+  pub open_headed_fails : (i : Heading) (j : ExprId) (a : PlanId) (t : Term) (names : Env) (f : EvalFault) → BuildsPlan p (NHeaded i j a) t
+      → Evaluates (Err f) (eval (plan_expression_at p j) no_names) → (e : Environment) → IsNames p names e → Opens p t e (Err (fault_from f))
   open_headed_fails i j a t names (EValue x) builds_headed g e is_empty = opens_with_fault (λ s. gives not_begun (of_constants (ap (λ o. o >>= λ v. answer (value_made v)) g)))
   open_headed_fails i j a t names EMemory B g e N = opens_without_memory
 
@@ -294,7 +294,7 @@ module _ (p : Plan) where
   each_costs : {m n : Meter} {P : Process} {L : Life} → entered_of m ≡ 0 → height_of m ≡ 0 → Within (Gives net P L) m n 0 → EachCostsAtLeast p P L n
   each_costs em hm w = record { few = λ o k G. let a = (w.most o k G).entered in omega arith; low = λ o k G. let a = (w.most o k G).high in omega arith }
 
-  fails_so : {m n : Meter} {P : Process} {L : Life} (a : State) (f : Fault) → entered_of m ≡ 0 → height_of m ≡ 0 → Fails (Gives net P L) f m n 0 → Steps p P L (Err f) a n
+  fails_so : {m n : Meter} {P : Process} {L : Life} (a : State) (f : Fault) → entered_of m ≡ 0 → height_of m ≡ 0 → StopsFor (Gives net P L) f m n 0 → Steps p P L (Err f) a n
   fails_so a f em hm (faults G s) = faulted_so G (let a = s.entered in omega arith) (let a = s.high in omega arith)
   fails_so a f em hm (large h w) = too_large (λ o k G c d. h o k G (omega arith) (omega arith)) (each_costs em hm w)
   fails_so a f em hm (memory w) = no_memory (each_costs em hm w)

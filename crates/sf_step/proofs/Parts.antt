@@ -8,7 +8,7 @@ use Rattle.sf_value.specs.declared.fault.Fault.TheVariants.{Memory}
 use Rattle.sf_mean.specs.Meaning.{Readings, Outcome, gave, faulted, changed, combined, value_in, Cost, count, height, no_cost, both_costs, over}
 use Rattle.sf_step.specs.declared.meter.Meter.{Meter}
 use Rattle.sf_step.specs.Meters.{entered_of, height_of}
-use Rattle.sf_step.specs.Sampling.{Rel, Ticks, readings, Spent, AtMost, Within, Fails, faults, large, memory, Answers, answers, fails, left_or}
+use Rattle.sf_step.specs.Sampling.{Rel, Ticks, readings, Spent, AtMost, Within, StopsFor, faults, large, memory, Answers, answers, fails, left_or}
 
 -- one outcome at most
 pub data Single (R : Rel) : Type 0 where
@@ -89,13 +89,13 @@ then_within {R = R} {g = g} {stop = stop} {S = S} {m = m} {n = n} {depth = depth
 
 -- ## Failures
 
-pub fails_alike : {R S : Rel} {f : Fault} {m n : Meter} {depth : ℕ} → Alike R S → Fails R f m n depth → Fails S f m n depth
+pub fails_alike : {R S : Rel} {f : Fault} {m n : Meter} {depth : ℕ} → Alike R S → StopsFor R f m n depth → StopsFor S f m n depth
 fails_alike a (faults G s) = faults (a.to _ _ G) s
 fails_alike a (large h w) = large (λ o k G. h o k (a.back o k G)) (alike_within a w)
 fails_alike a (memory w) = memory (alike_within a w)
 
 -- a term that counts, whose parts fail
-pub over_fails : {R : Rel} {f : Fault} {m n n' : Meter} {depth inside : ℕ} → Ticks m n depth inside → Fails R f n n' inside → Fails (Over R) f m n' depth
+pub over_fails : {R : Rel} {f : Fault} {m n n' : Meter} {depth inside : ℕ} → Ticks m n depth inside → StopsFor R f n n' inside → StopsFor (Over R) f m n' depth
 over_fails t (faults G s) = faults (counted G) (over_most t s)
 over_fails {R} {f} {m} {n} {n'} {depth} {inside} t (large h w) = large go (over_within t w)
   where
@@ -104,7 +104,7 @@ over_fails {R} {f} {m} {n} {n'} {depth} {inside} t (large h w) = large go (over_
 over_fails t (memory w) = memory (over_within t w)
 
 -- a part fails, and there is no value to change
-pub change_fails : {R : Rel} {g : Data → Data} {f : Fault} {m n : Meter} {depth : ℕ} → Fails R f m n depth → Fails (Changed g R) f m n depth
+pub change_fails : {R : Rel} {g : Data → Data} {f : Fault} {m n : Meter} {depth : ℕ} → StopsFor R f m n depth → StopsFor (Changed g R) f m n depth
 change_fails (faults G s) = faults (with_change G) s
 change_fails {R} {g} {f} {m} {n} {depth} (large h w) = large go (change_within w)
   where
@@ -113,7 +113,7 @@ change_fails {R} {g} {f} {m} {n} {depth} (large h w) = large go (change_within w
 change_fails (memory w) = memory (change_within w)
 
 -- the first part fails
-pub then_fails : {R : Rel} {g : Data → Data → Data} {stop : Cost} {S : Data → Rel} {f : Fault} {m n : Meter} {depth : ℕ} → Fails R f m n depth → Fails (Then R g stop S) f m n depth
+pub then_fails : {R : Rel} {g : Data → Data → Data} {stop : Cost} {S : Data → Rel} {f : Fault} {m n : Meter} {depth : ℕ} → StopsFor R f m n depth → StopsFor (Then R g stop S) f m n depth
 then_fails {stop = stop} (faults G s) = faults (then_stop G) (first_most stop s)
 then_fails {R} {g} {stop} {S} {f} {m} {n} {depth} (large h w) = large go (then_within w)
   where
@@ -136,7 +136,7 @@ module _ {R : Rel} {g : Data → Data → Data} {stop : Cost} (S : Data → Rel)
           subst (λ (k : Cost). AtMost m n' depth (both_costs k l)) (sym e.1) (both_most s (w.most o' l (subst (λ v. S v o' l) (ap value_in e.0) H)))
       go o k (then_stop G) = let e = (one u G G1).0 in cc
 
-  pub rest_fails : {f : Fault} {m n n' : Meter} {depth : ℕ} → Spent m n depth k1 r → Fails (S y) f n n' depth → Fails (Then R g stop S) f m n' depth
+  pub rest_fails : {f : Fault} {m n n' : Meter} {depth : ℕ} → Spent m n depth k1 r → StopsFor (S y) f n n' depth → StopsFor (Then R g stop S) f m n' depth
   rest_fails s (faults G b) = faults (then_on G1 G) (both_most s b)
   rest_fails {f} {m} {n} {n'} {depth} s (large h w) = large go (rest_within s w)
     where
@@ -168,11 +168,11 @@ pub answered : {A : Type 0} {view : A → Data} {after : A → Type 0} {R : Rel}
 answered (answers G s h) = record { k = _; r = _; given = G; spent = s; holds = h }
 
 -- an error is a failure
-pub failed : {A : Type 0} {view : A → Data} {after : A → Type 0} {R : Rel} {f : Fault} {m n : Meter} {depth : ℕ} → Answers view after R (Err f) m n depth → Fails R f m n depth
+pub failed : {A : Type 0} {view : A → Data} {after : A → Type 0} {R : Rel} {f : Fault} {m n : Meter} {depth : ℕ} → Answers view after R (Err f) m n depth → StopsFor R f m n depth
 failed (fails h) = h
 
 -- a `?` that passes a failure on
-pub pass_exit : {A B E : Type 0} {view : B → Data} {after : B → Type 0} {R : Rel} {m n : Meter} {depth : ℕ} {f : Fault} (r : Result A E) (b : B) → IsErr r → Fails R f m n depth → Answers view after R (left_or r b f) m n depth
+pub pass_exit : {A B E : Type 0} {view : B → Data} {after : B → Type 0} {R : Rel} {m n : Meter} {depth : ℕ} {f : Fault} (r : Result A E) (b : B) → IsErr r → StopsFor R f m n depth → Answers view after R (left_or r b f) m n depth
 pass_exit (Ok a) b e h = absurd cc
 pass_exit (Err q) b e h = fails h
 

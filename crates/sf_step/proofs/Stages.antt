@@ -19,7 +19,7 @@ use Rattle.sf_law.specs.declared.plan.Plan.{Plan}
 use Rattle.sf_law.specs.declared.node.PlanId.{PlanId}
 use Rattle.sf_law.specs.declared.node.PlanNode.TheVariants.{Pipeline as NPipeline}
 use Rattle.sf_law.specs.Entries.{stages, pipeline}
-use Rattle.sf_law.specs.Arena.{tree, network_of_plan, Builds, builds_pipeline}
+use Rattle.sf_law.specs.Arena.{plan_tree, network_of_plan, BuildsPlan, builds_pipeline}
 use Rattle.sf_state.specs.declared.state.State.{State}
 use Rattle.sf_state.specs.declared.state.State.TheVariants.{Unborn}
 use Rattle.sf_state.specs.declared.state.Process.TheVariants.{Closure as SClosure}
@@ -29,7 +29,7 @@ use Rattle.sf_state.specs.declared.state.Live.TheVariants.{Pipeline as LPipeline
 use Rattle.sf_state.specs.Standing.{is_closure, IsNames, Stands, unborn, alive, settles, Ready, ready, lives_pipeline, IsPipeline, is_stages, is_sequence, StagesStand, last_stands, stage_stands}
 use Rattle.sf_state.proofs.Copies.{pipeline_lives}
 use Rattle.sf_step.specs.declared.meter.Meter.{Meter}
-use Rattle.sf_step.specs.Sampling.{Rel, Ticks, Fails, Answers, answers, fails, StateSteps, LiveSteps, Opens, opens, AllBegin, none_begin, more_begin, IsLiveFed, is_live_fed}
+use Rattle.sf_step.specs.Sampling.{Rel, Ticks, StopsFor, Answers, answers, fails, StateSteps, LiveSteps, Opens, opens, AllBegin, none_begin, more_begin, IsLiveFed, is_live_fed}
 use Rattle.sf_step.specs.Stepping.{IsFed, is_fed}
 use Rattle.sf_step.proofs.Parts.{Over, counted, Then, then_on, then_stop, Alike, over_spent, both_spent, fails_alike, over_fails, then_fails, rest_fails, answered, failed}
 use Rattle.sf_step.proofs.Forms.{single_gives, gave_outputs, form_alike, gives_form}
@@ -168,7 +168,7 @@ module _ (p : Plan) where
         answers (gives O (of_form h F)) (over_spent t one.spent) (settles (ready h (and_gave O (of_form h F)) (pipeline_lives p w Q one.holds)))
 
     pub pipeline_fails : (f : Fault) → StagesStep v.items d x (Err f) n n' inside
-        → (m : Meter) (depth : ℕ) → Ticks m n depth inside → (P : Process) (L : Life) → Ready p (LPipeline v) P (first_input (step d x) L) L → Fails (Gives net P (step d x ∷ L)) f m n' depth
+        → (m : Meter) (depth : ℕ) → Ticks m n depth inside → (P : Process) (L : Life) → Ready p (LPipeline v) P (first_input (step d x) L) L → StopsFor (Gives net P (step d x ∷ L)) f m n' depth
     pipeline_fails f hs m depth t P L (ready {m = made} h O (lives_pipeline {u = u} {e = e} Q S)) =
         let T = stands_at v (items_hidden-the_row-State-0 v) S in
         fails_alike (form_alike net (step d x) L h O) (fails_alike (pipeline_alike net {m = made} (step d x) L Q (stages_gave T).1)
@@ -260,24 +260,24 @@ module _ (p : Plan) where
 
   -- ## Before the first sample
 
-  begin_stand : (i : PlanId) (ids : List PlanId) (bs : List State) (e : Environment) → AllBegin p e (i ∷ ids) bs → StagesStand p bs (stages rest (tree p i) (map (λ j. tree p j) ids)) e []
+  begin_stand : (i : PlanId) (ids : List PlanId) (bs : List State) (e : Environment) → AllBegin p e (i ∷ ids) bs → StagesStand p bs (stages rest (plan_tree p i) (map (λ j. plan_tree p j) ids)) e []
   begin_stand i [] bs e (more_begin A none_begin) = last_stands A
   begin_stand i (j ∷ ids) bs e (more_begin A B) = stage_stands not_begun A (begin_stand j ids _ e B)
 
-  open_pipeline : (ids : List PlanId) (w : Vec State Global) (e : Environment) → IsTrue (nat_le 2 (length ids)) → AllBegin p e ids w.items → Opens p (pipeline (map (λ j. tree p j) ids)) e (Ok (LPipeline w))
+  open_pipeline : (ids : List PlanId) (w : Vec State Global) (e : Environment) → IsTrue (nat_le 2 (length ids)) → AllBegin p e ids w.items → Opens p (pipeline (map (λ j. plan_tree p j) ids)) e (Ok (LPipeline w))
   open_pipeline [] w e two B = absurd cc
   open_pipeline (i ∷ []) w e two B = absurd cc
   open_pipeline (i ∷ j ∷ ids) w e two B = opens (λ x. ready refl not_begun (pipeline_lives p w is_stages (begin_stand i (j ∷ ids) w.items e B)))
 
-  pub open_staged : (v : Vec PlanId Global) (t : Term) (w : Vec State Global) (e : Environment) → Builds p (NPipeline v) t → AllBegin p e v.items w.items → Opens p t e (Ok (LPipeline w))
+  pub open_staged : (v : Vec PlanId Global) (t : Term) (w : Vec State Global) (e : Environment) → BuildsPlan p (NPipeline v) t → AllBegin p e v.items w.items → Opens p t e (Ok (LPipeline w))
   open_staged v t w e (builds_pipeline two) B = open_pipeline v.items w e two B
 
   -- a sequence is a pipeline of two stages
-  pub open_sequence : (a b : PlanId) (w : Vec State Global) (e : Environment) → AllBegin p e (a ∷ b ∷ []) w.items → Opens p (joined InSequence (tree p a) (tree p b)) e (Ok (LPipeline w))
+  pub open_sequence : (a b : PlanId) (w : Vec State Global) (e : Environment) → AllBegin p e (a ∷ b ∷ []) w.items → Opens p (joined InSequence (plan_tree p a) (plan_tree p b)) e (Ok (LPipeline w))
   open_sequence a b w e B = opens (λ x. ready refl not_begun (pipeline_lives p w is_sequence (begin_stand a (b ∷ []) w.items e B)))
 
   -- one more stage begins
-  begin_push : (i : PlanId) (ids : List PlanId) (a : State) (bs : List State) (e : Environment) → AllBegin p e ids bs → Stands p a (closure (tree p i) e) [] → AllBegin p e (ids ++ i ∷ []) (bs ++ a ∷ [])
+  begin_push : (i : PlanId) (ids : List PlanId) (a : State) (bs : List State) (e : Environment) → AllBegin p e ids bs → Stands p a (closure (plan_tree p i) e) [] → AllBegin p e (ids ++ i ∷ []) (bs ++ a ∷ [])
   begin_push i [] a bs e none_begin A = more_begin A none_begin
   begin_push i (j ∷ ids) a bs e (more_begin B C) A = more_begin B (begin_push i ids a _ e C A)
 

@@ -5,8 +5,8 @@ use Rattle.sf_law.specs.declared.node.PlanId.{PlanId}
 use Rattle.sf_law.specs.declared.plan.Plan.{Plan}
 use Rattle.sf_term.specs.Arena.{templates_of}
 use Rattle.sf_check.specs.declared.checked.Checked.{Checked}
-use Rattle.sf_check.specs.Accepting.{program_of, main_of as checked_main}
-use Rattle.sf_law.specs.Arena.{tree, main_of, network_of_plan}
+use Rattle.sf_check.specs.Accepting.{program_of, checked_main}
+use Rattle.sf_law.specs.Arena.{plan_tree, plan_main, network_of_plan}
 use Rattle.sf_law.specs.Plans.{IsPlainPlan}
 use Rattle.sf_mean.specs.Lives.{step, Life, Process, closure, empty}
 use Rattle.sf_mean.specs.Meaning.{Network}
@@ -20,7 +20,7 @@ use Rattle.sf_step.specs.Stepping.{Steps, stepped, IsFed, is_fed}
 
 -- the term that a plain plan runs is typed as `main` is
 pub plain_takes : (c : Checked) (p : Plan) → IsPlainPlan c p → Takes (context_of (templates_of (program_of c))) (checked_main c).body (checked_main c).input (checked_main c).output
-    → Takes (context_of (network_of_plan p).templates) (tree p (main_of p)) (checked_main c).input (checked_main c).output
+    → Takes (context_of (network_of_plan p).templates) (plan_tree p (plan_main p)) (checked_main c).input (checked_main c).output
 plain_takes c p plain T =
     subst (λ t. Takes (context_of (network_of_plan p).templates) t (checked_main c).input (checked_main c).output) (sym plain.main)
     (subst (λ (n : Network). Takes (context_of n.templates) (checked_main c).body (checked_main c).input (checked_main c).output) (sym plain.network) T)
@@ -30,7 +30,7 @@ module _ (p : Plan) where
   pub data TakesMore (t : Kind) (a : State) : Type 0 where
     takes_more : {P : Process} {L : Life} {u : Kind} → Stands p a P L → ProcessTakes (network_of_plan p) P t u → LifeHas L t → TakesMore t a
 
-  pub takes_first : (main : PlanId) (a : State) {t u : Kind} → Takes (context_of (network_of_plan p).templates) (tree p main) t u → Stands p a (closure (tree p main) empty) [] → TakesMore t a
+  pub takes_first : (main : PlanId) (a : State) {t u : Kind} → Takes (context_of (network_of_plan p).templates) (plan_tree p main) t u → Stands p a (closure (plan_tree p main) empty) [] → TakesMore t a
   takes_first main a T S = takes_more S (closure_takes has_nothing T) no_steps
 
   pub fed : {t : Kind} (a : State) (x : Data) → TakesMore t a → HasKind x t → IsFed p a x

@@ -15,7 +15,7 @@ use Rattle.sf_law.specs.declared.node.PlanNode.TheVariants.{Primitive as NPrimit
 use Rattle.sf_term.specs.declared.node.Primitive.{Primitive as SPrimitive}
 use Rattle.sf_law.specs.declared.plan.Plan.{Plan}
 use Rattle.sf_term.specs.Trees.{Term, primitive, joined}
-use Rattle.sf_law.specs.Arena.{expressions_of, tree, expression_at, Builds, builds_bare, builds_with_value, builds_arrow, builds_headed}
+use Rattle.sf_law.specs.Arena.{plan_expressions, plan_tree, plan_expression_at, BuildsPlan, builds_bare, builds_with_value, builds_arrow, builds_headed}
 use Rattle.sf_mean.specs.Lives.{Step, step, input_of, Life, Process, Environment, closure, fed_back, older}
 use Rattle.sf_mean.specs.Meaning.{Network, Outcome, Cost, Made, value_made, make, left_life, right_life, Gives, Outputs}
 use Rattle.sf_law.specs.Arena.{network_of_plan}
@@ -25,7 +25,7 @@ use Rattle.sf_mean.specs.Soundness.{Have, have_nothing, have_more, LifeHas, no_s
 use Rattle.sf_mean.proofs.TypedLives.{first_is, second_is, with_inputs_has, relay_has, fed_has}
 use Rattle.sf_mean.proofs.TypedProcesses.{environment_scope, EvalsTyped, AppliesTyped, gives_has, outputs_have, loops_have}
 use Rattle.sf_prim.specs.declared.prim_state.PrimState.{PrimState}
-use Rattle.sf_prim.specs.Keeping.{primitive_over, IsTyped, is_typed, IsFed as IsPrimFed, is_fed as is_prim_fed}
+use Rattle.sf_prim.specs.Keeping.{primitive_over, PrimitiveIsTyped, is_typed, PrimitiveIsFed, is_fed as is_prim_fed}
 use Rattle.sf_state.specs.declared.state.State.{State}
 use Rattle.sf_state.specs.declared.state.State.TheVariants.{Unborn, Live' as Alive'}
 use Rattle.sf_state.specs.declared.state.Live.{Live}
@@ -237,30 +237,30 @@ module _ (p : Plan) where
       → StateSteps p a (step d u) (Ok (a', y)) m n inside → ∥ IsLiveFed p (LWrap w a) (step d x) ∥₁ → IsTrue (output_fits w y)
   output_is_split w a a' m n inside d x u y eu hs h = ∥∥₁_elim h (hlevel props) (output_splits w a a' m n inside d x u y eu hs)
 
-  pub prim_fed : (i : PrimState) (s : Step) → IsLiveFed p (LPrim i) s → IsPrimFed (expressions_of p) i (input_of s)
+  pub prim_fed : (i : PrimState) (s : Step) → IsLiveFed p (LPrim i) s → PrimitiveIsFed (plan_expressions p) i (input_of s)
   prim_fed i s (is_live_fed (ready h O (lives_primitive K)) (closure_takes has_nothing (takes _ _ (primitive_takes T))) l k) = is_prim_fed K T k
 
   -- ## Before the first sample
 
-  pub term_typed : (term : PlanId) (names : Env) (x : Data) → IsFirstFed p (SClosure term names) x → HasTypes (tree p term)
+  pub term_typed : (term : PlanId) (names : Env) (x : Data) → IsFirstFed p (SClosure term names) x → HasTypes (plan_tree p term)
   term_typed term names x (is_first_fed (is_closure N) (closure_takes has_nothing T) h) = has_types T
 
   opened : {l : Live} {t : Term} {e : _} → Opens p t e (Ok l) → (x : Data) → Ready p l (closure t e) x []
   opened (opens h) = h
 
-  pub opened_fed : (term : PlanId) (names : Env) (l : Live) (d : ℕ) (x : Data) → ((e : _) → IsNames p names e → Opens p (tree p term) e (Ok l)) → IsFirstFed p (SClosure term names) x → IsLiveFed p l (step d x)
+  pub opened_fed : (term : PlanId) (names : Env) (l : Live) (d : ℕ) (x : Data) → ((e : _) → IsNames p names e → Opens p (plan_tree p term) e (Ok l)) → IsFirstFed p (SClosure term names) x → IsLiveFed p l (step d x)
   opened_fed term names l d x ho (is_first_fed (is_closure {e = e} N) (closure_takes E T) h) = is_live_fed (opened (ho e N) x) (closure_takes E T) no_steps h
 
-  pub builds_primitive : {q : SPrimitive} {t : Term} → Builds p (NPrimitive q) t → t ≡ primitive (primitive_over (expressions_of p) q)
+  pub builds_primitive : {q : SPrimitive} {t : Term} → BuildsPlan p (NPrimitive q) t → t ≡ primitive (primitive_over (plan_expressions p) q)
   builds_primitive builds_bare = refl
   builds_primitive builds_with_value = refl
   builds_primitive builds_arrow = refl
 
-  pub primitive_typed : (q : SPrimitive) (t : Term) → Builds p (NPrimitive q) t → HasTypes t → IsTyped (primitive_over (expressions_of p) q)
+  pub primitive_typed : (q : SPrimitive) (t : Term) → BuildsPlan p (NPrimitive q) t → HasTypes t → PrimitiveIsTyped (primitive_over (plan_expressions p) q)
   primitive_typed q t B h = types_of (subst HasTypes (builds_primitive B) h)
     where
-      types_of : {q : _} → HasTypes (primitive q) → IsTyped q
+      types_of : {q : _} → HasTypes (primitive q) → PrimitiveIsTyped q
       types_of (has_types (takes _ _ (primitive_takes T))) = is_typed T
 
-  pub head_typed : (h : Heading) (i : ExprId) (a : PlanId) (t : Term) → Builds p (NHeaded h i a) t → HasTypes t → IsTypedIn no_names (expression_at p i)
+  pub head_typed : (h : Heading) (i : ExprId) (a : PlanId) (t : Term) → BuildsPlan p (NHeaded h i a) t → HasTypes t → IsTypedIn no_names (plan_expression_at p i)
   head_typed h i a t builds_headed (has_types (takes _ _ (loop_takes I T))) = typed_in has_no_names I

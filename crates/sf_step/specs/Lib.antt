@@ -1,3 +1,4 @@
+pub mod Contexts
 pub mod Meters
 pub mod Routing
 pub mod Sampling

@@ -11,7 +11,7 @@ use Rattle.sf_term.specs.Trees.{Term}
 use Rattle.sf_mean.specs.Lives.{Step, input_of, Life, Process, closure, Environment, first_input}
 use Rattle.sf_mean.specs.Meaning.{Readings, Outcome, gave, faulted, Cost, count, height, text_cost, Gives}
 use Rattle.sf_law.specs.declared.node.PlanId.{PlanId}
-use Rattle.sf_law.specs.Arena.{tree, network_of_plan}
+use Rattle.sf_law.specs.Arena.{plan_tree, network_of_plan}
 use Rattle.sf_mean.specs.Contexts.{Signature}
 use Rattle.sf_mean.specs.Typing.{Takes}
 use Rattle.sf_prim.specs.Keeping.{without_names}
@@ -69,19 +69,19 @@ pub record Within (R : Rel) (m n : Meter) (depth : ℕ) : Type 0 where
   pub most : (o : Outcome) (k : Cost) → R o k → AtMost m n depth k
 
 -- Why a part has no value: a fault of the meaning, more nodes than are allowed, or memory.
-pub data Fails (R : Rel) : Fault → Meter → Meter → ℕ → Type 0 where
+pub data StopsFor (R : Rel) : Fault → Meter → Meter → ℕ → Type 0 where
   faults : {x : ValueFault} {k : Cost} {m n : Meter} {depth : ℕ}
-      → R (faulted x) k → AtMost m n depth k → Fails R (Value x) m n depth
+      → R (faulted x) k → AtMost m n depth k → StopsFor R (Value x) m n depth
   large : {m n : Meter} {depth : ℕ}
       → ((o : Outcome) (k : Cost) → R o k → entered_of m + count k ≤ 100000 → depth + height k ≤ 800 → ⊥)
-      → Within R m n depth → Fails R Large m n depth
-  memory : {m n : Meter} {depth : ℕ} → Within R m n depth → Fails R Memory m n depth
+      → Within R m n depth → StopsFor R Large m n depth
+  memory : {m n : Meter} {depth : ℕ} → Within R m n depth → StopsFor R Memory m n depth
 
 -- What a part answers: a value at its cost, with what holds after it; or why there is none.
 pub data Answers {A : Type 0} (view : A → Data) (after : A → Type 0) (R : Rel) : Result A Fault → Meter → Meter → ℕ → Type 0 where
   answers : {a : A} {k : Cost} {r : Readings} {m n : Meter} {depth : ℕ}
       → R (gave (view a) r) k → Spent m n depth k r → after a → Answers view after R (Ok a) m n depth
-  fails : {f : Fault} {m n : Meter} {depth : ℕ} → Fails R f m n depth → Answers view after R (Err f) m n depth
+  fails : {f : Fault} {m n : Meter} {depth : ℕ} → StopsFor R f m n depth → Answers view after R (Err f) m n depth
 
 -- a part steps to the outcome of its process on the longer life
 abbrev pub StateSteps : Plan → State → Step → Result (State × Data) Fault → Meter → Meter → ℕ → Type 0
@@ -103,7 +103,7 @@ pub data Opens (p : Plan) (t : Term) (e : Environment) : Result Live Fault → T
 pub data AllBegin (p : Plan) (e : Environment) : List PlanId → List State → Type 0 where
   none_begin : AllBegin p e [] []
   more_begin : {i : PlanId} {ids : List PlanId} {a : State} {bs : List State}
-      → Stands p a (closure (tree p i) e) [] → AllBegin p e ids bs → AllBegin p e (i ∷ ids) (a ∷ bs)
+      → Stands p a (closure (plan_tree p i) e) [] → AllBegin p e ids bs → AllBegin p e (i ∷ ids) (a ∷ bs)
 
 -- whether a part was not stepped yet
 abbrev pub is_unborn : State → Bool

@@ -4,15 +4,17 @@ ghost use Rattle.sf_value.specs.Values.{Data};
 ghost use Rattle.sf_expr.specs.Evaluation.{answer};
 ghost use Rattle.sf_law.specs.declared.plan.Plan.{Plan as PlanOf};
 ghost use Rattle.sf_term.specs.Trees.{Term, joined as joined_term};
-ghost use Rattle.sf_law.specs.Arena.{tree, network_of_plan};
+ghost use Rattle.sf_law.specs.Arena.{plan_tree, network_of_plan};
 ghost use Rattle.sf_mean.specs.Lives.{step, Life, Process as ProcessOf, Environment};
 ghost use Rattle.sf_mean.specs.Meaning.{Made, make};
 ghost use Rattle.sf_state.specs.Standing.{Stands, IsNames, Wraps};
+ghost use Rattle.sf_step.specs.Contexts.{plan_in, dt_in};
 ghost use Rattle.sf_step.specs.Meters.{entered_of, height_of, fault_of as fault_in};
 ghost use Rattle.sf_step.specs.Sampling.{fault_from, Opens, AllBegin, StateSteps, LiveSteps, is_unborn, left_or};
 ghost use Rattle.sf_step.specs.Sampling.{HasTypes, IsLiveFed};
 ghost use Rattle.sf_step.specs.Stepping.{Steps, IsFed};
 
+use crate::context::SampleContext;
 use crate::meter::{Meter, Stop};
 use crate::routing::{halves, on_side, with_head};
 use sf_expr::{EvalFault, Scope, eval};
@@ -46,8 +48,9 @@ pub fn step(
     ensures bounded { (entered_of meter.new ≤ 100000) × (height_of meter.new ≤ 800) }
 {
     *meter = Meter::new();
+    let context = SampleContext { alloc, plan, dt };
     let mut value = input;
-    match step_state(alloc, state, plan, 0, dt, &mut value, meter) {
+    match step_state(&context, state, 0, &mut value, meter) {
         Ok(()) => Ok(value),
         Err(Stop) => Err(meter.fault()),
     }
@@ -58,32 +61,30 @@ pub fn step(
 #[cycle(step)]
 #[inline(always)]
 fn step_state(
-    alloc: Global,
+    context: &SampleContext,
     state: &mut State,
-    plan: &Plan,
     depth: u64,
-    dt: u64,
     value: &mut Value,
     meter: &mut Meter,
 ) -> Result<(), Stop>
-    requires { ∥ IsFed plan.now state.old value.old ∥₁ }
+    requires { ∥ IsFed (plan_in context.now) state.old value.old ∥₁ }
     ensures grows { entered_of meter.old ≤ entered_of meter.new }
-    ensures answers { StateSteps plan.now state.old (step dt value.old)
+    ensures answers { StateSteps (plan_in context.now) state.old (step (dt_in context.now) value.old)
         (left_or result (state.new, value.new) (fault_in meter.new)) meter.old meter.new depth }
 {
     match state {
         State::Live(_, node) => {
             let inside = meter.tick(depth)?;
             // only here is a part's node reached, which other states may share
-            let Ok(()) = unshare(alloc, node) else {
+            let Ok(()) = unshare(context.alloc, node) else {
                 return Err(meter.stop(Fault::Memory));
             };
             match Rc::get_mut(node) {
-                Some(live) => step_live(alloc, live, plan, inside, dt, value, meter),
+                Some(live) => step_live(context, live, inside, value, meter),
                 None => Err(meter.stop(Fault::Memory)),
             }
         }
-        State::Unborn(_) => start(alloc, state, plan, depth, dt, value, meter),
+        State::Unborn(_) => start(context, state, depth, value, meter),
     }
 }
 
@@ -92,18 +93,16 @@ fn step_state(
 #[cold]
 #[inline(never)]
 fn start(
-    alloc: Global,
+    context: &SampleContext,
     state: &mut State,
-    plan: &Plan,
     depth: u64,
-    dt: u64,
     value: &mut Value,
     meter: &mut Meter,
 ) -> Result<(), Stop>
     requires unborn { IsTrue (is_unborn state.old) }
-    requires fed { ∥ IsFed plan.now state.old value.old ∥₁ }
+    requires fed { ∥ IsFed (plan_in context.now) state.old value.old ∥₁ }
     ensures grows { entered_of meter.old ≤ entered_of meter.new }
-    ensures answers { StateSteps plan.now state.old (step dt value.old)
+    ensures answers { StateSteps (plan_in context.now) state.old (step (dt_in context.now) value.old)
         (left_or result (state.new, value.new) (fault_in meter.new)) meter.old meter.new depth }
 {
     match state {
@@ -112,11 +111,11 @@ fn start(
             Process::Closure(term, names) => {
                 let inside = meter.tick(depth)?;
                 let names = mem::replace(names, Env::Empty);
-                match open(alloc, plan, *term, &names) {
+                match open(context, *term, &names) {
                     Ok(live) => {
                         let mut live = live;
-                        step_live(alloc, &mut live, plan, inside, dt, value, meter)?;
-                        let Ok(node) = Rc::new(alloc, live) else {
+                        step_live(context, &mut live, inside, value, meter)?;
+                        let Ok(node) = Rc::new(context.alloc, live) else {
                             return Err(meter.stop(Fault::Memory));
                         };
                         *state = State::Live(names, node);
@@ -133,28 +132,26 @@ fn start(
 #[cycle(step)]
 #[inline(always)]
 fn step_live(
-    alloc: Global,
+    context: &SampleContext,
     live: &mut Live,
-    plan: &Plan,
     inside: u64,
-    dt: u64,
     value: &mut Value,
     meter: &mut Meter,
 ) -> Result<(), Stop>
-    requires { ∥ IsLiveFed plan.now live.old (step dt value.old) ∥₁ }
+    requires { ∥ IsLiveFed (plan_in context.now) live.old (step (dt_in context.now) value.old) ∥₁ }
     ensures grows { entered_of meter.old ≤ entered_of meter.new }
-    ensures answers { LiveSteps plan.now live.old (step dt value.old)
+    ensures answers { LiveSteps (plan_in context.now) live.old (step (dt_in context.now) value.old)
         (left_or result (live.new, value.new) (fault_in meter.new)) meter.old meter.new inside }
 {
     match live {
-        Live::Prim(prim) => step_prim(alloc, prim, plan, dt, value, meter),
+        Live::Prim(prim) => step_prim(context, prim, value, meter),
         Live::Join(join, left, right) => match join {
             Join::InSequence => unreachable!(),
-            Join::InParallel => step_parallel(alloc, left, right, plan, inside, dt, value, meter),
-            Join::FannedOut => step_fan(alloc, left, right, plan, inside, dt, value, meter),
+            Join::InParallel => step_parallel(context, left, right, inside, value, meter),
+            Join::FannedOut => step_fan(context, left, right, inside, value, meter),
         },
-        Live::Pipeline(stages) => step_pipeline(alloc, stages, plan, inside, dt, value, meter),
-        Live::Wrap(wrap, part) => step_wrap(alloc, wrap, part, plan, inside, dt, value, meter),
+        Live::Pipeline(stages) => step_pipeline(context, stages, inside, value, meter),
+        Live::Wrap(wrap, part) => step_wrap(context, wrap, part, inside, value, meter),
     }
 }
 
@@ -162,23 +159,21 @@ fn step_live(
 #[cycle(step)]
 #[inline(never)]
 fn step_parallel(
-    alloc: Global,
+    context: &SampleContext,
     left: &mut State,
     right: &mut State,
-    plan: &Plan,
     inside: u64,
-    dt: u64,
     value: &mut Value,
     meter: &mut Meter,
 ) -> Result<(), Stop>
-    requires { ∥ IsLiveFed plan.now (Live.Join Join.InParallel left.old right.old) (step dt value.old) ∥₁ }
+    requires { ∥ IsLiveFed (plan_in context.now) (Live.Join Join.InParallel left.old right.old) (step (dt_in context.now) value.old) ∥₁ }
     ensures grows { entered_of meter.old ≤ entered_of meter.new }
-    ensures answers { LiveSteps plan.now (Live.Join Join.InParallel left.old right.old) (step dt value.old)
+    ensures answers { LiveSteps (plan_in context.now) (Live.Join Join.InParallel left.old right.old) (step (dt_in context.now) value.old)
         (left_or result (Live.Join Join.InParallel left.new right.new, value.new) (fault_in meter.new)) meter.old meter.new inside }
 {
     let (mut first, mut second) = halves(value);
-    step_state(alloc, left, plan, inside, dt, &mut first, meter)?;
-    step_state(alloc, right, plan, inside, dt, &mut second, meter)?;
+    step_state(context, left, inside, &mut first, meter)?;
+    step_state(context, right, inside, &mut second, meter)?;
     *value = Value::of_halves(first, second);
     Ok(())
 }
@@ -187,27 +182,25 @@ fn step_parallel(
 #[cycle(step)]
 #[inline(never)]
 fn step_fan(
-    alloc: Global,
+    context: &SampleContext,
     left: &mut State,
     right: &mut State,
-    plan: &Plan,
     inside: u64,
-    dt: u64,
     value: &mut Value,
     meter: &mut Meter,
 ) -> Result<(), Stop>
-    requires { ∥ IsLiveFed plan.now (Live.Join Join.FannedOut left.old right.old) (step dt value.old) ∥₁ }
+    requires { ∥ IsLiveFed (plan_in context.now) (Live.Join Join.FannedOut left.old right.old) (step (dt_in context.now) value.old) ∥₁ }
     ensures grows { entered_of meter.old ≤ entered_of meter.new }
-    ensures answers { LiveSteps plan.now (Live.Join Join.FannedOut left.old right.old) (step dt value.old)
+    ensures answers { LiveSteps (plan_in context.now) (Live.Join Join.FannedOut left.old right.old) (step (dt_in context.now) value.old)
         (left_or result (Live.Join Join.FannedOut left.new right.new, value.new) (fault_in meter.new)) meter.old meter.new inside }
 {
-    let Ok(mut first) = value.clone_in(alloc) else {
+    let Ok(mut first) = value.clone_in(context.alloc) else {
         return Err(meter.stop(Fault::Memory));
     };
-    step_state(alloc, left, plan, inside, dt, &mut first, meter)?;
-    step_state(alloc, right, plan, inside, dt, value, meter)?;
+    step_state(context, left, inside, &mut first, meter)?;
+    step_state(context, right, inside, value, meter)?;
     let second = mem::replace(value, Value::int(0));
-    let Ok(both) = Value::pair(alloc, first, second) else {
+    let Ok(both) = Value::pair(context.alloc, first, second) else {
         return Err(meter.stop(Fault::Memory));
     };
     *value = both;
@@ -218,21 +211,19 @@ fn step_fan(
 #[cycle(step)]
 #[inline(never)]
 fn step_pipeline(
-    alloc: Global,
+    context: &SampleContext,
     stages: &mut Vec<State>,
-    plan: &Plan,
     inside: u64,
-    dt: u64,
     value: &mut Value,
     meter: &mut Meter,
 ) -> Result<(), Stop>
-    requires { ∥ IsLiveFed plan.now (Live.Pipeline stages.old) (step dt value.old) ∥₁ }
+    requires { ∥ IsLiveFed (plan_in context.now) (Live.Pipeline stages.old) (step (dt_in context.now) value.old) ∥₁ }
     ensures grows { entered_of meter.old ≤ entered_of meter.new }
-    ensures answers { LiveSteps plan.now (Live.Pipeline stages.old) (step dt value.old)
+    ensures answers { LiveSteps (plan_in context.now) (Live.Pipeline stages.old) (step (dt_in context.now) value.old)
         (left_or result (Live.Pipeline stages.new, value.new) (fault_in meter.new)) meter.old meter.new inside }
 {
     for stage in stages.iter_mut() {
-        step_state(alloc, stage, plan, inside, dt, value, meter)?;
+        step_state(context, stage, inside, value, meter)?;
     }
     Ok(())
 }
@@ -241,40 +232,38 @@ fn step_pipeline(
 #[cycle(step)]
 #[inline(never)]
 fn step_wrap(
-    alloc: Global,
+    context: &SampleContext,
     wrap: &mut Wrap,
     part: &mut State,
-    plan: &Plan,
     inside: u64,
-    dt: u64,
     value: &mut Value,
     meter: &mut Meter,
 ) -> Result<(), Stop>
-    requires { ∥ IsLiveFed plan.now (Live.Wrap wrap.old part.old) (step dt value.old) ∥₁ }
+    requires { ∥ IsLiveFed (plan_in context.now) (Live.Wrap wrap.old part.old) (step (dt_in context.now) value.old) ∥₁ }
     ensures grows { entered_of meter.old ≤ entered_of meter.new }
-    ensures answers { LiveSteps plan.now (Live.Wrap wrap.old part.old) (step dt value.old)
+    ensures answers { LiveSteps (plan_in context.now) (Live.Wrap wrap.old part.old) (step (dt_in context.now) value.old)
         (left_or result (Live.Wrap wrap.new part.new, value.new) (fault_in meter.new)) meter.old meter.new inside }
 {
     match wrap {
         Wrap::First => {
             let (mut first, second) = halves(value);
-            step_state(alloc, part, plan, inside, dt, &mut first, meter)?;
+            step_state(context, part, inside, &mut first, meter)?;
             *value = Value::of_halves(first, second);
             Ok(())
         }
         Wrap::Second => {
             let (first, mut second) = halves(value);
-            step_state(alloc, part, plan, inside, dt, &mut second, meter)?;
+            step_state(context, part, inside, &mut second, meter)?;
             *value = Value::of_halves(first, second);
             Ok(())
         }
         Wrap::Loop(next) => {
             let input = mem::replace(value, Value::int(0));
             let fed = mem::replace(next, Value::int(0));
-            let Ok(mut both) = Value::pair(alloc, input, fed) else {
+            let Ok(mut both) = Value::pair(context.alloc, input, fed) else {
                 return Err(meter.stop(Fault::Memory));
             };
-            step_state(alloc, part, plan, inside, dt, &mut both, meter)?;
+            step_state(context, part, inside, &mut both, meter)?;
             let (first, second) = halves(&mut both);
             *value = Box::into_inner(first);
             *next = Box::into_inner(second);
@@ -286,49 +275,58 @@ fn step_wrap(
 // The next sample of a primitive, likewise.
 #[inline(always)]
 fn step_prim(
-    alloc: Global,
+    context: &SampleContext,
     prim: &mut PrimState,
-    plan: &Plan,
-    dt: u64,
     value: &mut Value,
     meter: &mut Meter,
 ) -> Result<(), Stop>
-    requires { ∥ IsLiveFed plan.now (Live.Prim prim.old) (step dt value.old) ∥₁ }
+    requires { ∥ IsLiveFed (plan_in context.now) (Live.Prim prim.old) (step (dt_in context.now) value.old) ∥₁ }
     ensures entered { entered_of meter.new ≡ entered_of meter.old }
-    ensures answers { (inside : ℕ) → LiveSteps plan.now (Live.Prim prim.old) (step dt value.old)
+    ensures answers { (inside : ℕ) → LiveSteps (plan_in context.now) (Live.Prim prim.old) (step (dt_in context.now) value.old)
         (left_or result (Live.Prim prim.new, value.new) (fault_in meter.new)) meter.old meter.new inside }
 {
-    match prim.step(alloc, plan.expressions(), dt, value) {
+    match prim.step(context.alloc, context.plan.expressions(), context.dt, value) {
         Ok(()) => Ok(()),
         Err(fault) => Err(meter.stop(fault_of(fault))),
     }
 }
 
 // A term before its first sample, with the names around it.
-fn open(alloc: Global, plan: &Plan, term: PlanId, names: &Env) -> Result<Live, Fault>
-    requires { ∥ HasTypes (tree plan.now term) ∥₁ }
-    ensures { (e : Environment) → IsNames plan.now names.now e →
-        Opens plan.now (tree plan.now term) e result }
+fn open(context: &SampleContext, term: PlanId, names: &Env) -> Result<Live, Fault>
+    requires { ∥ HasTypes (plan_tree (plan_in context.now) term) ∥₁ }
+    ensures { (e : Environment) → IsNames (plan_in context.now) names.now e →
+        Opens (plan_in context.now) (plan_tree (plan_in context.now) term) e result }
 {
-    match plan.node(term) {
+    match context.plan.node(term) {
         PlanNode::Primitive(primitive) => match PrimState::born(
-            alloc,
-            plan.expressions(),
+            context.alloc,
+            context.plan.expressions(),
             *primitive,
         ) {
             Ok(prim) => Ok(Live::Prim(prim)),
             Err(fault) => Err(fault_of(fault)),
         },
-        PlanNode::Joined(join, left, right) => Ok(joined(alloc, *join, *left, *right, names)?),
+        PlanNode::Joined(join, left, right) => Ok(joined(
+            context.alloc,
+            *join,
+            *left,
+            *right,
+            names,
+        )?),
         PlanNode::Sided(side, part) => around(on_side(*side), *part, names),
         PlanNode::Headed(heading, expression, part) => {
-            let scope = Scope::new(alloc);
-            match eval(alloc, plan.expressions(), *expression, &scope) {
+            let scope = Scope::new(context.alloc);
+            match eval(
+                context.alloc,
+                context.plan.expressions(),
+                *expression,
+                &scope,
+            ) {
                 Ok(head) => around(with_head(*heading, head), *part, names),
                 Err(fault) => Err(fault_of(fault)),
             }
         }
-        PlanNode::Pipeline(stages) => Ok(Live::Pipeline(begin_all(alloc, stages, names)?)),
+        PlanNode::Pipeline(stages) => Ok(Live::Pipeline(begin_all(context.alloc, stages, names)?)),
     }
 }
 
@@ -341,7 +339,7 @@ fn joined(
     names: &Env,
 ) -> Result<Live, AllocError>
     ensures { IfOk result (λ live. (p : PlanOf) (e : Environment) → IsNames p names.now e →
-        Opens p (joined_term join (tree p left) (tree p right)) e (Ok live)) }
+        Opens p (joined_term join (plan_tree p left) (plan_tree p right)) e (Ok live)) }
 {
     match join {
         Join::InSequence => Ok(Live::Pipeline(begin_all(alloc, &[left, right], names)?)),
@@ -370,7 +368,7 @@ fn begin_all(alloc: Global, stages: &[PlanId], names: &Env) -> Result<Vec<State>
 // A form with one part, before its first sample.
 fn around(wrap: Wrap, part: PlanId, names: &Env) -> Result<Live, Fault>
     ensures { (p : PlanOf) (t : Term) (e : Environment) (m : Made) → IsNames p names.now e →
-        ((x : Data) → make (network_of_plan p) t e x ≡ answer m) → Wraps (network_of_plan p) wrap t e m [] (tree p part) [] →
+        ((x : Data) → make (network_of_plan p) t e x ≡ answer m) → Wraps (network_of_plan p) wrap t e m [] (plan_tree p part) [] →
         Opens p t e result }
 {
     let inner = names.share()?;

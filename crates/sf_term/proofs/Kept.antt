@@ -1,32 +1,40 @@
 -- What builders keep of a program.
-use Rattle.std.proofs.Common.{◌≡◌, ℕ, zero, suc, max, ◌+◌, ◌<◌, ◌≤◌, List, [], ◌∷◌, ◌++◌, length, get_or, map, Bool, true, false, cond, Result, Ok, Err, OnErr, refl, sym, ◌∙◌, ap, subst, arith, ◌⊎◌, inl, inr, All}
+use Rattle.std.proofs.Common.{◌≡◌, ℕ, zero, suc, max, ◌+◌, ◌<◌, ◌≤◌, List, [], ◌∷◌, ◌++◌, length, get_or, map, Bool, true, false, cond, Result, Ok, Err, IfOk, OnErr, refl, sym, ◌∙◌, ap, subst, arith, ◌⊎◌, inl, inr, All}
 use mathlib.Core.Path.{ap₂}
 use Rattle.std.proofs.lemmas.List.{length-append, map-append, get_or_past}
 use Rattle.std.proofs.lemmas.Bool.{cases_lt}
-use Rattle.sf_expr.specs.declared.spot.Spot.{Spot}
+use Rattle.sf_refusal.specs.declared.spot.Spot.{Spot}
+use Rattle.sf_arena.specs.declared.entry.Entry.{Entry}
+use Rattle.sf_arena.specs.Arenas.{entries_of}
+use Rattle.sf_arena.specs.Folded.{tree_at}
+use Rattle.sf_arena.specs.Items.{Added}
+use Rattle.sf_arena.proofs.Grown.{trees-length, added_counted, added_within, added_fresh, added_item, item_kept, tree_kept, tree_added, shallow_at, few_entries, shallow_entries}
 use Rattle.sf_expr.specs.declared.exprs.ExprId.{ExprId}
 use Rattle.sf_expr.specs.declared.exprs.FunctionId.{FunctionId}
+use Rattle.sf_expr.specs.declared.exprs.NameId.{NameId}
+use Rattle.sf_expr.specs.declared.exprs.ExprNode.TheVariants as expressions
+use Rattle.sf_value.specs.Values.{Name}
 use Rattle.sf_expr.specs.declared.exprs.ExprNode.{ExprNode}
 use Rattle.sf_expr.specs.declared.exprs.Exprs.{Exprs}
 use Rattle.sf_expr.specs.Patterns.{PlacedPattern}
-use Rattle.sf_expr.specs.Expressions.{Expression}
-use Rattle.sf_expr.specs.Arena.{expression, count_of, function_count, Holds, HoldsFunction as HoldsFunctionIn, function_at, pattern_at as pattern_at_in, body_at as body_at_in, node_at as value_node_at, spot_at as value_spot_at, Keeps as KeepsExpressions, Adds as AddsToExpressions, AddsFunction as AddsFunctionIn, IsUnchanged as ExpressionsUnchanged}
+use Rattle.sf_expr.specs.Expressions.{Expression, variable}
+use Rattle.sf_expr.specs.Arena.{expression, count_of, function_count, Holds, HoldsFunction as HoldsFunctionIn, function_at, pattern_at as pattern_at_in, body_at as body_at_in, node_at as value_node_at, spot_at as value_spot_at, Keeps as KeepsExpressions, Adds as AddsToExpressions, AddsName, name_at, next_name, AddsFunction as AddsFunctionIn, IsUnchanged as ExpressionsUnchanged}
 use Rattle.sf_expr.proofs.Entered.{below_holds, holds_below, below_function, function_below, few_expressions, adds_keeps as expressions_kept, unchanged_keeps as unchanged_expressions_kept}
+use Rattle.sf_term.specs.declared.refusal.BuildRefusal.{BuildRefusal}
 use Rattle.sf_term.specs.declared.node.TermId.{TermId}
 use Rattle.sf_term.specs.declared.node.Primitive.TheVariants as primitives
 use Rattle.sf_term.specs.declared.node.Node.{Node}
 use Rattle.sf_term.specs.declared.node.Node.TheVariants as nodes
-use Rattle.sf_term.specs.declared.node.Entry.{Entry}
 use Rattle.sf_term.specs.declared.program.Program.{Program}
-use Rattle.sf_term.specs.Trees.{Term, Template, primitive, joined, sided, headed, bare, with_value, arrow, depth}
+use Rattle.sf_term.specs.Trees.{Term, Template, primitive, joined, sided, headed, bare, with_value, arrow, term_depth}
 use Rattle.sf_term.specs.Headers.{Header, bodies_end}
-use Rattle.sf_term.specs.Entries.{made_over, needs, needs_expressions, needs_functions, identity_entry, entry_at, terms, term_at}
-use Rattle.sf_term.specs.Arena.{id_number, expressions_of, term_count, expression_count, HoldsTerm, HoldsExpression, HoldsFunction, pattern_at, body_at, function_in, tree, expression_at, entry_of, node_at, expression_node_at, spot_at, expression_spot_at, made_in, headers_of, template_in, Builds, builds_bare, builds_with_value, builds_arrow, builds_joined, builds_sided, builds_headed, PartsBelow, HoldsParts, KeepsTrees, Keeps, AddsTerm, AddsExpression, AddsFunction, AddsTemplate, IsUnchanged}
-use Rattle.sf_term.proofs.Entered.{term-other, term-pushed, entry-other, entry-pushed, term-built, term-same}
+use Rattle.sf_term.specs.Entries.{identity_term, term_over, needs_terms, needs_expressions, needs_functions, identity_entry, term_entry, term_made, terms_made, term_entered}
+use Rattle.sf_term.specs.Arena.{term_number, expressions_of, term_count, expression_count, HoldsTerm, HoldsExpression, ProgramHoldsFunction, function_pattern_at, function_body_at, function_in, tree, expression_under, term_entry_of, term_node_at, expression_node_at, term_spot_at, expression_spot_at, term_of, headers_of, template_in, TermPartsBelow, HoldsTermParts, KeepsTrees, KeepsProgram, AddsTerm, AddsExpression, AddsProgramFunction, AddsTemplate, IsSameProgram}
+use Rattle.sf_term.proofs.Entered.{term-built, term-same}
 
 -- what a node needs is there where its parts are held
-pub parts_needed : (p : Program) (n : Node) → HoldsParts p n → (needs n ≤ length p.terms.items) × (needs_expressions n ≤ count_of p.expressions) × (needs_functions n ≤ function_count p.expressions)
-unfolding HoldsTerm HoldsExpression HoldsFunction
+pub parts_needed : (p : Program) (n : Node) → HoldsTermParts p n → (needs_terms n ≤ length (entries_of p.terms)) × (needs_expressions n ≤ count_of p.expressions) × (needs_functions n ≤ function_count p.expressions)
+unfolding HoldsTerm HoldsExpression ProgramHoldsFunction
 parts_needed p (nodes.Primitive (primitives.Bare k)) h = (omega arith, omega arith, omega arith)
 parts_needed p (nodes.Primitive (primitives.WithValue k e)) h = (omega arith, omega (arith, holds_below p.expressions e h), omega arith)
 parts_needed p (nodes.Primitive (primitives.Arrow f)) h = (omega arith, omega arith, omega (arith, function_below p.expressions f h))
@@ -34,43 +42,45 @@ parts_needed p (nodes.Joined j a b) h = (omega arith, omega arith, omega arith)
 parts_needed p (nodes.Sided d a) h = (omega arith, omega arith, omega arith)
 parts_needed p (nodes.Headed q e a) h = (omega arith, omega (arith, holds_below p.expressions e h.0), omega arith)
 
+-- a node stands for the term that is made over the terms before it
+pub node-made : (p : Program) (n : Node) → term_of p n ≡ term_over p.expressions (terms_made p.expressions (entries_of p.terms)) n
+unfolding tree expression_under function_pattern_at function_body_at tree_at
+node-made p (nodes.Primitive (primitives.Bare k)) = refl
+node-made p (nodes.Primitive (primitives.WithValue k e)) = refl
+node-made p (nodes.Primitive (primitives.Arrow f)) = refl
+node-made p (nodes.Joined j a b) = refl
+node-made p (nodes.Sided d a) = refl
+node-made p (nodes.Headed h e a) = refl
+
 -- a node stands for the term at its id
-pub builds : (p : Program) (t : TermId) → Builds p (entry_of p t).node (tree p t)
-unfolding entry_of tree expression_at pattern_at body_at term_at
-builds p t = subst (λ u. Builds p (entry_at p.terms.items t.0).node u) (sym (term-built p.expressions p.terms.items t.0 p.arena)) (of_node (entry_at p.terms.items t.0).node)
-  where
-    of_node : (n : Node) → Builds p n (made_over p.expressions (terms p.expressions p.terms.items) n)
-    of_node (nodes.Primitive (primitives.Bare k)) = builds_bare
-    of_node (nodes.Primitive (primitives.WithValue k e)) = builds_with_value
-    of_node (nodes.Primitive (primitives.Arrow f)) = builds_arrow
-    of_node (nodes.Joined j a b) = builds_joined
-    of_node (nodes.Sided d a) = builds_sided
-    of_node (nodes.Headed h e a) = builds_headed
+pub builds : (p : Program) (t : TermId) → tree p t ≡ term_of p (term_entry_of p t).node
+unfolding term_entry_of tree
+builds p t = term-built p.expressions (entries_of p.terms) t.0 p.arena ∙ sym (node-made p (term_entry (entries_of p.terms) t.0).node)
 
 -- what a node stands for
-pub node_builds : (p : Program) (t : TermId) (n : Node) → node_at p t ≡ n → Builds p n (tree p t)
-unfolding node_at entry_of
-node_builds p t n e = subst (λ n. Builds p n (tree p t)) e (builds p t)
+pub node_builds : (p : Program) (t : TermId) (n : Node) → term_node_at p t ≡ n → tree p t ≡ term_of p n
+unfolding term_node_at term_entry_of
+node_builds p t n e = builds p t ∙ ap (λ n. term_of p n) e
 
 -- the parts of a node stand before it
-pub parts_below : (p : Program) (t : TermId) → PartsBelow (entry_of p t).node (id_number t)
-unfolding entry_of
-parts_below p t = of_node (entry_at p.terms.items t.0).node (p.arena.in_order t.0)
+pub parts_below : (p : Program) (t : TermId) → TermPartsBelow (term_entry_of p t).node (term_number t)
+unfolding term_entry_of
+parts_below p t = of_node (term_entry (entries_of p.terms) t.0).node (p.arena.in_order t.0)
   where
-    of_node : (n : Node) → needs n ≤ t.0 → PartsBelow n t.0
+    of_node : (n : Node) → needs_terms n ≤ t.0 → TermPartsBelow n t.0
     of_node (nodes.Primitive q) h = tt
     of_node (nodes.Joined j a b) h = (omega arith, omega arith)
     of_node (nodes.Sided d a) h = omega arith
     of_node (nodes.Headed q e a) h = omega arith
 
 -- the templates are the same where the trees are
-templates-same : (old new : Program) (hs : List Header) → bodies_end hs ≤ length old.terms.items → KeepsTrees old new → map (template_in new) hs ≡ map (template_in old) hs
+templates-same : (old new : Program) (hs : List Header) → bodies_end hs ≤ length (entries_of old.terms) → KeepsTrees old new → map (template_in new) hs ≡ map (template_in old) hs
 unfolding HoldsTerm
 templates-same old new [] h k = refl
 templates-same old new (t ∷ ts) h k =
     ap₂ (λ (b : Term) (us : List Template). record { name = t.name; input = t.input; output = t.output; body = b } ∷ us) (k.trees t.body (omega arith)) (templates-same old new ts (omega arith) k)
 
-keeps_of : (old new : Program) → KeepsTrees old new → headers_of new ≡ headers_of old → Keeps old new
+keeps_of : (old new : Program) → KeepsTrees old new → headers_of new ≡ headers_of old → KeepsProgram old new
 unfolding headers_of
 keeps_of old new k e = record {
   trees = k;
@@ -79,15 +89,14 @@ keeps_of old new k e = record {
   spots = ap (λ hs. map (λ (h : Header). h.spot) hs) e;
 }
 
--- the trees stay where an entry is put behind
-pushed_keeps : (old new : Program) (entry : Entry) → new.expressions ≡ old.expressions → new.terms.items ≡ old.terms.items ++ entry ∷ [] → KeepsTrees old new
-unfolding HoldsTerm HoldsExpression HoldsFunction tree node_at spot_at expression_at expression_node_at expression_spot_at pattern_at body_at
-pushed_keeps old new entry same grown = record {
-  terms = λ t h. omega (arith, ap length grown, length-append old.terms.items (entry ∷ []));
-  nodes = λ t h. ap (λ (n : Entry). n.node) (other t h);
-  trees = λ t h.
-      ap₂ (λ x es. term_at x es t.0) same grown ∙ term-other old.expressions old.terms.items entry t.0 (λ e. omega arith);
-  spots = λ t h. ap (λ (n : Entry). n.spot) (other t h);
+-- the trees stay where an entry is added
+added_keeps : (old new : Program) (entry : Entry Node) (n : ℕ) → new.expressions ≡ old.expressions → Added (entries_of old.terms) (entries_of new.terms) entry n → KeepsTrees old new
+unfolding HoldsTerm HoldsExpression ProgramHoldsFunction tree term_node_at term_spot_at expression_under expression_node_at expression_spot_at function_pattern_at function_body_at
+added_keeps old new entry n same added = record {
+  terms = λ t h. omega (arith, added_counted _ _ _ _ added);
+  nodes = λ t h. ap (λ (e : Entry Node). e.node) (other t h);
+  trees = λ t h. ap (λ x. term_entered x (entries_of new.terms) t.0) same ∙ tree_kept _ _ _ _ added (term_made old.expressions) identity_term t.0 h;
+  spots = λ t h. ap (λ (e : Entry Node). e.spot) (other t h);
   expressions = λ e h. subst (λ x. Holds x e) (sym same) h;
   value_nodes = λ e h. ap (λ x. value_node_at x e) same;
   values = λ e h. ap (λ x. expression x e) same;
@@ -98,38 +107,35 @@ pushed_keeps old new entry same grown = record {
   meanings = λ f h. ap (λ x. function_at x f) same;
 }
   where
-    other : (t : TermId) → HoldsTerm old t → entry_at new.terms.items t.0 ≡ entry_at old.terms.items t.0
-    other t h = ap (λ es. entry_at es t.0) grown ∙ entry-other old.terms.items entry t.0 (λ e. omega arith)
+    other : (t : TermId) → HoldsTerm old t → term_entry (entries_of new.terms) t.0 ≡ term_entry (entries_of old.terms) t.0
+    other t h = item_kept _ _ _ _ added t.0 identity_entry h
 
--- an entry put behind adds its term
-pub adds_pushed : (old new : Program) (entry : Entry) (id : TermId) → new.expressions ≡ old.expressions → new.terms.items ≡ old.terms.items ++ entry ∷ [] → headers_of new ≡ headers_of old → id.0 ≡ length old.terms.items → entry.depth ≡ depth (made_in old entry.node) → entry.depth ≤ 64 → AddsTerm old new id entry.node (made_in old entry.node) entry.spot
-unfolding HoldsTerm tree node_at spot_at made_in term_count expression_count
-adds_pushed old new entry id same grown headers at measured shallow = record {
-  within = omega (arith, long);
-  fresh = λ h. omega arith;
-  node = ap (λ (n : Entry). n.node) here;
-  is = ap₂ (λ x es. term_at x es id.0) same grown ∙ term-pushed old.expressions old.terms.items entry id.0 at;
-  spotted = ap (λ (n : Entry). n.spot) here;
-  shallow = omega arith;
-  kept = keeps_of old new (pushed_keeps old new entry same grown) headers;
-  term_counted = long;
+-- an entry that is added adds its term
+pub adds_added : (old new : Program) (n : Node) (d : ℕ) (s : Spot) (id : TermId) → new.expressions ≡ old.expressions → Added (entries_of old.terms) (entries_of new.terms) (record { node = n; depth = d; spot = s }) id.0 → headers_of new ≡ headers_of old → d ≡ term_depth (term_of old n) → AddsTerm old new id n (term_of old n) s
+unfolding HoldsTerm tree term_node_at term_spot_at term_count expression_count
+adds_added old new n d s id same added headers measured = record {
+  within = added_within _ _ _ _ added;
+  fresh = added_fresh _ _ _ _ added;
+  node = ap (λ (e : Entry Node). e.node) here;
+  is = ap (λ x. term_entered x (entries_of new.terms) id.0) same ∙ tree_added _ _ _ _ added (term_made old.expressions) identity_term ∙ sym (node-made old n);
+  spotted = ap (λ (e : Entry Node). e.spot) here;
+  shallow = omega (arith, measured, ap (λ (e : Entry Node). e.depth) here, shallow_at (entries_of new.terms) identity_entry id.0 (shallow_entries new.terms) (omega arith));
+  kept = keeps_of old new (added_keeps old new _ _ same added) headers;
+  term_counted = added_counted _ _ _ _ added;
   expression_counted = ap count_of same;
 }
   where
-    long : length new.terms.items ≡ length old.terms.items + 1
-    long = ap length grown ∙ omega (arith, length-append old.terms.items (entry ∷ []))
-
-    here : entry_at new.terms.items id.0 ≡ entry
-    here = ap (λ es. entry_at es id.0) grown ∙ entry-pushed old.terms.items entry id.0 at
+    here : term_entry (entries_of new.terms) id.0 ≡ record { node = n; depth = d; spot = s }
+    here = added_item _ _ _ _ added identity_entry
 
 -- the trees stay where the expressions grow
-grown_keeps : (old new : Program) → KeepsExpressions old.expressions new.expressions → new.terms.items ≡ old.terms.items → KeepsTrees old new
-unfolding HoldsTerm HoldsExpression HoldsFunction tree node_at spot_at expression_at expression_node_at expression_spot_at pattern_at body_at
+grown_keeps : (old new : Program) → KeepsExpressions old.expressions new.expressions → entries_of new.terms ≡ entries_of old.terms → KeepsTrees old new
+unfolding HoldsTerm HoldsExpression ProgramHoldsFunction tree term_node_at term_spot_at expression_under expression_node_at expression_spot_at function_pattern_at function_body_at
 grown_keeps old new k e = record {
   terms = λ t h. omega (arith, ap length e);
-  nodes = λ t h. ap (λ es. (entry_at es t.0).node) e;
-  trees = λ t h. ap (λ es. term_at new.expressions es t.0) e ∙ term-same old.expressions new.expressions old.terms.items t.0 k old.arena.closed old.arena.functions_closed;
-  spots = λ t h. ap (λ es. (entry_at es t.0).spot) e;
+  nodes = λ t h. ap (λ es. (term_entry es t.0).node) e;
+  trees = λ t h. ap (λ es. term_entered new.expressions es t.0) e ∙ term-same old.expressions new.expressions (entries_of old.terms) t.0 k old.arena.closed old.arena.functions_closed;
+  spots = λ t h. ap (λ es. (term_entry es t.0).spot) e;
   expressions = λ x h. k.holds x h;
   value_nodes = λ x h. k.nodes x h;
   values = λ x h. k.trees x h;
@@ -141,8 +147,8 @@ grown_keeps old new k e = record {
 }
 
 -- what is added to the expressions is added to the program
-pub adds_expression : (old new : Program) (id : ExprId) (n : ExprNode) (e : Expression) (s : Spot) → AddsToExpressions old.expressions new.expressions id n e s → new.terms.items ≡ old.terms.items → headers_of new ≡ headers_of old → AddsExpression old new id n e s
-unfolding HoldsExpression expression_at expression_node_at expression_spot_at term_count expression_count
+pub adds_expression : (old new : Program) (id : ExprId) (n : ExprNode) (e : Expression) (s : Spot) → AddsToExpressions old.expressions new.expressions id n e s → entries_of new.terms ≡ entries_of old.terms → headers_of new ≡ headers_of old → AddsExpression old new id n e s
+unfolding HoldsExpression expression_under expression_node_at expression_spot_at term_count expression_count
 adds_expression old new id n e s a same headers = record {
   within = a.within;
   fresh = a.fresh;
@@ -155,8 +161,8 @@ adds_expression old new id n e s a same headers = record {
 }
 
 -- a function that is added to the expressions is added to the program
-pub adds_function : (old new : Program) (f : FunctionId) (q : PlacedPattern) (b : ExprId) → AddsFunctionIn old.expressions new.expressions f q b → new.terms.items ≡ old.terms.items → headers_of new ≡ headers_of old → AddsFunction old new f q b
-unfolding HoldsFunction expression_at pattern_at body_at term_count expression_count
+pub adds_function : (old new : Program) (f : FunctionId) (q : PlacedPattern) (b : ExprId) → AddsFunctionIn old.expressions new.expressions f q b → entries_of new.terms ≡ entries_of old.terms → headers_of new ≡ headers_of old → AddsProgramFunction old new f q b
+unfolding ProgramHoldsFunction expression_under function_pattern_at function_body_at term_count expression_count
 adds_function old new f q b a same headers = record {
   within = a.within;
   fresh = a.fresh;
@@ -170,7 +176,7 @@ adds_function old new f q b a same headers = record {
 
 -- the same expressions are kept
 same_kept : (x y : Exprs) → y ≡ x → KeepsExpressions x y
-same_kept x y e = subst (λ z. KeepsExpressions x z) (sym e) (record { holds = λ i h. h; nodes = λ i h. refl; trees = λ i h. refl; spots = λ i h. refl; functions = λ f h. h; patterns = λ f h. refl; bodies = λ f h. refl; meanings = λ f h. refl })
+same_kept x y e = subst (λ z. KeepsExpressions x z) (sym e) (record { holds = λ i h. h; nodes = λ i h. refl; trees = λ i h. refl; spots = λ i h. refl; functions = λ f h. h; patterns = λ f h. refl; bodies = λ f h. refl; meanings = λ f h. refl; holds_names = λ n h. h; names = λ n h. refl })
 
 pub bodies_end-append : (hs : List Header) (h : Header) → bodies_end (hs ++ h ∷ []) ≡ max (bodies_end hs) (suc h.body.0)
 bodies_end-append [] h = omega arith
@@ -182,7 +188,7 @@ bodies_put old new h true n e a b = omega (arith, ap bodies_end e, bodies_end-ap
 bodies_put old new h false n e a b = omega (arith, ap bodies_end e)
 
 -- a template put behind
-pub adds_template : (old new : Program) (h : Header) → new.expressions ≡ old.expressions → new.terms.items ≡ old.terms.items → headers_of new ≡ headers_of old ++ h ∷ [] → HoldsTerm old h.body → AddsTemplate old new h
+pub adds_template : (old new : Program) (h : Header) → new.expressions ≡ old.expressions → entries_of new.terms ≡ entries_of old.terms → headers_of new ≡ headers_of old ++ h ∷ [] → HoldsTerm old h.body → AddsTemplate old new h
 unfolding term_count expression_count headers_of HoldsTerm
 adds_template old new h same terms headers held = record {
   headers = headers;
@@ -200,14 +206,14 @@ adds_template old new h same terms headers held = record {
     kept = grown_keeps old new (same_kept old.expressions new.expressions same) terms
 
 -- what shows the same
-pub unchanged : (old new : Program) → ExpressionsUnchanged old.expressions new.expressions → new.terms.items ≡ old.terms.items → headers_of new ≡ headers_of old → IsUnchanged old new
-unfolding term_count expression_count tree node_at spot_at expression_at expression_node_at expression_spot_at HoldsFunction pattern_at body_at
+pub unchanged : (old new : Program) → ExpressionsUnchanged old.expressions new.expressions → entries_of new.terms ≡ entries_of old.terms → headers_of new ≡ headers_of old → IsSameProgram old new
+unfolding term_count expression_count tree term_node_at term_spot_at expression_under expression_node_at expression_spot_at ProgramHoldsFunction function_pattern_at function_body_at
 unchanged old new x terms headers = record {
   term_counted = ap length terms;
   expression_counted = x.count;
-  nodes = λ t. ap (λ es. (entry_at es t.0).node) terms;
-  trees = λ t. ap (λ es. term_at new.expressions es t.0) terms ∙ term-same old.expressions new.expressions old.terms.items t.0 (unchanged_expressions_kept old.expressions new.expressions x) old.arena.closed old.arena.functions_closed;
-  spots = λ t. ap (λ es. (entry_at es t.0).spot) terms;
+  nodes = λ t. ap (λ es. (term_entry es t.0).node) terms;
+  trees = λ t. ap (λ es. term_entered new.expressions es t.0) terms ∙ term-same old.expressions new.expressions (entries_of old.terms) t.0 (unchanged_expressions_kept old.expressions new.expressions x) old.arena.closed old.arena.functions_closed;
+  spots = λ t. ap (λ es. (term_entry es t.0).spot) terms;
   value_nodes = λ e. x.nodes e;
   values = λ e. x.trees e;
   value_spots = λ e. x.spots e;
@@ -218,10 +224,28 @@ unchanged old new x terms headers = record {
 }
 
 pub same_expressions : (x : Exprs) → ExpressionsUnchanged x x
-same_expressions x = record { count = refl; functions = refl; nodes = λ i. refl; trees = λ i. refl; spots = λ i. refl; patterns = λ f. refl; bodies = λ f. refl }
+same_expressions x = record { count = refl; functions = refl; name_counted = refl; nodes = λ i. refl; trees = λ i. refl; spots = λ i. refl; patterns = λ f. refl; bodies = λ f. refl; names = λ n. refl }
+
+-- a program shows the same where a name is added
+pub named : (old new : Program) (n : NameId) (y : Name) → AddsName old.expressions new.expressions n y → entries_of new.terms ≡ entries_of old.terms → headers_of new ≡ headers_of old → IsSameProgram old new
+unfolding term_count expression_count tree term_node_at term_spot_at expression_under expression_node_at expression_spot_at ProgramHoldsFunction function_pattern_at function_body_at
+named old new n y x terms headers = record {
+  term_counted = ap length terms;
+  expression_counted = x.count;
+  nodes = λ t. ap (λ es. (term_entry es t.0).node) terms;
+  trees = λ t. ap (λ es. term_entered new.expressions es t.0) terms ∙ term-same old.expressions new.expressions (entries_of old.terms) t.0 x.kept old.arena.closed old.arena.functions_closed;
+  spots = λ t. ap (λ es. (term_entry es t.0).spot) terms;
+  value_nodes = λ e. x.nodes e;
+  values = λ e. x.trees e;
+  value_spots = λ e. x.spots e;
+  holds_functions = λ f h. x.kept.functions f h;
+  patterns = λ f. x.patterns f;
+  bodies = λ f. x.bodies f;
+  headers = headers;
+}
 
 -- an unchanged program keeps what it held
-pub unchanged_keeps : (old new : Program) → IsUnchanged old new → Keeps old new
+pub unchanged_keeps : (old new : Program) → IsSameProgram old new → KeepsProgram old new
 unfolding HoldsTerm HoldsExpression term_count expression_count
 unchanged_keeps old new u = keeps_of old new (record {
   terms = λ t h. omega (arith, u.term_counted);
@@ -235,7 +259,7 @@ unchanged_keeps old new u = keeps_of old new (record {
   functions = λ f h. u.holds_functions f h;
   patterns = λ f h. u.patterns f;
   bodies = λ f h. u.bodies f;
-  meanings = λ f h. rw (u.patterns f, u.bodies f, u.values (body_at old f)) refl;
+  meanings = λ f h. rw (u.patterns f, u.bodies f, u.values (function_body_at old f)) refl;
 }) u.headers
 
 pub keeps_trees_trans : (a b c : Program) → KeepsTrees a b → KeepsTrees b c → KeepsTrees a c
@@ -254,7 +278,7 @@ keeps_trees_trans a b c f g = record {
   meanings = λ i h. g.meanings i (f.functions i h) ∙ f.meanings i h;
 }
 
-pub keeps_trans : (a b c : Program) → Keeps a b → Keeps b c → Keeps a c
+pub keeps_trans : (a b c : Program) → KeepsProgram a b → KeepsProgram b c → KeepsProgram a c
 keeps_trans a b c f g = record {
   trees = keeps_trees_trans a b c f.trees g.trees;
   headers = g.headers ∙ f.headers;
@@ -265,16 +289,21 @@ keeps_trans a b c f g = record {
 -- no program has more than 100,000 terms or 100,000 expressions
 pub few_terms : (p : Program) → term_count p ≤ 100000
 unfolding term_count
-few_terms p = p.arena.few
+few_terms p = few_entries p.terms
 
 pub few_program_expressions : (p : Program) → expression_count p ≤ 100000
 unfolding expression_count
 few_program_expressions p = few_expressions p.expressions
 
 -- no more than 64 terms and expressions stand one inside another
-pub tree_shallow : (p : Program) (t : TermId) → depth (tree p t) ≤ 64
+pub tree_shallow : (p : Program) (t : TermId) → term_depth (tree p t) ≤ 64
 unfolding tree
-tree_shallow p t = omega (arith, p.arena.measured t.0, p.arena.shallow t.0)
+tree_shallow p t = omega (arith, p.arena.measured t.0, shallow_at (entries_of p.terms) identity_entry t.0 (shallow_entries p.terms) (omega arith))
+
+-- past the terms of a program stands the identity
+pub term_past : (p : Program) (t : TermId) → term_count p ≤ term_number t → tree p t ≡ identity_term
+unfolding term_count tree tree_at
+term_past p t h = get_or_past (terms_made p.expressions (entries_of p.terms)) t.0 identity_term (omega (arith, trees-length (term_made p.expressions) (entries_of p.terms)))
 
 -- what holds in any case holds where there is an error
 pub on_any_err : {A E P : Type 0} (r : Result A E) → P → OnErr r P
@@ -282,23 +311,23 @@ on_any_err (Ok x) p = tt
 on_any_err (Err e) p = p
 
 -- a program holds what stands below its count
-pub holds_below_count : (p : Program) (t : TermId) → HoldsTerm p t → id_number t < term_count p
+pub holds_below_count : (p : Program) (t : TermId) → HoldsTerm p t → term_number t < term_count p
 unfolding HoldsTerm term_count
 holds_below_count p t h = h
 
-pub below_count_holds : (p : Program) (t : TermId) → id_number t < term_count p → HoldsTerm p t
+pub below_count_holds : (p : Program) (t : TermId) → term_number t < term_count p → HoldsTerm p t
 unfolding HoldsTerm term_count
 below_count_holds p t h = h
 
 -- the parts of a node are held
-pub parts_held : (p : Program) (t : TermId) → HoldsParts p (entry_of p t).node
-unfolding entry_of HoldsTerm HoldsExpression HoldsFunction
-parts_held p t = of_node (entry_at p.terms.items t.0).node (p.arena.in_order t.0) (p.arena.closed t.0) (p.arena.functions_closed t.0) within
+pub parts_held : (p : Program) (t : TermId) → HoldsTermParts p (term_entry_of p t).node
+unfolding term_entry_of HoldsTerm HoldsExpression ProgramHoldsFunction
+parts_held p t = of_node (term_entry (entries_of p.terms) t.0).node (p.arena.in_order t.0) (p.arena.closed t.0) (p.arena.functions_closed t.0) within
   where
-    within : (needs (entry_at p.terms.items t.0).node ≡ 0) ⊎ (t.0 < length p.terms.items)
-    within = elim (cases_lt t.0 (length p.terms.items)) [ inl h ↦ inr h | inr h ↦ inl (ap (λ (n : Entry). needs n.node) (get_or_past p.terms.items t.0 identity_entry h)) ]
+    within : (needs_terms (term_entry (entries_of p.terms) t.0).node ≡ 0) ⊎ (t.0 < length (entries_of p.terms))
+    within = elim (cases_lt t.0 (length (entries_of p.terms))) [ inl h ↦ inr h | inr h ↦ inl (ap (λ (n : Entry Node). needs_terms n.node) (get_or_past (entries_of p.terms) t.0 identity_entry h)) ]
 
-    of_node : (n : Node) → needs n ≤ t.0 → needs_expressions n ≤ count_of p.expressions → needs_functions n ≤ function_count p.expressions → (needs n ≡ 0) ⊎ (t.0 < length p.terms.items) → HoldsParts p n
+    of_node : (n : Node) → needs_terms n ≤ t.0 → needs_expressions n ≤ count_of p.expressions → needs_functions n ≤ function_count p.expressions → (needs_terms n ≡ 0) ⊎ (t.0 < length (entries_of p.terms)) → HoldsTermParts p n
     of_node (nodes.Primitive (primitives.Bare k)) b x f w = tt
     of_node (nodes.Primitive (primitives.WithValue k e)) b x f w = below_holds p.expressions e (omega arith)
     of_node (nodes.Primitive (primitives.Arrow g)) b x f w = below_function p.expressions g (omega arith)
@@ -309,7 +338,7 @@ parts_held p t = of_node (entry_at p.terms.items t.0).node (p.arena.in_order t.0
     of_node (nodes.Headed q e a) b x f (inl z) = absurd (omega arith)
     of_node (nodes.Headed q e a) b x f (inr h) = (below_holds p.expressions e (omega arith), omega arith)
 
-bodies_within : (p : Program) (hs : List Header) → bodies_end hs ≤ length p.terms.items → (k : ℕ) (d : Header) → k < length hs → HoldsTerm p (get_or hs k d).body
+bodies_within : (p : Program) (hs : List Header) → bodies_end hs ≤ length (entries_of p.terms) → (k : ℕ) (d : Header) → k < length hs → HoldsTerm p (get_or hs k d).body
 unfolding HoldsTerm
 bodies_within p [] b k d h = absurd (omega arith)
 bodies_within p (h ∷ hs) b zero d q = omega arith
@@ -320,28 +349,9 @@ pub bodies_held : (p : Program) → All (λ (h : Header). HoldsTerm p h.body) (h
 unfolding headers_of
 bodies_held p = bodies_within p p.templates.items p.bodies
 
--- the terms that nodes stand for
-pub is_bare : {p : Program} {k : _} {t : Term} → Builds p (nodes.Primitive (primitives.Bare k)) t → t ≡ primitive (bare k)
-is_bare builds_bare = refl
-
-pub is_with_value : {p : Program} {k : _} {e : ExprId} {t : Term} → Builds p (nodes.Primitive (primitives.WithValue k e)) t → t ≡ primitive (with_value k (expression_at p e))
-is_with_value builds_with_value = refl
-
-pub is_arrow : {p : Program} {f : FunctionId} {t : Term} → Builds p (nodes.Primitive (primitives.Arrow f)) t → t ≡ primitive (arrow (function_in p f))
-is_arrow builds_arrow = refl
-
-pub is_joined : {p : Program} {j : _} {a b : TermId} {t : Term} → Builds p (nodes.Joined j a b) t → t ≡ joined j (tree p a) (tree p b)
-is_joined builds_joined = refl
-
-pub is_sided : {p : Program} {d : _} {a : TermId} {t : Term} → Builds p (nodes.Sided d a) t → t ≡ sided d (tree p a)
-is_sided builds_sided = refl
-
-pub is_headed : {p : Program} {h : _} {e : ExprId} {a : TermId} {t : Term} → Builds p (nodes.Headed h e a) t → t ≡ headed h (expression_at p e) (tree p a)
-is_headed builds_headed = refl
-
 -- the expressions of a program, seen by themselves
-pub expression_in : (p : Program) (e : ExprId) → expression (expressions_of p) e ≡ expression_at p e
-unfolding expressions_of expression_at
+pub expression_in : (p : Program) (e : ExprId) → expression (expressions_of p) e ≡ expression_under p e
+unfolding expressions_of expression_under
 expression_in p e = refl
 
 pub expression_spot_in : (p : Program) (e : ExprId) → value_spot_at (expressions_of p) e ≡ expression_spot_at p e
@@ -361,21 +371,61 @@ unfolding expressions_of HoldsExpression
 in_holds p e h = h
 
 pub function_at_in : (p : Program) (f : FunctionId) → function_at (expressions_of p) f ≡ function_in p f
-unfolding expressions_of pattern_at body_at expression_at
+unfolding expressions_of function_pattern_at function_body_at expression_under
 function_at_in p f = refl
 
-pub pattern_in : (p : Program) (f : FunctionId) → pattern_at_in (expressions_of p) f ≡ pattern_at p f
-unfolding expressions_of pattern_at
+pub pattern_in : (p : Program) (f : FunctionId) → pattern_at_in (expressions_of p) f ≡ function_pattern_at p f
+unfolding expressions_of function_pattern_at
 pattern_in p f = refl
 
-pub body_in : (p : Program) (f : FunctionId) → body_at_in (expressions_of p) f ≡ body_at p f
-unfolding expressions_of body_at
+pub body_in : (p : Program) (f : FunctionId) → body_at_in (expressions_of p) f ≡ function_body_at p f
+unfolding expressions_of function_body_at
 body_in p f = refl
 
-pub function_holds_in : (p : Program) (f : FunctionId) → HoldsFunction p f → HoldsFunctionIn (expressions_of p) f
-unfolding expressions_of HoldsFunction
+pub function_holds_in : (p : Program) (f : FunctionId) → ProgramHoldsFunction p f → HoldsFunctionIn (expressions_of p) f
+unfolding expressions_of ProgramHoldsFunction
 function_holds_in p f h = h
 
-pub in_holds_function : (p : Program) (f : FunctionId) → HoldsFunctionIn (expressions_of p) f → HoldsFunction p f
-unfolding expressions_of HoldsFunction
+pub in_holds_function : (p : Program) (f : FunctionId) → HoldsFunctionIn (expressions_of p) f → ProgramHoldsFunction p f
+unfolding expressions_of ProgramHoldsFunction
 in_holds_function p f h = h
+
+pub unchanged_trans : (a b c : Program) → IsSameProgram a b → IsSameProgram b c → IsSameProgram a c
+unchanged_trans a b c f g = record {
+  term_counted = g.term_counted ∙ f.term_counted;
+  expression_counted = g.expression_counted ∙ f.expression_counted;
+  nodes = λ t. g.nodes t ∙ f.nodes t;
+  trees = λ t. g.trees t ∙ f.trees t;
+  spots = λ t. g.spots t ∙ f.spots t;
+  value_nodes = λ e. g.value_nodes e ∙ f.value_nodes e;
+  values = λ e. g.values e ∙ f.values e;
+  value_spots = λ e. g.value_spots e ∙ f.value_spots e;
+  holds_functions = λ i h. g.holds_functions i (f.holds_functions i h);
+  patterns = λ i. g.patterns i ∙ f.patterns i;
+  bodies = λ i. g.bodies i ∙ f.bodies i;
+  headers = g.headers ∙ f.headers;
+}
+
+-- an expression that is added where the program shows the same
+adds_after : (a b c : Program) (id : ExprId) (n : ExprNode) (e : Expression) (s : Spot) → IsSameProgram a b → AddsExpression b c id n e s → AddsExpression a c id n e s
+adds_after a b c id n e s u adds = record {
+  within = adds.within;
+  fresh = λ h. adds.fresh ((unchanged_keeps a b u).trees.expressions id h);
+  node = adds.node;
+  is = adds.is;
+  spotted = adds.spotted;
+  kept = keeps_trans a b c (unchanged_keeps a b u) adds.kept;
+  term_counted = adds.term_counted ∙ u.term_counted;
+  expression_counted = omega (arith, adds.expression_counted, u.expression_counted);
+}
+
+-- a name that is added, and then its expression
+pub adds_named : (a b c : Program) (m : NameId) (y : Name) (s : Spot) (r : Result ExprId BuildRefusal) → AddsName a.expressions b.expressions m y → IsSameProgram a b → IfOk r (λ id. AddsExpression b c id (expressions.Name m) (variable (name_at b.expressions m)) s) → IfOk r (λ id. AddsExpression a c id (expressions.Name (next_name a.expressions)) (variable y) s)
+adds_named a b c m y s (Ok id) named u adds =
+    subst (λ (k : NameId). AddsExpression a c id (expressions.Name k) (variable y) s) named.next
+    (subst (λ (z : Name). AddsExpression a c id (expressions.Name m) (variable z) s) named.is (adds_after a b c id _ _ s u adds))
+adds_named a b c m y s (Err f) named u adds = tt
+
+pub unchanged_after : {A E : Type 0} (a b c : Program) (r : Result A E) → IsSameProgram a b → OnErr r (IsSameProgram b c) → OnErr r (IsSameProgram a c)
+unchanged_after a b c (Ok x) u e = tt
+unchanged_after a b c (Err f) u e = unchanged_trans a b c u e

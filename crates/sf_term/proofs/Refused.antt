@@ -1,19 +1,25 @@
--- Refusals of expressions, as those of programs.
-use Rattle.std.proofs.Common.{◌≡◌, ◌↔◌, refl, ap, Result, Err}
-use Rattle.sf_expr.specs.declared.exprs.ExprRefusal.{ExprRefusal}
-use Rattle.sf_expr.specs.declared.exprs.ExprRefusal.TheVariants as of_expressions
+-- Refusals of arenas, as those of programs.
+use Rattle.std.proofs.Common.{◌≡◌, ◌↔◌, ℕ, ◌<◌, refl, ap, arith, Result, Err}
+use Rattle.sf_arena.specs.declared.arena.ArenaRefusal.{ArenaRefusal}
+use Rattle.sf_arena.specs.declared.arena.ArenaRefusal.TheVariants as of_arenas
 use Rattle.sf_term.specs.declared.refusal.BuildRefusal.{BuildRefusal}
 use Rattle.sf_term.specs.declared.refusal.BuildRefusal.TheVariants.{TooMany, TooDeep}
 use Rattle.sf_term.specs.Refusals.{as_build_refusal}
 
--- a refusal is TooMany exactly where that of the expressions is
-pub many_as : {X : Type 0} (P : Type 0) (r : ExprRefusal) (f : BuildRefusal) → f ≡ as_build_refusal r → (◌≡◌ {A = Result X ExprRefusal} (Err r) (Err of_expressions.TooMany) ↔ P) → ◌≡◌ {A = Result X BuildRefusal} (Err f) (Err TooMany) ↔ P
-many_as P of_expressions.TooMany f e h = (λ q. h.0 refl, λ p. ap (λ g. Err g) e)
-many_as P of_expressions.TooDeep f e h = (λ q. cc, λ p. let q = h.1 p in cc)
-many_as P of_expressions.Memory f e h = (λ q. cc, λ p. let q = h.1 p in cc)
+-- a refusal is TooMany exactly where that of the arena is
+pub many_as : {X Y : Type 0} (P : Type 0) (r : ArenaRefusal) (f : BuildRefusal) → f ≡ as_build_refusal r → (◌≡◌ {A = Result Y ArenaRefusal} (Err r) (Err of_arenas.TooMany) ↔ P) → ◌≡◌ {A = Result X BuildRefusal} (Err f) (Err TooMany) ↔ P
+many_as P of_arenas.TooMany f e h = (λ q. h.0 refl, λ p. ap (λ g. Err g) e)
+many_as P of_arenas.TooDeep f e h = (λ q. cc, λ p. let q = h.1 p in cc)
+many_as P of_arenas.Memory f e h = (λ q. cc, λ p. let q = h.1 p in cc)
 
 -- and TooDeep likewise
-pub deep_as : {X : Type 0} (P : Type 0) (r : ExprRefusal) (f : BuildRefusal) → f ≡ as_build_refusal r → (◌≡◌ {A = Result X ExprRefusal} (Err r) (Err of_expressions.TooDeep) ↔ P) → ◌≡◌ {A = Result X BuildRefusal} (Err f) (Err TooDeep) ↔ P
-deep_as P of_expressions.TooDeep f e h = (λ q. h.0 refl, λ p. ap (λ g. Err g) e)
-deep_as P of_expressions.TooMany f e h = (λ q. cc, λ p. let q = h.1 p in cc)
-deep_as P of_expressions.Memory f e h = (λ q. cc, λ p. let q = h.1 p in cc)
+pub deep_as : {X Y : Type 0} (P : Type 0) (r : ArenaRefusal) (f : BuildRefusal) → f ≡ as_build_refusal r → (◌≡◌ {A = Result Y ArenaRefusal} (Err r) (Err of_arenas.TooDeep) ↔ P) → ◌≡◌ {A = Result X BuildRefusal} (Err f) (Err TooDeep) ↔ P
+deep_as P of_arenas.TooDeep f e h = (λ q. h.0 refl, λ p. ap (λ g. Err g) e)
+deep_as P of_arenas.TooMany f e h = (λ q. cc, λ p. let q = h.1 p in cc)
+deep_as P of_arenas.Memory f e h = (λ q. cc, λ p. let q = h.1 p in cc)
+
+-- and that of a depth which is another's
+pub deep_with : {X Y : Type 0} {count : ℕ} (d e : ℕ) (r : ArenaRefusal) (f : BuildRefusal) → f ≡ as_build_refusal r → d ≡ e → (◌≡◌ {A = Result Y ArenaRefusal} (Err r) (Err of_arenas.TooDeep) ↔ (count < 100000) × (64 < d)) → ◌≡◌ {A = Result X BuildRefusal} (Err f) (Err TooDeep) ↔ (count < 100000) × (64 < e)
+deep_with d e of_arenas.TooDeep f is same h = (λ q. let g = h.0 refl in (g.0, omega (arith, g.1, same)), λ p. ap (λ g. Err g) is)
+deep_with d e of_arenas.TooMany f is same h = (λ q. cc, λ p. let q = h.1 (p.0, omega (arith, p.1, same)) in cc)
+deep_with d e of_arenas.Memory f is same h = (λ q. cc, λ p. let q = h.1 (p.0, omega (arith, p.1, same)) in cc)

@@ -1,6 +1,8 @@
 -- Programs, seen by their trees.
 use Rattle.std.specs.Prelude.{◌≡◌, ℕ, ◌+◌, ◌<◌, ◌≤◌, List, [], ◌∷◌, ◌++◌, length, map}
-use Rattle.sf_expr.specs.declared.spot.Spot.{Spot}
+use Rattle.sf_refusal.specs.declared.spot.Spot.{Spot}
+use Rattle.sf_arena.specs.declared.entry.Entry.{Entry}
+use Rattle.sf_arena.specs.Arenas.{entries_of}
 use Rattle.sf_expr.specs.declared.exprs.ExprId.{ExprId}
 use Rattle.sf_expr.specs.declared.exprs.FunctionId.{FunctionId}
 use Rattle.sf_expr.specs.declared.exprs.ExprNode.{ExprNode}
@@ -8,24 +10,18 @@ use Rattle.sf_expr.specs.declared.exprs.Exprs.{Exprs}
 use Rattle.sf_expr.specs.Expressions.{Expression, Function, function}
 use Rattle.sf_expr.specs.Patterns.{PlacedPattern, pattern_of}
 use Rattle.sf_expr.specs.Arena.{expression, count_of, Holds, HoldsFunction as HoldsFunctionIn, pattern_at as pattern_at_in, body_at as body_at_in, node_at as expression_node_in, spot_at as expression_spot_in}
-use Rattle.sf_term.specs.declared.form.Bare.{Bare}
-use Rattle.sf_term.specs.declared.form.WithValue.{WithValue}
-use Rattle.sf_term.specs.declared.form.Join.{Join}
-use Rattle.sf_term.specs.declared.form.Side.{Side}
-use Rattle.sf_term.specs.declared.form.Heading.{Heading}
 use Rattle.sf_term.specs.declared.node.TermId.{TermId}
 use Rattle.sf_term.specs.declared.node.Primitive.TheVariants as primitives
 use Rattle.sf_term.specs.declared.node.Node.{Node}
 use Rattle.sf_term.specs.declared.node.Node.TheVariants as nodes
-use Rattle.sf_term.specs.declared.node.Entry.{Entry}
 use Rattle.sf_term.specs.declared.program.Program.{Program}
-use Rattle.sf_term.specs.Trees.{Term, primitive, joined, sided, headed, bare, with_value, arrow, depth, Template, Templates}
+use Rattle.sf_term.specs.Trees.{Term, primitive, joined, sided, headed, bare, with_value, arrow, term_depth, Template, Templates}
 use Rattle.sf_term.specs.Headers.{Header}
-use Rattle.sf_term.specs.Entries.{entry_at, term_at, terms, made_over}
+use Rattle.sf_term.specs.Entries.{term_entry, term_entered}
 
 -- the number of an id
-abbrev pub id_number : TermId → ℕ
-id_number id = id.0
+abbrev pub term_number : TermId → ℕ
+term_number id = id.0
 
 -- the expressions of a program
 unfoldable pub expressions_of : Program → Exprs
@@ -33,7 +29,7 @@ expressions_of p = p.expressions
 
 -- how many terms a program holds
 unfoldable pub term_count : Program → ℕ
-term_count p = length p.terms.items
+term_count p = length (entries_of p.terms)
 
 -- how many expressions a program holds
 unfoldable pub expression_count : Program → ℕ
@@ -41,55 +37,60 @@ expression_count p = count_of p.expressions
 
 -- a program holds a term under an id
 unfoldable pub HoldsTerm : Program → TermId → Type 0
-HoldsTerm p t = t.0 < length p.terms.items
+HoldsTerm p t = t.0 < length (entries_of p.terms)
 
 -- a program holds an expression under an id
 unfoldable pub HoldsExpression : Program → ExprId → Type 0
 HoldsExpression p e = Holds p.expressions e
 
 -- a program holds a function under an id
-unfoldable pub HoldsFunction : Program → FunctionId → Type 0
-HoldsFunction p f = HoldsFunctionIn p.expressions f
+unfoldable pub ProgramHoldsFunction : Program → FunctionId → Type 0
+ProgramHoldsFunction p f = HoldsFunctionIn p.expressions f
 
 -- the term at an id; the identity where the program holds none
 unfoldable pub tree : Program → TermId → Term
-tree p t = term_at p.expressions p.terms.items t.0
+tree p t = term_entered p.expressions (entries_of p.terms) t.0
 
 -- the expression at an id; the number 0 where the program holds none
-unfoldable pub expression_at : Program → ExprId → Expression
-expression_at p e = expression p.expressions e
+unfoldable pub expression_under : Program → ExprId → Expression
+expression_under p e = expression p.expressions e
 
 -- the pattern of the function at an id; the one that binds nothing where the program holds none
-unfoldable pub pattern_at : Program → FunctionId → PlacedPattern
-pattern_at p f = pattern_at_in p.expressions f
+unfoldable pub function_pattern_at : Program → FunctionId → PlacedPattern
+function_pattern_at p f = pattern_at_in p.expressions f
 
 -- the id of the body of the function at an id
-unfoldable pub body_at : Program → FunctionId → ExprId
-body_at p f = body_at_in p.expressions f
+unfoldable pub function_body_at : Program → FunctionId → ExprId
+function_body_at p f = body_at_in p.expressions f
 
 -- the function at an id
 abbrev pub function_in : Program → FunctionId → Function
-function_in p f = function (pattern_of (pattern_at p f)) (expression_at p (body_at p f))
+function_in p f = function (pattern_of (function_pattern_at p f)) (expression_under p (function_body_at p f))
 
 -- the entry at an id
-unfoldable pub entry_of : Program → TermId → Entry
-entry_of p t = entry_at p.terms.items t.0
+unfoldable pub term_entry_of : Program → TermId → Entry Node
+term_entry_of p t = term_entry (entries_of p.terms) t.0
 
 -- the node at an id, with the ids of its parts; the identity where the program holds none
-unfoldable pub node_at : Program → TermId → Node
-node_at p t = (entry_at p.terms.items t.0).node
+unfoldable pub term_node_at : Program → TermId → Node
+term_node_at p t = (term_entry (entries_of p.terms) t.0).node
 
 -- the node of the expression at an id, with the ids of its parts; the number 0 where the program holds none
 unfoldable pub expression_node_at : Program → ExprId → ExprNode
 expression_node_at p e = expression_node_in p.expressions e
 
--- the term that a node makes in a program
-unfoldable pub made_in : Program → Node → Term
-made_in p node = made_over p.expressions (terms p.expressions p.terms.items) node
+-- the term that a node with the ids of its parts stands for
+abbrev pub term_of : Program → Node → Term
+term_of p (nodes.Primitive (primitives.Bare k)) = primitive (bare k)
+term_of p (nodes.Primitive (primitives.WithValue k e)) = primitive (with_value k (expression_under p e))
+term_of p (nodes.Primitive (primitives.Arrow f)) = primitive (arrow (function_in p f))
+term_of p (nodes.Joined j a b) = joined j (tree p a) (tree p b)
+term_of p (nodes.Sided d a) = sided d (tree p a)
+term_of p (nodes.Headed h e a) = headed h (expression_under p e) (tree p a)
 
 -- where the term at an id stands in the text
-unfoldable pub spot_at : Program → TermId → Spot
-spot_at p t = (entry_at p.terms.items t.0).spot
+unfoldable pub term_spot_at : Program → TermId → Spot
+term_spot_at p t = (term_entry (entries_of p.terms) t.0).spot
 
 -- where the expression at an id stands in the text
 unfoldable pub expression_spot_at : Program → ExprId → Spot
@@ -111,48 +112,39 @@ templates_of p = map (template_in p) (headers_of p)
 abbrev pub spots_of : Program → List Spot
 spots_of p = map (λ (h : Header). h.spot) (headers_of p)
 
--- A node with the ids of its parts stands for a term with their trees.
-pub data Builds (p : Program) : Node → Term → Type 0 where
-  builds_bare : {k : Bare} → Builds p (nodes.Primitive (primitives.Bare k)) (primitive (bare k))
-  builds_with_value : {k : WithValue} {e : ExprId} → Builds p (nodes.Primitive (primitives.WithValue k e)) (primitive (with_value k (expression_at p e)))
-  builds_arrow : {f : FunctionId} → Builds p (nodes.Primitive (primitives.Arrow f)) (primitive (arrow (function_in p f)))
-  builds_joined : {j : Join} {a b : TermId} → Builds p (nodes.Joined j a b) (joined j (tree p a) (tree p b))
-  builds_sided : {d : Side} {a : TermId} → Builds p (nodes.Sided d a) (sided d (tree p a))
-  builds_headed : {h : Heading} {e : ExprId} {a : TermId} → Builds p (nodes.Headed h e a) (headed h (expression_at p e) (tree p a))
-
 -- the ids of a node's parts, as numbers, are below a number
-abbrev pub PartsBelow : Node → ℕ → Type 0
-PartsBelow (nodes.Primitive q) n = Unit {0}
-PartsBelow (nodes.Joined j a b) n = (id_number a < n) × (id_number b < n)
-PartsBelow (nodes.Sided d a) n = id_number a < n
-PartsBelow (nodes.Headed h e a) n = id_number a < n
+abbrev pub TermPartsBelow : Node → ℕ → Type 0
+TermPartsBelow (nodes.Primitive q) n = Unit {0}
+TermPartsBelow (nodes.Joined j a b) n = (term_number a < n) × (term_number b < n)
+TermPartsBelow (nodes.Sided d a) n = term_number a < n
+TermPartsBelow (nodes.Headed h e a) n = term_number a < n
 
 -- the parts of a node are held
-abbrev pub HoldsParts : Program → Node → Type 0
-HoldsParts p (nodes.Primitive (primitives.Bare k)) = Unit {0}
-HoldsParts p (nodes.Primitive (primitives.WithValue k e)) = HoldsExpression p e
-HoldsParts p (nodes.Primitive (primitives.Arrow f)) = HoldsFunction p f
-HoldsParts p (nodes.Joined j a b) = HoldsTerm p a × HoldsTerm p b
-HoldsParts p (nodes.Sided d a) = HoldsTerm p a
-HoldsParts p (nodes.Headed h e a) = HoldsExpression p e × HoldsTerm p a
+abbrev pub HoldsTermParts : Program → Node → Type 0
+HoldsTermParts p (nodes.Primitive (primitives.Bare k)) = Unit {0}
+HoldsTermParts p (nodes.Primitive (primitives.WithValue k e)) = HoldsExpression p e
+HoldsTermParts p (nodes.Primitive (primitives.Arrow f)) = ProgramHoldsFunction p f
+HoldsTermParts p (nodes.Joined j a b) = HoldsTerm p a × HoldsTerm p b
+HoldsTermParts p (nodes.Sided d a) = HoldsTerm p a
+HoldsTermParts p (nodes.Headed h e a) = HoldsExpression p e × HoldsTerm p a
 
 -- Terms, expressions and functions that a program held are there as they were.
 pub record KeepsTrees (old new : Program) : Type 0 where
   pub terms : (t : TermId) → HoldsTerm old t → HoldsTerm new t
-  pub nodes : (t : TermId) → HoldsTerm old t → node_at new t ≡ node_at old t
+  pub nodes : (t : TermId) → HoldsTerm old t → term_node_at new t ≡ term_node_at old t
   pub trees : (t : TermId) → HoldsTerm old t → tree new t ≡ tree old t
-  pub spots : (t : TermId) → HoldsTerm old t → spot_at new t ≡ spot_at old t
+  pub spots : (t : TermId) → HoldsTerm old t → term_spot_at new t ≡ term_spot_at old t
   pub expressions : (e : ExprId) → HoldsExpression old e → HoldsExpression new e
   pub value_nodes : (e : ExprId) → HoldsExpression old e → expression_node_at new e ≡ expression_node_at old e
-  pub values : (e : ExprId) → HoldsExpression old e → expression_at new e ≡ expression_at old e
+  pub values : (e : ExprId) → HoldsExpression old e → expression_under new e ≡ expression_under old e
   pub value_spots : (e : ExprId) → HoldsExpression old e → expression_spot_at new e ≡ expression_spot_at old e
-  pub functions : (f : FunctionId) → HoldsFunction old f → HoldsFunction new f
-  pub patterns : (f : FunctionId) → HoldsFunction old f → pattern_at new f ≡ pattern_at old f
-  pub bodies : (f : FunctionId) → HoldsFunction old f → body_at new f ≡ body_at old f
-  pub meanings : (f : FunctionId) → HoldsFunction old f → function_in new f ≡ function_in old f
+  pub functions : (f : FunctionId) → ProgramHoldsFunction old f → ProgramHoldsFunction new f
+  pub patterns : (f : FunctionId) → ProgramHoldsFunction old f → function_pattern_at new f ≡ function_pattern_at old f
+  pub bodies : (f : FunctionId) → ProgramHoldsFunction old f → function_body_at new f ≡ function_body_at old f
+  pub meanings : (f : FunctionId) → ProgramHoldsFunction old f → function_in new f ≡ function_in old f
 
 -- All that a program held is there as it was, and it has the same templates.
-pub record Keeps (old new : Program) : Type 0 where
+pub record KeepsProgram (old new : Program) : Type 0 where
   pub trees : KeepsTrees old new
   pub headers : headers_of new ≡ headers_of old
   pub templates : templates_of new ≡ templates_of old
@@ -162,11 +154,11 @@ pub record Keeps (old new : Program) : Type 0 where
 pub record AddsTerm (old new : Program) (id : TermId) (n : Node) (t : Term) (s : Spot) : Type 0 where
   pub within : HoldsTerm new id
   pub fresh : ¬ HoldsTerm old id
-  pub node : node_at new id ≡ n
+  pub node : term_node_at new id ≡ n
   pub is : tree new id ≡ t
-  pub spotted : spot_at new id ≡ s
-  pub shallow : depth t ≤ 64
-  pub kept : Keeps old new
+  pub spotted : term_spot_at new id ≡ s
+  pub shallow : term_depth t ≤ 64
+  pub kept : KeepsProgram old new
   pub term_counted : term_count new ≡ term_count old + 1
   pub expression_counted : expression_count new ≡ expression_count old
 
@@ -175,20 +167,20 @@ pub record AddsExpression (old new : Program) (id : ExprId) (n : ExprNode) (e : 
   pub within : HoldsExpression new id
   pub fresh : ¬ HoldsExpression old id
   pub node : expression_node_at new id ≡ n
-  pub is : expression_at new id ≡ e
+  pub is : expression_under new id ≡ e
   pub spotted : expression_spot_at new id ≡ s
-  pub kept : Keeps old new
+  pub kept : KeepsProgram old new
   pub term_counted : term_count new ≡ term_count old
   pub expression_counted : expression_count new ≡ expression_count old + 1
 
 -- a function was added under a new id
-pub record AddsFunction (old new : Program) (f : FunctionId) (q : PlacedPattern) (b : ExprId) : Type 0 where
-  pub within : HoldsFunction new f
-  pub fresh : ¬ HoldsFunction old f
-  pub pattern : pattern_at new f ≡ q
-  pub body : body_at new f ≡ b
-  pub is : function_in new f ≡ function (pattern_of q) (expression_at old b)
-  pub kept : Keeps old new
+pub record AddsProgramFunction (old new : Program) (f : FunctionId) (q : PlacedPattern) (b : ExprId) : Type 0 where
+  pub within : ProgramHoldsFunction new f
+  pub fresh : ¬ ProgramHoldsFunction old f
+  pub pattern : function_pattern_at new f ≡ q
+  pub body : function_body_at new f ≡ b
+  pub is : function_in new f ≡ function (pattern_of q) (expression_under old b)
+  pub kept : KeepsProgram old new
   pub term_counted : term_count new ≡ term_count old
   pub expression_counted : expression_count new ≡ expression_count old
 
@@ -202,20 +194,20 @@ pub record AddsTemplate (old new : Program) (h : Header) : Type 0 where
   pub expression_counted : expression_count new ≡ expression_count old
 
 -- two programs show the same
-pub record IsUnchanged (old new : Program) : Type 0 where
+pub record IsSameProgram (old new : Program) : Type 0 where
   pub term_counted : term_count new ≡ term_count old
   pub expression_counted : expression_count new ≡ expression_count old
-  pub nodes : (t : TermId) → node_at new t ≡ node_at old t
+  pub nodes : (t : TermId) → term_node_at new t ≡ term_node_at old t
   pub trees : (t : TermId) → tree new t ≡ tree old t
-  pub spots : (t : TermId) → spot_at new t ≡ spot_at old t
+  pub spots : (t : TermId) → term_spot_at new t ≡ term_spot_at old t
   pub value_nodes : (e : ExprId) → expression_node_at new e ≡ expression_node_at old e
-  pub values : (e : ExprId) → expression_at new e ≡ expression_at old e
+  pub values : (e : ExprId) → expression_under new e ≡ expression_under old e
   pub value_spots : (e : ExprId) → expression_spot_at new e ≡ expression_spot_at old e
-  pub holds_functions : (f : FunctionId) → HoldsFunction old f → HoldsFunction new f
-  pub patterns : (f : FunctionId) → pattern_at new f ≡ pattern_at old f
-  pub bodies : (f : FunctionId) → body_at new f ≡ body_at old f
+  pub holds_functions : (f : FunctionId) → ProgramHoldsFunction old f → ProgramHoldsFunction new f
+  pub patterns : (f : FunctionId) → function_pattern_at new f ≡ function_pattern_at old f
+  pub bodies : (f : FunctionId) → function_body_at new f ≡ function_body_at old f
   pub headers : headers_of new ≡ headers_of old
 
 -- a program is a copy of another: it shows the same
-abbrev pub IsCopy : Program → Program → Type 0
-IsCopy p copy = IsUnchanged p copy
+abbrev pub IsProgramCopy : Program → Program → Type 0
+IsProgramCopy p copy = IsSameProgram p copy

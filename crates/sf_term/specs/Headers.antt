@@ -1,7 +1,7 @@
 -- Templates as they stand in an arena.
 use Rattle.std.specs.Prelude.{ℕ, suc, max, List, [], ◌∷◌}
 use Rattle.sf_value.specs.Values.{Name, Kind}
-use Rattle.sf_expr.specs.declared.spot.Spot.{Spot}
+use Rattle.sf_refusal.specs.declared.spot.Spot.{Spot}
 use Rattle.sf_term.specs.declared.node.TermId.{TermId}
 
 -- a template, whose body is an id: its name with the place of it, and the types of its header

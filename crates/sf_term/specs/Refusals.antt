@@ -1,10 +1,10 @@
--- Refusals of expressions, as those of programs.
-use Rattle.sf_expr.specs.declared.exprs.ExprRefusal.{ExprRefusal}
-use Rattle.sf_expr.specs.declared.exprs.ExprRefusal.TheVariants as of_expressions
+-- Refusals of arenas, as those of programs.
+use Rattle.sf_arena.specs.declared.arena.ArenaRefusal.{ArenaRefusal}
+use Rattle.sf_arena.specs.declared.arena.ArenaRefusal.TheVariants as of_arenas
 use Rattle.sf_term.specs.declared.refusal.BuildRefusal.{BuildRefusal}
 use Rattle.sf_term.specs.declared.refusal.BuildRefusal.TheVariants.{TooMany, TooDeep, Memory}
 
-abbrev pub as_build_refusal : ExprRefusal → BuildRefusal
-as_build_refusal of_expressions.TooMany = TooMany
-as_build_refusal of_expressions.TooDeep = TooDeep
-as_build_refusal of_expressions.Memory = Memory
+abbrev pub as_build_refusal : ArenaRefusal → BuildRefusal
+as_build_refusal of_arenas.TooMany = TooMany
+as_build_refusal of_arenas.TooDeep = TooDeep
+as_build_refusal of_arenas.Memory = Memory

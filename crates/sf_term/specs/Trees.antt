@@ -56,12 +56,12 @@ primitive_depth (arrow f) = function_depth f
 primitive_depth (fused f) = 64
 
 -- how many terms and expressions stand one inside another; the forms of plans are deeper than each text
-abbrev pub depth : Term → ℕ
-depth (primitive p) = suc (primitive_depth p)
-depth (joined j f g) = suc (max (depth f) (depth g))
-depth (sided d t) = suc (depth t)
-depth (headed h e t) = suc (max (expression_depth e) (depth t))
-depth (staged x f g) = 65
+abbrev pub term_depth : Term → ℕ
+term_depth (primitive p) = suc (primitive_depth p)
+term_depth (joined j f g) = suc (max (term_depth f) (term_depth g))
+term_depth (sided d t) = suc (term_depth t)
+term_depth (headed h e t) = suc (max (expression_depth e) (term_depth t))
+term_depth (staged x f g) = 65
 
 -- how many terms a term is made of
 abbrev pub terms_in : Term → ℕ

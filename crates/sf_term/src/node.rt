@@ -1,7 +1,7 @@
 //! Nodes of an arena of terms.
 
 use crate::form::{Bare, Heading, Join, Side, WithValue};
-use sf_expr::{ExprId, FunctionId, Spot};
+use sf_expr::{ExprId, FunctionId};
 
 /// A term in its program.
 #[derive(Clone, Copy, Debug, PartialEq, Eq)]
@@ -9,11 +9,11 @@ pub struct TermId(pub(crate) u32);
 
 impl TermId {
     ghost use Rattle.std.specs.Prelude.{◌≡◌};
-    ghost use Rattle.sf_term.specs.Arena.{id_number};
+    ghost use Rattle.sf_term.specs.Arena.{term_number};
 
     /// Its number: the terms of a program are numbered from 0, each above its parts.
     pub fn number(self) -> usize
-        ensures { result ≡ id_number self }
+        ensures { result ≡ term_number self }
     {
         self.0 as usize
     }
@@ -41,12 +41,4 @@ pub enum Node {
     Sided(Side, TermId),
     /// A term with an expression at its head.
     Headed(Heading, ExprId, TermId),
-}
-
-/// A node with the depth of its tree and its place in the text.
-#[derive(Clone, Copy)]
-pub(crate) struct Entry {
-    pub(crate) node: Node,
-    pub(crate) depth: u32,
-    pub(crate) spot: Spot,
 }

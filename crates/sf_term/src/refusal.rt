@@ -2,7 +2,7 @@
 ghost use Rattle.std.specs.Prelude.{◌≡◌};
 ghost use Rattle.sf_term.specs.declared.refusal.BuildRefusal.TheVariants.{Memory};
 
-use sf_expr::ExprRefusal;
+use sf_arena::ArenaRefusal;
 use std::alloc::{AllocError, AllocFailed};
 use thiserror::Error;
 
@@ -23,16 +23,16 @@ pub enum BuildRefusal {
     Memory,
 }
 
-impl From<ExprRefusal> for BuildRefusal {
+impl From<ArenaRefusal> for BuildRefusal {
     ghost use Rattle.sf_term.specs.Refusals.{as_build_refusal};
 
     ghost from_gives = { λ refusal e. e ≡ as_build_refusal refusal };
 
-    fn from(refusal: ExprRefusal) -> BuildRefusal {
+    fn from(refusal: ArenaRefusal) -> BuildRefusal {
         match refusal {
-            ExprRefusal::TooMany => BuildRefusal::TooMany,
-            ExprRefusal::TooDeep => BuildRefusal::TooDeep,
-            ExprRefusal::Memory => BuildRefusal::Memory,
+            ArenaRefusal::TooMany => BuildRefusal::TooMany,
+            ArenaRefusal::TooDeep => BuildRefusal::TooDeep,
+            ArenaRefusal::Memory => BuildRefusal::Memory,
         }
     }
 }

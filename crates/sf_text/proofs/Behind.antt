@@ -5,7 +5,7 @@ use Rattle.std.proofs.lemmas.List.{length-append, length-drop, length-map, flat_
 use Rattle.std.proofs.lemmas.List.Elements.{All-append, All-cons, All-nil}
 use Rattle.std.proofs.lemmas.List.Sums.{sum_by_push}
 use Rattle.sf_term.specs.declared.program.Program.{Program}
-use Rattle.sf_term.specs.Trees.{Template, depth, terms_in, expressions_in}
+use Rattle.sf_term.specs.Trees.{Template, term_depth, terms_in, expressions_in}
 use Rattle.sf_term.specs.Headers.{Header}
 use Rattle.sf_term.specs.Arena.{templates_of, headers_of, template_in, term_count, expression_count}
 use Rattle.sf_term.proofs.Kept.{few_terms, few_program_expressions}
@@ -13,33 +13,34 @@ use Rattle.sf_lex.specs.declared.token.PlacedToken.{PlacedToken}
 use Rattle.sf_lex.specs.Tokens.{Tok, token_of}
 use Rattle.sf_text.specs.declared.stop.Stop.{Stop}
 use Rattle.sf_text.specs.declared.stop.Stop.TheVariants.{At as At', Memory}
-use Rattle.sf_text.specs.Spelling.{spell_template, spell_templates, terms_of, expressions_of, HasSmallTypes}
-use Rattle.sf_text.specs.Reading.{Counts, template_at}
-use Rattle.sf_text.specs.Answers.{Stopped, Stops, toks, counts_of, FoundTemplate, AreNamed}
-use Rattle.sf_text.specs.Stopping.{Behind, StopsAfter, IsBlankProgram}
-use Rattle.sf_text.specs.Placing.{TemplatesPlaced, none_placed}
+use Rattle.sf_grammar.specs.Spelling.{spell_template, spell_templates, term_total, expression_total, HasSmallTypes}
+use Rattle.sf_grammar.specs.Reading.{Counts, parse_template}
+use Rattle.sf_text.specs.Answers.{StopsReading, toks, counts_of, FoundTemplate, AreNamed}
+use Rattle.sf_grammar.specs.Stopping.{Stopped}
+use Rattle.sf_text.specs.Progress.{Behind, StopsAfter, IsBlankProgram}
+use Rattle.sf_grammar.specs.Placing.{TemplatesPlaced, none_placed}
 use Rattle.sf_text.specs.Consuming.{places, Consumes, PlacesTemplate}
 use Rattle.sf_text.proofs.Placed.{templates_keep, templates_more}
-use Rattle.sf_text.proofs.Takes.{TookTemplate, template_takes}
+use Rattle.sf_grammar.proofs.Takes.{TookTemplate, template_takes}
 use Rattle.sf_text.proofs.Named.{named_behind}
 
-took : (old new : Program) (rest behind : List Tok) (f : FoundTemplate old new behind (template_at (counts_of old) rest)) → TookTemplate (counts_of old) rest f.template behind
+took : (old new : Program) (rest behind : List Tok) (f : FoundTemplate old new behind (parse_template (counts_of old) rest)) → TookTemplate (counts_of old) rest f.template behind
 took old new rest behind f = template_takes (counts_of old) rest f.template behind (few_program_expressions old) f.is
 
 -- what is behind a template is shorter
-pub behind_shorter : (old new : Program) (rest behind : List Tok) → FoundTemplate old new behind (template_at (counts_of old) rest) → length behind < length rest
+pub behind_shorter : (old new : Program) (rest behind : List Tok) → FoundTemplate old new behind (parse_template (counts_of old) rest) → length behind < length rest
 behind_shorter old new rest behind f = let t = took old new rest behind f in omega (arith, simp length-append at (ap length t.spelled))
 
-pub behind_more : (tokens rest behind : List Tok) (old new : Program) → Behind tokens old rest → FoundTemplate old new behind (template_at (counts_of old) rest) → Behind tokens new behind
+pub behind_more : (tokens rest behind : List Tok) (old new : Program) → Behind tokens old rest → FoundTemplate old new behind (parse_template (counts_of old) rest) → Behind tokens new behind
 behind_more tokens rest behind old new b f =
     let t = took old new rest behind f in
-    let terms : terms_of (templates_of old ++ f.template ∷ []) ≡ terms_of (templates_of old) + terms_in f.template.body = sum_by_push (λ (t : Template). terms_in t.body) (templates_of old) f.template in
-    let expressions : expressions_of (templates_of old ++ f.template ∷ []) ≡ expressions_of (templates_of old) + expressions_in f.template.body = sum_by_push (λ (t : Template). expressions_in t.body) (templates_of old) f.template in
-    let all_terms : term_count new ≡ terms_of (templates_of new) =
-    f.terms ∙ ap (λ (c : Counts). c.terms + terms_in f.template.body) b.counted ∙ sym terms ∙ ap terms_of (sym f.templates) in
-    let all_expressions : expression_count new ≡ expressions_of (templates_of new) =
-    f.expressions ∙ ap (λ (c : Counts). c.expressions + expressions_in f.template.body) b.counted ∙ sym expressions ∙ ap expressions_of (sym f.templates) in
-    let shallow : Template → Type 0 = λ t. depth t.body ≤ 64 in
+    let terms : term_total (templates_of old ++ f.template ∷ []) ≡ term_total (templates_of old) + terms_in f.template.body = sum_by_push (λ (t : Template). terms_in t.body) (templates_of old) f.template in
+    let expressions : expression_total (templates_of old ++ f.template ∷ []) ≡ expression_total (templates_of old) + expressions_in f.template.body = sum_by_push (λ (t : Template). expressions_in t.body) (templates_of old) f.template in
+    let all_terms : term_count new ≡ term_total (templates_of new) =
+    f.terms ∙ ap (λ (c : Counts). c.terms + terms_in f.template.body) b.counted ∙ sym terms ∙ ap term_total (sym f.templates) in
+    let all_expressions : expression_count new ≡ expression_total (templates_of new) =
+    f.expressions ∙ ap (λ (c : Counts). c.expressions + expressions_in f.template.body) b.counted ∙ sym expressions ∙ ap expression_total (sym f.templates) in
+    let shallow : Template → Type 0 = λ t. term_depth t.body ≤ 64 in
     record {
       spelled = b.spelled ∙ ap (λ r. spell_templates (templates_of old) ++ r) t.spelled ∙ sym (append_assoc (spell_templates (templates_of old)) (spell_template f.template) behind)
           ∙ ap (λ xs. xs ++ behind) (flat_map_more spell_template [] (templates_of old) f.template) ∙ ap (λ ts. spell_templates ts ++ behind) (sym f.templates);
@@ -71,7 +72,7 @@ ends xs front ys zs same = drop-end
     drop-end : drop (length xs - length zs) xs ≡ zs
     drop-end = ap (drop (length xs - length zs)) split ∙ drop_at (front ++ ys) zs (length xs - length zs) counted
 
-pub at_more : (tokens behind : List Tok) (at : ℕ) (old new : Program) → At tokens old at → FoundTemplate old new behind (template_at (counts_of old) (drop at tokens))
+pub at_more : (tokens behind : List Tok) (at : ℕ) (old new : Program) → At tokens old at → FoundTemplate old new behind (parse_template (counts_of old) (drop at tokens))
     → At tokens new (length tokens - length behind)
 at_more tokens behind at old new a f =
     let t = took old new (drop at tokens) behind f in
@@ -87,7 +88,7 @@ toks_from tokens at = ap toks (take_rest tokens at) ∙ sym (drop-map (λ (p : P
 
 -- the places of tokens from an index on, as a slice
 places_from : (tokens : List PlacedToken) (at : ℕ) → places (take (length tokens - at) (drop at tokens)) ≡ drop at (places tokens)
-places_from tokens at = ap places (take_rest tokens at) ∙ sym (drop-map (λ (p : PlacedToken). p.place) at tokens)
+places_from tokens at = ap places (take_rest tokens at) ∙ sym (drop-map (λ (p : PlacedToken). p.spot) at tokens)
 
 -- the templates in front of an index were read, and stand where their tokens do
 pub record Reached (tokens : List PlacedToken) (p : Program) (at : ℕ) : Type 0 where
@@ -133,12 +134,12 @@ pub record Next (tokens behind : List PlacedToken) (at : ℕ) (new : Program) : 
   pub reached : Reached tokens new (length tokens - length behind)
 
 pub next_at : (tokens behind : List PlacedToken) (at : ℕ) (old new : Program) → Reached tokens old at → at < length tokens
-    → FoundTemplate old new (toks behind) (template_at (counts_of old) (toks (take (length tokens - at) (drop at tokens))))
+    → FoundTemplate old new (toks behind) (parse_template (counts_of old) (toks (take (length tokens - at) (drop at tokens))))
     → PlacesTemplate old new (places (take (length tokens - at) (drop at tokens))) (places behind) → Next tokens behind at new
 next_at tokens behind at old new reached short found placed =
     let a = reached.templates in
-    let f : FoundTemplate old new (toks behind) (template_at (counts_of old) (drop at (toks tokens))) =
-    subst (λ (ts : List Tok). FoundTemplate old new (toks behind) (template_at (counts_of old) ts)) (toks_from tokens at) found in
+    let f : FoundTemplate old new (toks behind) (parse_template (counts_of old) (drop at (toks tokens))) =
+    subst (λ (ts : List Tok). FoundTemplate old new (toks behind) (parse_template (counts_of old) ts)) (toks_from tokens at) found in
     let m : length (toks tokens) ≡ length tokens = simp length-map in
     let n : length (toks behind) ≡ length behind = simp length-map in
     let s = behind_shorter old new (drop at (toks tokens)) (toks behind) f in
@@ -155,7 +156,7 @@ next_at tokens behind at old new reached short found placed =
 
 -- a template stops behind others
 pub stops_after : (tokens : List PlacedToken) (at : ℕ) (p : Program) (e : Stop) → At (toks tokens) p at → at < length tokens
-    → Stops e (template_at (counts_of p) (toks (take (length tokens - at) (drop at tokens)))) → StopsAfter e (toks tokens)
+    → StopsReading e (parse_template (counts_of p) (toks (take (length tokens - at) (drop at tokens)))) → StopsAfter e (toks tokens)
 stops_after tokens at p Memory a short stopped = tt
 stops_after tokens at p (At' fault left) a short stopped =
     let m : length (toks tokens) ≡ length tokens = simp length-map in
@@ -166,6 +167,6 @@ stops_after tokens at p (At' fault left) a short stopped =
       spelled = a.behind.spelled;
       limited = a.behind.limited;
       more = λ none. absurd (omega (arith, ap length none));
-      stopped = subst (λ (c : Counts). Stopped fault left (template_at c (drop at (toks tokens)))) a.behind.counted
-          (subst (λ (ts : List Tok). Stopped fault left (template_at (counts_of p) ts)) (toks_from tokens at) stopped);
+      stopped = subst (λ (c : Counts). Stopped fault left (parse_template c (drop at (toks tokens)))) a.behind.counted
+          (subst (λ (ts : List Tok). Stopped fault left (parse_template (counts_of p) ts)) (toks_from tokens at) stopped);
     }

@@ -17,26 +17,26 @@ use Rattle.sf_term.specs.declared.program.Program.{Program}
 use Rattle.sf_term.specs.declared.refusal.BuildRefusal.{BuildRefusal}
 use Rattle.sf_term.specs.declared.refusal.BuildRefusal.TheVariants as refusals
 use Rattle.sf_term.specs.Names.{HasNames}
-use Rattle.sf_term.specs.Trees.{Term, primitive, with_value, arrow, joined, sided, headed, depth, terms_in, expressions_in}
-use Rattle.sf_term.specs.Arena.{tree, expression_at as expression_in, function_in, term_count, expression_count}
+use Rattle.sf_term.specs.Trees.{Term, primitive, with_value, arrow, joined, sided, headed, term_depth, terms_in, expressions_in}
+use Rattle.sf_term.specs.Arena.{tree, expression_under as expression_in, function_in, term_count, expression_count}
 use Rattle.sf_term.proofs.Kept.{few_program_expressions}
 use Rattle.sf_lex.specs.declared.symbol.Symbol.TheVariants as symbols
 use Rattle.sf_lex.specs.declared.token.PlacedToken.{PlacedToken}
 use Rattle.sf_lex.specs.Tokens.{Tok}
-use Rattle.sf_text.specs.declared.head.Link.{Link}
-use Rattle.sf_text.specs.declared.head.Link.TheVariants as links
-use Rattle.sf_text.specs.declared.stop.Fault.TheVariants.{TooMany}
+use Rattle.sf_grammar.specs.declared.head.Link.{Link}
+use Rattle.sf_grammar.specs.declared.head.Link.TheVariants as links
+use Rattle.sf_refusal.specs.declared.rule.Rule.TheVariants.{TooMany}
 use Rattle.sf_text.specs.declared.stop.Stop.{Stop}
-use Rattle.sf_text.specs.Reading.{Read, got, stop, Counts, counts_with, counts_with_expression, symbol_at, inner_type_at, pattern_at, link_at, linked, linked_at, expression_at, expression_read, function_at, value_at, arrow_at, sided_at, headed_at, term_read, join_at, joined_at, term_at}
-use Rattle.sf_text.specs.Answers.{Stops, FoundExpression, FoundFunction, FoundTerm, counts_of, stop_for, stop_for_type, toks}
-use Rattle.sf_text.proofs.Takes.{TookType, TookPattern, TookExpression, TookFunction, Took, inner_type_takes, pattern_takes, expression_takes, function_takes, term_takes}
+use Rattle.sf_grammar.specs.Reading.{Read, got, stop, Counts, counts_with, counts_with_expression, parse_symbol, parse_inner_type, parse_pattern, parse_link, linked, parse_linked, parse_expression, expression_read, parse_function, parse_value, parse_arrow, parse_sided, parse_headed, term_read, parse_join, parse_joined, parse_term}
+use Rattle.sf_text.specs.Answers.{StopsReading, FoundExpression, FoundFunction, FoundTerm, counts_of, stop_for, stop_for_type, toks}
+use Rattle.sf_grammar.proofs.Takes.{TookType, TookPattern, TookExpression, TookFunction, Took, inner_type_takes, pattern_takes, expression_takes, function_takes, term_takes}
 
 past : {A : Type 0} (n : ℕ) (a : A) (start rest : List Tok) → 100000 < n → (if nat_le n 100000 then got a rest else stop TooMany start) ≡ stop TooMany start
 past n a start rest h = elim (leb_tells n 100000) [ inl p ↦ absurd (omega arith) | inr p ↦ ap (λ (b : Bool). if b then got a rest else stop TooMany start) p.0 ]
 
 -- a program refused what is one too many, as reading does
 refused_as_read : {A : Type 0} (n : ℕ) (a : A) (tokens : List PlacedToken) (rest : List Tok) (read : Read A) (refusal : BuildRefusal) → read ≡ (if nat_le n 100000 then got a rest else stop TooMany (toks tokens))
-    → (refusal ≡ refusals.TooMany → 100000 < n) → (refusal ≡ refusals.TooDeep → ⊥) → (refusal ≡ refusals.BadName → ⊥) → Stops (stop_for refusal (length tokens)) read
+    → (refusal ≡ refusals.TooMany → 100000 < n) → (refusal ≡ refusals.TooDeep → ⊥) → (refusal ≡ refusals.BadName → ⊥) → StopsReading (stop_for refusal (length tokens)) read
 refused_as_read n a tokens rest read refusals.TooMany is many deep named = record { at = toks tokens; is = is ∙ past n a (toks tokens) rest (many refl); counted = simp length-map }
 refused_as_read n a tokens rest read refusals.TooDeep is many deep named = absurd (deep refl)
 refused_as_read n a tokens rest read refusals.BadName is many deep named = absurd (named refl)
@@ -52,9 +52,9 @@ pub record ReadyExpression (old mid : Program) (built : Expression) (start rest 
 
 pub expression_refused : {old mid : Program} {built : Expression} {rest : List Tok} {read : Read Expression} (tokens : List PlacedToken) (refusal : BuildRefusal) (e : Stop)
     → ReadyExpression old mid built (toks tokens) rest read → e ≡ stop_for refusal (length tokens)
-    → (refusal ≡ refusals.TooMany → 100000 ≤ expression_count mid) → (refusal ≡ refusals.TooDeep → 64 < expression_depth built) → (refusal ≡ refusals.BadName → ⊥) → Stops e read
+    → (refusal ≡ refusals.TooMany → 100000 ≤ expression_count mid) → (refusal ≡ refusals.TooDeep → 64 < expression_depth built) → (refusal ≡ refusals.BadName → ⊥) → StopsReading e read
 expression_refused {old} {mid} {built} {rest} {read} tokens refusal e ready is many deep named =
-    subst (λ (e : Stop). Stops e read) (sym is) (refused_as_read (expression_count old + size ready.value) ready.value tokens rest read refusal ready.is
+    subst (λ (e : Stop). StopsReading e read) (sym is) (refused_as_read (expression_count old + size ready.value) ready.value tokens rest read refusal ready.is
     (λ same. let full : 100000 ≤ expression_count mid = many same in omega (arith, ready.expressions))
     (λ same. let too : 64 < expression_depth built = deep same in let d : expression_depth built ≡ expression_depth ready.value = ap expression_depth ready.same in omega (arith, ready.shallow)) named)
 
@@ -63,21 +63,21 @@ pub record Ready (old mid : Program) (built : Term) (start rest : List Tok) (rea
   pub term : Term
   pub is : read ≡ term_read (counts_of old) term start rest
   pub same : built ≡ term
-  pub shallow : depth term ≤ 64
+  pub shallow : term_depth term ≤ 64
   pub terms : term_count mid + 1 ≡ term_count old + terms_in term
 
 pub term_refused : {old mid : Program} {built : Term} {rest : List Tok} {read : Read Term} (tokens : List PlacedToken) (refusal : BuildRefusal) (e : Stop)
     → Ready old mid built (toks tokens) rest read → e ≡ stop_for refusal (length tokens)
-    → (refusal ≡ refusals.TooMany → 100000 ≤ term_count mid) → (refusal ≡ refusals.TooDeep → 64 < depth built) → (refusal ≡ refusals.BadName → ⊥) → Stops e read
+    → (refusal ≡ refusals.TooMany → 100000 ≤ term_count mid) → (refusal ≡ refusals.TooDeep → 64 < term_depth built) → (refusal ≡ refusals.BadName → ⊥) → StopsReading e read
 term_refused {old} {mid} {built} {rest} {read} tokens refusal e ready is many deep named =
-    subst (λ (e : Stop). Stops e read) (sym is) (refused_as_read (term_count old + terms_in ready.term) ready.term tokens rest read refusal ready.is
+    subst (λ (e : Stop). StopsReading e read) (sym is) (refused_as_read (term_count old + terms_in ready.term) ready.term tokens rest read refusal ready.is
     (λ same. let full : 100000 ≤ term_count mid = many same in omega (arith, ready.terms))
-    (λ same. let too : 64 < depth built = deep same in let d : depth built ≡ depth ready.term = ap depth ready.same in omega (arith, ready.shallow)) named)
+    (λ same. let too : 64 < term_depth built = deep same in let d : term_depth built ≡ term_depth ready.term = ap term_depth ready.same in omega (arith, ready.shallow)) named)
 
-expression_taken : (old new : Program) (id : ExprId) (rest tokens : List Tok) (d : ℕ) → (f : FoundExpression old new id rest (expression_at d (counts_of old) tokens)) → TookExpression d (counts_of old) tokens f.value rest
+expression_taken : (old new : Program) (id : ExprId) (rest tokens : List Tok) (d : ℕ) → (f : FoundExpression old new id rest (parse_expression d (counts_of old) tokens)) → TookExpression d (counts_of old) tokens f.value rest
 expression_taken old new id rest tokens d f = expression_takes d (counts_of old) tokens f.value rest f.is
 
-term_taken : (old new : Program) (id : TermId) (rest tokens : List Tok) (d : ℕ) → (f : FoundTerm old new id rest (term_at d (counts_of old) tokens)) → Took d (counts_of old) tokens f.term rest
+term_taken : (old new : Program) (id : TermId) (rest tokens : List Tok) (d : ℕ) → (f : FoundTerm old new id rest (parse_term d (counts_of old) tokens)) → Took d (counts_of old) tokens f.term rest
 term_taken old new id rest tokens d f = term_takes d (counts_of old) tokens f.term rest (few_program_expressions old) f.is
 
 behind_expression : (old mid : Program) (e : Expression) → term_count mid ≡ term_count old → expression_count mid ≡ expression_count old + size e → counts_of mid ≡ counts_with_expression (counts_of old) e
@@ -87,21 +87,21 @@ behind_term : (old mid : Program) (f : Term) → term_count mid ≡ term_count o
 behind_term old mid f terms expressions = rw (terms, expressions) refl
 
 -- two expressions in brackets
-pub linked_ready : {old one two : Program} {start r1 r2 r3 rest : List Tok} {a b : ExprId} {l : Link} (d : ℕ) (tokens : List Tok) → d ≤ 63 → FoundExpression old one a r1 (expression_at d (counts_of old) tokens)
-    → link_at r1 ≡ got l r2 → FoundExpression one two b r3 (expression_at d (counts_of one) r2) → symbol_at symbols.Close r3 ≡ got tt rest
-    → ReadyExpression old two (linked l (expression_in two a) (expression_in two b)) start rest (linked_at (expression_at d) (counts_of old) start tokens)
-unfolding linked_at
+pub linked_ready : {old one two : Program} {start r1 r2 r3 rest : List Tok} {a b : ExprId} {l : Link} (d : ℕ) (tokens : List Tok) → d ≤ 63 → FoundExpression old one a r1 (parse_expression d (counts_of old) tokens)
+    → parse_link r1 ≡ got l r2 → FoundExpression one two b r3 (parse_expression d (counts_of one) r2) → parse_symbol symbols.Close r3 ≡ got tt rest
+    → ReadyExpression old two (linked l (expression_in two a) (expression_in two b)) start rest (parse_linked (parse_expression d) (counts_of old) start tokens)
+unfolding parse_linked
 linked_ready {old} {one} {two} {start} {r1} {r2} {r3} {rest} {a} {b} {l} d tokens small f linking g closing =
-    let second : expression_at d (counts_with_expression (counts_of old) f.value) r2 ≡ got g.value r3 =
-    subst (λ (c : Counts). expression_at d c r2 ≡ got g.value r3) (behind_expression old one f.value f.terms f.expressions) g.is in
+    let second : parse_expression d (counts_with_expression (counts_of old) f.value) r2 ≡ got g.value r3 =
+    subst (λ (c : Counts). parse_expression d c r2 ≡ got g.value r3) (behind_expression old one f.value f.terms f.expressions) g.is in
     let first_same : expression_in two a ≡ f.value = g.kept.trees.values a f.held ∙ f.tree in
     let took_f = expression_taken old one a r1 tokens d f in
     let took_g = expression_taken one two b r3 r2 d g in
     of_link l (rw (f.is, linking, second, closing) refl) first_same took_f took_g
   where
-    of_link : (l : Link) → linked_at (expression_at d) (counts_of old) start tokens ≡ expression_read (counts_of old) (linked l f.value g.value) start rest → expression_in two a ≡ f.value
+    of_link : (l : Link) → parse_linked (parse_expression d) (counts_of old) start tokens ≡ expression_read (counts_of old) (linked l f.value g.value) start rest → expression_in two a ≡ f.value
         → TookExpression d (counts_of old) tokens f.value r1 → TookExpression d (counts_of one) r2 g.value r3
-        → ReadyExpression old two (linked l (expression_in two a) (expression_in two b)) start rest (linked_at (expression_at d) (counts_of old) start tokens)
+        → ReadyExpression old two (linked l (expression_in two a) (expression_in two b)) start rest (parse_linked (parse_expression d) (counts_of old) start tokens)
     of_link links.Pair is same took_f took_g = record {
       value = paired f.value g.value;
       is = is;
@@ -118,9 +118,9 @@ linked_ready {old} {one} {two} {start} {r1} {r2} {r3} {rest} {a} {b} {l} d token
     }
 
 -- a primitive with a value
-pub value_ready : {old mid : Program} {start rest : List Tok} {e : ExprId} {v : WithValue} (d : ℕ) (tokens : List Tok) → d ≤ 63 → FoundExpression old mid e rest (expression_at d (counts_of old) tokens)
-    → Ready old mid (primitive (with_value v (expression_in mid e))) start rest (value_at d (counts_of old) v start tokens)
-unfolding value_at
+pub value_ready : {old mid : Program} {start rest : List Tok} {e : ExprId} {v : WithValue} (d : ℕ) (tokens : List Tok) → d ≤ 63 → FoundExpression old mid e rest (parse_expression d (counts_of old) tokens)
+    → Ready old mid (primitive (with_value v (expression_in mid e))) start rest (parse_value d (counts_of old) v start tokens)
+unfolding parse_value
 value_ready {old} {mid} {start} {rest} {e} {v} d tokens small f =
     let took = expression_taken old mid e rest tokens d f in
     record {
@@ -132,9 +132,9 @@ value_ready {old} {mid} {start} {rest} {e} {v} d tokens small f =
     }
 
 -- a function as a primitive
-pub arrow_ready : {old mid : Program} {start rest : List Tok} {g : FunctionId} (d : ℕ) (tokens : List Tok) → d ≤ 63 → FoundFunction old mid g rest (function_at d (counts_of old) tokens)
-    → Ready old mid (primitive (arrow (function_in mid g))) start rest (arrow_at d (counts_of old) start tokens)
-unfolding arrow_at
+pub arrow_ready : {old mid : Program} {start rest : List Tok} {g : FunctionId} (d : ℕ) (tokens : List Tok) → d ≤ 63 → FoundFunction old mid g rest (parse_function d (counts_of old) tokens)
+    → Ready old mid (primitive (arrow (function_in mid g))) start rest (parse_arrow d (counts_of old) start tokens)
+unfolding parse_arrow
 arrow_ready {old} {mid} {start} {rest} {g} d tokens small f =
     let took : TookFunction d (counts_of old) tokens f.function rest = function_takes d (counts_of old) tokens f.function rest f.is in
     record {
@@ -146,9 +146,9 @@ arrow_ready {old} {mid} {start} {rest} {g} d tokens small f =
     }
 
 -- a term on one part of a pair
-pub sided_ready : {old mid : Program} {start rest : List Tok} {a : TermId} {s : Side} (d : ℕ) (tokens : List Tok) → d ≤ 63 → FoundTerm old mid a rest (term_at d (counts_of old) tokens)
-    → Ready old mid (sided s (tree mid a)) start rest (sided_at (term_at d) (counts_of old) s start tokens)
-unfolding sided_at
+pub sided_ready : {old mid : Program} {start rest : List Tok} {a : TermId} {s : Side} (d : ℕ) (tokens : List Tok) → d ≤ 63 → FoundTerm old mid a rest (parse_term d (counts_of old) tokens)
+    → Ready old mid (sided s (tree mid a)) start rest (parse_sided (parse_term d) (counts_of old) s start tokens)
+unfolding parse_sided
 sided_ready {old} {mid} {start} {rest} {a} {s} d tokens small f =
     let took = term_taken old mid a rest tokens d f in
     record {
@@ -160,13 +160,13 @@ sided_ready {old} {mid} {start} {rest} {a} {s} d tokens small f =
     }
 
 -- a term with an expression at its head
-pub headed_ready : {old one two : Program} {start r0 r1 r2 r3 rest : List Tok} {e : ExprId} {a : TermId} {h : Heading} (d : ℕ) (tokens : List Tok) → d ≤ 63 → symbol_at symbols.Open tokens ≡ got tt r0
-    → FoundExpression old one e r1 (expression_at d (counts_of old) r0) → symbol_at symbols.Comma r1 ≡ got tt r2 → FoundTerm one two a r3 (term_at d (counts_of one) r2) → symbol_at symbols.Close r3 ≡ got tt rest
-    → Ready old two (headed h (expression_in two e) (tree two a)) start rest (headed_at d (term_at d) (counts_of old) h start tokens)
-unfolding headed_at
+pub headed_ready : {old one two : Program} {start r0 r1 r2 r3 rest : List Tok} {e : ExprId} {a : TermId} {h : Heading} (d : ℕ) (tokens : List Tok) → d ≤ 63 → parse_symbol symbols.Open tokens ≡ got tt r0
+    → FoundExpression old one e r1 (parse_expression d (counts_of old) r0) → parse_symbol symbols.Comma r1 ≡ got tt r2 → FoundTerm one two a r3 (parse_term d (counts_of one) r2) → parse_symbol symbols.Close r3 ≡ got tt rest
+    → Ready old two (headed h (expression_in two e) (tree two a)) start rest (parse_headed d (parse_term d) (counts_of old) h start tokens)
+unfolding parse_headed
 headed_ready {old} {one} {two} {start} {r0} {r1} {r2} {r3} {rest} {e} {a} {h} d tokens small opening f comma g closing =
-    let second : term_at d (counts_with_expression (counts_of old) f.value) r2 ≡ got g.term r3 =
-    subst (λ (c : Counts). term_at d c r2 ≡ got g.term r3) (behind_expression old one f.value f.terms f.expressions) g.is in
+    let second : parse_term d (counts_with_expression (counts_of old) f.value) r2 ≡ got g.term r3 =
+    subst (λ (c : Counts). parse_term d c r2 ≡ got g.term r3) (behind_expression old one f.value f.terms f.expressions) g.is in
     let first_same : expression_in two e ≡ f.value = g.kept.trees.values e f.held ∙ f.tree in
     let took_f = expression_taken old one e r1 r0 d f in
     let took_g = term_taken one two a r3 r2 d g in
@@ -179,13 +179,13 @@ headed_ready {old} {one} {two} {start} {r0} {r1} {r2} {r3} {rest} {e} {a} {h} d 
     }
 
 -- two terms joined
-pub joined_ready : {old one two : Program} {start r1 r2 r3 rest : List Tok} {a b : TermId} {j : Join} (d : ℕ) (tokens : List Tok) → d ≤ 63 → FoundTerm old one a r1 (term_at d (counts_of old) tokens)
-    → join_at r1 ≡ got j r2 → FoundTerm one two b r3 (term_at d (counts_of one) r2) → symbol_at symbols.Close r3 ≡ got tt rest
-    → Ready old two (joined j (tree two a) (tree two b)) start rest (joined_at (term_at d) (counts_of old) start tokens)
-unfolding joined_at
+pub joined_ready : {old one two : Program} {start r1 r2 r3 rest : List Tok} {a b : TermId} {j : Join} (d : ℕ) (tokens : List Tok) → d ≤ 63 → FoundTerm old one a r1 (parse_term d (counts_of old) tokens)
+    → parse_join r1 ≡ got j r2 → FoundTerm one two b r3 (parse_term d (counts_of one) r2) → parse_symbol symbols.Close r3 ≡ got tt rest
+    → Ready old two (joined j (tree two a) (tree two b)) start rest (parse_joined (parse_term d) (counts_of old) start tokens)
+unfolding parse_joined
 joined_ready {old} {one} {two} {start} {r1} {r2} {r3} {rest} {a} {b} {j} d tokens small f joining g closing =
-    let second : term_at d (counts_with (counts_of old) f.term) r2 ≡ got g.term r3 =
-    subst (λ (c : Counts). term_at d c r2 ≡ got g.term r3) (behind_term old one f.term f.terms f.expressions) g.is in
+    let second : parse_term d (counts_with (counts_of old) f.term) r2 ≡ got g.term r3 =
+    subst (λ (c : Counts). parse_term d c r2 ≡ got g.term r3) (behind_term old one f.term f.terms f.expressions) g.is in
     let first_same : tree two a ≡ f.term = g.kept.trees.trees a f.held ∙ f.tree in
     let took_f = term_taken old one a r1 tokens d f in
     let took_g = term_taken one two b r3 r2 d g in
@@ -197,8 +197,8 @@ joined_ready {old} {one} {two} {start} {r1} {r2} {r3} {rest} {a} {b} {j} d token
       terms = omega (arith, f.terms, g.terms);
     }
 
-pub function_shallow : {old new : Program} {r1 rest : List Tok} {b : ExprId} (d : ℕ) (tokens r2 : List Tok) (p : Pattern) → d ≤ 63 → pattern_at d tokens ≡ got p r1
-    → FoundExpression old new b rest (expression_at d (counts_of old) r2) → function_depth (function p (expression_in new b)) ≤ 64
+pub function_shallow : {old new : Program} {r1 rest : List Tok} {b : ExprId} (d : ℕ) (tokens r2 : List Tok) (p : Pattern) → d ≤ 63 → parse_pattern d tokens ≡ got p r1
+    → FoundExpression old new b rest (parse_expression d (counts_of old) r2) → function_depth (function p (expression_in new b)) ≤ 64
 function_shallow {old} {new} {r1} {rest} {b} d tokens r2 p small is f =
     let one : TookPattern d tokens p r1 = pattern_takes d tokens p r1 is in
     let two = expression_taken old new b rest r2 d f in
@@ -207,16 +207,16 @@ function_shallow {old} {new} {r1} {rest} {b} d tokens r2 p small is f =
 
 -- a program takes each function of named patterns that is not too deep
 pub function_refused : {A : Type 0} (read : Read A) (refusal : BuildRefusal) (left : ℕ) (e : Stop) (p : Pattern) (i : Expression) → function_depth (function p i) ≤ 64 → HasNames p → e ≡ stop_for refusal left
-    → (refusal ≡ refusals.TooMany → ⊥) → (refusal ≡ refusals.TooDeep → 64 < function_depth (function p i)) → (refusal ≡ refusals.BadName → ¬ HasNames p) → Stops e read
+    → (refusal ≡ refusals.TooMany → ⊥) → (refusal ≡ refusals.TooDeep → 64 < function_depth (function p i)) → (refusal ≡ refusals.BadName → ¬ HasNames p) → StopsReading e read
 function_refused read refusals.TooMany left e p i shallow names is many deep named = absurd (many refl)
 function_refused read refusals.TooDeep left e p i shallow names is many deep named = let too : 64 < function_depth (function p i) = deep refl in absurd (omega arith)
 function_refused read refusals.BadName left e p i shallow names is many deep named = absurd (named refl names)
-function_refused read refusals.Memory left e p i shallow names is many deep named = subst (λ (e : Stop). Stops e read) (sym is) tt
+function_refused read refusals.Memory left e p i shallow names is many deep named = subst (λ (e : Stop). StopsReading e read) (sym is) tt
 
 -- the type of pairs of two types is made, but for want of memory
-pub type_refused : (read : Read Kind) (refusal : TyRefusal) (left : ℕ) (e : Stop) (t u : Kind) → e ≡ stop_for_type refusal left → nodes (pair_kind t u) ≤ 256 → (refusal ≡ type_refusals.TypeTooLarge → 256 < nodes (pair_kind t u)) → Stops e read
+pub type_refused : (read : Read Kind) (refusal : TyRefusal) (left : ℕ) (e : Stop) (t u : Kind) → e ≡ stop_for_type refusal left → nodes (pair_kind t u) ≤ 256 → (refusal ≡ type_refusals.TypeTooLarge → 256 < nodes (pair_kind t u)) → StopsReading e read
 type_refused read type_refusals.TypeTooLarge left e t u is few large = let too : 256 < nodes (pair_kind t u) = large refl in absurd (omega arith)
-type_refused read type_refusals.Memory left e t u is few large = subst (λ (e : Stop). Stops e read) (sym is) tt
+type_refused read type_refusals.Memory left e t u is few large = subst (λ (e : Stop). StopsReading e read) (sym is) tt
 
-pub few_first : {rest : List Tok} {t : Kind} (d : ℕ) (start : List Tok) (met : ℕ) (tokens : List Tok) → inner_type_at d start met tokens ≡ got t rest → met + nodes t ≤ 256
+pub few_first : {rest : List Tok} {t : Kind} (d : ℕ) (start : List Tok) (met : ℕ) (tokens : List Tok) → parse_inner_type d start met tokens ≡ got t rest → met + nodes t ≤ 256
 few_first {rest} {t} d start met tokens is = let took : TookType d met tokens t rest = inner_type_takes d start met tokens t rest is in took.few

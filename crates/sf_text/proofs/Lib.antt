@@ -1,13 +1,7 @@
 pub mod Placed
-pub mod Counted
-pub mod Words
-pub mod Parts
-pub mod Again
-pub mod Takes
 pub mod Deeper
 pub mod Found
 pub mod Named
-pub mod Unique
 pub mod Behind
 pub mod Whole
 pub mod Places

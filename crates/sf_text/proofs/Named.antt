@@ -13,13 +13,13 @@ use Rattle.sf_term.specs.declared.refusal.BuildRefusal.TheVariants as refusals
 use Rattle.sf_lex.specs.Words.{IsName}
 use Rattle.sf_lex.specs.declared.symbol.Symbol.TheVariants as symbols
 use Rattle.sf_lex.specs.Tokens.{Tok, symbol}
-use Rattle.sf_text.specs.Spelling.{spell_type, spell_pattern, spell_expression, spell_term}
-use Rattle.sf_text.specs.Reading.{Read, got, heading_at, signature_at, pattern_at, expression_at, term_at}
-use Rattle.sf_text.specs.Answers.{AreNamed, Stops, stop_for, counts_of, FoundExpression, FoundTerm}
-use Rattle.sf_text.proofs.Takes.{heading_takes, signature_takes, pattern_takes, expression_takes, term_takes}
-use Rattle.sf_text.proofs.Parts.{brackets_behind}
+use Rattle.sf_grammar.specs.Spelling.{spell_type, spell_pattern, spell_expression, spell_term}
+use Rattle.sf_grammar.specs.Reading.{Read, got, parse_heading, parse_signature, parse_pattern, parse_expression, parse_term}
+use Rattle.sf_text.specs.Answers.{AreNamed, StopsReading, stop_for, counts_of, FoundExpression, FoundTerm}
+use Rattle.sf_grammar.proofs.Takes.{heading_takes, signature_takes, pattern_takes, expression_takes, term_takes}
+use Rattle.sf_grammar.proofs.Parts.{brackets_behind}
 
-pub heading_named : (tokens : List Tok) (n : Name) (rest : List Tok) → heading_at tokens ≡ got n rest → AreNamed tokens → IsName n
+pub heading_named : (tokens : List Tok) (n : Name) (rest : List Tok) → parse_heading tokens ≡ got n rest → AreNamed tokens → IsName n
 heading_named tokens n rest is named = (subst AreNamed (heading_takes tokens n rest is) named).1.0
 
 pub named_behind : (front rest : List Tok) → AreNamed (front ++ rest) → AreNamed rest
@@ -28,23 +28,23 @@ named_behind (t ∷ front) rest named = named_behind front rest named.1
 
 -- a program takes each template whose name is one
 pub template_refused : {A : Type 0} (refusal : BuildRefusal) (left : ℕ) (n : Name) (read : Read A) → IsName n
-    → (refusal ≡ refusals.BadName → ¬ IsName n) → (refusal ≡ refusals.TooMany → ⊥) → (refusal ≡ refusals.TooDeep → ⊥) → Stops (stop_for refusal left) read
+    → (refusal ≡ refusals.BadName → ¬ IsName n) → (refusal ≡ refusals.TooMany → ⊥) → (refusal ≡ refusals.TooDeep → ⊥) → StopsReading (stop_for refusal left) read
 template_refused refusals.BadName left n read named bad many deep = absurd (bad refl named)
 template_refused refusals.TooMany left n read named bad many deep = absurd (many refl)
 template_refused refusals.TooDeep left n read named bad many deep = absurd (deep refl)
 template_refused refusals.Memory left n read named bad many deep = tt
 
 -- what stands behind a template's header
-pub header_named : (tokens r1 r2 : List Tok) (n : Name) (s : Kind × Kind) → heading_at tokens ≡ got n r1 → signature_at r1 ≡ got s r2 → AreNamed tokens → AreNamed r2
+pub header_named : (tokens r1 r2 : List Tok) (n : Name) (s : Kind × Kind) → parse_heading tokens ≡ got n r1 → parse_signature r1 ≡ got s r2 → AreNamed tokens → AreNamed r2
 header_named tokens r1 r2 n s heading signature named =
     let behind : AreNamed r1 = (subst AreNamed (heading_takes tokens n r1 heading) named).1.1.1.1 in
     named_behind (symbol symbols.Colon ∷ (spell_type s.0 ++ (symbol symbols.Leads ∷ (spell_type s.1 ++ (symbol symbols.Equals ∷ []))))) r2 (subst AreNamed (signature_takes r1 s r2 signature).spelled behind)
 
-pub expression_named : (old new : Program) (id : ExprId) (rest tokens : List Tok) (d : ℕ) → FoundExpression old new id rest (expression_at d (counts_of old) tokens) → AreNamed tokens → AreNamed rest
+pub expression_named : (old new : Program) (id : ExprId) (rest tokens : List Tok) (d : ℕ) → FoundExpression old new id rest (parse_expression d (counts_of old) tokens) → AreNamed tokens → AreNamed rest
 expression_named old new id rest tokens d found named =
     named_behind (spell_expression found.value) rest (subst AreNamed (expression_takes d (counts_of old) tokens found.value rest found.is).spelled named)
 
-pub term_named : (old new : Program) (id : TermId) (rest tokens : List Tok) (d : ℕ) → FoundTerm old new id rest (term_at d (counts_of old) tokens) → AreNamed tokens → AreNamed rest
+pub term_named : (old new : Program) (id : TermId) (rest tokens : List Tok) (d : ℕ) → FoundTerm old new id rest (parse_term d (counts_of old) tokens) → AreNamed tokens → AreNamed rest
 term_named old new id rest tokens d found named =
     named_behind (spell_term found.term) rest (subst AreNamed (term_takes d (counts_of old) tokens found.term rest (few_program_expressions old) found.is).spelled named)
 
@@ -62,7 +62,7 @@ pub record NamedPattern (p : Pattern) (rest : List Tok) : Type 0 where
   pub names : HasNames p
   pub behind : AreNamed rest
 
-pub pattern_named : (d : ℕ) (tokens : List Tok) (p : Pattern) (rest : List Tok) → pattern_at d tokens ≡ got p rest → AreNamed tokens → NamedPattern p rest
+pub pattern_named : (d : ℕ) (tokens : List Tok) (p : Pattern) (rest : List Tok) → parse_pattern d tokens ≡ got p rest → AreNamed tokens → NamedPattern p rest
 pattern_named d tokens p rest is named =
     let all : AreNamed (spell_pattern p ++ rest) = subst AreNamed (pattern_takes d tokens p rest is).spelled named in
     record { names = spelled_names p rest all; behind = named_behind (spell_pattern p) rest all }

@@ -4,7 +4,7 @@ use Rattle.std.specs.Prelude.{IfOk, OnOk}
 use mathlib.Core.Path.{ap₂}
 use Rattle.std.proofs.Common.{Bor}
 use Rattle.std.proofs.lemmas.List.{length-append, length-map, append-nil, take_rest}
-use Rattle.sf_expr.specs.declared.spot.Spot.{Spot}
+use Rattle.sf_refusal.specs.declared.spot.Spot.{Spot}
 use Rattle.sf_expr.specs.declared.exprs.ExprId.{ExprId}
 use Rattle.sf_expr.specs.declared.exprs.NameId.{NameId}
 use Rattle.sf_expr.specs.declared.exprs.FunctionId.{FunctionId}
@@ -24,30 +24,29 @@ use Rattle.sf_term.specs.declared.node.Node.TheVariants as nodes
 use Rattle.sf_term.specs.declared.program.Program.{Program}
 use Rattle.sf_term.specs.Trees.{Term}
 use Rattle.sf_term.specs.Headers.{Header}
-use Rattle.sf_term.specs.Arena.{KeepsTrees, Keeps, AddsTerm, AddsExpression, AddsFunction, AddsTemplate, body_at, headers_of, template_in}
+use Rattle.sf_term.specs.Arena.{KeepsTrees, KeepsProgram, AddsTerm, AddsExpression, AddsProgramFunction, AddsTemplate, function_body_at, headers_of, template_in}
 use Rattle.sf_term.proofs.Kept.{keeps_trees_trans}
 use Rattle.sf_value.specs.Values.{Kind}
 use Rattle.sf_lex.specs.Tokens.{Tok, Located, seen, shown, place_at, symbol}
 use Rattle.sf_lex.specs.Cutting.{AreTokensOf}
 use Rattle.sf_lex.specs.declared.symbol.Symbol.TheVariants as symbols
-use Rattle.sf_text.specs.Spelling.{spell_type, spell_signature}
-use Rattle.sf_text.specs.Reading.{got, signature_at}
+use Rattle.sf_grammar.specs.Spelling.{spell_type, spell_signature}
+use Rattle.sf_grammar.specs.Reading.{got, parse_signature}
 use Rattle.sf_text.specs.Answers.{toks}
-use Rattle.sf_text.proofs.Takes.{TookSignature, signature_takes}
-use Rattle.sf_lex.specs.declared.token.Place.{Place}
+use Rattle.sf_grammar.proofs.Takes.{TookSignature, signature_takes}
 use Rattle.sf_lex.specs.declared.token.PlacedToken.{PlacedToken}
-use Rattle.sf_text.specs.declared.head.Link.{Link}
-use Rattle.sf_text.specs.declared.head.Link.TheVariants as links
-use Rattle.sf_text.specs.Placing.{spot_of, around, PatternPlaced, ExpressionStands, ExpressionPlaced, number_placed, variable_placed, pair_placed, operation_placed, FunctionPlaced, function_placed, TermStands, TermPlaced, bare_placed, with_value_placed, arrow_placed, joined_placed, sided_placed, headed_placed, TemplatePlaced, TemplatesPlaced, none_placed, template_placed, NetworkPlaced, IsPlacedIn}
-use Rattle.sf_text.specs.Consuming.{places, BehindOne, BehindSome, HeadingPlaced, OpeningPlaced, Consumes, ConsumesBehind, ConsumesFrom, PlacesTemplate, linked_node}
+use Rattle.sf_grammar.specs.declared.head.Link.{Link}
+use Rattle.sf_grammar.specs.declared.head.Link.TheVariants as links
+use Rattle.sf_grammar.specs.Placing.{around, PatternPlaced, ExpressionStands, ExpressionPlaced, number_placed, variable_placed, pair_placed, operation_placed, FunctionPlaced, function_placed, TermStands, TermPlaced, bare_placed, with_value_placed, arrow_placed, joined_placed, sided_placed, headed_placed, TemplatePlaced, TemplatesPlaced, none_placed, template_placed, NetworkPlaced, IsPlacedIn}
+use Rattle.sf_text.specs.Consuming.{places, BehindOne, BehindSome, HeadingPlaced, OpeningPlaced, Consumes, ConsumesBehind, PlacesTemplate, linked_node}
 
-expression_stays : (old new : Program) → KeepsTrees old new → (id : ExprId) (n : ExprNode) (at : Place) → ExpressionStands old id n at → ExpressionStands new id n at
+expression_stays : (old new : Program) → KeepsTrees old new → (id : ExprId) (n : ExprNode) (at : Spot) → ExpressionStands old id n at → ExpressionStands new id n at
 expression_stays old new k id n at s = record { held = k.expressions id s.held; node = k.value_nodes id s.held ∙ s.node; spot = k.value_spots id s.held ∙ s.spot }
 
-term_stays : (old new : Program) → KeepsTrees old new → (id : TermId) (n : Node) (at : Place) → TermStands old id n at → TermStands new id n at
+term_stays : (old new : Program) → KeepsTrees old new → (id : TermId) (n : Node) (at : Spot) → TermStands old id n at → TermStands new id n at
 term_stays old new k id n at s = record { held = k.terms id s.held; node = k.nodes id s.held ∙ s.node; spot = k.spots id s.held ∙ s.spot }
 
-pub expression_keeps : (old new : Program) → KeepsTrees old new → (id : ExprId) (xs : List Place) → ExpressionPlaced old id xs → ExpressionPlaced new id xs
+pub expression_keeps : (old new : Program) → KeepsTrees old new → (id : ExprId) (xs : List Spot) → ExpressionPlaced old id xs → ExpressionPlaced new id xs
 expression_keeps old new k id xs (number_placed s) = number_placed (expression_stays old new k _ _ _ s)
 expression_keeps old new k id xs (variable_placed s) = variable_placed (expression_stays old new k _ _ _ s)
 expression_keeps old new k id xs (pair_placed comma closing s one two) =
@@ -55,12 +54,12 @@ expression_keeps old new k id xs (pair_placed comma closing s one two) =
 expression_keeps old new k id xs (operation_placed operator closing s one two) =
     operation_placed operator closing (expression_stays old new k _ _ _ s) (expression_keeps old new k _ _ one) (expression_keeps old new k _ _ two)
 
-function_keeps : (old new : Program) → KeepsTrees old new → (f : FunctionId) (xs : List Place) → FunctionPlaced old f xs → FunctionPlaced new f xs
+function_keeps : (old new : Program) → KeepsTrees old new → (f : FunctionId) (xs : List Spot) → FunctionPlaced old f xs → FunctionPlaced new f xs
 function_keeps old new k f xs (function_placed {f = g} {xs = front} {ys = behind} leads held pattern body) =
     function_placed leads (k.functions g held) (subst (λ (q : PlacedPattern). PatternPlaced q front) (sym (k.patterns g held)) pattern)
-    (subst (λ (b : ExprId). ExpressionPlaced new b behind) (sym (k.bodies g held)) (expression_keeps old new k (body_at old g) behind body))
+    (subst (λ (b : ExprId). ExpressionPlaced new b behind) (sym (k.bodies g held)) (expression_keeps old new k (function_body_at old g) behind body))
 
-pub term_keeps : (old new : Program) → KeepsTrees old new → (id : TermId) (xs : List Place) → TermPlaced old id xs → TermPlaced new id xs
+pub term_keeps : (old new : Program) → KeepsTrees old new → (id : TermId) (xs : List Spot) → TermPlaced old id xs → TermPlaced new id xs
 term_keeps old new k id xs (bare_placed s) = bare_placed (term_stays old new k _ _ _ s)
 term_keeps old new k id xs (with_value_placed s value) = with_value_placed (term_stays old new k _ _ _ s) (expression_keeps old new k _ _ value)
 term_keeps old new k id xs (arrow_placed s function) = arrow_placed (term_stays old new k _ _ _ s) (function_keeps old new k _ _ function)
@@ -70,99 +69,89 @@ term_keeps old new k id xs (sided_placed s part) = sided_placed (term_stays old 
 term_keeps old new k id xs (headed_placed opening comma closing s value part) =
     headed_placed opening comma closing (term_stays old new k _ _ _ s) (expression_keeps old new k _ _ value) (term_keeps old new k _ _ part)
 
-pub templates_keep : (old new : Program) → KeepsTrees old new → (hs : List Header) (xs : List Place) → TemplatesPlaced old hs xs → TemplatesPlaced new hs xs
+pub templates_keep : (old new : Program) → KeepsTrees old new → (hs : List Header) (xs : List Spot) → TemplatesPlaced old hs xs → TemplatesPlaced new hs xs
 templates_keep old new k hs xs none_placed = none_placed
 templates_keep old new k hs xs (template_placed {h = h} t ts) =
     template_placed (record {
       word = t.word;
-      name = t.name;
       opening = t.opening;
       closing = t.closing;
       signature = t.signature;
       body = t.body;
       end = t.end;
       split = t.split;
-      named = t.named;
       typed = t.typed;
       placed = term_keeps old new k h.body t.body t.placed;
     }) (templates_keep old new k _ _ ts)
 
 -- one template more
-pub templates_more : (p : Program) (hs : List Header) (h : Header) (xs ys : List Place) → TemplatesPlaced p hs xs → TemplatePlaced p h ys → TemplatesPlaced p (hs ++ h ∷ []) (xs ++ ys)
+pub templates_more : (p : Program) (hs : List Header) (h : Header) (xs ys : List Spot) → TemplatesPlaced p hs xs → TemplatePlaced p h ys → TemplatesPlaced p (hs ++ h ∷ []) (xs ++ ys)
 templates_more p hs h xs ys none_placed t = subst (TemplatesPlaced p (h ∷ [])) (append-nil ys) (template_placed t none_placed)
 templates_more p hs h xs ys (template_placed {xs = front} {ys = behind} first others) t =
     subst (TemplatesPlaced p _) (sym (append_assoc front behind ys)) (template_placed first (templates_more p _ h behind ys others t))
 
 -- the first of tokens and those behind it
-pub first_place_split : (tokens : List PlacedToken) (first : PlacedToken) → 1 ≤ length tokens → first ≡ get_or tokens 0 first → places tokens ≡ first.place ∷ places (take (length tokens - 1) (drop 1 tokens))
+pub first_place_split : (tokens : List PlacedToken) (first : PlacedToken) → 1 ≤ length tokens → first ≡ get_or tokens 0 first → places tokens ≡ first.spot ∷ places (take (length tokens - 1) (drop 1 tokens))
 first_place_split [] first some is = absurd (omega arith)
-first_place_split (t ∷ tokens) first some is = ap (λ (u : PlacedToken). u.place ∷ places tokens) (sym is) ∙ ap (λ (ts : List PlacedToken). first.place ∷ places ts) (sym (take_rest (t ∷ tokens) 1))
+first_place_split (t ∷ tokens) first some is = ap (λ (u : PlacedToken). u.spot ∷ places tokens) (sym is) ∙ ap (λ (ts : List PlacedToken). first.spot ∷ places ts) (sym (take_rest (t ∷ tokens) 1))
 
 if_ok_map : {A E : Type 0} (P Q : A → Type 0) (r : Result A E) → ((x : A) → P x → Q x) → IfOk r P → IfOk r Q
 if_ok_map P Q (Ok x) f h = f x h
 if_ok_map P Q (Err e) f h = tt
 
--- a form that was read from its first token on
-pub from_first : {X E : Type 0} (P : X → List Place → Type 0) (r : Result (X × Bor (List PlacedToken)) E) (tokens : List PlacedToken) (first : PlacedToken) (spot : Spot)
-    → 1 ≤ length tokens → first ≡ get_or tokens 0 first → spot ≡ spot_of first.place
-    → IfOk r (λ x. ConsumesFrom (P x.0) spot (places (take (length tokens - 1) (drop 1 tokens))) (places x.1.now)) → IfOk r (λ x. Consumes (P x.0) (places tokens) (places x.1.now))
-from_first {X} {E} P r tokens first spot some is at =
-    if_ok_map (λ x. ConsumesFrom (P x.0) spot (places (take (length tokens - 1) (drop 1 tokens))) (places x.1.now)) (λ x. Consumes (P x.0) (places tokens) (places x.1.now)) r
-    (λ x h. subst (λ (ts : List Place). Consumes (P x.0) ts (places x.1.now)) (sym (first_place_split tokens first some is)) (h first.place at))
-
 -- what was read from its opening bracket on
-pub from_opening : {X E : Type 0} (P : X → List Place → Type 0) (r : Result (X × Bor (List PlacedToken)) E) (tokens : List PlacedToken) (first : PlacedToken)
+pub from_opening : {X E : Type 0} (P : X → List Spot → Type 0) (r : Result (X × Bor (List PlacedToken)) E) (tokens : List PlacedToken) (first : PlacedToken)
     → 1 ≤ length tokens → first ≡ get_or tokens 0 first
     → IfOk r (λ x. ConsumesBehind (P x.0) (places (take (length tokens - 1) (drop 1 tokens))) (places x.1.now)) → IfOk r (λ x. Consumes (P x.0) (places tokens) (places x.1.now))
 from_opening {X} {E} P r tokens first some is =
     if_ok_map (λ x. ConsumesBehind (P x.0) (places (take (length tokens - 1) (drop 1 tokens))) (places x.1.now)) (λ x. Consumes (P x.0) (places tokens) (places x.1.now)) r
-    (λ x h. subst (λ (ts : List Place). Consumes (P x.0) ts (places x.1.now)) (sym (first_place_split tokens first some is)) (h first.place))
+    (λ x h. subst (λ (ts : List Spot). Consumes (P x.0) ts (places x.1.now)) (sym (first_place_split tokens first some is)) (h first.spot))
 
 -- one token of which something holds
-pub first_alone : (P : List Place → Type 0) (tokens : List PlacedToken) (first : PlacedToken) → 1 ≤ length tokens → first ≡ get_or tokens 0 first → P (first.place ∷ [])
+pub first_alone : (P : List Spot → Type 0) (tokens : List PlacedToken) (first : PlacedToken) → 1 ≤ length tokens → first ≡ get_or tokens 0 first → P (first.spot ∷ [])
     → Consumes P (places tokens) (places (take (length tokens - 1) (drop 1 tokens)))
-first_alone P tokens first some is h = record { front = first.place ∷ []; split = first_place_split tokens first some is; holds = h }
+first_alone P tokens first some is h = record { front = first.spot ∷ []; split = first_place_split tokens first some is; holds = h }
 
 -- tokens behind a first one
-pub behind_first : {P Q : List Place → Type 0} {at : Place} {tokens rest : List Place} → Consumes P tokens rest → ((xs : List Place) → P xs → Q (at ∷ xs)) → Consumes Q (at ∷ tokens) rest
+pub behind_first : {P Q : List Spot → Type 0} {at : Spot} {tokens rest : List Spot} → Consumes P tokens rest → ((xs : List Spot) → P xs → Q (at ∷ xs)) → Consumes Q (at ∷ tokens) rest
 behind_first {P} {Q} {at} c f = record { front = at ∷ c.front; split = ap (λ ts. at ∷ ts) c.split; holds = f c.front c.holds }
 
-around_split : (at : Place) (xs ys rest : List Place) (m closing : Place) → at ∷ (xs ++ (m ∷ (ys ++ (closing ∷ rest)))) ≡ around at xs m ys closing ++ rest
+around_split : (at : Spot) (xs ys rest : List Spot) (m closing : Spot) → at ∷ (xs ++ (m ∷ (ys ++ (closing ∷ rest)))) ≡ around at xs m ys closing ++ rest
 around_split at xs ys rest m closing = rw (append_assoc xs (m ∷ (ys ++ (closing ∷ []))) rest, append_assoc ys (closing ∷ []) rest) refl
 
 -- two parts in brackets
-pub in_brackets_read : {P Q R : List Place → Type 0} {opening : Place} {r0 r1 r2 r3 rest : List Place} → Consumes P r0 r1 → BehindOne r1 r2 → Consumes Q r2 r3 → BehindOne r3 rest
-    → ((between closing : Place) (xs ys : List Place) → P xs → Q ys → R (around opening xs between ys closing)) → Consumes R (opening ∷ r0) rest
+pub in_brackets_read : {P Q R : List Spot → Type 0} {opening : Spot} {r0 r1 r2 r3 rest : List Spot} → Consumes P r0 r1 → BehindOne r1 r2 → Consumes Q r2 r3 → BehindOne r3 rest
+    → ((between closing : Spot) (xs ys : List Spot) → P xs → Q ys → R (around opening xs between ys closing)) → Consumes R (opening ∷ r0) rest
 in_brackets_read {P} {Q} {R} {opening} {r0} {r1} {r2} {r3} {rest} one between two closing f = record {
   front = around opening one.front between.at two.front closing.at;
   split = rw (one.split, between.split, two.split, closing.split) (around_split opening one.front two.front rest between.at closing.at);
   holds = f between.at closing.at one.front two.front one.holds two.holds;
 }
 
-expression_stands : (old new : Program) (id : ExprId) (n : ExprNode) (e : Expression) (spot : Spot) (at : Place) → AddsExpression old new id n e spot → spot ≡ spot_of at → ExpressionStands new id n at
-expression_stands old new id n e spot at a is = record { held = a.within; node = a.node; spot = a.spotted ∙ is }
+expression_stands : (old new : Program) (id : ExprId) (n : ExprNode) (e : Expression) (spot : Spot) → AddsExpression old new id n e spot → ExpressionStands new id n spot
+expression_stands old new id n e spot a = record { held = a.within; node = a.node; spot = a.spotted }
 
-term_stands : (old new : Program) (id : TermId) (n : Node) (t : Term) (spot : Spot) (at : Place) → AddsTerm old new id n t spot → spot ≡ spot_of at → TermStands new id n at
-term_stands old new id n t spot at a is = record { held = a.within; node = a.node; spot = a.spotted ∙ is }
+term_stands : (old new : Program) (id : TermId) (n : Node) (t : Term) (spot : Spot) → AddsTerm old new id n t spot → TermStands new id n spot
+term_stands old new id n t spot a = record { held = a.within; node = a.node; spot = a.spotted }
 
-pub number_read : {old new : Program} {id : ExprId} {z : _} {e : Expression} {spot : Spot} (rest : List Place) → AddsExpression old new id (expressions.Int z) e spot → ConsumesFrom (ExpressionPlaced new id) spot rest rest
-number_read {old} {new} {id} {z} {e} {spot} rest a = λ at is. record { front = at ∷ []; split = refl; holds = number_placed (expression_stands old new id _ e spot at a is) }
+pub number_read : {old new : Program} {id : ExprId} {z : _} {e : Expression} {spot : Spot} (rest : List Spot) → AddsExpression old new id (expressions.Int z) e spot → Consumes (ExpressionPlaced new id) (spot ∷ rest) rest
+number_read {old} {new} {id} {z} {e} {spot} rest a = record { front = spot ∷ []; split = refl; holds = number_placed (expression_stands old new id _ e spot a) }
 
-pub variable_read : {old new : Program} {id : ExprId} {n : NameId} {e : Expression} {spot : Spot} (rest : List Place) → AddsExpression old new id (expressions.Name n) e spot → ConsumesFrom (ExpressionPlaced new id) spot rest rest
-variable_read {old} {new} {id} {n} {e} {spot} rest a = λ at is. record { front = at ∷ []; split = refl; holds = variable_placed (expression_stands old new id _ e spot at a is) }
+pub variable_read : {old new : Program} {id : ExprId} {n : NameId} {e : Expression} {spot : Spot} (rest : List Spot) → AddsExpression old new id (expressions.Name n) e spot → Consumes (ExpressionPlaced new id) (spot ∷ rest) rest
+variable_read {old} {new} {id} {n} {e} {spot} rest a = record { front = spot ∷ []; split = refl; holds = variable_placed (expression_stands old new id _ e spot a) }
 
 -- two expressions in brackets
-pub linked_read : {one two new : Program} {a b id : ExprId} {e : Expression} {spot : Spot} {r0 r1 r2 r3 rest : List Place} (l : Link) → KeepsTrees one two → AddsExpression two new id (linked_node l a b) e spot
-    → Consumes (ExpressionPlaced one a) r0 r1 → BehindOne r1 r2 → Consumes (ExpressionPlaced two b) r2 r3 → BehindOne r3 rest → ConsumesFrom (ExpressionPlaced new id) spot r0 rest
-linked_read {one} {two} {new} {a} {b} {id} {e} {spot} links.Pair k added first between second closing = λ at is.
+pub linked_read : {one two new : Program} {a b id : ExprId} {e : Expression} {spot : Spot} {r0 r1 r2 r3 rest : List Spot} (l : Link) → KeepsTrees one two → AddsExpression two new id (linked_node l a b) e spot
+    → Consumes (ExpressionPlaced one a) r0 r1 → BehindOne r1 r2 → Consumes (ExpressionPlaced two b) r2 r3 → BehindOne r3 rest → Consumes (ExpressionPlaced new id) (spot ∷ r0) rest
+linked_read {one} {two} {new} {a} {b} {id} {e} {spot} links.Pair k added first between second closing =
     in_brackets_read first between second closing (λ comma closing xs ys p q.
-    pair_placed comma closing (expression_stands two new id _ e spot at added is) (expression_keeps two new added.kept.trees a xs (expression_keeps one two k a xs p)) (expression_keeps two new added.kept.trees b ys q))
-linked_read {one} {two} {new} {a} {b} {id} {e} {spot} (links.Operation o) k added first between second closing = λ at is.
+    pair_placed comma closing (expression_stands two new id _ e spot added) (expression_keeps two new added.kept.trees a xs (expression_keeps one two k a xs p)) (expression_keeps two new added.kept.trees b ys q))
+linked_read {one} {two} {new} {a} {b} {id} {e} {spot} (links.Operation o) k added first between second closing =
     in_brackets_read first between second closing (λ operator closing xs ys p q.
-    operation_placed operator closing (expression_stands two new id _ e spot at added is) (expression_keeps two new added.kept.trees a xs (expression_keeps one two k a xs p)) (expression_keeps two new added.kept.trees b ys q))
+    operation_placed operator closing (expression_stands two new id _ e spot added) (expression_keeps two new added.kept.trees a xs (expression_keeps one two k a xs p)) (expression_keeps two new added.kept.trees b ys q))
 
 -- a pattern and an expression
-pub function_read : {mid new : Program} {f : FunctionId} {q : PlacedPattern} {b : ExprId} {r0 r1 r2 rest : List Place} → AddsFunction mid new f q b
+pub function_read : {mid new : Program} {f : FunctionId} {q : PlacedPattern} {b : ExprId} {r0 r1 r2 rest : List Spot} → AddsProgramFunction mid new f q b
     → Consumes (PatternPlaced q) r0 r1 → BehindOne r1 r2 → Consumes (ExpressionPlaced mid b) r2 rest → Consumes (FunctionPlaced new f) r0 rest
 function_read {mid} {new} {f} {q} {b} {r0} {r1} {r2} {rest} added pattern leads body = record {
   front = pattern.front ++ (leads.at ∷ body.front);
@@ -171,42 +160,42 @@ function_read {mid} {new} {f} {q} {b} {r0} {r1} {r2} {rest} added pattern leads 
       (subst (λ (x : ExprId). ExpressionPlaced new x body.front) (sym added.body) (expression_keeps mid new added.kept.trees b body.front body.holds));
 }
 
-pub bare_read : {old new : Program} {id : TermId} {k : Bare} {t : Term} {spot : Spot} (rest : List Place) → AddsTerm old new id (nodes.Primitive (primitives.Bare k)) t spot → ConsumesFrom (TermPlaced new id) spot rest rest
-bare_read {old} {new} {id} {k} {t} {spot} rest added = λ at is. record { front = at ∷ []; split = refl; holds = bare_placed (term_stands old new id _ t spot at added is) }
+pub bare_read : {old new : Program} {id : TermId} {k : Bare} {t : Term} {spot : Spot} (rest : List Spot) → AddsTerm old new id (nodes.Primitive (primitives.Bare k)) t spot → Consumes (TermPlaced new id) (spot ∷ rest) rest
+bare_read {old} {new} {id} {k} {t} {spot} rest added = record { front = spot ∷ []; split = refl; holds = bare_placed (term_stands old new id _ t spot added) }
 
-pub with_value_read : {mid new : Program} {id : TermId} {k : WithValue} {e : ExprId} {t : Term} {spot : Spot} {r0 rest : List Place} → AddsTerm mid new id (nodes.Primitive (primitives.WithValue k e)) t spot
-    → Consumes (ExpressionPlaced mid e) r0 rest → ConsumesFrom (TermPlaced new id) spot r0 rest
-with_value_read {mid} {new} {id} {k} {e} {t} {spot} added value = λ at is.
-    behind_first value (λ xs p. with_value_placed (term_stands mid new id _ t spot at added is) (expression_keeps mid new added.kept.trees e xs p))
+pub with_value_read : {mid new : Program} {id : TermId} {k : WithValue} {e : ExprId} {t : Term} {spot : Spot} {r0 rest : List Spot} → AddsTerm mid new id (nodes.Primitive (primitives.WithValue k e)) t spot
+    → Consumes (ExpressionPlaced mid e) r0 rest → Consumes (TermPlaced new id) (spot ∷ r0) rest
+with_value_read {mid} {new} {id} {k} {e} {t} {spot} added value =
+    behind_first value (λ xs p. with_value_placed (term_stands mid new id _ t spot added) (expression_keeps mid new added.kept.trees e xs p))
 
-pub arrow_read : {mid new : Program} {id : TermId} {f : FunctionId} {t : Term} {spot : Spot} {r0 rest : List Place} → AddsTerm mid new id (nodes.Primitive (primitives.Arrow f)) t spot
-    → Consumes (FunctionPlaced mid f) r0 rest → ConsumesFrom (TermPlaced new id) spot r0 rest
-arrow_read {mid} {new} {id} {f} {t} {spot} added function = λ at is.
-    behind_first function (λ xs p. arrow_placed (term_stands mid new id _ t spot at added is) (function_keeps mid new added.kept.trees f xs p))
+pub arrow_read : {mid new : Program} {id : TermId} {f : FunctionId} {t : Term} {spot : Spot} {r0 rest : List Spot} → AddsTerm mid new id (nodes.Primitive (primitives.Arrow f)) t spot
+    → Consumes (FunctionPlaced mid f) r0 rest → Consumes (TermPlaced new id) (spot ∷ r0) rest
+arrow_read {mid} {new} {id} {f} {t} {spot} added function =
+    behind_first function (λ xs p. arrow_placed (term_stands mid new id _ t spot added) (function_keeps mid new added.kept.trees f xs p))
 
-pub sided_read : {mid new : Program} {id a : TermId} {s : Side} {t : Term} {spot : Spot} {r0 rest : List Place} → AddsTerm mid new id (nodes.Sided s a) t spot
-    → Consumes (TermPlaced mid a) r0 rest → ConsumesFrom (TermPlaced new id) spot r0 rest
-sided_read {mid} {new} {id} {a} {s} {t} {spot} added part = λ at is.
-    behind_first part (λ xs p. sided_placed (term_stands mid new id _ t spot at added is) (term_keeps mid new added.kept.trees a xs p))
+pub sided_read : {mid new : Program} {id a : TermId} {s : Side} {t : Term} {spot : Spot} {r0 rest : List Spot} → AddsTerm mid new id (nodes.Sided s a) t spot
+    → Consumes (TermPlaced mid a) r0 rest → Consumes (TermPlaced new id) (spot ∷ r0) rest
+sided_read {mid} {new} {id} {a} {s} {t} {spot} added part =
+    behind_first part (λ xs p. sided_placed (term_stands mid new id _ t spot added) (term_keeps mid new added.kept.trees a xs p))
 
 -- an expression and a term in brackets
-pub headed_read : {one two new : Program} {id a : TermId} {h : Heading} {e : ExprId} {t : Term} {spot : Spot} {r r0 r1 r2 r3 rest : List Place} → KeepsTrees one two → AddsTerm two new id (nodes.Headed h e a) t spot
-    → BehindOne r r0 → Consumes (ExpressionPlaced one e) r0 r1 → BehindOne r1 r2 → Consumes (TermPlaced two a) r2 r3 → BehindOne r3 rest → ConsumesFrom (TermPlaced new id) spot r rest
-headed_read {one} {two} {new} {id} {a} {h} {e} {t} {spot} {r} {r0} {r1} {r2} {r3} {rest} k added opening value between part closing = λ at is.
-    let inside : Consumes (λ ys. TermPlaced new id (at ∷ ys)) (opening.at ∷ r0) rest =
+pub headed_read : {one two new : Program} {id a : TermId} {h : Heading} {e : ExprId} {t : Term} {spot : Spot} {r r0 r1 r2 r3 rest : List Spot} → KeepsTrees one two → AddsTerm two new id (nodes.Headed h e a) t spot
+    → BehindOne r r0 → Consumes (ExpressionPlaced one e) r0 r1 → BehindOne r1 r2 → Consumes (TermPlaced two a) r2 r3 → BehindOne r3 rest → Consumes (TermPlaced new id) (spot ∷ r) rest
+headed_read {one} {two} {new} {id} {a} {h} {e} {t} {spot} {r} {r0} {r1} {r2} {r3} {rest} k added opening value between part closing =
+    let inside : Consumes (λ ys. TermPlaced new id (spot ∷ ys)) (opening.at ∷ r0) rest =
     in_brackets_read value between part closing (λ comma closing xs ys p q.
-    headed_placed opening.at comma closing (term_stands two new id _ t spot at added is) (expression_keeps two new added.kept.trees e xs (expression_keeps one two k e xs p)) (term_keeps two new added.kept.trees a ys q)) in
-    record { front = at ∷ inside.front; split = ap (λ ts. at ∷ ts) (opening.split ∙ inside.split); holds = inside.holds }
+    headed_placed opening.at comma closing (term_stands two new id _ t spot added) (expression_keeps two new added.kept.trees e xs (expression_keeps one two k e xs p)) (term_keeps two new added.kept.trees a ys q)) in
+    record { front = spot ∷ inside.front; split = ap (λ ts. spot ∷ ts) (opening.split ∙ inside.split); holds = inside.holds }
 
 -- two terms joined
-pub joined_read : {one two new : Program} {id a b : TermId} {j : Join} {t : Term} {spot : Spot} {r0 r1 r2 r3 rest : List Place} → KeepsTrees one two → AddsTerm two new id (nodes.Joined j a b) t spot
-    → Consumes (TermPlaced one a) r0 r1 → BehindOne r1 r2 → Consumes (TermPlaced two b) r2 r3 → BehindOne r3 rest → ConsumesFrom (TermPlaced new id) spot r0 rest
-joined_read {one} {two} {new} {id} {a} {b} {j} {t} {spot} k added first between second closing = λ at is.
+pub joined_read : {one two new : Program} {id a b : TermId} {j : Join} {t : Term} {spot : Spot} {r0 r1 r2 r3 rest : List Spot} → KeepsTrees one two → AddsTerm two new id (nodes.Joined j a b) t spot
+    → Consumes (TermPlaced one a) r0 r1 → BehindOne r1 r2 → Consumes (TermPlaced two b) r2 r3 → BehindOne r3 rest → Consumes (TermPlaced new id) (spot ∷ r0) rest
+joined_read {one} {two} {new} {id} {a} {b} {j} {t} {spot} k added first between second closing =
     in_brackets_read first between second closing (λ between closing xs ys p q.
-    joined_placed between closing (term_stands two new id _ t spot at added is) (term_keeps two new added.kept.trees a xs (term_keeps one two k a xs p)) (term_keeps two new added.kept.trees b ys q))
+    joined_placed between closing (term_stands two new id _ t spot added) (term_keeps two new added.kept.trees a xs (term_keeps one two k a xs p)) (term_keeps two new added.kept.trees b ys q))
 
 -- the types of a template
-pub signature_read : {r0 r1 r2 r3 r4 rest : List Place} → BehindOne r0 r1 → BehindSome r1 r2 → BehindOne r2 r3 → BehindSome r3 r4 → BehindOne r4 rest → BehindSome r0 rest
+pub signature_read : {r0 r1 r2 r3 r4 rest : List Spot} → BehindOne r0 r1 → BehindSome r1 r2 → BehindOne r2 r3 → BehindSome r3 r4 → BehindOne r4 rest → BehindSome r0 rest
 signature_read {r0} {r1} {r2} {r3} {r4} {rest} colon input leads output equals = record {
   front = around colon.at input.front leads.at output.front equals.at;
   split = rw (colon.split, input.split, leads.split, output.split, equals.split) (around_split colon.at input.front output.front rest leads.at equals.at);
@@ -214,7 +203,7 @@ signature_read {r0} {r1} {r2} {r3} {r4} {rest} colon input leads output equals =
 }
 
 -- as many tokens were read as spell what was read
-front_counted : (tokens rest : List PlacedToken) (front : List Place) (spelled : List Tok) → places tokens ≡ front ++ places rest → toks tokens ≡ spelled ++ toks rest → length front ≡ length spelled
+front_counted : (tokens rest : List PlacedToken) (front : List Spot) (spelled : List Tok) → places tokens ≡ front ++ places rest → toks tokens ≡ spelled ++ toks rest → length front ≡ length spelled
 front_counted tokens rest front spelled a b =
     let p : length (places tokens) ≡ length tokens = simp length-map in
     let q : length (places rest) ≡ length rest = simp length-map in
@@ -222,21 +211,21 @@ front_counted tokens rest front spelled a b =
     let s : length (toks rest) ≡ length rest = simp length-map in
     omega (arith, ap length a, ap length b, length-append front (places rest), length-append spelled (toks rest))
 
-pub signature_counted : (tokens rest : List PlacedToken) (s : Kind × Kind) → signature_at (toks tokens) ≡ got s (toks rest) → (b : BehindSome (places tokens) (places rest))
+pub signature_counted : (tokens rest : List PlacedToken) (s : Kind × Kind) → parse_signature (toks tokens) ≡ got s (toks rest) → (b : BehindSome (places tokens) (places rest))
     → length b.front ≡ length (symbol symbols.Colon ∷ (spell_type s.0 ++ (symbol symbols.Leads ∷ (spell_type s.1 ++ (symbol symbols.Equals ∷ [])))))
 signature_counted tokens rest s is b =
     let took : TookSignature (toks tokens) s (toks rest) = signature_takes (toks tokens) s (toks rest) is in
     front_counted tokens rest b.front (symbol symbols.Colon ∷ (spell_type s.0 ++ (symbol symbols.Leads ∷ (spell_type s.1 ++ (symbol symbols.Equals ∷ []))))) b.split took.spelled
 
 -- the parts of a template, one behind the other
-pub template_read : {old mid new : Program} {h : Header} {r0 r1 r2 r3 rest : List Place} → Keeps old mid → AddsTemplate mid new h → HeadingPlaced h.spot r0 r1
+pub template_read : {old mid new : Program} {h : Header} {r0 r1 r2 r3 rest : List Spot} → KeepsProgram old mid → AddsTemplate mid new h → HeadingPlaced h.spot r0 r1
     → (s : BehindSome r1 r2) → length s.front ≡ length (spell_signature (template_in new h)) → Consumes (TermPlaced mid h.body) r2 r3 → BehindOne r3 rest → PlacesTemplate old new r0 rest
 template_read {old} {mid} {new} {h} {r0} {r1} {r2} {r3} {rest} kept added heading signature typed body end = record {
   header = h;
   headers = added.headers ∙ ap (λ (hs : List Header). hs ++ h ∷ []) kept.headers;
   kept = keeps_trees_trans old mid new kept.trees added.kept;
   placed = record {
-    front = heading.word ∷ heading.name ∷ heading.opening ∷ heading.closing ∷ (signature.front ++ (body.front ++ (end.at ∷ [])));
+    front = heading.word ∷ h.spot ∷ heading.opening ∷ heading.closing ∷ (signature.front ++ (body.front ++ (end.at ∷ [])));
     split = rw (
       heading.split,
       signature.split,
@@ -247,14 +236,12 @@ template_read {old} {mid} {new} {h} {r0} {r1} {r2} {r3} {rest} kept added headin
     ) refl;
     holds = record {
       word = heading.word;
-      name = heading.name;
       opening = heading.opening;
       closing = heading.closing;
       signature = signature.front;
       body = body.front;
       end = end.at;
       split = refl;
-      named = heading.is;
       typed = typed;
       placed = term_keeps mid new added.kept h.body body.front body.holds;
     };
@@ -262,7 +249,7 @@ template_read {old} {mid} {new} {h} {r0} {r1} {r2} {r3} {rest} kept added headin
 }
 
 -- templates behind what stands in front of them
-pub network_read : {E : Type 0} {tokens rest : List Place} (p : Program) (r : Result (Unit {0}) E) → OpeningPlaced tokens rest → OnOk r (TemplatesPlaced p (headers_of p) rest) → OnOk r (NetworkPlaced p tokens)
+pub network_read : {E : Type 0} {tokens rest : List Spot} (p : Program) (r : Result (Unit {0}) E) → OpeningPlaced tokens rest → OnOk r (TemplatesPlaced p (headers_of p) rest) → OnOk r (NetworkPlaced p tokens)
 network_read {E} {tokens} {rest} p (Ok u) opening templates = record { word = opening.word; version = opening.version; semicolon = opening.semicolon; behind = rest; split = opening.split; templates = templates }
 network_read p (Err e) opening templates = tt
 
@@ -274,7 +261,7 @@ places_same bytes (p ∷ found) [] same = cc
 places_same bytes (p ∷ found) (l ∷ ls) same =
     let one : seen p ≡ shown bytes l = cc in
     let others : map seen found ≡ map (shown bytes) ls = cc in
-    ap₂ (λ (t : Place) (ts : List Place). t ∷ ts) (ap (λ (x : Tok × Place). x.1) one) (places_same bytes found ls others)
+    ap₂ (λ (t : Spot) (ts : List Spot). t ∷ ts) (ap (λ (x : Tok × Spot). x.1) one) (places_same bytes found ls others)
 
 pub placed_in : (bytes : List ℕ) (found : List PlacedToken) (p : Program) → AreTokensOf bytes found → NetworkPlaced p (places found) → IsPlacedIn bytes p
 placed_in bytes found p a n = record { located = a.located; cut = a.cut; placed = subst (NetworkPlaced p) (places_same bytes found a.located a.shows) n }

@@ -12,40 +12,34 @@ use Rattle.sf_expr.specs.Expressions.{Expression, size, Function, function_size}
 use Rattle.sf_term.specs.declared.node.TermId.{TermId}
 use Rattle.sf_term.specs.declared.program.Program.{Program}
 use Rattle.sf_term.specs.Trees.{Term, Template, terms_in, expressions_in}
-use Rattle.sf_term.specs.Arena.{HoldsTerm, HoldsExpression, HoldsFunction, tree, expression_at, function_in, term_count, expression_count, templates_of, Keeps}
+use Rattle.sf_term.specs.Arena.{HoldsTerm, HoldsExpression, ProgramHoldsFunction, tree, expression_under, function_in, term_count, expression_count, templates_of, KeepsProgram}
 use Rattle.sf_lex.specs.Words.{IsName}
 use Rattle.sf_lex.specs.Tokens.{Tok, name, token_of}
 use Rattle.sf_lex.specs.declared.token.PlacedToken.{PlacedToken}
 use Rattle.sf_term.specs.declared.refusal.BuildRefusal.{BuildRefusal}
 use Rattle.sf_term.specs.declared.refusal.BuildRefusal.TheVariants as refusals
-use Rattle.sf_text.specs.declared.stop.Fault.{Fault}
-use Rattle.sf_text.specs.declared.stop.Fault.TheVariants.{Unexpected, TooDeep, TypeTooLarge, TooMany}
+use Rattle.sf_refusal.specs.declared.rule.Rule.TheVariants.{Unexpected, TooDeep, WrittenTypeTooLarge, TooMany}
 use Rattle.sf_text.specs.declared.stop.Stop.{Stop}
 use Rattle.sf_text.specs.declared.stop.Stop.TheVariants.{At, Memory}
-use Rattle.sf_text.specs.Reading.{Read, got, stop, Counts}
+use Rattle.sf_grammar.specs.Reading.{Read, got, Counts}
+use Rattle.sf_grammar.specs.Stopping.{Stopped}
 
 -- tokens without their places
 abbrev pub toks : List PlacedToken → List Tok
 toks tokens = map (λ (p : PlacedToken). token_of p.token) tokens
 
--- reading stopped with this fault, so many tokens before the end
-pub record Stopped {A : Type 0} (fault : Fault) (left : ℕ) (read : Read A) : Type 0 where
-  pub at : List Tok
-  pub is : read ≡ stop fault at
-  pub counted : left ≡ length at
-
 -- reading stopped, where it was not for want of memory
-abbrev pub Stops : {A : Type 0} → Stop → Read A → Type 0
-Stops (At fault left) read = Stopped fault left read
-Stops Memory read = Unit {0}
+abbrev pub StopsReading : {A : Type 0} → Stop → Read A → Type 0
+StopsReading (At fault left) read = Stopped fault left read
+StopsReading Memory read = Unit {0}
 
 -- what was read, seen so, and the tokens behind it
-abbrev pub Reads : {X A : Type 0} → (X → A) → Result (X × Bor (List PlacedToken)) Stop → Read A → Type 0
-Reads view (Ok x) read = read ≡ got (view x.0) (toks x.1.now)
-Reads view (Err e) read = Stops e read
+abbrev pub ReadsAs : {X A : Type 0} → (X → A) → Result (X × Bor (List PlacedToken)) Stop → Read A → Type 0
+ReadsAs view (Ok x) read = read ≡ got (view x.0) (toks x.1.now)
+ReadsAs view (Err e) read = StopsReading e read
 
-abbrev pub name_in : Named → Name
-name_in h = h.name.now
+abbrev pub name_bytes : Named → Name
+name_bytes h = h.name.now
 
 abbrev pub kinds_in : Types → Kind × Kind
 kinds_in s = (s.input, s.output)
@@ -53,35 +47,35 @@ kinds_in s = (s.input, s.output)
 -- the tokens behind
 abbrev pub ReadsRest : Result (Bor (List PlacedToken)) Stop → Read (Unit {0}) → Type 0
 ReadsRest (Ok rest) read = read ≡ got tt (toks rest.now)
-ReadsRest (Err e) read = Stops e read
+ReadsRest (Err e) read = StopsReading e read
 
 -- an expression was read into the program
 pub record FoundExpression (old new : Program) (id : ExprId) (rest : List Tok) (read : Read Expression) : Type 0 where
   pub value : Expression
   pub is : read ≡ got value rest
   pub held : HoldsExpression new id
-  pub tree : expression_at new id ≡ value
-  pub kept : Keeps old new
+  pub tree : expression_under new id ≡ value
+  pub kept : KeepsProgram old new
   pub terms : term_count new ≡ term_count old
   pub expressions : expression_count new ≡ expression_count old + size value
 
 abbrev pub ReadsExpression : Program → Program → Result (ExprId × Bor (List PlacedToken)) Stop → Read Expression → Type 0
 ReadsExpression old new (Ok x) read = FoundExpression old new x.0 (toks x.1.now) read
-ReadsExpression old new (Err e) read = Stops e read
+ReadsExpression old new (Err e) read = StopsReading e read
 
 -- a function was read into the program
 pub record FoundFunction (old new : Program) (id : FunctionId) (rest : List Tok) (read : Read Function) : Type 0 where
   pub function : Function
   pub is : read ≡ got function rest
-  pub held : HoldsFunction new id
+  pub held : ProgramHoldsFunction new id
   pub meaning : function_in new id ≡ function
-  pub kept : Keeps old new
+  pub kept : KeepsProgram old new
   pub terms : term_count new ≡ term_count old
   pub expressions : expression_count new ≡ expression_count old + function_size function
 
 abbrev pub ReadsFunction : Program → Program → Result (FunctionId × Bor (List PlacedToken)) Stop → Read Function → Type 0
 ReadsFunction old new (Ok x) read = FoundFunction old new x.0 (toks x.1.now) read
-ReadsFunction old new (Err e) read = Stops e read
+ReadsFunction old new (Err e) read = StopsReading e read
 
 -- a term was read into the program
 pub record FoundTerm (old new : Program) (id : TermId) (rest : List Tok) (read : Read Term) : Type 0 where
@@ -89,13 +83,13 @@ pub record FoundTerm (old new : Program) (id : TermId) (rest : List Tok) (read :
   pub is : read ≡ got term rest
   pub held : HoldsTerm new id
   pub tree : tree new id ≡ term
-  pub kept : Keeps old new
+  pub kept : KeepsProgram old new
   pub terms : term_count new ≡ term_count old + terms_in term
   pub expressions : expression_count new ≡ expression_count old + expressions_in term
 
 abbrev pub ReadsTerm : Program → Program → Result (TermId × Bor (List PlacedToken)) Stop → Read Term → Type 0
 ReadsTerm old new (Ok x) read = FoundTerm old new x.0 (toks x.1.now) read
-ReadsTerm old new (Err e) read = Stops e read
+ReadsTerm old new (Err e) read = StopsReading e read
 
 -- how many terms and expressions a program has
 abbrev pub counts_of : Program → Counts
@@ -110,7 +104,7 @@ stop_for refusals.Memory left = Memory
 
 -- why a type was not made that begins so many tokens before the end
 abbrev pub stop_for_type : TyRefusal → ℕ → Stop
-stop_for_type type_refusals.TypeTooLarge left = At TypeTooLarge left
+stop_for_type type_refusals.TypeTooLarge left = At WrittenTypeTooLarge left
 stop_for_type type_refusals.Memory left = Memory
 
 -- a name among tokens is a name of the language
@@ -132,4 +126,4 @@ pub record FoundTemplate (old new : Program) (rest : List Tok) (read : Read Temp
 
 abbrev pub ReadsTemplate : Program → Program → Result (Bor (List PlacedToken)) Stop → Read Template → Type 0
 ReadsTemplate old new (Ok rest) read = FoundTemplate old new (toks rest.now) read
-ReadsTemplate old new (Err e) read = Stops e read
+ReadsTemplate old new (Err e) read = StopsReading e read

@@ -1,66 +1,57 @@
 -- Which tokens were read, by their places, and that what was read of them stands there.
 use Rattle.std.specs.Prelude.{◌≡◌, List, [], ◌∷◌, ◌++◌, map}
-use Rattle.sf_expr.specs.declared.spot.Spot.{Spot}
+use Rattle.sf_refusal.specs.declared.spot.Spot.{Spot}
 use Rattle.sf_expr.specs.declared.exprs.ExprId.{ExprId}
 use Rattle.sf_expr.specs.declared.exprs.ExprNode.{ExprNode}
 use Rattle.sf_expr.specs.declared.exprs.ExprNode.TheVariants as expressions
 use Rattle.sf_term.specs.declared.program.Program.{Program}
 use Rattle.sf_term.specs.Headers.{Header}
 use Rattle.sf_term.specs.Arena.{KeepsTrees, headers_of}
-use Rattle.sf_lex.specs.declared.token.Place.{Place}
 use Rattle.sf_lex.specs.declared.token.PlacedToken.{PlacedToken}
-use Rattle.sf_text.specs.declared.head.Link.{Link}
-use Rattle.sf_text.specs.declared.head.Link.TheVariants as links
-use Rattle.sf_text.specs.Placing.{spot_of, TemplatePlaced}
+use Rattle.sf_grammar.specs.declared.head.Link.{Link}
+use Rattle.sf_grammar.specs.declared.head.Link.TheVariants as links
+use Rattle.sf_grammar.specs.Placing.{TemplatePlaced}
 
 -- the places of tokens
-abbrev pub places : List PlacedToken → List Place
-places tokens = map (λ (t : PlacedToken). t.place) tokens
+abbrev pub places : List PlacedToken → List Spot
+places tokens = map (λ (t : PlacedToken). t.spot) tokens
 
 -- one token was read
-pub record BehindOne (tokens rest : List Place) : Type 0 where
-  pub at : Place
+pub record BehindOne (tokens rest : List Spot) : Type 0 where
+  pub at : Spot
   pub split : tokens ≡ at ∷ rest
 
 -- a name was read that stands here
-pub record NamePlaced (spot : Spot) (tokens rest : List Place) : Type 0 where
-  pub at : Place
-  pub split : tokens ≡ at ∷ rest
-  pub is : spot ≡ spot_of at
+pub record NamePlaced (spot : Spot) (tokens rest : List Spot) : Type 0 where
+  pub split : tokens ≡ spot ∷ rest
 
 -- the first tokens of a template were read, up to its types; its name stands here
-pub record HeadingPlaced (spot : Spot) (tokens rest : List Place) : Type 0 where
-  pub word : Place
-  pub name : Place
-  pub opening : Place
-  pub closing : Place
-  pub split : tokens ≡ word ∷ name ∷ opening ∷ closing ∷ rest
-  pub is : spot ≡ spot_of name
+pub record HeadingPlaced (spot : Spot) (tokens rest : List Spot) : Type 0 where
+  pub word : Spot
+  pub opening : Spot
+  pub closing : Spot
+  pub split : tokens ≡ word ∷ spot ∷ opening ∷ closing ∷ rest
 
 -- the tokens in front of the templates were read
-pub record OpeningPlaced (tokens rest : List Place) : Type 0 where
-  pub word : Place
-  pub version : Place
-  pub semicolon : Place
+pub record OpeningPlaced (tokens rest : List Spot) : Type 0 where
+  pub word : Spot
+  pub version : Spot
+  pub semicolon : Spot
   pub split : tokens ≡ word ∷ version ∷ semicolon ∷ rest
 
 -- tokens were read of whose places this holds
-pub record Consumes (P : List Place → Type 0) (tokens rest : List Place) : Type 0 where
-  pub front : List Place
+pub record Consumes (P : List Spot → Type 0) (tokens rest : List Spot) : Type 0 where
+  pub front : List Spot
   pub split : tokens ≡ front ++ rest
   pub holds : P front
 
 -- tokens were read
-abbrev pub BehindSome : List Place → List Place → Type 0
+abbrev pub BehindSome : List Spot → List Spot → Type 0
 BehindSome tokens rest = Consumes (λ _. Unit {0}) tokens rest
 
 -- tokens were read of whose places this holds, with the place of a bracket in front
-abbrev pub ConsumesBehind : (List Place → Type 0) → List Place → List Place → Type 0
-ConsumesBehind P tokens rest = (at : Place) → Consumes P (at ∷ tokens) rest
-
--- tokens were read of whose places this holds, with the place of a first token in front that stands here
-abbrev pub ConsumesFrom : (List Place → Type 0) → Spot → List Place → List Place → Type 0
-ConsumesFrom P spot tokens rest = (at : Place) → spot ≡ spot_of at → Consumes P (at ∷ tokens) rest
+abbrev pub ConsumesBehind : (List Spot → Type 0) → List Spot → List Spot → Type 0
+ConsumesBehind P tokens rest = (at : Spot) → Consumes P (at ∷ tokens) rest
 
 -- the node of the one expression of two
 abbrev pub linked_node : Link → ExprId → ExprId → ExprNode
@@ -68,7 +59,7 @@ linked_node links.Pair a b = expressions.Pair a b
 linked_node (links.Operation o) a b = expressions.Operation a o b
 
 -- a template was read into the program behind the others, and what was there stands
-pub record PlacesTemplate (old new : Program) (tokens rest : List Place) : Type 0 where
+pub record PlacesTemplate (old new : Program) (tokens rest : List Spot) : Type 0 where
   pub header : Header
   pub headers : headers_of new ≡ headers_of old ++ header ∷ []
   pub kept : KeepsTrees old new

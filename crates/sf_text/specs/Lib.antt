@@ -1,7 +1,7 @@
-pub mod Spelling
-pub mod Reading
-pub mod Placing
+pub use Rattle.sf_grammar.specs.Spelling
+pub use Rattle.sf_grammar.specs.Reading
+pub use Rattle.sf_grammar.specs.Placing
+pub use Rattle.sf_grammar.specs.Stopping
 pub mod Consuming
 pub mod Answers
-pub mod Stopping
-pub mod Refusals
+pub mod Progress

@@ -1,20 +1,21 @@
 //! Expressions and functions.
-ghost use Rattle.std.specs.Prelude.{◌≡◌, ◌<◌, ◌≤◌, ◌↔◌, IfOk, length};
+ghost use Rattle.std.specs.Prelude.{◌≡◌, ◌<◌, ◌≤◌, ◌↔◌, IfOk, length, ◌∷◌};
 ghost use Rattle.sf_expr.specs.Expressions.{Expression, variable as variable_form, literal, int_literal, depth};
 ghost use Rattle.sf_lex.specs.Tokens.{token_of};
 ghost use Rattle.sf_lex.specs.Words.{IsName};
-ghost use Rattle.sf_term.specs.Arena.{HoldsExpression, AddsExpression, expression_at as expression_in, expression_count};
-ghost use Rattle.sf_text.specs.Answers.{toks, AreNamed, Stops, Reads, ReadsExpression, ReadsFunction, counts_of, stop_for};
-ghost use Rattle.sf_text.specs.Placing.{ExpressionPlaced, FunctionPlaced};
-ghost use Rattle.sf_text.specs.Consuming.{places, BehindOne, Consumes, ConsumesFrom, linked_node};
-ghost use Rattle.sf_text.specs.Reading.{begins_expression, too_deep, link_at, linked, linked_at, expression_read, expression_form_at, expression_at, function_at};
+ghost use Rattle.sf_term.specs.Arena.{HoldsExpression, AddsExpression, expression_under as expression_in, expression_count};
+ghost use Rattle.sf_text.specs.Answers.{toks, AreNamed, StopsReading, ReadsAs, ReadsExpression, ReadsFunction, counts_of, stop_for};
+ghost use Rattle.sf_grammar.specs.Placing.{ExpressionPlaced, FunctionPlaced};
+ghost use Rattle.sf_text.specs.Consuming.{places, BehindOne, Consumes, linked_node};
+ghost use Rattle.sf_grammar.specs.Reading.{begins_expression, too_deep, parse_link, linked, parse_linked, expression_read, parse_expression_form, parse_expression, parse_function};
 
-use crate::head::{Link, link_of};
-use crate::part::{spot_of, stop_at, symbol};
+use crate::part::{stop_at, symbol};
 use crate::pattern::pattern;
-use crate::stop::{Fault, Stop};
-use sf_expr::{ExprId, FunctionId, Spot};
+use crate::stop::Stop;
+use sf_expr::{ExprId, FunctionId};
+use sf_grammar::{Link, link_of};
 use sf_lex::{PlacedToken, Symbol, Token};
+use sf_refusal::{Rule, Spot};
 use sf_term::{BuildRefusal, Program};
 use std::alloc::Global;
 
@@ -23,9 +24,9 @@ pub(crate) fn refused(refusal: BuildRefusal, tokens: &[PlacedToken]) -> Stop
     ensures { result ≡ stop_for refusal (length tokens.now) }
 {
     match refusal {
-        BuildRefusal::TooMany => stop_at(Fault::TooMany, tokens),
-        BuildRefusal::TooDeep => stop_at(Fault::TooDeep, tokens),
-        BuildRefusal::BadName => stop_at(Fault::Unexpected, tokens),
+        BuildRefusal::TooMany => stop_at(Rule::TooMany, tokens),
+        BuildRefusal::TooDeep => stop_at(Rule::TooDeep, tokens),
+        BuildRefusal::BadName => stop_at(Rule::Unexpected, tokens),
         BuildRefusal::Memory => Stop::Memory,
     }
 }
@@ -41,11 +42,11 @@ fn begins_expression(token: &Token) -> bool
 
 /// An expression would be 65 deep here.
 fn expression_too_deep(tokens: &[PlacedToken]) -> Stop
-    ensures { Stops {A = Expression} result (too_deep begins_expression (toks tokens.now)) }
+    ensures { StopsReading {A = Expression} result (too_deep begins_expression (toks tokens.now)) }
 {
     match tokens {
-        [first, ..] if begins_expression(&first.token) => stop_at(Fault::TooDeep, tokens),
-        _ => stop_at(Fault::Unexpected, tokens),
+        [first, ..] if begins_expression(&first.token) => stop_at(Rule::TooDeep, tokens),
+        _ => stop_at(Rule::Unexpected, tokens),
     }
 }
 
@@ -60,7 +61,7 @@ fn variable<'a>(
 ) -> Result<(ExprId, &'a [PlacedToken<'a>]), Stop>
     requires { IsName name.now }
     ensures reads { ReadsExpression program.old program.new result (expression_read (counts_of program.old) (variable_form name.now) (toks tokens.now) (toks rest.now)) }
-    ensures placed { IfOk result (λ x. ConsumesFrom (ExpressionPlaced program.new x.0) spot (places rest.now) (places x.1.now)) }
+    ensures placed { IfOk result (λ x. Consumes (ExpressionPlaced program.new x.0) (spot ∷ places rest.now) (places x.1.now)) }
 {
     let name = String::from_str(alloc, name)?;
     match program.name(name, spot) {
@@ -78,7 +79,7 @@ fn number<'a>(
     spot: Spot,
 ) -> Result<(ExprId, &'a [PlacedToken<'a>]), Stop>
     ensures reads { ReadsExpression program.old program.new result (expression_read (counts_of program.old) (literal (int_literal number)) (toks tokens.now) (toks rest.now)) }
-    ensures placed { IfOk result (λ x. ConsumesFrom (ExpressionPlaced program.new x.0) spot (places rest.now) (places x.1.now)) }
+    ensures placed { IfOk result (λ x. Consumes (ExpressionPlaced program.new x.0) (spot ∷ places rest.now) (places x.1.now)) }
 {
     match program.int(number, spot) {
         Ok(id) => Ok((id, rest)),
@@ -88,7 +89,7 @@ fn number<'a>(
 
 /// What stands between two expressions, and the tokens behind it.
 fn link<'a>(tokens: &'a [PlacedToken<'a>]) -> Result<(Link, &'a [PlacedToken<'a>]), Stop>
-    ensures reads { Reads (λ l. l) result (link_at (toks tokens.now)) }
+    ensures reads { ReadsAs (λ l. l) result (parse_link (toks tokens.now)) }
     ensures behind { IfOk result (λ x. BehindOne (places tokens.now) (places x.1.now)) }
     ensures named { IfOk result (λ x. AreNamed (toks tokens.now) → AreNamed (toks x.1.now)) }
 {
@@ -97,7 +98,7 @@ fn link<'a>(tokens: &'a [PlacedToken<'a>]) -> Result<(Link, &'a [PlacedToken<'a>
             return Ok((link, rest));
         }
     }
-    Err(stop_at(Fault::Unexpected, tokens))
+    Err(stop_at(Rule::Unexpected, tokens))
 }
 
 /// Adds the one expression that two make.
@@ -134,7 +135,7 @@ pub(crate) fn expression<'a>(
 ) -> Result<(ExprId, &'a [PlacedToken<'a>]), Stop>
     requires shallow { left ≤ 64 }
     requires named { AreNamed (toks tokens.now) }
-    ensures reads { ReadsExpression program.old program.new result (expression_at left (counts_of program.old) (toks tokens.now)) }
+    ensures reads { ReadsExpression program.old program.new result (parse_expression left (counts_of program.old) (toks tokens.now)) }
     ensures placed { IfOk result (λ x. Consumes (ExpressionPlaced program.new x.0) (places tokens.now) (places x.1.now)) }
 {
     if left == 0 {
@@ -152,24 +153,24 @@ fn expression_form<'a>(
 ) -> Result<(ExprId, &'a [PlacedToken<'a>]), Stop>
     requires shallow { left ≤ 63 }
     requires named { AreNamed (toks tokens.now) }
-    ensures reads { ReadsExpression program.old program.new result (expression_form_at (expression_at left) (counts_of program.old) (toks tokens.now)) }
+    ensures reads { ReadsExpression program.old program.new result (parse_expression_form (parse_expression left) (counts_of program.old) (toks tokens.now)) }
     ensures placed { IfOk result (λ x. Consumes (ExpressionPlaced program.new x.0) (places tokens.now) (places x.1.now)) }
 {
     let [first, rest @ ..] = tokens else {
-        return Err(stop_at(Fault::Unexpected, tokens));
+        return Err(stop_at(Rule::Unexpected, tokens));
     };
-    let spot = spot_of(first.place);
+    let spot = first.spot;
     match &first.token {
         Token::Name(name) => variable(alloc, tokens, rest, program, *name, spot),
         Token::Number(value) => number(tokens, rest, program, *value, spot),
         Token::Symbol(Symbol::Open) => linked(alloc, tokens, rest, program, spot, left),
-        _ => Err(stop_at(Fault::Unexpected, tokens)),
+        _ => Err(stop_at(Rule::Unexpected, tokens)),
     }
 }
 
 /// Two expressions in brackets, the opening one of which is the first of these tokens, and the tokens behind them.
 #[cycle(expression)]
-#[tactic(auto, using(crate::proofs::Named::expression_named), unfolding(crate::specs::Reading::linked_at))]
+#[tactic(auto, using(crate::proofs::Named::expression_named), unfolding(sf_grammar::specs::Reading::parse_linked))]
 fn linked<'a>(
     alloc: Global,
     tokens: &'a [PlacedToken<'a>],
@@ -180,8 +181,8 @@ fn linked<'a>(
 ) -> Result<(ExprId, &'a [PlacedToken<'a>]), Stop>
     requires shallow { left ≤ 63 }
     requires named { AreNamed (toks rest.now) }
-    ensures reads { ReadsExpression program.old program.new result (linked_at (expression_at left) (counts_of program.old) (toks tokens.now) (toks rest.now)) }
-    ensures placed { IfOk result (λ x. ConsumesFrom (ExpressionPlaced program.new x.0) spot (places rest.now) (places x.1.now)) }
+    ensures reads { ReadsExpression program.old program.new result (parse_linked (parse_expression left) (counts_of program.old) (toks tokens.now) (toks rest.now)) }
+    ensures placed { IfOk result (λ x. Consumes (ExpressionPlaced program.new x.0) (spot ∷ places rest.now) (places x.1.now)) }
 {
     let (one, rest) = expression(alloc, rest, program, left)?;
     let (link, rest) = link(rest)?;
@@ -194,7 +195,7 @@ fn linked<'a>(
 }
 
 /// A function, whose pattern and expression are of so much depth at most, and the tokens behind it.
-#[tactic(auto, unfolding(crate::specs::Reading::function_at))]
+#[tactic(auto, unfolding(sf_grammar::specs::Reading::parse_function))]
 pub(crate) fn function<'a>(
     alloc: Global,
     tokens: &'a [PlacedToken<'a>],
@@ -203,7 +204,7 @@ pub(crate) fn function<'a>(
 ) -> Result<(FunctionId, &'a [PlacedToken<'a>]), Stop>
     requires shallow { left ≤ 63 }
     requires named { AreNamed (toks tokens.now) }
-    ensures reads { ReadsFunction program.old program.new result (function_at left (counts_of program.old) (toks tokens.now)) }
+    ensures reads { ReadsFunction program.old program.new result (parse_function left (counts_of program.old) (toks tokens.now)) }
     ensures placed { IfOk result (λ x. Consumes (FunctionPlaced program.new x.0) (places tokens.now) (places x.1.now)) }
 {
     let (pattern, rest) = pattern(alloc, tokens, left)?;

@@ -2,21 +2,18 @@
 #![tactic(auto)]
 
 mod expression;
-mod head;
-mod laws;
 mod network;
 mod part;
 mod pattern;
 mod place;
-mod refusal;
 mod stop;
 mod template;
 mod term;
 mod ty;
 
-pub use laws::{one_network, one_place_a_token};
 pub use network::read_network;
-pub use refusal::TextRefusal;
+pub use sf_grammar::{one_network, one_place_a_token};
+pub use sf_refusal::{Refusal, Spot};
 
 #[cfg(test)]
 mod tests;

@@ -2,18 +2,20 @@
 ghost use Rattle.std.specs.Prelude.{◌≡◌, ◌≢◌, ◌≤◌, ◌-◌, ◌^◌, [], length, drop, IfOk, IfErr, OnOk};
 ghost use Rattle.sf_term.specs.Arena.{templates_of, headers_of};
 ghost use Rattle.sf_term.specs.Trees.{Templates};
+ghost use Rattle.sf_refusal.specs.Refusals.{OrMemory};
 ghost use Rattle.sf_text.specs.Answers.{toks, AreNamed};
-ghost use Rattle.sf_text.specs.Spelling.{IsNetworkText};
-ghost use Rattle.sf_text.specs.Placing.{TemplatesPlaced, NetworkPlaced, IsPlacedIn};
+ghost use Rattle.sf_grammar.specs.Spelling.{IsNetworkText};
+ghost use Rattle.sf_grammar.specs.Placing.{TemplatesPlaced, NetworkPlaced, IsPlacedIn};
 ghost use Rattle.sf_text.specs.Consuming.{places};
-ghost use Rattle.sf_text.specs.Stopping.{Behind, ReadsTemplates, ReadsNetwork, IsBlankProgram, Refuses};
+ghost use Rattle.sf_text.specs.Progress.{Behind, ReadsTemplates, ReadsNetwork, IsBlankProgram};
+ghost use Rattle.sf_grammar.specs.Stopping.{BreaksText};
 
 use crate::part::opening;
 use crate::place::refusal_at;
-use crate::refusal::TextRefusal;
 use crate::stop::Stop;
 use crate::template::template;
 use sf_lex::{PlacedToken, tokens};
+use sf_refusal::Refusal;
 use sf_term::Program;
 use std::alloc::Global;
 
@@ -55,22 +57,21 @@ fn network<'a>(
 
 /// The network whose text this is: version 1, at most 1,048,576 bytes, 100,000 terms and 100,000 expressions. At most 64
 /// terms, expressions, patterns or types stand one inside another, and a type has at most 256 nodes. Faults of tokens come
-/// first; then the first in reading order.
-#[tactic(auto, using(crate::proofs::Whole::tokens_named, crate::proofs::Whole::text_read, crate::proofs::Whole::text_stops, crate::proofs::Whole::refused_none))]
-pub fn read_network(alloc: Global, bytes: &[u8]) -> Result<Program, TextRefusal>
+/// first; then the first in reading order: `Rule::Unexpected`, the first token that no network has behind the tokens before
+/// it, or the place behind the last byte; `Rule::TooDeep`, the token that begins a form 65 deep; `Rule::Version`;
+/// `Rule::WrittenTypeTooLarge`, the first token of the type; `Rule::TooMany`, the first token of the form too many.
+#[tactic(auto, using(crate::proofs::Whole::tokens_named, crate::proofs::Whole::text_read, crate::proofs::Whole::text_stops, sf_grammar::proofs::Texts::refused_none))]
+pub fn read_network(alloc: Global, bytes: &[u8]) -> Result<Program, Refusal>
     // What is read is the network of the text.
     ensures read { IfOk result (λ p. IsNetworkText bytes.now (templates_of p)) }
     // Each form stands where its first token does, and each name where its own does.
     ensures placed { IfOk result (λ p. IsPlacedIn bytes.now p) }
-    // What is refused has the fault at the place.
-    ensures fault { IfErr result (λ e. Refuses bytes.now e) }
+    // What is refused breaks the rule at the place.
+    ensures fault { IfErr result (OrMemory (BreaksText bytes.now)) }
     // Nothing is refused that is the text of a network, but for want of memory.
-    ensures refused { IfErr result (λ e. e ≢ TextRefusal.Memory → (p : Templates) → IsNetworkText bytes.now p → ⊥) }
+    ensures refused { IfErr result (λ e. e ≢ Refusal.Memory → (p : Templates) → IsNetworkText bytes.now p → ⊥) }
 {
-    let tokens = match tokens(alloc, bytes) {
-        Ok(tokens) => tokens,
-        Err(refusal) => return Err(TextRefusal::from(refusal)),
-    };
+    let tokens = tokens(alloc, bytes)?;
     let mut program = Program::new(alloc);
     match network(alloc, &tokens, &mut program) {
         Ok(()) => Ok(program),

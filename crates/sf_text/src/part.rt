@@ -1,33 +1,21 @@
 //! Single tokens, and what has a fixed shape.
 ghost use Rattle.std.specs.Prelude.{◌≡◌, ℕ, List, length, IfOk};
-ghost use Rattle.sf_text.specs.Answers.{toks, AreNamed, Stops, Reads, ReadsRest, name_in, kinds_in};
-ghost use Rattle.sf_text.specs.Placing.{spot_of};
+ghost use Rattle.sf_text.specs.Answers.{toks, AreNamed, StopsReading, ReadsAs, ReadsRest, name_bytes, kinds_in};
 ghost use Rattle.sf_text.specs.Consuming.{places, BehindOne, BehindSome, NamePlaced, HeadingPlaced, OpeningPlaced};
-ghost use Rattle.sf_text.specs.Reading.{Read, stop, symbol_at, keyword_at, name_at, version_at, opening_at, heading_at, signature_at};
-ghost use Rattle.sf_text.specs.declared.stop.Fault.TheVariants.{Unexpected, Version};
+ghost use Rattle.sf_grammar.specs.Reading.{Read, stop, parse_symbol, parse_keyword, parse_name, parse_version, parse_opening, parse_heading, parse_signature};
 
-use crate::stop::{Fault, Stop};
+use crate::stop::Stop;
 use crate::ty::ty;
-use sf_expr::Spot;
-use sf_lex::{Keyword, Place, PlacedToken, Symbol, Token};
+use sf_lex::{Keyword, PlacedToken, Symbol, Token};
+use sf_refusal::{Rule, Spot};
 use sf_value::Ty;
 use std::alloc::Global;
 
-/// The place of a token as the place of what it begins.
-pub(crate) fn spot_of(place: Place) -> Spot
-    ensures { result ≡ spot_of place }
+/// A rule that is broken at the first of these tokens, or at the end where there is none.
+pub(crate) fn stop_at(rule: Rule, tokens: &[PlacedToken]) -> Stop
+    ensures { result ≡ Stop.At rule (length tokens.now) }
 {
-    Spot {
-        line: place.line,
-        column: place.column,
-    }
-}
-
-/// A fault at the first of these tokens, or at the end where there is none.
-pub(crate) fn stop_at(fault: Fault, tokens: &[PlacedToken]) -> Stop
-    ensures { result ≡ Stop.At fault (length tokens.now) }
-{
-    Stop::At(fault, tokens.len())
+    Stop::At(rule, tokens.len())
 }
 
 /// The tokens behind a symbol.
@@ -35,7 +23,7 @@ pub(crate) fn symbol<'a>(
     tokens: &'a [PlacedToken<'a>],
     wanted: Symbol,
 ) -> Result<&'a [PlacedToken<'a>], Stop>
-    ensures reads { ReadsRest result (symbol_at wanted (toks tokens.now)) }
+    ensures reads { ReadsRest result (parse_symbol wanted (toks tokens.now)) }
     ensures behind { IfOk result (λ rest. BehindOne (places tokens.now) (places rest.now)) }
     ensures named { IfOk result (λ rest. AreNamed (toks tokens.now) → AreNamed (toks rest.now)) }
 {
@@ -46,7 +34,7 @@ pub(crate) fn symbol<'a>(
             }
         }
     }
-    Err(stop_at(Fault::Unexpected, tokens))
+    Err(stop_at(Rule::Unexpected, tokens))
 }
 
 /// The tokens behind a word of the language.
@@ -54,7 +42,7 @@ pub(crate) fn keyword<'a>(
     tokens: &'a [PlacedToken<'a>],
     wanted: Keyword,
 ) -> Result<&'a [PlacedToken<'a>], Stop>
-    ensures reads { ReadsRest result (keyword_at wanted (toks tokens.now)) }
+    ensures reads { ReadsRest result (parse_keyword wanted (toks tokens.now)) }
     ensures behind { IfOk result (λ rest. BehindOne (places tokens.now) (places rest.now)) }
 {
     if let [first, rest @ ..] = tokens {
@@ -64,7 +52,7 @@ pub(crate) fn keyword<'a>(
             }
         }
     }
-    Err(stop_at(Fault::Unexpected, tokens))
+    Err(stop_at(Rule::Unexpected, tokens))
 }
 
 /// A name and its place.
@@ -76,21 +64,21 @@ pub(crate) struct Named<'a> {
 
 /// A name, and the tokens behind it.
 fn name<'a>(tokens: &'a [PlacedToken<'a>]) -> Result<(Named<'a>, &'a [PlacedToken<'a>]), Stop>
-    ensures reads { Reads name_in result (name_at (toks tokens.now)) }
+    ensures reads { ReadsAs name_bytes result (parse_name (toks tokens.now)) }
     ensures placed { IfOk result (λ x. NamePlaced x.0.spot (places tokens.now) (places x.1.now)) }
 {
     if let [first, rest @ ..] = tokens {
         if let Token::Name(name) = &first.token {
-            let spot = spot_of(first.place);
+            let spot = first.spot;
             return Ok((Named { name: *name, spot }, rest));
         }
     }
-    Err(stop_at(Fault::Unexpected, tokens))
+    Err(stop_at(Rule::Unexpected, tokens))
 }
 
 /// The tokens behind the only version.
 fn version<'a>(tokens: &'a [PlacedToken<'a>]) -> Result<&'a [PlacedToken<'a>], Stop>
-    ensures reads { ReadsRest result (version_at (toks tokens.now)) }
+    ensures reads { ReadsRest result (parse_version (toks tokens.now)) }
     ensures behind { IfOk result (λ rest. BehindOne (places tokens.now) (places rest.now)) }
 {
     if let [first, rest @ ..] = tokens {
@@ -98,16 +86,16 @@ fn version<'a>(tokens: &'a [PlacedToken<'a>]) -> Result<&'a [PlacedToken<'a>], S
             if *number == 1 {
                 return Ok(rest);
             }
-            return Err(stop_at(Fault::Version, tokens));
+            return Err(stop_at(Rule::Version, tokens));
         }
     }
-    Err(stop_at(Fault::Unexpected, tokens))
+    Err(stop_at(Rule::Unexpected, tokens))
 }
 
 /// The tokens behind what stands in front of a network's templates.
-#[tactic(auto, unfolding(crate::specs::Reading::opening_at))]
+#[tactic(auto, unfolding(sf_grammar::specs::Reading::parse_opening))]
 pub(crate) fn opening<'a>(tokens: &'a [PlacedToken<'a>]) -> Result<&'a [PlacedToken<'a>], Stop>
-    ensures reads { ReadsRest result (opening_at (toks tokens.now)) }
+    ensures reads { ReadsRest result (parse_opening (toks tokens.now)) }
     ensures placed { IfOk result (λ rest. OpeningPlaced (places tokens.now) (places rest.now)) }
 {
     let rest = keyword(tokens, Keyword::Network)?;
@@ -116,11 +104,11 @@ pub(crate) fn opening<'a>(tokens: &'a [PlacedToken<'a>]) -> Result<&'a [PlacedTo
 }
 
 /// A template's name, and the tokens behind its empty list of parameters.
-#[tactic(auto, unfolding(crate::specs::Reading::heading_at))]
+#[tactic(auto, unfolding(sf_grammar::specs::Reading::parse_heading))]
 pub(crate) fn heading<'a>(
     tokens: &'a [PlacedToken<'a>],
 ) -> Result<(Named<'a>, &'a [PlacedToken<'a>]), Stop>
-    ensures reads { Reads name_in result (heading_at (toks tokens.now)) }
+    ensures reads { ReadsAs name_bytes result (parse_heading (toks tokens.now)) }
     ensures placed { IfOk result (λ x. HeadingPlaced x.0.spot (places tokens.now) (places x.1.now)) }
 {
     let rest = keyword(tokens, Keyword::Template)?;
@@ -138,12 +126,12 @@ pub(crate) struct Types {
 }
 
 /// The types of a template's inputs and outputs, and the tokens behind them.
-#[tactic(auto, unfolding(crate::specs::Reading::signature_at))]
+#[tactic(auto, unfolding(sf_grammar::specs::Reading::parse_signature))]
 pub(crate) fn signature<'a>(
     alloc: Global,
     tokens: &'a [PlacedToken<'a>],
 ) -> Result<(Types, &'a [PlacedToken<'a>]), Stop>
-    ensures reads { Reads kinds_in result (signature_at (toks tokens.now)) }
+    ensures reads { ReadsAs kinds_in result (parse_signature (toks tokens.now)) }
     ensures behind { IfOk result (λ x. BehindSome (places tokens.now) (places x.1.now)) }
 {
     let rest = symbol(tokens, Symbol::Colon)?;

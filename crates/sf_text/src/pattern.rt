@@ -3,15 +3,16 @@ ghost use Rattle.std.specs.Prelude.{◌≡◌, IfOk};
 ghost use Rattle.sf_expr.specs.Expressions.{Pattern};
 ghost use Rattle.sf_expr.specs.Patterns.{pattern_of};
 ghost use Rattle.sf_lex.specs.Tokens.{token_of};
-ghost use Rattle.sf_text.specs.Answers.{toks, Stops, Reads};
-ghost use Rattle.sf_text.specs.Placing.{PatternPlaced};
+ghost use Rattle.sf_text.specs.Answers.{toks, StopsReading, ReadsAs};
+ghost use Rattle.sf_grammar.specs.Placing.{PatternPlaced};
 ghost use Rattle.sf_text.specs.Consuming.{places, Consumes, ConsumesBehind};
-ghost use Rattle.sf_text.specs.Reading.{begins_pattern, too_deep, pattern_at, pattern_form_at, pattern_pair_at};
+ghost use Rattle.sf_grammar.specs.Reading.{begins_pattern, too_deep, parse_pattern, parse_pattern_form, parse_pattern_pair};
 
-use crate::part::{spot_of, stop_at, symbol};
-use crate::stop::{Fault, Stop};
+use crate::part::{stop_at, symbol};
+use crate::stop::Stop;
 use sf_expr::Pat;
 use sf_lex::{Keyword, PlacedToken, Symbol, Token};
+use sf_refusal::Rule;
 use std::alloc::Global;
 
 fn begins_pattern(token: &Token) -> bool
@@ -25,11 +26,11 @@ fn begins_pattern(token: &Token) -> bool
 
 /// A pattern would be 65 deep here.
 fn pattern_too_deep(tokens: &[PlacedToken]) -> Stop
-    ensures { Stops {A = Pattern} result (too_deep begins_pattern (toks tokens.now)) }
+    ensures { StopsReading {A = Pattern} result (too_deep begins_pattern (toks tokens.now)) }
 {
     match tokens {
-        [first, ..] if begins_pattern(&first.token) => stop_at(Fault::TooDeep, tokens),
-        _ => stop_at(Fault::Unexpected, tokens),
+        [first, ..] if begins_pattern(&first.token) => stop_at(Rule::TooDeep, tokens),
+        _ => stop_at(Rule::Unexpected, tokens),
     }
 }
 
@@ -41,7 +42,7 @@ pub(crate) fn pattern<'a>(
     tokens: &'a [PlacedToken<'a>],
     left: u32,
 ) -> Result<(Pat, &'a [PlacedToken<'a>]), Stop>
-    ensures reads { Reads pattern_of result (pattern_at left (toks tokens.now)) }
+    ensures reads { ReadsAs pattern_of result (parse_pattern left (toks tokens.now)) }
     ensures placed { IfOk result (λ x. Consumes (PatternPlaced x.0) (places tokens.now) (places x.1.now)) }
 {
     if left == 0 {
@@ -56,32 +57,32 @@ fn pattern_form<'a>(
     tokens: &'a [PlacedToken<'a>],
     left: u32,
 ) -> Result<(Pat, &'a [PlacedToken<'a>]), Stop>
-    ensures reads { Reads pattern_of result (pattern_form_at (pattern_at left) (toks tokens.now)) }
+    ensures reads { ReadsAs pattern_of result (parse_pattern_form (parse_pattern left) (toks tokens.now)) }
     ensures placed { IfOk result (λ x. Consumes (PatternPlaced x.0) (places tokens.now) (places x.1.now)) }
 {
     let [first, rest @ ..] = tokens else {
-        return Err(stop_at(Fault::Unexpected, tokens));
+        return Err(stop_at(Rule::Unexpected, tokens));
     };
     match &first.token {
         Token::Keyword(Keyword::Underscore) => Ok((Pat::unnamed(), rest)),
         Token::Name(name) => {
             let name = String::from_str(alloc, *name)?;
-            Ok((Pat::name(name, spot_of(first.place)), rest))
+            Ok((Pat::name(name, first.spot), rest))
         }
         Token::Symbol(Symbol::Open) => pattern_pair(alloc, rest, left),
-        _ => Err(stop_at(Fault::Unexpected, tokens)),
+        _ => Err(stop_at(Rule::Unexpected, tokens)),
     }
 }
 
 /// The pattern of a pair behind its opening bracket, and the tokens behind it.
 #[cycle(pattern)]
-#[tactic(auto, unfolding(crate::specs::Reading::pattern_pair_at))]
+#[tactic(auto, unfolding(sf_grammar::specs::Reading::parse_pattern_pair))]
 fn pattern_pair<'a>(
     alloc: Global,
     tokens: &'a [PlacedToken<'a>],
     left: u32,
 ) -> Result<(Pat, &'a [PlacedToken<'a>]), Stop>
-    ensures reads { Reads pattern_of result (pattern_pair_at (pattern_at left) (toks tokens.now)) }
+    ensures reads { ReadsAs pattern_of result (parse_pattern_pair (parse_pattern left) (toks tokens.now)) }
     ensures placed { IfOk result (λ x. ConsumesBehind (PatternPlaced x.0) (places tokens.now) (places x.1.now)) }
 {
     let (first, rest) = pattern(alloc, tokens, left)?;

@@ -2,22 +2,14 @@
 ghost use Rattle.std.specs.Prelude.{◌≡◌};
 ghost use Rattle.sf_text.specs.declared.stop.Stop.TheVariants.{Memory};
 
+use sf_refusal::Rule;
 use std::alloc::AllocError;
 
-/// What is wrong at a token.
-#[derive(Clone, Copy, Debug, PartialEq, Eq)]
-pub(crate) enum Fault {
-    Unexpected,
-    TooDeep,
-    Version,
-    TypeTooLarge,
-    TooMany,
-}
-
-/// Why reading stopped: a fault, and how many tokens there are from its own on, or want of memory.
+/// Why reading stopped: a rule that is broken, and how many tokens there are from the one on that breaks it, or want of
+/// memory.
 #[derive(Clone, Copy, Debug, PartialEq, Eq)]
 pub(crate) enum Stop {
-    At(Fault, usize),
+    At(Rule, usize),
     Memory,
 }
 

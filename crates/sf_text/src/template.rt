@@ -2,7 +2,7 @@
 ghost use Rattle.std.specs.Prelude.{IfOk};
 ghost use Rattle.sf_text.specs.Answers.{toks, AreNamed, ReadsTemplate, counts_of};
 ghost use Rattle.sf_text.specs.Consuming.{places, PlacesTemplate};
-ghost use Rattle.sf_text.specs.Reading.{template_at};
+ghost use Rattle.sf_grammar.specs.Reading.{parse_template};
 
 use crate::expression::refused;
 use crate::part::{heading, signature, symbol};
@@ -13,14 +13,14 @@ use sf_term::Program;
 use std::alloc::Global;
 
 /// Reads a template into the program, and answers the tokens behind it.
-#[tactic(auto, unfolding(crate::specs::Reading::template_at))]
+#[tactic(auto, unfolding(sf_grammar::specs::Reading::parse_template))]
 pub(crate) fn template<'a>(
     alloc: Global,
     tokens: &'a [PlacedToken<'a>],
     program: &mut Program,
 ) -> Result<&'a [PlacedToken<'a>], Stop>
     requires { AreNamed (toks tokens.now) }
-    ensures reads { ReadsTemplate program.old program.new result (template_at (counts_of program.old) (toks tokens.now)) }
+    ensures reads { ReadsTemplate program.old program.new result (parse_template (counts_of program.old) (toks tokens.now)) }
     ensures placed { IfOk result (λ rest. PlacesTemplate program.old program.new (places tokens.now) (places rest.now)) }
 {
     let (heading, rest) = heading(tokens)?;

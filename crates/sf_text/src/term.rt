@@ -1,19 +1,19 @@
 //! Terms.
-ghost use Rattle.std.specs.Prelude.{◌≡◌, ◌≤◌, IfOk};
+ghost use Rattle.std.specs.Prelude.{◌≡◌, ◌≤◌, IfOk, ◌∷◌};
 ghost use Rattle.sf_lex.specs.Tokens.{token_of};
 ghost use Rattle.sf_term.specs.Trees.{Term, primitive as primitive_form, bare as bare_form};
-ghost use Rattle.sf_text.specs.Answers.{toks, AreNamed, Stops, Reads, ReadsTerm, counts_of};
-ghost use Rattle.sf_text.specs.Placing.{TermPlaced};
-ghost use Rattle.sf_text.specs.Consuming.{places, BehindOne, Consumes, ConsumesFrom};
-ghost use Rattle.sf_text.specs.Reading.{begins_term, too_deep, term_read, value_at, arrow_at, sided_at, headed_at, join_at, joined_at, form_at, worded_at, term_at};
+ghost use Rattle.sf_text.specs.Answers.{toks, AreNamed, StopsReading, ReadsAs, ReadsTerm, counts_of};
+ghost use Rattle.sf_grammar.specs.Placing.{TermPlaced};
+ghost use Rattle.sf_text.specs.Consuming.{places, BehindOne, Consumes};
+ghost use Rattle.sf_grammar.specs.Reading.{begins_term, too_deep, term_read, parse_value, parse_arrow, parse_sided, parse_headed, parse_join, parse_joined, parse_form, parse_worded, parse_term};
 
 use crate::expression::{expression, function, refused};
-use crate::head::{Head, head_of, join_of};
-use crate::part::{spot_of, stop_at, symbol};
-use crate::stop::{Fault, Stop};
-use sf_expr::Spot;
+use crate::part::{stop_at, symbol};
+use crate::stop::Stop;
+use sf_grammar::{Head, head_of, join_of};
 use sf_lex::{PlacedToken, Symbol, Token};
-use sf_term::{Bare, Heading, Join, Program, Side, TermId, WithValue};
+use sf_refusal::{Rule, Spot};
+use sf_term::{Bare, Heading, Join, Node, Primitive, Program, Side, TermId, WithValue};
 use std::alloc::Global;
 
 fn begins_term(token: &Token) -> bool
@@ -28,11 +28,11 @@ fn begins_term(token: &Token) -> bool
 
 /// A term would be 65 deep here.
 fn term_too_deep(tokens: &[PlacedToken]) -> Stop
-    ensures { Stops {A = Term} result (too_deep begins_term (toks tokens.now)) }
+    ensures { StopsReading {A = Term} result (too_deep begins_term (toks tokens.now)) }
 {
     match tokens {
-        [first, ..] if begins_term(&first.token) => stop_at(Fault::TooDeep, tokens),
-        _ => stop_at(Fault::Unexpected, tokens),
+        [first, ..] if begins_term(&first.token) => stop_at(Rule::TooDeep, tokens),
+        _ => stop_at(Rule::Unexpected, tokens),
     }
 }
 
@@ -45,16 +45,16 @@ fn bare<'a>(
     spot: Spot,
 ) -> Result<(TermId, &'a [PlacedToken<'a>]), Stop>
     ensures reads { ReadsTerm program.old program.new result (term_read (counts_of program.old) (primitive_form (bare_form kind)) (toks tokens.now) (toks rest.now)) }
-    ensures placed { IfOk result (λ x. ConsumesFrom (TermPlaced program.new x.0) spot (places rest.now) (places x.1.now)) }
+    ensures placed { IfOk result (λ x. Consumes (TermPlaced program.new x.0) (spot ∷ places rest.now) (places x.1.now)) }
 {
-    match program.bare(kind, spot) {
+    match program.add(Node::Primitive(Primitive::Bare(kind)), spot) {
         Ok(id) => Ok((id, rest)),
         Err(refusal) => Err(refused(refusal, tokens)),
     }
 }
 
 /// A primitive with a value, whose word is the first of these tokens, and the tokens behind it.
-#[tactic(auto, unfolding(crate::specs::Reading::value_at))]
+#[tactic(auto, unfolding(sf_grammar::specs::Reading::parse_value))]
 fn with_value<'a>(
     alloc: Global,
     tokens: &'a [PlacedToken<'a>],
@@ -66,18 +66,18 @@ fn with_value<'a>(
 ) -> Result<(TermId, &'a [PlacedToken<'a>]), Stop>
     requires shallow { left ≤ 63 }
     requires named { AreNamed (toks rest.now) }
-    ensures reads { ReadsTerm program.old program.new result (value_at left (counts_of program.old) kind (toks tokens.now) (toks rest.now)) }
-    ensures placed { IfOk result (λ x. ConsumesFrom (TermPlaced program.new x.0) spot (places rest.now) (places x.1.now)) }
+    ensures reads { ReadsTerm program.old program.new result (parse_value left (counts_of program.old) kind (toks tokens.now) (toks rest.now)) }
+    ensures placed { IfOk result (λ x. Consumes (TermPlaced program.new x.0) (spot ∷ places rest.now) (places x.1.now)) }
 {
     let (value, rest) = expression(alloc, rest, program, left)?;
-    match program.with_value(kind, value, spot) {
+    match program.add(Node::Primitive(Primitive::WithValue(kind, value)), spot) {
         Ok(id) => Ok((id, rest)),
         Err(refusal) => Err(refused(refusal, tokens)),
     }
 }
 
 /// A function as a primitive, whose word is the first of these tokens, and the tokens behind it.
-#[tactic(auto, unfolding(crate::specs::Reading::arrow_at))]
+#[tactic(auto, unfolding(sf_grammar::specs::Reading::parse_arrow))]
 fn arrow<'a>(
     alloc: Global,
     tokens: &'a [PlacedToken<'a>],
@@ -88,11 +88,11 @@ fn arrow<'a>(
 ) -> Result<(TermId, &'a [PlacedToken<'a>]), Stop>
     requires shallow { left ≤ 63 }
     requires named { AreNamed (toks rest.now) }
-    ensures reads { ReadsTerm program.old program.new result (arrow_at left (counts_of program.old) (toks tokens.now) (toks rest.now)) }
-    ensures placed { IfOk result (λ x. ConsumesFrom (TermPlaced program.new x.0) spot (places rest.now) (places x.1.now)) }
+    ensures reads { ReadsTerm program.old program.new result (parse_arrow left (counts_of program.old) (toks tokens.now) (toks rest.now)) }
+    ensures placed { IfOk result (λ x. Consumes (TermPlaced program.new x.0) (spot ∷ places rest.now) (places x.1.now)) }
 {
     let (function, rest) = function(alloc, rest, program, left)?;
-    match program.arrow(function, spot) {
+    match program.add(Node::Primitive(Primitive::Arrow(function)), spot) {
         Ok(id) => Ok((id, rest)),
         Err(refusal) => Err(refused(refusal, tokens)),
     }
@@ -100,7 +100,7 @@ fn arrow<'a>(
 
 /// The symbol between two terms, and the tokens behind it.
 fn join<'a>(tokens: &'a [PlacedToken<'a>]) -> Result<(Join, &'a [PlacedToken<'a>]), Stop>
-    ensures reads { Reads (λ j. j) result (join_at (toks tokens.now)) }
+    ensures reads { ReadsAs (λ j. j) result (parse_join (toks tokens.now)) }
     ensures behind { IfOk result (λ x. BehindOne (places tokens.now) (places x.1.now)) }
     ensures named { IfOk result (λ x. AreNamed (toks tokens.now) → AreNamed (toks x.1.now)) }
 {
@@ -111,7 +111,7 @@ fn join<'a>(tokens: &'a [PlacedToken<'a>]) -> Result<(Join, &'a [PlacedToken<'a>
             }
         }
     }
-    Err(stop_at(Fault::Unexpected, tokens))
+    Err(stop_at(Rule::Unexpected, tokens))
 }
 
 /// A term of so much depth at most, and the tokens behind it.
@@ -125,7 +125,7 @@ pub(crate) fn term<'a>(
 ) -> Result<(TermId, &'a [PlacedToken<'a>]), Stop>
     requires shallow { left ≤ 64 }
     requires named { AreNamed (toks tokens.now) }
-    ensures reads { ReadsTerm program.old program.new result (term_at left (counts_of program.old) (toks tokens.now)) }
+    ensures reads { ReadsTerm program.old program.new result (parse_term left (counts_of program.old) (toks tokens.now)) }
     ensures placed { IfOk result (λ x. Consumes (TermPlaced program.new x.0) (places tokens.now) (places x.1.now)) }
 {
     if left == 0 {
@@ -143,20 +143,20 @@ fn form<'a>(
 ) -> Result<(TermId, &'a [PlacedToken<'a>]), Stop>
     requires shallow { left ≤ 63 }
     requires named { AreNamed (toks tokens.now) }
-    ensures reads { ReadsTerm program.old program.new result (form_at left (term_at left) (counts_of program.old) (toks tokens.now)) }
+    ensures reads { ReadsTerm program.old program.new result (parse_form left (parse_term left) (counts_of program.old) (toks tokens.now)) }
     ensures placed { IfOk result (λ x. Consumes (TermPlaced program.new x.0) (places tokens.now) (places x.1.now)) }
 {
     let [first, rest @ ..] = tokens else {
-        return Err(stop_at(Fault::Unexpected, tokens));
+        return Err(stop_at(Rule::Unexpected, tokens));
     };
-    let spot = spot_of(first.place);
+    let spot = first.spot;
     match &first.token {
         Token::Keyword(keyword) => match head_of(*keyword) {
             Some(head) => worded(alloc, tokens, rest, program, head, spot, left),
-            None => Err(stop_at(Fault::Unexpected, tokens)),
+            None => Err(stop_at(Rule::Unexpected, tokens)),
         },
         Token::Symbol(Symbol::Open) => joined(alloc, tokens, rest, program, spot, left),
-        _ => Err(stop_at(Fault::Unexpected, tokens)),
+        _ => Err(stop_at(Rule::Unexpected, tokens)),
     }
 }
 
@@ -173,8 +173,8 @@ fn worded<'a>(
 ) -> Result<(TermId, &'a [PlacedToken<'a>]), Stop>
     requires shallow { left ≤ 63 }
     requires named { AreNamed (toks rest.now) }
-    ensures reads { ReadsTerm program.old program.new result (worded_at left (term_at left) (counts_of program.old) (Some head) (toks tokens.now) (toks rest.now)) }
-    ensures placed { IfOk result (λ x. ConsumesFrom (TermPlaced program.new x.0) spot (places rest.now) (places x.1.now)) }
+    ensures reads { ReadsTerm program.old program.new result (parse_worded left (parse_term left) (counts_of program.old) (Some head) (toks tokens.now) (toks rest.now)) }
+    ensures placed { IfOk result (λ x. Consumes (TermPlaced program.new x.0) (spot ∷ places rest.now) (places x.1.now)) }
 {
     match head {
         Head::Bare(kind) => bare(tokens, rest, program, kind, spot),
@@ -187,7 +187,7 @@ fn worded<'a>(
 
 /// A term on one part of a pair, whose word is the first of these tokens, and the tokens behind it.
 #[cycle(term)]
-#[tactic(auto, unfolding(crate::specs::Reading::sided_at))]
+#[tactic(auto, unfolding(sf_grammar::specs::Reading::parse_sided))]
 fn sided<'a>(
     alloc: Global,
     tokens: &'a [PlacedToken<'a>],
@@ -199,11 +199,11 @@ fn sided<'a>(
 ) -> Result<(TermId, &'a [PlacedToken<'a>]), Stop>
     requires shallow { left ≤ 63 }
     requires named { AreNamed (toks rest.now) }
-    ensures reads { ReadsTerm program.old program.new result (sided_at (term_at left) (counts_of program.old) side (toks tokens.now) (toks rest.now)) }
-    ensures placed { IfOk result (λ x. ConsumesFrom (TermPlaced program.new x.0) spot (places rest.now) (places x.1.now)) }
+    ensures reads { ReadsTerm program.old program.new result (parse_sided (parse_term left) (counts_of program.old) side (toks tokens.now) (toks rest.now)) }
+    ensures placed { IfOk result (λ x. Consumes (TermPlaced program.new x.0) (spot ∷ places rest.now) (places x.1.now)) }
 {
     let (part, rest) = term(alloc, rest, program, left)?;
-    match program.sided(side, part, spot) {
+    match program.add(Node::Sided(side, part), spot) {
         Ok(id) => Ok((id, rest)),
         Err(refusal) => Err(refused(refusal, tokens)),
     }
@@ -211,7 +211,7 @@ fn sided<'a>(
 
 /// A term with an expression at its head, whose word is the first of these tokens, and the tokens behind it.
 #[cycle(term)]
-#[tactic(auto, using(crate::proofs::Named::expression_named), unfolding(crate::specs::Reading::headed_at))]
+#[tactic(auto, using(crate::proofs::Named::expression_named), unfolding(sf_grammar::specs::Reading::parse_headed))]
 fn headed<'a>(
     alloc: Global,
     tokens: &'a [PlacedToken<'a>],
@@ -223,15 +223,15 @@ fn headed<'a>(
 ) -> Result<(TermId, &'a [PlacedToken<'a>]), Stop>
     requires shallow { left ≤ 63 }
     requires named { AreNamed (toks rest.now) }
-    ensures reads { ReadsTerm program.old program.new result (headed_at left (term_at left) (counts_of program.old) heading (toks tokens.now) (toks rest.now)) }
-    ensures placed { IfOk result (λ x. ConsumesFrom (TermPlaced program.new x.0) spot (places rest.now) (places x.1.now)) }
+    ensures reads { ReadsTerm program.old program.new result (parse_headed left (parse_term left) (counts_of program.old) heading (toks tokens.now) (toks rest.now)) }
+    ensures placed { IfOk result (λ x. Consumes (TermPlaced program.new x.0) (spot ∷ places rest.now) (places x.1.now)) }
 {
     let rest = symbol(rest, Symbol::Open)?;
     let (value, rest) = expression(alloc, rest, program, left)?;
     let rest = symbol(rest, Symbol::Comma)?;
     let (part, rest) = term(alloc, rest, program, left)?;
     let rest = symbol(rest, Symbol::Close)?;
-    match program.headed(heading, value, part, spot) {
+    match program.add(Node::Headed(heading, value, part), spot) {
         Ok(id) => Ok((id, rest)),
         Err(refusal) => Err(refused(refusal, tokens)),
     }
@@ -239,7 +239,7 @@ fn headed<'a>(
 
 /// Two terms joined, whose opening bracket is the first of these tokens, and the tokens behind them.
 #[cycle(term)]
-#[tactic(auto, using(crate::proofs::Named::term_named), unfolding(crate::specs::Reading::joined_at))]
+#[tactic(auto, using(crate::proofs::Named::term_named), unfolding(sf_grammar::specs::Reading::parse_joined))]
 fn joined<'a>(
     alloc: Global,
     tokens: &'a [PlacedToken<'a>],
@@ -250,14 +250,14 @@ fn joined<'a>(
 ) -> Result<(TermId, &'a [PlacedToken<'a>]), Stop>
     requires shallow { left ≤ 63 }
     requires named { AreNamed (toks rest.now) }
-    ensures reads { ReadsTerm program.old program.new result (joined_at (term_at left) (counts_of program.old) (toks tokens.now) (toks rest.now)) }
-    ensures placed { IfOk result (λ x. ConsumesFrom (TermPlaced program.new x.0) spot (places rest.now) (places x.1.now)) }
+    ensures reads { ReadsTerm program.old program.new result (parse_joined (parse_term left) (counts_of program.old) (toks tokens.now) (toks rest.now)) }
+    ensures placed { IfOk result (λ x. Consumes (TermPlaced program.new x.0) (spot ∷ places rest.now) (places x.1.now)) }
 {
     let (one, rest) = term(alloc, rest, program, left)?;
     let (join, rest) = join(rest)?;
     let (two, rest) = term(alloc, rest, program, left)?;
     let rest = symbol(rest, Symbol::Close)?;
-    match program.joined(join, one, two, spot) {
+    match program.add(Node::Joined(join, one, two), spot) {
         Ok(id) => Ok((id, rest)),
         Err(refusal) => Err(refused(refusal, tokens)),
     }

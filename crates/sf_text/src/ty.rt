@@ -2,13 +2,14 @@
 ghost use Rattle.std.specs.Prelude.{◌≡◌, ◌<◌, ◌≤◌, IfOk, length};
 ghost use Rattle.sf_value.specs.Values.{Kind};
 ghost use Rattle.sf_lex.specs.Tokens.{token_of};
-ghost use Rattle.sf_text.specs.Answers.{toks, Stops, Reads, stop_for_type};
+ghost use Rattle.sf_text.specs.Answers.{toks, StopsReading, ReadsAs, stop_for_type};
 ghost use Rattle.sf_text.specs.Consuming.{places, BehindSome, ConsumesBehind};
-ghost use Rattle.sf_text.specs.Reading.{begins_type, too_deep, inner_type_at, type_form_at, pair_type_at, type_at};
+ghost use Rattle.sf_grammar.specs.Reading.{begins_type, too_deep, parse_inner_type, parse_type_form, parse_pair_type, parse_type};
 
 use crate::part::{stop_at, symbol};
-use crate::stop::{Fault, Stop};
+use crate::stop::Stop;
 use sf_lex::{Keyword, PlacedToken, Symbol, Token};
+use sf_refusal::Rule;
 use sf_value::{Ty, TyRefusal};
 use std::alloc::Global;
 
@@ -17,7 +18,7 @@ fn type_refused(refusal: TyRefusal, start: &[PlacedToken]) -> Stop
     ensures { result ≡ stop_for_type refusal (length start.now) }
 {
     match refusal {
-        TyRefusal::TypeTooLarge => stop_at(Fault::TypeTooLarge, start),
+        TyRefusal::TypeTooLarge => stop_at(Rule::WrittenTypeTooLarge, start),
         TyRefusal::Memory => Stop::Memory,
     }
 }
@@ -33,11 +34,11 @@ fn begins_type(token: &Token) -> bool
 
 /// A type would be 65 deep here.
 fn type_too_deep(tokens: &[PlacedToken]) -> Stop
-    ensures { Stops {A = Kind} result (too_deep begins_type (toks tokens.now)) }
+    ensures { StopsReading {A = Kind} result (too_deep begins_type (toks tokens.now)) }
 {
     match tokens {
-        [first, ..] if begins_type(&first.token) => stop_at(Fault::TooDeep, tokens),
-        _ => stop_at(Fault::Unexpected, tokens),
+        [first, ..] if begins_type(&first.token) => stop_at(Rule::TooDeep, tokens),
+        _ => stop_at(Rule::Unexpected, tokens),
     }
 }
 
@@ -46,7 +47,7 @@ pub(crate) fn ty<'a>(
     alloc: Global,
     tokens: &'a [PlacedToken<'a>],
 ) -> Result<(Ty, &'a [PlacedToken<'a>]), Stop>
-    ensures reads { Reads (λ k. k) result (type_at (toks tokens.now)) }
+    ensures reads { ReadsAs (λ k. k) result (parse_type (toks tokens.now)) }
     ensures behind { IfOk result (λ x. BehindSome (places tokens.now) (places x.1.now)) }
 {
     inner_type(alloc, tokens, tokens, 0, 64)
@@ -63,7 +64,7 @@ fn inner_type<'a>(
     left: u32,
 ) -> Result<(Ty, &'a [PlacedToken<'a>]), Stop>
     requires { met ≤ 256 }
-    ensures reads { Reads (λ k. k) result (inner_type_at left (toks start.now) met (toks tokens.now)) }
+    ensures reads { ReadsAs (λ k. k) result (parse_inner_type left (toks start.now) met (toks tokens.now)) }
     ensures behind { IfOk result (λ x. BehindSome (places tokens.now) (places x.1.now)) }
 {
     if left == 0 {
@@ -81,17 +82,17 @@ fn type_form<'a>(
     left: u32,
 ) -> Result<(Ty, &'a [PlacedToken<'a>]), Stop>
     requires { met ≤ 256 }
-    ensures reads { Reads (λ k. k) result (type_form_at (inner_type_at left (toks start.now)) (toks start.now) met (toks tokens.now)) }
+    ensures reads { ReadsAs (λ k. k) result (parse_type_form (parse_inner_type left (toks start.now)) (toks start.now) met (toks tokens.now)) }
     ensures behind { IfOk result (λ x. BehindSome (places tokens.now) (places x.1.now)) }
 {
     let [first, rest @ ..] = tokens else {
-        return Err(stop_at(Fault::Unexpected, tokens));
+        return Err(stop_at(Rule::Unexpected, tokens));
     };
     if !begins_type(&first.token) {
-        return Err(stop_at(Fault::Unexpected, tokens));
+        return Err(stop_at(Rule::Unexpected, tokens));
     }
     if met >= 256 {
-        return Err(stop_at(Fault::TypeTooLarge, start));
+        return Err(stop_at(Rule::WrittenTypeTooLarge, start));
     }
     match &first.token {
         Token::Symbol(Symbol::Open) => pair_type(alloc, start, rest, met, left),
@@ -101,7 +102,7 @@ fn type_form<'a>(
 
 /// The type of pairs behind its opening bracket, and the tokens behind it.
 #[cycle(ty)]
-#[tactic(auto, unfolding(crate::specs::Reading::pair_type_at))]
+#[tactic(auto, unfolding(sf_grammar::specs::Reading::parse_pair_type))]
 fn pair_type<'a>(
     alloc: Global,
     start: &'a [PlacedToken<'a>],
@@ -110,7 +111,7 @@ fn pair_type<'a>(
     left: u32,
 ) -> Result<(Ty, &'a [PlacedToken<'a>]), Stop>
     requires { met < 256 }
-    ensures reads { Reads (λ k. k) result (pair_type_at (inner_type_at left (toks start.now)) met (toks tokens.now)) }
+    ensures reads { ReadsAs (λ k. k) result (parse_pair_type (parse_inner_type left (toks start.now)) met (toks tokens.now)) }
     ensures behind { IfOk result (λ x. ConsumesBehind (λ _. Unit {0}) (places tokens.now) (places x.1.now)) }
 {
     let (first, rest) = inner_type(alloc, start, tokens, met + 1, left)?;

@@ -1,17 +1,17 @@
 -- Reading whole numbers.
-use Rattle.std.proofs.Common.{◌≡◌, ℕ, zero, suc, ◌+◌, ◌-◌, ◌≤◌, ◌<◌, ℤ, pos, negsuc, Bool, true, false, cond, List, [], ◌∷◌, ◌++◌, length, Ok, Err, refl, sym, ap, subst, ◌∙◌, arith, append-nil, length-append}
+use Rattle.std.proofs.Common.{◌≡◌, ℕ, zero, suc, ◌≤◌, ◌<◌, ℤ, pos, negsuc, Bool, true, false, cond, List, [], ◌∷◌, ◌++◌, length, Ok, Err, refl, sym, ap, subst, ◌∙◌, arith, append-nil, length-append}
 use Rattle.std.specs.Prelude.{⊤, ◌==◌, nat_lt, ◌&&◌}
 use Rattle.std.proofs.lemmas.Bool.Decides.{nat_tests}
 use Rattle.std.specs.Char.{is_ascii_digit}
-use Rattle.sf_value.specs.Digits.{BeginsNoDigit, value_after, digits_at, after_digits}
-use Rattle.sf_value.specs.Scan.{bad, fault, Scanned, ◌>>=◌, positive_at, integer_at, narrow, minus}
+use Rattle.std.specs.Str.Parse.{digits_value}
+use Rattle.sf_decimal.specs.Decimals.{natural, integer, BeginsNoDigit, digits_at, after_digits, signed}
+use Rattle.sf_value.specs.Scan.{bad, fault, Scanned, ◌>>=◌, positive_at, integer_at, narrow}
 use Rattle.sf_value.specs.Reading.{Cause, wide}
 use Rattle.sf_value.specs.Values.{is_narrow}
-use Rattle.sf_value.specs.Spelling.{natural, integer}
-use Rattle.sf_value.proofs.Numbers.{natural_small}
-use Rattle.sf_value.proofs.Digits.{AllDigits, natural_after, value_after_pos, numeral, digits_at-append, after_digits-append, cut, run_longest}
+use Rattle.sf_decimal.proofs.Numbers.{natural_small, minus_text}
+use Rattle.sf_decimal.proofs.Digits.{AllDigits, numeral, numeral_at, numeral_read, run_longest}
 use Rattle.sf_value.proofs.Readers.{Language, IsReader, Sound, Completes, Within, NoneBefore, never_grows}
-use Rattle.std.proofs.lemmas.Bool.{false≢true}
+use Rattle.std.proofs.lemmas.Bool.{false≢true, and_parts}
 
 -- a digit other than 0
 abbrev starts : ℕ → Bool
@@ -20,8 +20,8 @@ starts c = nat_lt 48 c && is_ascii_digit c
 starts_low : (c : ℕ) → starts c ≡ true → 48 < c
 starts_low c h = grind (arith, nat_tests)
 
-starts_high : (c : ℕ) → starts c ≡ true → c < 58
-starts_high c h = grind (arith, nat_tests)
+starts_digit : (c : ℕ) → starts c ≡ true → is_ascii_digit c ≡ true
+starts_digit c h = (and_parts (nat_lt 48 c) (is_ascii_digit c) h).1
 
 starts_from : (c : ℕ) → 49 ≤ c → c < 58 → starts c ≡ true
 starts_from c l h = grind (arith, nat_tests)
@@ -37,29 +37,24 @@ PositiveSound s (Ok p) = (0 < p.0) × (s ≡ natural p.0 ++ p.1) × BeginsNoDigi
 PositiveSound s (Err (bad r)) = r ≡ s
 PositiveSound s (Err (fault c r)) = ⊥
 
-one_digit : (c : ℕ) → 48 < c → c < 58 → natural (c - 48) ≡ c ∷ []
-one_digit c l h = let same : 48 + (c - 48) ≡ c = omega arith in natural_small (c - 48) (omega arith) ∙ rw same refl
-
-positive_sound_at : (c : ℕ) (s : List ℕ) (b : Bool) → starts c ≡ b → PositiveSound (c ∷ s) (cond b (Ok (value_after (c - 48) (digits_at s), after_digits s)) (Err (bad (c ∷ s))))
-positive_sound_at c s true e =
-    let low = starts_low c e in
-    let high = starts_high c e in
-    let k = cut s in
-    let is : natural (value_after (c - 48) (digits_at s)) ≡ c ∷ digits_at s = natural_after (c - 48) (digits_at s) (omega arith) k.0 ∙ ap (λ x. x ++ digits_at s) (one_digit c low high) in
-    (value_after_pos (c - 48) (digits_at s) (omega arith), ap (λ x. c ∷ x) k.1 ∙ ap (λ x. x ++ after_digits s) (sym is), k.2)
+positive_sound_at : (c : ℕ) (s : List ℕ) (b : Bool) → starts c ≡ b → PositiveSound (c ∷ s) (cond b (Ok (digits_value 10 (digits_at (c ∷ s)), after_digits (c ∷ s))) (Err (bad (c ∷ s))))
+positive_sound_at c s true e = numeral_at c s (starts_low c e) (starts_digit c e)
 positive_sound_at c s false e = refl
 
 pub positive_sound : (s : List ℕ) → PositiveSound s (positive_at s)
 positive_sound [] = refl
 positive_sound (c ∷ s) = positive_sound_at c s (starts c) refl
 
-positive_digits : (c : ℕ) (ds more : List ℕ) → 49 ≤ c → c < 58 → AllDigits ds → BeginsNoDigit more → positive_at (c ∷ (ds ++ more)) ≡ Ok (value_after (c - 48) ds, more)
-positive_digits c ds more l h a b = rw (starts_from c l h, digits_at-append ds more a b, after_digits-append ds more a b) refl
+positive_digits : (c : ℕ) (s : List ℕ) → 49 ≤ c → c < 58 → positive_at (c ∷ s) ≡ Ok (digits_value 10 (digits_at (c ∷ s)), after_digits (c ∷ s))
+positive_digits c s l h = ap (λ b. cond b (Ok (digits_value 10 (digits_at (c ∷ s)), after_digits (c ∷ s))) (Err (bad (c ∷ s)))) (starts_from c l h)
 
 pub positive_read : (n : ℕ) (more : List ℕ) → 0 < n → BeginsNoDigit more → positive_at (natural n ++ more) ≡ Ok (n, more)
 positive_read n more h b =
     let r = numeral n h in
-    ap (λ x. positive_at (x ++ more)) r.is ∙ positive_digits r.head r.tail more r.low r.high r.digits b ∙ ap (λ x. Ok (x, more)) r.value
+    let is = numeral_read n more h b in
+    ap (λ x. positive_at (x ++ more)) r.is ∙ positive_digits r.head (r.tail ++ more) r.low r.high
+    ∙ ap (λ x. Ok (digits_value 10 (digits_at (x ++ more)), after_digits (x ++ more))) (sym r.is)
+    ∙ ap (λ x. Ok (x, after_digits (natural n ++ more))) is.0 ∙ ap (λ x. Ok (n, x)) is.1
 
 AllDigits_front : (f m : List ℕ) → AllDigits (f ++ m) → AllDigits f
 AllDigits_front [] m a = tt
@@ -77,10 +72,11 @@ positive_longest n (d ∷ f) more back h e =
     let g : r.head ∷ r.tail ≡ d ∷ (f ++ more) = sym r.is ∙ e in
     let hd : r.head ≡ d = cc in
     let tl : r.tail ≡ f ++ more = cc in
-    let a : AllDigits f = AllDigits_front f more (subst AllDigits tl r.digits) in
+    let a : AllDigits f = AllDigits_front f more (subst AllDigits tl r.digits.1) in
     let low : 49 ≤ d = omega (arith, r.low, hd) in
     let high : d < 58 = omega (arith, r.high, hd) in
-    rw (starts_from d low high) (run_longest f back a)
+    let first = starts_digit d (starts_from d low high) in
+    subst (λ o. Within back o) (sym (positive_digits d (f ++ back) low high)) (run_longest (d ∷ f) back (first, a))
 
 plain_at : (c : ℕ) (t : List ℕ) (n : ℕ) (more : List ℕ) → 48 < c → positive_at (c ∷ t) ≡ Ok (n, more) → integer_at (c ∷ t) ≡ narrow (c ∷ t) (pos n) more
 plain_at c t n more l e = rw (not_minus c l, not_zero c l) (ap (λ o. o >>= (λ m. narrow (c ∷ t) (pos m.0) m.1)) e)
@@ -93,9 +89,7 @@ integer_read (pos (suc n)) more b =
     subst (λ x. integer_at (x ++ more) ≡ narrow (x ++ more) (pos (suc n)) more) (sym r.is)
     (plain_at r.head (r.tail ++ more) (suc n) more (omega (arith, r.low)) (subst (λ x. positive_at (x ++ more) ≡ Ok (suc n, more)) r.is (positive_read (suc n) more (omega arith) b)))
 integer_read (negsuc n) more b =
-    let e : suc n - 1 ≡ n = omega arith in
-    ap (λ o. o >>= (λ m. narrow (45 ∷ (natural (suc n) ++ more)) (minus m.0) m.1)) (positive_read (suc n) more (omega arith) b)
-    ∙ ap (λ k. narrow (45 ∷ (natural (suc n) ++ more)) (negsuc k) more) e
+    ap (λ o. o >>= (λ m. narrow (45 ∷ (natural (suc n) ++ more)) (signed true m.0) m.1)) (positive_read (suc n) more (omega arith) b)
 
 pub shown_alone : (v : ℤ) (before : List ℕ) (z : ℤ) → before ≡ [] → z ≡ v → integer v ≡ before ++ (integer z ++ [])
 shown_alone v before z b e = ap integer (sym e) ∙ sym (append-nil (integer z)) ∙ ap (λ x. x ++ (integer z ++ [])) (sym b)
@@ -115,10 +109,9 @@ narrow_sound : (s : List ℕ) (z : ℤ) (rest : List ℕ) → s ≡ integer z ++
 narrow_sound s z rest e d true n = record { fit = tt; cut = e; clean = λ before c w f. false≢true (sym f.3 ∙ n) }
 narrow_sound s z rest e d false n = record { value = z; fit = tt; before = []; number = z; more = rest; at = (refl, refl, refl, n); cut = refl; is = e; ends = d }
 
-sound_minus : (s : List ℕ) (o : Scanned ℕ) → PositiveSound s o → Sound integers (45 ∷ s) (o >>= (λ n. narrow (45 ∷ s) (minus n.0) n.1))
+sound_minus : (s : List ℕ) (o : Scanned ℕ) → PositiveSound s o → Sound integers (45 ∷ s) (o >>= (λ n. narrow (45 ∷ s) (signed true n.0) n.1))
 sound_minus s (Ok p) h =
-    let e : suc (p.0 - 1) ≡ p.0 = omega arith in
-    narrow_sound (45 ∷ s) (minus p.0) p.1 (ap (λ x. 45 ∷ x) h.1 ∙ ap (λ k. 45 ∷ (natural k ++ p.1)) (sym e)) h.2 (is_narrow (minus p.0)) refl
+    narrow_sound (45 ∷ s) (signed true p.0) p.1 (ap (λ x. 45 ∷ x) h.1 ∙ ap (λ x. x ++ p.1) (sym (minus_text p.0 h.0))) h.2 (is_narrow (signed true p.0)) refl
 sound_minus s (Err (bad r)) h = record { value = negsuc 0; fit = tt; front = 45 ∷ []; more = natural 1; cut = ap (λ x. 45 ∷ x) (sym h); good = refl }
 sound_minus s (Err (fault c r)) h = absurd h
 
@@ -138,8 +131,8 @@ sound_zero c s true e = record {
 }
 sound_zero c s false e = sound_plus (c ∷ s) (positive_at (c ∷ s)) (positive_sound (c ∷ s))
 
-sound_sign : (c : ℕ) (s : List ℕ) (b : Bool) → (c == 45) ≡ b → Sound integers (c ∷ s) (cond b (positive_at s >>= (λ n. narrow (c ∷ s) (minus n.0) n.1)) (cond (c == 48) (Ok (pos 0, s)) (positive_at (c ∷ s) >>= (λ n. narrow (c ∷ s) (pos n.0) n.1))))
-sound_sign c s true e = subst (λ x. Sound integers (x ∷ s) (positive_at s >>= (λ n. narrow (x ∷ s) (minus n.0) n.1))) (sym (same_byte c 45 e)) (sound_minus s (positive_at s) (positive_sound s))
+sound_sign : (c : ℕ) (s : List ℕ) (b : Bool) → (c == 45) ≡ b → Sound integers (c ∷ s) (cond b (positive_at s >>= (λ n. narrow (c ∷ s) (signed true n.0) n.1)) (cond (c == 48) (Ok (pos 0, s)) (positive_at (c ∷ s) >>= (λ n. narrow (c ∷ s) (pos n.0) n.1))))
+sound_sign c s true e = subst (λ x. Sound integers (x ∷ s) (positive_at s >>= (λ n. narrow (x ∷ s) (signed true n.0) n.1))) (sym (same_byte c 45 e)) (sound_minus s (positive_at s) (positive_sound s))
 sound_sign c s false e = sound_zero c s (c == 48) refl
 
 integer_sound : (s : List ℕ) → Sound integers s (integer_at s)
@@ -181,7 +174,7 @@ longest_at (pos (suc n)) (d ∷ f) more back e =
 longest_at (negsuc n) (d ∷ f) more back e =
     let hd : 45 ≡ d = cc in
     let tl : natural (suc n) ≡ f ++ more = cc in
-    subst (λ x. Within back (integer_at (x ∷ (f ++ back)))) hd (narrow_within back (45 ∷ (f ++ back)) minus (positive_at (f ++ back)) (positive_longest (suc n) f more back (omega arith) tl))
+    subst (λ x. Within back (integer_at (x ∷ (f ++ back)))) hd (narrow_within back (45 ∷ (f ++ back)) (signed true) (positive_at (f ++ back)) (positive_longest (suc n) f more back (omega arith) tl))
 
 integer_first : (s before more : List ℕ) (v : ℤ) (c : Cause) (z : ℤ) → ⊤ → (before ≡ []) × (c ≡ wide) × (z ≡ v) × (is_narrow v ≡ false) → s ≡ before ++ (integer z ++ more) → BeginsNoDigit more → NoneBefore {A = ℤ} (length (integer z ++ more)) (integer_at s)
 integer_first s before more v c z _ f e b =

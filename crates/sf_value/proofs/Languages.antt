@@ -1,7 +1,8 @@
 -- The values of a type's shape and their spellings.
 use Rattle.std.proofs.Common.{◌≡◌, ⊎_elim, ℕ, ℤ, pos, List, [], ◌∷◌, ◌++◌, ap, append_assoc}
 use Rattle.sf_value.specs.Values.{Kind, int_kind, pair_kind, Data, number, pair}
-use Rattle.sf_value.specs.Spelling.{spelling, integer}
+use Rattle.sf_decimal.specs.Decimals.{integer}
+use Rattle.sf_value.specs.Spelling.{spelling}
 use Rattle.sf_value.specs.Reading.{HasShape, int_shape, pair_shape, Cause, HasFault}
 use Rattle.sf_value.proofs.Readers.{Language}
 use Rattle.sf_value.proofs.Integers.{integers}

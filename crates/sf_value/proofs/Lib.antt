@@ -1,5 +1,3 @@
-pub mod Numbers
-pub mod Digits
 pub mod Readers
 pub mod Sequences
 pub mod Integers
@@ -10,7 +8,6 @@ pub mod Typing
 pub mod Fronts
 pub mod Settled
 pub mod Unique
-pub mod Capped
 pub mod Failing
 pub mod ReadAnswers
 pub mod Together

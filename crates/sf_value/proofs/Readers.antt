@@ -1,10 +1,10 @@
 -- What a reader of a language promises.
 use Rattle.std.proofs.Common.{◌≡◌, ℕ, ◌≤◌, ℤ, List, ◌++◌, length, Ok, Err, sym, ap, subst, ◌∙◌, arith, length-append}
 use Rattle.std.specs.Prelude.{⊤}
-use Rattle.sf_value.specs.Digits.{BeginsNoDigit}
+use Rattle.sf_decimal.specs.Decimals.{BeginsNoDigit}
 use Rattle.sf_value.specs.Scan.{bad, fault, Scanned}
 use Rattle.sf_value.specs.Reading.{Cause}
-use Rattle.sf_value.specs.Spelling.{integer}
+use Rattle.sf_decimal.specs.Decimals.{integer}
 
 -- values with texts, in which numbers may have faults
 pub record Language (A : Type 0) : Type 1 where

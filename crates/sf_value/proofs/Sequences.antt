@@ -3,10 +3,10 @@ use Rattle.std.proofs.Common.{◌≡◌, ◌⊎◌, inl, inr, ⊎_elim, ℕ, ◌
 use Rattle.std.specs.Prelude.{⊤, ◌==◌}
 use Rattle.std.proofs.lemmas.Bool.Decides.{nat_tests}
 use Rattle.std.specs.Char.{is_ascii_digit}
-use Rattle.sf_value.specs.Digits.{BeginsNoDigit}
+use Rattle.sf_decimal.specs.Decimals.{BeginsNoDigit}
 use Rattle.sf_value.specs.Scan.{bad, fault, Scanned}
 use Rattle.sf_value.specs.Reading.{Cause}
-use Rattle.sf_value.specs.Spelling.{integer}
+use Rattle.sf_decimal.specs.Decimals.{integer}
 use Rattle.sf_value.proofs.Readers.{Language, IsReader, StopsAt, Whole, Sound, Completes, Within, NoneBefore, never_grows}
 
 -- a front of a text up to a byte c or past it

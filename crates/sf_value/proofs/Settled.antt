@@ -3,7 +3,8 @@ use Rattle.std.proofs.Common.{◌≡◌, inl, inr, ⊎_elim, ℕ, ◌-◌, ◌�
 use Rattle.std.proofs.lemmas.Bool.{false≢true}
 use Rattle.sf_value.specs.Values.{Kind, Data, is_narrow, HasKind, has_int, has_pair}
 use Rattle.sf_value.specs.Scan.{Stop, bad, fault, Scanned, value_at}
-use Rattle.sf_value.specs.Spelling.{spelling, integer}
+use Rattle.sf_decimal.specs.Decimals.{integer}
+use Rattle.sf_value.specs.Spelling.{spelling}
 use Rattle.sf_value.specs.Reading.{HasShape, int_shape, pair_shape, Cause, wide, HasFault, IsGood, IsLongestGood, IsFaultAt, Refusal, bad_value, out_of_range, place, IsRefused, Reads}
 use Rattle.sf_value.proofs.Readers.{Sound, Whole, StopsAt, FaultFrom, Completes, Within, NoneBefore}
 use Rattle.sf_value.proofs.Languages.{kinds}

@@ -1,19 +1,19 @@
 -- Values of one spelling are one value.
-use Rattle.std.proofs.Common.{◌≡◌, ℕ, zero, suc, ◌<◌, ℤ, pos, negsuc, List, [], ◌∷◌, ◌++◌, Ok, Err, refl, sym, ap, subst, ◌∙◌, arith, append_assoc, append-nil}
+use Rattle.std.proofs.Common.{◌≡◌, ℕ, zero, suc, true, ◌<◌, ℤ, pos, negsuc, List, [], ◌∷◌, ◌++◌, Ok, Err, refl, sym, ap, subst, ◌∙◌, arith, append_assoc, append-nil}
 use mathlib.Core.Path.{ap₂}
-use Rattle.std.specs.Prelude.{◌-◌, ◌==◌, if◌then◌else◌}
+use Rattle.std.specs.Prelude.{◌==◌, if◌then◌else◌}
 use Rattle.sf_value.specs.Values.{Kind, pair_kind, Data, number, pair, HasKind, has_int, has_pair}
-use Rattle.sf_value.specs.Digits.{BeginsNoDigit}
-use Rattle.sf_value.specs.Spelling.{integer, spelling}
-use Rattle.sf_value.specs.Scan.{bad, Scanned, ◌>>=◌, positive_at, minus}
-use Rattle.sf_value.proofs.Numbers.{natural_small}
-use Rattle.sf_value.proofs.Digits.{numeral}
+use Rattle.sf_decimal.specs.Decimals.{integer, BeginsNoDigit, signed}
+use Rattle.sf_value.specs.Spelling.{spelling}
+use Rattle.sf_value.specs.Scan.{bad, Scanned, ◌>>=◌, positive_at}
+use Rattle.sf_decimal.proofs.Numbers.{natural_small}
+use Rattle.sf_decimal.proofs.Digits.{numeral}
 use Rattle.sf_value.proofs.Integers.{positive_read, not_minus, not_zero}
 
 -- a whole number of any size
 abbrev whole_at : List ℕ → Scanned ℤ
 whole_at [] = Err (bad [])
-whole_at (c ∷ s) = if c == 45 then (positive_at s >>= λ n. Ok (minus n.0, n.1)) else (if c == 48 then Ok (pos 0, s) else (positive_at (c ∷ s) >>= λ n. Ok (pos n.0, n.1)))
+whole_at (c ∷ s) = if c == 45 then (positive_at s >>= λ n. Ok (signed true n.0, n.1)) else (if c == 48 then Ok (pos 0, s) else (positive_at (c ∷ s) >>= λ n. Ok (pos n.0, n.1)))
 
 plain_at : (c : ℕ) (t : List ℕ) (n : ℕ) (more : List ℕ) → 48 < c → positive_at (c ∷ t) ≡ Ok (n, more) → whole_at (c ∷ t) ≡ Ok (pos n, more)
 plain_at c t n more l e = rw (not_minus c l, not_zero c l) (ap (λ o. o >>= (λ m. Ok (pos m.0, m.1))) e)
@@ -25,8 +25,7 @@ whole_read (pos (suc n)) more b =
     subst (λ x. whole_at (x ++ more) ≡ Ok (pos (suc n), more)) (sym r.is)
     (plain_at r.head (r.tail ++ more) (suc n) more (omega (arith, r.low)) (subst (λ x. positive_at (x ++ more) ≡ Ok (suc n, more)) r.is (positive_read (suc n) more (omega arith) b)))
 whole_read (negsuc n) more b =
-    let e : suc n - 1 ≡ n = omega arith in
-    ap (λ o. o >>= (λ m. Ok (minus m.0, m.1))) (positive_read (suc n) more (omega arith) b) ∙ ap (λ k. Ok (negsuc k, more)) e
+    ap (λ o. o >>= (λ m. Ok (signed true m.0, m.1))) (positive_read (suc n) more (omega arith) b)
 
 one_answer : (o q : Scanned ℤ) (m n : ℤ) (r s : List ℕ) → o ≡ Ok (m, r) → o ≡ q → q ≡ Ok (n, s) → (m ≡ n) × (r ≡ s)
 one_answer o q m n r s a e b = let is : (m, r) ≡ (n, s) = cc in (ap (λ (p : ℤ × List ℕ). p.0) is, ap (λ (p : ℤ × List ℕ). p.1) is)

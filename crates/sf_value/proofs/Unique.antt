@@ -2,10 +2,11 @@
 use Rattle.std.proofs.Common.{◌≡◌, ℕ, zero, suc, ◌-◌, ◌<◌, ℤ, pos, negsuc, List, ◌++◌, length, Result, Ok, Err, sym, ap, ◌∙◌, arith, append_assoc, length-append}
 use Rattle.sf_value.specs.Values.{Kind, Data, HasKind}
 use Rattle.sf_value.specs.Scan.{bad, fault, Scanned, value_at}
-use Rattle.sf_value.specs.Spelling.{spelling, integer}
+use Rattle.sf_decimal.specs.Decimals.{integer}
+use Rattle.sf_value.specs.Spelling.{spelling}
 use Rattle.sf_value.specs.Reading.{Cause, wide, IsLongestGood, IsFaultAt, Refusal, bad_value, out_of_range, place, IsRefused, Reads}
-use Rattle.sf_value.proofs.Numbers.{natural_small}
-use Rattle.sf_value.proofs.Digits.{numeral}
+use Rattle.sf_decimal.proofs.Numbers.{natural_small}
+use Rattle.sf_decimal.proofs.Digits.{numeral}
 use Rattle.sf_value.proofs.Readers.{NoneBefore}
 use Rattle.sf_value.proofs.Languages.{kinds}
 use Rattle.sf_value.proofs.Settled.{answer, shaped, none_sooner, only}

@@ -1,5 +1,5 @@
 -- What the private readers answer.
-use Rattle.std.specs.Prelude.{◌≡◌, ℕ, ◌+◌, ◌^◌, min, List, length, Result, Ok, Err, ⊤}
+use Rattle.std.specs.Prelude.{◌≡◌, ℕ, ◌-◌, ◌^◌, min, List, length, Result, Ok, Err, ⊤}
 use Rattle.sf_value.specs.Reading.{wide}
 use Rattle.sf_value.specs.Scan.{Stop, bad, fault}
 use Rattle.sf_value.specs.declared.read.Failure.{Failure}
@@ -12,13 +12,13 @@ Fails (Wide left) read = (rest : List ℕ) × (read ≡ Err (fault wide rest)) �
 Fails Memory read = ⊤
 
 -- an answer, seen so, is what is read
-abbrev pub Gives : {X Y : Type 0} → (X → Y) → Result X Failure → Result Y Stop → Type 0
-Gives view (Ok x) read = read ≡ Ok (view x)
-Gives view (Err e) read = Fails e read
+abbrev pub GivesRead : {X Y : Type 0} → (X → Y) → Result X Failure → Result Y Stop → Type 0
+GivesRead view (Ok x) read = read ≡ Ok (view x)
+GivesRead view (Err e) read = Fails e read
 
 -- past every signed 64-bit number
 abbrev pub cap : ℕ
-cap = 2 ^ 63 + 1
+cap = 2 ^ 64 - 1
 
 -- a number that is kept up to the cap
 abbrev pub GivesCapped : {Y : Type 0} → Result (ℕ × Y) Failure → Result (ℕ × List ℕ) Stop → (Y → List ℕ) → Type 0

@@ -1,6 +1,5 @@
 pub mod Values
 pub mod Spelling
-pub mod Digits
 pub mod Reading
 pub mod Codes
 pub mod View

@@ -1,8 +1,8 @@
 -- What it is to read a value of a type from bytes.
 use Rattle.std.specs.Prelude.{◌≡◌, ◌≢◌, ◌⊎◌, ℕ, ◌≤◌, ℤ, List, [], ◌∷◌, ◌++◌, length, Result, Ok, Err, IsFalse}
 use Rattle.sf_value.specs.Values.{Kind, int_kind, pair_kind, Data, number, pair, is_narrow, HasKind}
-use Rattle.sf_value.specs.Digits.{BeginsNoDigit}
-use Rattle.sf_value.specs.Spelling.{spelling, integer}
+use Rattle.sf_decimal.specs.Decimals.{BeginsNoDigit, integer}
+use Rattle.sf_value.specs.Spelling.{spelling}
 
 -- a value has the shape of a type, where numbers have any size
 pub data HasShape : Data → Kind → Type 0 where

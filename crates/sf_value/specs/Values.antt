@@ -1,5 +1,6 @@
 -- Types and values.
-use Rattle.std.specs.Prelude.{◌^◌, ℕ, suc, ◌+◌, ℤ, pos, negsuc, Bool, List, nat_lt, IsTrue}
+use Rattle.std.specs.Prelude.{ℕ, suc, ◌+◌, ℤ, List, IsTrue}
+pub use Rattle.sf_decimal.specs.Decimals.{is_narrow}
 
 -- A name is its bytes.
 abbrev pub Name : Type 0
@@ -16,19 +17,14 @@ pub data Data : Type 0 where
   pair : Data → Data → Data
 
 -- how many values a value is made of
-abbrev pub count : Data → ℕ
-count (number z) = 1
-count (pair x y) = suc (count x + count y)
+abbrev pub data_count : Data → ℕ
+data_count (number z) = 1
+data_count (pair x y) = suc (data_count x + data_count y)
 
 -- how many types a type is made of
 abbrev pub nodes : Kind → ℕ
 nodes int_kind = 1
 nodes (pair_kind t u) = suc (nodes t + nodes u)
-
--- whether a whole number is within signed 64 bits
-abbrev pub is_narrow : ℤ → Bool
-is_narrow (pos n) = nat_lt n (2 ^ 63)
-is_narrow (negsuc n) = nat_lt n (2 ^ 63)
 
 -- the numbers of a value are within signed 64 bits
 abbrev pub HasNarrowNumbers : Data → Type 0

@@ -18,4 +18,4 @@ pub use laws::{one_reading, one_type, same_value, some_reading};
 pub use read::{ReadRefusal, read_value};
 pub use ty::{Ty, TyForm, TyRefusal, same_type};
 pub use value::{Form, Value};
-pub use write::{write_natural, write_value};
+pub use write::write_value;

@@ -1,15 +1,16 @@
 //! Values from their spellings.
-ghost use Rattle.std.specs.Prelude.{◌≡◌, ◌≤◌, ◌<◌, ◌+◌, ◌*◌, ℕ, IfOk, IfErr, MatchResult, min};
+ghost use Rattle.std.specs.Prelude.{◌≡◌, ◌<◌, ℕ, IfOk, IfErr, MatchResult, min};
 ghost use Rattle.sf_value.specs.Values.{Data, int_kind, pair_kind, HasKind};
 ghost use Rattle.sf_value.specs.Spelling.{spelling};
-ghost use Rattle.sf_value.specs.Digits.{value_after, digits_at, after_digits};
-ghost use Rattle.sf_value.specs.Scan.{byte_at, positive_at, integer_at, value_at, narrow, minus};
+ghost use Rattle.sf_decimal.specs.Decimals.{signed};
+ghost use Rattle.sf_value.specs.Scan.{byte_at, positive_at, integer_at, value_at, narrow};
 ghost use Rattle.sf_value.specs.Reading.{Reads};
 ghost use Rattle.sf_value.specs.Refuses.{Refuses, IsMemory};
-ghost use Rattle.sf_value.specs.Gives.{Gives, GivesCapped, cap};
+ghost use Rattle.sf_value.specs.Gives.{GivesRead, GivesCapped, cap};
 
 use crate::ty::{Ty, TyForm};
 use crate::value::Value;
+use sf_decimal::{digits_at, signed};
 use std::alloc::Global;
 use thiserror::Error;
 
@@ -35,40 +36,9 @@ pub(crate) enum Failure {
     Memory,
 }
 
-// Past every number within signed 64 bits, with a minus too.
-const CAP: u128 = 9_223_372_036_854_775_809;
-
-/// One more digit, up to the cap.
-fn grown(n: u64, digit: u8) -> u64
-    requires capped { n ≤ cap }
-    requires digit { digit < 10 }
-    ensures { result ≡ min (n * 10 + digit) cap }
-{
-    let next = n as u128 * 10 + digit as u128;
-    if next < CAP { next as u64 } else { CAP as u64 }
-}
-
-/// The number that the digits at the front make after a first digit, up to the cap, and what is after them.
-fn digits_of(first: u64, bytes: &[u8]) -> (u64, &[u8])
-    requires { first < 10 }
-    ensures number { result.0 ≡ min (value_after first (digits_at bytes.now)) cap }
-    ensures rest { result.1.now ≡ after_digits bytes.now }
-{
-    let mut n = first;
-    let mut left = bytes;
-    while let [c, rest @ ..] = left {
-        if !c.is_ascii_digit() {
-            break;
-        }
-        n = grown(n, *c - b'0');
-        left = rest;
-    }
-    (n, left)
-}
-
 /// What is after this byte.
 fn byte_of(byte: u8, bytes: &[u8]) -> Result<&[u8], Failure>
-    ensures { Gives (λ rest. rest.now) result (byte_at byte bytes.now) }
+    ensures { GivesRead (λ rest. rest.now) result (byte_at byte bytes.now) }
 {
     match bytes {
         [] => Err(Failure::Bad(0)),
@@ -88,9 +58,10 @@ fn positive_of(bytes: &[u8]) -> Result<(u64, &[u8]), Failure>
 {
     match bytes {
         [] => Err(Failure::Bad(0)),
-        [c, rest @ ..] => {
+        [c, ..] => {
             if b'0' < *c && c.is_ascii_digit() {
-                Ok(digits_of((*c - b'0') as u64, rest))
+                let run = digits_at(bytes);
+                Ok((run.number, run.rest))
             } else {
                 Err(Failure::Bad(bytes.len()))
             }
@@ -98,51 +69,46 @@ fn positive_of(bytes: &[u8]) -> Result<(u64, &[u8]), Failure>
     }
 }
 
-// The first number past signed 64 bits. With a minus it is the least within them.
-const LIMIT: u64 = 9_223_372_036_854_775_808;
-
 /// A whole number at the front, and what is after it.
 fn integer_of(bytes: &[u8]) -> Result<(i64, &[u8]), Failure>
-    ensures { Gives (λ x. (x.0, x.1.now)) result (integer_at bytes.now) }
+    ensures { GivesRead (λ x. (x.0, x.1.now)) result (integer_at bytes.now) }
 {
     match bytes {
         [] => Err(Failure::Bad(0)),
         [c, rest @ ..] => {
             if *c == b'-' {
                 let (n, after) = positive_of(rest)?;
-                negative_of(n, bytes, after)
+                narrow(n, true, bytes, after)
             } else if *c == b'0' {
                 Ok((0, rest))
             } else {
                 let (n, after) = positive_of(bytes)?;
-                if n < LIMIT {
-                    Ok((n as i64, after))
-                } else {
-                    Err(Failure::Wide(bytes.len()))
-                }
+                narrow(n, false, bytes, after)
             }
         }
     }
 }
 
-/// The negative of a number after a minus, where it is within signed 64 bits.
-fn negative_of<'a>(n: u64, bytes: &[u8], after: &'a [u8]) -> Result<(i64, &'a [u8]), Failure>
-    ensures { (m : ℕ) → 0 < m → n ≡ min m cap →
-        Gives (λ x. (x.0, x.1.now)) result (narrow bytes.now (minus m) after.now) }
+/// The number with this sign that begins the bytes, where it is within signed 64 bits.
+fn narrow<'a>(
+    n: u64,
+    is_negative: bool,
+    bytes: &[u8],
+    after: &'a [u8],
+) -> Result<(i64, &'a [u8]), Failure>
+    ensures { (m : ℕ) → n ≡ min m cap →
+        GivesRead (λ x. (x.0, x.1.now)) result (narrow bytes.now (signed is_negative m) after.now) }
 {
-    if n < LIMIT {
-        Ok((-(n as i64), after))
-    } else if n == LIMIT {
-        Ok((i64::MIN, after))
-    } else {
-        Err(Failure::Wide(bytes.len()))
+    match signed(n, is_negative) {
+        Some(number) => Ok((number, after)),
+        None => Err(Failure::Wide(bytes.len())),
     }
 }
 
 /// A value of the type at the front, and what is after it.
 #[cycle(value_of)]
 fn value_of<'a>(alloc: Global, ty: &Ty, bytes: &'a [u8]) -> Result<(Value, &'a [u8]), Failure>
-    ensures { Gives (λ x. (x.0, x.1.now)) result (value_at ty.now bytes.now) }
+    ensures { GivesRead (λ x. (x.0, x.1.now)) result (value_at ty.now bytes.now) }
 {
     match &ty.form {
         TyForm::Int => int_of(bytes),
@@ -152,7 +118,7 @@ fn value_of<'a>(alloc: Global, ty: &Ty, bytes: &'a [u8]) -> Result<(Value, &'a [
 
 #[tactic(auto, using(crate::proofs::Failing::fails_then), unfolding(crate::specs::Scan::value_at))]
 fn int_of(bytes: &[u8]) -> Result<(Value, &[u8]), Failure>
-    ensures { Gives (λ x. (x.0, x.1.now)) result (value_at int_kind bytes.now) }
+    ensures { GivesRead (λ x. (x.0, x.1.now)) result (value_at int_kind bytes.now) }
 {
     let (n, rest) = integer_of(bytes)?;
     Ok((Value::int(n), rest))
@@ -166,7 +132,7 @@ fn pair_of<'a>(
     second: &Ty,
     bytes: &'a [u8],
 ) -> Result<(Value, &'a [u8]), Failure>
-    ensures { Gives (λ x. (x.0, x.1.now)) result (value_at (pair_kind first.now second.now) bytes.now) }
+    ensures { GivesRead (λ x. (x.0, x.1.now)) result (value_at (pair_kind first.now second.now) bytes.now) }
 {
     let rest = byte_of(b'(', bytes)?;
     let (x, rest) = value_of(alloc, first, rest)?;

@@ -2,7 +2,7 @@ use crate::fault::{Fault, ValueFault};
 use crate::read::{ReadRefusal, read_value};
 use crate::ty::{Ty, TyForm, TyRefusal, same_type};
 use crate::value::{Form, Value};
-use crate::write::{write_natural, write_value};
+use crate::write::write_value;
 use crate::{has_type, one_reading, same};
 use std::alloc::{AllocError, AllocFailed, Global};
 use std::test::Fail;
@@ -137,7 +137,7 @@ fn values_are_written(rt: HostRuntime) -> Result<(), Fail> {
     out.push(b' ')?;
     write_value(&Value::int(0), &mut out)?;
     out.push(b' ')?;
-    write_natural(4_000_000_000_000_000, &mut out)?;
+    write_value(&Value::int(4_000_000_000_000_000), &mut out)?;
     out.push(b' ')?;
     let pair = Value::pair(alloc, Value::int(-12), Value::int(0))?;
     write_value(&pair, &mut out)?;

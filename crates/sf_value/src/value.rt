@@ -19,7 +19,7 @@ pub enum Form {
 }
 
 impl Model for Value {
-    ghost use Rattle.sf_value.specs.Values.{Data, HasNarrowNumbers, count};
+    ghost use Rattle.sf_value.specs.Values.{Data, HasNarrowNumbers, data_count};
     ghost use Rattle.std.specs.Prelude.{List};
     ghost use Rattle.std.specs.Coded.{code_by, codes};
     ghost use Rattle.sf_value.specs.Codes.{Mark, marks_of, data_from, data_from-marks_of};
@@ -34,7 +34,7 @@ impl Model for Value {
 
     ghost invariant = { λ a. HasNarrowNumbers (data_of a.form) };
 
-    ghost size = { count };
+    ghost size = { data_count };
 
     ghost use Rattle.sf_value.specs.Falls.{deep_le-count};
 

@@ -1,7 +1,9 @@
-use Rattle.std.proofs.Common.{codes, ◌∙◌, sym}
+use Rattle.std.proofs.Common.{codes, ◌∙◌, refl, sym}
 use Rattle.sf_term.specs.Arena.{templates_of}
 use Rattle.sf_check.specs.Names.{program_names}
 use Rattle.sf_check.specs.Refusing.{main_missing}
+use Rattle.sf_refusal.specs.declared.rule.Rule.TheVariants.{NoMain}
+use Rattle.sf_refusal.proofs.Explained.{breaks_at}
 use Rattle.std.proofs.lemmas.Result.{err_from_is_err_and}
 use Rattle.sf_check.proofs.Accepted.{accepted_by, types_refuse}
 use Rattle.sf_check.proofs.Finding.{place_in, named_at, none_named}
@@ -22,7 +24,7 @@ pub returns-in-None-clause-refused : goal.returns-in-None-clause-refused
 returns-in-None-clause-refused c =
     let p = c.args.program.now in
     let there = sym (place_in c.in_ok-names.names (codes "main") (program_names p) c.in_ok-names.ensures.names) ∙ sym c.in-None.ensures.index in
-    main_missing c.in_ok-names.ensures.different c.in_ok-check_templates.ensures.ok (none_named (codes "main") (templates_of p) there)
+    breaks_at NoMain c.broken.ensures refl (main_missing c.in_ok-names.ensures.different c.in_ok-check_templates.ensures.ok (none_named (codes "main") (templates_of p) there))
 
 pub returns-in_err-check_templates-clause-refused : goal.returns-in_err-check_templates-clause-refused
 returns-in_err-check_templates-clause-refused c =

@@ -1,6 +1,7 @@
-use Rattle.std.proofs.Common.{◌+◌, arith, length, sym, ap, ◌∙◌, subst, Some}
-use Rattle.std.proofs.lemmas.Result.{err_from_is_err_and}
-use Rattle.sf_check.specs.Refusing.{name_refused, out_of_memory}
+use Rattle.std.proofs.Common.{◌+◌, arith, length, refl, sym, ap, ◌∙◌, subst, Some}
+use Rattle.sf_refusal.specs.declared.rule.Rule.TheVariants.{DuplicateName}
+use Rattle.sf_refusal.proofs.Explained.{breaks_at, memory_on}
+use Rattle.sf_check.specs.Refusing.{name_refused}
 use Rattle.sf_check.proofs.Templates.{header_at, name_at, spot_stands}
 use Rattle.sf_check.proofs.Naming.{Named, one_more, repeated, all_named, present, absent, named_after}
 use Rattle.sf_check.proofs.names.template_names.Goals as goal
@@ -11,13 +12,13 @@ returns-then-not-branch-clause-refused c =
     let here = header_at p _ _ _ c.templates-template-items.ensures.templates (omega arith) c.template-item.is in
     let named = name_at p _ _ here ∙ ap Some (sym (c.in_ok-name.ensures.ok ∙ c.name.ensures)) in
     let old = present c.loop-template.names c.in_ok-name.name _ c.in_ok-insert.ensures.added c.if-not-branch.true in
-    name_refused (repeated p _ _ _ c.loop-template.invariant named c.spot.result old (spot_stands p _ _ here ∙ ap Some (sym c.spot.ensures)))
+    breaks_at DuplicateName c.broken.ensures refl (name_refused (repeated p _ _ _ c.loop-template.invariant named c.spot.result old (spot_stands p _ _ here ∙ ap Some (sym c.spot.ensures))))
 
 pub returns-in_err-name-clause-refused : goal.returns-in_err-name-clause-refused
-returns-in_err-name-clause-refused c = let p = err_from_is_err_and c.from_residual.result c.from_residual.ensures.1 in rw (p.1, p.2) out_of_memory
+returns-in_err-name-clause-refused c = memory_on _ _ c.from_residual.ensures.1
 
 pub returns-in_err-insert-clause-refused : goal.returns-in_err-insert-clause-refused
-returns-in_err-insert-clause-refused c = let p = err_from_is_err_and c.from_residual-in_err-insert.result c.from_residual-in_err-insert.ensures.1 in rw (p.1, p.2) out_of_memory
+returns-in_err-insert-clause-refused c = memory_on _ _ c.from_residual-in_err-insert.ensures.1
 
 pub loop-template-preserved : goal.loop-template-preserved
 loop-template-preserved c =

@@ -40,7 +40,7 @@ joined_output-returns-in_err-second-in-InParallel t c =
 
 pub joined_output-returns-in_ok-second-in-InParallel : goal.joined_output-returns-in_ok-second-in-InParallel
 joined_output-returns-in_ok-second-in-InParallel t c =
-    parallel_answers _ _ _ _ _ c.spot-spot.ensures _ _ c.in_ok-a-in-InParallel.ensures.ok _ _ _ _ _ (joined_there _ _ c.in-InParallel.is c.requires.there) c.requires.fits c.in_ok-first-in-InParallel.ensures c.in_ok-second-in-InParallel.ensures c.pair_at.ensures
+    parallel_answers _ _ _ _ _ c.spot-spot.ensures _ _ c.in_ok-a-in-InParallel.ensures.ok _ _ _ _ _ (joined_there _ _ c.in-InParallel.is c.requires.there) c.requires.fits c.in_ok-first-in-InParallel.ensures c.in_ok-second-in-InParallel.ensures c.pair_type.ensures
 
 -- ## Both on the input
 
@@ -54,7 +54,7 @@ joined_output-returns-in_err-second-in-FannedOut t c =
 
 pub joined_output-returns-in_ok-second-in-FannedOut : goal.joined_output-returns-in_ok-second-in-FannedOut
 joined_output-returns-in_ok-second-in-FannedOut t c =
-    fan_answers _ _ _ _ _ c.spot-spot.ensures _ _ _ _ _ (joined_there _ _ c.in-FannedOut.is c.requires.there) c.requires.fits c.in_ok-first-in-FannedOut.ensures c.in_ok-second-in-FannedOut.ensures c.pair_at-in-FannedOut.ensures
+    fan_answers _ _ _ _ _ c.spot-spot.ensures _ _ _ _ _ (joined_there _ _ c.in-FannedOut.is c.requires.there) c.requires.fits c.in_ok-first-in-FannedOut.ensures c.in_ok-second-in-FannedOut.ensures c.pair_type-in-FannedOut.ensures
 
 -- ## On one side
 
@@ -69,7 +69,7 @@ sided_output-returns-in_err-first-in-First t c =
 
 pub sided_output-returns-in_ok-clone_in-in-First : goal.sided_output-returns-in_ok-clone_in-in-First
 sided_output-returns-in_ok-clone_in-in-First t c =
-    first_answers _ _ _ _ _ c.spot-spot.ensures _ _ c.in_ok-a.ensures.ok _ _ _ _ (sided_there _ _ c.in-First.is c.requires.there) c.requires.fits c.in_ok-first-in-First.ensures c.in_ok-clone_in-in-First.ensures c.pair_at-in-First.ensures
+    first_answers _ _ _ _ _ c.spot-spot.ensures _ _ c.in_ok-a.ensures.ok _ _ _ _ (sided_there _ _ c.in-First.is c.requires.there) c.requires.fits c.in_ok-first-in-First.ensures c.in_ok-clone_in-in-First.ensures c.pair_type-in-First.ensures
 
 pub sided_output-returns-in_err-second-in-Second : goal.sided_output-returns-in_err-second-in-Second
 sided_output-returns-in_err-second-in-Second t c =
@@ -77,7 +77,7 @@ sided_output-returns-in_err-second-in-Second t c =
 
 pub sided_output-returns-in_ok-clone_in-in-Second : goal.sided_output-returns-in_ok-clone_in-in-Second
 sided_output-returns-in_ok-clone_in-in-Second t c =
-    second_answers _ _ _ _ _ c.spot-spot.ensures _ _ c.in_ok-a.ensures.ok _ _ _ _ (sided_there _ _ c.in-Second.is c.requires.there) c.requires.fits c.in_ok-second-in-Second.ensures c.in_ok-clone_in-in-Second.ensures c.pair_at-in-Second.ensures
+    second_answers _ _ _ _ _ c.spot-spot.ensures _ _ c.in_ok-a.ensures.ok _ _ _ _ (sided_there _ _ c.in-Second.is c.requires.there) c.requires.fits c.in_ok-second-in-Second.ensures c.in_ok-clone_in-in-Second.ensures c.pair_type-in-Second.ensures
 
 pub sided_output-returns-in_err-clone_in-in-First : goal.sided_output-returns-in_err-clone_in-in-First
 sided_output-returns-in_err-clone_in-in-First t c = memory_answers _ _ c.args.term _ _ c.from_residual-in_err-clone_in-in-First.ensures.1

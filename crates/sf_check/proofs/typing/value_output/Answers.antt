@@ -18,4 +18,4 @@ pub returns-then-same_type : goal.returns-then-same_type
 returns-then-same_type c = initial_output _ _ _ _ _ c.in-InitialPre.is c.in_ok-given.ensures (c.if-same_type.ensures.0 refl)
 
 pub returns-else-same_type : goal.returns-else-same_type
-returns-else-same_type c = initial_refused _ _ _ _ _ _ _ c.in-InitialPre.is c.in_ok-given.ensures (λ e. true≢false (sym (c.if-same_type.ensures.1 e)))
+returns-else-same_type c = initial_refused _ _ _ _ _ _ _ _ c.in-InitialPre.is c.in_ok-given.ensures (λ e. true≢false (sym (c.if-same_type.ensures.1 e))) c.broken.ensures

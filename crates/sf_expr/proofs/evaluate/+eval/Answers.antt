@@ -1,7 +1,7 @@
 use Rattle.std.proofs.Common.{rules, subst, sym, IsTrue}
 use Rattle.std.proofs.Math.Logic.{∥∥₁_map}
 use Rattle.sf_expr.specs.Scopes.{is_bound, scope_of}
-use Rattle.sf_expr.proofs.Evaluating.{name_bound, pair_first, pair_second, left_typed, right_typed, left_number, right_number, settled_number, pair_second_failed, right_failed, passed_on}
+use Rattle.sf_expr.proofs.Evaluating.{name_bound, pair_first, pair_second, left_typed, right_typed, left_number, right_number, settled_number, pair_second_failed, right_failed, operation_answers, passed_on}
 use Rattle.sf_expr.proofs.evaluate.+eval.Goals as goal
 
 pub unreachable-requires : goal.unreachable-requires
@@ -38,3 +38,7 @@ operate-requires-clause-left_number t c = settled_number _ (∥∥₁_map c.requ
 
 pub operate-requires-clause-right_number : goal.operate-requires-clause-right_number
 operate-requires-clause-right_number t c = settled_number _ (∥∥₁_map c.requires (λ h. right_number c.in-Operation.ensures.builds h c.in_ok-right-in-Operation.ensures))
+
+pub returns-in_ok-right-in-Operation : goal.returns-in_ok-right-in-Operation
+returns-in_ok-right-in-Operation t c =
+    operation_answers (scope_of c.args.scope.now) c.operate.result c.in-Operation.ensures.builds c.in_ok-left-in-Operation.ensures c.in_ok-right-in-Operation.ensures c.operate.ensures

@@ -1,12 +1,12 @@
-use Rattle.std.proofs.Common.{◌≡◌, ◌∙◌, sym, ap, subst, Some, refl}
-use Rattle.sf_value.specs.Values.{Name, Kind, int_kind, pair_kind}
-use Rattle.sf_expr.specs.declared.spot.Spot.{Spot}
-use Rattle.sf_expr.specs.declared.typing.TypeRefusal.TheVariants.{UnknownName, Mismatch, TypeTooLarge}
+use Rattle.std.proofs.Common.{◌≡◌, ◌∙◌, sym, ap, subst, Some}
+use Rattle.sf_value.specs.Values.{Name, Kind, int_kind}
+use Rattle.sf_refusal.specs.declared.rule.Rule.TheVariants.{UnknownName, Mismatch}
+use Rattle.sf_refusal.proofs.Explained.{breaks_at}
 use Rattle.sf_expr.specs.Arena.{expression}
 use Rattle.sf_expr.specs.Typing.{HasType, type_of_name}
 use Rattle.sf_expr.specs.Scopes.{names_of}
-use Rattle.sf_expr.specs.Refusals.{Refused, unknown_name, pair_too_large, no_number}
-use Rattle.sf_expr.proofs.Judged.{first_judged, second_judged, left_judged, right_judged, int_typed, name_typed, pair_has_type, operation_has_type, small_enough}
+use Rattle.sf_expr.specs.Refusals.{unknown_name, no_number}
+use Rattle.sf_expr.proofs.Judged.{first_judged, second_judged, left_judged, right_judged, int_typed, name_typed, pair_judged, memory_judged, operation_has_type}
 use Rattle.sf_expr.proofs.typing.+judge.Goals as goal
 
 pub returns-in-Int : goal.returns-in-Int
@@ -27,7 +27,7 @@ pub returns-in-Name : goal.returns-in-Name
 returns-in-Name t c =
     let x = c.args.exprs.now in
     let R = names_of c.args.names.now in
-    subst (λ (s : Spot). Refused x R c.args.id (UnknownName s)) (sym c.spot.ensures)
+    breaks_at UnknownName c.broken.ensures c.spot.ensures
     (unknown_name (sym c.in-Name.ensures.value) (ap (λ (y : Name). type_of_name y R) (sym c.name_of.ensures) ∙ c.in-None.ensures.absent))
 
 pub returns-in_err-first-in-Pair : goal.returns-in_err-first-in-Pair
@@ -38,22 +38,9 @@ pub returns-in_err-second-in-Pair : goal.returns-in_err-second-in-Pair
 returns-in_err-second-in-Pair t c =
     second_judged c.args.exprs.now (names_of c.args.names.now) c.args.id c.in-Pair.first c.in-Pair.second c.in_ok-first-in-Pair.first _ c.in_err-second-in-Pair.field-0.0 (sym c.in-Pair.ensures.value) c.in_ok-first-in-Pair.ensures c.from_residual-in_err-second-in-Pair.ensures.1 c.in_err-second-in-Pair.ensures
 
-pub returns-in-Ok : goal.returns-in-Ok
-returns-in-Ok t c =
-    let x = c.args.exprs.now in
-    let R = names_of c.args.names.now in
-    let a = c.in_ok-first-in-Pair.first in
-    let b = c.in_ok-second-in-Pair.second in
-    subst (λ (u : Kind). HasType R (expression x c.args.id) u) (sym c.in-Ok.ensures.ok)
-    (pair_has_type x R c.args.id c.in-Pair.first c.in-Pair.second a b c.in-Pair.ensures.builds c.in_ok-first-in-Pair.ensures c.in_ok-second-in-Pair.ensures
-    (small_enough (pair_kind a b) (λ q. let e = c.in-Ok.ensures.large.1 q in cc)))
-
-pub returns-in-Err-TypeTooLarge : goal.returns-in-Err-TypeTooLarge
-returns-in-Err-TypeTooLarge t c =
-    let x = c.args.exprs.now in
-    let R = names_of c.args.names.now in
-    subst (λ (s : Spot). Refused x R c.args.id (TypeTooLarge s)) (sym c.spot-in-Err-TypeTooLarge.ensures)
-    (pair_too_large (sym c.in-Pair.ensures.value) c.in_ok-first-in-Pair.ensures c.in_ok-second-in-Pair.ensures ((rw c.in-Err-TypeTooLarge.field-0-is at c.in-Err-TypeTooLarge.ensures.large).0 refl))
+pub returns-in-Pair : goal.returns-in-Pair
+returns-in-Pair t c =
+    pair_judged c.args.exprs.now (names_of c.args.names.now) c.args.id c.in-Pair.first c.in-Pair.second _ _ _ _ (sym c.in-Pair.ensures.value) c.in_ok-first-in-Pair.ensures c.in_ok-second-in-Pair.ensures c.spot-in-Pair.ensures c.pair_type.ensures
 
 pub returns-in_err-left-in-Operation : goal.returns-in_err-left-in-Operation
 returns-in_err-left-in-Operation t c =
@@ -78,5 +65,8 @@ returns t c =
     let x = c.args.exprs.now in
     let R = names_of c.args.names.now in
     let differ : (c.in_ok-left-in-Operation.left ≡ int_kind) × (c.in_ok-right-in-Operation.right ≡ int_kind) → ⊥ = λ h. let there = c.are_numbers.ensures.1 h in cc in
-    subst (λ (s : Spot). Refused x R c.args.id (Mismatch s)) (sym c.spot-else-are_numbers.ensures)
+    breaks_at Mismatch c.broken-else-are_numbers.ensures c.spot-else-are_numbers.ensures
     (no_number (sym c.in-Operation.ensures.value) c.in_ok-left-in-Operation.ensures c.in_ok-right-in-Operation.ensures differ)
+
+pub returns-in_err-clone_in-in-Some : goal.returns-in_err-clone_in-in-Some
+returns-in_err-clone_in-in-Some t c = memory_judged c.args.exprs.now (names_of c.args.names.now) c.args.id _ c.from_residual.ensures.1

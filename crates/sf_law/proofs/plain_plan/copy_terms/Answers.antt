@@ -1,13 +1,13 @@
 use Rattle.std.proofs.Common.{◌∙◌, sym, subst, arith}
 use Rattle.sf_expr.specs.Arena.{IsCopy}
-use Rattle.sf_term.specs.Arena.{expressions_of as program_expressions, PartsBelow}
+use Rattle.sf_term.specs.Arena.{expressions_of as program_expressions, TermPartsBelow}
 use Rattle.sf_law.specs.Arena.{AddsNode}
 use Rattle.sf_law.proofs.Copied.{shows_next, shows_all, parts_fit}
 use Rattle.sf_law.proofs.plain_plan.copy_terms.Goals as goal
 
 pub add-requires-clause-held : goal.add-requires-clause-held
 add-requires-clause-held c =
-    let below = subst (λ k. PartsBelow c.node.result k) c.term.ensures c.node.ensures.below in
+    let below = subst (λ k. TermPartsBelow c.node.result k) c.term.ensures c.node.ensures.below in
     rw (c.plan_node.ensures, c.loop-number.invariant.count) (parts_fit c.node.result c.loop-number.number below)
 
 pub loop-number-preserved : goal.loop-number-preserved
@@ -17,7 +17,7 @@ loop-number-preserved c =
     let i = c.loop-number in
     let node = c.node.result in
     let copy = subst (λ x. IsCopy (program_expressions p) x) (sym i.invariant.expressions) c.requires.same in
-    let below = subst (λ k. PartsBelow node k) c.term.ensures c.node.ensures.below in
+    let below = subst (λ k. TermPartsBelow node k) c.term.ensures c.node.ensures.below in
     let added = subst (λ n. AddsNode old c.add.new.self c.in_ok-add.field-0 n) c.plan_node.ensures c.in_ok-add.ensures.ok in
     record {
       expressions = c.add.ensures.kept.expressions ∙ i.invariant.expressions;

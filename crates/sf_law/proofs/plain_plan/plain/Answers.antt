@@ -1,7 +1,7 @@
 use Rattle.std.proofs.Common.{◌∙◌, ap}
 use Rattle.sf_term.specs.Arena.{tree as term}
 use Rattle.sf_mean.specs.Networks.{network_of}
-use Rattle.sf_law.specs.Arena.{tree}
+use Rattle.sf_law.specs.Arena.{plan_tree}
 use Rattle.sf_law.specs.Copies.{plan_id, ShowsTerms}
 use Rattle.sf_law.proofs.Copied.{same_network}
 use Rattle.sf_law.proofs.plain_plan.plain.Goals as goal
@@ -14,5 +14,5 @@ returns c =
     let shows : ShowsTerms p q = λ t. c.with_main.ensures.trees (plan_id t) ∙ c.in_ok-copy_templates.ensures.trees (plan_id t) ∙ c.in_ok-copy_terms.ensures.terms t in
     record {
       network = same_network p q shows (c.with_main.ensures.templates ∙ c.in_ok-copy_templates.ensures.templates) ∙ ap network_of program;
-      main = ap (λ a. tree q a) (c.with_main.ensures.main ∙ c.plan_id.ensures) ∙ shows c.main.result ∙ ap (λ p. term p c.main.result) program ∙ c.main.ensures.term;
+      main = ap (λ a. plan_tree q a) (c.with_main.ensures.main ∙ c.plan_id.ensures) ∙ shows c.main.result ∙ ap (λ p. term p c.main.result) program ∙ c.main.ensures.term;
     }

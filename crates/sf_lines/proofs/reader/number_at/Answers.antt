@@ -11,7 +11,7 @@ returns-then-c-eq48 c = number_zero c.args.bytes.now _ (first_is c.args.bytes.no
 pub returns-then-is_ascii_digit : goal.returns-then-is_ascii_digit
 returns-then-is_ascii_digit c =
     number_some c.args.bytes.now _ _ _ _ (first_is c.args.bytes.now _ c.in-len1-up.len_at_least refl) c.if-c-eq48.false
-    (sym c.is_ascii_digit.ensures.value ∙ c.if-is_ascii_digit.true) c.digits_after.ensures.number c.digits_after.ensures.rest
+    (sym c.is_ascii_digit.ensures.value ∙ c.if-is_ascii_digit.true) c.digits_at-run.ensures.number c.digits_at-run.ensures.rest
 
 pub returns-else-is_ascii_digit : goal.returns-else-is_ascii_digit
 returns-else-is_ascii_digit c =

@@ -1,6 +1,6 @@
 use Rattle.std.proofs.Common.{sym, ap, ◌∙◌, arith, ◌++◌, ◌∷◌}
 use Rattle.sf_lines.specs.Asking.{with_value, unchanged}
-use Rattle.sf_value.specs.Spelling.{natural}
+use Rattle.sf_decimal.specs.Decimals.{natural}
 use Rattle.sf_lines.proofs.Parsed.{not_blank, differs, equals, formless_zero, step_positive}
 use Rattle.sf_lines.proofs.reader.parts_of.Goals as goal
 

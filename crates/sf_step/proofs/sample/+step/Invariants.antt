@@ -28,6 +28,6 @@ decreases-step_pipeline l = 4 * (100000 - entered_of l.meter.now) + 2
 abbrev pub invariant-step_pipeline-loop-stage : goal.invariant-step_pipeline-loop-stage
 invariant-step_pipeline-loop-stage l = record {
   grows : entered_of l.initial.meter ≤ entered_of l.meter;
-  fed : ∥ RestFed l.plan (drop l.stage-index l.stage-items) l.value ∥₁;
-  goes_on : Continues l.plan l.initial.stage-items l.dt l.initial.value l.initial.meter (take l.stage-index l.stage-items) (drop l.stage-index l.stage-items) l.value l.meter l.inside;
+  fed : ∥ RestFed l.context.plan.now (drop l.stage-index l.stage-items) l.value ∥₁;
+  goes_on : Continues l.context.plan.now l.initial.stage-items l.context.dt l.initial.value l.initial.meter (take l.stage-index l.stage-items) (drop l.stage-index l.stage-items) l.value l.meter l.inside;
 }

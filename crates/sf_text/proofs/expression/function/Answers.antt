@@ -1,8 +1,8 @@
 use Rattle.std.proofs.Common.{length, Err, ap}
 use Rattle.sf_expr.specs.Patterns.{pattern_of}
-use Rattle.sf_term.specs.Arena.{expression_at as expression_in}
+use Rattle.sf_term.specs.Arena.{expression_under as expression_in}
 use Rattle.sf_text.specs.Answers.{toks, counts_of}
-use Rattle.sf_text.specs.Reading.{function_at}
+use Rattle.sf_grammar.specs.Reading.{parse_function}
 use Rattle.sf_text.proofs.Named.{pattern_named}
 use Rattle.sf_text.proofs.Found.{function_shallow, function_refused}
 use Rattle.sf_text.proofs.Placed.{function_read}
@@ -14,7 +14,7 @@ expression-requires-clause-named c =
 
 pub returns-in-Err-clause-reads : goal.returns-in-Err-clause-reads
 returns-in-Err-clause-reads c =
-    function_refused (function_at c.args.left (counts_of c.args.program.now) (toks c.args.tokens.now)) c.in-Err.refusal (length c.args.tokens.now) c.refused.result
+    function_refused (parse_function c.args.left (counts_of c.args.program.now) (toks c.args.tokens.now)) c.in-Err.refusal (length c.args.tokens.now) c.refused.result
     (pattern_of c.in_ok-pattern.pattern) (expression_in c.expression.new.program c.in_ok-body.body)
     (function_shallow c.args.left (toks c.args.tokens.now) (toks c.in_ok-rest.rest.now) (pattern_of c.in_ok-pattern.pattern) c.requires.shallow c.in_ok-pattern.ensures.reads c.in_ok-body.ensures.reads)
     (pattern_named c.args.left (toks c.args.tokens.now) (pattern_of c.in_ok-pattern.pattern) (toks c.in_ok-pattern.rest.now) c.in_ok-pattern.ensures.reads c.requires.named).names c.refused.ensures

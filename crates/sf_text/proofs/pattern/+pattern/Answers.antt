@@ -1,8 +1,7 @@
 use Rattle.std.proofs.Common.{rules, ◌≡◌, ℕ, ◌≤◌, false, List, ◌∷◌, [], length, get_or, string_bytes, refl, sym, ◌∙◌, ap, subst, arith}
 use Rattle.std.proofs.lemmas.List.{length-map}
-use Rattle.sf_expr.specs.declared.spot.Spot.{Spot}
 use Rattle.sf_expr.specs.Patterns.{PlacedPattern, placed_name}
-use Rattle.sf_text.specs.Placing.{around, PatternPlaced, unnamed_placed, name_placed, both_placed}
+use Rattle.sf_grammar.specs.Placing.{around, PatternPlaced, unnamed_placed, name_placed, both_placed}
 use Rattle.sf_text.proofs.Placed.{first_alone, in_brackets_read}
 use Rattle.sf_text.proofs.pattern.+pattern.Goals.{pattern_form-in_default-token-via-in-Keyword+in_default, pattern_form-in_default-token-via-in-Symbol+in_default, pattern_form-in_default-token-via-in_default}
 use Rattle.sf_expr.specs.Expressions.{Pattern}
@@ -10,40 +9,40 @@ use Rattle.sf_lex.specs.declared.word.Keyword.TheVariants as words
 use Rattle.sf_lex.specs.declared.symbol.Symbol.TheVariants as symbols
 use Rattle.sf_lex.specs.declared.token.PlacedToken.{PlacedToken}
 use Rattle.sf_lex.specs.Tokens.{Tok, keyword, name, symbol, token_of}
-use Rattle.sf_text.specs.declared.stop.Fault.TheVariants.{Unexpected}
+use Rattle.sf_refusal.specs.declared.rule.Rule.TheVariants.{Unexpected}
 use Rattle.sf_text.specs.declared.stop.Stop.{Stop}
 use Rattle.sf_text.specs.declared.stop.Stop.TheVariants.{At}
-use Rattle.sf_text.specs.Reading.{Read, stop, begins_pattern, pattern_at, pattern_form_at}
-use Rattle.sf_text.specs.Answers.{Stops, toks}
+use Rattle.sf_grammar.specs.Reading.{Read, stop, begins_pattern, parse_pattern, parse_pattern_form}
+use Rattle.sf_text.specs.Answers.{StopsReading, toks}
 use Rattle.sf_text.proofs.pattern.+pattern.Goals as goal
 
 -- no pattern begins at a token that begins none
-none_begun : (part : List Tok → Read Pattern) (t : Tok) (ts : List Tok) → begins_pattern t ≡ false → pattern_form_at part (t ∷ ts) ≡ stop Unexpected (t ∷ ts)
+none_begun : (part : List Tok → Read Pattern) (t : Tok) (ts : List Tok) → begins_pattern t ≡ false → parse_pattern_form part (t ∷ ts) ≡ stop Unexpected (t ∷ ts)
 none_begun part (keyword words.Underscore) ts none = cc
 none_begun part (name x) ts none = cc
 none_begun part (symbol symbols.Open) ts none = cc
 none_begun part _ ts none = refl
 
 no_pattern : (left : ℕ) (tokens : List PlacedToken) (first : PlacedToken) (e : Stop) → 1 ≤ length tokens → first ≡ get_or tokens 0 first → e ≡ At Unexpected (length tokens)
-    → begins_pattern (token_of first.token) ≡ false → Stops e (pattern_form_at (pattern_at left) (toks tokens))
+    → begins_pattern (token_of first.token) ≡ false → StopsReading e (parse_pattern_form (parse_pattern left) (toks tokens))
 no_pattern left [] first e some is at none = absurd (omega arith)
 no_pattern left (t ∷ tokens) first e some is at none =
-    subst (λ (e : Stop). Stops e (pattern_form_at (pattern_at left) (toks (t ∷ tokens)))) (sym at) (record {
+    subst (λ (e : Stop). StopsReading e (parse_pattern_form (parse_pattern left) (toks (t ∷ tokens)))) (sym at) (record {
       at = toks (t ∷ tokens);
-      is = none_begun (pattern_at left) (token_of t.token) (toks tokens) (subst (λ (u : PlacedToken). begins_pattern (token_of u.token) ≡ false) is none);
+      is = none_begun (parse_pattern left) (token_of t.token) (toks tokens) (subst (λ (u : PlacedToken). begins_pattern (token_of u.token) ≡ false) is none);
       counted = simp length-map;
     })
 
 pub pattern_form-returns-in-Keyword-Underscore-clause-placed : goal.pattern_form-returns-in-Keyword-Underscore-clause-placed
 pattern_form-returns-in-Keyword-Underscore-clause-placed t c =
     first_alone (PatternPlaced c.unnamed.result) c.args.tokens.now c.first-item.result c.in-len1-up.len_at_least c.first-item.is
-    (subst (λ (p : PlacedPattern). PatternPlaced p (c.first-item.result.place ∷ [])) (sym c.unnamed.ensures) unnamed_placed)
+    (subst (λ (p : PlacedPattern). PatternPlaced p (c.first-item.result.spot ∷ [])) (sym c.unnamed.ensures) unnamed_placed)
 
 pub pattern_form-returns-in_ok-name-in-Name-clause-placed : goal.pattern_form-returns-in_ok-name-in-Name-clause-placed
 pattern_form-returns-in_ok-name-in-Name-clause-placed t c =
     first_alone (PatternPlaced c.name.result) c.args.tokens.now c.first-item.result c.in-len1-up.len_at_least c.first-item.is
-    (subst (λ (p : PlacedPattern). PatternPlaced p (c.first-item.result.place ∷ []))
-    (sym (c.name.ensures ∙ ap (λ (s : Spot). placed_name (string_bytes c.in_ok-name-in-Name.name) s) c.spot_of.ensures)) name_placed)
+    (subst (λ (p : PlacedPattern). PatternPlaced p (c.first-item.result.spot ∷ []))
+    (sym c.name.ensures) name_placed)
 
 pub pattern_form-returns-in_default-token-clause-reads : goal.pattern_form-returns-in_default-token-clause-reads
 pattern_form-returns-in_default-token-clause-reads t c =

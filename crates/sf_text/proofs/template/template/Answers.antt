@@ -1,8 +1,8 @@
 use Rattle.std.proofs.Common.{◌≡◌, length, string_bytes, Err, sym, ap, subst}
 use Rattle.sf_lex.specs.Words.{IsName}
 use Rattle.sf_text.specs.declared.stop.Stop.{Stop}
-use Rattle.sf_text.specs.Reading.{template_at}
-use Rattle.sf_text.specs.Answers.{Stops, counts_of, toks, kinds_in, stop_for}
+use Rattle.sf_grammar.specs.Reading.{parse_template}
+use Rattle.sf_text.specs.Answers.{StopsReading, counts_of, toks, kinds_in, stop_for}
 use Rattle.sf_text.proofs.Named.{heading_named, header_named, template_refused}
 use Rattle.sf_text.proofs.Placed.{signature_counted, template_read}
 use Rattle.sf_text.proofs.template.template.Goals as goal
@@ -17,8 +17,8 @@ returns-in-Err-clause-reads c =
     let is : c.refused.result ≡ stop_for c.in-Err.refusal (length c.args.tokens.now) = c.refused.ensures in
     let bytes : string_bytes c.in_ok-name.name ≡ c.in_ok-heading.heading.name.now = c.in_ok-name.ensures.ok in
     let named : IsName (string_bytes c.in_ok-name.name) = rw bytes (heading_named (toks c.args.tokens.now) c.in_ok-heading.heading.name.now (toks c.in_ok-heading.rest.now) c.in_ok-heading.ensures.reads c.requires) in
-    subst (λ (s : Stop). Stops s (template_at (counts_of c.args.program.now) (toks c.args.tokens.now))) (sym is)
-    (template_refused c.in-Err.refusal (length c.args.tokens.now) (string_bytes c.in_ok-name.name) (template_at (counts_of c.args.program.now) (toks c.args.tokens.now)) named
+    subst (λ (s : Stop). StopsReading s (parse_template (counts_of c.args.program.now) (toks c.args.tokens.now))) (sym is)
+    (template_refused c.in-Err.refusal (length c.args.tokens.now) (string_bytes c.in_ok-name.name) (parse_template (counts_of c.args.program.now) (toks c.args.tokens.now)) named
     (λ same. c.in-Err.ensures.bad_name.0 (ap Err same)) (λ same. c.in-Err.ensures.not_many (ap Err same)) (λ same. c.in-Err.ensures.not_deep (ap Err same)))
 
 pub returns-in-Ok-clause-placed : goal.returns-in-Ok-clause-placed

@@ -1,7 +1,7 @@
 use Rattle.std.proofs.Common.{rules, ◌≡◌, ◌+◌, ◌≤◌, length, Err, ap, arith}
 use Rattle.sf_value.specs.Values.{nodes}
 use Rattle.sf_text.specs.Answers.{toks}
-use Rattle.sf_text.specs.Reading.{inner_type_at, pair_type_at}
+use Rattle.sf_grammar.specs.Reading.{parse_inner_type, parse_pair_type}
 use Rattle.sf_text.proofs.Found.{few_first, type_refused}
 use Rattle.sf_text.proofs.Placed.{in_brackets_read, from_opening, first_alone}
 use Rattle.sf_text.proofs.ty.+ty.Goals as goal
@@ -15,7 +15,7 @@ pub pair_type-returns-in-Err-clause-reads : goal.pair_type-returns-in-Err-clause
 pair_type-returns-in-Err-clause-reads t c =
     let met : c.nodes.result ≡ nodes c.in_ok-first.first = c.nodes.ensures.count in
     let few : c.args.met + 1 + c.nodes.result + nodes c.in_ok-second.second ≤ 256 = few_first c.args.left (toks c.args.start.now) (c.args.met + 1 + c.nodes.result) (toks c.in_ok-rest.rest.now) c.in_ok-second.ensures.reads in
-    type_refused (pair_type_at (inner_type_at c.args.left (toks c.args.start.now)) c.args.met (toks c.args.tokens.now)) c.in-Err.refusal (length c.args.start.now) c.type_refused.result
+    type_refused (parse_pair_type (parse_inner_type c.args.left (toks c.args.start.now)) c.args.met (toks c.args.tokens.now)) c.in-Err.refusal (length c.args.start.now) c.type_refused.result
     c.in_ok-first.first c.in_ok-second.second c.type_refused.ensures (omega arith) (λ same. c.in-Err.ensures.large.0 (ap Err same))
 
 pub pair_type-returns-in-Ok-clause-behind : goal.pair_type-returns-in-Ok-clause-behind

@@ -7,3 +7,6 @@ returns-clause-typed c = main_typed c.args.self.now
 
 pub returns-clause-fits : goal.returns-clause-fits
 returns-clause-fits c = input_fits (main_typed c.args.self.now)
+
+pub returns-clause-stands : goal.returns-clause-stands
+returns-clause-stands c = (c.main_template.result.now, c.main_template.ensures.stands, c.body.ensures)

@@ -1,20 +1,38 @@
 use Rattle.std.proofs.Common.{refl, arith}
-use Rattle.sf_expr.specs.Arena.{made_in, count_of}
-use Rattle.sf_expr.proofs.Entered.{adds_pushed, unchanged, arena_put, functions_grown, on_any_err}
+use Rattle.sf_arena.proofs.Grown.{more_put}
+use Rattle.sf_expr.specs.Arena.{count_of}
+use Rattle.sf_expr.proofs.Entered.{adds_added, unchanged, arena_put, functions_grown, many_still, deep_still}
 use Rattle.sf_expr.proofs.exprs.Exprs.add.Goals as goal
 
 pub invariant_of-self : goal.invariant_of-self
-unfolding made_in count_of
 invariant_of-self c =
     let x = c.args.self.now in
     record {
-      arena = arena_put x.entries.items c.push.new.self.items (record { stored = c.args.stored; depth = c.depth_with-depth.result; spot = c.args.spot }) _ c.push.ensures.items x.arena (omega (arith, x.entries.ok.0)) (omega (arith, c.requires.in_order)) c.depth_with-depth.ensures.value (omega arith) c.requires.narrow;
-      closed = functions_grown _ _ x.functions.items (omega (arith, x.entries.ok.0, c.push.new.self.ok.0, c.push.ensures.lower_bound)) x.closed;
+      ordered = arena_put x _ c.args.node c.depth_with-depth.result c.args.spot c.add.result c.add.ensures.ok c.add.ensures.err c.requires c.depth_with-depth.ensures.value c.depth_with-depth.ensures.narrow;
+      closed = functions_grown _ _ x.functions.items (more_put _ _ _ c.add.result c.add.ensures.ok c.add.ensures.err) x.closed;
       nothing = x.nothing;
     }
 
-pub returns-in_err-push-clause-err : goal.returns-in_err-push-clause-err
-returns-in_err-push-clause-err c = on_any_err _ (unchanged c.args.self.now _ c.in_err-push.ensures.items refl)
+pub returns-in-Ok-clause-ok : goal.returns-in-Ok-clause-ok
+returns-in-Ok-clause-ok c = adds_added c.args.self.now _ _ _ _ _ c.in-Ok.ensures.ok refl refl
 
-pub returns-clause-ok : goal.returns-clause-ok
-returns-clause-ok c = adds_pushed c.args.self.now _ (record { stored = c.args.stored; depth = c.depth_with-depth.result; spot = c.args.spot }) _ c.in_ok-push.ensures.items refl (omega (arith, c.args.self.now.entries.ok.0))
+pub returns-in-Ok-clause-many : goal.returns-in-Ok-clause-many
+unfolding count_of
+returns-in-Ok-clause-many c = (λ e. cc, λ h. let q = c.in-Ok.ensures.many.1 h in cc)
+
+pub returns-in-Ok-clause-deep : goal.returns-in-Ok-clause-deep
+unfolding count_of
+returns-in-Ok-clause-deep c = (λ e. cc, λ h. let q = c.in-Ok.ensures.deep.1 (h.0, omega (arith, h.1, c.depth_with-depth.ensures.value)) in cc)
+
+pub returns-in-Err-clause-many : goal.returns-in-Err-clause-many
+unfolding count_of
+returns-in-Err-clause-many c = many_still _ _ c.in-Err.ensures.many
+
+pub returns-in-Err-clause-deep : goal.returns-in-Err-clause-deep
+unfolding count_of
+returns-in-Err-clause-deep c =
+    let deep = deep_still _ _ c.in-Err.ensures.deep in
+    (λ e. let h = deep.0 e in (h.0, omega (arith, h.1, c.depth_with-depth.ensures.value)), λ h. deep.1 (h.0, omega (arith, h.1, c.depth_with-depth.ensures.value)))
+
+pub returns-in-Err-clause-err : goal.returns-in-Err-clause-err
+returns-in-Err-clause-err c = unchanged c.args.self.now _ c.in-Err.ensures.err refl refl

@@ -1,13 +1,15 @@
 use Rattle.std.proofs.Common.{List, sym, subst, length}
-use Rattle.sf_expr.specs.declared.entry.Entry.{Entry}
-use Rattle.sf_expr.specs.declared.entry.StoredFunction.{StoredFunction}
+use Rattle.sf_arena.specs.declared.entry.Entry.{Entry}
+use Rattle.sf_arena.specs.Arenas.{entries_of}
+use Rattle.sf_expr.specs.declared.exprs.ExprNode.{ExprNode}
+use Rattle.sf_expr.specs.declared.stored.StoredFunction.{StoredFunction}
 use Rattle.sf_expr.specs.Entries.{IsArena, AreFunctions}
 use Rattle.sf_expr.proofs.Entered.{arena_empty, functions_empty}
 use Rattle.sf_expr.proofs.exprs.Exprs.new.Goals as goal
 
 pub invariant_of-result : goal.invariant_of-result
 invariant_of-result c = record {
-  arena = subst (λ (es : List Entry). IsArena es) (sym c.new.ensures.items) arena_empty;
-  closed = subst (λ (fs : List StoredFunction). AreFunctions (length c.new.result.items) fs) (sym c.new-2.ensures.items) (functions_empty _);
+  ordered = subst (λ (es : List (Entry ExprNode)). IsArena c.new-2.result.items es) (sym c.new.ensures) (arena_empty _);
+  closed = subst (λ (fs : List StoredFunction). AreFunctions (length (entries_of c.new.result)) fs) (sym c.new-3.ensures.items) (functions_empty _);
   nothing = c.unnamed.ensures;
 }

@@ -1,6 +1,6 @@
 use Rattle.std.proofs.Common.{refl, arith}
 use Rattle.sf_law.proofs.Placed.{arena_put}
-use Rattle.sf_law.proofs.Kept.{pushed_keeps, same_keeps, adds_pushed}
+use Rattle.sf_law.proofs.Kept.{added_keeps, same_keeps, adds_added}
 use Rattle.sf_law.proofs.plan.Plan.add.Goals as goal
 
 pub invariant_of-self : goal.invariant_of-self
@@ -15,7 +15,7 @@ pub returns-in_err-push-clause-kept : goal.returns-in_err-push-clause-kept
 returns-in_err-push-clause-kept c = same_keeps c.args.self.now _ refl c.in_err-push.ensures.items
 
 pub returns-clause-ok : goal.returns-clause-ok
-returns-clause-ok c = adds_pushed c.args.self.now _ c.args.node _ refl c.in_ok-push.ensures.items (omega (arith, c.len.ensures, c.args.self.now.nodes.ok.0)) c.requires.whole
+returns-clause-ok c = adds_added c.args.self.now _ c.args.node _ refl (record { next = omega (arith, c.len.ensures, c.args.self.now.nodes.ok.0); grown = c.in_ok-push.ensures.items }) c.requires.whole
 
 pub returns-clause-kept : goal.returns-clause-kept
-returns-clause-kept c = pushed_keeps c.args.self.now _ c.args.node refl c.in_ok-push.ensures.items
+returns-clause-kept c = added_keeps c.args.self.now _ c.args.node _ refl (record { next = refl; grown = c.in_ok-push.ensures.items })

@@ -1,25 +1,34 @@
-use Rattle.std.proofs.Common.{refl, arith}
-use Rattle.sf_term.specs.Arena.{made_in, headers_of}
+use Rattle.std.proofs.Common.{◌∙◌, ap, refl, arith}
+use Rattle.sf_arena.specs.Arenas.{entries_of}
+use Rattle.sf_arena.proofs.Grown.{more_put}
+use Rattle.sf_term.specs.Trees.{term_depth}
+use Rattle.sf_term.specs.Arena.{headers_of, term_count}
 use Rattle.sf_term.proofs.Entered.{arena_put}
-use Rattle.sf_term.proofs.Kept.{parts_needed, adds_pushed, unchanged, same_expressions}
+use Rattle.sf_term.proofs.Refused.{many_as, deep_with}
+use Rattle.sf_term.proofs.Kept.{node-made, parts_needed, adds_added, unchanged, same_expressions}
 use Rattle.sf_term.proofs.program.Program.add.Goals as goal
 
 pub invariant_of-self : goal.invariant_of-self
-unfolding made_in
 invariant_of-self c =
     let p = c.args.self.now in
     let needed = parts_needed p c.args.node c.requires in
     record {
-      arena = arena_put p.expressions p.terms.items c.push.new.self.items (record { node = c.args.node; depth = c.depth_with-depth.result; spot = c.args.spot }) _ c.push.ensures.items p.arena (omega (arith, p.terms.ok.0)) needed.0 needed.1 needed.2 c.depth_with-depth.ensures (omega arith);
-      bodies = omega (arith, p.bodies, p.terms.ok.0, c.push.new.self.ok.0, c.push.ensures.lower_bound);
+      arena = arena_put p.expressions (entries_of p.terms) (entries_of c.add.new.self) (record { node = c.args.node; depth = c.depth_with-depth.result; spot = c.args.spot }) c.add.result c.add.ensures.ok c.add.ensures.err p.arena needed.0 needed.1 needed.2 (c.depth_with-depth.ensures ∙ ap term_depth (node-made p c.args.node));
+      bodies = omega (arith, p.bodies, more_put _ _ _ c.add.result c.add.ensures.ok c.add.ensures.err);
     }
 
 pub returns-in-Ok-clause-ok : goal.returns-in-Ok-clause-ok
 unfolding headers_of
-returns-in-Ok-clause-ok c =
-    let p = c.args.self.now in
-    adds_pushed p _ _ _ refl c.in-Ok.ensures.items refl (omega (arith, p.terms.ok.0)) c.depth_with-depth.ensures (omega arith)
+returns-in-Ok-clause-ok c = adds_added c.args.self.now _ _ _ _ _ refl c.in-Ok.ensures.ok refl c.depth_with-depth.ensures
+
+pub returns-in-Err-clause-many : goal.returns-in-Err-clause-many
+unfolding term_count
+returns-in-Err-clause-many c = many_as _ _ _ c.from.ensures c.in-Err.ensures.many
+
+pub returns-in-Err-clause-deep : goal.returns-in-Err-clause-deep
+unfolding term_count
+returns-in-Err-clause-deep c = deep_with _ _ _ _ c.from.ensures c.depth_with-depth.ensures c.in-Err.ensures.deep
 
 pub returns-in-Err-clause-err : goal.returns-in-Err-clause-err
 unfolding headers_of
-returns-in-Err-clause-err c = unchanged c.args.self.now _ (same_expressions c.args.self.now.expressions) c.in-Err.ensures.items refl
+returns-in-Err-clause-err c = unchanged c.args.self.now _ (same_expressions c.args.self.now.expressions) c.in-Err.ensures.err refl

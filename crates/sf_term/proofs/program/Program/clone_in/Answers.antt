@@ -1,7 +1,9 @@
 use Rattle.std.proofs.Common.{◌∙◌, arith, ap, length, subst, sym, List}
-use Rattle.sf_term.specs.declared.node.Entry.{Entry}
+use Rattle.sf_arena.specs.declared.entry.Entry.{Entry}
+use Rattle.sf_arena.specs.Arenas.{entries_of}
+use Rattle.sf_term.specs.declared.node.Node.{Node}
 use Rattle.sf_term.specs.Headers.{bodies_end}
-use Rattle.sf_term.specs.Entries.{IsArena}
+use Rattle.sf_term.specs.Entries.{AreTerms}
 use Rattle.sf_term.specs.Arena.{headers_of}
 use Rattle.sf_term.proofs.Entered.{arena_grown, unchanged_grown}
 use Rattle.sf_term.proofs.Kept.{unchanged}
@@ -11,14 +13,12 @@ pub invariant_of-result : goal.invariant_of-result
 invariant_of-result c =
     let p = c.args.self.now in
     let x = c.in_ok-expressions.expressions in
-    let same = c.in_ok-expressions.ensures in
-    let terms = c.in_ok-terms.ensures.items ∙ c.deref.ensures.value in
-    let templates = c.in_ok-templates.ensures ∙ c.deref-2.ensures.value in
+    let templates = c.in_ok-templates.ensures ∙ c.deref.ensures.value in
     record {
-      arena = subst (λ (es : List Entry). IsArena x es) (sym terms) (arena_grown p.expressions x p.terms.items (unchanged_grown p.expressions x same) p.arena);
-      bodies = omega (arith, ap bodies_end templates, ap (λ (es : List Entry). length es) terms, p.bodies);
+      arena = subst (λ (es : List (Entry Node)). AreTerms x es) (sym c.in_ok-terms.ensures) (arena_grown p.expressions x (entries_of p.terms) (unchanged_grown p.expressions x c.in_ok-expressions.ensures) p.arena);
+      bodies = omega (arith, ap bodies_end templates, ap (λ (es : List (Entry Node)). length es) c.in_ok-terms.ensures, p.bodies);
     }
 
 pub returns : goal.returns
 unfolding headers_of
-returns c = unchanged c.args.self.now _ c.in_ok-expressions.ensures (c.in_ok-terms.ensures.items ∙ c.deref.ensures.value) (c.in_ok-templates.ensures ∙ c.deref-2.ensures.value)
+returns c = unchanged c.args.self.now _ c.in_ok-expressions.ensures c.in_ok-terms.ensures (c.in_ok-templates.ensures ∙ c.deref.ensures.value)

@@ -1,35 +1,14 @@
-use Rattle.std.proofs.Common.{refl}
-use Rattle.sf_expr.specs.declared.exprs.ExprNode.TheVariants as nodes
-use Rattle.sf_expr.specs.Expressions.{Expression, paired}
-use Rattle.sf_expr.specs.Arena.{expression}
-use Rattle.sf_term.specs.Arena.{headers_of, expression_at, expression_count}
-use Rattle.sf_term.proofs.Entered.{arena_grown, grown_by}
-use Rattle.sf_term.proofs.Kept.{adds_expression, unchanged}
-use Rattle.sf_term.proofs.Refused.{many_as, deep_as}
+use Rattle.sf_term.specs.Arena.{expressions_of, expression_under, HoldsExpression}
 use Rattle.sf_term.proofs.program.Program.pair.Goals as goal
 
-pub invariant_of-self : goal.invariant_of-self
-invariant_of-self c =
-    let p = c.args.self.now in
-    let x = p.expressions in
-    let added : Expression = paired (expression x c.args.first) (expression x c.args.second) in
-    record {
-      arena = arena_grown x c.pair.new.self p.terms.items (grown_by x c.pair.new.self c.pair.result (λ id. nodes.Pair c.args.first c.args.second) added c.args.spot c.pair.ensures.ok c.pair.ensures.err) p.arena;
-      bodies = p.bodies;
-    }
+pub add_expression-requires : goal.add_expression-requires
+unfolding expressions_of HoldsExpression
+add_expression-requires c = (c.requires.first_held, c.requires.second_held)
 
-pub returns-in-Ok-clause-ok : goal.returns-in-Ok-clause-ok
-unfolding headers_of expression_at
-returns-in-Ok-clause-ok c = adds_expression c.args.self.now _ _ _ _ _ c.in-Ok.ensures.ok refl refl
+pub returns-clause-ok : goal.returns-clause-ok
+unfolding expressions_of expression_under
+returns-clause-ok c = c.add_expression.ensures.ok
 
-pub returns-in-Err-clause-many : goal.returns-in-Err-clause-many
-unfolding expression_count
-returns-in-Err-clause-many c = many_as _ _ _ c.from.ensures c.in-Err.ensures.many
-
-pub returns-in-Err-clause-deep : goal.returns-in-Err-clause-deep
-unfolding expression_count expression_at
-returns-in-Err-clause-deep c = deep_as _ _ _ c.from.ensures c.in-Err.ensures.deep
-
-pub returns-in-Err-clause-err : goal.returns-in-Err-clause-err
-unfolding headers_of
-returns-in-Err-clause-err c = unchanged c.args.self.now _ c.in-Err.ensures.err refl refl
+pub returns-clause-deep : goal.returns-clause-deep
+unfolding expressions_of expression_under
+returns-clause-deep c = c.add_expression.ensures.deep

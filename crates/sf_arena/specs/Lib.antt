@@ -1,0 +1,4 @@
+pub mod Items
+pub mod Folded
+pub mod Arenas
+pub mod Shallow

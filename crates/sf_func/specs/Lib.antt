@@ -1,0 +1,5 @@
+pub mod Meaning
+pub mod Numbers
+pub mod Storing
+pub mod Registries
+pub mod Examples

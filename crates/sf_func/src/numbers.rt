@@ -1,0 +1,24 @@
+//! Numbers in values.
+ghost use Rattle.sf_func.specs.Numbers.{IsNumber, IsNumbers};
+
+use sf_value::{Form, Value};
+
+/// The number that a value is, if it is one.
+pub(crate) fn number_of(value: &Value) -> Option<i64>
+    ensures { IsNumber value.now result }
+{
+    match value.form() {
+        Form::Int(n) => Some(*n),
+        _ => None,
+    }
+}
+
+/// The numbers of which a value is a pair, if it is one of two numbers.
+pub(crate) fn numbers_of(value: &Value) -> Option<(i64, i64)>
+    ensures { IsNumbers value.now result }
+{
+    match value.form() {
+        Form::Pair(first, second) => Some((number_of(first)?, number_of(second)?)),
+        _ => None,
+    }
+}

@@ -1,0 +1,108 @@
+-- Where what was read from a text stands: a form at its first token, and a name at its own.
+use Rattle.std.specs.Prelude.{◌≡◌, ℕ, List, [], ◌∷◌, ◌++◌, length, map}
+use Rattle.sf_value.specs.Values.{Name}
+use Rattle.sf_refusal.specs.declared.spot.Spot.{Spot}
+use Rattle.sf_expr.specs.declared.operator.Operator.{Operator}
+use Rattle.sf_expr.specs.declared.exprs.ExprId.{ExprId}
+use Rattle.sf_expr.specs.declared.exprs.NameId.{NameId}
+use Rattle.sf_expr.specs.declared.exprs.FunctionId.{FunctionId}
+use Rattle.sf_expr.specs.declared.exprs.ExprNode.{ExprNode}
+use Rattle.sf_expr.specs.declared.exprs.ExprNode.TheVariants as expressions
+use Rattle.sf_expr.specs.Patterns.{PlacedPattern, placed_unnamed, placed_name, placed_both}
+use Rattle.sf_term.specs.declared.form.Bare.{Bare}
+use Rattle.sf_term.specs.declared.form.WithValue.{WithValue}
+use Rattle.sf_term.specs.declared.form.Join.{Join}
+use Rattle.sf_term.specs.declared.form.Side.{Side}
+use Rattle.sf_term.specs.declared.form.Heading.{Heading}
+use Rattle.sf_term.specs.declared.node.TermId.{TermId}
+use Rattle.sf_term.specs.declared.node.Primitive.TheVariants as primitives
+use Rattle.sf_term.specs.declared.node.Node.{Node}
+use Rattle.sf_term.specs.declared.node.Node.TheVariants as nodes
+use Rattle.sf_term.specs.declared.program.Program.{Program}
+use Rattle.sf_term.specs.Headers.{Header}
+use Rattle.sf_term.specs.Arena.{HoldsTerm, HoldsExpression, ProgramHoldsFunction, term_node_at, term_spot_at, expression_node_at, expression_spot_at, function_pattern_at, function_body_at, headers_of, template_in}
+use Rattle.sf_lex.specs.Tokens.{Located, place_at}
+use Rattle.sf_lex.specs.Cutting.{Lexes}
+use Rattle.sf_grammar.specs.Spelling.{spell_signature}
+
+-- the places of two parts in brackets, with a token between them
+abbrev pub around : Spot → List Spot → Spot → List Spot → Spot → List Spot
+around opening one between two closing = opening ∷ (one ++ (between ∷ (two ++ (closing ∷ []))))
+
+-- a pattern whose tokens have these places
+pub data PatternPlaced : PlacedPattern → List Spot → Type 0 where
+  unnamed_placed : {at : Spot} → PatternPlaced placed_unnamed (at ∷ [])
+  name_placed : {x : Name} {at : Spot} → PatternPlaced (placed_name x (at)) (at ∷ [])
+  both_placed : {p q : PlacedPattern} {xs ys : List Spot} (opening comma closing : Spot) → PatternPlaced p xs → PatternPlaced q ys → PatternPlaced (placed_both p q) (around opening xs comma ys closing)
+
+-- a program holds an expression of this node under an id, and it stands where this token does
+pub record ExpressionStands (p : Program) (id : ExprId) (n : ExprNode) (at : Spot) : Type 0 where
+  pub held : HoldsExpression p id
+  pub node : expression_node_at p id ≡ n
+  pub spot : expression_spot_at p id ≡ at
+
+-- the expression at an id, whose tokens have these places
+pub data ExpressionPlaced (p : Program) : ExprId → List Spot → Type 0 where
+  number_placed : {id : ExprId} {z : _} {at : Spot} → ExpressionStands p id (expressions.Int z) at → ExpressionPlaced p id (at ∷ [])
+  variable_placed : {id : ExprId} {n : NameId} {at : Spot} → ExpressionStands p id (expressions.Name n) at → ExpressionPlaced p id (at ∷ [])
+  pair_placed : {id a b : ExprId} {xs ys : List Spot} {opening : Spot} (comma closing : Spot) → ExpressionStands p id (expressions.Pair a b) opening
+      → ExpressionPlaced p a xs → ExpressionPlaced p b ys → ExpressionPlaced p id (around opening xs comma ys closing)
+  operation_placed : {id a b : ExprId} {o : Operator} {xs ys : List Spot} {opening : Spot} (operator closing : Spot) → ExpressionStands p id (expressions.Operation a o b) opening
+      → ExpressionPlaced p a xs → ExpressionPlaced p b ys → ExpressionPlaced p id (around opening xs operator ys closing)
+
+-- the function at an id, whose tokens have these places
+pub data FunctionPlaced (p : Program) : FunctionId → List Spot → Type 0 where
+  function_placed : {f : FunctionId} {xs ys : List Spot} (leads : Spot) → ProgramHoldsFunction p f → PatternPlaced (function_pattern_at p f) xs → ExpressionPlaced p (function_body_at p f) ys
+      → FunctionPlaced p f (xs ++ (leads ∷ ys))
+
+-- a program holds a term of this node under an id, and it stands where this token does
+pub record TermStands (p : Program) (id : TermId) (n : Node) (at : Spot) : Type 0 where
+  pub held : HoldsTerm p id
+  pub node : term_node_at p id ≡ n
+  pub spot : term_spot_at p id ≡ at
+
+-- the term at an id, whose tokens have these places
+pub data TermPlaced (p : Program) : TermId → List Spot → Type 0 where
+  bare_placed : {id : TermId} {k : Bare} {at : Spot} → TermStands p id (nodes.Primitive (primitives.Bare k)) at → TermPlaced p id (at ∷ [])
+  with_value_placed : {id : TermId} {k : WithValue} {e : ExprId} {xs : List Spot} {at : Spot} → TermStands p id (nodes.Primitive (primitives.WithValue k e)) at
+      → ExpressionPlaced p e xs → TermPlaced p id (at ∷ xs)
+  arrow_placed : {id : TermId} {f : FunctionId} {xs : List Spot} {at : Spot} → TermStands p id (nodes.Primitive (primitives.Arrow f)) at
+      → FunctionPlaced p f xs → TermPlaced p id (at ∷ xs)
+  joined_placed : {id a b : TermId} {j : Join} {xs ys : List Spot} {opening : Spot} (between closing : Spot) → TermStands p id (nodes.Joined j a b) opening
+      → TermPlaced p a xs → TermPlaced p b ys → TermPlaced p id (around opening xs between ys closing)
+  sided_placed : {id a : TermId} {s : Side} {xs : List Spot} {at : Spot} → TermStands p id (nodes.Sided s a) at
+      → TermPlaced p a xs → TermPlaced p id (at ∷ xs)
+  headed_placed : {id a : TermId} {e : ExprId} {h : Heading} {xs ys : List Spot} {at : Spot} (opening comma closing : Spot) → TermStands p id (nodes.Headed h e a) at
+      → ExpressionPlaced p e xs → TermPlaced p a ys → TermPlaced p id (at ∷ around opening xs comma ys closing)
+
+-- a template whose tokens have these places: its name stands at the second, and its body behind as many as spell its types
+pub record TemplatePlaced (p : Program) (h : Header) (places : List Spot) : Type 0 where
+  pub word : Spot
+  pub opening : Spot
+  pub closing : Spot
+  pub signature : List Spot
+  pub body : List Spot
+  pub end : Spot
+  pub split : places ≡ word ∷ h.spot ∷ opening ∷ closing ∷ (signature ++ (body ++ (end ∷ [])))
+  pub typed : length signature ≡ length (spell_signature (template_in p h))
+  pub placed : TermPlaced p h.body body
+
+-- templates one behind the other, whose tokens have these places
+pub data TemplatesPlaced (p : Program) : List Header → List Spot → Type 0 where
+  none_placed : TemplatesPlaced p [] []
+  template_placed : {h : Header} {hs : List Header} {xs ys : List Spot} → TemplatePlaced p h xs → TemplatesPlaced p hs ys → TemplatesPlaced p (h ∷ hs) (xs ++ ys)
+
+-- a network whose tokens have these places, of which three stand in front of its templates
+pub record NetworkPlaced (p : Program) (places : List Spot) : Type 0 where
+  pub word : Spot
+  pub version : Spot
+  pub semicolon : Spot
+  pub behind : List Spot
+  pub split : places ≡ word ∷ version ∷ semicolon ∷ behind
+  pub templates : TemplatesPlaced p (headers_of p) behind
+
+-- all forms and names of a program stand where its tokens do in the bytes
+pub record IsPlacedIn (bytes : List ℕ) (p : Program) : Type 0 where
+  pub located : List Located
+  pub cut : Lexes bytes located
+  pub placed : NetworkPlaced p (map (λ (l : Located). place_at bytes l.offset) located)

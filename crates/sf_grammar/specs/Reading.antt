@@ -1,0 +1,288 @@
+-- What reading a list of tokens from left to right gives.
+use Rattle.std.specs.Prelude.{ℕ, zero, suc, ◌+◌, nat_le, nat_lt, Bool, true, false, pos, List, [], ◌∷◌, Option, Some, None, is_some, if◌then◌else◌}
+use Rattle.std.specs.Ordering.{int_eq}
+use denote.Enum.Bare.{sameb}
+use Rattle.sf_value.specs.Values.{Name, Kind, int_kind, pair_kind, nodes}
+use Rattle.sf_expr.specs.declared.operator.Operator.TheVariants as operators
+use Rattle.sf_expr.specs.Expressions.{Pattern, unnamed, named, both, Expression, variable, literal, int_literal, paired, operation, size, Function, function}
+use Rattle.sf_term.specs.declared.form.Bare.TheVariants as bares
+use Rattle.sf_term.specs.declared.form.WithValue.{WithValue}
+use Rattle.sf_term.specs.declared.form.WithValue.TheVariants as values
+use Rattle.sf_term.specs.declared.form.Join.{Join}
+use Rattle.sf_term.specs.declared.form.Join.TheVariants as joins
+use Rattle.sf_term.specs.declared.form.Side.{Side}
+use Rattle.sf_term.specs.declared.form.Side.TheVariants as sides
+use Rattle.sf_term.specs.declared.form.Heading.{Heading}
+use Rattle.sf_term.specs.declared.form.Heading.TheVariants as headings
+use Rattle.sf_term.specs.Trees.{Term, primitive, joined, sided, headed, bare, with_value, arrow, Template, terms_in, expressions_in}
+use Rattle.sf_lex.specs.declared.word.Keyword.{Keyword}
+use Rattle.sf_lex.specs.declared.word.Keyword.TheVariants as words
+use Rattle.sf_lex.specs.declared.symbol.Symbol.{Symbol}
+use Rattle.sf_lex.specs.declared.symbol.Symbol.TheVariants as symbols
+use Rattle.sf_lex.specs.contracts.Symbol as symbol_type
+use Rattle.sf_lex.specs.contracts.Keyword as keyword_type
+use Rattle.sf_lex.specs.Tokens.{Tok, keyword, name, number, symbol}
+use Rattle.sf_refusal.specs.declared.rule.Rule.{Rule}
+use Rattle.sf_refusal.specs.declared.rule.Rule.TheVariants.{Unexpected, TooDeep, Version, WrittenTypeTooLarge, TooMany}
+use Rattle.sf_grammar.specs.declared.head.Head.{Head}
+use Rattle.sf_grammar.specs.declared.head.Head.TheVariants as heads
+use Rattle.sf_grammar.specs.declared.head.Link.{Link}
+use Rattle.sf_grammar.specs.declared.head.Link.TheVariants as links
+
+-- what was read and the tokens behind it, or a fault and the tokens from there on
+pub data Read (A : Type 0) : Type 0 where
+  got : A → List Tok → Read A
+  stop : Rule → List Tok → Read A
+
+infixl 10 ◌and_then◌
+abbrev pub ◌and_then◌ : {A B : Type 0} → Read A → (A → List Tok → Read B) → Read B
+(got a rest) and_then f = f a rest
+(stop fault at) and_then f = stop fault at
+
+abbrev pub parse_symbol : Symbol → List Tok → Read (Unit {0})
+parse_symbol wanted (symbol s ∷ rest) = if sameb symbol_type.the_type s wanted then got tt rest else stop Unexpected (symbol s ∷ rest)
+parse_symbol wanted tokens = stop Unexpected tokens
+
+abbrev pub parse_keyword : Keyword → List Tok → Read (Unit {0})
+parse_keyword wanted (keyword k ∷ rest) = if sameb keyword_type.the_type k wanted then got tt rest else stop Unexpected (keyword k ∷ rest)
+parse_keyword wanted tokens = stop Unexpected tokens
+
+abbrev pub parse_name : List Tok → Read Name
+parse_name (name n ∷ rest) = got n rest
+parse_name tokens = stop Unexpected tokens
+
+-- the only version is 1
+abbrev pub parse_version : List Tok → Read (Unit {0})
+parse_version (number z ∷ rest) = if int_eq z (pos 1) then got tt rest else stop Version (number z ∷ rest)
+parse_version tokens = stop Unexpected tokens
+
+-- a form is 65 deep at its first token
+abbrev pub too_deep : {A : Type 0} → (Tok → Bool) → List Tok → Read A
+too_deep begins [] = stop Unexpected []
+too_deep begins (t ∷ rest) = if begins t then stop TooDeep (t ∷ rest) else stop Unexpected (t ∷ rest)
+
+-- behind an opening bracket: a part, what stands between, a second part and the closing bracket, of which a whole is made
+abbrev pub parse_parts : {A M B C : Type 0} → (List Tok → Read A) → (List Tok → Read M) → (A → List Tok → Read B) → (A → M → B → List Tok → Read C) → List Tok → Read C
+parse_parts one between two whole tokens =
+    one tokens and_then λ a rest.
+    between rest and_then λ m rest.
+    two a rest and_then λ b rest.
+    parse_symbol symbols.Close rest and_then λ _ rest.
+    whole a m b rest
+
+-- a type is met at its first token, behind so many others: it may be one too many for the whole type, which begins at `start`
+abbrev pub type_met : ℕ → List Tok → Read Kind → Read Kind
+type_met met start read = if nat_lt met 256 then read else stop WrittenTypeTooLarge start
+
+-- behind the opening bracket of a pair's type, which stands behind so many others, where the parts are read so
+unfoldable pub parse_pair_type : (ℕ → List Tok → Read Kind) → ℕ → List Tok → Read Kind
+parse_pair_type part met tokens = parse_parts (part (met + 1)) (parse_symbol symbols.Comma) (λ t. part (met + 1 + nodes t)) (λ t _ u rest. got (pair_kind t u) rest) tokens
+
+abbrev pub parse_type_form : (ℕ → List Tok → Read Kind) → List Tok → ℕ → List Tok → Read Kind
+parse_type_form part start met (keyword words.Int ∷ rest) = type_met met start (got int_kind rest)
+parse_type_form part start met (symbol symbols.Open ∷ rest) = type_met met start (parse_pair_type part met rest)
+parse_type_form part start met tokens = stop Unexpected tokens
+
+abbrev pub begins_type : Tok → Bool
+begins_type (keyword words.Int) = true
+begins_type (symbol symbols.Open) = true
+begins_type _ = false
+
+-- a type of so much depth at most, behind so many others, within the whole type that begins at `start`
+unfoldable pub parse_inner_type : ℕ → List Tok → ℕ → List Tok → Read Kind
+parse_inner_type zero start met tokens = too_deep begins_type tokens
+parse_inner_type (suc left) start met tokens = parse_type_form (parse_inner_type left start) start met tokens
+
+-- a whole type
+abbrev pub parse_type : List Tok → Read Kind
+parse_type tokens = parse_inner_type 64 tokens 0 tokens
+
+-- what stands in front of the templates
+unfoldable pub parse_opening : List Tok → Read (Unit {0})
+parse_opening tokens = parse_keyword words.Network tokens and_then λ _ rest. parse_version rest and_then λ _ rest. parse_symbol symbols.Semicolon rest
+
+-- a template's name, and its empty list of parameters
+unfoldable pub parse_heading : List Tok → Read Name
+parse_heading tokens = parse_keyword words.Template tokens and_then λ _ rest. parse_name rest and_then λ n rest. parse_symbol symbols.Open rest and_then λ _ rest. parse_symbol symbols.Close rest and_then λ _ rest. got n rest
+
+-- the types of a template's inputs and outputs
+unfoldable pub parse_signature : List Tok → Read (Kind × Kind)
+parse_signature tokens = parse_symbol symbols.Colon tokens and_then λ _ rest. parse_type rest and_then λ input rest. parse_symbol symbols.Leads rest and_then λ _ rest. parse_type rest and_then λ output rest. parse_symbol symbols.Equals rest and_then λ _ rest. got (input, output) rest
+
+-- behind the opening bracket of a pattern for a pair
+unfoldable pub parse_pattern_pair : (List Tok → Read Pattern) → List Tok → Read Pattern
+parse_pattern_pair part tokens = parse_parts part (parse_symbol symbols.Comma) (λ _. part) (λ p _ q rest. got (both p q) rest) tokens
+
+abbrev pub parse_pattern_form : (List Tok → Read Pattern) → List Tok → Read Pattern
+parse_pattern_form part (keyword words.Underscore ∷ rest) = got unnamed rest
+parse_pattern_form part (name n ∷ rest) = got (named n) rest
+parse_pattern_form part (symbol symbols.Open ∷ rest) = parse_pattern_pair part rest
+parse_pattern_form part tokens = stop Unexpected tokens
+
+abbrev pub begins_pattern : Tok → Bool
+begins_pattern (keyword words.Underscore) = true
+begins_pattern (name n) = true
+begins_pattern (symbol symbols.Open) = true
+begins_pattern _ = false
+
+-- a pattern of so much depth at most
+unfoldable pub parse_pattern : ℕ → List Tok → Read Pattern
+parse_pattern zero tokens = too_deep begins_pattern tokens
+parse_pattern (suc left) tokens = parse_pattern_form (parse_pattern left) tokens
+
+-- how many terms and expressions a program has already
+pub record Counts : Type 0 where
+  pub terms : ℕ
+  pub expressions : ℕ
+
+-- how many it has with an expression
+abbrev pub counts_with_expression : Counts → Expression → Counts
+counts_with_expression c e = record { terms = c.terms; expressions = c.expressions + size e }
+
+-- how many it has with a term
+abbrev pub counts_with : Counts → Term → Counts
+counts_with c t = record { terms = c.terms + terms_in t; expressions = c.expressions + expressions_in t }
+
+-- an expression was read to its end: it may be one too many
+abbrev pub expression_read : Counts → Expression → List Tok → List Tok → Read Expression
+expression_read c e start rest = if nat_le (c.expressions + size e) 100000 then got e rest else stop TooMany start
+
+-- what makes one expression of the two in front of a token and behind it
+abbrev pub link_of : Tok → Option Link
+link_of (symbol symbols.Comma) = Some links.Pair
+link_of (symbol symbols.Plus) = Some (links.Operation operators.Plus)
+link_of (symbol symbols.Minus) = Some (links.Operation operators.Minus)
+link_of (symbol symbols.Times) = Some (links.Operation operators.Times)
+link_of (keyword words.Div) = Some (links.Operation operators.Divide)
+link_of (keyword words.Mod) = Some (links.Operation operators.Modulo)
+link_of _ = None
+
+abbrev pub link_from : Option Link → List Tok → List Tok → Read Link
+link_from (Some l) start rest = got l rest
+link_from None start rest = stop Unexpected start
+
+abbrev pub parse_link : List Tok → Read Link
+parse_link (t ∷ rest) = link_from (link_of t) (t ∷ rest) rest
+parse_link [] = stop Unexpected []
+
+-- the one expression of two
+abbrev pub linked : Link → Expression → Expression → Expression
+linked links.Pair e f = paired e f
+linked (links.Operation o) e f = operation e o f
+
+-- behind an opening bracket, with which `start` begins, where the parts are read so
+unfoldable pub parse_linked : (Counts → List Tok → Read Expression) → Counts → List Tok → List Tok → Read Expression
+parse_linked part c start tokens = parse_parts (part c) parse_link (λ e. part (counts_with_expression c e)) (λ e l f rest. expression_read c (linked l e f) start rest) tokens
+
+-- an expression by its first token
+abbrev pub parse_expression_form : (Counts → List Tok → Read Expression) → Counts → List Tok → Read Expression
+parse_expression_form part c (name n ∷ rest) = expression_read c (variable n) (name n ∷ rest) rest
+parse_expression_form part c (number z ∷ rest) = expression_read c (literal (int_literal z)) (number z ∷ rest) rest
+parse_expression_form part c (symbol symbols.Open ∷ rest) = parse_linked part c (symbol symbols.Open ∷ rest) rest
+parse_expression_form part c tokens = stop Unexpected tokens
+
+abbrev pub begins_expression : Tok → Bool
+begins_expression (name n) = true
+begins_expression (number z) = true
+begins_expression (symbol symbols.Open) = true
+begins_expression _ = false
+
+-- an expression of so much depth at most
+unfoldable pub parse_expression : ℕ → Counts → List Tok → Read Expression
+parse_expression zero c tokens = too_deep begins_expression tokens
+parse_expression (suc left) c tokens = parse_expression_form (parse_expression left) c tokens
+
+-- a function, whose pattern and expression are of so much depth at most
+unfoldable pub parse_function : ℕ → Counts → List Tok → Read Function
+parse_function left c tokens =
+    parse_pattern left tokens and_then λ p rest.
+    parse_symbol symbols.MapsTo rest and_then λ _ rest.
+    parse_expression left c rest and_then λ e rest.
+    got (function p e) rest
+
+-- a term was read to its end: it may be one too many
+abbrev pub term_read : Counts → Term → List Tok → List Tok → Read Term
+term_read c t start rest = if nat_le (c.terms + terms_in t) 100000 then got t rest else stop TooMany start
+
+-- the form that a word begins
+abbrev pub head_of : Keyword → Option Head
+head_of words.Identity = Some (heads.Bare bares.Identity)
+head_of words.Constant = Some (heads.WithValue values.Constant)
+head_of words.IPre = Some (heads.WithValue values.InitialPre)
+head_of words.Arr = Some heads.Arrow
+head_of words.First = Some (heads.Sided sides.First)
+head_of words.Second = Some (heads.Sided sides.Second)
+head_of words.LoopPre = Some (heads.Headed headings.LoopPre)
+head_of _ = None
+
+abbrev pub join_of : Symbol → Option Join
+join_of symbols.InSequence = Some joins.InSequence
+join_of symbols.InParallel = Some joins.InParallel
+join_of symbols.FannedOut = Some joins.FannedOut
+join_of _ = None
+
+-- behind the word of a primitive with a value; `start` begins with that word
+unfoldable pub parse_value : ℕ → Counts → WithValue → List Tok → List Tok → Read Term
+parse_value left c v start tokens = parse_expression left c tokens and_then λ e rest. term_read c (primitive (with_value v e)) start rest
+
+-- behind `arr`
+unfoldable pub parse_arrow : ℕ → Counts → List Tok → List Tok → Read Term
+parse_arrow left c start tokens = parse_function left c tokens and_then λ f rest. term_read c (primitive (arrow f)) start rest
+
+-- behind the word of a term on one part of a pair, where that term is read so
+unfoldable pub parse_sided : (Counts → List Tok → Read Term) → Counts → Side → List Tok → List Tok → Read Term
+parse_sided part c s start tokens = part c tokens and_then λ f rest. term_read c (sided s f) start rest
+
+-- behind the word of a term with an expression at its head, where the expression and the term are read so
+unfoldable pub parse_headed : ℕ → (Counts → List Tok → Read Term) → Counts → Heading → List Tok → List Tok → Read Term
+parse_headed left part c h start tokens =
+    parse_symbol symbols.Open tokens and_then λ _ rest.
+    parse_parts (parse_expression left c) (parse_symbol symbols.Comma) (λ e. part (counts_with_expression c e)) (λ e _ f rest. term_read c (headed h e f) start rest) rest
+
+-- behind the word of a form
+abbrev pub parse_worded : ℕ → (Counts → List Tok → Read Term) → Counts → Option Head → List Tok → List Tok → Read Term
+parse_worded left part c (Some (heads.Bare b)) start tokens = term_read c (primitive (bare b)) start tokens
+parse_worded left part c (Some (heads.WithValue v)) start tokens = parse_value left c v start tokens
+parse_worded left part c (Some heads.Arrow) start tokens = parse_arrow left c start tokens
+parse_worded left part c (Some (heads.Sided s)) start tokens = parse_sided part c s start tokens
+parse_worded left part c (Some (heads.Headed h)) start tokens = parse_headed left part c h start tokens
+parse_worded left part c None start tokens = stop Unexpected start
+
+abbrev pub join_from : Option Join → Symbol → List Tok → Read Join
+join_from (Some j) s rest = got j rest
+join_from None s rest = stop Unexpected (symbol s ∷ rest)
+
+abbrev pub parse_join : List Tok → Read Join
+parse_join (symbol s ∷ rest) = join_from (join_of s) s rest
+parse_join tokens = stop Unexpected tokens
+
+-- behind an opening bracket, with which `start` begins, where the parts are read so
+unfoldable pub parse_joined : (Counts → List Tok → Read Term) → Counts → List Tok → List Tok → Read Term
+parse_joined part c start tokens = parse_parts (part c) parse_join (λ f. part (counts_with c f)) (λ f j g rest. term_read c (joined j f g) start rest) tokens
+
+-- a term by its first token
+abbrev pub parse_form : ℕ → (Counts → List Tok → Read Term) → Counts → List Tok → Read Term
+parse_form left part c (keyword k ∷ rest) = parse_worded left part c (head_of k) (keyword k ∷ rest) rest
+parse_form left part c (symbol symbols.Open ∷ rest) = parse_joined part c (symbol symbols.Open ∷ rest) rest
+parse_form left part c tokens = stop Unexpected tokens
+
+abbrev pub begins_term : Tok → Bool
+begins_term (keyword k) = is_some (head_of k)
+begins_term (symbol symbols.Open) = true
+begins_term _ = false
+
+-- a term of so much depth at most
+unfoldable pub parse_term : ℕ → Counts → List Tok → Read Term
+parse_term zero c tokens = too_deep begins_term tokens
+parse_term (suc left) c tokens = parse_form left (parse_term left) c tokens
+
+abbrev pub template_of : Name → Kind × Kind → Term → Template
+template_of n s t = record { name = n; input = s.0; output = s.1; body = t }
+
+unfoldable pub parse_template : Counts → List Tok → Read Template
+parse_template c tokens =
+    parse_heading tokens and_then λ n rest.
+    parse_signature rest and_then λ s rest.
+    parse_term 64 c rest and_then λ t rest.
+    parse_symbol symbols.Semicolon rest and_then λ _ rest.
+    got (template_of n s t) rest

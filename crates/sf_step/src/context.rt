@@ -1,0 +1,12 @@
+//! What the parts of a sample share.
+use sf_law::Plan;
+use std::alloc::Global;
+
+/// What each part of one sample is stepped with.
+#[derive(Drop)]
+pub(crate) struct SampleContext<'a> {
+    pub(crate) alloc: Global,
+    pub(crate) plan: &'a Plan,
+    /// Milliseconds since the sample before.
+    pub(crate) dt: u64,
+}

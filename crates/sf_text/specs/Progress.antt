@@ -1,0 +1,59 @@
+-- How far the text of a network was read.
+use Rattle.std.specs.Prelude.{◌≡◌, ℕ, ◌-◌, List, [], ◌∷◌, ◌++◌, length, drop, Result, Ok, Err}
+use Rattle.sf_refusal.specs.Refusals.{broken}
+use Rattle.sf_refusal.specs.declared.spot.Spot.{Spot}
+use Rattle.sf_refusal.specs.declared.refusal.Refusal.{Refusal}
+use Rattle.sf_refusal.specs.declared.refusal.Refusal.TheVariants.{Memory}
+use Rattle.sf_lex.specs.Tokens.{Tok, place_at}
+use Rattle.sf_lex.specs.declared.token.PlacedToken.{PlacedToken}
+use Rattle.sf_term.specs.declared.program.Program.{Program}
+use Rattle.sf_term.specs.Arena.{templates_of}
+use Rattle.sf_grammar.specs.Spelling.{spell, spell_templates, IsWithinLimits}
+use Rattle.sf_grammar.specs.Stopping.{counts_in, StopsBehind, StopsIn}
+use Rattle.sf_text.specs.declared.stop.Stop.{Stop}
+use Rattle.sf_text.specs.declared.stop.Stop.TheVariants as stops
+use Rattle.sf_text.specs.Answers.{counts_of, AreNamed}
+
+-- the templates of a program were read in front of these tokens, and nothing else was
+pub record Behind (tokens : List Tok) (p : Program) (rest : List Tok) : Type 0 where
+  pub spelled : tokens ≡ spell_templates (templates_of p) ++ rest
+  pub counted : counts_of p ≡ counts_in (templates_of p)
+  pub limited : IsWithinLimits (templates_of p)
+  pub named : AreNamed rest
+
+-- nothing is in the program
+pub record IsBlankProgram (p : Program) : Type 0 where
+  pub templates : templates_of p ≡ []
+  pub counted : counts_of p ≡ counts_in []
+
+-- reading templates stopped, where it was not for want of memory
+abbrev pub StopsAfter : Stop → List Tok → Type 0
+StopsAfter (stops.At fault left) tokens = StopsBehind tokens fault left
+StopsAfter stops.Memory tokens = Unit {0}
+
+abbrev pub ReadsTemplates : Result (Unit {0}) Stop → List Tok → Program → Type 0
+ReadsTemplates (Ok u) tokens p = Behind tokens p []
+ReadsTemplates (Err e) tokens p = StopsAfter e tokens
+
+abbrev pub StopsNetwork : Stop → List Tok → Type 0
+StopsNetwork (stops.At fault left) tokens = StopsIn tokens fault left
+StopsNetwork stops.Memory tokens = Unit {0}
+
+-- the tokens spell the templates of the program
+pub record IsSpelled (tokens : List Tok) (p : Program) : Type 0 where
+  pub spelled : tokens ≡ spell (templates_of p)
+  pub limited : IsWithinLimits (templates_of p)
+
+abbrev pub ReadsNetwork : Result (Unit {0}) Stop → List Tok → Program → Type 0
+ReadsNetwork (Ok u) tokens p = IsSpelled tokens p
+ReadsNetwork (Err e) tokens p = StopsNetwork e tokens
+
+-- the place of the first of these tokens, or where they end
+abbrev pub first_place : Spot → List PlacedToken → Spot
+first_place end [] = end
+first_place end (t ∷ more) = t.spot
+
+-- why bytes with these tokens are refused
+abbrev pub stop_refusal : List ℕ → List PlacedToken → Stop → Refusal
+stop_refusal bytes tokens (stops.At rule left) = broken rule (first_place (place_at bytes (length bytes)) (drop (length tokens - left) tokens))
+stop_refusal bytes tokens stops.Memory = Memory
