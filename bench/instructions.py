@@ -43,18 +43,26 @@ NETWORKS = {
 }
 
 
-def counted(tool, pattern, words, count):
-    """What valgrind's tool counts in one run on so many lines."""
-    lines = "".join(input_lines(count)).encode("ascii")
-    done = subprocess.run(["valgrind", *tool, *words], input=lines, capture_output=True)
+def counted(tool, pattern, words, lines):
+    """What valgrind's tool counts in one run on these lines."""
+    done = subprocess.run(["valgrind", *tool, *words], input=lines.encode("ascii"), capture_output=True)
     found = re.search(pattern, done.stderr)
     if done.returncode or not found:
         sys.exit(f"instructions: status {done.returncode}: {done.stderr.decode(errors='replace')[-500:]}")
     return int(found[1].replace(b",", b""))
 
 
-def a_sample(tool, pattern, words):
-    return (counted(tool, pattern, words, MANY) - counted(tool, pattern, words, FEW)) / (MANY - FEW)
+def instructions(words, lines):
+    return counted(["--tool=callgrind", "--callgrind-out-file=/dev/null"], rb"Collected : (\d+)", words, lines)
+
+
+def allocations(words, lines):
+    return counted(["--tool=memcheck", "--leak-check=no"], rb"total heap usage: ([\d,]+) allocs", words, lines)
+
+
+def a_sample(count, words):
+    few, many = (count(words, "".join(input_lines(lines))) for lines in (FEW, MANY))
+    return (many - few) / (MANY - FEW)
 
 
 def main():
@@ -73,8 +81,8 @@ def main():
             with open(path, "w") as file:
                 file.write(f"network 1;\ntemplate main(): {types} = {term};\n")
             words = [os.path.abspath(options.exe), path, "--plain"]
-            sample = a_sample(["--tool=callgrind", "--callgrind-out-file=/dev/null"], rb"Collected : (\d+)", words)
-            allocated = a_sample(["--tool=memcheck", "--leak-check=no"], rb"total heap usage: ([\d,]+) allocs", words)
+            sample = a_sample(instructions, words)
+            allocated = a_sample(allocations, words)
             line = line or sample
             node = "" if most is None else f"{(sample - line) / (nodes - 1):.0f}"
             print(row(name, f"{sample:.0f}", node, most or "", f"{allocated:.1f}", "" if most_allocated is None else most_allocated))

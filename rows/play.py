@@ -18,9 +18,11 @@ EXAMPLES = os.path.join(HERE, "..", "examples")
 
 
 def text_of(given):
-    """A text, or pairs of a text, itself made so, and how often it stands."""
+    """A text, or bytes in hexadecimal digits, or pairs of one of these three and how often it stands."""
     if isinstance(given, str):
         return given.encode("utf-8")
+    if isinstance(given, dict):
+        return bytes.fromhex(given["bytes"])
     return b"".join(text_of(text) * times for text, times in given)
 
 
@@ -71,7 +73,9 @@ def faults(row, output, errors, status):
         found.append(f"output {output[-300:]!r}, wanted {row['output'][-300:]!r}")
     if row["errors"] is None and not errors:
         found.append("nothing on standard error")
-    if row["errors"] is not None and errors != row["errors"].encode("utf-8"):
+    if isinstance(row["errors"], list):
+        found += [f"no {part!r} on standard error" for part in row["errors"] if part.encode("utf-8") not in errors]
+    elif row["errors"] is not None and errors != row["errors"].encode("utf-8"):
         found.append(f"standard error {errors[-300:]!r}, wanted {row['errors']!r}")
     return found
 

@@ -1,4 +1,5 @@
-"""Plays two networks, a delay of numbers and a loop over pairs, on three lines with each growth of memory refused in turn.
+"""Plays three networks, a delay of numbers, a loop over pairs and one of texts, events and tables, on three lines with each
+growth of memory refused in turn.
 
     python3 rows/refuse_growths.py --exe PATH
 
@@ -14,10 +15,12 @@ import sys
 import tempfile
 
 HERE = os.path.dirname(os.path.abspath(__file__))
+RICH = ['(("a",event 3),{1:"b",2:"c"})', '(("",none),{})', '(("d\\"",event -4),{2:"",1:"e"})']
 RUNS = [
     ("Int ~> Int = iPre 7", ["1", "2", "3"], ["7", "1", "2"]),
     ("(Int, Int) ~> (Int, Int) = loopPre(0, arr ((x, y), total) => ((x, total), (y + total)))",
      ["(1,2)", "(2,3)", "(3,4)"], ["(1,0)", "(2,2)", "(3,5)"]),
+    ("((Text, Event Int), Table Text) ~> ((Text, Event Int), Table Text) = identity", RICH, RICH),
 ]
 TIMES = [0, 16, 32]
 

@@ -3,8 +3,6 @@
 
 mod arena;
 mod entry;
-#[cfg(test)]
-mod tests;
 
 pub use arena::{Arena, ArenaRefusal};
 pub use entry::Entry;

@@ -1,7 +1,7 @@
 -- A term takes inputs of a type, or breaks a rule on them.
-use Rattle.std.proofs.Common.{◌≡◌, ◌≢◌, ℕ, zero, suc, ◌<◌, Bool, true, false, ◌⊎◌, inl, inr, refl, sym, ap, subst, ◌∙◌, arith}
+use Rattle.std.proofs.Common.{◌≡◌, ◌≢◌, ℕ, zero, suc, ◌<◌, Bool, true, false, Option, ◌⊎◌, inl, inr, refl, sym, ap, subst, ◌∙◌, arith}
 use Rattle.std.proofs.lemmas.Bool.{cases_lt}
-use Rattle.sf_value.specs.Values.{Kind, int_kind, pair_kind, nodes as nodes_of}
+use Rattle.sf_value.specs.Values.{Kind, pair_kind, nodes as nodes_of}
 use Rattle.sf_refusal.specs.declared.spot.Spot.{Spot}
 use Rattle.sf_refusal.specs.declared.rule.Rule.TheVariants.{TypeTooLarge}
 use Rattle.sf_refusal.specs.declared.refusal.Breach.{Breach}
@@ -29,7 +29,7 @@ use Rattle.sf_term.proofs.Kept.{parts_below}
 use Rattle.sf_mean.specs.Contexts.{Context, names_of_values}
 use Rattle.sf_mean.specs.Typing.{PrimitiveTakes, identity_takes, constant_takes, initial_pre_takes, arrow_takes, Takes, FormTakes, primitive_takes, sequence_takes, parallel_takes, fan_takes, first_takes, second_takes, loop_takes}
 use Rattle.sf_mean.specs.Inference.{same_kind}
-use Rattle.sf_mean.proofs.Inferred.{same_is, is_same, output_fits}
+use Rattle.sf_mean.proofs.Inferred.{same_is, is_same, PartsAre, two_parts, no_parts, parts_are, output_fits}
 use Rattle.sf_check.specs.Breaking.{Exceeds, PrimitiveBreaks, value_refused, initial_differs, function_refused, FormBreaks, primitive_breaks, parallel_input, parallel_exceeds, fan_exceeds, side_input, first_exceeds, second_exceeds, start_refused, fed_exceeds, loop_differs, Reaches, sequence_left, sequence_right, parallel_left, parallel_right, fan_left, fan_right, first_part, second_part, loop_part, TermBreaks, itself, within}
 use Rattle.sf_check.specs.Answering.{primitive_in}
 use Rattle.sf_check.proofs.Made.{made}
@@ -97,14 +97,17 @@ module _ (p : Program) (Γ : Context) (names : NamesFit (names_of_values Γ)) wh
   ]
 
   of_parallel : (t f g : TermId) (a : Kind) → term_node_at p t ≡ nodes.Joined InParallel f g → Fits a → ((b : Kind) → Fits b → IsAnswered f b) → ((b : Kind) → Fits b → IsAnswered g b) → IsAnswered t a
-  of_parallel t f g int_kind is k F G = broken t _ int_kind is k (parallel_input (λ x y e. cc))
-  of_parallel t f g (pair_kind a c) is k F G = elim (F a (omega arith)) [
-    | inr r ↦ in_part t _ (pair_kind a c) is k parallel_left r.1
-    | inl h ↦ elim (G c (omega arith)) [
-      | inr r ↦ in_part t _ (pair_kind a c) is k (parallel_right h.1) r.1
-      | inl i ↦ pair_taken t _ (pair_kind a c) is k h.0 i.0 (parallel_takes h.1 i.1) (parallel_exceeds h.1 i.1)
-    ]
-  ]
+  of_parallel t f g a is k F G = each (parts_are a) k
+    where
+      each : {a : Kind} {parts : Option (Kind × Kind)} → PartsAre a parts → Fits a → IsAnswered t a
+      each (no_parts n) k = broken t _ _ is k (parallel_input n)
+      each (two_parts {t = a} {u = c}) k = elim (F a (omega arith)) [
+        | inr r ↦ in_part t _ (pair_kind a c) is k parallel_left r.1
+        | inl h ↦ elim (G c (omega arith)) [
+          | inr r ↦ in_part t _ (pair_kind a c) is k (parallel_right h.1) r.1
+          | inl i ↦ pair_taken t _ (pair_kind a c) is k h.0 i.0 (parallel_takes h.1 i.1) (parallel_exceeds h.1 i.1)
+        ]
+      ]
 
   of_fan : (t f g : TermId) (a : Kind) → term_node_at p t ≡ nodes.Joined FannedOut f g → Fits a → IsAnswered f a → IsAnswered g a → IsAnswered t a
   of_fan t f g a is k (inr r) G = in_part t _ a is k fan_left r.1
@@ -112,25 +115,34 @@ module _ (p : Program) (Γ : Context) (names : NamesFit (names_of_values Γ)) wh
   of_fan t f g a is k (inl h) (inl i) = pair_taken t _ a is k h.0 i.0 (fan_takes h.1 i.1) (fan_exceeds h.1 i.1)
 
   of_first : (t f : TermId) (a : Kind) → term_node_at p t ≡ nodes.Sided First f → Fits a → ((b : Kind) → Fits b → IsAnswered f b) → IsAnswered t a
-  of_first t f int_kind is k F = broken t _ int_kind is k (side_input (λ x y e. cc))
-  of_first t f (pair_kind a c) is k F = elim (F a (omega arith)) [
-    | inr r ↦ in_part t _ (pair_kind a c) is k first_part r.1
-    | inl h ↦ pair_taken t _ (pair_kind a c) is k h.0 c (first_takes h.1) (first_exceeds h.1)
-  ]
+  of_first t f a is k F = each (parts_are a) k
+    where
+      each : {a : Kind} {parts : Option (Kind × Kind)} → PartsAre a parts → Fits a → IsAnswered t a
+      each (no_parts n) k = broken t _ _ is k (side_input n)
+      each (two_parts {t = a} {u = c}) k = elim (F a (omega arith)) [
+        | inr r ↦ in_part t _ (pair_kind a c) is k first_part r.1
+        | inl h ↦ pair_taken t _ (pair_kind a c) is k h.0 c (first_takes h.1) (first_exceeds h.1)
+      ]
 
   of_second : (t f : TermId) (a : Kind) → term_node_at p t ≡ nodes.Sided Second f → Fits a → ((b : Kind) → Fits b → IsAnswered f b) → IsAnswered t a
-  of_second t f int_kind is k F = broken t _ int_kind is k (side_input (λ x y e. cc))
-  of_second t f (pair_kind c a) is k F = elim (F a (omega arith)) [
-    | inr r ↦ in_part t _ (pair_kind c a) is k second_part r.1
-    | inl h ↦ pair_taken t _ (pair_kind c a) is k c h.0 (second_takes h.1) (second_exceeds h.1)
-  ]
+  of_second t f a is k F = each (parts_are a) k
+    where
+      each : {a : Kind} {parts : Option (Kind × Kind)} → PartsAre a parts → Fits a → IsAnswered t a
+      each (no_parts n) k = broken t _ _ is k (side_input n)
+      each (two_parts {t = c} {u = a}) k = elim (F a (omega arith)) [
+        | inr r ↦ in_part t _ (pair_kind c a) is k second_part r.1
+        | inl h ↦ pair_taken t _ (pair_kind c a) is k c h.0 (second_takes h.1) (second_exceeds h.1)
+      ]
 
   looped : (t : TermId) (v : ExprId) (f : TermId) (a c d : Kind) → term_node_at p t ≡ nodes.Headed LoopPre v f → Fits a → HasType (names_of_values Γ) (expression (expressions_of p) v) c → Takes Γ (tree p f) (pair_kind a c) d → IsAnswered t a
-  looped t v f a c int_kind is k E T = broken t _ a is k (loop_differs E T (λ x e. cc))
-  looped t v f a c (pair_kind b w) is k E T = elim (kinds_or w c) [
-    | inl e ↦ let fit = output_fits T in taken t _ a is k b (omega arith) (loop_takes E (subst (λ w. Takes Γ (tree p f) (pair_kind a c) (pair_kind b w)) e T))
-    | inr other ↦ broken t _ a is k (loop_differs E T (λ x e. other cc))
-  ]
+  looped t v f a c d is k E T = each (parts_are d) T
+    where
+      each : {d : Kind} {parts : Option (Kind × Kind)} → PartsAre d parts → Takes Γ (tree p f) (pair_kind a c) d → IsAnswered t a
+      each (no_parts n) T = broken t _ a is k (loop_differs E T (λ x. n x c))
+      each (two_parts {t = b} {u = w}) T = elim (kinds_or w c) [
+        | inl e ↦ let fit = output_fits T in taken t _ a is k b (omega arith) (loop_takes E (subst (λ w. Takes Γ (tree p f) (pair_kind a c) (pair_kind b w)) e T))
+        | inr other ↦ broken t _ a is k (loop_differs E T (λ x e. other cc))
+      ]
 
   of_loop : (t : TermId) (v : ExprId) (f : TermId) (a : Kind) → term_node_at p t ≡ nodes.Headed LoopPre v f → Fits a → ((b : Kind) → Fits b → IsAnswered f b) → IsAnswered t a
   of_loop t v f a is k F = elim (answered (expressions_of p) (names_of_values Γ) names v) [

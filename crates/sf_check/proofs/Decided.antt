@@ -1,5 +1,5 @@
 -- A network is accepted, or breaks a rule.
-use Rattle.std.proofs.Common.{◌≡◌, ◌≢◌, ℕ, zero, suc, ◌+◌, ◌<◌, ◌≤◌, length, Bool, true, false, List, Option, Some, None, slice_get, ◌⊎◌, inl, inr, refl, sym, ap, subst, ◌∙◌, arith}
+use Rattle.std.proofs.Common.{◌≡◌, ◌≢◌, ℕ, zero, suc, ◌<◌, ◌≤◌, length, Bool, true, false, List, Option, Some, None, slice_get, ◌⊎◌, inl, inr, refl, sym, ap, subst, ◌∙◌, arith}
 use Rattle.std.specs.Option.{option_map}
 use Rattle.std.specs.Bool.{Decides}
 use Rattle.std.specs.Str.{bytes_eq}
@@ -12,7 +12,7 @@ use Rattle.sf_expr.specs.Typing.{Fits}
 use Rattle.sf_term.specs.declared.program.Program.{Program}
 use Rattle.sf_term.specs.Headers.{Header}
 use Rattle.sf_term.specs.Trees.{Template, Templates}
-use Rattle.sf_term.specs.Arena.{tree, headers_of, template_in, templates_of, spots_of}
+use Rattle.sf_term.specs.Arena.{tree, headers_of, template_in, templates_of}
 use Rattle.sf_mean.specs.Contexts.{context_of}
 use Rattle.sf_mean.specs.Networks.{main_of}
 use Rattle.sf_mean.specs.Typing.{Takes, IsTyped, Accepted}

@@ -1,6 +1,5 @@
 -- What is answered for terms, by their forms.
 use Rattle.std.proofs.Common.{◌≡◌, refl, sym, subst, ap, ◌∙◌, Result, Ok, Err, IfOk, IfErr, arith, IsErrAnd}
-use mathlib.Core.Path.{ap₂}
 use Rattle.sf_value.specs.Values.{Kind, pair_kind}
 use Rattle.sf_expr.specs.declared.exprs.ExprId.{ExprId}
 use Rattle.sf_expr.specs.declared.exprs.Exprs.{Exprs}
@@ -36,7 +35,7 @@ use Rattle.sf_term.specs.Trees.{bare, with_value}
 use Rattle.sf_term.specs.Arena.{tree, term_node_at, term_spot_at, expressions_of, templates_of}
 use Rattle.sf_mean.specs.Contexts.{Context, names_of_values, context_of}
 use Rattle.sf_mean.specs.Typing.{PrimitiveTakes, identity_takes, constant_takes, initial_pre_takes, arrow_takes, Takes, takes, FormTakes, primitive_takes, sequence_takes, parallel_takes, fan_takes, first_takes, second_takes, loop_takes}
-use Rattle.sf_check.specs.Breaking.{IsNoPairWith, Exceeds, PrimitiveBreaks, value_refused, initial_differs, function_refused, FormBreaks, primitive_breaks, parallel_exceeds, fan_exceeds, first_exceeds, second_exceeds, start_refused, fed_exceeds, loop_differs, Reaches, sequence_right, parallel_left, parallel_right, first_part, second_part, loop_part, TermBreaks, itself, within, TemplateBreaks, breaks_within, breaks_header}
+use Rattle.sf_check.specs.Breaking.{IsNoPairWith, Exceeds, PrimitiveBreaks, value_refused, initial_differs, function_refused, FormBreaks, primitive_breaks, parallel_exceeds, fan_exceeds, first_exceeds, second_exceeds, start_refused, fed_exceeds, loop_differs, Reaches, sequence_right, fan_left, parallel_left, parallel_right, first_part, second_part, loop_part, TermBreaks, itself, within, TemplateBreaks, breaks_within, breaks_header}
 use Rattle.sf_check.specs.Answering.{primitive_in, AnswersPrimitive, AnswersTerm}
 use Rattle.sf_check.proofs.Made.{made, tree_made}
 use Rattle.sf_check.proofs.Types.{primitive_fits, output_fits}
@@ -82,8 +81,9 @@ sided_there p t {f = f} e there = there ∙ ap (λ d. nodes.Sided d f) e
 -- ## The answers of each form
 
 module _ (p : Program) (Γ : Context) (t : TermId) (a : Kind) (s : Spot) (at : s ≡ term_spot_at p t) where
-  pub mismatch_refused : (n : Node) → term_node_at p t ≡ n → (e : Refusal) → e ≡ broken Mismatch s → FormBreaks p Γ s n a (breach_of Mismatch s) → OrMemory (TermBreaks p Γ t a) e
-  mismatch_refused n is e eq h = itself_refused p Γ t n a is s e at (breaks_at Mismatch eq refl h)
+  -- inputs are of another type than the form takes
+  pub mismatch_refused : (n : Node) → term_node_at p t ≡ n → {Q : Type 0} (e : Refusal) → OrMemory (λ b. (b ≡ breach_of Mismatch s) × Q) e → (Q → FormBreaks p Γ s n a (breach_of Mismatch s)) → OrMemory (TermBreaks p Γ t a) e
+  mismatch_refused n is e h breaks = itself_refused p Γ t n a is s e at (or_memory (λ b k. subst (FormBreaks p Γ s n a) (sym k.0) (breaks k.1)) h)
 
   pub primitive_answers : (x : Exprs) (q : Primitive) (r : Result Kind Refusal) → x ≡ expressions_of p → term_node_at p t ≡ nodes.Primitive q → Fits a → AnswersPrimitive x Γ q a s r → AnswersTerm p Γ t a r
   primitive_answers x q (Ok b) of is fit h = form_ok p Γ t (nodes.Primitive q) a is b fit (primitive_fits fit h) (primitive_takes (subst (λ x. PrimitiveTakes Γ (primitive_in x q) a b) of h))
@@ -92,6 +92,14 @@ module _ (p : Program) (Γ : Context) (t : TermId) (a : Kind) (s : Spot) (at : s
   pub sequence_answers : (f g : TermId) (b : Kind) (r : Result Kind Refusal) → term_node_at p t ≡ nodes.Joined InSequence f g → Fits a → Takes Γ (tree p f) a b → AnswersTerm p Γ g b r → AnswersTerm p Γ t a r
   sequence_answers f g b (Ok c) is fit h k = form_ok p Γ t (nodes.Joined InSequence f g) a is c fit (output_fits k) (sequence_takes h k)
   sequence_answers f g b (Err e) is fit h k = part_refused p Γ t (nodes.Joined InSequence f g) a is g b e (sequence_right h) k
+
+  -- of a copy of the input
+  module _ (z : Kind) (copy : z ≡ a) where
+    pub copy_reached : (f g : TermId) → Reaches p Γ (nodes.Joined FannedOut f g) a f z
+    copy_reached f g = subst (Reaches p Γ (nodes.Joined FannedOut f g) a f) (sym copy) fan_left
+
+    pub copy_takes : (f : TermId) (b : Kind) → Takes Γ (tree p f) z b → Takes Γ (tree p f) a b
+    copy_takes f b h = subst (λ a. Takes Γ (tree p f) a b) copy h
 
   pub fan_answers : (f g : TermId) (b c : Kind) (r : Result Kind Refusal) → term_node_at p t ≡ nodes.Joined FannedOut f g → Fits a → Takes Γ (tree p f) a b → Takes Γ (tree p g) a c → AnswersPair b c s r → AnswersTerm p Γ t a r
   fan_answers f g b c r is fit h k = pair_answers p Γ t (nodes.Joined FannedOut f g) a is b c s r at fit (fan_takes h k) (fan_exceeds h k)
@@ -116,11 +124,11 @@ module _ (p : Program) (Γ : Context) (t : TermId) (a : Kind) (s : Spot) (at : s
     pub parallel_answers : (f g : TermId) (b d : Kind) (r : Result Kind Refusal) → term_node_at p t ≡ nodes.Joined InParallel f g → Fits a → Takes Γ (tree p f) x b → Takes Γ (tree p g) y d → AnswersPair b d s r → AnswersTerm p Γ t a r
     parallel_answers f g b d r is fit h k = pairs_answer (nodes.Joined InParallel f g) is b d r fit (parallel_takes h k) (parallel_exceeds h k)
 
-    pub first_answers : (f : TermId) (b z : Kind) (r : Result Kind Refusal) → term_node_at p t ≡ nodes.Sided First f → Fits a → Takes Γ (tree p f) x b → z ≡ y → AnswersPair b z s r → AnswersTerm p Γ t a r
-    first_answers f b z r is fit h same answer = pairs_answer (nodes.Sided First f) is b y r fit (first_takes h) (first_exceeds h) (subst (λ z. AnswersPair b z s r) same answer)
+    pub first_answers : (f : TermId) (b : Kind) (r : Result Kind Refusal) → term_node_at p t ≡ nodes.Sided First f → Fits a → Takes Γ (tree p f) x b → AnswersPair b y s r → AnswersTerm p Γ t a r
+    first_answers f b r is fit h = pairs_answer (nodes.Sided First f) is b y r fit (first_takes h) (first_exceeds h)
 
-    pub second_answers : (f : TermId) (b z : Kind) (r : Result Kind Refusal) → term_node_at p t ≡ nodes.Sided Second f → Fits a → Takes Γ (tree p f) y b → z ≡ x → AnswersPair z b s r → AnswersTerm p Γ t a r
-    second_answers f b z r is fit h same answer = pairs_answer (nodes.Sided Second f) is x b r fit (second_takes h) (second_exceeds h) (subst (λ z. AnswersPair z b s r) same answer)
+    pub second_answers : (f : TermId) (b : Kind) (r : Result Kind Refusal) → term_node_at p t ≡ nodes.Sided Second f → Fits a → Takes Γ (tree p f) y b → AnswersPair x b s r → AnswersTerm p Γ t a r
+    second_answers f b r is fit h = pairs_answer (nodes.Sided Second f) is x b r fit (second_takes h) (second_exceeds h)
 
   -- `loopPre`
   module _ (v : ExprId) (f : TermId) (is : term_node_at p t ≡ nodes.Headed LoopPre v f) (x : Exprs) (of : x ≡ expressions_of p) where
@@ -132,18 +140,18 @@ module _ (p : Program) (Γ : Context) (t : TermId) (a : Kind) (s : Spot) (at : s
       typed_in : HasType (names_of_values Γ) (expression (expressions_of p) v) c
       typed_in = subst (λ x. HasType (names_of_values Γ) (expression x v) c) of typed
 
-      pub fed_refused : (b z : Kind) (e : Refusal) → b ≡ a → z ≡ c → OrMemory (PairRefused b z s) e → OrMemory (TermBreaks p Γ t a) e
-      fed_refused b z e same same' h = itself_refused p Γ t (nodes.Headed LoopPre v f) a is s e at (or_memory (λ c k. subst (λ c. FormBreaks p Γ s (nodes.Headed LoopPre v f) a c) (sym k.0) (fed_exceeds typed_in (subst Exceeds (ap₂ pair_kind same same') k.1))) h)
+      pub fed_refused : (z : Kind) (e : Refusal) → z ≡ c → OrMemory (PairRefused a z s) e → OrMemory (TermBreaks p Γ t a) e
+      fed_refused z e same h = itself_refused p Γ t (nodes.Headed LoopPre v f) a is s e at (or_memory (λ c k. subst (λ c. FormBreaks p Γ s (nodes.Headed LoopPre v f) a c) (sym k.0) (fed_exceeds typed_in (subst Exceeds (ap (pair_kind a) same) k.1))) h)
 
       pub loop_reached : (w : Kind) → w ≡ pair_kind a c → Fits w → Reaches p Γ (nodes.Headed LoopPre v f) a f w
       loop_reached w e fits = subst (Reaches p Γ (nodes.Headed LoopPre v f) a f) (sym e) (loop_part typed_in (subst Fits e fits))
 
-      pub loop_answers : (w d : Kind) (r : Result Kind Refusal) → w ≡ pair_kind a c → Fits a → Takes Γ (tree p f) w d → IfOk r (λ b. d ≡ pair_kind b c) → IfErr r (λ e. (e ≡ broken Mismatch s) × IsNoPairWith c d) → AnswersTerm p Γ t a r
+      pub loop_answers : (w d : Kind) (r : Result Kind Refusal) → w ≡ pair_kind a c → Fits a → Takes Γ (tree p f) w d → IfOk r (λ b. d ≡ pair_kind b c) → IfErr r (OrMemory (λ b. (b ≡ breach_of Mismatch s) × IsNoPairWith c d)) → AnswersTerm p Γ t a r
       loop_answers w d (Ok b) same fit k ok err =
           let h = subst (λ w. Takes Γ (tree p f) w d) same k in
           let fits = subst Fits ok (output_fits h) in
           form_ok p Γ t (nodes.Headed LoopPre v f) a is b fit (omega (arith, fits)) (loop_takes typed_in (subst (Takes Γ (tree p f) (pair_kind a c)) ok h))
-      loop_answers w d (Err e) same fit k ok err = mismatch_refused (nodes.Headed LoopPre v f) is e err.0 (loop_differs typed_in (subst (λ w. Takes Γ (tree p f) w d) same k) err.1)
+      loop_answers w d (Err e) same fit k ok err = mismatch_refused (nodes.Headed LoopPre v f) is e err (loop_differs typed_in (subst (λ w. Takes Γ (tree p f) w d) same k))
 
 -- ## A template
 
@@ -160,9 +168,6 @@ header_refused p h t s a b c e is at from to k other eq =
 pub err_primitive : (x : Exprs) (Γ : Context) (q : Primitive) (a : Kind) (s : Spot) (r : Result Kind Refusal) (e : Refusal) → IsErrAnd r (λ y. y ≡ e) → OrMemory (PrimitiveBreaks x Γ s q a) e → AnswersPrimitive x Γ q a s r
 err_primitive x Γ q a s (Ok b) e h broken = absurd h
 err_primitive x Γ q a s (Err y) e h broken = subst (OrMemory (PrimitiveBreaks x Γ s q a)) (sym h) broken
-
-pub memory_primitive : (x : Exprs) (Γ : Context) (q : Primitive) (a : Kind) (s : Spot) (r : Result Kind Refusal) → IsErrAnd r (λ y. y ≡ Memory) → AnswersPrimitive x Γ q a s r
-memory_primitive x Γ q a s r h = err_primitive x Γ q a s r Memory h no_memory
 
 pub constant_refused : (x : Exprs) (Γ : Context) (k : WithValue) (v : ExprId) (a : Kind) (s : Spot) (r : Refusal) → Judges x (names_of_values Γ) v (Err r) → OrMemory (PrimitiveBreaks x Γ s (primitives.WithValue k v) a) r
 constant_refused x Γ k v a s r h = or_memory (λ b q. value_refused q) h
@@ -183,8 +188,8 @@ initial_refused x Γ k v a b s e is h other eq = breaks_at Mismatch eq refl (sub
 pub arrow_output : (x : Exprs) (Γ : Context) (q : Primitive) (f : FunctionId) (a b : Kind) → q ≡ primitives.Arrow f → FunctionTakes (names_of_values Γ) (function_at x f) a b → PrimitiveTakes Γ (primitive_in x q) a b
 arrow_output x Γ q f a b is h = subst (λ q. PrimitiveTakes Γ (primitive_in x q) a b) (sym is) (arrow_takes h)
 
-pub identity_output : (x : Exprs) (Γ : Context) (q : Primitive) (k : Bare) (a b : Kind) → q ≡ primitives.Bare k → b ≡ a → PrimitiveTakes Γ (primitive_in x q) a b
-identity_output x Γ q k a b is same = subst (λ q. PrimitiveTakes Γ (primitive_in x q) a b) (sym is) (subst (PrimitiveTakes Γ (bare k) a) (sym same) (each k))
+pub identity_output : (x : Exprs) (Γ : Context) (q : Primitive) (k : Bare) (a : Kind) → q ≡ primitives.Bare k → PrimitiveTakes Γ (primitive_in x q) a a
+identity_output x Γ q k a is = subst (λ q. PrimitiveTakes Γ (primitive_in x q) a a) (sym is) (each k)
   where
     each : (k : Bare) → PrimitiveTakes Γ (bare k) a a
     each Identity = identity_takes

@@ -1,22 +1,19 @@
 -- The one type that expressions and terms can have, and its bound.
-use Rattle.std.proofs.Common.{◌≡◌, [], ◌∷◌, refl, ap, arith}
-use Rattle.sf_value.specs.Values.{Kind, int_kind, HasKind, has_int}
-use Rattle.sf_expr.specs.Expressions.{Literal, int_literal, Expression, Function}
+use Rattle.std.proofs.Common.{◌≡◌, ◌≢◌, [], ◌∷◌, refl, ap, arith}
+use Rattle.sf_value.specs.Values.{Kind, int_kind, pair_kind}
+use Rattle.sf_expr.specs.Expressions.{Expression, Function}
 use Rattle.sf_expr.specs.Typing.{Names, Fits, HasType, variable_has, literal_has, pair_has, operation_has, FunctionTakes, function_takes}
-use Rattle.sf_expr.specs.Evaluation.{literal_value}
 pub use Rattle.sf_expr.proofs.Judged.{one_type as expression_one}
 use Rattle.sf_term.specs.Trees.{Primitive}
 use Rattle.sf_mean.specs.Contexts.{Context, values_in}
 use Rattle.sf_mean.specs.Typing.{PrimitiveTakes, identity_takes, constant_takes, initial_pre_takes, arrow_takes, fused_takes}
 use Rattle.sf_check.specs.Contexts.{bindings_of}
+use Rattle.sf_check.specs.Breaking.{IsNoPairWith}
 pub use Rattle.sf_mean.proofs.Inferred.{takes_one, input_fits, output_fits, form_of}
-
-literal_is : (l : Literal) {t : Kind} → HasKind (literal_value l) t → t ≡ int_kind
-literal_is (int_literal z) (has_int h) = refl
 
 expression_fits : {R : Names} {e : Expression} {t : Kind} → HasType R e t → Fits t
 expression_fits (variable_has h f) = f
-expression_fits (literal_has {l = l} h) = let e = literal_is l h in rw e (omega arith)
+expression_fits (literal_has h f) = f
 expression_fits (pair_has h i f) = f
 expression_fits (operation_has h i) = omega arith
 
@@ -34,3 +31,7 @@ primitive_fits f (fused_takes h g) = g
 pub names_seen_through : (R : Names) → values_in (bindings_of R) ≡ R
 names_seen_through [] = refl
 names_seen_through (n ∷ ns) = ap (λ (R : Names). n ∷ R) (names_seen_through ns)
+
+-- the second part is another than that
+pub other_second : {a t u v : Kind} → a ≡ pair_kind t u → u ≢ v → IsNoPairWith v a
+other_second is other w e = other cc

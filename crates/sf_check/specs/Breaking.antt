@@ -1,6 +1,6 @@
 -- Where rules of types are broken, under a context.
 use Rattle.std.specs.Prelude.{◌≡◌, ◌≢◌, ◌<◌, ℕ, Some, slice_get}
-use Rattle.sf_value.specs.Values.{Kind, pair_kind, nodes as nodes_of}
+use Rattle.sf_value.specs.Values.{Kind, pair_kind, nodes as nodes_of, IsNoPair}
 use Rattle.sf_refusal.specs.declared.spot.Spot.{Spot}
 use Rattle.sf_refusal.specs.declared.rule.Rule.TheVariants.{Mismatch, TypeTooLarge}
 use Rattle.sf_refusal.specs.declared.refusal.Breach.{Breach}
@@ -29,10 +29,6 @@ use Rattle.sf_term.specs.Trees.{Template}
 use Rattle.sf_term.specs.Arena.{tree, term_node_at, term_spot_at, expressions_of, headers_of, templates_of}
 use Rattle.sf_mean.specs.Contexts.{Context, names_of_values, context_of}
 use Rattle.sf_mean.specs.Typing.{Takes, IsTyped}
-
--- a type is none of pairs
-abbrev pub IsNoPair : Kind → Type 0
-IsNoPair a = (t u : Kind) → a ≢ pair_kind t u
 
 -- a type is none of pairs with this second part
 abbrev pub IsNoPairWith : Kind → Kind → Type 0

@@ -12,6 +12,3 @@ pub use checked::Checked;
 pub use checker::check;
 pub use laws::{accepted_or_refused, one_refusal, some_answer};
 pub use sf_refusal::{Breach, Refusal, Rule, Spot};
-
-#[cfg(test)]
-mod tests;

@@ -1,7 +1,7 @@
 //! The types of terms, under contexts.
 ghost use Rattle.std.specs.Prelude.{◌≡◌, ◌<◌, IfOk, IfErr, OnOk};
-ghost use Rattle.sf_value.specs.Values.{pair_kind};
-ghost use Rattle.sf_refusal.specs.Refusals.{broken, OrMemory};
+ghost use Rattle.sf_value.specs.Values.{pair_kind, IsNoPair};
+ghost use Rattle.sf_refusal.specs.Refusals.{breach_of, OrMemory};
 ghost use Rattle.sf_refusal.specs.declared.rule.Rule.TheVariants.{Mismatch};
 ghost use Rattle.sf_expr.specs.Refusals.{Judges};
 ghost use Rattle.sf_expr.specs.Typing.{Fits};
@@ -10,32 +10,24 @@ ghost use Rattle.sf_mean.specs.Contexts.{names_of_values};
 ghost use Rattle.sf_mean.specs.Typing.{IsTyped};
 ghost use Rattle.sf_check.specs.Contexts.{program_in, context_in};
 ghost use Rattle.sf_check.specs.Answering.{AnswersPrimitive, AnswersTerm};
-ghost use Rattle.sf_check.specs.Breaking.{IsNoPair, IsNoPairWith, TemplateBreaks, AreTyped, IsFirstBreak};
+ghost use Rattle.sf_check.specs.Breaking.{IsNoPairWith, TemplateBreaks, AreTyped, IsFirstBreak};
 
 use crate::context::TypingContext;
 use sf_expr::{ExprId, function_type, pair_type, type_of};
 use sf_refusal::{Refusal, Rule, Spot};
 use sf_term::{Bare, Heading, Join, Node, Primitive, Program, Side, Template, TermId, WithValue};
-use sf_value::{Ty, TyForm, same_type};
+use sf_value::{Ty, same_type};
 use std::alloc::Global;
 
-/// The type itself, which is made of at most 256 types.
-fn bounded(ty: &Ty) -> &Ty
-    ensures same { result.now ≡ ty.now }
-    ensures fits { Fits ty.now }
+/// The two parts of a type of pairs, which are shared; `Mismatch` at the spot for another type.
+fn parts(alloc: Global, ty: &Ty, spot: Spot) -> Result<(Ty, Ty), Refusal>
+    ensures ok { IfOk result (λ parts. ty.now ≡ pair_kind parts.0 parts.1) }
+    ensures fits { IfOk result (λ parts. Fits parts.0 × Fits parts.1) }
+    ensures err { IfErr result (OrMemory (λ b. (b ≡ breach_of Mismatch spot) × IsNoPair ty.now)) }
 {
-    let _form = ty.form();
-    ty
-}
-
-/// The two parts of a type of pairs; `Mismatch` at the spot for another type.
-fn parts(ty: &Ty, spot: Spot) -> Result<(&Ty, &Ty), Refusal>
-    ensures ok { IfOk result (λ parts. ty.now ≡ pair_kind parts.0.now parts.1.now) }
-    ensures err { IfErr result (λ e. (e ≡ broken Mismatch spot) × IsNoPair ty.now) }
-{
-    match ty.form() {
-        TyForm::Pair(first, second) => Ok((first, second)),
-        TyForm::Int => Err(Refusal::broken(Rule::Mismatch, spot)),
+    match ty.parts() {
+        Some((first, second)) => Ok((first.clone_in(alloc)?, second.clone_in(alloc)?)),
+        None => Err(Refusal::broken(Rule::Mismatch, spot)),
     }
 }
 
@@ -75,29 +67,33 @@ fn primitive_output(
     alloc: Global,
     context: &TypingContext,
     primitive: Primitive,
-    input: &Ty,
+    input: Ty,
     spot: Spot,
 ) -> Result<Ty, Refusal>
-    ensures { AnswersPrimitive (expressions_of (program_in context.now)) (context_in context.now) primitive input.now spot result }
+    ensures { AnswersPrimitive (expressions_of (program_in context.now)) (context_in context.now) primitive input spot result }
 {
     match primitive {
-        Primitive::Bare(Bare::Identity) => Ok(input.clone_in(alloc)?),
-        Primitive::WithValue(kind, value) => value_output(alloc, context, kind, value, input, spot),
+        Primitive::Bare(Bare::Identity) => Ok(input),
+        Primitive::WithValue(kind, value) => {
+            value_output(alloc, context, kind, value, &input, spot)
+        }
         Primitive::Arrow(function) => {
             let exprs = context.program.expressions();
-            Ok(function_type(alloc, exprs, function, input, &context.names, spot)?)
+            Ok(function_type(alloc, exprs, function, &input, &context.names, spot)?)
         }
     }
 }
 
 /// The type of the outputs of a loop, by the type of its part's outputs: pairs, whose second parts are fed back.
-fn loop_output(output: Ty, fed: &Ty, spot: Spot) -> Result<Ty, Refusal>
-    ensures ok { IfOk result (λ t. output ≡ pair_kind t fed.now) }
-    ensures err { IfErr result (λ e. (e ≡ broken Mismatch spot) × IsNoPairWith fed.now output) }
+fn loop_output(alloc: Global, output: &Ty, fed: &Ty, spot: Spot) -> Result<Ty, Refusal>
+    ensures ok { IfOk result (λ t. output.now ≡ pair_kind t fed.now) }
+    ensures err { IfErr result (OrMemory (λ b. (b ≡ breach_of Mismatch spot) × IsNoPairWith fed.now output.now)) }
 {
-    match output.into_form() {
-        TyForm::Pair(first, second) if same_type(&second, fed) => Ok(Box::into_inner(first)),
-        _ => Err(Refusal::broken(Rule::Mismatch, spot)),
+    let (first, second) = parts(alloc, output, spot)?;
+    if same_type(&second, fed) {
+        Ok(first)
+    } else {
+        Err(Refusal::broken(Rule::Mismatch, spot))
     }
 }
 
@@ -110,27 +106,27 @@ fn joined_output(
     join: Join,
     left: TermId,
     right: TermId,
-    input: &Ty,
+    input: Ty,
 ) -> Result<Ty, Refusal>
-    requires fits { Fits input.now }
+    requires fits { Fits input }
     requires there { term_node_at (program_in context.now) term ≡ Node.Joined join left right }
     requires below { (term_number left < term_number term) × (term_number right < term_number term) }
-    ensures { AnswersTerm (program_in context.now) (context_in context.now) term input.now result }
+    ensures { AnswersTerm (program_in context.now) (context_in context.now) term input result }
 {
     let spot = context.program.spot(term);
     match join {
         Join::InSequence => {
             let middle = output_of(alloc, context, left, input)?;
-            output_of(alloc, context, right, &middle)
+            output_of(alloc, context, right, middle)
         }
         Join::InParallel => {
-            let (a, b) = parts(input, spot)?;
+            let (a, b) = parts(alloc, &input, spot)?;
             let first = output_of(alloc, context, left, a)?;
             let second = output_of(alloc, context, right, b)?;
             pair_type(alloc, first, second, spot)
         }
         Join::FannedOut => {
-            let first = output_of(alloc, context, left, input)?;
+            let first = output_of(alloc, context, left, input.clone_in(alloc)?)?;
             let second = output_of(alloc, context, right, input)?;
             pair_type(alloc, first, second, spot)
         }
@@ -145,23 +141,23 @@ fn sided_output(
     term: TermId,
     side: Side,
     part: TermId,
-    input: &Ty,
+    input: Ty,
 ) -> Result<Ty, Refusal>
-    requires fits { Fits input.now }
+    requires fits { Fits input }
     requires there { term_node_at (program_in context.now) term ≡ Node.Sided side part }
     requires below { term_number part < term_number term }
-    ensures { AnswersTerm (program_in context.now) (context_in context.now) term input.now result }
+    ensures { AnswersTerm (program_in context.now) (context_in context.now) term input result }
 {
     let spot = context.program.spot(term);
-    let (a, b) = parts(input, spot)?;
+    let (a, b) = parts(alloc, &input, spot)?;
     match side {
         Side::First => {
             let first = output_of(alloc, context, part, a)?;
-            pair_type(alloc, first, b.clone_in(alloc)?, spot)
+            pair_type(alloc, first, b, spot)
         }
         Side::Second => {
             let second = output_of(alloc, context, part, b)?;
-            pair_type(alloc, a.clone_in(alloc)?, second, spot)
+            pair_type(alloc, a, second, spot)
         }
     }
 }
@@ -174,30 +170,26 @@ fn headed_output(
     term: TermId,
     start: ExprId,
     part: TermId,
-    input: &Ty,
+    input: Ty,
 ) -> Result<Ty, Refusal>
-    requires fits { Fits input.now }
+    requires fits { Fits input }
     requires there { term_node_at (program_in context.now) term ≡ Node.Headed Heading.LoopPre start part }
     requires below { term_number part < term_number term }
-    ensures { AnswersTerm (program_in context.now) (context_in context.now) term input.now result }
+    ensures { AnswersTerm (program_in context.now) (context_in context.now) term input result }
 {
     let spot = context.program.spot(term);
     let fed = constant_type(alloc, context, start)?;
-    let given = pair_type(alloc, input.clone_in(alloc)?, fed.clone_in(alloc)?, spot)?;
-    let output = output_of(alloc, context, part, &given)?;
-    loop_output(output, &fed, spot)
+    let second = fed.clone_in(alloc)?;
+    let given = pair_type(alloc, input, second, spot)?;
+    let output = output_of(alloc, context, part, given)?;
+    loop_output(alloc, &output, &fed, spot)
 }
 
 /// The type of a term's outputs on inputs of a type, or the first rule that a form in it breaks.
 #[cycle(output)]
-fn output_of(
-    alloc: Global,
-    context: &TypingContext,
-    term: TermId,
-    input: &Ty,
-) -> Result<Ty, Refusal>
-    requires { Fits input.now }
-    ensures { AnswersTerm (program_in context.now) (context_in context.now) term input.now result }
+fn output_of(alloc: Global, context: &TypingContext, term: TermId, input: Ty) -> Result<Ty, Refusal>
+    requires { Fits input }
+    ensures { AnswersTerm (program_in context.now) (context_in context.now) term input result }
 {
     match context.program.node(term) {
         Node::Primitive(primitive) => {
@@ -219,7 +211,8 @@ fn check_template(alloc: Global, program: &Program, template: &Template) -> Resu
     ensures err { IfErr result (OrMemory (TemplateBreaks program.now template.now)) }
 {
     let context = TypingContext::of_body(alloc, program);
-    let output = output_of(alloc, &context, template.body(), bounded(template.input()))?;
+    let input = template.input().clone_in(alloc)?;
+    let output = output_of(alloc, &context, template.body(), input)?;
     if same_type(&output, template.output()) {
         Ok(())
     } else {

@@ -2,8 +2,6 @@
 #![tactic(auto)]
 
 mod read;
-#[cfg(test)]
-mod tests;
 mod write;
 
 pub use read::{Run, digits_at, signed};

@@ -2,7 +2,5 @@
 #![tactic(auto)]
 
 mod engine;
-#[cfg(test)]
-mod tests;
 
 pub use engine::{Engine, EngineError, Mode, Sample};

@@ -5,10 +5,11 @@ use Rattle.std.specs.Bool.{Decides}
 use Rattle.std.proofs.lemmas.Bool.{cases_lt}
 use Rattle.std.proofs.lemmas.Slice.Eq.{bytes_eq-Decides}
 use Rattle.std.proofs.lemmas.List.Elements.{All-contains}
-use Rattle.sf_value.specs.Values.{Name, Kind, int_kind, pair_kind, nodes as nodes_of}
+use Rattle.sf_value.specs.Values.{Name, Kind, unit_kind, bool_kind, int_kind, text_kind, pair_kind, event_kind, table_kind, nodes as nodes_of}
 use Rattle.sf_refusal.specs.declared.spot.Spot.{Spot}
 use Rattle.sf_expr.specs.declared.exprs.ExprId.{ExprId}
 use Rattle.sf_expr.specs.declared.exprs.FunctionId.{FunctionId}
+use Rattle.sf_expr.specs.declared.exprs.ConstantId.{ConstantId}
 use Rattle.sf_expr.specs.declared.exprs.ExprNode.{ExprNode}
 use Rattle.sf_expr.specs.declared.exprs.ExprNode.TheVariants as nodes
 use Rattle.sf_expr.specs.declared.exprs.Exprs.{Exprs}
@@ -17,12 +18,13 @@ use Rattle.sf_refusal.specs.declared.refusal.Breach.{Breach}
 use Rattle.sf_expr.specs.Expressions.{Pattern, names_in}
 use Rattle.sf_expr.specs.Patterns.{PlacedPattern, placed_unnamed, placed_name, placed_both, pattern_of}
 use Rattle.sf_expr.specs.Entries.{has_narrow}
-use Rattle.sf_expr.specs.Arena.{id_number, expression, node_at, name_at, entry_of, pattern_at, body_at, function_at, PartsBelow}
-use Rattle.sf_expr.specs.Typing.{Names, Fits, type_of_name, AllDifferent, AddsNames, adds_nothing, adds_name, adds_both, HasType, FunctionTakes, function_takes}
-use Rattle.sf_expr.specs.Inference.{is_among, names_with, NamesFit}
-use Rattle.sf_expr.specs.Refusals.{Refused, unknown_name, first_part, second_part, pair_too_large, left_operand, right_operand, no_number, IsRepeated, FunctionRefused, repeated_name, no_fit, body_refused}
-use Rattle.sf_expr.proofs.Entered.{node_builds, parts_below, narrow_node}
-use Rattle.sf_expr.proofs.Judged.{int_typed, name_typed, pair_has_type, operation_has_type}
+use Rattle.sf_expr.specs.Arena.{id_number, expression, node_at, name_at, literal_at, entry_of, pattern_at, body_at, function_at, PartsBelow}
+use Rattle.sf_expr.specs.Typing.{Names, Fits, type_of_name, literal_kind, AllDifferent, AddsNames, adds_nothing, adds_name, adds_both, HasType, FunctionTakes, function_takes}
+use Rattle.sf_expr.specs.Inference.{is_valued, is_among, names_with, NamesFit}
+use Rattle.sf_expr.specs.Refusals.{Refused, unknown_name, literal_too_large, first_part, second_part, pair_too_large, left_operand, right_operand, no_number, IsRepeated, FunctionRefused, repeated_name, no_fit, body_refused}
+use Rattle.sf_expr.proofs.Entered.{node_builds, parts_below, narrow_node, literal_valued}
+use Rattle.sf_expr.proofs.Typed.{is_constant}
+use Rattle.sf_expr.proofs.Judged.{literal_has_type, unit_typed, truth_typed, int_typed, name_typed, pair_has_type, operation_has_type}
 use Rattle.sf_expr.proofs.Apart.{apart_push, name_repeated, repeated_first, repeated_second}
 use Rattle.sf_expr.proofs.Inferred.{not_among, with_adds, adds_with}
 
@@ -38,9 +40,25 @@ node_narrow : (x : Exprs) (i : ExprId) → IsTrue (has_narrow (node_at x i))
 unfolding node_at entry_of
 node_narrow x i = narrow_node x i
 
+-- whether a type is that of numbers
+numbers : (t : Kind) → (t ≡ int_kind) ⊎ (t ≢ int_kind)
+numbers int_kind = inl refl
+numbers unit_kind = inr (λ e. cc)
+numbers bool_kind = inr (λ e. cc)
+numbers text_kind = inr (λ e. cc)
+numbers (pair_kind t u) = inr (λ e. cc)
+numbers (event_kind t) = inr (λ e. cc)
+numbers (table_kind k t) = inr (λ e. cc)
+
 module _ (x : Exprs) (R : Names) (fit : NamesFit R) where
   of_int : (i : ExprId) (z : _) → node_at x i ≡ nodes.Int z → IsTrue (has_narrow (nodes.Int z)) → IsAnswered x R i
   of_int i z e h = inl (int_kind, int_typed x R i z (node_builds x i _ e) h)
+
+  of_constant : (i : ExprId) (n : ConstantId) → node_at x i ≡ nodes.Constant n → IsTrue (is_valued (literal_at x n)) → IsAnswered x R i
+  of_constant i n e h = elim (cases_lt 256 (nodes_of (literal_kind (literal_at x n)))) [
+    | inl q ↦ inr (_, literal_too_large e q)
+    | inr q ↦ inl (literal_kind (literal_at x n), literal_has_type x R i (literal_at x n) (is_constant (node_builds x i _ e)) h q)
+  ]
 
   of_name : (i : ExprId) (n : _) → node_at x i ≡ nodes.Name n → (o : Option Kind) → type_of_name (name_at x n) R ≡ o → IsAnswered x R i
   of_name i n e (Some t) h = inl (t, name_typed x R i n t (node_builds x i _ e) h (fit _ t h))
@@ -57,15 +75,21 @@ module _ (x : Exprs) (R : Names) (fit : NamesFit R) where
   of_operation : (i a b : ExprId) (op : Operator) → node_at x i ≡ nodes.Operation a op b → IsAnswered x R a → IsAnswered x R b → IsAnswered x R i
   of_operation i a b op e (inr r) B = inr (r.0, left_operand e r.1)
   of_operation i a b op e (inl t) (inr r) = inr (r.0, right_operand e t.1 r.1)
-  of_operation i a b op e (inl (int_kind, h)) (inl (int_kind, k)) = inl (int_kind, operation_has_type x R i a b op (node_builds x i _ e) h k)
-  of_operation i a b op e (inl (int_kind, h)) (inl (pair_kind t u, k)) = inr (_, no_number e h k (λ q. let n = q.1 in cc))
-  of_operation i a b op e (inl (pair_kind t u, h)) (inl (v, k)) = inr (_, no_number e h k (λ q. let n = q.0 in cc))
+  of_operation i a b op e (inl t) (inl u) = each (numbers t.0) (numbers u.0)
+    where
+      each : (t.0 ≡ int_kind) ⊎ (t.0 ≢ int_kind) → (u.0 ≡ int_kind) ⊎ (u.0 ≢ int_kind) → IsAnswered x R i
+      each (inl p) (inl q) = inl (int_kind, operation_has_type x R i a b op (node_builds x i _ e) (subst (λ v. HasType R (expression x a) v) p t.1) (subst (λ v. HasType R (expression x b) v) q u.1))
+      each (inr p) q = inr (_, no_number e t.1 u.1 (λ n. p n.0))
+      each (inl p) (inr q) = inr (_, no_number e t.1 u.1 (λ n. q n.1))
 
   answered_within : (fuel : ℕ) (i : ExprId) → id_number i < fuel → IsAnswered x R i
   answered_within zero i h = absurd (omega arith)
   answered_within (suc fuel) i h = by_node (node_at x i) refl (node_parts x i) (node_narrow x i) (λ a k. answered_within fuel a (omega arith))
     where
       by_node : (n : ExprNode) → node_at x i ≡ n → PartsBelow n (id_number i) → IsTrue (has_narrow n) → ((a : ExprId) → id_number a < id_number i → IsAnswered x R a) → IsAnswered x R i
+      by_node nodes.Unit e p w parts = inl (unit_kind, unit_typed x R i (node_builds x i _ e))
+      by_node (nodes.Truth t) e p w parts = inl (bool_kind, truth_typed x R i t (node_builds x i _ e))
+      by_node (nodes.Constant n) e p w parts = of_constant i n e (literal_valued x n)
       by_node (nodes.Int z) e p w parts = of_int i z e w
       by_node (nodes.Name n) e p w parts = of_name i n e (type_of_name (name_at x n) R) refl
       by_node (nodes.Pair a b) e p w parts = of_pair i a b e (parts a p.0) (parts b p.1)

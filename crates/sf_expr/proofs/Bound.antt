@@ -1,6 +1,6 @@
 -- Scopes, to which a name is put behind the others.
-use Rattle.std.proofs.Common.{◌≡◌, [], ◌∷◌, ◌++◌, Option, ◌∙◌, ap, sym, subst, fold, Result, Ok, Err, OnOk, IfErr}
-use Rattle.sf_value.specs.Values.{Kind, int_kind, pair_kind}
+use Rattle.std.proofs.Common.{◌≡◌, [], ◌∷◌, ◌++◌, Option, ◌∙◌, ap, sym, subst, fold, Result, Ok, Err, OnOk, IfErr, refl}
+use Rattle.sf_value.specs.Values.{Kind, pair_kind, IsNoPair}
 use Rattle.sf_refusal.specs.declared.spot.Spot.{Spot}
 use Rattle.sf_refusal.specs.declared.refusal.Refusal.{Refusal}
 use Rattle.sf_refusal.specs.Refusals.{OrMemory}
@@ -59,12 +59,12 @@ module _ (p p1 p2 q : PlacedPattern) (t t1 t2 u : Kind) (at : Spot) (r : Refusal
   pub second_unbound : q ≡ p2 → u ≡ t2 → OrMemory (BindRefused (pattern_of q) u at) r → OrMemory (BindRefused (pattern_of p) t at) r
   second_unbound e f h = or_memory (λ b k. (k.0, λ R T a. let s = parts a in k.1 s.0 T (subst (λ (v : Kind). AddsNames (pattern_of q) v s.0 T) (sym f) (subst (λ (w : PlacedPattern). AddsNames (pattern_of w) t2 s.0 T) (sym e) s.2)))) h
 
--- a pattern of pairs does not fit the type of numbers
-pub number_unbound : (p p1 p2 : PlacedPattern) (t : Kind) → p ≡ placed_both p1 p2 → t ≡ int_kind → (R T : Names) → AddsNames (pattern_of p) t R T → ⊥
-number_unbound p p1 p2 t is of R T h = none (subst (λ (v : Kind). AddsNames (both (pattern_of p1) (pattern_of p2)) v R T) of (subst (λ (w : PlacedPattern). AddsNames (pattern_of w) t R T) is h))
+-- a pattern of two parts fits pairs alone
+pub other_unbound : (p p1 p2 : PlacedPattern) (t : Kind) → p ≡ placed_both p1 p2 → IsNoPair t → (R T : Names) → AddsNames (pattern_of p) t R T → ⊥
+other_unbound p p1 p2 t is other R T h = none t other (subst (λ (w : PlacedPattern). AddsNames (pattern_of w) t R T) is h)
   where
-    none : AddsNames (both (pattern_of p1) (pattern_of p2)) int_kind R T → ⊥
-    none h = elim h [ ]
+    none : (t : Kind) → IsNoPair t → AddsNames (both (pattern_of p1) (pattern_of p2)) t R T → ⊥
+    none t other (adds_both {t = u} {u = v} a b) = other u v refl
 
 -- what follows where there is an answer
 pub on_ok : {A E P Q : Type 0} (r : Result A E) → (P → Q) → OnOk r P → OnOk r Q

@@ -1,9 +1,9 @@
 -- An arena of expressions, to which more is added.
-use Rattle.std.proofs.Common.{◌≡◌, ℕ, ◌+◌, ◌<◌, ◌≤◌, List, [], ◌∷◌, ◌++◌, length, get_or, Bool, true, false, cond, refl, sym, ◌∙◌, ap, subst, arith, ◌↔◌, ◌⊎◌, inl, inr, ⊎_elim, IsTrue, pos, Result, Ok, Err, IfOk, OnErr}
+use Rattle.std.proofs.Common.{◌≡◌, ℕ, ◌<◌, ◌≤◌, List, [], ◌∷◌, ◌++◌, length, Bool, true, false, cond, refl, sym, ◌∙◌, ap, subst, arith, ◌↔◌, ◌⊎◌, inl, inr, ⊎_elim, IsTrue, pos, Result, Ok, Err, IfOk, OnErr}
 use mathlib.Core.Path.{ap₂}
-use Rattle.std.proofs.lemmas.Bool.{cases_eq, cases_lt}
+use Rattle.std.proofs.lemmas.Bool.{cases_lt}
 use Rattle.std.proofs.lemmas.List.Elements.{All-nil, All-push, All-weaker, All-get_or}
-use Rattle.std.proofs.lemmas.List.{length-append, get_or_append_left, get_or_past}
+use Rattle.std.proofs.lemmas.List.{get_or_append_left, get_or_past}
 use Rattle.sf_value.specs.Values.{Name}
 use Rattle.sf_refusal.specs.declared.spot.Spot.{Spot}
 use Rattle.sf_arena.specs.declared.arena.ArenaRefusal.{ArenaRefusal}
@@ -12,103 +12,146 @@ use Rattle.sf_arena.specs.declared.entry.Entry.{Entry}
 use Rattle.sf_arena.specs.Arenas.{entries_of}
 use Rattle.sf_arena.specs.Folded.{trees, tree_at}
 use Rattle.sf_arena.specs.Items.{Added}
-use Rattle.sf_arena.proofs.Grown.{added_counted, added_within, added_fresh, added_item, item_kept, each_item, tree_kept, tree_added, each_tree, tree_made, trees-same, added_or_same, Grows, grows_same, grows_added, shallow_at, few_entries, shallow_entries}
+use Rattle.sf_arena.proofs.Grown.{added_counted, added_within, added_fresh, added_item, each_item, tree_kept, tree_added, each_tree, tree_made, trees-same, added_or_same, Grows, grows_same, grows_added, shallow_at, few_entries, shallow_entries}
 use Rattle.sf_expr.specs.declared.exprs.ExprNode.{ExprNode}
 use Rattle.sf_expr.specs.declared.exprs.ExprNode.TheVariants as nodes
 use Rattle.sf_expr.specs.declared.exprs.ExprId.{ExprId}
 use Rattle.sf_expr.specs.declared.exprs.NameId.{NameId}
+use Rattle.sf_expr.specs.declared.exprs.ConstantId.{ConstantId}
 use Rattle.sf_expr.specs.declared.exprs.FunctionId.{FunctionId}
 use Rattle.sf_expr.specs.declared.exprs.Exprs.{Exprs}
 use Rattle.sf_expr.specs.declared.stored.StoredFunction.{StoredFunction}
-use Rattle.sf_expr.specs.Expressions.{Expression, variable, paired, operation, function, depth, pattern_depth, function_depth}
+use Rattle.sf_expr.specs.Expressions.{Literal, Expression, variable, literal, paired, operation, function, depth, pattern_depth, function_depth}
 use Rattle.sf_expr.specs.Patterns.{PlacedPattern, pattern_of}
-use Rattle.sf_expr.specs.Entries.{IsArena, IsClosed, AreFunctions, zero_expression, among, name_among, made_over, entry_made, needs, needs_names, has_narrow, zero_entry, entry_at, expressions, expression_at, no_function, function_entry}
-use Rattle.sf_expr.specs.Arena.{count_of, function_count, name_count, next_name, Holds, HoldsFunction, HoldsName, expression, entry_of, node_at, name_at, spot_at, pattern_at, body_at, function_at, expression_of, Builds, builds_int, builds_name, builds_pair, builds_operation, PartsBelow, HoldsParts, Keeps, Adds, AddsName, AddsFunction, IsUnchanged, id_number}
+use Rattle.sf_expr.specs.Inference.{is_valued}
+use Rattle.sf_expr.specs.Entries.{Beside, IsArena, AreValued, IsClosed, AreFunctions, zero_expression, among, name_among, none_of_unit, literal_among, made_over, entry_made, needs, needs_names, needs_constants, has_narrow, zero_entry, entry_at, expressions, expression_at, no_function, function_entry}
+use Rattle.sf_expr.specs.Arena.{count_of, function_count, name_count, constant_count, next_name, next_constant, Holds, HoldsFunction, HoldsName, HoldsConstant, beside, expression, entry_of, node_at, name_at, literal_at, spot_at, pattern_at, body_at, function_at, expression_of, Builds, builds_unit, builds_truth, builds_constant, builds_int, builds_name, builds_pair, builds_operation, PartsBelow, HoldsParts, Keeps, Adds, AddsName, AddsConstant, AddsFunction, IsUnchanged, id_number}
 
 -- what an expression is made over are its parts alone
-local : (names : List Name) (es more : List Expression) (entry : Entry ExprNode) → needs entry.node ≤ length es → entry_made names (es ++ more) entry ≡ entry_made names es entry
-local names es more entry h = at_node entry.node h
+local : (b : Beside) (es more : List Expression) (entry : Entry ExprNode) → needs entry.node ≤ length es → entry_made b (es ++ more) entry ≡ entry_made b es entry
+local b es more entry h = at_node entry.node h
   where
     part : (i : ℕ) → i < length es → among (es ++ more) i ≡ among es i
     part i q = get_or_append_left es more zero_expression i q
 
-    at_node : (n : ExprNode) → needs n ≤ length es → made_over names (es ++ more) n ≡ made_over names es n
+    at_node : (n : ExprNode) → needs n ≤ length es → made_over b (es ++ more) n ≡ made_over b es n
+    at_node nodes.Unit h = refl
+    at_node (nodes.Truth t) h = refl
     at_node (nodes.Int z) h = refl
+    at_node (nodes.Constant n) h = refl
     at_node (nodes.Name n) h = refl
-    at_node (nodes.Pair a b) h = ap₂ (λ i j. paired i j) (part a.0 (omega arith)) (part b.0 (omega arith))
-    at_node (nodes.Operation a op b) h = ap₂ (λ i j. operation i op j) (part a.0 (omega arith)) (part b.0 (omega arith))
+    at_node (nodes.Pair a c) h = ap₂ (λ i j. paired i j) (part a.0 (omega arith)) (part c.0 (omega arith))
+    at_node (nodes.Operation a op c) h = ap₂ (λ i j. operation i op j) (part a.0 (omega arith)) (part c.0 (omega arith))
 
--- an expression is the same where there are more names
-same_named : (names more : List Name) (es : List Expression) (n : ExprNode) → needs_names n ≤ length names → made_over (names ++ more) es n ≡ made_over names es n
-same_named names more es (nodes.Int z) h = refl
-same_named names more es (nodes.Name n) h = ap variable (get_or_append_left names more [] n.0 (omega arith))
-same_named names more es (nodes.Pair a b) h = refl
-same_named names more es (nodes.Operation a op b) h = refl
+-- Names and literals of which there are more.
+pub record IsMore (b c : Beside) : Type 0 where
+  pub names : Grows b.names c.names
+  pub literals : Grows b.literals c.literals
 
-expressions_named : (names more : List Name) (entries : List (Entry ExprNode)) → IsArena names entries → (i : ℕ) → expression_at (names ++ more) entries i ≡ expression_at names entries i
+-- an expression is the same where there is more beside it
+same_beside : (b c : Beside) (es : List Expression) (n : ExprNode) → IsMore b c → needs_names n ≤ length b.names → needs_constants n ≤ length b.literals → made_over c es n ≡ made_over b es n
+same_beside b c es nodes.Unit m h k = refl
+same_beside b c es (nodes.Truth t) m h k = refl
+same_beside b c es (nodes.Int z) m h k = refl
+same_beside b c es (nodes.Constant n) m h k = ap literal (m.literals.same n.0 none_of_unit (omega arith))
+same_beside b c es (nodes.Name n) m h k = ap variable (m.names.same n.0 [] (omega arith))
+same_beside b c es (nodes.Pair i j) m h k = refl
+same_beside b c es (nodes.Operation i op j) m h k = refl
+
+expressions_beside : (b c : Beside) (entries : List (Entry ExprNode)) → IsMore b c → IsArena b entries → (i : ℕ) → expression_at c entries i ≡ expression_at b entries i
 unfolding tree_at
-expressions_named names more entries a i =
-    ap (λ es. among es i) (trees-same (entry_made (names ++ more)) (entry_made names) zero_entry entries (λ j es h. same_named names more es (entry_at entries j).node (a.named j)))
+expressions_beside b c entries m a i =
+    ap (λ es. among es i) (trees-same (entry_made c) (entry_made b) zero_entry entries (λ j es h. same_beside b c es (entry_at entries j).node m (a.named j) (a.constants j)))
 
 -- nothing is an arena
-pub arena_empty : (names : List Name) → IsArena names []
+pub arena_empty : (b : Beside) → IsArena b []
 unfolding tree_at trees
-arena_empty names = record {
+arena_empty b = record {
   in_order = λ i. omega arith;
   named = λ i. omega arith;
+  constants = λ i. omega arith;
   measured = λ i. refl;
   narrow = λ i. refl;
 }
 
 -- the arena once an entry is added
-arena_added : (names : List Name) (old new : List (Entry ExprNode)) (entry : Entry ExprNode) (n : ℕ) → Added old new entry n → IsArena names old → needs entry.node ≤ length old → needs_names entry.node ≤ length names → entry.depth ≡ depth (entry_made names (expressions names old) entry) → IsTrue (has_narrow entry.node) → IsArena names new
-arena_added names old new entry n added a in_order named measured narrow = record {
+arena_added : (b : Beside) (old new : List (Entry ExprNode)) (entry : Entry ExprNode) (n : ℕ) → Added old new entry n → IsArena b old → needs entry.node ≤ length old → needs_names entry.node ≤ length b.names → needs_constants entry.node ≤ length b.literals → entry.depth ≡ depth (entry_made b (expressions b old) entry) → IsTrue (has_narrow entry.node) → IsArena b new
+arena_added b old new entry n added a in_order named constants measured narrow = record {
   in_order = each_item old new entry n added (λ i e. needs e.node ≤ i) zero_entry a.in_order (omega (arith, added.next));
-  named = each_item old new entry n added (λ i e. needs_names e.node ≤ length names) zero_entry a.named named;
-  measured = each_tree old new entry n added (entry_made names) zero_expression (λ i e t. e.depth ≡ depth t) zero_entry a.measured measured;
+  named = each_item old new entry n added (λ i e. needs_names e.node ≤ length b.names) zero_entry a.named named;
+  constants = each_item old new entry n added (λ i e. needs_constants e.node ≤ length b.literals) zero_entry a.constants constants;
+  measured = each_tree old new entry n added (entry_made b) zero_expression (λ i e t. e.depth ≡ depth t) zero_entry a.measured measured;
   narrow = each_item old new entry n added (λ i e. IsTrue (has_narrow e.node)) zero_entry a.narrow narrow;
 }
 
--- the arena once a name is added
-arena_named : (names more : List Name) (entries : List (Entry ExprNode)) → IsArena names entries → IsArena (names ++ more) entries
-arena_named names more entries a = record {
+-- the arena once there is more beside it
+arena_beside : (b c : Beside) (entries : List (Entry ExprNode)) → IsMore b c → IsArena b entries → IsArena c entries
+arena_beside b c entries m a = record {
   in_order = a.in_order;
-  named = λ i. omega (arith, a.named i, length-append names more);
-  measured = λ i. a.measured i ∙ ap depth (sym (expressions_named names more entries a i));
+  named = λ i. omega (arith, a.named i, m.names.longer);
+  constants = λ i. omega (arith, a.constants i, m.literals.longer);
+  measured = λ i. a.measured i ∙ ap depth (sym (expressions_beside b c entries m a i));
   narrow = a.narrow;
 }
 
-pub arena_put_name : (old new : List Name) (name : Name) (entries : List (Entry ExprNode)) (put : Bool) → new ≡ cond put (old ++ name ∷ []) old → IsArena old entries → IsArena new entries
-arena_put_name old new name entries true e a = subst (λ names. IsArena names entries) (sym e) (arena_named old (name ∷ []) entries a)
-arena_put_name old new name entries false e a = subst (λ names. IsArena names entries) (sym e) a
+-- a list that something may have been put behind has grown
+grows_put : {A : Type 0} (old new : List A) (x : A) (put : Bool) → new ≡ cond put (old ++ x ∷ []) old → Grows old new
+grows_put old new x true e = grows_added old new x (length old) (record { next = refl; grown = e })
+grows_put old new x false e = grows_same old new e
+
+pub arena_put_name : (old new : List Name) (name : Name) (literals : List Literal) (entries : List (Entry ExprNode)) (put : Bool) → new ≡ cond put (old ++ name ∷ []) old → IsArena (record { names = old; literals = literals }) entries → IsArena (record { names = new; literals = literals }) entries
+arena_put_name old new name literals entries put e a = arena_beside _ _ entries (record { names = grows_put old new name put e; literals = grows_same literals literals refl }) a
+
+pub arena_put_constant : (names : List Name) (old new : List Literal) (l : Literal) (entries : List (Entry ExprNode)) (put : Bool) → new ≡ cond put (old ++ l ∷ []) old → IsArena (record { names = names; literals = old }) entries → IsArena (record { names = names; literals = new }) entries
+arena_put_constant names old new l entries put e a = arena_beside _ _ entries (record { names = grows_same names names refl; literals = grows_put old new l put e }) a
+
+-- no literals
+pub literals_empty : AreValued []
+literals_empty = All-nil (λ l. IsTrue (is_valued l))
+
+pub literals_put : (old new : List Literal) (l : Literal) (put : Bool) → new ≡ cond put (old ++ l ∷ []) old → AreValued old → IsTrue (is_valued l) → AreValued new
+literals_put old new l true e a h = subst (λ ls. AreValued ls) (sym e) (All-push (λ l. IsTrue (is_valued l)) old l a h)
+literals_put old new l false e a h = subst (λ ls. AreValued ls) (sym e) a
 
 -- the expression of a node, as the entries make it
-made_expression : (x : Exprs) (n : ExprNode) → made_over x.names.items (expressions x.names.items (entries_of x.arena)) n ≡ expression_of x n
-unfolding expression name_at tree_at
+made_expression : (x : Exprs) (n : ExprNode) → made_over (beside x) (expressions (beside x) (entries_of x.arena)) n ≡ expression_of x n
+unfolding expression name_at literal_at tree_at
+made_expression x nodes.Unit = refl
+made_expression x (nodes.Truth t) = refl
 made_expression x (nodes.Int z) = refl
+made_expression x (nodes.Constant n) = refl
 made_expression x (nodes.Name n) = refl
 made_expression x (nodes.Pair a b) = refl
 made_expression x (nodes.Operation a op b) = refl
 
+-- What a node needs of an arena.
+record HasNeeded (x : Exprs) (n : ExprNode) : Type 0 where
+  parts : needs n ≤ length (entries_of x.arena)
+  names : needs_names n ≤ length x.names.items
+  constants : needs_constants n ≤ length x.constants.items
+
 -- what a node of which the parts are held needs
-needed : (x : Exprs) (n : ExprNode) → HoldsParts x n → (needs n ≤ length (entries_of x.arena)) × (needs_names n ≤ length x.names.items)
-unfolding Holds HoldsName
-needed x (nodes.Int z) h = (omega arith, omega arith)
-needed x (nodes.Name n) h = (omega arith, h)
-needed x (nodes.Pair a b) h = (omega (arith, h.0, h.1), omega arith)
-needed x (nodes.Operation a op b) h = (omega (arith, h.0, h.1), omega arith)
+needed : (x : Exprs) (n : ExprNode) → HoldsParts x n → HasNeeded x n
+unfolding Holds HoldsName HoldsConstant
+needed x nodes.Unit h = record { parts = omega arith; names = omega arith; constants = omega arith }
+needed x (nodes.Truth t) h = record { parts = omega arith; names = omega arith; constants = omega arith }
+needed x (nodes.Int z) h = record { parts = omega arith; names = omega arith; constants = omega arith }
+needed x (nodes.Constant n) h = record { parts = omega arith; names = omega arith; constants = h }
+needed x (nodes.Name n) h = record { parts = omega arith; names = h; constants = omega arith }
+needed x (nodes.Pair a b) h = record { parts = omega (arith, h.0, h.1); names = omega arith; constants = omega arith }
+needed x (nodes.Operation a op b) h = record { parts = omega (arith, h.0, h.1); names = omega arith; constants = omega arith }
 
 -- the entries after a call that adds, whatever it answers
-pub arena_put : (x : Exprs) (new : List (Entry ExprNode)) (n : ExprNode) (d : ℕ) (s : Spot) (r : Result ℕ ArenaRefusal) → IfOk r (Added (entries_of x.arena) new (record { node = n; depth = d; spot = s })) → OnErr r (new ≡ entries_of x.arena) → HoldsParts x n → d ≡ depth (expression_of x n) → IsTrue (has_narrow n) → IsArena x.names.items new
+pub arena_put : (x : Exprs) (new : List (Entry ExprNode)) (n : ExprNode) (d : ℕ) (s : Spot) (r : Result ℕ ArenaRefusal) → IfOk r (Added (entries_of x.arena) new (record { node = n; depth = d; spot = s })) → OnErr r (new ≡ entries_of x.arena) → HoldsParts x n → d ≡ depth (expression_of x n) → IsTrue (has_narrow n) → IsArena (beside x) new
 arena_put x new n d s r ok err held measured narrow = ⊎_elim added same (added_or_same (entries_of x.arena) new (record { node = n; depth = d; spot = s }) r ok err)
   where
-    added : Added (entries_of x.arena) new (record { node = n; depth = d; spot = s }) (length (entries_of x.arena)) → IsArena x.names.items new
+    added : Added (entries_of x.arena) new (record { node = n; depth = d; spot = s }) (length (entries_of x.arena)) → IsArena (beside x) new
     added a =
         let parts = needed x n held in
-        arena_added x.names.items (entries_of x.arena) new _ _ a x.ordered parts.0 parts.1 (measured ∙ ap depth (sym (made_expression x n))) narrow
+        arena_added (beside x) (entries_of x.arena) new _ _ a x.ordered parts.parts parts.names parts.constants (measured ∙ ap depth (sym (made_expression x n))) narrow
 
-    same : new ≡ entries_of x.arena → IsArena x.names.items new
-    same e = subst (λ es. IsArena x.names.items es) (sym e) x.ordered
+    same : new ≡ entries_of x.arena → IsArena (beside x) new
+    same e = subst (λ es. IsArena (beside x) es) (sym e) x.ordered
 
 -- no functions, of an arena with any number of expressions
 pub functions_empty : (n : ℕ) → AreFunctions n []
@@ -123,9 +166,9 @@ functions_put n old new f true e a body shallow = subst (λ fs. AreFunctions n f
 functions_put n old new f false e a body shallow = subst (λ fs. AreFunctions n fs) (sym e) a
 
 -- an arena of which each list has grown keeps what it held, where the expressions stay
-keeps : (old new : Exprs) → Grows (entries_of old.arena) (entries_of new.arena) → Grows old.names.items new.names.items → Grows old.functions.items new.functions.items → ((i : ExprId) → Holds old i → expression new i ≡ expression old i) → Keeps old new
-unfolding Holds HoldsName HoldsFunction node_at spot_at name_at pattern_at body_at
-keeps old new e n f trees = record {
+keeps : (old new : Exprs) → Grows (entries_of old.arena) (entries_of new.arena) → Grows old.names.items new.names.items → Grows old.constants.items new.constants.items → Grows old.functions.items new.functions.items → ((i : ExprId) → Holds old i → expression new i ≡ expression old i) → Keeps old new
+unfolding Holds HoldsName HoldsConstant HoldsFunction node_at spot_at name_at literal_at pattern_at body_at
+keeps old new e n l f trees = record {
   holds = λ i h. omega (arith, e.longer);
   nodes = λ i h. ap (λ (k : Entry ExprNode). k.node) (e.same i.0 zero_entry h);
   trees = trees;
@@ -138,35 +181,41 @@ keeps old new e n f trees = record {
       (ap (λ (k : StoredFunction). expression new k.body) (f.same g.0 no_function h) ∙ trees (function_entry old.functions.items g.0).body (All-get_or (IsClosed (length (entries_of old.arena))) old.functions.items g.0 no_function h old.closed).0);
   holds_names = λ m h. omega (arith, n.longer);
   names = λ m h. n.same m.0 [] h;
+  holds_constants = λ m h. omega (arith, l.longer);
+  constants = λ m h. l.same m.0 none_of_unit h;
 }
 
 -- an entry that is added adds its expression
-pub adds_added : (old new : Exprs) (id : ExprId) (n : ExprNode) (d : ℕ) (s : Spot) → Added (entries_of old.arena) (entries_of new.arena) (record { node = n; depth = d; spot = s }) id.0 → new.names.items ≡ old.names.items → new.functions.items ≡ old.functions.items → Adds old new id n (expression_of old n) s
-unfolding count_of function_count name_count Holds expression node_at spot_at
-adds_added old new id n d s added same_names same_functions = record {
+pub adds_added : (old new : Exprs) (id : ExprId) (n : ExprNode) (d : ℕ) (s : Spot) → Added (entries_of old.arena) (entries_of new.arena) (record { node = n; depth = d; spot = s }) id.0 → new.names.items ≡ old.names.items → new.constants.items ≡ old.constants.items → new.functions.items ≡ old.functions.items → Adds old new id n (expression_of old n) s
+unfolding count_of function_count name_count constant_count Holds expression node_at spot_at
+adds_added old new id n d s added same_names same_constants same_functions = record {
   within = added_within _ _ _ _ added;
   fresh = added_fresh _ _ _ _ added;
   node = ap (λ (k : Entry ExprNode). k.node) here;
-  is = ap (λ names. expression_at names (entries_of new.arena) id.0) same_names ∙ tree_added _ _ _ _ added (entry_made old.names.items) zero_expression ∙ made_expression old n;
+  is = ap (λ b. expression_at b (entries_of new.arena) id.0) same ∙ tree_added _ _ _ _ added (entry_made (beside old)) zero_expression ∙ made_expression old n;
   spotted = ap (λ (k : Entry ExprNode). k.spot) here;
-  kept = keeps old new (grows_added _ _ _ _ added) (grows_same _ _ same_names) (grows_same _ _ same_functions)
-      (λ i h. ap (λ names. expression_at names (entries_of new.arena) i.0) same_names ∙ tree_kept _ _ _ _ added (entry_made old.names.items) zero_expression i.0 h);
+  kept = keeps old new (grows_added _ _ _ _ added) (grows_same _ _ same_names) (grows_same _ _ same_constants) (grows_same _ _ same_functions)
+      (λ i h. ap (λ b. expression_at b (entries_of new.arena) i.0) same ∙ tree_kept _ _ _ _ added (entry_made (beside old)) zero_expression i.0 h);
   count = added_counted _ _ _ _ added;
   functions = ap length same_functions;
   names = ap length same_names;
+  constants = ap length same_constants;
 }
   where
+    same : beside new ≡ beside old
+    same = ap₂ (λ ns ls. record { names = ns; literals = ls }) same_names same_constants
+
     here : entry_at (entries_of new.arena) id.0 ≡ record { node = n; depth = d; spot = s }
     here = added_item _ _ _ _ added zero_entry
 
 -- a name that is put behind is added
-pub adds_name_put : (old new : Exprs) (n : NameId) (x : Name) → Added old.names.items new.names.items x n.0 → entries_of new.arena ≡ entries_of old.arena → new.functions.items ≡ old.functions.items → AddsName old new n x
-unfolding count_of function_count name_count next_name Holds HoldsName expression node_at spot_at name_at pattern_at body_at
-adds_name_put old new n x added same_entries same_functions = record {
+pub adds_name_put : (old new : Exprs) (n : NameId) (x : Name) → Added old.names.items new.names.items x n.0 → entries_of new.arena ≡ entries_of old.arena → new.constants.items ≡ old.constants.items → new.functions.items ≡ old.functions.items → AddsName old new n x
+unfolding count_of function_count name_count constant_count next_name next_constant Holds HoldsName HoldsConstant expression node_at spot_at name_at literal_at pattern_at body_at
+adds_name_put old new n x added same_entries same_other same_functions = record {
   next = ap (λ (i : ℕ). record { 0 = i }) added.next;
   within = added_within _ _ _ _ added;
   is = added_item _ _ _ _ added [];
-  kept = keeps old new (grows_same _ _ same_entries) (grows_added _ _ _ _ added) (grows_same _ _ same_functions) (λ i h. trees i);
+  kept = keeps old new (grows_same _ _ same_entries) (grows_added _ _ _ _ added) (grows_same _ _ same_other) (grows_same _ _ same_functions) (λ i h. trees i);
   nodes = λ i. ap (λ es. (entry_at es i.0).node) same_entries;
   trees = trees;
   spots = λ i. ap (λ es. (entry_at es i.0).spot) same_entries;
@@ -175,59 +224,88 @@ adds_name_put old new n x added same_entries same_functions = record {
   count = ap length same_entries;
   functions = ap length same_functions;
   names = added_counted _ _ _ _ added;
+  constants = ap length same_other;
 }
   where
     trees : (i : ExprId) → expression new i ≡ expression old i
-    trees i = ap₂ (λ names es. expression_at names es i.0) added.grown same_entries ∙ expressions_named old.names.items (x ∷ []) (entries_of old.arena) old.ordered i.0
+    trees i = ap (λ es. expression_at (beside new) es i.0) same_entries ∙ expressions_beside (beside old) (beside new) (entries_of old.arena) (record { names = grows_added _ _ _ _ added; literals = grows_same _ _ same_other }) old.ordered i.0
+
+-- a constant that is put behind is added
+pub adds_constant_put : (old new : Exprs) (n : ConstantId) (x : Literal) → Added old.constants.items new.constants.items x n.0 → entries_of new.arena ≡ entries_of old.arena → new.names.items ≡ old.names.items → new.functions.items ≡ old.functions.items → AddsConstant old new n x
+unfolding count_of function_count name_count constant_count next_name next_constant Holds HoldsName HoldsConstant expression node_at spot_at name_at literal_at pattern_at body_at
+adds_constant_put old new n x added same_entries same_other same_functions = record {
+  next = ap (λ (i : ℕ). record { 0 = i }) added.next;
+  within = added_within _ _ _ _ added;
+  is = added_item _ _ _ _ added none_of_unit;
+  kept = keeps old new (grows_same _ _ same_entries) (grows_same _ _ same_other) (grows_added _ _ _ _ added) (grows_same _ _ same_functions) (λ i h. trees i);
+  nodes = λ i. ap (λ es. (entry_at es i.0).node) same_entries;
+  trees = trees;
+  spots = λ i. ap (λ es. (entry_at es i.0).spot) same_entries;
+  patterns = λ f. ap (λ fs. (function_entry fs f.0).pattern) same_functions;
+  bodies = λ f. ap (λ fs. (function_entry fs f.0).body) same_functions;
+  count = ap length same_entries;
+  functions = ap length same_functions;
+  names = ap length same_other;
+  constants = added_counted _ _ _ _ added;
+}
+  where
+    trees : (i : ExprId) → expression new i ≡ expression old i
+    trees i = ap (λ es. expression_at (beside new) es i.0) same_entries ∙ expressions_beside (beside old) (beside new) (entries_of old.arena) (record { names = grows_same _ _ same_other; literals = grows_added _ _ _ _ added }) old.ordered i.0
 
 -- a function that is put behind is added
-pub adds_function_put : (old new : Exprs) (f : StoredFunction) (id : FunctionId) → Added old.functions.items new.functions.items f id.0 → entries_of new.arena ≡ entries_of old.arena → new.names.items ≡ old.names.items → AddsFunction old new id f.pattern f.body
-unfolding count_of function_count name_count Holds HoldsFunction expression pattern_at body_at
-adds_function_put old new f id added same_entries same_names = record {
+pub adds_function_put : (old new : Exprs) (f : StoredFunction) (id : FunctionId) → Added old.functions.items new.functions.items f id.0 → entries_of new.arena ≡ entries_of old.arena → new.names.items ≡ old.names.items → new.constants.items ≡ old.constants.items → AddsFunction old new id f.pattern f.body
+unfolding count_of function_count name_count constant_count Holds HoldsFunction expression pattern_at body_at
+adds_function_put old new f id added same_entries same_names same_constants = record {
   within = added_within _ _ _ _ added;
   fresh = added_fresh _ _ _ _ added;
   pattern = ap (λ (k : StoredFunction). k.pattern) here;
   body = ap (λ (k : StoredFunction). k.body) here;
   is = ap₂ (λ q e. function q e) (ap (λ (k : StoredFunction). pattern_of k.pattern) here) (ap (λ (k : StoredFunction). expression new k.body) here ∙ trees f.body);
-  kept = keeps old new (grows_same _ _ same_entries) (grows_same _ _ same_names) (grows_added _ _ _ _ added) (λ i h. trees i);
+  kept = keeps old new (grows_same _ _ same_entries) (grows_same _ _ same_names) (grows_same _ _ same_constants) (grows_added _ _ _ _ added) (λ i h. trees i);
   count = ap length same_entries;
   functions = added_counted _ _ _ _ added;
   names = ap length same_names;
+  constants = ap length same_constants;
 }
   where
     here : function_entry new.functions.items id.0 ≡ f
     here = added_item _ _ _ _ added no_function
 
     trees : (i : ExprId) → expression new i ≡ expression old i
-    trees i = ap₂ (λ names es. expression_at names es i.0) same_names same_entries
+    trees i = ap₂ (λ b es. expression_at b es i.0) (ap₂ (λ ns ls. record { names = ns; literals = ls }) same_names same_constants) same_entries
 
--- the same entries, names and functions show the same
-pub unchanged : (old new : Exprs) → entries_of new.arena ≡ entries_of old.arena → new.names.items ≡ old.names.items → new.functions.items ≡ old.functions.items → IsUnchanged old new
-unfolding count_of function_count name_count expression node_at spot_at name_at pattern_at body_at
-unchanged old new e n f = record {
+-- the same entries, names, constants and functions show the same
+pub unchanged : (old new : Exprs) → entries_of new.arena ≡ entries_of old.arena → new.names.items ≡ old.names.items → new.constants.items ≡ old.constants.items → new.functions.items ≡ old.functions.items → IsUnchanged old new
+unfolding count_of function_count name_count constant_count expression node_at spot_at name_at literal_at pattern_at body_at
+unchanged old new e n l f = record {
   count = ap length e;
   functions = ap length f;
   name_counted = ap length n;
+  constant_counted = ap length l;
   nodes = λ i. ap (λ es. (entry_at es i.0).node) e;
-  trees = λ i. ap₂ (λ names es. expression_at names es i.0) n e;
+  trees = λ i. ap₂ (λ b es. expression_at b es i.0) (ap₂ (λ ns ls. record { names = ns; literals = ls }) n l) e;
   spots = λ i. ap (λ es. (entry_at es i.0).spot) e;
   patterns = λ i. ap (λ fs. (function_entry fs i.0).pattern) f;
   bodies = λ i. ap (λ fs. (function_entry fs i.0).body) f;
   names = λ i. ap (λ names. name_among names i.0) n;
+  constants = λ i. ap (λ ls. literal_among ls i.0) l;
 }
 
 -- the same lists make an arena
-pub arena_same : (x : Exprs) (names : List Name) (entries : List (Entry ExprNode)) (fs : List StoredFunction) → names ≡ x.names.items → entries ≡ entries_of x.arena → fs ≡ x.functions.items → IsArena names entries × AreFunctions (length entries) fs
-arena_same x names entries fs n e f = (
-  subst (λ ns. IsArena ns entries) (sym n) (subst (λ es. IsArena x.names.items es) (sym e) x.ordered),
+pub arena_same : (x : Exprs) (b : Beside) (entries : List (Entry ExprNode)) (fs : List StoredFunction) → b ≡ beside x → entries ≡ entries_of x.arena → fs ≡ x.functions.items → IsArena b entries × AreFunctions (length entries) fs
+arena_same x b entries fs s e f = (
+  subst (λ c. IsArena c entries) (sym s) (subst (λ es. IsArena (beside x) es) (sym e) x.ordered),
   subst (λ gs. AreFunctions (length entries) gs) (sym f) (subst (λ (es : List (Entry ExprNode)). AreFunctions (length es) x.functions.items) (sym e) x.closed),
 )
+
+pub same_sides : (ns ms : List Name) (ls ks : List Literal) → ns ≡ ms → ls ≡ ks → ◌≡◌ {A = Beside} (record { names = ns; literals = ls }) (record { names = ms; literals = ks })
+same_sides ns ms ls ks n l = ap₂ (λ ns ls. record { names = ns; literals = ls }) n l
 
 -- the expression at an id is that of its node
 pub expression_node : (x : Exprs) (id : ExprId) → expression x id ≡ expression_of x (node_at x id)
 unfolding expression node_at
 expression_node x id =
-    tree_made (entry_made x.names.items) (λ n. needs n.node) zero_entry (local x.names.items) (entries_of x.arena) zero_expression (λ ts. refl) x.ordered.in_order id.0
+    tree_made (entry_made (beside x)) (λ n. needs n.node) zero_entry (local (beside x)) (entries_of x.arena) zero_expression (λ ts. refl) x.ordered.in_order id.0
     ∙ made_expression x (entry_at (entries_of x.arena) id.0).node
 
 -- a node stands for the expression at its id
@@ -236,7 +314,10 @@ unfolding entry_of node_at
 builds x id = subst (λ e. Builds x (entry_of x id).node e) (sym (expression_node x id)) (of_node (entry_of x id).node)
   where
     of_node : (n : ExprNode) → Builds x n (expression_of x n)
+    of_node nodes.Unit = builds_unit
+    of_node (nodes.Truth t) = builds_truth
     of_node (nodes.Int z) = builds_int
+    of_node (nodes.Constant n) = builds_constant
     of_node (nodes.Name n) = builds_name
     of_node (nodes.Pair a b) = builds_pair
     of_node (nodes.Operation a op b) = builds_operation
@@ -264,26 +345,40 @@ unfolding entry_of
 parts_below x id = of_node (entry_at (entries_of x.arena) id.0).node (x.ordered.in_order id.0)
   where
     of_node : (n : ExprNode) → needs n ≤ id.0 → PartsBelow n id.0
+    of_node nodes.Unit h = tt
+    of_node (nodes.Truth t) h = tt
     of_node (nodes.Int z) h = tt
+    of_node (nodes.Constant n) h = tt
     of_node (nodes.Name n) h = tt
     of_node (nodes.Pair a b) h = (omega arith, omega arith)
     of_node (nodes.Operation a op b) h = (omega arith, omega arith)
 
 -- the parts of a node are held
 pub parts_held : (x : Exprs) (id : ExprId) → HoldsParts x (entry_of x id).node
-unfolding entry_of Holds HoldsName
-parts_held x id = of_node (entry_at (entries_of x.arena) id.0).node (x.ordered.in_order id.0) (x.ordered.named id.0) within
+unfolding entry_of Holds HoldsName HoldsConstant
+parts_held x id = of_node (entry_at (entries_of x.arena) id.0).node (x.ordered.in_order id.0) (x.ordered.named id.0) (x.ordered.constants id.0) within
   where
     within : (needs (entry_at (entries_of x.arena) id.0).node ≡ 0) ⊎ (id.0 < length (entries_of x.arena))
     within = elim (cases_lt id.0 (length (entries_of x.arena))) [ inl h ↦ inr h | inr h ↦ inl (ap (λ (n : Entry ExprNode). needs n.node) (get_or_past (entries_of x.arena) id.0 zero_entry h)) ]
 
-    of_node : (n : ExprNode) → needs n ≤ id.0 → needs_names n ≤ length x.names.items → (needs n ≡ 0) ⊎ (id.0 < length (entries_of x.arena)) → HoldsParts x n
-    of_node (nodes.Int z) b k w = tt
-    of_node (nodes.Name n) b k w = k
-    of_node (nodes.Pair a c) b k (inl z) = absurd (omega arith)
-    of_node (nodes.Pair a c) b k (inr h) = (omega arith, omega arith)
-    of_node (nodes.Operation a op c) b k (inl z) = absurd (omega arith)
-    of_node (nodes.Operation a op c) b k (inr h) = (omega arith, omega arith)
+    of_node : (n : ExprNode) → needs n ≤ id.0 → needs_names n ≤ length x.names.items → needs_constants n ≤ length x.constants.items → (needs n ≡ 0) ⊎ (id.0 < length (entries_of x.arena)) → HoldsParts x n
+    of_node nodes.Unit b k l w = tt
+    of_node (nodes.Truth t) b k l w = tt
+    of_node (nodes.Int z) b k l w = tt
+    of_node (nodes.Constant n) b k l w = l
+    of_node (nodes.Name n) b k l w = k
+    of_node (nodes.Pair a c) b k l (inl z) = absurd (omega arith)
+    of_node (nodes.Pair a c) b k l (inr h) = (omega arith, omega arith)
+    of_node (nodes.Operation a op c) b k l (inl z) = absurd (omega arith)
+    of_node (nodes.Operation a op c) b k l (inr h) = (omega arith, omega arith)
+
+-- the literal of a constant stands for a value
+pub literal_valued : (x : Exprs) (n : ConstantId) → IsTrue (is_valued (literal_at x n))
+unfolding literal_at
+literal_valued x n = ⊎_elim
+    (λ h. All-get_or (λ l. IsTrue (is_valued l)) x.constants.items n.0 none_of_unit h x.valued)
+    (λ h. ap (λ l. is_valued l) (get_or_past x.constants.items n.0 none_of_unit h))
+    (cases_lt n.0 (length x.constants.items))
 
 -- the numbers of a node are narrow
 pub narrow_node : (x : Exprs) (id : ExprId) → IsTrue (has_narrow (entry_of x id).node)
@@ -320,6 +415,14 @@ pub below_name : (x : Exprs) (n : NameId) → n.0 < name_count x → HoldsName x
 unfolding HoldsName name_count
 below_name x n h = h
 
+pub constant_below : (x : Exprs) (n : ConstantId) → HoldsConstant x n → n.0 < constant_count x
+unfolding HoldsConstant constant_count
+constant_below x n h = h
+
+pub below_constant : (x : Exprs) (n : ConstantId) → n.0 < constant_count x → HoldsConstant x n
+unfolding HoldsConstant constant_count
+below_constant x n h = h
+
 -- what adding keeps
 pub adds_keeps : (old new : Exprs) (id : ExprId) (n : ExprNode) (e : Expression) (s : Spot) → Adds old new id n e s → Keeps old new
 adds_keeps old new id n e s a = a.kept
@@ -340,6 +443,8 @@ unchanged_keeps old new u = record {
   meanings = λ f h. rw (u.patterns f, u.bodies f, u.trees (body_at old f)) refl;
   holds_names = λ n h. below_name new n (omega (arith, name_below old n h, u.name_counted));
   names = λ n h. u.names n;
+  holds_constants = λ n h. below_constant new n (omega (arith, constant_below old n h, u.constant_counted));
+  constants = λ n h. u.constants n;
 }
 
 pub keeps_trans : (a b c : Exprs) → Keeps a b → Keeps b c → Keeps a c
@@ -354,6 +459,8 @@ keeps_trans a b c f g = record {
   meanings = λ i h. g.meanings i (f.functions i h) ∙ f.meanings i h;
   holds_names = λ i h. g.holds_names i (f.holds_names i h);
   names = λ i h. g.names i (f.holds_names i h) ∙ f.names i h;
+  holds_constants = λ i h. g.holds_constants i (f.holds_constants i h);
+  constants = λ i h. g.constants i (f.holds_constants i h) ∙ f.constants i h;
 }
 
 -- no arena holds more than 100,000 expressions
@@ -389,6 +496,10 @@ more_by x y (Err f) n e s a u = omega (arith, u.count)
 pub name_kept_by : {E : Type 0} (x y : Exprs) (r : Result NameId E) (n : Name) → IfOk r (λ id. AddsName x y id n) → OnErr r (IsUnchanged x y) → Keeps x y
 name_kept_by x y (Ok id) n a u = a.kept
 name_kept_by x y (Err e) n a u = unchanged_keeps x y u
+
+pub constant_kept_by : {E : Type 0} (x y : Exprs) (r : Result ConstantId E) (l : Literal) → IfOk r (λ n. AddsConstant x y n l) → OnErr r (IsUnchanged x y) → Keeps x y
+constant_kept_by x y (Ok n) l a u = a.kept
+constant_kept_by x y (Err e) l a u = unchanged_keeps x y u
 
 pub function_kept_by : (x y : Exprs) (r : Result FunctionId ArenaRefusal) (p : PlacedPattern) (b : ExprId) → IfOk r (λ f. AddsFunction x y f p b) → OnErr r (IsUnchanged x y) → Keeps x y
 function_kept_by x y (Ok f) p b a u = a.kept

@@ -3,7 +3,7 @@ use Rattle.std.proofs.Common.{◌≡◌, [], Some, Bool, true, false, cond, IsTr
 use Rattle.std.specs.Prelude.{ℤ, bytes_eq}
 use Rattle.std.proofs.Math.Logic.{∥∥₁_elim}
 use Rattle.std.proofs.Props.{props}
-use Rattle.sf_value.specs.Values.{Name, Kind, int_kind, Data, number, pair, is_narrow, HasKind, has_int, has_pair}
+use Rattle.sf_value.specs.Values.{Name, Kind, int_kind, Data, unit, truth, number, text, pair, no_event, event, table, is_narrow, HasKind, has_int, has_pair}
 use Rattle.sf_expr.specs.declared.exprs.ExprId.{ExprId}
 use Rattle.sf_expr.specs.declared.exprs.NameId.{NameId}
 use Rattle.sf_expr.specs.declared.exprs.ExprNode.TheVariants as nodes
@@ -64,13 +64,19 @@ right_number builds_operation (typed_in k (operation_has h l)) e = yielded _ (ex
 number_inverse : {z : ℤ} → HasKind (number z) int_kind → IsTrue (is_narrow z)
 number_inverse (has_int h) = h
 
-no_number : {x y : Data} → HasKind (pair x y) int_kind → ⊥
-no_number h = elim h [ ]
+never_so : {A B : Type 0} → ∥ A ∥₁ → (A → ⊥) → B
+never_so h f = absurd (∥∥₁_elim h (λ a b. absurd a) f)
 
 -- what is known to be a number is one
 pub settled_number : (d : Data) → ∥ HasKind d int_kind ∥₁ → HasKind d int_kind
 settled_number (number z) h = has_int (∥∥₁_elim h (hlevel props) number_inverse)
-settled_number (pair x y) h = absurd (∥∥₁_elim h (λ a b. absurd a) no_number)
+settled_number unit h = never_so h (λ k. elim k [ ])
+settled_number (truth b) h = never_so h (λ k. elim k [ ])
+settled_number (text s) h = never_so h (λ k. elim k [ ])
+settled_number (pair x y) h = never_so h (λ k. elim k [ ])
+settled_number no_event h = never_so h (λ k. elim k [ ])
+settled_number (event x) h = never_so h (λ k. elim k [ ])
+settled_number (table rs) h = never_so h (λ k. elim k [ ])
 
 -- a fault of the first operand is the answer
 through : (fault : EvalFault) (o : Evaluated Data) (f : Data → Evaluated Data) → Evaluates (Err fault) o → Evaluates (Err fault) (o >>= f)

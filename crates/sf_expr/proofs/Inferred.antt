@@ -1,15 +1,16 @@
 -- The types that are found are the types that expressions have.
-use Rattle.std.proofs.Common.{◌≡◌, ◌≢◌, Bool, true, false, not, ◌||◌, ◌&&◌, cond, List, [], ◌∷◌, Some, None, refl, ap, subst, ◌∙◌, arith}
+use Rattle.std.proofs.Common.{◌≡◌, ◌≢◌, Bool, true, false, not, ◌||◌, ◌&&◌, cond, List, [], ◌∷◌, Some, None, IsTrue, refl, ap, subst, ◌∙◌, arith}
 use Rattle.std.specs.Prelude.{Option, nat_le, bytes_eq, All}
 use Rattle.std.specs.Bool.{Decides}
 use Rattle.std.proofs.lemmas.Slice.Eq.{bytes_eq-Decides}
 use Rattle.std.proofs.lemmas.List.Elements.{All-nil, All-cons, All-head, All-tail}
 use Rattle.std.proofs.lemmas.Bool.Decides.{nat_tests}
-use Rattle.sf_value.specs.Values.{Name, Kind, int_kind, pair_kind, nodes, is_narrow, has_int}
-use Rattle.sf_expr.specs.Expressions.{Pattern, unnamed, named, both, names_in, Literal, int_literal, Expression, variable, literal, paired, operation, Function, function}
+use Rattle.sf_value.specs.Values.{Name, Kind, unit_kind, bool_kind, int_kind, text_kind, pair_kind, event_kind, table_kind, nodes}
+use Rattle.sf_expr.specs.Expressions.{Pattern, unnamed, named, both, names_in, Literal, Expression, variable, literal, paired, operation, Function, function}
 use Rattle.sf_expr.specs.declared.operator.Operator.{Operator}
-use Rattle.sf_expr.specs.Typing.{Names, type_of_name, Fits, AllDifferent, AddsNames, adds_nothing, adds_name, adds_both, HasType, variable_has, literal_has, pair_has, operation_has, FunctionTakes, function_takes}
-use Rattle.sf_expr.specs.Inference.{found_then, fitting, literal_type, pair_type, number_type, expression_type, names_with, is_among, are_different, function_output}
+use Rattle.sf_expr.specs.Typing.{Names, type_of_name, literal_kind, Fits, AllDifferent, AddsNames, adds_nothing, adds_name, adds_both, HasType, variable_has, literal_has, pair_has, operation_has, FunctionTakes, function_takes}
+use Rattle.sf_expr.specs.Inference.{found_then, fitting, is_valued, literal_type, pair_type, number_type, expression_type, names_with, is_among, are_different, function_output}
+use Rattle.sf_expr.proofs.Literals.{valued_has, has_valued}
 
 -- ## Types that fit
 
@@ -43,10 +44,12 @@ name_found R x (Some u) t h e =
 name_found R x None t h e = absurd cc
 
 literal_found : (R : Names) (l : Literal) (t : Kind) → literal_type l ≡ Some t → HasType R (literal l) t
-literal_found R (int_literal z) t = each (is_narrow z) refl
+literal_found R l t = each (is_valued l) refl
   where
-    each : (b : Bool) → is_narrow z ≡ b → cond b (Some int_kind) None ≡ Some t → HasType R (literal (int_literal z)) t
-    each true h e = let is : int_kind ≡ t = cc in subst (λ (t : Kind). HasType R (literal (int_literal z)) t) is (literal_has (has_int h))
+    each : (b : Bool) → is_valued l ≡ b → cond b (fitting (literal_kind l)) None ≡ Some t → HasType R (literal l) t
+    each true h e =
+        let f = fitting_found (literal_kind l) t e in
+        subst (λ (t : Kind). HasType R (literal l) t) f.is (literal_has (valued_has l h) f.fits)
     each false h e = absurd cc
 
 pair_found : (R : Names) (i j : Expression) (a b : Option Kind) (t : Kind) → ((u : Kind) → a ≡ Some u → HasType R i u) → ((u : Kind) → b ≡ Some u → HasType R j u) → pair_type a b ≡ Some t → HasType R (paired i j) t
@@ -68,12 +71,12 @@ found_typed R (literal l) t h = literal_found R l t h
 found_typed R (paired i j) t h = pair_found R i j (expression_type R i) (expression_type R j) t (found_typed R i) (found_typed R j) h
 found_typed R (operation i op j) t h = operation_found R i j op (expression_type R i) (expression_type R j) t (found_typed R i) (found_typed R j) h
 
-literal_typed : (l : Literal) (t : Kind) → {R : Names} → HasType R (literal l) t → literal_type l ≡ Some t
-literal_typed (int_literal z) t (literal_has (has_int h)) = ap (λ b. cond b (Some int_kind) None) h
+literal_typed : (l : Literal) → IsTrue (is_valued l) → Fits (literal_kind l) → literal_type l ≡ Some (literal_kind l)
+literal_typed l h f = ap (λ b. cond b (fitting (literal_kind l)) None) h ∙ fitting_is (literal_kind l) f
 
 pub typed_found : {R : Names} {e : Expression} {t : Kind} → HasType R e t → expression_type R e ≡ Some t
 typed_found (variable_has {t = t} e f) = ap (λ o. found_then o fitting) e ∙ fitting_is t f
-typed_found {R = R} {t = t} (literal_has {l = l} h) = literal_typed l t {R = R} (literal_has h)
+typed_found (literal_has {l = l} h f) = literal_typed l (has_valued l h) f
 typed_found (pair_has {t = t} {u = u} h k f) = rw (typed_found h, typed_found k) (fitting_is (pair_kind t u) f)
 typed_found (operation_has h k) = rw (typed_found h, typed_found k) refl
 
@@ -82,7 +85,12 @@ typed_found (operation_has h k) = rw (typed_found h, typed_found k) refl
 pub with_adds : (p : Pattern) (t : Kind) (R S : Names) → names_with p t R ≡ Some S → AddsNames p t R S
 with_adds unnamed t R S h = let is : R ≡ S = cc in subst (λ (S : Names). AddsNames unnamed t R S) is adds_nothing
 with_adds (named x) t R S h = let is : (x, t) ∷ R ≡ S = cc in subst (λ (S : Names). AddsNames (named x) t R S) is adds_name
+with_adds (both p q) unit_kind R S h = absurd cc
+with_adds (both p q) bool_kind R S h = absurd cc
 with_adds (both p q) int_kind R S h = absurd cc
+with_adds (both p q) text_kind R S h = absurd cc
+with_adds (both p q) (event_kind t) R S h = absurd cc
+with_adds (both p q) (table_kind k t) R S h = absurd cc
 with_adds (both p q) (pair_kind t u) R S h = each (names_with p t R) (with_adds p t R) (λ T. with_adds q u T S) h
   where
     each : (o : Option Names) → ((T : Names) → o ≡ Some T → AddsNames p t R T) → ((T : Names) → names_with q u T ≡ Some S → AddsNames q u T S) → found_then o (names_with q u) ≡ Some S → AddsNames (both p q) (pair_kind t u) R S

@@ -3,9 +3,10 @@ use Rattle.std.proofs.Common.{◌≡◌, ◌<◌, ◌≤◌, [], Some, ⊎_elim,
 use Rattle.std.specs.Prelude.{ℤ}
 use mathlib.Core.Path.{ap₂}
 use Rattle.std.proofs.lemmas.Bool.{cases_lt}
-use Rattle.sf_value.specs.Values.{Name, Kind, int_kind, pair_kind, HasKind, has_int, is_narrow, nodes as nodes_of}
+use Rattle.sf_value.specs.Values.{Name, Kind, unit_kind, bool_kind, int_kind, pair_kind, is_narrow, nodes as nodes_of}
 use Rattle.sf_expr.specs.declared.exprs.ExprId.{ExprId}
 use Rattle.sf_expr.specs.declared.exprs.NameId.{NameId}
+use Rattle.sf_expr.specs.declared.exprs.ConstantId.{ConstantId}
 use Rattle.sf_expr.specs.declared.exprs.FunctionId.{FunctionId}
 use Rattle.sf_expr.specs.declared.operator.Operator.{Operator}
 use Rattle.sf_expr.specs.declared.exprs.ExprNode.TheVariants as nodes
@@ -17,23 +18,21 @@ use Rattle.sf_refusal.specs.declared.refusal.Refusal.{Refusal}
 use Rattle.sf_refusal.specs.declared.refusal.Refusal.TheVariants.{Memory}
 use Rattle.sf_refusal.specs.Refusals.{breach_of, OrMemory, no_memory}
 use Rattle.sf_refusal.proofs.Explained.{or_memory}
-use Rattle.sf_expr.specs.Expressions.{Pattern, names_in, Literal, int_literal, Expression, variable, paired, operation}
+use Rattle.sf_expr.specs.Expressions.{Pattern, names_in, Literal, unit_literal, truth_literal, int_literal, Expression, variable, literal, paired, operation}
 use Rattle.sf_expr.specs.Patterns.{pattern_of}
-use Rattle.sf_expr.specs.Arena.{expression, node_at, name_at, spot_at, pattern_at, body_at, function_at, Builds}
-use Rattle.sf_expr.specs.Evaluation.{literal_value}
-use Rattle.sf_expr.specs.Typing.{Names, Fits, type_of_name, AllDifferent, AddsNames, adds_nothing, adds_name, adds_both, HasType, variable_has, literal_has, pair_has, operation_has, FunctionTakes, function_takes}
-use Rattle.sf_expr.specs.Refusals.{Types, TypesFunction, Refused, unknown_name, first_part, second_part, pair_too_large, left_operand, right_operand, no_number, Judges, FunctionRefused, repeated_name, no_fit, body_refused, JudgesFunction, RepeatRefused, BindRefused, AnswersPair}
+use Rattle.sf_expr.specs.Arena.{expression, node_at, name_at, literal_at, spot_at, pattern_at, body_at, function_at, Builds}
+use Rattle.sf_expr.specs.Inference.{is_valued}
+use Rattle.sf_expr.specs.Typing.{Names, Fits, type_of_name, literal_kind, AllDifferent, AddsNames, adds_nothing, adds_name, adds_both, HasType, variable_has, literal_has, pair_has, operation_has, FunctionTakes, function_takes}
+use Rattle.sf_expr.specs.Refusals.{Types, TypesFunction, Refused, unknown_name, literal_too_large, first_part, second_part, pair_too_large, left_operand, right_operand, no_number, Judges, FunctionRefused, repeated_name, no_fit, body_refused, JudgesFunction, RepeatRefused, BindRefused, AnswersPair, LiteralRefused, AnswersLiteral}
 use Rattle.sf_expr.proofs.Apart.{repeated_apart}
 use Rattle.sf_expr.proofs.Entered.{node_builds}
-use Rattle.sf_expr.proofs.Typed.{is_int, is_name, is_pair, is_operation}
-
-literal_kind : (l : Literal) {t : Kind} → HasKind (literal_value l) t → t ≡ int_kind
-literal_kind (int_literal z) (has_int h) = refl
+use Rattle.sf_expr.proofs.Literals.{valued_has}
+use Rattle.sf_expr.proofs.Typed.{is_unit, is_truth, is_constant, is_int, is_name, is_pair, is_operation}
 
 -- an expression has at most one type
 pub one_type : {R : Names} {e : Expression} {t u : Kind} → HasType R e t → HasType R e u → t ≡ u
 one_type (variable_has e f) (variable_has g h) = cc
-one_type (literal_has h) (literal_has k) = literal_kind _ h ∙ sym (literal_kind _ k)
+one_type (literal_has h f) (literal_has k g) = refl
 one_type (pair_has h i f) (pair_has k j g) = ap₂ pair_kind (one_type h k) (one_type i j)
 one_type (operation_has h i) (operation_has k j) = refl
 
@@ -48,6 +47,12 @@ variable_typed {R} e y {t} q h = inverted y (subst (λ (e : Expression). HasType
   where
     inverted : (y : Name) → HasType R (variable y) t → type_of_name y R ≡ Some t
     inverted y (variable_has e f) = e
+
+literal_typed : {R : Names} (e : Expression) (l : Literal) {t : Kind} → e ≡ literal l → HasType R e t → Fits (literal_kind l)
+literal_typed {R} e l {t} q h = inverted l t (subst (λ (e : Expression). HasType R e t) q h)
+  where
+    inverted : (l : Literal) (t : Kind) → HasType R (literal l) t → Fits (literal_kind l)
+    inverted l t (literal_has h f) = f
 
 -- the types of a pair's parts
 pair_typed : {R : Names} (e a b : Expression) {t : Kind} → e ≡ paired a b → HasType R e t → (u : Kind) × (v : Kind) × HasType R a u × HasType R b v × Fits (pair_kind u v)
@@ -67,6 +72,8 @@ operation_typed {R} e a b op {t} q h = inverted t (subst (λ (e : Expression). H
 pub refused_untyped : {x : Exprs} {R : Names} {i : ExprId} {r : Breach} {t : Kind} → Refused x R i r → HasType R (expression x i) t → ⊥
 refused_untyped {x} {R} {i} (unknown_name {n = n} e q) h =
     let some = variable_typed (expression x i) _ (is_name (node_builds x i _ e)) h in cc
+refused_untyped {x} {R} {i} (literal_too_large {n = n} e q) h =
+    let fits = literal_typed (expression x i) (literal_at x n) (is_constant (node_builds x i _ e)) h in omega arith
 refused_untyped {x} {R} {i} (first_part {a = a} {b = b} e q) h =
     let parts = pair_typed (expression x i) (expression x a) (expression x b) (is_pair (node_builds x i _ e)) h in refused_untyped q parts.2
 refused_untyped {x} {R} {i} (second_part {a = a} {b = b} e k q) h =
@@ -106,8 +113,28 @@ pub right_judged : (x : Exprs) (R : Names) (i a b : ExprId) (op : Operator) (t :
 right_judged x R i a b op t answer r e typed q h = on x R i answer r q (or_memory (λ s k. right_operand e typed k) h)
 
 -- the types of the forms of nodes
+pub literal_has_type : (x : Exprs) (R : Names) (i : ExprId) (l : Literal) → expression x i ≡ literal l → IsTrue (is_valued l) → Fits (literal_kind l) → HasType R (expression x i) (literal_kind l)
+literal_has_type x R i l e h f = subst (λ (e : Expression). HasType R e (literal_kind l)) (sym e) (literal_has (valued_has l h) f)
+
+pub memory_answers : (l : Literal) (s : Spot) (answer : Result Kind Refusal) → IsErrAnd answer (λ e. e ≡ Memory) → AnswersLiteral l s answer
+memory_answers l s (Ok t) e = absurd e
+memory_answers l s (Err f) e = subst (λ (g : Refusal). OrMemory (LiteralRefused l s) g) (sym e) no_memory
+
+pub unit_typed : (x : Exprs) (R : Names) (i : ExprId) → Builds x nodes.Unit (expression x i) → HasType R (expression x i) unit_kind
+unit_typed x R i b = literal_has_type x R i unit_literal (is_unit b) refl (omega arith)
+
+pub truth_typed : (x : Exprs) (R : Names) (i : ExprId) (t : _) → Builds x (nodes.Truth t) (expression x i) → HasType R (expression x i) bool_kind
+truth_typed x R i t b = literal_has_type x R i (truth_literal t) (is_truth b) refl (omega arith)
+
+pub constant_judged : (x : Exprs) (R : Names) (i : ExprId) (n : ConstantId) (l : Literal) (s : Spot) (r : Result Kind Refusal) → node_at x i ≡ nodes.Constant n → l ≡ literal_at x n → IsTrue (is_valued l) → s ≡ spot_at x i → AnswersLiteral l s r → Judges x R i r
+constant_judged x R i n l s (Ok t) e is h at answer =
+    let fits : Fits (literal_kind l) = subst (λ (v : Kind). Fits v) answer.0 answer.1 in
+    subst (λ (v : Kind). HasType R (expression x i) v) (sym answer.0) (literal_has_type x R i l (is_constant (node_builds x i _ e) ∙ ap literal (sym is)) h fits)
+constant_judged x R i n l s (Err r) e is h at answer =
+    or_memory (λ c q. subst (λ (c : Breach). Refused x R i c) (sym (q.0 ∙ ap (breach_of TypeTooLarge) at)) (literal_too_large e (omega (arith, ap (λ (l : Literal). nodes_of (literal_kind l)) is, q.1)))) answer
+
 pub int_typed : (x : Exprs) (R : Names) (i : ExprId) (z : ℤ) → Builds x (nodes.Int z) (expression x i) → IsTrue (is_narrow z) → HasType R (expression x i) int_kind
-int_typed x R i z b h = subst (λ (e : Expression). HasType R e int_kind) (sym (is_int b)) (literal_has (has_int h))
+int_typed x R i z b h = literal_has_type x R i (int_literal z) (is_int b) h (omega arith)
 
 pub name_typed : (x : Exprs) (R : Names) (i : ExprId) (n : NameId) (t : Kind) → Builds x (nodes.Name n) (expression x i) → type_of_name (name_at x n) R ≡ Some t → Fits t → HasType R (expression x i) t
 name_typed x R i n t b e f = subst (λ (e : Expression). HasType R e t) (sym (is_name b)) (variable_has e f)

@@ -1,3 +1,4 @@
+pub mod Literals
 pub mod Sound
 pub mod Bound
 pub mod Entered

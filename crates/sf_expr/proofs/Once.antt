@@ -7,6 +7,7 @@ use Rattle.sf_refusal.specs.declared.spot.Spot.{Spot}
 use Rattle.sf_expr.specs.declared.operator.Operator.{Operator}
 use Rattle.sf_expr.specs.declared.exprs.ExprId.{ExprId}
 use Rattle.sf_expr.specs.declared.exprs.NameId.{NameId}
+use Rattle.sf_expr.specs.declared.exprs.ConstantId.{ConstantId}
 use Rattle.sf_expr.specs.declared.exprs.FunctionId.{FunctionId}
 use Rattle.sf_expr.specs.declared.exprs.ExprNode.{ExprNode}
 use Rattle.sf_expr.specs.declared.exprs.ExprNode.TheVariants as nodes
@@ -18,7 +19,7 @@ use Rattle.sf_expr.specs.Expressions.{names_in}
 use Rattle.sf_expr.specs.Patterns.{PlacedPattern, pattern_of, spots_in}
 use Rattle.sf_expr.specs.Arena.{expression, node_at, spot_at, body_at}
 use Rattle.sf_expr.specs.Typing.{Names, AllDifferent, HasType}
-use Rattle.sf_expr.specs.Refusals.{Refused, unknown_name, first_part, second_part, pair_too_large, left_operand, right_operand, no_number, IsRepeated, FunctionRefused, repeated_name, no_fit, body_refused}
+use Rattle.sf_expr.specs.Refusals.{Refused, unknown_name, literal_too_large, first_part, second_part, pair_too_large, left_operand, right_operand, no_number, IsRepeated, FunctionRefused, repeated_name, no_fit, body_refused}
 use Rattle.sf_expr.proofs.Apart.{repeated_apart}
 use Rattle.sf_expr.proofs.Judged.{one_scope, refused_untyped}
 
@@ -27,6 +28,7 @@ use Rattle.sf_expr.proofs.Judged.{one_scope, refused_untyped}
 -- A refusal of an expression at a place, by its node.
 data RefusedAt (x : Exprs) (R : Names) (s : Spot) : ExprNode → Breach → Type 0 where
   at_name : {n : NameId} → RefusedAt x R s (nodes.Name n) (breach_of UnknownName s)
+  at_constant : {n : ConstantId} → RefusedAt x R s (nodes.Constant n) (breach_of TypeTooLarge s)
   at_first : {a b : ExprId} {r : Breach} → Refused x R a r → RefusedAt x R s (nodes.Pair a b) r
   at_second : {a b : ExprId} {t : Kind} {r : Breach} → HasType R (expression x a) t → Refused x R b r → RefusedAt x R s (nodes.Pair a b) r
   at_pair : {a b : ExprId} {t u : Kind} → HasType R (expression x a) t → HasType R (expression x b) u → RefusedAt x R s (nodes.Pair a b) (breach_of TypeTooLarge s)
@@ -37,6 +39,7 @@ data RefusedAt (x : Exprs) (R : Names) (s : Spot) : ExprNode → Breach → Type
 module _ {x : Exprs} {R : Names} where
   by_node : {i : ExprId} {r : Breach} → Refused x R i r → RefusedAt x R (spot_at x i) (node_at x i) r
   by_node {i} (unknown_name e h) = subst (λ n. RefusedAt x R (spot_at x i) n (breach_of UnknownName (spot_at x i))) (sym e) at_name
+  by_node {i} (literal_too_large e h) = subst (λ n. RefusedAt x R (spot_at x i) n (breach_of TypeTooLarge (spot_at x i))) (sym e) at_constant
   by_node {i} {r} (first_part e h) = subst (λ n. RefusedAt x R (spot_at x i) n r) (sym e) (at_first h)
   by_node {i} {r} (second_part e t h) = subst (λ n. RefusedAt x R (spot_at x i) n r) (sym e) (at_second t h)
   by_node {i} (pair_too_large e t u h) = subst (λ n. RefusedAt x R (spot_at x i) n (breach_of TypeTooLarge (spot_at x i))) (sym e) (at_pair t u)
@@ -49,6 +52,9 @@ module _ {x : Exprs} {R : Names} where
 
   name_once : {n : NameId} {s : Spot} {q : Breach} → RefusedAt x R s (nodes.Name n) q → breach_of UnknownName s ≡ q
   name_once at_name = refl
+
+  constant_once : {n : ConstantId} {s : Spot} {q : Breach} → RefusedAt x R s (nodes.Constant n) q → breach_of TypeTooLarge s ≡ q
+  constant_once at_constant = refl
 
   module _ {a b : ExprId} {s : Spot} {r : Breach} where
     first_once : {q : Breach} → Refused x R a r → (Refused x R a q → r ≡ q) → RefusedAt x R s (nodes.Pair a b) q → r ≡ q
@@ -84,6 +90,7 @@ module _ {x : Exprs} {R : Names} where
 
   pub refused_once : {i : ExprId} {r q : Breach} → Refused x R i r → Refused x R i q → r ≡ q
   refused_once (unknown_name e h) k = name_once (here e k)
+  refused_once (literal_too_large e h) k = constant_once (here e k)
   refused_once (first_part e h) k = first_once h (λ l. refused_once h l) (here e k)
   refused_once (second_part e t h) k = second_once t h (λ l. refused_once h l) (here e k)
   refused_once (pair_too_large e t u big) k = pair_once t u (here e k)

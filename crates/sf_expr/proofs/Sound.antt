@@ -54,7 +54,7 @@ bound_has (adds_both a b) (has_pair h i) k = bound_has b i (bound_has a h k)
 -- a typed expression yields its type
 pub expression_yields : {R : Names} {s : Scope} {e : Expression} {t : Kind} → HasType R e t → ScopeHas s R → Yields t (eval e s)
 expression_yields (variable_has {x = x} e f) k = yields (value_has x k e)
-expression_yields (literal_has h) k = yields h
+expression_yields (literal_has h f) k = yields h
 expression_yields {s = s} (pair_has {i = i} {j = j} {t = t} {u = u} h l f) k =
     and_yields (expression_yields h k) (λ a p. and_yields (expression_yields l k) (λ b q. yields (has_pair p q)))
 expression_yields {s = s} (operation_has {i = i} {j = j} {op = op} h l) k =

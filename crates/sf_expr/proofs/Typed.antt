@@ -2,14 +2,24 @@
 use Rattle.std.proofs.Common.{◌≡◌, refl}
 use Rattle.sf_expr.specs.declared.exprs.ExprId.{ExprId}
 use Rattle.sf_expr.specs.declared.exprs.NameId.{NameId}
+use Rattle.sf_expr.specs.declared.exprs.ConstantId.{ConstantId}
 use Rattle.sf_expr.specs.declared.exprs.ExprNode.TheVariants as nodes
 use Rattle.sf_expr.specs.declared.exprs.Exprs.{Exprs}
 use Rattle.sf_expr.specs.declared.operator.Operator.{Operator}
-use Rattle.sf_expr.specs.Expressions.{Expression, variable, literal, int_literal, paired, operation}
-use Rattle.sf_expr.specs.Arena.{expression, name_at, Builds, builds_int, builds_name, builds_pair, builds_operation}
+use Rattle.sf_expr.specs.Expressions.{Expression, variable, literal, unit_literal, truth_literal, int_literal, paired, operation}
+use Rattle.sf_expr.specs.Arena.{expression, name_at, literal_at, Builds, builds_unit, builds_truth, builds_constant, builds_int, builds_name, builds_pair, builds_operation}
 
 pub is_int : {x : Exprs} {z : _} {e : Expression} → Builds x (nodes.Int z) e → e ≡ literal (int_literal z)
 is_int builds_int = refl
+
+pub is_unit : {x : Exprs} {e : Expression} → Builds x nodes.Unit e → e ≡ literal unit_literal
+is_unit builds_unit = refl
+
+pub is_truth : {x : Exprs} {t : _} {e : Expression} → Builds x (nodes.Truth t) e → e ≡ literal (truth_literal t)
+is_truth builds_truth = refl
+
+pub is_constant : {x : Exprs} {n : ConstantId} {e : Expression} → Builds x (nodes.Constant n) e → e ≡ literal (literal_at x n)
+is_constant builds_constant = refl
 
 pub is_name : {x : Exprs} {n : NameId} {e : Expression} → Builds x (nodes.Name n) e → e ≡ variable (name_at x n)
 is_name builds_name = refl

@@ -7,13 +7,14 @@ use Rattle.sf_arena.specs.Arenas.{entries_of}
 use Rattle.sf_expr.specs.declared.operator.Operator.{Operator}
 use Rattle.sf_expr.specs.declared.exprs.ExprId.{ExprId}
 use Rattle.sf_expr.specs.declared.exprs.NameId.{NameId}
+use Rattle.sf_expr.specs.declared.exprs.ConstantId.{ConstantId}
 use Rattle.sf_expr.specs.declared.exprs.FunctionId.{FunctionId}
 use Rattle.sf_expr.specs.declared.exprs.ExprNode.{ExprNode}
 use Rattle.sf_expr.specs.declared.exprs.ExprNode.TheVariants as nodes
 use Rattle.sf_expr.specs.declared.exprs.Exprs.{Exprs}
-use Rattle.sf_expr.specs.Expressions.{Expression, variable, literal, int_literal, paired, operation, Function, function}
+use Rattle.sf_expr.specs.Expressions.{Literal, unit_literal, truth_literal, int_literal, Expression, variable, literal, paired, operation, Function, function}
 use Rattle.sf_expr.specs.Patterns.{PlacedPattern, pattern_of}
-use Rattle.sf_expr.specs.Entries.{name_among, entry_at, expression_at, function_entry}
+use Rattle.sf_expr.specs.Entries.{name_among, literal_among, Beside, entry_at, expression_at, function_entry}
 
 -- the number of an id
 abbrev pub id_number : ExprId → ℕ
@@ -31,9 +32,17 @@ function_count x = length x.functions.items
 unfoldable pub name_count : Exprs → ℕ
 name_count x = length x.names.items
 
+-- how many constants an arena holds
+unfoldable pub constant_count : Exprs → ℕ
+constant_count x = length x.constants.items
+
 -- the id of the next name
 unfoldable pub next_name : Exprs → NameId
 next_name x = record { 0 = length x.names.items }
+
+-- the id of the next constant
+unfoldable pub next_constant : Exprs → ConstantId
+next_constant x = record { 0 = length x.constants.items }
 
 -- an arena holds an expression under an id
 unfoldable pub Holds : Exprs → ExprId → Type 0
@@ -47,9 +56,17 @@ HoldsFunction x f = f.0 < length x.functions.items
 unfoldable pub HoldsName : Exprs → NameId → Type 0
 HoldsName x n = n.0 < length x.names.items
 
+-- an arena holds a constant under an id
+unfoldable pub HoldsConstant : Exprs → ConstantId → Type 0
+HoldsConstant x n = n.0 < length x.constants.items
+
+-- what stands beside the nodes of an arena
+abbrev pub beside : Exprs → Beside
+beside x = record { names = x.names.items; literals = x.constants.items }
+
 -- the expression at an id; the number 0 where the arena holds none
 unfoldable pub expression : Exprs → ExprId → Expression
-expression x id = expression_at x.names.items (entries_of x.arena) id.0
+expression x id = expression_at (beside x) (entries_of x.arena) id.0
 
 -- the entry at an id
 unfoldable pub entry_of : Exprs → ExprId → Entry ExprNode
@@ -62,6 +79,10 @@ node_at x id = (entry_at (entries_of x.arena) id.0).node
 -- the name at an id of names; the empty one where the arena holds none
 unfoldable pub name_at : Exprs → NameId → Name
 name_at x n = name_among x.names.items n.0
+
+-- the literal at an id of constants; no event of the type with one value where the arena holds none
+unfoldable pub literal_at : Exprs → ConstantId → Literal
+literal_at x n = literal_among x.constants.items n.0
 
 -- where the expression at an id stands in the text
 unfoldable pub spot_at : Exprs → ExprId → Spot
@@ -81,13 +102,19 @@ function_at x f = function (pattern_of (pattern_at x f)) (expression x (body_at 
 
 -- the expression that a node stands for in an arena
 abbrev pub expression_of : Exprs → ExprNode → Expression
+expression_of x nodes.Unit = literal unit_literal
+expression_of x (nodes.Truth t) = literal (truth_literal t)
 expression_of x (nodes.Int z) = literal (int_literal z)
+expression_of x (nodes.Constant n) = literal (literal_at x n)
 expression_of x (nodes.Name n) = variable (name_at x n)
 expression_of x (nodes.Pair a b) = paired (expression x a) (expression x b)
 expression_of x (nodes.Operation a op b) = operation (expression x a) op (expression x b)
 
 -- A node with the ids of its parts stands for an expression with their trees.
 pub data Builds (x : Exprs) : ExprNode → Expression → Type 0 where
+  builds_unit : Builds x nodes.Unit (literal unit_literal)
+  builds_truth : {t : _} → Builds x (nodes.Truth t) (literal (truth_literal t))
+  builds_constant : {n : ConstantId} → Builds x (nodes.Constant n) (literal (literal_at x n))
   builds_int : {z : _} → Builds x (nodes.Int z) (literal (int_literal z))
   builds_name : {n : NameId} → Builds x (nodes.Name n) (variable (name_at x n))
   builds_pair : {a b : ExprId} → Builds x (nodes.Pair a b) (paired (expression x a) (expression x b))
@@ -95,17 +122,17 @@ pub data Builds (x : Exprs) : ExprNode → Expression → Type 0 where
 
 -- the ids of a node's parts, as numbers, are below a number
 abbrev pub PartsBelow : ExprNode → ℕ → Type 0
-PartsBelow (nodes.Int z) n = Unit {0}
-PartsBelow (nodes.Name x) n = Unit {0}
 PartsBelow (nodes.Pair a b) n = (id_number a < n) × (id_number b < n)
 PartsBelow (nodes.Operation a op b) n = (id_number a < n) × (id_number b < n)
+PartsBelow k n = Unit {0}
 
 -- the parts of a node are held
 abbrev pub HoldsParts : Exprs → ExprNode → Type 0
-HoldsParts x (nodes.Int z) = Unit {0}
+HoldsParts x (nodes.Constant n) = HoldsConstant x n
 HoldsParts x (nodes.Name n) = HoldsName x n
 HoldsParts x (nodes.Pair a b) = Holds x a × Holds x b
 HoldsParts x (nodes.Operation a op b) = Holds x a × Holds x b
+HoldsParts x n = Unit {0}
 
 -- What an arena held is there as it was.
 pub record Keeps (old new : Exprs) : Type 0 where
@@ -119,6 +146,8 @@ pub record Keeps (old new : Exprs) : Type 0 where
   pub meanings : (f : FunctionId) → HoldsFunction old f → function_at new f ≡ function_at old f
   pub holds_names : (n : NameId) → HoldsName old n → HoldsName new n
   pub names : (n : NameId) → HoldsName old n → name_at new n ≡ name_at old n
+  pub holds_constants : (n : ConstantId) → HoldsConstant old n → HoldsConstant new n
+  pub constants : (n : ConstantId) → HoldsConstant old n → literal_at new n ≡ literal_at old n
 
 -- an expression was added under a new id, with the parts that its node names, and what was there stands
 pub record Adds (old new : Exprs) (id : ExprId) (n : ExprNode) (e : Expression) (s : Spot) : Type 0 where
@@ -131,6 +160,7 @@ pub record Adds (old new : Exprs) (id : ExprId) (n : ExprNode) (e : Expression) 
   pub count : count_of new ≡ count_of old + 1
   pub functions : function_count new ≡ function_count old
   pub names : name_count new ≡ name_count old
+  pub constants : constant_count new ≡ constant_count old
 
 -- a name was added under the next id, and what was there stands: at each id the same expressions and functions are shown
 pub record AddsName (old new : Exprs) (n : NameId) (x : Name) : Type 0 where
@@ -146,6 +176,23 @@ pub record AddsName (old new : Exprs) (n : NameId) (x : Name) : Type 0 where
   pub count : count_of new ≡ count_of old
   pub functions : function_count new ≡ function_count old
   pub names : name_count new ≡ name_count old + 1
+  pub constants : constant_count new ≡ constant_count old
+
+-- a constant was added under the next id, and what was there stands: at each id the same expressions and functions are shown
+pub record AddsConstant (old new : Exprs) (n : ConstantId) (l : Literal) : Type 0 where
+  pub next : n ≡ next_constant old
+  pub within : HoldsConstant new n
+  pub is : literal_at new n ≡ l
+  pub kept : Keeps old new
+  pub nodes : (i : ExprId) → node_at new i ≡ node_at old i
+  pub trees : (i : ExprId) → expression new i ≡ expression old i
+  pub spots : (i : ExprId) → spot_at new i ≡ spot_at old i
+  pub patterns : (f : FunctionId) → pattern_at new f ≡ pattern_at old f
+  pub bodies : (f : FunctionId) → body_at new f ≡ body_at old f
+  pub count : count_of new ≡ count_of old
+  pub functions : function_count new ≡ function_count old
+  pub names : name_count new ≡ name_count old
+  pub constants : constant_count new ≡ constant_count old + 1
 
 -- a function was added under a new id, and what was there stands
 pub record AddsFunction (old new : Exprs) (f : FunctionId) (p : PlacedPattern) (b : ExprId) : Type 0 where
@@ -158,18 +205,21 @@ pub record AddsFunction (old new : Exprs) (f : FunctionId) (p : PlacedPattern) (
   pub count : count_of new ≡ count_of old
   pub functions : function_count new ≡ function_count old + 1
   pub names : name_count new ≡ name_count old
+  pub constants : constant_count new ≡ constant_count old
 
 -- two arenas show the same at each id
 pub record IsUnchanged (old new : Exprs) : Type 0 where
   pub count : count_of new ≡ count_of old
   pub functions : function_count new ≡ function_count old
   pub name_counted : name_count new ≡ name_count old
+  pub constant_counted : constant_count new ≡ constant_count old
   pub nodes : (i : ExprId) → node_at new i ≡ node_at old i
   pub trees : (i : ExprId) → expression new i ≡ expression old i
   pub spots : (i : ExprId) → spot_at new i ≡ spot_at old i
   pub patterns : (f : FunctionId) → pattern_at new f ≡ pattern_at old f
   pub bodies : (f : FunctionId) → body_at new f ≡ body_at old f
   pub names : (n : NameId) → name_at new n ≡ name_at old n
+  pub constants : (n : ConstantId) → literal_at new n ≡ literal_at old n
 
 -- an arena is a copy of another: it shows the same at each id
 abbrev pub IsCopy : Exprs → Exprs → Type 0

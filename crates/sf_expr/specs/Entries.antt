@@ -1,14 +1,14 @@
 -- The nodes of an arena of expressions.
 use Rattle.std.specs.Prelude.{◌≡◌, ℕ, suc, ◌≤◌, ◌<◌, max, pos, List, [], length, slice_index_or, Bool, true, IsTrue, All}
-use Rattle.sf_value.specs.Values.{Name, is_narrow}
+use Rattle.sf_value.specs.Values.{Name, unit_kind, is_narrow}
 use Rattle.sf_arena.specs.declared.entry.Entry.{Entry}
 use Rattle.sf_arena.specs.Folded.{trees, tree_at}
-use Rattle.sf_expr.specs.declared.exprs.ExprId.{ExprId}
 use Rattle.sf_expr.specs.declared.exprs.ExprNode.{ExprNode}
 use Rattle.sf_expr.specs.declared.exprs.ExprNode.TheVariants as nodes
 use Rattle.sf_expr.specs.declared.stored.StoredFunction.{StoredFunction}
-use Rattle.sf_expr.specs.Expressions.{Expression, variable, literal, int_literal, paired, operation, depth, pattern_depth}
+use Rattle.sf_expr.specs.Expressions.{Literal, unit_literal, truth_literal, int_literal, none_literal, Expression, variable, literal, paired, operation, depth, pattern_depth}
 use Rattle.sf_expr.specs.Patterns.{placed_unnamed, pattern_of}
+use Rattle.sf_expr.specs.Inference.{is_valued}
 
 -- the number 0
 abbrev pub zero_expression : Expression
@@ -22,33 +22,53 @@ among es i = slice_index_or es i zero_expression
 abbrev pub name_among : List Name → ℕ → Name
 name_among names i = slice_index_or names i []
 
+-- no event of the type with one value
+abbrev pub none_of_unit : Literal
+none_of_unit = none_literal unit_kind
+
+-- the literal at a place; no event of the type with one value past the end
+abbrev pub literal_among : List Literal → ℕ → Literal
+literal_among ls i = slice_index_or ls i none_of_unit
+
+-- What stands beside the nodes of an arena: their names, and the literals that are no part of a node.
+pub record Beside : Type 0 where
+  pub names : List Name
+  pub literals : List Literal
+
 -- the expression of a node, over the expressions before it
-abbrev pub made_over : List Name → List Expression → ExprNode → Expression
-made_over names es (nodes.Int z) = literal (int_literal z)
-made_over names es (nodes.Name n) = variable (name_among names n.0)
-made_over names es (nodes.Pair a b) = paired (among es a.0) (among es b.0)
-made_over names es (nodes.Operation a op b) = operation (among es a.0) op (among es b.0)
+abbrev pub made_over : Beside → List Expression → ExprNode → Expression
+made_over b es nodes.Unit = literal unit_literal
+made_over b es (nodes.Truth t) = literal (truth_literal t)
+made_over b es (nodes.Int z) = literal (int_literal z)
+made_over b es (nodes.Constant n) = literal (literal_among b.literals n.0)
+made_over b es (nodes.Name n) = variable (name_among b.names n.0)
+made_over b es (nodes.Pair i j) = paired (among es i.0) (among es j.0)
+made_over b es (nodes.Operation i op j) = operation (among es i.0) op (among es j.0)
 
 -- how many expressions have to stand before a node
 abbrev pub needs : ExprNode → ℕ
+needs nodes.Unit = 0
+needs (nodes.Truth t) = 0
 needs (nodes.Int z) = 0
+needs (nodes.Constant n) = 0
 needs (nodes.Name n) = 0
 needs (nodes.Pair a b) = suc (max a.0 b.0)
 needs (nodes.Operation a op b) = suc (max a.0 b.0)
 
 -- how many names have to be there for a node
 abbrev pub needs_names : ExprNode → ℕ
-needs_names (nodes.Int z) = 0
 needs_names (nodes.Name n) = suc n.0
-needs_names (nodes.Pair a b) = 0
-needs_names (nodes.Operation a op b) = 0
+needs_names n = 0
+
+-- how many literals have to be there for a node
+abbrev pub needs_constants : ExprNode → ℕ
+needs_constants (nodes.Constant n) = suc n.0
+needs_constants n = 0
 
 -- whether the numbers of a node are within signed 64 bits
 abbrev pub has_narrow : ExprNode → Bool
 has_narrow (nodes.Int z) = is_narrow z
-has_narrow (nodes.Name n) = true
-has_narrow (nodes.Pair a b) = true
-has_narrow (nodes.Operation a op b) = true
+has_narrow n = true
 
 -- the number 0, without a text
 abbrev pub zero_entry : Entry ExprNode
@@ -59,22 +79,27 @@ abbrev pub entry_at : List (Entry ExprNode) → ℕ → Entry ExprNode
 entry_at entries i = slice_index_or entries i zero_entry
 
 -- the expression of an entry, over the expressions before it
-abbrev pub entry_made : List Name → List Expression → Entry ExprNode → Expression
-entry_made names es entry = made_over names es entry.node
+abbrev pub entry_made : Beside → List Expression → Entry ExprNode → Expression
+entry_made b es entry = made_over b es entry.node
 
 -- the expressions of entries
-abbrev pub expressions : List Name → List (Entry ExprNode) → List Expression
-expressions names entries = trees (entry_made names) entries
+abbrev pub expressions : Beside → List (Entry ExprNode) → List Expression
+expressions b entries = trees (entry_made b) entries
 
 -- the expression at a place; the number 0 past the end
-abbrev pub expression_at : List Name → List (Entry ExprNode) → ℕ → Expression
-expression_at names entries i = tree_at (entry_made names) zero_expression entries i
+abbrev pub expression_at : Beside → List (Entry ExprNode) → ℕ → Expression
+expression_at b entries i = tree_at (entry_made b) zero_expression entries i
 
--- What holds of the entries of an arena with these names.
-pub record IsArena (names : List Name) (entries : List (Entry ExprNode)) : Type 0 where
+-- all literals stand for values
+abbrev pub AreValued : List Literal → Type 0
+AreValued ls = All (λ l. IsTrue (is_valued l)) ls
+
+-- What holds of the entries of an arena, with what stands beside them.
+pub record IsArena (b : Beside) (entries : List (Entry ExprNode)) : Type 0 where
   pub in_order : (i : ℕ) → needs (entry_at entries i).node ≤ i
-  pub named : (i : ℕ) → needs_names (entry_at entries i).node ≤ length names
-  pub measured : (i : ℕ) → (entry_at entries i).depth ≡ depth (expression_at names entries i)
+  pub named : (i : ℕ) → needs_names (entry_at entries i).node ≤ length b.names
+  pub constants : (i : ℕ) → needs_constants (entry_at entries i).node ≤ length b.literals
+  pub measured : (i : ℕ) → (entry_at entries i).depth ≡ depth (expression_at b entries i)
   pub narrow : (i : ℕ) → IsTrue (has_narrow (entry_at entries i).node)
 
 -- a function that binds nothing, with a body that no arena holds

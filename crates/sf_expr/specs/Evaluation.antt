@@ -1,11 +1,11 @@
 -- What expressions are worth.
 use Rattle.std.specs.Prelude.{Bool, true, false, zero, suc, ◌/◌, ℤ, pos, negsuc, ◌+ℤ◌, ◌-ℤ◌, ◌*ℤ◌, cond, bytes_eq}
-use Rattle.sf_value.specs.Values.{Name, Data, number, pair, is_narrow, first_of, second_of}
+use Rattle.sf_value.specs.Values.{Name, Data, unit, truth, number, text, pair, no_event, is_narrow, first_of, second_of}
 use Rattle.sf_value.specs.declared.fault.ValueFault.{ValueFault}
 use Rattle.sf_value.specs.declared.fault.ValueFault.TheVariants.{Overflow, DivideByZero}
 use Rattle.sf_expr.specs.declared.operator.Operator.{Operator}
 use Rattle.sf_expr.specs.declared.operator.Operator.TheVariants.{Plus, Minus, Times, Divide, Modulo}
-use Rattle.sf_expr.specs.Expressions.{Pattern, unnamed, named, both, Literal, int_literal, Expression, variable, literal, paired, operation, Function, function}
+use Rattle.sf_expr.specs.Expressions.{Pattern, unnamed, named, both, Literal, unit_literal, truth_literal, int_literal, text_literal, none_literal, Expression, variable, literal, paired, operation, Function, function}
 
 -- An answer, or a fault.
 pub data Evaluated (A : Type 0) : Type 0 where
@@ -42,12 +42,16 @@ bound_in (both p q) d scope = bound_in q (second_of d) (bound_in p (first_of d) 
 abbrev pub pattern_fits : Pattern → Data → Bool
 pattern_fits unnamed d = true
 pattern_fits (named x) d = true
-pattern_fits (both p q) (number z) = false
 pattern_fits (both p q) (pair a b) = cond (pattern_fits p a) (pattern_fits q b) false
+pattern_fits (both p q) d = false
 
 -- a literal's value
 abbrev pub literal_value : Literal → Data
+literal_value unit_literal = unit
+literal_value (truth_literal b) = truth b
 literal_value (int_literal z) = number z
+literal_value (text_literal s) = text s
+literal_value (none_literal t) = no_event
 
 -- a whole number, where it is within signed 64 bits
 abbrev pub tested : ℤ → Evaluated Data
@@ -82,8 +86,7 @@ of_numbers Modulo a b = divide remainder a b
 -- an operator on two values
 abbrev pub operated : Operator → Data → Data → Evaluated Data
 operated op (number a) (number b) = of_numbers op a b
-operated op (number a) (pair x y) = answer nonsense
-operated op (pair x y) b = answer nonsense
+operated op a b = answer nonsense
 
 -- what an expression is worth: operands stand from left to right, and the first fault is the answer
 abbrev pub eval : Expression → Scope → Evaluated Data

@@ -1,6 +1,6 @@
 -- Expressions as trees.
-use Rattle.std.specs.Prelude.{ℕ, suc, ◌+◌, max, ℤ, List, [], ◌∷◌, ◌++◌}
-use Rattle.sf_value.specs.Values.{Name}
+use Rattle.std.specs.Prelude.{ℕ, suc, ◌+◌, max, ℤ, Bool, List, [], ◌∷◌, ◌++◌}
+use Rattle.sf_value.specs.Values.{Name, Kind}
 use Rattle.sf_expr.specs.declared.operator.Operator.{Operator}
 
 -- A pattern binds nothing, a name, or the two parts of a pair.
@@ -9,9 +9,13 @@ pub data Pattern : Type 0 where
   named : Name → Pattern
   both : Pattern → Pattern → Pattern
 
--- values that stand in the text
+-- Values that stand in the text. A text is its bytes; no event has the type of the payload that it hasn't.
 pub data Literal : Type 0 where
+  unit_literal : Literal
+  truth_literal : Bool → Literal
   int_literal : ℤ → Literal
+  text_literal : List ℕ → Literal
+  none_literal : Kind → Literal
 
 -- expressions: names, literals, pairs, and operators between their operands
 pub data Expression : Type 0 where

@@ -1,8 +1,9 @@
 -- The types of expressions, found by a function.
 use Rattle.std.specs.Prelude.{◌≡◌, ◌≤◌, Bool, true, false, not, ◌||◌, ◌&&◌, nat_le, cond, List, [], ◌∷◌, Option, Some, None, bytes_eq}
+use Rattle.std.specs.Str.{is_utf8}
 use Rattle.sf_value.specs.Values.{Name, Kind, int_kind, pair_kind, nodes, is_narrow}
-use Rattle.sf_expr.specs.Expressions.{Pattern, unnamed, named, both, names_in, Literal, int_literal, Expression, variable, literal, paired, operation, Function, function}
-use Rattle.sf_expr.specs.Typing.{Names, type_of_name}
+use Rattle.sf_expr.specs.Expressions.{Pattern, unnamed, named, both, names_in, Literal, int_literal, text_literal, Expression, variable, literal, paired, operation, Function, function}
+use Rattle.sf_expr.specs.Typing.{Names, type_of_name, literal_kind}
 
 -- what is done with what was found, if it was
 abbrev pub found_then : {A B : Type 0} → Option A → (A → Option B) → Option B
@@ -13,9 +14,15 @@ found_then None f = None
 abbrev pub fitting : Kind → Option Kind
 fitting t = cond (nat_le (nodes t) 256) (Some t) None
 
+-- whether a literal stands for a value: a number within signed 64 bits, a text in UTF-8
+abbrev pub is_valued : Literal → Bool
+is_valued (int_literal z) = is_narrow z
+is_valued (text_literal s) = is_utf8 s
+is_valued l = true
+
 -- the type of a literal
 abbrev pub literal_type : Literal → Option Kind
-literal_type (int_literal z) = cond (is_narrow z) (Some int_kind) None
+literal_type l = cond (is_valued l) (fitting (literal_kind l)) None
 
 -- the type of a pair of two parts
 abbrev pub pair_type : Option Kind → Option Kind → Option Kind
@@ -39,8 +46,8 @@ expression_type R (operation i op j) = number_type (expression_type R i) (expres
 abbrev pub names_with : Pattern → Kind → Names → Option Names
 names_with unnamed t R = Some R
 names_with (named x) t R = Some ((x, t) ∷ R)
-names_with (both p q) int_kind R = None
 names_with (both p q) (pair_kind t u) R = found_then (names_with p t R) (names_with q u)
+names_with (both p q) t R = None
 
 -- whether a name is one of these
 abbrev pub is_among : Name → List Name → Bool

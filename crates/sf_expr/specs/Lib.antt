@@ -4,6 +4,8 @@ pub mod PatternCodes
 pub mod PatternView
 pub mod PatternFalls
 pub mod Evaluation
+pub mod LiteralCodes
+pub mod Constants
 pub mod Typing
 pub mod Soundness
 pub mod Scopes

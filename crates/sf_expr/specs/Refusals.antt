@@ -8,14 +8,15 @@ use Rattle.sf_refusal.specs.declared.refusal.Refusal.{Refusal}
 use Rattle.sf_refusal.specs.Refusals.{breach_of, OrMemory}
 use Rattle.sf_expr.specs.declared.exprs.ExprId.{ExprId}
 use Rattle.sf_expr.specs.declared.exprs.NameId.{NameId}
+use Rattle.sf_expr.specs.declared.exprs.ConstantId.{ConstantId}
 use Rattle.sf_expr.specs.declared.exprs.FunctionId.{FunctionId}
 use Rattle.sf_expr.specs.declared.exprs.ExprNode.TheVariants as nodes
 use Rattle.sf_expr.specs.declared.exprs.Exprs.{Exprs}
 use Rattle.sf_expr.specs.declared.operator.Operator.{Operator}
-use Rattle.sf_expr.specs.Expressions.{Pattern, names_in, Expression, Function}
+use Rattle.sf_expr.specs.Expressions.{Pattern, names_in, Literal, Expression, Function}
 use Rattle.sf_expr.specs.Patterns.{PlacedPattern, pattern_of, spots_in}
-use Rattle.sf_expr.specs.Arena.{expression, node_at, name_at, spot_at, pattern_at, body_at, function_at}
-use Rattle.sf_expr.specs.Typing.{Names, Fits, type_of_name, AllDifferent, AddsNames, HasType, FunctionTakes}
+use Rattle.sf_expr.specs.Arena.{expression, node_at, name_at, literal_at, spot_at, pattern_at, body_at, function_at}
+use Rattle.sf_expr.specs.Typing.{Names, Fits, type_of_name, literal_kind, AllDifferent, AddsNames, HasType, FunctionTakes}
 
 -- The answer for an expression: its type, or a refusal, where it has none. Want of memory says nothing of it.
 abbrev pub Types : Names → Expression → Result Kind Refusal → Type 0
@@ -30,6 +31,7 @@ TypesFunction R f a (Err r) = OrMemory (λ _. (b : Kind) → FunctionTakes R f a
 -- The first rule that an expression breaks, and where: parts are looked at from left to right, and then the form itself.
 pub data Refused (x : Exprs) (R : Names) : ExprId → Breach → Type 0 where
   unknown_name : {i : ExprId} {n : NameId} → node_at x i ≡ nodes.Name n → type_of_name (name_at x n) R ≡ None → Refused x R i (breach_of UnknownName (spot_at x i))
+  literal_too_large : {i : ExprId} {n : ConstantId} → node_at x i ≡ nodes.Constant n → 256 < nodes_of (literal_kind (literal_at x n)) → Refused x R i (breach_of TypeTooLarge (spot_at x i))
   first_part : {i a b : ExprId} {r : Breach} → node_at x i ≡ nodes.Pair a b → Refused x R a r → Refused x R i r
   second_part : {i a b : ExprId} {t : Kind} {r : Breach} → node_at x i ≡ nodes.Pair a b → HasType R (expression x a) t → Refused x R b r → Refused x R i r
   pair_too_large : {i a b : ExprId} {t u : Kind}
@@ -43,6 +45,15 @@ pub data Refused (x : Exprs) (R : Names) : ExprId → Breach → Type 0 where
 abbrev pub Judges : Exprs → Names → ExprId → Result Kind Refusal → Type 0
 Judges x R i (Ok t) = HasType R (expression x i) t
 Judges x R i (Err r) = OrMemory (Refused x R i) r
+
+-- why a literal has no type, at a place
+abbrev pub LiteralRefused : Literal → Spot → Breach → Type 0
+LiteralRefused l at b = (b ≡ breach_of TypeTooLarge at) × (256 < nodes_of (literal_kind l))
+
+-- the answer for the type of a literal, at a place
+abbrev pub AnswersLiteral : Literal → Spot → Result Kind Refusal → Type 0
+AnswersLiteral l at (Ok t) = (t ≡ literal_kind l) × Fits t
+AnswersLiteral l at (Err r) = OrMemory (LiteralRefused l at) r
 
 -- why there is no type of pairs of two types, at a place
 abbrev pub PairRefused : Kind → Kind → Spot → Breach → Type 0

@@ -1,8 +1,8 @@
 -- The types of expressions.
 use Rattle.std.specs.Prelude.{◌≡◌, ◌≢◌, ◌≤◌, List, [], ◌∷◌, Option, Some, None, cond, bytes_eq, All, ⊤}
-use Rattle.sf_value.specs.Values.{Name, Kind, int_kind, pair_kind, nodes, HasKind}
+use Rattle.sf_value.specs.Values.{Name, Kind, unit_kind, bool_kind, int_kind, text_kind, pair_kind, event_kind, nodes, HasKind}
 use Rattle.sf_expr.specs.declared.operator.Operator.{Operator}
-use Rattle.sf_expr.specs.Expressions.{Pattern, unnamed, named, both, names_in, Literal, Expression, variable, literal, paired, operation, Function, function}
+use Rattle.sf_expr.specs.Expressions.{Pattern, unnamed, named, both, names_in, Literal, unit_literal, truth_literal, int_literal, text_literal, none_literal, Expression, variable, literal, paired, operation, Function, function}
 use Rattle.sf_expr.specs.Evaluation.{literal_value}
 
 -- The names that an expression may use with their types, the innermost first.
@@ -17,6 +17,14 @@ type_of_name x (r ∷ rs) = cond (bytes_eq x r.0) (Some r.1) (type_of_name x rs)
 -- a type that is met has at most 256 nodes
 abbrev pub Fits : Kind → Type 0
 Fits t = nodes t ≤ 256
+
+-- a literal's type
+abbrev pub literal_kind : Literal → Kind
+literal_kind unit_literal = unit_kind
+literal_kind (truth_literal b) = bool_kind
+literal_kind (int_literal z) = int_kind
+literal_kind (text_literal s) = text_kind
+literal_kind (none_literal t) = event_kind t
 
 -- all names are different
 abbrev pub AllDifferent : List Name → Type 0
@@ -37,7 +45,7 @@ pub record Binds (p : Pattern) (t : Kind) (R S : Names) : Type 0 where
 -- An expression has a type, where the names have types. Each type has at most 256 nodes.
 pub data HasType (R : Names) : Expression → Kind → Type 0 where
   variable_has : {x : Name} {t : Kind} → type_of_name x R ≡ Some t → Fits t → HasType R (variable x) t
-  literal_has : {l : Literal} {t : Kind} → HasKind (literal_value l) t → HasType R (literal l) t
+  literal_has : {l : Literal} → HasKind (literal_value l) (literal_kind l) → Fits (literal_kind l) → HasType R (literal l) (literal_kind l)
   pair_has : {i j : Expression} {t u : Kind} → HasType R i t → HasType R j u → Fits (pair_kind t u) → HasType R (paired i j) (pair_kind t u)
   operation_has : {i j : Expression} {op : Operator} → HasType R i int_kind → HasType R j int_kind → HasType R (operation i op j) int_kind
 

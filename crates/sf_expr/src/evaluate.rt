@@ -33,7 +33,10 @@ pub fn eval(alloc: Global, exprs: &Exprs, id: ExprId, scope: &Scope) -> Result<V
     ensures { Evaluates result (worth_of (expression exprs.now id) (scope_of scope.now)) }
 {
     match exprs.node(id) {
+        ExprNode::Unit => Ok(Value::unit()),
+        ExprNode::Truth(b) => Ok(Value::bool(b)),
         ExprNode::Int(n) => Ok(Value::int(n)),
+        ExprNode::Constant(constant) => Ok(exprs.constant_at(constant).value(alloc)?),
         ExprNode::Name(name) => match scope.value(exprs.name_of(name)) {
             Some(value) => Ok(value.clone_in(alloc)?),
             None => unreachable!(),

@@ -4,13 +4,15 @@ ghost use Rattle.sf_expr.specs.Expressions.{function as function_of};
 ghost use Rattle.sf_expr.specs.Expressions.{depth as depth_of, pattern_depth, function_depth as function_depth_of};
 ghost use Rattle.sf_expr.specs.Patterns.{placed_unnamed, pattern_of};
 ghost use Rattle.sf_arena.specs.Arenas.{entries_of};
-ghost use Rattle.sf_expr.specs.Entries.{IsArena, AreFunctions, has_narrow};
+ghost use Rattle.sf_expr.specs.Entries.{IsArena, AreFunctions, AreValued, none_of_unit, has_narrow};
 
+use crate::constant::Constant;
 use crate::operator::Operator;
 use crate::pat::Pat;
-use crate::stored::{StoredFunction, StoredName, clone_functions, clone_names};
+use crate::stored::{StoredFunction, StoredName, clone_constants, clone_functions, clone_names};
 use sf_arena::{Arena, ArenaRefusal};
 use sf_refusal::Spot;
+use sf_value::Ty;
 use std::alloc::{AllocError, Global};
 
 /// An expression in its arena.
@@ -21,6 +23,10 @@ pub struct ExprId(pub(crate) u32);
 #[derive(Clone, Copy, Debug, PartialEq, Eq)]
 pub struct NameId(usize);
 
+/// A constant in its arena.
+#[derive(Clone, Copy, Debug, PartialEq, Eq)]
+pub struct ConstantId(usize);
+
 /// A function in its arena.
 #[derive(Clone, Copy, Debug, PartialEq, Eq)]
 pub struct FunctionId(usize);
@@ -28,8 +34,14 @@ pub struct FunctionId(usize);
 /// An expression, whose parts are ids of expressions before it.
 #[derive(Clone, Copy, Debug, PartialEq, Eq)]
 pub enum ExprNode {
+    /// The only value of its type.
+    Unit,
+    /// True or false.
+    Truth(bool),
     /// A number.
     Int(i64),
+    /// A constant.
+    Constant(ConstantId),
     /// A name.
     Name(NameId),
     /// A pair of two expressions.
@@ -38,36 +50,43 @@ pub enum ExprNode {
     Operation(ExprId, Operator, ExprId),
 }
 
-/// Expressions, of at most 100,000 nodes, of which at most 64 stand one inside another, with their names, and functions
-/// of them.
+/// Expressions, of at most 100,000 nodes, of which at most 64 stand one inside another, with their names and
+/// constants, and functions of them.
 #[derive(Drop)]
 pub struct Exprs {
     arena: Arena<ExprNode>,
     names: Vec<StoredName>,
+    constants: Vec<Constant>,
     functions: Vec<StoredFunction>,
     unnamed: Pat,
-    ghost ordered: { IsArena names.items (entries_of arena) },
+    absent: Constant,
+    ghost ordered: { IsArena (record { names = names.items; literals = constants.items }) (entries_of arena) },
+    ghost valued: { AreValued constants.items },
     ghost closed: { AreFunctions (length (entries_of arena)) functions.items },
     ghost nothing: { unnamed ≡ placed_unnamed },
+    ghost none: { absent ≡ none_of_unit },
 }
 
 impl Exprs {
-    ghost use Rattle.sf_expr.specs.Arena.{count_of, function_count, name_count, Holds, HoldsFunction, expression, name_at, spot_at};
+    ghost use Rattle.sf_expr.specs.Arena.{count_of, function_count, name_count, constant_count, Holds, HoldsFunction, expression, name_at, literal_at, spot_at};
     ghost use Rattle.sf_expr.specs.Arena.{pattern_at, body_at, function_at, id_number, entry_of, node_at, expression_of};
-    ghost use Rattle.sf_expr.specs.Arena.{Builds, PartsBelow, HoldsParts, Adds, AddsName, AddsFunction, IsUnchanged, IsCopy};
+    ghost use Rattle.sf_expr.specs.Arena.{Builds, PartsBelow, HoldsParts, Adds, AddsName, AddsConstant, AddsFunction, IsUnchanged, IsCopy};
 
-    /// No expression, no name and no function.
-    #[tactic(auto, unfolding(crate::specs::Arena::count_of, crate::specs::Arena::function_count, crate::specs::Arena::name_count))]
+    /// No expression, no name, no constant and no function.
+    #[tactic(auto, unfolding(crate::specs::Arena::count_of, crate::specs::Arena::function_count, crate::specs::Arena::name_count, crate::specs::Arena::constant_count))]
     pub fn new(alloc: Global) -> Exprs
         ensures expressions { count_of result ≡ 0 }
         ensures functions { function_count result ≡ 0 }
         ensures names { name_count result ≡ 0 }
+        ensures constants { constant_count result ≡ 0 }
     {
         Exprs {
             arena: Arena::new(alloc),
             names: Vec::new(alloc),
+            constants: Vec::new(alloc),
             functions: Vec::new(alloc),
             unnamed: Pat::unnamed(),
+            absent: Constant::no_event(Ty::unit()),
         }
     }
 
@@ -108,7 +127,8 @@ impl Exprs {
         ensures narrow { IsTrue (has_narrow node) }
     {
         match node {
-            ExprNode::Int(_) | ExprNode::Name(_) => 1,
+            ExprNode::Unit | ExprNode::Truth(_) | ExprNode::Int(_) => 1,
+            ExprNode::Constant(_) | ExprNode::Name(_) => 1,
             ExprNode::Pair(first, second) | ExprNode::Operation(first, _, second) => {
                 1 + self.depth(first).max(self.depth(second))
             }
@@ -141,6 +161,17 @@ impl Exprs {
         let number = self.names.len();
         self.names.push(StoredName::new(name))?;
         Ok(NameId(number))
+    }
+
+    /// Adds a constant, which counts as no expression. A refused call changes nothing.
+    pub fn constant(&mut self, constant: Constant) -> Result<ConstantId, AllocError>
+        ensures ok { IfOk result (λ n. AddsConstant self.old self.new n constant) }
+        ensures err { OnErr result (IsUnchanged self.old self.new) }
+    {
+        let number = self.constants.len();
+        let _valued = constant.form();
+        self.constants.push(constant)?;
+        Ok(ConstantId(number))
     }
 
     /// Adds a function, which counts as no expression. Refused with `TooDeep` where more than 64 patterns or
@@ -188,6 +219,17 @@ impl Exprs {
         }
     }
 
+    /// The constant at an id of constants; no event of the type with one value at an id that the arena does not hold.
+    #[tactic(auto, unfolding(crate::specs::Arena::literal_at))]
+    pub fn constant_at(&self, constant: ConstantId) -> &Constant
+        ensures { result.now ≡ literal_at self.now constant }
+    {
+        match self.constants.get(constant.0) {
+            Some(constant) => constant,
+            None => &self.absent,
+        }
+    }
+
     /// Where the expression at an id stands in the text; `Spot::NONE` at an id that the arena does not hold.
     #[tactic(auto, unfolding(crate::specs::Arena::spot_at))]
     pub fn spot(&self, id: ExprId) -> Spot
@@ -222,18 +264,21 @@ impl Exprs {
         }
     }
 
-    /// A copy, with the same expressions, names and functions at the same ids.
+    /// A copy, with the same expressions, names, constants and functions at the same ids.
     pub fn clone_in(&self, alloc: Global) -> Result<Exprs, AllocError>
         ensures { IfOk result (λ copy. IsCopy self.now copy) }
     {
         let arena = self.arena.clone_in(alloc)?;
         let names = clone_names(alloc, &self.names)?;
+        let constants = clone_constants(alloc, &self.constants)?;
         let functions = clone_functions(alloc, &self.functions)?;
         Ok(Exprs {
             arena,
             names,
+            constants,
             functions,
             unnamed: Pat::unnamed(),
+            absent: Constant::no_event(Ty::unit()),
         })
     }
 }

@@ -2,6 +2,7 @@
 #![tactic(auto)]
 
 mod arithmetic;
+mod constant;
 mod evaluate;
 mod exprs;
 mod fault;
@@ -10,13 +11,12 @@ mod operator;
 mod pat;
 mod scope;
 mod stored;
-#[cfg(test)]
-mod tests;
 mod typed_name;
 mod typing;
 
+pub use constant::{Constant, ConstantForm};
 pub use evaluate::{apply, eval};
-pub use exprs::{ExprId, ExprNode, Exprs, FunctionId, NameId};
+pub use exprs::{ConstantId, ExprId, ExprNode, Exprs, FunctionId, NameId};
 pub use fault::EvalFault;
 pub use laws::{floor_division, found_type, one_refusal, some_type, typed_expression};
 pub use operator::Operator;

@@ -51,7 +51,7 @@ impl<'a> Scope<'a> {
                     self.bind(first, left)?;
                     self.bind(second, right)?;
                 }
-                Form::Int(_) => unreachable!(),
+                _ => unreachable!(),
             },
         }
         Ok(())

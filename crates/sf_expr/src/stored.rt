@@ -1,6 +1,7 @@
-//! The names and the functions that an arena of expressions stores.
+//! The names, the constants and the functions that an arena of expressions stores.
 ghost use Rattle.std.specs.Prelude.{◌≡◌, IfOk, string_bytes};
 
+use crate::constant::Constant;
 use crate::exprs::ExprId;
 use crate::pat::Pat;
 use std::alloc::{AllocError, Global};
@@ -71,6 +72,20 @@ pub(crate) fn clone_names(
     let mut copies = Vec::new(alloc);
     for name in names {
         copies.push(name.clone_in(alloc)?)?;
+    }
+    Ok(copies)
+}
+
+/// Copies of constants, in order.
+pub(crate) fn clone_constants(
+    alloc: Global,
+    constants: &[Constant],
+) -> Result<Vec<Constant>, AllocError>
+    ensures { IfOk result (λ copies. copies.items ≡ constants.now) }
+{
+    let mut copies = Vec::new(alloc);
+    for constant in constants {
+        copies.push(constant.clone_in(alloc)?)?;
     }
     Ok(copies)
 }

@@ -2,13 +2,15 @@
 ghost use Rattle.std.specs.Prelude.{◌≡◌, ◌++◌, [], ◌↔◌, IsTrue, OnOk, IfOk, IfSome, IfNone, IfErr, Contains};
 ghost use Rattle.sf_value.specs.Values.{int_kind};
 ghost use Rattle.sf_expr.specs.Typing.{Fits, AddsNames, AllDifferent, type_of_name};
-ghost use Rattle.sf_expr.specs.Expressions.{names_in};
+ghost use Rattle.sf_expr.specs.Expressions.{names_in, none_literal};
+ghost use Rattle.sf_expr.specs.Inference.{is_valued};
 ghost use Rattle.sf_expr.specs.Arena.{expression, function_at, pattern_at};
 ghost use Rattle.sf_expr.specs.Patterns.{pattern_of};
 ghost use Rattle.sf_expr.specs.Scopes.{names_of, names_seen};
-ghost use Rattle.sf_expr.specs.Refusals.{Types, TypesFunction, Judges, JudgesFunction, AnswersPair, BindRefused, RepeatRefused};
+ghost use Rattle.sf_expr.specs.Refusals.{Types, TypesFunction, Judges, JudgesFunction, AnswersPair, AnswersLiteral, BindRefused, RepeatRefused};
 ghost use Rattle.sf_refusal.specs.Refusals.{OrMemory};
 
+use crate::constant::{Constant, ConstantForm};
 use crate::exprs::{ExprId, ExprNode, Exprs, FunctionId};
 use crate::pat::{Pat, PatForm};
 use crate::typed_name::TypedName;
@@ -70,18 +72,18 @@ impl<'a> TypeScope<'a> {
         ensures err { IfErr result (OrMemory (BindRefused (pattern_of pattern.now) ty.now at)) }
         ensures fits { Fits ty.now }
     {
-        match (pattern.form(), ty.form()) {
+        match (pattern.form(), ty.parts()) {
             (PatForm::Unnamed, _) => Ok(()),
             (PatForm::Name(name, _), _) => {
                 let name = name.as_str();
                 self.names.push(Some(TypedName { name, ty }))?;
                 Ok(())
             }
-            (PatForm::Both(first, second), TyForm::Pair(left, right)) => {
+            (PatForm::Both(first, second), Some((left, right))) => {
                 self.bind(first, left, at)?;
                 self.bind(second, right, at)
             }
-            (PatForm::Both(_, _), TyForm::Int) => Err(Refusal::broken(Rule::Mismatch, at)),
+            (PatForm::Both(_, _), None) => Err(Refusal::broken(Rule::Mismatch, at)),
         }
     }
 }
@@ -125,6 +127,17 @@ fn are_numbers(left: &Ty, right: &Ty) -> bool
     matches!((left.form(), right.form()), (TyForm::Int, TyForm::Int))
 }
 
+/// The type of events of a type; refused with `TypeTooLarge` at `at` where it would be made of more than 256 types.
+fn event_type(alloc: Global, payload: Ty, at: Spot) -> Result<Ty, Refusal>
+    ensures { AnswersLiteral (none_literal payload) at result }
+{
+    match Ty::event(alloc, payload) {
+        Ok(event) => Ok(event),
+        Err(TyRefusal::TypeTooLarge) => Err(Refusal::broken(Rule::TypeTooLarge, at)),
+        Err(TyRefusal::Memory) => Err(Refusal::Memory),
+    }
+}
+
 /// The type of pairs of two types; refused with `TypeTooLarge` at `at` where it would be made of more than 256 types.
 pub fn pair_type(alloc: Global, first: Ty, second: Ty, at: Spot) -> Result<Ty, Refusal>
     ensures { AnswersPair first second at result }
@@ -136,12 +149,28 @@ pub fn pair_type(alloc: Global, first: Ty, second: Ty, at: Spot) -> Result<Ty, R
     }
 }
 
+/// The type of a constant; refused with `TypeTooLarge` at `at` where it would be made of more than 256 types.
+fn constant_type(alloc: Global, constant: &Constant, at: Spot) -> Result<Ty, Refusal>
+    ensures answers { AnswersLiteral constant.now at result }
+    ensures valued { IsTrue (is_valued constant.now) }
+{
+    match constant.form() {
+        ConstantForm::Text(_) => Ok(Ty::text()),
+        ConstantForm::NoEvent(payload) => event_type(alloc, payload.clone_in(alloc)?, at),
+    }
+}
+
 /// The type of an expression, or the first refusal, parts first.
 fn judge(alloc: Global, exprs: &Exprs, id: ExprId, names: &TypeScope) -> Result<Ty, Refusal>
     ensures { Judges exprs.now (names_of names.now) id result }
 {
     match exprs.node(id) {
+        ExprNode::Unit => Ok(Ty::unit()),
+        ExprNode::Truth(_) => Ok(Ty::bool()),
         ExprNode::Int(_) => Ok(Ty::int()),
+        ExprNode::Constant(constant) => {
+            constant_type(alloc, exprs.constant_at(constant), exprs.spot(id))
+        }
         ExprNode::Name(name) => match names.ty(exprs.name_of(name)) {
             Some(ty) => Ok(ty.clone_in(alloc)?),
             None => Err(Refusal::broken(Rule::UnknownName, exprs.spot(id))),

@@ -6,8 +6,6 @@ mod function;
 mod numbers;
 mod registry;
 mod stored;
-#[cfg(test)]
-mod tests;
 
 pub use closure::{Int1, Int2, OnNumber, OnNumbers};
 pub use function::{Function, FunctionFault};

@@ -1,32 +1,57 @@
 -- What is spelled within the limits is read again, whatever follows.
-use Rattle.std.proofs.Common.{◌≡◌, ℕ, zero, suc, ◌+◌, ◌≤◌, List, [], ◌∷◌, ◌++◌, refl, ◌∙◌, ap, append_assoc, arith}
-use Rattle.sf_value.specs.Values.{Kind, int_kind, pair_kind, nodes}
-use Rattle.sf_expr.specs.Expressions.{Pattern, unnamed, named, both, pattern_depth, Expression, variable, literal, int_literal, paired, operation, depth as expression_depth, size, Function, function, function_depth, function_size}
+use Rattle.std.proofs.Common.{◌≡◌, ℕ, zero, suc, ◌+◌, ◌≤◌, true, false, Option, List, [], ◌∷◌, ◌++◌, refl, ◌∙◌, ap, append_assoc, arith}
+use Rattle.sf_value.specs.Values.{KeyKind, Kind, unit_kind, bool_kind, int_kind, text_kind, pair_kind, event_kind, table_kind, nodes}
+use Rattle.sf_expr.specs.Expressions.{Pattern, unnamed, named, both, pattern_depth, Literal, unit_literal, truth_literal, int_literal, text_literal, none_literal, Expression, variable, literal, paired, operation, depth as expression_depth, size, Function, function, function_depth, function_size}
 use Rattle.sf_term.specs.Trees.{bare, with_value, arrow, fused, Term, primitive, joined, sided, headed, staged, Template, term_depth, terms_in, expressions_in}
 use Rattle.sf_lex.specs.declared.word.Keyword.TheVariants as words
 use Rattle.sf_lex.specs.declared.symbol.Symbol.TheVariants as symbols
-use Rattle.sf_lex.specs.Tokens.{Tok, keyword, name, number, symbol}
+use Rattle.sf_lex.specs.Tokens.{Tok, keyword, name, number, text, symbol}
+use Rattle.sf_grammar.specs.declared.ty.Version.{Version}
 use Rattle.sf_grammar.specs.declared.head.Head.TheVariants as heads
 use Rattle.sf_grammar.specs.declared.head.Link.{Link}
 use Rattle.sf_grammar.specs.declared.head.Link.TheVariants as links
-use Rattle.sf_grammar.specs.Spelling.{spell_type, spell_pattern, spell_expression, spell_function, spell_term, spell_signature, spell_template, bare_word, value_word, side_word, heading_word, join_symbol, in_brackets, type_depth, HasSmallTypes}
-use Rattle.sf_grammar.specs.Reading.{got, Counts, counts_with, counts_with_expression, parse_symbol, parse_inner_type, parse_pair_type, parse_pattern, parse_pattern_pair, parse_link, linked, parse_linked, parse_expression, expression_read, parse_function, parse_join, parse_term, term_read, parse_joined, parse_value, parse_arrow, parse_sided, parse_headed, parse_heading, parse_signature, parse_template}
-use Rattle.sf_grammar.proofs.Words.{head_again, join_again, link_again, link_token}
+use Rattle.sf_grammar.specs.Spelling.{spell_keys, spell_type, spell_pattern, spell_literal, spell_expression, spell_function, spell_term, spell_signature, spell_template, bare_word, value_word, side_word, heading_word, join_symbol, in_brackets, type_depth, WritesType, WritesExpression, WritesFunction, WritesTerm, HasWrittenTypes}
+use Rattle.sf_grammar.specs.Reading.{Read, got, ◌and_then◌, Counts, counts_with, counts_with_expression, parse_symbol, parse_keys, parse_outer_type, parse_inner_type, parse_pair_type, parse_pattern, parse_pattern_pair, parse_link, linked, parse_linked, bracketed_from, parse_none, parse_expression, expression_read, parse_function, parse_join, parse_term, term_read, parse_joined, parse_value, parse_arrow, parse_sided, parse_headed, parse_heading, parse_signature, parse_template}
+use Rattle.sf_grammar.proofs.Words.{head_again, join_again, link_again, link_token, keys_again, no_close}
 use Rattle.sf_grammar.proofs.Parts.{within, type_within, brackets_behind, parts_again}
 
-pub inner_type_again : (k : Kind) (d : ℕ) (start : List Tok) (met : ℕ) (rest : List Tok) → type_depth k ≤ d → met + nodes k ≤ 256 → parse_inner_type d start met (spell_type k ++ rest) ≡ got k rest
+-- a type that is made of one part
+outer_type_again : (v : Version) (t : Kind) (d : ℕ) (start : List Tok) (whole : Kind → Kind) (met : ℕ) (rest : List Tok) → parse_inner_type d v start (met + 1) (spell_type v t ++ rest) ≡ got t rest
+    → parse_outer_type (parse_inner_type d v start) whole met (spell_type v t ++ rest) ≡ got (whole t) rest
+unfolding parse_outer_type
+outer_type_again v t d start whole met rest part = rw part refl
+
+pub inner_type_again : (v : Version) (k : Kind) (d : ℕ) (start : List Tok) (met : ℕ) (rest : List Tok) → type_depth k ≤ d → met + nodes k ≤ 256 → WritesType v k
+    → parse_inner_type d v start met (spell_type v k ++ rest) ≡ got k rest
 unfolding parse_inner_type parse_pair_type
-inner_type_again int_kind zero start met rest deep few = absurd (omega arith)
-inner_type_again (pair_kind t u) zero start met rest deep few = absurd (omega arith)
-inner_type_again int_kind (suc d) start met rest deep few = type_within met start (got int_kind rest) (omega arith)
-inner_type_again (pair_kind t u) (suc d) start met rest deep few =
-    let behind : List Tok = spell_type u ++ (symbol symbols.Close ∷ rest) in
-    ap (λ (r : List Tok). parse_inner_type (suc d) start met (symbol symbols.Open ∷ r)) (brackets_behind (spell_type t) (spell_type u) rest (symbol symbols.Comma))
-    ∙ type_within met start (parse_pair_type (parse_inner_type d start) met (spell_type t ++ (symbol symbols.Comma ∷ behind))) (omega arith)
-    ∙ parts_again (parse_inner_type d start (met + 1)) (parse_symbol symbols.Comma) (λ t. parse_inner_type d start (met + 1 + nodes t)) (λ t _ u rest. got (pair_kind t u) rest) t tt u
-    (spell_type t ++ (symbol symbols.Comma ∷ behind)) (symbol symbols.Comma ∷ behind) behind rest
-    (inner_type_again t d start (met + 1) (symbol symbols.Comma ∷ behind) (omega arith) (omega arith)) refl
-    (inner_type_again u d start (met + 1 + nodes t) (symbol symbols.Close ∷ rest) (omega arith) (omega arith))
+inner_type_again v unit_kind zero start met rest deep few known = absurd (omega arith)
+inner_type_again v bool_kind zero start met rest deep few known = absurd (omega arith)
+inner_type_again v int_kind zero start met rest deep few known = absurd (omega arith)
+inner_type_again v text_kind zero start met rest deep few known = absurd (omega arith)
+inner_type_again v (pair_kind t u) zero start met rest deep few known = absurd (omega arith)
+inner_type_again v (event_kind t) zero start met rest deep few known = absurd (omega arith)
+inner_type_again v (table_kind k t) zero start met rest deep few known = absurd (omega arith)
+inner_type_again v unit_kind (suc d) start met rest deep few known = type_within met start (got unit_kind rest) (omega arith)
+inner_type_again v bool_kind (suc d) start met rest deep few known = type_within met start (got bool_kind rest) (omega arith)
+inner_type_again v int_kind (suc d) start met rest deep few known = type_within met start (got int_kind rest) (omega arith)
+inner_type_again v text_kind (suc d) start met rest deep few known = type_within met start (got text_kind rest) (omega arith)
+inner_type_again v (pair_kind t u) (suc d) start met rest deep few known =
+    let behind : List Tok = spell_type v u ++ (symbol symbols.Close ∷ rest) in
+    ap (λ (r : List Tok). parse_inner_type (suc d) v start met (symbol symbols.Open ∷ r)) (brackets_behind (spell_type v t) (spell_type v u) rest (symbol symbols.Comma))
+    ∙ type_within met start (parse_pair_type (parse_inner_type d v start) met (spell_type v t ++ (symbol symbols.Comma ∷ behind))) (omega arith)
+    ∙ parts_again (parse_inner_type d v start (met + 1)) (parse_symbol symbols.Comma) (λ t. parse_inner_type d v start (met + 1 + nodes t)) (λ t _ u rest. got (pair_kind t u) rest) t tt u
+    (spell_type v t ++ (symbol symbols.Comma ∷ behind)) (symbol symbols.Comma ∷ behind) behind rest
+    (inner_type_again v t d start (met + 1) (symbol symbols.Comma ∷ behind) (omega arith) (omega arith) known.0) refl
+    (inner_type_again v u d start (met + 1 + nodes t) (symbol symbols.Close ∷ rest) (omega arith) (omega arith) known.1)
+inner_type_again v (event_kind t) (suc d) start met rest deep few known =
+    type_within met start (parse_outer_type (parse_inner_type d v start) event_kind met (spell_type v t ++ rest)) (omega arith)
+    ∙ outer_type_again v t d start event_kind met rest (inner_type_again v t d start (met + 1) rest (omega arith) (omega arith) known)
+inner_type_again v (table_kind k t) (suc d) start met rest deep few known =
+    let keyed : List Tok → Read Kind = λ r. parse_keys v r and_then λ k r. parse_outer_type (parse_inner_type d v start) (table_kind k) met r in
+    type_within met start (keyed ((spell_keys v k ++ spell_type v t) ++ rest)) (omega arith)
+    ∙ ap keyed (append_assoc (spell_keys v k) (spell_type v t) rest)
+    ∙ ap (λ (read : Read KeyKind). read and_then λ k r. parse_outer_type (parse_inner_type d v start) (table_kind k) met r) (keys_again v k (spell_type v t ++ rest) known.0)
+    ∙ outer_type_again v t d start (table_kind k) met rest (inner_type_again v t d start (met + 1) rest (omega arith) (omega arith) known.1)
 
 pub pattern_again : (p : Pattern) (d : ℕ) (rest : List Tok) → pattern_depth p ≤ d → parse_pattern d (spell_pattern p ++ rest) ≡ got p rest
 unfolding parse_pattern parse_pattern_pair
@@ -46,107 +71,122 @@ link_at_again : (l : Link) (rest : List Tok) → parse_link (link_token l ∷ re
 link_at_again l rest = rw (link_again l) refl
 
 -- two expressions in brackets
-linked_again : (l : Link) (e f : Expression) (d : ℕ) (c : Counts) (rest : List Tok)
-    → ((rest : List Tok) → parse_expression d c (spell_expression e ++ rest) ≡ got e rest)
-    → ((rest : List Tok) → parse_expression d (counts_with_expression c e) (spell_expression f ++ rest) ≡ got f rest)
+linked_again : (v : Version) (l : Link) (e f : Expression) (d : ℕ) (c : Counts) (rest : List Tok)
+    → ((rest : List Tok) → parse_expression d v c (spell_expression v e ++ rest) ≡ got e rest)
+    → ((rest : List Tok) → parse_expression d v (counts_with_expression c e) (spell_expression v f ++ rest) ≡ got f rest)
     → c.expressions + size (linked l e f) ≤ 100000
-    → parse_expression (suc d) c (in_brackets (spell_expression e) (link_token l) (spell_expression f) ++ rest) ≡ got (linked l e f) rest
+    → parse_expression (suc d) v c (in_brackets (spell_expression v e) (link_token l) (spell_expression v f) ++ rest) ≡ got (linked l e f) rest
 unfolding parse_expression parse_linked
-linked_again l e f d c rest one two few =
-    let behind : List Tok = spell_expression f ++ (symbol symbols.Close ∷ rest) in
-    let start : List Tok = symbol symbols.Open ∷ (spell_expression e ++ (link_token l ∷ behind)) in
-    ap (λ (r : List Tok). parse_expression (suc d) c (symbol symbols.Open ∷ r)) (brackets_behind (spell_expression e) (spell_expression f) rest (link_token l))
-    ∙ parts_again (parse_expression d c) parse_link (λ e. parse_expression d (counts_with_expression c e)) (λ e l f rest. expression_read c (linked l e f) start rest) e l f
-    (spell_expression e ++ (link_token l ∷ behind)) (link_token l ∷ behind) behind rest
+linked_again v l e f d c rest one two few =
+    let behind : List Tok = spell_expression v f ++ (symbol symbols.Close ∷ rest) in
+    let tokens : List Tok = spell_expression v e ++ (link_token l ∷ behind) in
+    let start : List Tok = symbol symbols.Open ∷ tokens in
+    ap (λ (r : List Tok). parse_expression (suc d) v c (symbol symbols.Open ∷ r)) (brackets_behind (spell_expression v e) (spell_expression v f) rest (link_token l))
+    ∙ ap (λ (o : Option (List Tok)). bracketed_from (parse_expression d v) c o start tokens) (no_close v e (link_token l ∷ behind))
+    ∙ parts_again (parse_expression d v c) parse_link (λ e. parse_expression d v (counts_with_expression c e)) (λ e l f rest. expression_read c (linked l e f) start rest) e l f
+    tokens (link_token l ∷ behind) behind rest
     (one (link_token l ∷ behind)) (link_at_again l behind) (two (symbol symbols.Close ∷ rest))
     ∙ within (c.expressions + size (linked l e f)) (linked l e f) start rest few
 
-pub expression_again : (e : Expression) (d : ℕ) (c : Counts) (rest : List Tok) → expression_depth e ≤ d → c.expressions + size e ≤ 100000
-    → parse_expression d c (spell_expression e ++ rest) ≡ got e rest
-unfolding parse_expression
-expression_again (variable n) zero c rest deep few = absurd (omega arith)
-expression_again (literal (int_literal z)) zero c rest deep few = absurd (omega arith)
-expression_again (paired e f) zero c rest deep few = absurd (omega arith)
-expression_again (operation e o f) zero c rest deep few = absurd (omega arith)
-expression_again (variable n) (suc d) c rest deep few = within (c.expressions + 1) (variable n) (name n ∷ rest) rest few
-expression_again (literal (int_literal z)) (suc d) c rest deep few = within (c.expressions + 1) (literal (int_literal z)) (number z ∷ rest) rest few
-expression_again (paired e f) (suc d) c rest deep few =
-    linked_again links.Pair e f d c rest (λ rest. expression_again e d c rest (omega arith) (omega arith))
-    (λ rest. expression_again f d (counts_with_expression c e) rest (omega arith) (omega arith)) few
-expression_again (operation e o f) (suc d) c rest deep few =
-    linked_again (links.Operation o) e f d c rest (λ rest. expression_again e d c rest (omega arith) (omega arith))
-    (λ rest. expression_again f d (counts_with_expression c e) rest (omega arith) (omega arith)) few
+-- a literal
+literal_again : (v : Version) (l : Literal) (d : ℕ) (c : Counts) (rest : List Tok) → c.expressions + 1 ≤ 100000 → WritesExpression v (suc d) (literal l)
+    → parse_expression (suc d) v c (spell_literal v l ++ rest) ≡ got (literal l) rest
+unfolding parse_expression parse_none
+literal_again v unit_literal d c rest few known = within (c.expressions + 1) (literal unit_literal) (symbol symbols.Open ∷ symbol symbols.Close ∷ rest) rest few
+literal_again v (truth_literal true) d c rest few known = within (c.expressions + 1) (literal (truth_literal true)) (keyword words.True ∷ rest) rest few
+literal_again v (truth_literal false) d c rest few known = within (c.expressions + 1) (literal (truth_literal false)) (keyword words.False ∷ rest) rest few
+literal_again v (int_literal z) d c rest few known = within (c.expressions + 1) (literal (int_literal z)) (number z ∷ rest) rest few
+literal_again v (text_literal s) d c rest few known = within (c.expressions + 1) (literal (text_literal s)) (text s ∷ rest) rest few
+literal_again v (none_literal t) d c rest few known =
+    rw (inner_type_again v t d (spell_type v t ++ rest) 0 rest known.shallow (omega (arith, known.few)) known.known)
+    (within (c.expressions + 1) (literal (none_literal t)) (keyword words.NoEvent ∷ (spell_type v t ++ rest)) rest few)
 
-pub function_again : (f : Function) (d : ℕ) (c : Counts) (rest : List Tok) → function_depth f ≤ d → c.expressions + function_size f ≤ 100000
-    → parse_function d c (spell_function f ++ rest) ≡ got f rest
+pub expression_again : (v : Version) (e : Expression) (d : ℕ) (c : Counts) (rest : List Tok) → expression_depth e ≤ d → c.expressions + size e ≤ 100000 → WritesExpression v d e
+    → parse_expression d v c (spell_expression v e ++ rest) ≡ got e rest
+unfolding parse_expression
+expression_again v (variable n) zero c rest deep few known = absurd (omega arith)
+expression_again v (literal l) zero c rest deep few known = absurd (omega arith)
+expression_again v (paired e f) zero c rest deep few known = absurd (omega arith)
+expression_again v (operation e o f) zero c rest deep few known = absurd (omega arith)
+expression_again v (variable n) (suc d) c rest deep few known = within (c.expressions + 1) (variable n) (name n ∷ rest) rest few
+expression_again v (literal l) (suc d) c rest deep few known = literal_again v l d c rest few known
+expression_again v (paired e f) (suc d) c rest deep few known =
+    linked_again v links.Pair e f d c rest (λ rest. expression_again v e d c rest (omega arith) (omega arith) known.0)
+    (λ rest. expression_again v f d (counts_with_expression c e) rest (omega arith) (omega arith) known.1) few
+expression_again v (operation e o f) (suc d) c rest deep few known =
+    linked_again v (links.Operation o) e f d c rest (λ rest. expression_again v e d c rest (omega arith) (omega arith) known.0)
+    (λ rest. expression_again v f d (counts_with_expression c e) rest (omega arith) (omega arith) known.1) few
+
+pub function_again : (v : Version) (f : Function) (d : ℕ) (c : Counts) (rest : List Tok) → function_depth f ≤ d → c.expressions + function_size f ≤ 100000 → WritesFunction v d f
+    → parse_function d v c (spell_function v f ++ rest) ≡ got f rest
 unfolding parse_function
-function_again (function p e) d c rest deep few =
+function_again v (function p e) d c rest deep few known =
     rw (
-      append_assoc (spell_pattern p) (symbol symbols.MapsTo ∷ spell_expression e) rest,
-      pattern_again p d (symbol symbols.MapsTo ∷ (spell_expression e ++ rest)) (omega arith),
-      expression_again e d c rest (omega arith) few,
+      append_assoc (spell_pattern p) (symbol symbols.MapsTo ∷ spell_expression v e) rest,
+      pattern_again p d (symbol symbols.MapsTo ∷ (spell_expression v e ++ rest)) (omega arith),
+      expression_again v e d c rest (omega arith) few known,
     ) refl
 
-pub term_again : (t : Term) (d : ℕ) (c : Counts) (rest : List Tok) → d ≤ 64 → term_depth t ≤ d → c.terms + terms_in t ≤ 100000 → c.expressions + expressions_in t ≤ 100000
-    → parse_term d c (spell_term t ++ rest) ≡ got t rest
+pub term_again : (v : Version) (t : Term) (d : ℕ) (c : Counts) (rest : List Tok) → d ≤ 64 → term_depth t ≤ d → c.terms + terms_in t ≤ 100000 → c.expressions + expressions_in t ≤ 100000 → WritesTerm v d t
+    → parse_term d v c (spell_term v t ++ rest) ≡ got t rest
 unfolding parse_term parse_joined parse_value parse_arrow parse_sided parse_headed
-term_again (primitive (bare b)) zero c rest small deep few_terms few_expressions = absurd (omega arith)
-term_again (primitive (with_value v e)) zero c rest small deep few_terms few_expressions = absurd (omega arith)
-term_again (primitive (arrow f)) zero c rest small deep few_terms few_expressions = absurd (omega arith)
-term_again (primitive (fused f)) d c rest small deep few_terms few_expressions = absurd (omega (arith, small, deep))
-term_again (staged x f g) d c rest small deep few_terms few_expressions = absurd (omega (arith, small, deep))
-term_again (joined j f g) zero c rest small deep few_terms few_expressions = absurd (omega arith)
-term_again (sided s f) zero c rest small deep few_terms few_expressions = absurd (omega arith)
-term_again (headed h e f) zero c rest small deep few_terms few_expressions = absurd (omega arith)
-term_again (primitive (bare b)) (suc d) c rest small deep few_terms few_expressions =
+term_again v (primitive (bare b)) zero c rest small deep few_terms few_expressions known = absurd (omega arith)
+term_again v (primitive (with_value k e)) zero c rest small deep few_terms few_expressions known = absurd (omega arith)
+term_again v (primitive (arrow f)) zero c rest small deep few_terms few_expressions known = absurd (omega arith)
+term_again v (primitive (fused f)) d c rest small deep few_terms few_expressions known = absurd (omega (arith, small, deep))
+term_again v (staged x f g) d c rest small deep few_terms few_expressions known = absurd (omega (arith, small, deep))
+term_again v (joined j f g) zero c rest small deep few_terms few_expressions known = absurd (omega arith)
+term_again v (sided s f) zero c rest small deep few_terms few_expressions known = absurd (omega arith)
+term_again v (headed h e f) zero c rest small deep few_terms few_expressions known = absurd (omega arith)
+term_again v (primitive (bare b)) (suc d) c rest small deep few_terms few_expressions known =
     rw (head_again (heads.Bare b)) (within (c.terms + 1) (primitive (bare b)) (keyword (bare_word b) ∷ rest) rest few_terms)
-term_again (primitive (with_value v e)) (suc d) c rest small deep few_terms few_expressions =
-    rw (head_again (heads.WithValue v), expression_again e d c rest (omega arith) few_expressions)
-    (within (c.terms + 1) (primitive (with_value v e)) (keyword (value_word v) ∷ (spell_expression e ++ rest)) rest few_terms)
-term_again (primitive (arrow f)) (suc d) c rest small deep few_terms few_expressions =
-    rw (function_again f d c rest (omega arith) few_expressions)
-    (within (c.terms + 1) (primitive (arrow f)) (keyword words.Arr ∷ (spell_function f ++ rest)) rest few_terms)
-term_again (joined j f g) (suc d) c rest small deep few_terms few_expressions =
-    let behind : List Tok = spell_term g ++ (symbol symbols.Close ∷ rest) in
-    let start : List Tok = symbol symbols.Open ∷ (spell_term f ++ (symbol (join_symbol j) ∷ behind)) in
-    ap (λ (r : List Tok). parse_term (suc d) c (symbol symbols.Open ∷ r)) (brackets_behind (spell_term f) (spell_term g) rest (symbol (join_symbol j)))
-    ∙ parts_again (parse_term d c) parse_join (λ f. parse_term d (counts_with c f)) (λ f j g rest. term_read c (joined j f g) start rest) f j g
-    (spell_term f ++ (symbol (join_symbol j) ∷ behind)) (symbol (join_symbol j) ∷ behind) behind rest
-    (term_again f d c (symbol (join_symbol j) ∷ behind) (omega arith) (omega arith) (omega arith) (omega arith)) (rw (join_again j) refl)
-    (term_again g d (counts_with c f) (symbol symbols.Close ∷ rest) (omega arith) (omega arith) (omega arith) (omega arith))
+term_again v (primitive (with_value k e)) (suc d) c rest small deep few_terms few_expressions known =
+    rw (head_again (heads.WithValue k), expression_again v e d c rest (omega arith) few_expressions known)
+    (within (c.terms + 1) (primitive (with_value k e)) (keyword (value_word k) ∷ (spell_expression v e ++ rest)) rest few_terms)
+term_again v (primitive (arrow f)) (suc d) c rest small deep few_terms few_expressions known =
+    rw (function_again v f d c rest (omega arith) few_expressions known)
+    (within (c.terms + 1) (primitive (arrow f)) (keyword words.Arr ∷ (spell_function v f ++ rest)) rest few_terms)
+term_again v (joined j f g) (suc d) c rest small deep few_terms few_expressions known =
+    let behind : List Tok = spell_term v g ++ (symbol symbols.Close ∷ rest) in
+    let start : List Tok = symbol symbols.Open ∷ (spell_term v f ++ (symbol (join_symbol j) ∷ behind)) in
+    ap (λ (r : List Tok). parse_term (suc d) v c (symbol symbols.Open ∷ r)) (brackets_behind (spell_term v f) (spell_term v g) rest (symbol (join_symbol j)))
+    ∙ parts_again (parse_term d v c) parse_join (λ f. parse_term d v (counts_with c f)) (λ f j g rest. term_read c (joined j f g) start rest) f j g
+    (spell_term v f ++ (symbol (join_symbol j) ∷ behind)) (symbol (join_symbol j) ∷ behind) behind rest
+    (term_again v f d c (symbol (join_symbol j) ∷ behind) (omega arith) (omega arith) (omega arith) (omega arith) known.0) (rw (join_again j) refl)
+    (term_again v g d (counts_with c f) (symbol symbols.Close ∷ rest) (omega arith) (omega arith) (omega arith) (omega arith) known.1)
     ∙ within (c.terms + terms_in (joined j f g)) (joined j f g) start rest few_terms
-term_again (sided s f) (suc d) c rest small deep few_terms few_expressions =
-    rw (head_again (heads.Sided s), term_again f d c rest (omega arith) (omega arith) (omega arith) (omega arith))
-    (within (c.terms + terms_in (sided s f)) (sided s f) (keyword (side_word s) ∷ (spell_term f ++ rest)) rest few_terms)
-term_again (headed h e f) (suc d) c rest small deep few_terms few_expressions =
-    let behind : List Tok = spell_term f ++ (symbol symbols.Close ∷ rest) in
-    let start : List Tok = keyword (heading_word h) ∷ symbol symbols.Open ∷ (spell_expression e ++ (symbol symbols.Comma ∷ behind)) in
-    ap (λ (r : List Tok). parse_term (suc d) c (keyword (heading_word h) ∷ symbol symbols.Open ∷ r)) (brackets_behind (spell_expression e) (spell_term f) rest (symbol symbols.Comma))
-    ∙ rw (head_again (heads.Headed h)) (parts_again (parse_expression d c) (parse_symbol symbols.Comma) (λ e. parse_term d (counts_with_expression c e)) (λ e _ f rest. term_read c (headed h e f) start rest) e tt f
-    (spell_expression e ++ (symbol symbols.Comma ∷ behind)) (symbol symbols.Comma ∷ behind) behind rest
-    (expression_again e d c (symbol symbols.Comma ∷ behind) (omega arith) (omega arith)) refl
-    (term_again f d (counts_with_expression c e) (symbol symbols.Close ∷ rest) (omega arith) (omega arith) (omega arith) (omega arith)))
+term_again v (sided s f) (suc d) c rest small deep few_terms few_expressions known =
+    rw (head_again (heads.Sided s), term_again v f d c rest (omega arith) (omega arith) (omega arith) (omega arith) known)
+    (within (c.terms + terms_in (sided s f)) (sided s f) (keyword (side_word s) ∷ (spell_term v f ++ rest)) rest few_terms)
+term_again v (headed h e f) (suc d) c rest small deep few_terms few_expressions known =
+    let behind : List Tok = spell_term v f ++ (symbol symbols.Close ∷ rest) in
+    let start : List Tok = keyword (heading_word h) ∷ symbol symbols.Open ∷ (spell_expression v e ++ (symbol symbols.Comma ∷ behind)) in
+    ap (λ (r : List Tok). parse_term (suc d) v c (keyword (heading_word h) ∷ symbol symbols.Open ∷ r)) (brackets_behind (spell_expression v e) (spell_term v f) rest (symbol symbols.Comma))
+    ∙ rw (head_again (heads.Headed h)) (parts_again (parse_expression d v c) (parse_symbol symbols.Comma) (λ e. parse_term d v (counts_with_expression c e)) (λ e _ f rest. term_read c (headed h e f) start rest) e tt f
+    (spell_expression v e ++ (symbol symbols.Comma ∷ behind)) (symbol symbols.Comma ∷ behind) behind rest
+    (expression_again v e d c (symbol symbols.Comma ∷ behind) (omega arith) (omega arith) known.0) refl
+    (term_again v f d (counts_with_expression c e) (symbol symbols.Close ∷ rest) (omega arith) (omega arith) (omega arith) (omega arith) known.1))
     ∙ within (c.terms + terms_in (headed h e f)) (headed h e f) start rest few_terms
 
-pub signature_again : (t : Template) (rest : List Tok) → HasSmallTypes t → parse_signature (spell_signature t ++ rest) ≡ got (t.input, t.output) rest
+pub signature_again : (v : Version) (t : Template) (rest : List Tok) → HasWrittenTypes v t → parse_signature v (spell_signature v t ++ rest) ≡ got (t.input, t.output) rest
 unfolding parse_signature
-signature_again t rest small =
-    let behind : List Tok = symbol symbols.Leads ∷ (spell_type t.output ++ (symbol symbols.Equals ∷ rest)) in
+signature_again v t rest typed =
+    let behind : List Tok = symbol symbols.Leads ∷ (spell_type v t.output ++ (symbol symbols.Equals ∷ rest)) in
     rw (
-      append_assoc (spell_type t.input) (symbol symbols.Leads ∷ (spell_type t.output ++ (symbol symbols.Equals ∷ []))) rest,
-      append_assoc (spell_type t.output) (symbol symbols.Equals ∷ []) rest,
-      inner_type_again t.input 64 (spell_type t.input ++ behind) 0 behind small.input.shallow (omega (arith, small.input.few)),
-      inner_type_again t.output 64 (spell_type t.output ++ (symbol symbols.Equals ∷ rest)) 0 (symbol symbols.Equals ∷ rest) small.output.shallow (omega (arith, small.output.few)),
+      append_assoc (spell_type v t.input) (symbol symbols.Leads ∷ (spell_type v t.output ++ (symbol symbols.Equals ∷ []))) rest,
+      append_assoc (spell_type v t.output) (symbol symbols.Equals ∷ []) rest,
+      inner_type_again v t.input 64 (spell_type v t.input ++ behind) 0 behind typed.input.shallow (omega (arith, typed.input.few)) typed.input.known,
+      inner_type_again v t.output 64 (spell_type v t.output ++ (symbol symbols.Equals ∷ rest)) 0 (symbol symbols.Equals ∷ rest) typed.output.shallow (omega (arith, typed.output.few)) typed.output.known,
     ) refl
 
-pub template_again : (t : Template) (c : Counts) (rest : List Tok) → HasSmallTypes t → term_depth t.body ≤ 64 → c.terms + terms_in t.body ≤ 100000 → c.expressions + expressions_in t.body ≤ 100000
-    → parse_template c (spell_template t ++ rest) ≡ got t rest
+pub template_again : (v : Version) (t : Template) (c : Counts) (rest : List Tok) → HasWrittenTypes v t → term_depth t.body ≤ 64 → c.terms + terms_in t.body ≤ 100000 → c.expressions + expressions_in t.body ≤ 100000
+    → parse_template v c (spell_template v t ++ rest) ≡ got t rest
 unfolding parse_template parse_heading
-template_again t c rest small deep few_terms few_expressions =
-    let closing : List Tok = spell_term t.body ++ (symbol symbols.Semicolon ∷ []) in
+template_again v t c rest typed deep few_terms few_expressions =
+    let closing : List Tok = spell_term v t.body ++ (symbol symbols.Semicolon ∷ []) in
     rw (
-      append_assoc (spell_signature t) closing rest,
-      signature_again t (closing ++ rest) small,
-      append_assoc (spell_term t.body) (symbol symbols.Semicolon ∷ []) rest,
-      term_again t.body 64 c (symbol symbols.Semicolon ∷ rest) (omega arith) deep few_terms few_expressions,
+      append_assoc (spell_signature v t) closing rest,
+      signature_again v t (closing ++ rest) typed,
+      append_assoc (spell_term v t.body) (symbol symbols.Semicolon ∷ []) rest,
+      term_again v t.body 64 c (symbol symbols.Semicolon ∷ rest) (omega arith) deep few_terms few_expressions typed.body,
     ) refl

@@ -1,5 +1,5 @@
 -- What is read at the front of tokens stands there.
-use Rattle.std.proofs.Common.{◌≡◌, ℕ, ◌<◌, ◌≤◌, nat_le, nat_lt, Bool, true, false, pos, List, [], ◌∷◌, ◌++◌, if◌then◌else◌, refl, ap, append_assoc}
+use Rattle.std.proofs.Common.{◌≡◌, ℕ, ◌<◌, ◌≤◌, nat_le, nat_lt, Bool, true, false, ℤ, pos, List, [], ◌∷◌, ◌++◌, if◌then◌else◌, refl, ap, append_assoc, subst}
 use Rattle.std.specs.Ordering.{int_eq}
 use denote.Enum.Bare.{sameb, same_true}
 use Rattle.sf_value.specs.Values.{Name, Kind}
@@ -10,11 +10,15 @@ use Rattle.sf_lex.specs.contracts.Symbol as symbol_type
 use Rattle.sf_lex.specs.contracts.Keyword as keyword_type
 use Rattle.sf_lex.specs.Tokens.{Tok, keyword, name, number, text, symbol}
 use Rattle.sf_refusal.specs.declared.rule.Rule.{Rule}
-use Rattle.sf_refusal.specs.declared.rule.Rule.TheVariants.{Unexpected, TooDeep, Version, WrittenTypeTooLarge, TooMany}
+use Rattle.sf_refusal.specs.declared.rule.Rule.TheVariants.{Unexpected, TooDeep, Version as NoVersion, WrittenTypeTooLarge, TooMany}
 use Rattle.std.proofs.lemmas.Bool.{leb-true, le-leb, ltb-true, lt-ltb}
 use Rattle.std.proofs.lemmas.Bool.Decides.{Decides-int_eq}
-use Rattle.sf_grammar.specs.Spelling.{in_brackets}
-use Rattle.sf_grammar.specs.Reading.{Read, got, stop, ◌and_then◌, parse_symbol, parse_keyword, parse_name, parse_version, too_deep, type_met, parse_parts}
+use Rattle.sf_value.specs.Values.{KeyKind, int_keys, text_keys}
+use Rattle.sf_grammar.specs.declared.ty.Version.{Version}
+use Rattle.sf_grammar.specs.declared.ty.Version.TheVariants as versions
+use Rattle.sf_lex.specs.declared.word.Keyword.TheVariants as words
+use Rattle.sf_grammar.specs.Spelling.{in_brackets, version_number, spell_keys, WritesKeys}
+use Rattle.sf_grammar.specs.Reading.{Read, got, stop, ◌and_then◌, parse_symbol, parse_keyword, parse_name, parse_version, parse_keys, too_deep, type_met, parse_parts}
 
 -- what was got, and the tokens behind it
 pub record Same {A : Type 0} (a b : A) (r s : List Tok) : Type 0 where
@@ -62,11 +66,33 @@ pub name_takes : (tokens : List Tok) (n : Name) (rest : List Tok) → parse_name
 name_takes (name m ∷ tokens) n rest e = let s = got_same m n tokens rest e in cc
 name_takes _ n rest e = cc
 
-pub version_takes : (tokens : List Tok) (u : Unit {0}) (rest : List Tok) → parse_version tokens ≡ got u rest → tokens ≡ number (pos 1) ∷ rest
-version_takes (number z ∷ tokens) u rest e =
-    if_got (int_eq z (pos 1)) tt u tokens rest (number z ∷ tokens) Version e (λ same is.
-    let q : z ≡ pos 1 = (Decides-int_eq z (pos 1)).0 same in let r : tokens ≡ rest = is.rest in cc)
-version_takes _ u rest e = cc
+version_if : (one two : Bool) (z : ℤ) (tokens rest : List Tok) (v : Version) → int_eq z (pos 1) ≡ one → int_eq z (pos 2) ≡ two
+    → (if one then got versions.One tokens else if two then got versions.Two tokens else stop NoVersion (number z ∷ tokens)) ≡ got v rest → number z ∷ tokens ≡ number (pos (version_number v)) ∷ rest
+version_if true two z tokens rest v is_one is_two e =
+    let q : z ≡ pos 1 = (Decides-int_eq z (pos 1)).0 is_one in let s = got_same versions.One v tokens rest e in rw (q, ← s.value, s.rest) refl
+version_if false true z tokens rest v is_one is_two e =
+    let q : z ≡ pos 2 = (Decides-int_eq z (pos 2)).0 is_two in let s = got_same versions.Two v tokens rest e in rw (q, ← s.value, s.rest) refl
+version_if false false z tokens rest v is_one is_two e = cc
+
+pub version_takes : (tokens : List Tok) (v : Version) (rest : List Tok) → parse_version tokens ≡ got v rest → tokens ≡ number (pos (version_number v)) ∷ rest
+version_takes (number z ∷ tokens) v rest e = version_if (int_eq z (pos 1)) (int_eq z (pos 2)) z tokens rest v refl refl e
+version_takes _ v rest e = cc
+
+-- what stands of the keys of a table
+pub record TookKeys (v : Version) (tokens : List Tok) (k : KeyKind) (rest : List Tok) : Type 0 where
+  pub spelled : tokens ≡ spell_keys v k ++ rest
+  pub known : WritesKeys v k
+
+took_keys_as : (v : Version) (tokens : List Tok) (j k : KeyKind) (r u : List Tok) → got j r ≡ got k u → TookKeys v tokens j r → TookKeys v tokens k u
+took_keys_as v tokens j k r u is took =
+    let same = got_same j k r u is in
+    subst (λ (k : KeyKind). TookKeys v tokens k u) same.value (subst (λ (r : List Tok). TookKeys v tokens j r) same.rest took)
+
+pub keys_takes : (v : Version) (tokens : List Tok) (k : KeyKind) (rest : List Tok) → parse_keys v tokens ≡ got k rest → TookKeys v tokens k rest
+keys_takes versions.One tokens k rest e = took_keys_as versions.One tokens int_keys k tokens rest e (record { spelled = refl; known = tt })
+keys_takes versions.Two (keyword words.Int ∷ tokens) k rest e = took_keys_as versions.Two (keyword words.Int ∷ tokens) int_keys k tokens rest e (record { spelled = refl; known = tt })
+keys_takes versions.Two (keyword words.Text ∷ tokens) k rest e = took_keys_as versions.Two (keyword words.Text ∷ tokens) text_keys k tokens rest e (record { spelled = refl; known = tt })
+keys_takes versions.Two _ k rest e = cc
 
 -- a form was read to its end within the limit
 pub within_takes : {A P : Type 0} (n : ℕ) (a b : A) (start r s : List Tok) → (if nat_le n 100000 then got a r else stop TooMany start) ≡ got b s

@@ -28,13 +28,13 @@ tokens_of located = map (λ (l : Located). l.token) located
 pub one_text : (bytes : List ℕ) (p q : Templates) → IsNetworkText bytes p → IsNetworkText bytes q → p ≡ q
 unfolding tokens_of
 one_text bytes p q a b =
-    spelled_once p q a.limited b.limited (sym a.spelled ∙ ap tokens_of (lexes_once bytes b.located a.located b.cut a.cut) ∙ b.spelled)
+    spelled_once a.version b.version p q a.limited b.limited (sym a.spelled ∙ ap tokens_of (lexes_once bytes b.located a.located b.cut a.cut) ∙ b.spelled)
 
 -- where reading its tokens stops, a text is that of no network
 pub stops_at_none : (bytes : List ℕ) (fault : Rule) (place : Spot) → StopsAt bytes fault place → (p : Templates) → IsNetworkText bytes p → ⊥
 unfolding tokens_of
 stops_at_none bytes fault place s p reads =
-    stops_none (tokens_of s.located) fault s.left s.stops p reads.limited (ap tokens_of (lexes_once bytes reads.located s.located reads.cut s.cut) ∙ reads.spelled)
+    stops_none (tokens_of s.located) fault s.left s.stops reads.version p reads.limited (ap tokens_of (lexes_once bytes reads.located s.located reads.cut s.cut) ∙ reads.spelled)
 
 lexis_none : (bytes : List ℕ) (b : Breach) → BreaksLexis bytes b → (p : Templates) → IsNetworkText bytes p → ⊥
 lexis_none bytes b (too_long long is) p reads = omega (arith, reads.cut.short)

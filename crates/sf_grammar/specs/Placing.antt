@@ -5,6 +5,7 @@ use Rattle.sf_refusal.specs.declared.spot.Spot.{Spot}
 use Rattle.sf_expr.specs.declared.operator.Operator.{Operator}
 use Rattle.sf_expr.specs.declared.exprs.ExprId.{ExprId}
 use Rattle.sf_expr.specs.declared.exprs.NameId.{NameId}
+use Rattle.sf_expr.specs.declared.exprs.ConstantId.{ConstantId}
 use Rattle.sf_expr.specs.declared.exprs.FunctionId.{FunctionId}
 use Rattle.sf_expr.specs.declared.exprs.ExprNode.{ExprNode}
 use Rattle.sf_expr.specs.declared.exprs.ExprNode.TheVariants as expressions
@@ -20,10 +21,10 @@ use Rattle.sf_term.specs.declared.node.Node.{Node}
 use Rattle.sf_term.specs.declared.node.Node.TheVariants as nodes
 use Rattle.sf_term.specs.declared.program.Program.{Program}
 use Rattle.sf_term.specs.Headers.{Header}
-use Rattle.sf_term.specs.Arena.{HoldsTerm, HoldsExpression, ProgramHoldsFunction, term_node_at, term_spot_at, expression_node_at, expression_spot_at, function_pattern_at, function_body_at, headers_of, template_in}
+use Rattle.sf_term.specs.Arena.{HoldsTerm, HoldsExpression, ProgramHoldsFunction, term_node_at, term_spot_at, expression_under, expression_node_at, expression_spot_at, function_pattern_at, function_body_at, headers_of, template_in, templates_of}
 use Rattle.sf_lex.specs.Tokens.{Located, place_at}
-use Rattle.sf_lex.specs.Cutting.{Lexes}
-use Rattle.sf_grammar.specs.Spelling.{spell_signature}
+use Rattle.sf_grammar.specs.declared.ty.Version.{Version}
+use Rattle.sf_grammar.specs.Spelling.{spell_expression, spell_signature, IsNetworkText}
 
 -- the places of two parts in brackets, with a token between them
 abbrev pub around : Spot → List Spot → Spot → List Spot → Spot → List Spot
@@ -41,19 +42,23 @@ pub record ExpressionStands (p : Program) (id : ExprId) (n : ExprNode) (at : Spo
   pub node : expression_node_at p id ≡ n
   pub spot : expression_spot_at p id ≡ at
 
--- the expression at an id, whose tokens have these places
-pub data ExpressionPlaced (p : Program) : ExprId → List Spot → Type 0 where
-  number_placed : {id : ExprId} {z : _} {at : Spot} → ExpressionStands p id (expressions.Int z) at → ExpressionPlaced p id (at ∷ [])
-  variable_placed : {id : ExprId} {n : NameId} {at : Spot} → ExpressionStands p id (expressions.Name n) at → ExpressionPlaced p id (at ∷ [])
+-- the expression at an id, whose tokens have these places in a text of the version
+pub data ExpressionPlaced (v : Version) (p : Program) : ExprId → List Spot → Type 0 where
+  number_placed : {id : ExprId} {z : _} {at : Spot} → ExpressionStands p id (expressions.Int z) at → ExpressionPlaced v p id (at ∷ [])
+  unit_placed : {id : ExprId} {opening : Spot} (closing : Spot) → ExpressionStands p id expressions.Unit opening → ExpressionPlaced v p id (opening ∷ closing ∷ [])
+  truth_placed : {id : ExprId} {b : _} {at : Spot} → ExpressionStands p id (expressions.Truth b) at → ExpressionPlaced v p id (at ∷ [])
+  constant_placed : {id : ExprId} {n : ConstantId} {xs : List Spot} {at : Spot} → ExpressionStands p id (expressions.Constant n) at
+      → length (at ∷ xs) ≡ length (spell_expression v (expression_under p id)) → ExpressionPlaced v p id (at ∷ xs)
+  variable_placed : {id : ExprId} {n : NameId} {at : Spot} → ExpressionStands p id (expressions.Name n) at → ExpressionPlaced v p id (at ∷ [])
   pair_placed : {id a b : ExprId} {xs ys : List Spot} {opening : Spot} (comma closing : Spot) → ExpressionStands p id (expressions.Pair a b) opening
-      → ExpressionPlaced p a xs → ExpressionPlaced p b ys → ExpressionPlaced p id (around opening xs comma ys closing)
+      → ExpressionPlaced v p a xs → ExpressionPlaced v p b ys → ExpressionPlaced v p id (around opening xs comma ys closing)
   operation_placed : {id a b : ExprId} {o : Operator} {xs ys : List Spot} {opening : Spot} (operator closing : Spot) → ExpressionStands p id (expressions.Operation a o b) opening
-      → ExpressionPlaced p a xs → ExpressionPlaced p b ys → ExpressionPlaced p id (around opening xs operator ys closing)
+      → ExpressionPlaced v p a xs → ExpressionPlaced v p b ys → ExpressionPlaced v p id (around opening xs operator ys closing)
 
 -- the function at an id, whose tokens have these places
-pub data FunctionPlaced (p : Program) : FunctionId → List Spot → Type 0 where
-  function_placed : {f : FunctionId} {xs ys : List Spot} (leads : Spot) → ProgramHoldsFunction p f → PatternPlaced (function_pattern_at p f) xs → ExpressionPlaced p (function_body_at p f) ys
-      → FunctionPlaced p f (xs ++ (leads ∷ ys))
+pub data FunctionPlaced (v : Version) (p : Program) : FunctionId → List Spot → Type 0 where
+  function_placed : {f : FunctionId} {xs ys : List Spot} (leads : Spot) → ProgramHoldsFunction p f → PatternPlaced (function_pattern_at p f) xs → ExpressionPlaced v p (function_body_at p f) ys
+      → FunctionPlaced v p f (xs ++ (leads ∷ ys))
 
 -- a program holds a term of this node under an id, and it stands where this token does
 pub record TermStands (p : Program) (id : TermId) (n : Node) (at : Spot) : Type 0 where
@@ -62,21 +67,21 @@ pub record TermStands (p : Program) (id : TermId) (n : Node) (at : Spot) : Type 
   pub spot : term_spot_at p id ≡ at
 
 -- the term at an id, whose tokens have these places
-pub data TermPlaced (p : Program) : TermId → List Spot → Type 0 where
-  bare_placed : {id : TermId} {k : Bare} {at : Spot} → TermStands p id (nodes.Primitive (primitives.Bare k)) at → TermPlaced p id (at ∷ [])
+pub data TermPlaced (v : Version) (p : Program) : TermId → List Spot → Type 0 where
+  bare_placed : {id : TermId} {k : Bare} {at : Spot} → TermStands p id (nodes.Primitive (primitives.Bare k)) at → TermPlaced v p id (at ∷ [])
   with_value_placed : {id : TermId} {k : WithValue} {e : ExprId} {xs : List Spot} {at : Spot} → TermStands p id (nodes.Primitive (primitives.WithValue k e)) at
-      → ExpressionPlaced p e xs → TermPlaced p id (at ∷ xs)
+      → ExpressionPlaced v p e xs → TermPlaced v p id (at ∷ xs)
   arrow_placed : {id : TermId} {f : FunctionId} {xs : List Spot} {at : Spot} → TermStands p id (nodes.Primitive (primitives.Arrow f)) at
-      → FunctionPlaced p f xs → TermPlaced p id (at ∷ xs)
+      → FunctionPlaced v p f xs → TermPlaced v p id (at ∷ xs)
   joined_placed : {id a b : TermId} {j : Join} {xs ys : List Spot} {opening : Spot} (between closing : Spot) → TermStands p id (nodes.Joined j a b) opening
-      → TermPlaced p a xs → TermPlaced p b ys → TermPlaced p id (around opening xs between ys closing)
+      → TermPlaced v p a xs → TermPlaced v p b ys → TermPlaced v p id (around opening xs between ys closing)
   sided_placed : {id a : TermId} {s : Side} {xs : List Spot} {at : Spot} → TermStands p id (nodes.Sided s a) at
-      → TermPlaced p a xs → TermPlaced p id (at ∷ xs)
+      → TermPlaced v p a xs → TermPlaced v p id (at ∷ xs)
   headed_placed : {id a : TermId} {e : ExprId} {h : Heading} {xs ys : List Spot} {at : Spot} (opening comma closing : Spot) → TermStands p id (nodes.Headed h e a) at
-      → ExpressionPlaced p e xs → TermPlaced p a ys → TermPlaced p id (at ∷ around opening xs comma ys closing)
+      → ExpressionPlaced v p e xs → TermPlaced v p a ys → TermPlaced v p id (at ∷ around opening xs comma ys closing)
 
--- a template whose tokens have these places: its name stands at the second, and its body behind as many as spell its types
-pub record TemplatePlaced (p : Program) (h : Header) (places : List Spot) : Type 0 where
+-- a template whose tokens have these places, in a text of the version: its name stands at the second, and its body behind as many as spell its types
+pub record TemplatePlaced (v : Version) (p : Program) (h : Header) (places : List Spot) : Type 0 where
   pub word : Spot
   pub opening : Spot
   pub closing : Spot
@@ -84,25 +89,24 @@ pub record TemplatePlaced (p : Program) (h : Header) (places : List Spot) : Type
   pub body : List Spot
   pub end : Spot
   pub split : places ≡ word ∷ h.spot ∷ opening ∷ closing ∷ (signature ++ (body ++ (end ∷ [])))
-  pub typed : length signature ≡ length (spell_signature (template_in p h))
-  pub placed : TermPlaced p h.body body
+  pub typed : length signature ≡ length (spell_signature v (template_in p h))
+  pub placed : TermPlaced v p h.body body
 
 -- templates one behind the other, whose tokens have these places
-pub data TemplatesPlaced (p : Program) : List Header → List Spot → Type 0 where
-  none_placed : TemplatesPlaced p [] []
-  template_placed : {h : Header} {hs : List Header} {xs ys : List Spot} → TemplatePlaced p h xs → TemplatesPlaced p hs ys → TemplatesPlaced p (h ∷ hs) (xs ++ ys)
+pub data TemplatesPlaced (v : Version) (p : Program) : List Header → List Spot → Type 0 where
+  none_placed : TemplatesPlaced v p [] []
+  template_placed : {h : Header} {hs : List Header} {xs ys : List Spot} → TemplatePlaced v p h xs → TemplatesPlaced v p hs ys → TemplatesPlaced v p (h ∷ hs) (xs ++ ys)
 
 -- a network whose tokens have these places, of which three stand in front of its templates
-pub record NetworkPlaced (p : Program) (places : List Spot) : Type 0 where
+pub record NetworkPlaced (v : Version) (p : Program) (places : List Spot) : Type 0 where
   pub word : Spot
   pub version : Spot
   pub semicolon : Spot
   pub behind : List Spot
   pub split : places ≡ word ∷ version ∷ semicolon ∷ behind
-  pub templates : TemplatesPlaced p (headers_of p) behind
+  pub templates : TemplatesPlaced v p (headers_of p) behind
 
 -- all forms and names of a program stand where its tokens do in the bytes
 pub record IsPlacedIn (bytes : List ℕ) (p : Program) : Type 0 where
-  pub located : List Located
-  pub cut : Lexes bytes located
-  pub placed : NetworkPlaced p (map (λ (l : Located). place_at bytes l.offset) located)
+  pub text : IsNetworkText bytes (templates_of p)
+  pub placed : NetworkPlaced text.version p (map (λ (l : Located). place_at bytes l.offset) text.located)

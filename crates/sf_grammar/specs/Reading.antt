@@ -2,9 +2,9 @@
 use Rattle.std.specs.Prelude.{ℕ, zero, suc, ◌+◌, nat_le, nat_lt, Bool, true, false, pos, List, [], ◌∷◌, Option, Some, None, is_some, if◌then◌else◌}
 use Rattle.std.specs.Ordering.{int_eq}
 use denote.Enum.Bare.{sameb}
-use Rattle.sf_value.specs.Values.{Name, Kind, int_kind, pair_kind, nodes}
+use Rattle.sf_value.specs.Values.{Name, KeyKind, int_keys, text_keys, Kind, unit_kind, bool_kind, int_kind, text_kind, pair_kind, event_kind, table_kind, nodes}
 use Rattle.sf_expr.specs.declared.operator.Operator.TheVariants as operators
-use Rattle.sf_expr.specs.Expressions.{Pattern, unnamed, named, both, Expression, variable, literal, int_literal, paired, operation, size, Function, function}
+use Rattle.sf_expr.specs.Expressions.{Pattern, unnamed, named, both, Literal, unit_literal, truth_literal, int_literal, text_literal, none_literal, Expression, variable, literal, paired, operation, size, Function, function}
 use Rattle.sf_term.specs.declared.form.Bare.TheVariants as bares
 use Rattle.sf_term.specs.declared.form.WithValue.{WithValue}
 use Rattle.sf_term.specs.declared.form.WithValue.TheVariants as values
@@ -21,9 +21,15 @@ use Rattle.sf_lex.specs.declared.symbol.Symbol.{Symbol}
 use Rattle.sf_lex.specs.declared.symbol.Symbol.TheVariants as symbols
 use Rattle.sf_lex.specs.contracts.Symbol as symbol_type
 use Rattle.sf_lex.specs.contracts.Keyword as keyword_type
-use Rattle.sf_lex.specs.Tokens.{Tok, keyword, name, number, symbol}
+use Rattle.sf_lex.specs.Tokens.{Tok, keyword, name, number, text, symbol}
 use Rattle.sf_refusal.specs.declared.rule.Rule.{Rule}
-use Rattle.sf_refusal.specs.declared.rule.Rule.TheVariants.{Unexpected, TooDeep, Version, WrittenTypeTooLarge, TooMany}
+use Rattle.sf_refusal.specs.declared.rule.Rule.TheVariants.{Unexpected, TooDeep, Version as NoVersion, WrittenTypeTooLarge, TooMany}
+use Rattle.sf_grammar.specs.declared.ty.Version.{Version}
+use Rattle.sf_grammar.specs.declared.ty.Version.TheVariants as versions
+use Rattle.sf_grammar.specs.declared.ty.WordType.{WordType}
+use Rattle.sf_grammar.specs.declared.ty.WordType.TheVariants as word_types
+use Rattle.sf_grammar.specs.declared.ty.TypeHead.{TypeHead}
+use Rattle.sf_grammar.specs.declared.ty.TypeHead.TheVariants as type_heads
 use Rattle.sf_grammar.specs.declared.head.Head.{Head}
 use Rattle.sf_grammar.specs.declared.head.Head.TheVariants as heads
 use Rattle.sf_grammar.specs.declared.head.Link.{Link}
@@ -51,9 +57,9 @@ abbrev pub parse_name : List Tok → Read Name
 parse_name (name n ∷ rest) = got n rest
 parse_name tokens = stop Unexpected tokens
 
--- the only version is 1
-abbrev pub parse_version : List Tok → Read (Unit {0})
-parse_version (number z ∷ rest) = if int_eq z (pos 1) then got tt rest else stop Version (number z ∷ rest)
+-- the versions are 1 and 2
+abbrev pub parse_version : List Tok → Read Version
+parse_version (number z ∷ rest) = if int_eq z (pos 1) then got versions.One rest else if int_eq z (pos 2) then got versions.Two rest else stop NoVersion (number z ∷ rest)
 parse_version tokens = stop Unexpected tokens
 
 -- a form is 65 deep at its first token
@@ -78,36 +84,74 @@ type_met met start read = if nat_lt met 256 then read else stop WrittenTypeTooLa
 unfoldable pub parse_pair_type : (ℕ → List Tok → Read Kind) → ℕ → List Tok → Read Kind
 parse_pair_type part met tokens = parse_parts (part (met + 1)) (parse_symbol symbols.Comma) (λ t. part (met + 1 + nodes t)) (λ t _ u rest. got (pair_kind t u) rest) tokens
 
-abbrev pub parse_type_form : (ℕ → List Tok → Read Kind) → List Tok → ℕ → List Tok → Read Kind
-parse_type_form part start met (keyword words.Int ∷ rest) = type_met met start (got int_kind rest)
-parse_type_form part start met (symbol symbols.Open ∷ rest) = type_met met start (parse_pair_type part met rest)
-parse_type_form part start met tokens = stop Unexpected tokens
+-- what begins with a token within types
+abbrev pub type_head : Tok → Option TypeHead
+type_head (keyword words.Unit) = Some (type_heads.Word word_types.Unit)
+type_head (keyword words.Bool) = Some (type_heads.Word word_types.Bool)
+type_head (keyword words.Int) = Some (type_heads.Word word_types.Int)
+type_head (keyword words.Text) = Some (type_heads.Word word_types.Text)
+type_head (keyword words.Event) = Some type_heads.Event
+type_head (keyword words.Table) = Some type_heads.Table
+type_head (symbol symbols.Open) = Some type_heads.Pair
+type_head _ = None
+
+-- the type that is a word alone
+abbrev pub word_kind : WordType → Kind
+word_kind word_types.Unit = unit_kind
+word_kind word_types.Bool = bool_kind
+word_kind word_types.Int = int_kind
+word_kind word_types.Text = text_kind
+
+-- what stands of the keys behind the word of a table
+abbrev pub parse_keys : Version → List Tok → Read KeyKind
+parse_keys versions.One tokens = got int_keys tokens
+parse_keys versions.Two (keyword words.Int ∷ rest) = got int_keys rest
+parse_keys versions.Two (keyword words.Text ∷ rest) = got text_keys rest
+parse_keys versions.Two tokens = stop Unexpected tokens
+
+-- the part of a type that is made of one part, which stands behind so many others, where it is read so
+unfoldable pub parse_outer_type : (ℕ → List Tok → Read Kind) → (Kind → Kind) → ℕ → List Tok → Read Kind
+parse_outer_type part whole met tokens = part (met + 1) tokens and_then λ t rest. got (whole t) rest
+
+-- behind the first token of a type, which stands behind so many others, where its parts are read so
+abbrev pub parse_headed_type : (ℕ → List Tok → Read Kind) → Version → TypeHead → ℕ → List Tok → Read Kind
+parse_headed_type part v (type_heads.Word w) met tokens = got (word_kind w) tokens
+parse_headed_type part v type_heads.Event met tokens = parse_outer_type part event_kind met tokens
+parse_headed_type part v type_heads.Table met tokens = parse_keys v tokens and_then λ k rest. parse_outer_type part (table_kind k) met rest
+parse_headed_type part v type_heads.Pair met tokens = parse_pair_type part met tokens
+
+abbrev pub type_from : (ℕ → List Tok → Read Kind) → Version → List Tok → ℕ → Option TypeHead → List Tok → List Tok → Read Kind
+type_from part v start met (Some h) tokens rest = type_met met start (parse_headed_type part v h met rest)
+type_from part v start met None tokens rest = stop Unexpected tokens
+
+-- a type by its first token
+abbrev pub parse_type_form : (ℕ → List Tok → Read Kind) → Version → List Tok → ℕ → List Tok → Read Kind
+parse_type_form part v start met (t ∷ rest) = type_from part v start met (type_head t) (t ∷ rest) rest
+parse_type_form part v start met [] = stop Unexpected []
 
 abbrev pub begins_type : Tok → Bool
-begins_type (keyword words.Int) = true
-begins_type (symbol symbols.Open) = true
-begins_type _ = false
+begins_type t = is_some (type_head t)
 
 -- a type of so much depth at most, behind so many others, within the whole type that begins at `start`
-unfoldable pub parse_inner_type : ℕ → List Tok → ℕ → List Tok → Read Kind
-parse_inner_type zero start met tokens = too_deep begins_type tokens
-parse_inner_type (suc left) start met tokens = parse_type_form (parse_inner_type left start) start met tokens
+unfoldable pub parse_inner_type : ℕ → Version → List Tok → ℕ → List Tok → Read Kind
+parse_inner_type zero v start met tokens = too_deep begins_type tokens
+parse_inner_type (suc left) v start met tokens = parse_type_form (parse_inner_type left v start) v start met tokens
 
 -- a whole type
-abbrev pub parse_type : List Tok → Read Kind
-parse_type tokens = parse_inner_type 64 tokens 0 tokens
+abbrev pub parse_type : Version → List Tok → Read Kind
+parse_type v tokens = parse_inner_type 64 v tokens 0 tokens
 
 -- what stands in front of the templates
-unfoldable pub parse_opening : List Tok → Read (Unit {0})
-parse_opening tokens = parse_keyword words.Network tokens and_then λ _ rest. parse_version rest and_then λ _ rest. parse_symbol symbols.Semicolon rest
+unfoldable pub parse_opening : List Tok → Read Version
+parse_opening tokens = parse_keyword words.Network tokens and_then λ _ rest. parse_version rest and_then λ v rest. parse_symbol symbols.Semicolon rest and_then λ _ rest. got v rest
 
 -- a template's name, and its empty list of parameters
 unfoldable pub parse_heading : List Tok → Read Name
 parse_heading tokens = parse_keyword words.Template tokens and_then λ _ rest. parse_name rest and_then λ n rest. parse_symbol symbols.Open rest and_then λ _ rest. parse_symbol symbols.Close rest and_then λ _ rest. got n rest
 
 -- the types of a template's inputs and outputs
-unfoldable pub parse_signature : List Tok → Read (Kind × Kind)
-parse_signature tokens = parse_symbol symbols.Colon tokens and_then λ _ rest. parse_type rest and_then λ input rest. parse_symbol symbols.Leads rest and_then λ _ rest. parse_type rest and_then λ output rest. parse_symbol symbols.Equals rest and_then λ _ rest. got (input, output) rest
+unfoldable pub parse_signature : Version → List Tok → Read (Kind × Kind)
+parse_signature v tokens = parse_symbol symbols.Colon tokens and_then λ _ rest. parse_type v rest and_then λ input rest. parse_symbol symbols.Leads rest and_then λ _ rest. parse_type v rest and_then λ output rest. parse_symbol symbols.Equals rest and_then λ _ rest. got (input, output) rest
 
 -- behind the opening bracket of a pattern for a pair
 unfoldable pub parse_pattern_pair : (List Tok → Read Pattern) → List Tok → Read Pattern
@@ -174,30 +218,57 @@ linked (links.Operation o) e f = operation e o f
 unfoldable pub parse_linked : (Counts → List Tok → Read Expression) → Counts → List Tok → List Tok → Read Expression
 parse_linked part c start tokens = parse_parts (part c) parse_link (λ e. part (counts_with_expression c e)) (λ e l f rest. expression_read c (linked l e f) start rest) tokens
 
+-- the literal that is a token alone
+abbrev pub literal_of : Tok → Option Literal
+literal_of (number z) = Some (int_literal z)
+literal_of (text s) = Some (text_literal s)
+literal_of (keyword words.True) = Some (truth_literal true)
+literal_of (keyword words.False) = Some (truth_literal false)
+literal_of _ = None
+
+abbrev pub literal_read : Counts → Option Literal → List Tok → List Tok → Read Expression
+literal_read c (Some l) start rest = expression_read c (literal l) start rest
+literal_read c None start rest = stop Unexpected start
+
+-- behind a closing bracket
+abbrev pub behind_close : List Tok → Option (List Tok)
+behind_close (symbol symbols.Close ∷ rest) = Some rest
+behind_close _ = None
+
+-- behind an opening bracket, with which `start` begins: the closing one makes the only value of its type
+abbrev pub bracketed_from : (Counts → List Tok → Read Expression) → Counts → Option (List Tok) → List Tok → List Tok → Read Expression
+bracketed_from part c (Some rest) start tokens = expression_read c (literal unit_literal) start rest
+bracketed_from part c None start tokens = parse_linked part c start tokens
+
+-- behind `none`, with which `start` begins, where so much depth is left
+unfoldable pub parse_none : ℕ → Version → Counts → List Tok → List Tok → Read Expression
+parse_none left v c start tokens = parse_inner_type left v tokens 0 tokens and_then λ t rest. expression_read c (literal (none_literal t)) start rest
+
 -- an expression by its first token
-abbrev pub parse_expression_form : (Counts → List Tok → Read Expression) → Counts → List Tok → Read Expression
-parse_expression_form part c (name n ∷ rest) = expression_read c (variable n) (name n ∷ rest) rest
-parse_expression_form part c (number z ∷ rest) = expression_read c (literal (int_literal z)) (number z ∷ rest) rest
-parse_expression_form part c (symbol symbols.Open ∷ rest) = parse_linked part c (symbol symbols.Open ∷ rest) rest
-parse_expression_form part c tokens = stop Unexpected tokens
+abbrev pub parse_expression_form : ℕ → Version → (Counts → List Tok → Read Expression) → Counts → List Tok → Read Expression
+parse_expression_form left v part c (name n ∷ rest) = expression_read c (variable n) (name n ∷ rest) rest
+parse_expression_form left v part c (keyword words.NoEvent ∷ rest) = parse_none left v c (keyword words.NoEvent ∷ rest) rest
+parse_expression_form left v part c (symbol symbols.Open ∷ rest) = bracketed_from part c (behind_close rest) (symbol symbols.Open ∷ rest) rest
+parse_expression_form left v part c (t ∷ rest) = literal_read c (literal_of t) (t ∷ rest) rest
+parse_expression_form left v part c [] = stop Unexpected []
 
 abbrev pub begins_expression : Tok → Bool
 begins_expression (name n) = true
-begins_expression (number z) = true
+begins_expression (keyword words.NoEvent) = true
 begins_expression (symbol symbols.Open) = true
-begins_expression _ = false
+begins_expression t = is_some (literal_of t)
 
 -- an expression of so much depth at most
-unfoldable pub parse_expression : ℕ → Counts → List Tok → Read Expression
-parse_expression zero c tokens = too_deep begins_expression tokens
-parse_expression (suc left) c tokens = parse_expression_form (parse_expression left) c tokens
+unfoldable pub parse_expression : ℕ → Version → Counts → List Tok → Read Expression
+parse_expression zero v c tokens = too_deep begins_expression tokens
+parse_expression (suc left) v c tokens = parse_expression_form left v (parse_expression left v) c tokens
 
 -- a function, whose pattern and expression are of so much depth at most
-unfoldable pub parse_function : ℕ → Counts → List Tok → Read Function
-parse_function left c tokens =
+unfoldable pub parse_function : ℕ → Version → Counts → List Tok → Read Function
+parse_function left v c tokens =
     parse_pattern left tokens and_then λ p rest.
     parse_symbol symbols.MapsTo rest and_then λ _ rest.
-    parse_expression left c rest and_then λ e rest.
+    parse_expression left v c rest and_then λ e rest.
     got (function p e) rest
 
 -- a term was read to its end: it may be one too many
@@ -222,31 +293,31 @@ join_of symbols.FannedOut = Some joins.FannedOut
 join_of _ = None
 
 -- behind the word of a primitive with a value; `start` begins with that word
-unfoldable pub parse_value : ℕ → Counts → WithValue → List Tok → List Tok → Read Term
-parse_value left c v start tokens = parse_expression left c tokens and_then λ e rest. term_read c (primitive (with_value v e)) start rest
+unfoldable pub parse_value : ℕ → Version → Counts → WithValue → List Tok → List Tok → Read Term
+parse_value left v c k start tokens = parse_expression left v c tokens and_then λ e rest. term_read c (primitive (with_value k e)) start rest
 
 -- behind `arr`
-unfoldable pub parse_arrow : ℕ → Counts → List Tok → List Tok → Read Term
-parse_arrow left c start tokens = parse_function left c tokens and_then λ f rest. term_read c (primitive (arrow f)) start rest
+unfoldable pub parse_arrow : ℕ → Version → Counts → List Tok → List Tok → Read Term
+parse_arrow left v c start tokens = parse_function left v c tokens and_then λ f rest. term_read c (primitive (arrow f)) start rest
 
 -- behind the word of a term on one part of a pair, where that term is read so
 unfoldable pub parse_sided : (Counts → List Tok → Read Term) → Counts → Side → List Tok → List Tok → Read Term
 parse_sided part c s start tokens = part c tokens and_then λ f rest. term_read c (sided s f) start rest
 
 -- behind the word of a term with an expression at its head, where the expression and the term are read so
-unfoldable pub parse_headed : ℕ → (Counts → List Tok → Read Term) → Counts → Heading → List Tok → List Tok → Read Term
-parse_headed left part c h start tokens =
+unfoldable pub parse_headed : ℕ → Version → (Counts → List Tok → Read Term) → Counts → Heading → List Tok → List Tok → Read Term
+parse_headed left v part c h start tokens =
     parse_symbol symbols.Open tokens and_then λ _ rest.
-    parse_parts (parse_expression left c) (parse_symbol symbols.Comma) (λ e. part (counts_with_expression c e)) (λ e _ f rest. term_read c (headed h e f) start rest) rest
+    parse_parts (parse_expression left v c) (parse_symbol symbols.Comma) (λ e. part (counts_with_expression c e)) (λ e _ f rest. term_read c (headed h e f) start rest) rest
 
 -- behind the word of a form
-abbrev pub parse_worded : ℕ → (Counts → List Tok → Read Term) → Counts → Option Head → List Tok → List Tok → Read Term
-parse_worded left part c (Some (heads.Bare b)) start tokens = term_read c (primitive (bare b)) start tokens
-parse_worded left part c (Some (heads.WithValue v)) start tokens = parse_value left c v start tokens
-parse_worded left part c (Some heads.Arrow) start tokens = parse_arrow left c start tokens
-parse_worded left part c (Some (heads.Sided s)) start tokens = parse_sided part c s start tokens
-parse_worded left part c (Some (heads.Headed h)) start tokens = parse_headed left part c h start tokens
-parse_worded left part c None start tokens = stop Unexpected start
+abbrev pub parse_worded : ℕ → Version → (Counts → List Tok → Read Term) → Counts → Option Head → List Tok → List Tok → Read Term
+parse_worded left v part c (Some (heads.Bare b)) start tokens = term_read c (primitive (bare b)) start tokens
+parse_worded left v part c (Some (heads.WithValue k)) start tokens = parse_value left v c k start tokens
+parse_worded left v part c (Some heads.Arrow) start tokens = parse_arrow left v c start tokens
+parse_worded left v part c (Some (heads.Sided s)) start tokens = parse_sided part c s start tokens
+parse_worded left v part c (Some (heads.Headed h)) start tokens = parse_headed left v part c h start tokens
+parse_worded left v part c None start tokens = stop Unexpected start
 
 abbrev pub join_from : Option Join → Symbol → List Tok → Read Join
 join_from (Some j) s rest = got j rest
@@ -261,10 +332,10 @@ unfoldable pub parse_joined : (Counts → List Tok → Read Term) → Counts →
 parse_joined part c start tokens = parse_parts (part c) parse_join (λ f. part (counts_with c f)) (λ f j g rest. term_read c (joined j f g) start rest) tokens
 
 -- a term by its first token
-abbrev pub parse_form : ℕ → (Counts → List Tok → Read Term) → Counts → List Tok → Read Term
-parse_form left part c (keyword k ∷ rest) = parse_worded left part c (head_of k) (keyword k ∷ rest) rest
-parse_form left part c (symbol symbols.Open ∷ rest) = parse_joined part c (symbol symbols.Open ∷ rest) rest
-parse_form left part c tokens = stop Unexpected tokens
+abbrev pub parse_form : ℕ → Version → (Counts → List Tok → Read Term) → Counts → List Tok → Read Term
+parse_form left v part c (keyword k ∷ rest) = parse_worded left v part c (head_of k) (keyword k ∷ rest) rest
+parse_form left v part c (symbol symbols.Open ∷ rest) = parse_joined part c (symbol symbols.Open ∷ rest) rest
+parse_form left v part c tokens = stop Unexpected tokens
 
 abbrev pub begins_term : Tok → Bool
 begins_term (keyword k) = is_some (head_of k)
@@ -272,17 +343,17 @@ begins_term (symbol symbols.Open) = true
 begins_term _ = false
 
 -- a term of so much depth at most
-unfoldable pub parse_term : ℕ → Counts → List Tok → Read Term
-parse_term zero c tokens = too_deep begins_term tokens
-parse_term (suc left) c tokens = parse_form left (parse_term left) c tokens
+unfoldable pub parse_term : ℕ → Version → Counts → List Tok → Read Term
+parse_term zero v c tokens = too_deep begins_term tokens
+parse_term (suc left) v c tokens = parse_form left v (parse_term left v) c tokens
 
 abbrev pub template_of : Name → Kind × Kind → Term → Template
 template_of n s t = record { name = n; input = s.0; output = s.1; body = t }
 
-unfoldable pub parse_template : Counts → List Tok → Read Template
-parse_template c tokens =
+unfoldable pub parse_template : Version → Counts → List Tok → Read Template
+parse_template v c tokens =
     parse_heading tokens and_then λ n rest.
-    parse_signature rest and_then λ s rest.
-    parse_term 64 c rest and_then λ t rest.
+    parse_signature v rest and_then λ s rest.
+    parse_term 64 v c rest and_then λ t rest.
     parse_symbol symbols.Semicolon rest and_then λ _ rest.
     got (template_of n s t) rest

@@ -1,10 +1,10 @@
 -- Networks, and the tokens that spell them.
-use Rattle.std.specs.Prelude.{◌≡◌, ℕ, suc, max, ◌≤◌, pos, List, [], ◌∷◌, ◌++◌, map}
+use Rattle.std.specs.Prelude.{◌≡◌, ℕ, zero, suc, max, true, false, ◌≤◌, pos, List, [], ◌∷◌, ◌++◌, map, ⊤}
 use Rattle.std.specs.List.{All, flat_map, sum_by}
-use Rattle.sf_value.specs.Values.{Kind, int_kind, pair_kind, nodes}
+use Rattle.sf_value.specs.Values.{KeyKind, int_keys, text_keys, Kind, unit_kind, bool_kind, int_kind, text_kind, pair_kind, event_kind, table_kind, nodes}
 use Rattle.sf_expr.specs.declared.operator.Operator.{Operator}
 use Rattle.sf_expr.specs.declared.operator.Operator.TheVariants as operators
-use Rattle.sf_expr.specs.Expressions.{Pattern, unnamed, named, both, Expression, variable, literal, int_literal, paired, operation, Function, function}
+use Rattle.sf_expr.specs.Expressions.{Pattern, unnamed, named, both, Literal, unit_literal, truth_literal, int_literal, text_literal, none_literal, Expression, variable, literal, paired, operation, Function, function}
 use Rattle.sf_term.specs.declared.form.Bare.{Bare}
 use Rattle.sf_term.specs.declared.form.Bare.TheVariants as bares
 use Rattle.sf_term.specs.declared.form.WithValue.{WithValue}
@@ -20,8 +20,10 @@ use Rattle.sf_lex.specs.declared.word.Keyword.{Keyword}
 use Rattle.sf_lex.specs.declared.word.Keyword.TheVariants as words
 use Rattle.sf_lex.specs.declared.symbol.Symbol.{Symbol}
 use Rattle.sf_lex.specs.declared.symbol.Symbol.TheVariants as symbols
-use Rattle.sf_lex.specs.Tokens.{Tok, keyword, name, number, symbol, Located}
+use Rattle.sf_lex.specs.Tokens.{Tok, keyword, name, number, text, symbol, Located}
 use Rattle.sf_lex.specs.Cutting.{Lexes}
+use Rattle.sf_grammar.specs.declared.ty.Version.{Version}
+use Rattle.sf_grammar.specs.declared.ty.Version.TheVariants as versions
 
 -- the word of a primitive without constants
 abbrev pub bare_word : Bare → Keyword
@@ -59,50 +61,75 @@ operator_token operators.Modulo = keyword words.Mod
 abbrev pub in_brackets : List Tok → Tok → List Tok → List Tok
 in_brackets one between two = symbol symbols.Open ∷ (one ++ (between ∷ (two ++ (symbol symbols.Close ∷ []))))
 
-abbrev pub spell_type : Kind → List Tok
-spell_type int_kind = keyword words.Int ∷ []
-spell_type (pair_kind t u) = in_brackets (spell_type t) (symbol symbols.Comma) (spell_type u)
+-- only version 2 writes the type of the keys of a table
+abbrev pub spell_keys : Version → KeyKind → List Tok
+spell_keys versions.One k = []
+spell_keys versions.Two int_keys = keyword words.Int ∷ []
+spell_keys versions.Two text_keys = keyword words.Text ∷ []
+
+abbrev pub spell_type : Version → Kind → List Tok
+spell_type v unit_kind = keyword words.Unit ∷ []
+spell_type v bool_kind = keyword words.Bool ∷ []
+spell_type v int_kind = keyword words.Int ∷ []
+spell_type v text_kind = keyword words.Text ∷ []
+spell_type v (pair_kind t u) = in_brackets (spell_type v t) (symbol symbols.Comma) (spell_type v u)
+spell_type v (event_kind t) = keyword words.Event ∷ spell_type v t
+spell_type v (table_kind k t) = keyword words.Table ∷ (spell_keys v k ++ spell_type v t)
 
 abbrev pub spell_pattern : Pattern → List Tok
 spell_pattern unnamed = keyword words.Underscore ∷ []
 spell_pattern (named x) = name x ∷ []
 spell_pattern (both p q) = in_brackets (spell_pattern p) (symbol symbols.Comma) (spell_pattern q)
 
-abbrev pub spell_expression : Expression → List Tok
-spell_expression (variable x) = name x ∷ []
-spell_expression (literal (int_literal z)) = number z ∷ []
-spell_expression (paired e f) = in_brackets (spell_expression e) (symbol symbols.Comma) (spell_expression f)
-spell_expression (operation e o f) = in_brackets (spell_expression e) (operator_token o) (spell_expression f)
+-- of no event, the type of the payload is written
+abbrev pub spell_literal : Version → Literal → List Tok
+spell_literal v unit_literal = symbol symbols.Open ∷ symbol symbols.Close ∷ []
+spell_literal v (truth_literal true) = keyword words.True ∷ []
+spell_literal v (truth_literal false) = keyword words.False ∷ []
+spell_literal v (int_literal z) = number z ∷ []
+spell_literal v (text_literal s) = text s ∷ []
+spell_literal v (none_literal t) = keyword words.NoEvent ∷ spell_type v t
 
-abbrev pub spell_function : Function → List Tok
-spell_function (function p e) = spell_pattern p ++ (symbol symbols.MapsTo ∷ spell_expression e)
+abbrev pub spell_expression : Version → Expression → List Tok
+spell_expression v (variable x) = name x ∷ []
+spell_expression v (literal l) = spell_literal v l
+spell_expression v (paired e f) = in_brackets (spell_expression v e) (symbol symbols.Comma) (spell_expression v f)
+spell_expression v (operation e o f) = in_brackets (spell_expression v e) (operator_token o) (spell_expression v f)
+
+abbrev pub spell_function : Version → Function → List Tok
+spell_function v (function p e) = spell_pattern p ++ (symbol symbols.MapsTo ∷ spell_expression v e)
 
 -- the forms of plans stand in no text
-abbrev pub spell_term : Term → List Tok
-spell_term (primitive (bare k)) = keyword (bare_word k) ∷ []
-spell_term (primitive (with_value k e)) = keyword (value_word k) ∷ spell_expression e
-spell_term (primitive (arrow f)) = keyword words.Arr ∷ spell_function f
-spell_term (primitive (fused f)) = []
-spell_term (joined j f g) = in_brackets (spell_term f) (symbol (join_symbol j)) (spell_term g)
-spell_term (sided s f) = keyword (side_word s) ∷ spell_term f
-spell_term (headed h e f) = keyword (heading_word h) ∷ in_brackets (spell_expression e) (symbol symbols.Comma) (spell_term f)
-spell_term (staged x f g) = []
+abbrev pub spell_term : Version → Term → List Tok
+spell_term v (primitive (bare k)) = keyword (bare_word k) ∷ []
+spell_term v (primitive (with_value k e)) = keyword (value_word k) ∷ spell_expression v e
+spell_term v (primitive (arrow f)) = keyword words.Arr ∷ spell_function v f
+spell_term v (primitive (fused f)) = []
+spell_term v (joined j f g) = in_brackets (spell_term v f) (symbol (join_symbol j)) (spell_term v g)
+spell_term v (sided s f) = keyword (side_word s) ∷ spell_term v f
+spell_term v (headed h e f) = keyword (heading_word h) ∷ in_brackets (spell_expression v e) (symbol symbols.Comma) (spell_term v f)
+spell_term v (staged x f g) = []
 
 abbrev pub spell_heading : Template → List Tok
 spell_heading t = keyword words.Template ∷ name t.name ∷ symbol symbols.Open ∷ symbol symbols.Close ∷ []
 
-abbrev pub spell_signature : Template → List Tok
-spell_signature t = symbol symbols.Colon ∷ (spell_type t.input ++ (symbol symbols.Leads ∷ (spell_type t.output ++ (symbol symbols.Equals ∷ []))))
+abbrev pub spell_signature : Version → Template → List Tok
+spell_signature v t = symbol symbols.Colon ∷ (spell_type v t.input ++ (symbol symbols.Leads ∷ (spell_type v t.output ++ (symbol symbols.Equals ∷ []))))
 
-abbrev pub spell_template : Template → List Tok
-spell_template t = spell_heading t ++ (spell_signature t ++ (spell_term t.body ++ (symbol symbols.Semicolon ∷ [])))
+abbrev pub spell_template : Version → Template → List Tok
+spell_template v t = spell_heading t ++ (spell_signature v t ++ (spell_term v t.body ++ (symbol symbols.Semicolon ∷ [])))
 
-abbrev pub spell_templates : Templates → List Tok
-spell_templates p = flat_map spell_template p
+abbrev pub spell_templates : Version → Templates → List Tok
+spell_templates v p = flat_map (spell_template v) p
+
+-- the number of a version
+abbrev pub version_number : Version → ℕ
+version_number versions.One = 1
+version_number versions.Two = 2
 
 -- the tokens of a network
-abbrev pub spell : Templates → List Tok
-spell p = keyword words.Network ∷ number (pos 1) ∷ symbol symbols.Semicolon ∷ spell_templates p
+abbrev pub spell : Version → Templates → List Tok
+spell v p = keyword words.Network ∷ number (pos (version_number v)) ∷ symbol symbols.Semicolon ∷ spell_templates v p
 
 abbrev pub term_total : Templates → ℕ
 term_total p = sum_by (λ (t : Template). terms_in t.body) p
@@ -112,29 +139,68 @@ expression_total p = sum_by (λ (t : Template). expressions_in t.body) p
 
 -- how many types stand one inside another
 abbrev pub type_depth : Kind → ℕ
+type_depth unit_kind = 1
+type_depth bool_kind = 1
 type_depth int_kind = 1
+type_depth text_kind = 1
 type_depth (pair_kind t u) = suc (max (type_depth t) (type_depth u))
+type_depth (event_kind t) = suc (type_depth t)
+type_depth (table_kind k t) = suc (type_depth t)
 
--- a type of at most 256 nodes, of which at most 64 stand one inside another
-pub record IsSmallType (k : Kind) : Type 0 where
-  pub shallow : type_depth k ≤ 64
+-- a text of version 1 has tables with keys of type Int alone
+abbrev pub WritesKeys : Version → KeyKind → Type 0
+WritesKeys versions.One text_keys = ⊥
+WritesKeys v k = ⊤
+
+-- a text of the version has the tables of the type
+abbrev pub WritesType : Version → Kind → Type 0
+WritesType v (pair_kind t u) = WritesType v t × WritesType v u
+WritesType v (event_kind t) = WritesType v t
+WritesType v (table_kind k t) = WritesKeys v k × WritesType v t
+WritesType v k = ⊤
+
+-- a type that a text of the version has where so much depth is left: it is of at most 256 nodes
+pub record IsWrittenType (v : Version) (d : ℕ) (k : Kind) : Type 0 where
+  pub shallow : type_depth k ≤ d
   pub few : nodes k ≤ 256
+  pub known : WritesType v k
 
--- the types of a template's header are small
-pub record HasSmallTypes (t : Template) : Type 0 where
-  pub input : IsSmallType t.input
-  pub output : IsSmallType t.output
+-- a text of the version has the types in an expression, where so much depth is left
+abbrev pub WritesExpression : Version → ℕ → Expression → Type 0
+WritesExpression v (suc d) (literal (none_literal t)) = IsWrittenType v d t
+WritesExpression v (suc d) (paired e f) = WritesExpression v d e × WritesExpression v d f
+WritesExpression v (suc d) (operation e o f) = WritesExpression v d e × WritesExpression v d f
+WritesExpression v d e = ⊤
 
--- at most 64 terms, expressions and patterns stand one inside another, there are at most 100,000 terms and 100,000 expressions, and the types of headers are small
-pub record IsWithinLimits (p : Templates) : Type 0 where
+abbrev pub WritesFunction : Version → ℕ → Function → Type 0
+WritesFunction v d (function p e) = WritesExpression v d e
+
+-- a text of the version has the types in a term, where so much depth is left
+abbrev pub WritesTerm : Version → ℕ → Term → Type 0
+WritesTerm v (suc d) (primitive (with_value k e)) = WritesExpression v d e
+WritesTerm v (suc d) (primitive (arrow f)) = WritesFunction v d f
+WritesTerm v (suc d) (joined j f g) = WritesTerm v d f × WritesTerm v d g
+WritesTerm v (suc d) (sided s f) = WritesTerm v d f
+WritesTerm v (suc d) (headed h e f) = WritesExpression v d e × WritesTerm v d f
+WritesTerm v d t = ⊤
+
+-- a text of the version has the types of a template
+pub record HasWrittenTypes (v : Version) (t : Template) : Type 0 where
+  pub input : IsWrittenType v 64 t.input
+  pub output : IsWrittenType v 64 t.output
+  pub body : WritesTerm v 64 t.body
+
+-- at most 64 terms, expressions and patterns stand one inside another, there are at most 100,000 terms and 100,000 expressions, and a text of the version has the types that are written
+pub record IsWithinLimits (v : Version) (p : Templates) : Type 0 where
   pub shallow : All (λ (t : Template). term_depth t.body ≤ 64) p
-  pub small : All HasSmallTypes p
+  pub typed : All (HasWrittenTypes v) p
   pub few_terms : term_total p ≤ 100000
   pub few_expressions : expression_total p ≤ 100000
 
--- the bytes are a text of the network with these templates
+-- the bytes are a text, of one of the versions, of the network with these templates
 pub record IsNetworkText (bytes : List ℕ) (p : Templates) : Type 0 where
+  pub version : Version
   pub located : List Located
   pub cut : Lexes bytes located
-  pub spelled : map (λ (l : Located). l.token) located ≡ spell p
-  pub limited : IsWithinLimits p
+  pub spelled : map (λ (l : Located). l.token) located ≡ spell version p
+  pub limited : IsWithinLimits version p

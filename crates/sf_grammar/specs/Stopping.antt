@@ -6,6 +6,7 @@ use Rattle.sf_refusal.specs.declared.refusal.Breach.{Breach}
 use Rattle.sf_lex.specs.Tokens.{Tok, Located, place_at}
 use Rattle.sf_lex.specs.Cutting.{Lexes, BreaksLexis}
 use Rattle.sf_term.specs.Trees.{Templates}
+use Rattle.sf_grammar.specs.declared.ty.Version.{Version}
 use Rattle.sf_grammar.specs.Spelling.{spell, spell_templates, term_total, expression_total, IsWithinLimits}
 use Rattle.sf_grammar.specs.Reading.{Read, stop, Counts, parse_opening, parse_template}
 
@@ -20,18 +21,18 @@ abbrev pub counts_in : Templates → Counts
 counts_in p = record { terms = term_total p; expressions = expression_total p }
 
 -- reading stops behind whole templates, within a further one, so many tokens before the end
-pub record StopsBehind (tokens : List Tok) (fault : Rule) (left : ℕ) : Type 0 where
+pub record StopsBehind (v : Version) (tokens : List Tok) (fault : Rule) (left : ℕ) : Type 0 where
   pub read : Templates
   pub rest : List Tok
-  pub spelled : tokens ≡ spell_templates read ++ rest
-  pub limited : IsWithinLimits read
+  pub spelled : tokens ≡ spell_templates v read ++ rest
+  pub limited : IsWithinLimits v read
   pub more : rest ≢ []
-  pub stopped : Stopped fault left (parse_template (counts_in read) rest)
+  pub stopped : Stopped fault left (parse_template v (counts_in read) rest)
 
 -- reading a network stops so many tokens before the end
 pub data StopsIn : List Tok → Rule → ℕ → Type 0 where
   in_opening : {tokens : List Tok} {fault : Rule} {left : ℕ} → Stopped fault left (parse_opening tokens) → StopsIn tokens fault left
-  in_template : {tokens rest : List Tok} {fault : Rule} {left : ℕ} → tokens ≡ spell [] ++ rest → StopsBehind rest fault left → StopsIn tokens fault left
+  in_template : {tokens rest : List Tok} {fault : Rule} {left : ℕ} (v : Version) → tokens ≡ spell v [] ++ rest → StopsBehind v rest fault left → StopsIn tokens fault left
 
 -- the offset of the first of these tokens, or where they end
 abbrev pub offset_of : ℕ → List Located → ℕ

@@ -12,7 +12,7 @@ use Rattle.sf_term.specs.declared.node.Node.{Node}
 use Rattle.sf_term.specs.declared.node.Node.TheVariants as ast
 use Rattle.sf_term.specs.declared.node.Primitive.TheVariants as primitives
 use Rattle.sf_term.specs.declared.program.Program.{Program}
-use Rattle.sf_term.specs.Trees.{Term, Template, primitive, joined, sided, headed, bare, with_value, arrow}
+use Rattle.sf_term.specs.Trees.{Term, Template, primitive, joined, sided, headed, with_value, arrow}
 use Rattle.sf_term.specs.Headers.{Header as TermHeader}
 use Rattle.sf_term.specs.Arena.{term_count, tree as term, expression_under, function_in, expressions_of as program_expressions, term_of, TermPartsBelow, headers_of as program_headers, template_in as term_template}
 use Rattle.sf_mean.specs.Networks.{network_of}

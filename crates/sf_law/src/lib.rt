@@ -5,8 +5,6 @@ mod node;
 mod plain_plan;
 mod plan;
 mod template;
-#[cfg(test)]
-mod tests;
 
 pub use node::{PlanId, PlanNode};
 pub use plain_plan::plain;

@@ -7,8 +7,6 @@ mod lexer;
 mod piece;
 mod place;
 mod symbol;
-#[cfg(test)]
-mod tests;
 mod text;
 mod token;
 mod word;

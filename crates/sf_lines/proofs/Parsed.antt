@@ -8,7 +8,7 @@ use Rattle.std.proofs.lemmas.Bool.{false≢true}
 use Rattle.std.proofs.lemmas.Bool.Decides.{nat_tests}
 use Rattle.sf_value.specs.Values.{Kind, Data}
 use Rattle.sf_decimal.specs.Decimals.{natural, BeginsNoDigit, digits_at, after_digits}
-use Rattle.sf_value.specs.Reading.{Refusal, bad_value, out_of_range, Reads}
+use Rattle.sf_value.specs.Reading.{Refusal, bad_value, out_of_range, duplicate_key, Reads}
 use Rattle.sf_value.specs.Refuses.{Refuses}
 use Rattle.sf_value.specs.declared.read.ReadRefusal.{ReadRefusal}
 use Rattle.sf_value.specs.declared.read.ReadRefusal.TheVariants as read
@@ -28,6 +28,7 @@ use Rattle.sf_lines.proofs.Forms.{no_digit}
 pub read_failed : (k : Kind) (bytes : List ℕ) (e : ReadRefusal) (r : LineRefusal) → Refuses k bytes e → r ≡ refusal_from e → r ≢ Memory → (why : Refusal) × Reads k bytes (Err why) × (r ≡ value_refusal why)
 read_failed k bytes (read.BadValue n) r h e some = (bad_value n, h, e)
 read_failed k bytes (read.OutOfRange n) r h e some = (out_of_range n, h, e)
+read_failed k bytes (read.DuplicateKey n) r h e some = (duplicate_key n, h, e)
 read_failed k bytes read.Memory r h e some = absurd (some e)
 
 -- the first of some bytes, and the others

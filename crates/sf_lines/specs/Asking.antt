@@ -2,9 +2,9 @@
 use Rattle.std.specs.Prelude.{◌≡◌, ◌≢◌, ℕ, zero, suc, ◌<◌, ◌==◌, Bool, true, false, nat_lt, if◌then◌else◌, List, [], ◌∷◌, ◌++◌, codes, Option, Some, None, Result, Ok, Err}
 use Rattle.sf_value.specs.Values.{Kind, Data}
 use Rattle.sf_decimal.specs.Decimals.{natural}
-use Rattle.sf_value.specs.Reading.{Refusal, bad_value, out_of_range, Reads}
+use Rattle.sf_value.specs.Reading.{Refusal, bad_value, out_of_range, duplicate_key, Reads}
 use Rattle.sf_lines.specs.declared.refusal.LineRefusal.{LineRefusal}
-use Rattle.sf_lines.specs.declared.refusal.LineRefusal.TheVariants.{BadLine, NotStarted, Started, BadStep, BadValue, OutOfRange}
+use Rattle.sf_lines.specs.declared.refusal.LineRefusal.TheVariants.{BadLine, NotStarted, Started, BadStep, BadValue, OutOfRange, DuplicateKey}
 
 -- The parts of a line: nothing, or a comment; a time step in milliseconds and the bytes of a value; a time step
 -- with the input unchanged.
@@ -49,6 +49,7 @@ pub record HasTimelyValue (started : Bool) (line : List ℕ) : Type 0 where
 abbrev pub value_refusal : Refusal → LineRefusal
 value_refusal (bad_value n) = BadValue
 value_refusal (out_of_range n) = OutOfRange
+value_refusal (duplicate_key n) = DuplicateKey
 
 -- a value at a time step
 abbrev pub asked_at : ℕ → Data → Asked

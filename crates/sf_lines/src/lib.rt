@@ -10,8 +10,6 @@ mod laws;
 mod reader;
 mod refusal;
 mod short;
-#[cfg(test)]
-mod tests;
 mod writer;
 
 pub use cutter::{Cut, Cutter};

@@ -34,7 +34,7 @@ pub(crate) enum Parts<'a> {
 /// The command of an input line, its line feed apart, where an engine has started or not and its input has this type.
 ///
 /// The form of a line is looked at first, then its time step, then its value: `BadLine`; `NotStarted` or `Started`;
-/// `BadStep`; `BadValue` or `OutOfRange`. `Memory` is answered only where memory runs out, and only of a line with a time
+/// `BadStep`; `BadValue`, `OutOfRange` or `DuplicateKey`. `Memory` is answered only where memory runs out, and only of a line with a time
 /// step and a value whose time step is not refused: no other line takes memory.
 pub fn read_line(
     alloc: Global,

@@ -32,6 +32,9 @@ pub enum LineRefusal {
     /// A number is outside signed 64 bits.
     #[error("OutOfRange")]
     OutOfRange,
+    /// A key stands twice in a table.
+    #[error("DuplicateKey")]
+    DuplicateKey,
     /// Memory ran out.
     #[error("Memory")]
     Memory,
@@ -44,6 +47,7 @@ impl From<ReadRefusal> for LineRefusal {
         match refusal {
             ReadRefusal::BadValue(_) => LineRefusal::BadValue,
             ReadRefusal::OutOfRange(_) => LineRefusal::OutOfRange,
+            ReadRefusal::DuplicateKey(_) => LineRefusal::DuplicateKey,
             ReadRefusal::Memory => LineRefusal::Memory,
         }
     }

@@ -96,6 +96,7 @@ fn name_of_refusal(refusal: LineRefusal) -> &'static [u8]
         LineRefusal::BadStep => b"BadStep",
         LineRefusal::BadValue => b"BadValue",
         LineRefusal::OutOfRange => b"OutOfRange",
+        LineRefusal::DuplicateKey => b"DuplicateKey",
         LineRefusal::Memory => b"Memory",
     }
 }

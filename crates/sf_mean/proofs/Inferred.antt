@@ -1,8 +1,10 @@
 -- The output types that are found are those that terms take inputs to.
-use Rattle.std.proofs.Common.{◌≡◌, Bool, true, false, ◌&&◌, cond, Some, None, refl, sym, ap, subst, ◌∙◌}
-use Rattle.std.specs.Prelude.{Option, nat_le}
+use Rattle.std.proofs.Common.{◌≡◌, ℕ, Bool, true, false, cond, List, [], ◌∷◌, Some, None, refl, sym, ap, subst, ◌∙◌}
+use Rattle.std.specs.Prelude.{Option, nat_le, map}
+use Rattle.std.proofs.lemmas.Slice.Eq.{bytes_eq-Decides}
 use mathlib.Core.Path.{ap₂}
-use Rattle.sf_value.specs.Values.{Kind, int_kind, pair_kind, nodes}
+use Rattle.sf_value.specs.Values.{Kind, unit_kind, bool_kind, int_kind, text_kind, pair_kind, event_kind, table_kind, nodes, IsNoPair}
+use Rattle.sf_value.specs.KindCodes.{KindMark, is_unit, is_bool, is_int, is_text, is_pair, is_event, is_int_table, is_text_table, kind_marks_of, kind_from, kind_from-kind_marks_of}
 use Rattle.sf_expr.specs.Expressions.{Expression}
 use Rattle.sf_expr.specs.Typing.{Fits, HasType}
 use Rattle.sf_expr.specs.Inference.{found_then, fitting, expression_type}
@@ -17,23 +19,56 @@ use Rattle.sf_term.specs.declared.form.Heading.TheVariants.{LoopPre}
 use Rattle.sf_term.specs.Trees.{Chain, lone, chained, on_side, on_both, fanned, Primitive, bare, with_value, arrow, fused, Term, primitive, joined, sided, headed, staged}
 use Rattle.sf_mean.specs.Contexts.{Context, names_of_values}
 use Rattle.sf_mean.specs.Typing.{ChainTakes, lone_takes, chained_takes, on_first_takes, on_second_takes, on_both_takes, fanned_takes, PrimitiveTakes, identity_takes, constant_takes, initial_pre_takes, arrow_takes, fused_takes, Takes, takes, FormTakes, primitive_takes, sequence_takes, parallel_takes, fan_takes, first_takes, second_takes, loop_takes, stages_take}
-use Rattle.sf_mean.specs.Inference.{Finds, same_kind, both_outputs, join_output, side_output, first_beside, heading_output, chain_output, primitive_output, with_fitting, form_output, term_output}
+use Rattle.sf_mean.specs.Inference.{Finds, mark_number, same_kind, parts_of, both_outputs, join_output, side_output, first_beside, heading_output, chain_output, primitive_output, with_fitting, form_output, term_output}
 
 -- ## The same types
 
-pub both_true : (a b : Bool) → a && b ≡ true → (a ≡ true) × (b ≡ true)
-both_true true b h = (refl, h)
-both_true false b h = absurd cc
+same_mark : (m n : KindMark) → mark_number m ≡ mark_number n → m ≡ n
+same_mark m n h = sym (marked m) ∙ ap mark_at h ∙ marked n
+  where
+    mark_at : ℕ → KindMark
+    mark_at i = cond (nat_le i 0) is_unit (cond (nat_le i 1) is_bool (cond (nat_le i 2) is_int (cond (nat_le i 3) is_text (cond (nat_le i 4) is_pair (cond (nat_le i 5) is_event (cond (nat_le i 6) is_int_table is_text_table))))))
+
+    marked : (m : KindMark) → mark_at (mark_number m) ≡ m
+    marked is_unit = refl
+    marked is_bool = refl
+    marked is_int = refl
+    marked is_text = refl
+    marked is_pair = refl
+    marked is_event = refl
+    marked is_int_table = refl
+    marked is_text_table = refl
+
+same_marks : (ms ns : List KindMark) → map mark_number ms ≡ map mark_number ns → ms ≡ ns
+same_marks [] [] h = refl
+same_marks [] (n ∷ ns) h = absurd cc
+same_marks (m ∷ ms) [] h = absurd cc
+same_marks (m ∷ ms) (n ∷ ns) h =
+    let front : mark_number m ≡ mark_number n = cc in
+    let rest : map mark_number ms ≡ map mark_number ns = cc in
+    ap₂ (λ k ks. k ∷ ks) (same_mark m n front) (same_marks ms ns rest)
 
 pub same_is : (t u : Kind) → same_kind t u ≡ true → t ≡ u
-same_is int_kind int_kind h = refl
-same_is (pair_kind t u) (pair_kind v w) h = let k = both_true (same_kind t v) (same_kind u w) h in ap₂ pair_kind (same_is t v k.0) (same_is u w k.1)
-same_is int_kind (pair_kind v w) h = absurd cc
-same_is (pair_kind t u) int_kind h = absurd cc
+same_is t u h = sym (kind_from-kind_marks_of t) ∙ ap kind_from (same_marks (kind_marks_of t) (kind_marks_of u) ((bytes_eq-Decides (map mark_number (kind_marks_of t)) (map mark_number (kind_marks_of u))).0 h)) ∙ kind_from-kind_marks_of u
 
 pub is_same : (t : Kind) → same_kind t t ≡ true
-is_same int_kind = refl
-is_same (pair_kind t u) = rw (is_same t) (is_same u)
+is_same t = let ns = map mark_number (kind_marks_of t) in (bytes_eq-Decides ns ns).1 refl
+
+-- ## Types of pairs
+
+-- what a type has as its parts
+pub data PartsAre : Kind → Option (Kind × Kind) → Type 0 where
+  two_parts : {t u : Kind} → PartsAre (pair_kind t u) (Some (t, u))
+  no_parts : {t : Kind} → IsNoPair t → PartsAre t None
+
+pub parts_are : (t : Kind) → PartsAre t (parts_of t)
+parts_are unit_kind = no_parts (λ t u e. cc)
+parts_are bool_kind = no_parts (λ t u e. cc)
+parts_are int_kind = no_parts (λ t u e. cc)
+parts_are text_kind = no_parts (λ t u e. cc)
+parts_are (pair_kind t u) = two_parts
+parts_are (event_kind v) = no_parts (λ t u e. cc)
+parts_are (table_kind k v) = no_parts (λ t u e. cc)
 
 -- ## What was found, by the groups of forms
 
@@ -64,18 +99,31 @@ pub data JoinIs (f g : Finds) : Join → Kind → Kind → Type 0 where
 
 join_found : (j : Join) (f g : Finds) (a c : Kind) → join_output j f g a ≡ Some c → JoinIs f g j a c
 join_found InSequence f g a c h = in_sequence (found_went f g a c h)
-join_found InParallel f g int_kind c h = absurd cc
-join_found InParallel f g (pair_kind a b) c h = elim (found_pairs (f a) (g b) c h) [ pairs o p e ↦ subst (JoinIs f g InParallel (pair_kind a b)) e (in_parallel o p) ]
+join_found InParallel f g a c h = each (parts_are a) h
+  where
+    each : {a : Kind} {parts : Option (Kind × Kind)} → PartsAre a parts → found_then parts (λ p. both_outputs (f p.0) (g p.1)) ≡ Some c → JoinIs f g InParallel a c
+    each (two_parts {t = a} {u = b}) h = elim (found_pairs (f a) (g b) c h) [ pairs o p e ↦ subst (JoinIs f g InParallel (pair_kind a b)) e (in_parallel o p) ]
+    each (no_parts n) h = absurd cc
 join_found FannedOut f g a c h = elim (found_pairs (f a) (g a) c h) [ pairs o p e ↦ subst (JoinIs f g FannedOut a) e (fanned_out o p) ]
 
 pub data SideIs (f : Finds) : Side → Kind → Kind → Type 0 where
   on_the_first : {a b c : Kind} → f a ≡ Some b → SideIs f First (pair_kind a c) (pair_kind b c)
   on_the_second : {a b c : Kind} → f a ≡ Some b → SideIs f Second (pair_kind c a) (pair_kind c b)
 
+same_some : {t u : Kind} → Some t ≡ Some u → t ≡ u
+same_some h = cc
+
 side_found : (d : Side) (f : Finds) (a b : Kind) → side_output d f a ≡ Some b → SideIs f d a b
-side_found d f int_kind b h = absurd cc
-side_found First f (pair_kind a c) b h = elim (found_went f (λ b. Some (pair_kind b c)) a b h) [ went {b = d} k e ↦ let is : pair_kind d c ≡ b = cc in subst (SideIs f First (pair_kind a c)) is (on_the_first k) ]
-side_found Second f (pair_kind c a) b h = elim (found_went f (λ b. Some (pair_kind c b)) a b h) [ went {b = d} k e ↦ let is : pair_kind c d ≡ b = cc in subst (SideIs f Second (pair_kind c a)) is (on_the_second k) ]
+side_found First f a b h = each (parts_are a) h
+  where
+    each : {a : Kind} {parts : Option (Kind × Kind)} → PartsAre a parts → found_then parts (λ p. both_outputs (f p.0) (Some p.1)) ≡ Some b → SideIs f First a b
+    each (two_parts {t = a} {u = c}) h = elim (found_pairs (f a) (Some c) b h) [ pairs {t = d} o p e ↦ subst (SideIs f First (pair_kind a c)) (ap (pair_kind d) (same_some p) ∙ e) (on_the_first o) ]
+    each (no_parts n) h = absurd cc
+side_found Second f a b h = each (parts_are a) h
+  where
+    each : {a : Kind} {parts : Option (Kind × Kind)} → PartsAre a parts → found_then parts (λ p. both_outputs (Some p.0) (f p.1)) ≡ Some b → SideIs f Second a b
+    each (two_parts {t = c} {u = a}) h = elim (found_pairs (Some c) (f a) b h) [ pairs {u = d} p o e ↦ subst (SideIs f Second (pair_kind c a)) (ap (λ v. pair_kind v d) (same_some p) ∙ e) (on_the_second o) ]
+    each (no_parts n) h = absurd cc
 
 -- ## Within the bound
 
@@ -175,14 +223,17 @@ module _ {Γ : Context} where
   sides d t F (on_the_second h) = second_takes (F _ _ h)
 
   loops : (e : Expression) (t : Term) → ((a b : Kind) → term_output Γ t a ≡ Some b → Takes Γ t a b) → (a b c : Kind) → expression_type (names_of_values Γ) e ≡ Some c → Went (term_output Γ t) (first_beside c) (pair_kind a c) b → FormTakes Γ (headed LoopPre e t) a b
-  loops e t F a b c h (went {b = int_kind} k g) = absurd cc
-  loops e t F a b c h (went {b = pair_kind v w} k g) = each (same_kind c w) refl g
+  loops e t F a b c h (went {b = d} k g) = each (parts_are d) k g
     where
-      each : (s : Bool) → same_kind c w ≡ s → cond s (Some v) None ≡ Some b → FormTakes Γ (headed LoopPre e t) a b
-      each true q g =
+      beside : (v w : Kind) → term_output Γ t (pair_kind a c) ≡ Some (pair_kind v w) → (s : Bool) → same_kind c w ≡ s → cond s (Some v) None ≡ Some b → FormTakes Γ (headed LoopPre e t) a b
+      beside v w k true q g =
           let is : v ≡ b = cc in
           subst (FormTakes Γ (headed LoopPre e t) a) is (loop_takes (found_typed (names_of_values Γ) e c h) (F (pair_kind a c) (pair_kind v c) (k ∙ ap (λ d. Some (pair_kind v d)) (sym (same_is c w q)))))
-      each false q g = absurd cc
+      beside v w k false q g = absurd cc
+
+      each : {d : Kind} {parts : Option (Kind × Kind)} → PartsAre d parts → term_output Γ t (pair_kind a c) ≡ Some d → found_then parts (λ p. cond (same_kind c p.1) (Some p.0) None) ≡ Some b → FormTakes Γ (headed LoopPre e t) a b
+      each (two_parts {t = v} {u = w}) k g = beside v w k (same_kind c w) refl g
+      each (no_parts n) k g = absurd cc
 
   looped : (e : Expression) (t : Term) → ((a b : Kind) → term_output Γ t a ≡ Some b → Takes Γ t a b) → (a b : Kind) (o : Option Kind) → expression_type (names_of_values Γ) e ≡ o → heading_output LoopPre o (term_output Γ t) a ≡ Some b → FormTakes Γ (headed LoopPre e t) a b
   looped e t F a b (Some c) h k = loops e t F a b c h (found_went (term_output Γ t) (first_beside c) (pair_kind a c) b k)

@@ -1,6 +1,8 @@
 -- The output types of terms under a context, found by a function.
-use Rattle.std.specs.Prelude.{Bool, true, false, ◌&&◌, nat_le, cond, Option, Some, None}
-use Rattle.sf_value.specs.Values.{Kind, int_kind, pair_kind, nodes}
+use Rattle.std.specs.Prelude.{ℕ, Bool, nat_le, cond, map, Option, Some, None}
+use Rattle.std.specs.Str.{bytes_eq}
+use Rattle.sf_value.specs.Values.{Kind, pair_kind, nodes}
+use Rattle.sf_value.specs.KindCodes.{KindMark, is_unit, is_bool, is_int, is_text, is_pair, is_event, is_int_table, is_text_table, kind_marks_of}
 use Rattle.sf_expr.specs.Inference.{found_then, fitting, expression_type, function_output}
 use Rattle.sf_term.specs.declared.form.Bare.TheVariants.{Identity}
 use Rattle.sf_term.specs.declared.form.WithValue.TheVariants.{Constant, InitialPre}
@@ -17,11 +19,25 @@ use Rattle.sf_mean.specs.Contexts.{Context, names_of_values}
 abbrev pub Finds : Type 0
 Finds = Kind → Option Kind
 
--- whether two types are the same
+-- the number of a mark
+abbrev pub mark_number : KindMark → ℕ
+mark_number is_unit = 0
+mark_number is_bool = 1
+mark_number is_int = 2
+mark_number is_text = 3
+mark_number is_pair = 4
+mark_number is_event = 5
+mark_number is_int_table = 6
+mark_number is_text_table = 7
+
+-- whether two types are the same, by their marks
 abbrev pub same_kind : Kind → Kind → Bool
-same_kind int_kind int_kind = true
-same_kind (pair_kind t u) (pair_kind v w) = same_kind t v && same_kind u w
-same_kind t u = false
+same_kind t u = bytes_eq (map mark_number (kind_marks_of t)) (map mark_number (kind_marks_of u))
+
+-- the two parts of a type of pairs
+abbrev pub parts_of : Kind → Option (Kind × Kind)
+parts_of (pair_kind t u) = Some (t, u)
+parts_of t = None
 
 -- the type of pairs of two outputs
 abbrev pub both_outputs : Option Kind → Option Kind → Option Kind
@@ -32,20 +48,17 @@ both_outputs None u = None
 -- the output of two parts that are joined
 abbrev pub join_output : Join → Finds → Finds → Finds
 join_output InSequence f g a = found_then (f a) g
-join_output InParallel f g int_kind = None
-join_output InParallel f g (pair_kind a c) = both_outputs (f a) (g c)
+join_output InParallel f g a = found_then (parts_of a) (λ p. both_outputs (f p.0) (g p.1))
 join_output FannedOut f g a = both_outputs (f a) (g a)
 
 -- the output of a part on one side of a pair
 abbrev pub side_output : Side → Finds → Finds
-side_output d f int_kind = None
-side_output First f (pair_kind a c) = found_then (f a) (λ b. Some (pair_kind b c))
-side_output Second f (pair_kind c a) = found_then (f a) (λ b. Some (pair_kind c b))
+side_output First f a = found_then (parts_of a) (λ p. both_outputs (f p.0) (Some p.1))
+side_output Second f a = found_then (parts_of a) (λ p. both_outputs (Some p.0) (f p.1))
 
 -- the first part of a type of pairs whose second part is this type
 abbrev pub first_beside : Kind → Finds
-first_beside c int_kind = None
-first_beside c (pair_kind b d) = cond (same_kind c d) (Some b) None
+first_beside c a = found_then (parts_of a) (λ p. cond (same_kind c p.1) (Some p.0) None)
 
 -- the output of a part whose second output is fed back, at first as a value of the type that was found
 abbrev pub heading_output : Heading → Option Kind → Finds → Finds

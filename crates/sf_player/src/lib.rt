@@ -15,6 +15,3 @@ pub use laws::{one_script, prefix_law};
 pub use options::Options;
 pub use session::play;
 pub use sf_refusal::{Breach, Refusal, Rule, Spot};
-
-#[cfg(test)]
-mod tests;

@@ -1,2 +1,1 @@
 pub mod Primitives
-pub mod Tested

@@ -2,7 +2,5 @@
 #![tactic(auto)]
 
 mod prim_state;
-#[cfg(test)]
-mod tests;
 
 pub use prim_state::PrimState;

@@ -4,8 +4,6 @@
 mod refusal;
 mod rule;
 mod spot;
-#[cfg(test)]
-mod tests;
 
 pub use refusal::{Breach, Refusal};
 pub use rule::Rule;

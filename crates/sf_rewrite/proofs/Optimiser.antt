@@ -14,7 +14,7 @@ use Rattle.sf_rewrite.specs.Laws.{identity, constant, arr, loop_pre, Laws, uncha
 use Rattle.sf_rewrite.specs.Plans.{Plans, plans, of_primitive, of_join, of_side, of_heading}
 use Rattle.sf_rewrite.specs.Normal.{is_arr, is_stage, may_meet, IsPlan, plan_primitive, plan_join, plan_side, plan_heading, plan_pipeline, IsRest, last_stage, more_stages, is_written}
 use Rattle.sf_rewrite.proofs.Parts.{no_truth}
-use Rattle.sf_mean.proofs.Inferred.{both_true}
+use Rattle.sf_rewrite.proofs.Quiet.{both_true}
 
 -- what laws make of a term: a plan
 pub record Planned (t : Term) : Type 0 where

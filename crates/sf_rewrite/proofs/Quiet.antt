@@ -1,5 +1,5 @@
 -- Quiet terms give a value without readings at each step, and cost their text.
-use Rattle.std.proofs.Common.{◌≡◌, IsTrue, List, [], ◌∷◌, refl, ap, ◌∙◌, subst}
+use Rattle.std.proofs.Common.{◌≡◌, IsTrue, Bool, true, false, ◌&&◌, List, [], ◌∷◌, refl, ap, ◌∙◌, subst}
 use Rattle.sf_value.specs.Values.{Data, pair, first_of, second_of}
 use Rattle.sf_expr.specs.Expressions.{Expression, variable, literal, paired as paired_expression, operation, Function, function}
 use Rattle.sf_expr.specs.Evaluation.{Evaluated, answer, ◌>>=◌, Scope, bound_in, eval, apply}
@@ -11,9 +11,12 @@ use Rattle.sf_term.specs.Trees.{Chain, lone, chained as chained_functions, on_si
 use Rattle.sf_mean.specs.Lives.{Step, step, wait_of, input_of, Life, Environment, scope_around, with_inputs, relay, fed}
 use Rattle.sf_mean.specs.Formulas.{side_of, with_side, apply_chain, value_formula, formula}
 use Rattle.sf_mean.specs.Meaning.{Outcome, gave, as_outcome, Cost, one_term, text_cost}
-use Rattle.sf_mean.proofs.Inferred.{both_true}
 use Rattle.sf_rewrite.specs.Quiet.{is_quiet_expression, is_quiet_function, is_quiet_chain, is_quiet_primitive, is_quiet}
 use Rattle.sf_rewrite.proofs.Parts.{Leaves, Part, part, Parts, begins, then_gave, At, at_primitive, at_join, at_stages, at_side, at_loop, then_part, Rounds, no_round, one_round, no_truth, OneLeaf, once_at}
+
+pub both_true : (a b : Bool) → a && b ≡ true → (a ≡ true) × (b ≡ true)
+both_true true b h = (refl, h)
+both_true false b h = absurd cc
 
 abbrev pub Answers : Evaluated Data → Type 0
 Answers v = (y : Data) × (v ≡ answer y)

@@ -2,7 +2,5 @@
 #![tactic(auto)]
 
 mod state;
-#[cfg(test)]
-mod tests;
 
 pub use state::{Env, Live, Process, State, Wrap, unshare};

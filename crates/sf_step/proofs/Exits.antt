@@ -78,6 +78,10 @@ module _ (p : Plan) where
       go : (o : Outcome) (k : Cost) → Gives net P L o k → entered_of m + count k ≤ 100000 → depth + height k ≤ 800 → ⊥
       go o k G a b = let c = counts net G in omega (arith, c.0, c.1, h, a, b)
 
+  -- memory runs out before a node is counted
+  pub first_memory : {a : State} {s : Step} {m n : Meter} {depth : ℕ} {f : Fault} → entered_of n ≡ entered_of m → height_of n ≡ height_of m → f ≡ Memory → StateSteps p a s (Err f) m n depth
+  first_memory en hn e P L A = memory_exit e (record { most = λ o k G. record { entered = omega (arith, en); high = omega (arith, hn) } })
+
   -- memory runs out before a part is stepped
   pub early_memory : {B : Type 0} {view : B → Data} {after : B → Type 0} {m n n' : Meter} {depth inside : ℕ} {P : Process} {L : Life} {f : Fault} → Ticks m n depth inside → entered_of n' ≡ entered_of n → height_of n' ≡ height_of n → f ≡ Memory
       → Answers view after (Gives net P L) (Err f) m n' depth

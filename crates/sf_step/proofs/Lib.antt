@@ -4,4 +4,3 @@ pub mod Exits
 pub mod Typed
 pub mod Stages
 pub mod Routes
-pub mod Tested

@@ -1,6 +1,6 @@
 -- What the parts of a form take at one step, and what its value is made of.
 use Rattle.std.specs.Prelude.{Bool, true, false}
-use Rattle.sf_value.specs.Values.{Data, number, pair, first_of, second_of}
+use Rattle.sf_value.specs.Values.{Data, pair, first_of, second_of}
 use Rattle.sf_term.specs.declared.form.Join.{Join}
 use Rattle.sf_term.specs.declared.form.Join.TheVariants.{InSequence, InParallel, FannedOut}
 use Rattle.sf_state.specs.declared.state.Wrap.{Wrap}
@@ -8,8 +8,8 @@ use Rattle.sf_state.specs.declared.state.Wrap.TheVariants.{First, Second, Loop}
 
 -- whether a value is a pair
 abbrev pub is_pair : Data → Bool
-is_pair (number z) = false
 is_pair (pair x y) = true
+is_pair d = false
 
 -- ## Joins
 

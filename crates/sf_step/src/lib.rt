@@ -5,8 +5,6 @@ mod context;
 mod meter;
 mod routing;
 mod sample;
-#[cfg(test)]
-mod tests;
 
 pub use meter::Meter;
 pub use sample::step;

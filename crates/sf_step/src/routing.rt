@@ -1,5 +1,5 @@
 //! What values are taken apart into, and what forms with one part keep at first.
-ghost use Rattle.std.specs.Prelude.{◌≡◌, [], IsTrue};
+ghost use Rattle.std.specs.Prelude.{◌≡◌, [], IsTrue, IfOk};
 ghost use Rattle.sf_value.specs.Values.{first_of, second_of};
 ghost use Rattle.sf_expr.specs.Expressions.{Expression};
 ghost use Rattle.sf_term.specs.Trees.{Term, sided, headed};
@@ -11,18 +11,64 @@ ghost use Rattle.sf_step.specs.Routing.{is_pair};
 use sf_state::Wrap;
 use sf_term::{Heading, Side};
 use sf_value::{Form, Value};
+use std::alloc::{AllocError, Global};
 use std::mem;
+use std::rc::Rc;
 
-/// The two parts of a pair, in their boxes. It leaves a number in its place.
+/// The two parts of a pair, as they are shared. It leaves a number in its place.
 #[inline(always)]
-pub(crate) fn halves(value: &mut Value) -> (Box<Value>, Box<Value>)
+pub(crate) fn halves(value: &mut Value) -> (Rc<Value>, Rc<Value>)
     requires { IsTrue (is_pair value.old) }
     ensures { (result.0.value ≡ first_of value.old) × (result.1.value ≡ second_of value.old) }
 {
     match mem::replace(value, Value::int(0)).into_form() {
-        Form::Int(_) => unreachable!(),
         Form::Pair(first, second) => (first, second),
+        _ => unreachable!(),
     }
+}
+
+/// The two parts of a pair, taken out of it.
+#[inline(always)]
+pub(crate) fn parts(alloc: Global, pair: Value) -> Result<(Value, Value), AllocError>
+    requires { IsTrue (is_pair pair) }
+    ensures { IfOk result (λ parts. (parts.0 ≡ first_of pair) × (parts.1 ≡ second_of pair)) }
+{
+    let mut pair = pair;
+    let (first, second) = halves(&mut pair);
+    Ok((taken(alloc, first)?, taken(alloc, second)?))
+}
+
+// The value, moved where this is its only owner.
+#[inline(always)]
+fn taken(alloc: Global, half: Rc<Value>) -> Result<Value, AllocError>
+    ensures { IfOk result (λ value. value ≡ half.value) }
+{
+    match Rc::try_unwrap(half) {
+        Ok(value) => Ok(value),
+        Err(shared) => shared.clone_in(alloc),
+    }
+}
+
+/// Makes a half of a pair its owner's alone: where it is shared, a copy takes its place, and the other owners keep it.
+#[inline(always)]
+pub(crate) fn unshare_half(alloc: Global, half: &mut Rc<Value>) -> Result<(), AllocError>
+    ensures { half.new.value ≡ half.old.value }
+{
+    if Rc::strong_count(half) == 1 {
+        return Ok(());
+    }
+    put_copy(alloc, half)
+}
+
+// Puts a copy in the place of a half.
+#[cold]
+#[inline(never)]
+fn put_copy(alloc: Global, half: &mut Rc<Value>) -> Result<(), AllocError>
+    ensures { half.new.value ≡ half.old.value }
+{
+    let copy = half.clone_in(alloc)?;
+    *half = Rc::new(alloc, copy)?;
+    Ok(())
 }
 
 /// A part on one side of a pair, before its first step.

@@ -16,7 +16,7 @@ ghost use Rattle.sf_step.specs.Stepping.{Steps, IsFed};
 
 use crate::context::SampleContext;
 use crate::meter::{Meter, Stop};
-use crate::routing::{halves, on_side, with_head};
+use crate::routing::{halves, on_side, parts, unshare_half, with_head};
 use sf_expr::{EvalFault, Scope, eval};
 use sf_law::{Plan, PlanId, PlanNode};
 use sf_prim::PrimState;
@@ -128,6 +128,30 @@ fn start(
     }
 }
 
+// The next sample of a part on a half of a pair, likewise.
+#[cycle(step)]
+#[inline(always)]
+fn step_half(
+    context: &SampleContext,
+    state: &mut State,
+    depth: u64,
+    half: &mut Rc<Value>,
+    meter: &mut Meter,
+) -> Result<(), Stop>
+    requires { ∥ IsFed (plan_in context.now) state.old half.old.value ∥₁ }
+    ensures grows { entered_of meter.old ≤ entered_of meter.new }
+    ensures answers { StateSteps (plan_in context.now) state.old (step (dt_in context.now) half.old.value)
+        (left_or result (state.new, half.new.value) (fault_in meter.new)) meter.old meter.new depth }
+{
+    let Ok(()) = unshare_half(context.alloc, half) else {
+        return Err(meter.stop(Fault::Memory));
+    };
+    match Rc::get_mut(half) {
+        Some(value) => step_state(context, state, depth, value, meter),
+        None => Err(meter.stop(Fault::Memory)),
+    }
+}
+
 // The next sample of a live part, which has been counted and whose parts stand inside `inside` nodes.
 #[cycle(step)]
 #[inline(always)]
@@ -172,8 +196,8 @@ fn step_parallel(
         (left_or result (Live.Join Join.InParallel left.new right.new, value.new) (fault_in meter.new)) meter.old meter.new inside }
 {
     let (mut first, mut second) = halves(value);
-    step_state(context, left, inside, &mut first, meter)?;
-    step_state(context, right, inside, &mut second, meter)?;
+    step_half(context, left, inside, &mut first, meter)?;
+    step_half(context, right, inside, &mut second, meter)?;
     *value = Value::of_halves(first, second);
     Ok(())
 }
@@ -247,13 +271,13 @@ fn step_wrap(
     match wrap {
         Wrap::First => {
             let (mut first, second) = halves(value);
-            step_state(context, part, inside, &mut first, meter)?;
+            step_half(context, part, inside, &mut first, meter)?;
             *value = Value::of_halves(first, second);
             Ok(())
         }
         Wrap::Second => {
             let (first, mut second) = halves(value);
-            step_state(context, part, inside, &mut second, meter)?;
+            step_half(context, part, inside, &mut second, meter)?;
             *value = Value::of_halves(first, second);
             Ok(())
         }
@@ -264,9 +288,11 @@ fn step_wrap(
                 return Err(meter.stop(Fault::Memory));
             };
             step_state(context, part, inside, &mut both, meter)?;
-            let (first, second) = halves(&mut both);
-            *value = Box::into_inner(first);
-            *next = Box::into_inner(second);
+            let Ok((output, fed)) = parts(context.alloc, both) else {
+                return Err(meter.stop(Fault::Memory));
+            };
+            *value = output;
+            *next = fed;
             Ok(())
         }
     }

@@ -12,13 +12,14 @@ use Rattle.sf_arena.proofs.Grown.{trees-length, added_counted, added_within, add
 use Rattle.sf_expr.specs.declared.exprs.ExprId.{ExprId}
 use Rattle.sf_expr.specs.declared.exprs.FunctionId.{FunctionId}
 use Rattle.sf_expr.specs.declared.exprs.NameId.{NameId}
+use Rattle.sf_expr.specs.declared.exprs.ConstantId.{ConstantId}
 use Rattle.sf_expr.specs.declared.exprs.ExprNode.TheVariants as expressions
 use Rattle.sf_value.specs.Values.{Name}
 use Rattle.sf_expr.specs.declared.exprs.ExprNode.{ExprNode}
 use Rattle.sf_expr.specs.declared.exprs.Exprs.{Exprs}
 use Rattle.sf_expr.specs.Patterns.{PlacedPattern}
-use Rattle.sf_expr.specs.Expressions.{Expression, variable}
-use Rattle.sf_expr.specs.Arena.{expression, count_of, function_count, Holds, HoldsFunction as HoldsFunctionIn, function_at, pattern_at as pattern_at_in, body_at as body_at_in, node_at as value_node_at, spot_at as value_spot_at, Keeps as KeepsExpressions, Adds as AddsToExpressions, AddsName, name_at, next_name, AddsFunction as AddsFunctionIn, IsUnchanged as ExpressionsUnchanged}
+use Rattle.sf_expr.specs.Expressions.{Literal, Expression, variable, literal}
+use Rattle.sf_expr.specs.Arena.{expression, count_of, function_count, Holds, HoldsFunction as HoldsFunctionIn, function_at, pattern_at as pattern_at_in, body_at as body_at_in, node_at as value_node_at, spot_at as value_spot_at, Keeps as KeepsExpressions, Adds as AddsToExpressions, AddsName, name_at, next_name, AddsConstant, literal_at, next_constant, AddsFunction as AddsFunctionIn, IsUnchanged as ExpressionsUnchanged}
 use Rattle.sf_expr.proofs.Entered.{below_holds, holds_below, below_function, function_below, few_expressions, adds_keeps as expressions_kept, unchanged_keeps as unchanged_expressions_kept}
 use Rattle.sf_term.specs.declared.refusal.BuildRefusal.{BuildRefusal}
 use Rattle.sf_term.specs.declared.node.TermId.{TermId}
@@ -176,7 +177,7 @@ adds_function old new f q b a same headers = record {
 
 -- the same expressions are kept
 same_kept : (x y : Exprs) → y ≡ x → KeepsExpressions x y
-same_kept x y e = subst (λ z. KeepsExpressions x z) (sym e) (record { holds = λ i h. h; nodes = λ i h. refl; trees = λ i h. refl; spots = λ i h. refl; functions = λ f h. h; patterns = λ f h. refl; bodies = λ f h. refl; meanings = λ f h. refl; holds_names = λ n h. h; names = λ n h. refl })
+same_kept x y e = subst (λ z. KeepsExpressions x z) (sym e) (record { holds = λ i h. h; nodes = λ i h. refl; trees = λ i h. refl; spots = λ i h. refl; functions = λ f h. h; patterns = λ f h. refl; bodies = λ f h. refl; meanings = λ f h. refl; holds_names = λ n h. h; names = λ n h. refl; holds_constants = λ n h. h; constants = λ n h. refl })
 
 pub bodies_end-append : (hs : List Header) (h : Header) → bodies_end (hs ++ h ∷ []) ≡ max (bodies_end hs) (suc h.body.0)
 bodies_end-append [] h = omega arith
@@ -224,12 +225,30 @@ unchanged old new x terms headers = record {
 }
 
 pub same_expressions : (x : Exprs) → ExpressionsUnchanged x x
-same_expressions x = record { count = refl; functions = refl; name_counted = refl; nodes = λ i. refl; trees = λ i. refl; spots = λ i. refl; patterns = λ f. refl; bodies = λ f. refl; names = λ n. refl }
+same_expressions x = record { count = refl; functions = refl; name_counted = refl; constant_counted = refl; nodes = λ i. refl; trees = λ i. refl; spots = λ i. refl; patterns = λ f. refl; bodies = λ f. refl; names = λ n. refl; constants = λ n. refl }
 
 -- a program shows the same where a name is added
 pub named : (old new : Program) (n : NameId) (y : Name) → AddsName old.expressions new.expressions n y → entries_of new.terms ≡ entries_of old.terms → headers_of new ≡ headers_of old → IsSameProgram old new
 unfolding term_count expression_count tree term_node_at term_spot_at expression_under expression_node_at expression_spot_at ProgramHoldsFunction function_pattern_at function_body_at
 named old new n y x terms headers = record {
+  term_counted = ap length terms;
+  expression_counted = x.count;
+  nodes = λ t. ap (λ es. (term_entry es t.0).node) terms;
+  trees = λ t. ap (λ es. term_entered new.expressions es t.0) terms ∙ term-same old.expressions new.expressions (entries_of old.terms) t.0 x.kept old.arena.closed old.arena.functions_closed;
+  spots = λ t. ap (λ es. (term_entry es t.0).spot) terms;
+  value_nodes = λ e. x.nodes e;
+  values = λ e. x.trees e;
+  value_spots = λ e. x.spots e;
+  holds_functions = λ f h. x.kept.functions f h;
+  patterns = λ f. x.patterns f;
+  bodies = λ f. x.bodies f;
+  headers = headers;
+}
+
+-- a program shows the same where a constant is added
+pub with_constant : (old new : Program) (n : ConstantId) (y : Literal) → AddsConstant old.expressions new.expressions n y → entries_of new.terms ≡ entries_of old.terms → headers_of new ≡ headers_of old → IsSameProgram old new
+unfolding term_count expression_count tree term_node_at term_spot_at expression_under expression_node_at expression_spot_at ProgramHoldsFunction function_pattern_at function_body_at
+with_constant old new n y x terms headers = record {
   term_counted = ap length terms;
   expression_counted = x.count;
   nodes = λ t. ap (λ es. (term_entry es t.0).node) terms;
@@ -425,6 +444,13 @@ adds_named a b c m y s (Ok id) named u adds =
     subst (λ (k : NameId). AddsExpression a c id (expressions.Name k) (variable y) s) named.next
     (subst (λ (z : Name). AddsExpression a c id (expressions.Name m) (variable z) s) named.is (adds_after a b c id _ _ s u adds))
 adds_named a b c m y s (Err f) named u adds = tt
+
+-- a constant that is added, and then its expression
+pub adds_with_constant : (a b c : Program) (m : ConstantId) (l : Literal) (s : Spot) (r : Result ExprId BuildRefusal) → AddsConstant a.expressions b.expressions m l → IsSameProgram a b → IfOk r (λ id. AddsExpression b c id (expressions.Constant m) (literal (literal_at b.expressions m)) s) → IfOk r (λ id. AddsExpression a c id (expressions.Constant (next_constant a.expressions)) (literal l) s)
+adds_with_constant a b c m l s (Ok id) added u adds =
+    subst (λ (k : ConstantId). AddsExpression a c id (expressions.Constant k) (literal l) s) added.next
+    (subst (λ (k : Literal). AddsExpression a c id (expressions.Constant m) (literal k) s) added.is (adds_after a b c id _ _ s u adds))
+adds_with_constant a b c m l s (Err f) added u adds = tt
 
 pub unchanged_after : {A E : Type 0} (a b c : Program) (r : Result A E) → IsSameProgram a b → OnErr r (IsSameProgram b c) → OnErr r (IsSameProgram a c)
 unchanged_after a b c (Ok x) u e = tt

@@ -7,8 +7,6 @@ mod node;
 mod program;
 mod refusal;
 mod template;
-#[cfg(test)]
-mod tests;
 
 pub use form::{Bare, Heading, Join, Side, WithValue};
 pub use node::{Node, Primitive, TermId};

@@ -4,7 +4,7 @@ ghost use Rattle.sf_lex.specs.Words.{IsName};
 ghost use Rattle.sf_expr.specs.Expressions.{variable, literal, int_literal, paired, operation as operation_of};
 ghost use Rattle.sf_expr.specs.Expressions.{function as function_of, depth as expression_depth_of, function_depth as function_depth_of};
 ghost use Rattle.sf_expr.specs.Patterns.{pattern_of};
-ghost use Rattle.sf_expr.specs.Arena.{next_name, expression_of, HoldsParts as HoldsExpressionParts};
+ghost use Rattle.sf_expr.specs.Arena.{next_name, next_constant, expression_of, HoldsParts as HoldsExpressionParts};
 ghost use Rattle.sf_expr.specs.declared.exprs.ExprNode.TheVariants as expressions;
 ghost use Rattle.sf_term.specs.Headers.{bodies_end};
 ghost use Rattle.sf_arena.specs.Arenas.{entries_of};
@@ -18,7 +18,7 @@ use crate::node::{Node, Primitive, TermId};
 use crate::refusal::BuildRefusal;
 use crate::template::{Template, clone_all};
 use sf_arena::{Arena, Entry};
-use sf_expr::{ExprId, ExprNode, Exprs, FunctionId, Operator, Pat, Spot};
+use sf_expr::{Constant, ExprId, ExprNode, Exprs, FunctionId, Operator, Pat, Spot};
 use sf_lex::is_name;
 use sf_value::Ty;
 use std::alloc::{AllocError, Global};
@@ -147,6 +147,26 @@ impl Program {
         }
         match self.expressions.name(name) {
             Ok(name) => self.add_expression(ExprNode::Name(name), spot),
+            Err(_) => Err(BuildRefusal::Memory),
+        }
+    }
+
+    /// Adds a constant to the expressions. Refused with `TooMany` where 100,000 expressions are there, and with
+    /// `Memory`. A refused call changes nothing.
+    #[tactic(auto, unfolding(crate::specs::Arena::expression_count, crate::specs::Arena::expressions_of, crate::specs::Arena::expression_under, crate::specs::Arena::HoldsExpression))]
+    pub fn constant(&mut self, value: Constant, spot: Spot) -> Result<ExprId, BuildRefusal>
+        ensures ok { let next = next_constant (expressions_of self.old) in
+            IfOk result (λ id. AddsExpression self.old self.new id (expressions.Constant next) (literal value) spot) }
+        ensures many { result ≡ Err BuildRefusal.TooMany ↔ 100000 ≤ expression_count self.old }
+        ensures not_deep { ¬ (result ≡ Err BuildRefusal.TooDeep) }
+        ensures no_name { ¬ (result ≡ Err BuildRefusal.BadName) }
+        ensures err { OnErr result (IsSameProgram self.old self.new) }
+    {
+        if 100_000 <= self.expressions.len() {
+            return Err(BuildRefusal::TooMany);
+        }
+        match self.expressions.constant(value) {
+            Ok(constant) => self.add_expression(ExprNode::Constant(constant), spot),
             Err(_) => Err(BuildRefusal::Memory),
         }
     }

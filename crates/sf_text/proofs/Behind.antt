@@ -13,7 +13,8 @@ use Rattle.sf_lex.specs.declared.token.PlacedToken.{PlacedToken}
 use Rattle.sf_lex.specs.Tokens.{Tok, token_of}
 use Rattle.sf_text.specs.declared.stop.Stop.{Stop}
 use Rattle.sf_text.specs.declared.stop.Stop.TheVariants.{At as At', Memory}
-use Rattle.sf_grammar.specs.Spelling.{spell_template, spell_templates, term_total, expression_total, HasSmallTypes}
+use Rattle.sf_grammar.specs.declared.ty.Version.{Version}
+use Rattle.sf_grammar.specs.Spelling.{spell_template, spell_templates, term_total, expression_total, HasWrittenTypes}
 use Rattle.sf_grammar.specs.Reading.{Counts, parse_template}
 use Rattle.sf_text.specs.Answers.{StopsReading, toks, counts_of, FoundTemplate, AreNamed}
 use Rattle.sf_grammar.specs.Stopping.{Stopped}
@@ -24,16 +25,16 @@ use Rattle.sf_text.proofs.Placed.{templates_keep, templates_more}
 use Rattle.sf_grammar.proofs.Takes.{TookTemplate, template_takes}
 use Rattle.sf_text.proofs.Named.{named_behind}
 
-took : (old new : Program) (rest behind : List Tok) (f : FoundTemplate old new behind (parse_template (counts_of old) rest)) → TookTemplate (counts_of old) rest f.template behind
-took old new rest behind f = template_takes (counts_of old) rest f.template behind (few_program_expressions old) f.is
+took : (v : Version) (old new : Program) (rest behind : List Tok) (f : FoundTemplate old new behind (parse_template v (counts_of old) rest)) → TookTemplate v (counts_of old) rest f.template behind
+took v old new rest behind f = template_takes v (counts_of old) rest f.template behind (few_program_expressions old) f.is
 
 -- what is behind a template is shorter
-pub behind_shorter : (old new : Program) (rest behind : List Tok) → FoundTemplate old new behind (parse_template (counts_of old) rest) → length behind < length rest
-behind_shorter old new rest behind f = let t = took old new rest behind f in omega (arith, simp length-append at (ap length t.spelled))
+pub behind_shorter : (v : Version) (old new : Program) (rest behind : List Tok) → FoundTemplate old new behind (parse_template v (counts_of old) rest) → length behind < length rest
+behind_shorter v old new rest behind f = let t = took v old new rest behind f in omega (arith, simp length-append at (ap length t.spelled))
 
-pub behind_more : (tokens rest behind : List Tok) (old new : Program) → Behind tokens old rest → FoundTemplate old new behind (parse_template (counts_of old) rest) → Behind tokens new behind
-behind_more tokens rest behind old new b f =
-    let t = took old new rest behind f in
+pub behind_more : (v : Version) (tokens rest behind : List Tok) (old new : Program) → Behind v tokens old rest → FoundTemplate old new behind (parse_template v (counts_of old) rest) → Behind v tokens new behind
+behind_more v tokens rest behind old new b f =
+    let t = took v old new rest behind f in
     let terms : term_total (templates_of old ++ f.template ∷ []) ≡ term_total (templates_of old) + terms_in f.template.body = sum_by_push (λ (t : Template). terms_in t.body) (templates_of old) f.template in
     let expressions : expression_total (templates_of old ++ f.template ∷ []) ≡ expression_total (templates_of old) + expressions_in f.template.body = sum_by_push (λ (t : Template). expressions_in t.body) (templates_of old) f.template in
     let all_terms : term_count new ≡ term_total (templates_of new) =
@@ -42,22 +43,22 @@ behind_more tokens rest behind old new b f =
     f.expressions ∙ ap (λ (c : Counts). c.expressions + expressions_in f.template.body) b.counted ∙ sym expressions ∙ ap expression_total (sym f.templates) in
     let shallow : Template → Type 0 = λ t. term_depth t.body ≤ 64 in
     record {
-      spelled = b.spelled ∙ ap (λ r. spell_templates (templates_of old) ++ r) t.spelled ∙ sym (append_assoc (spell_templates (templates_of old)) (spell_template f.template) behind)
-          ∙ ap (λ xs. xs ++ behind) (flat_map_more spell_template [] (templates_of old) f.template) ∙ ap (λ ts. spell_templates ts ++ behind) (sym f.templates);
+      spelled = b.spelled ∙ ap (λ r. spell_templates v (templates_of old) ++ r) t.spelled ∙ sym (append_assoc (spell_templates v (templates_of old)) (spell_template v f.template) behind)
+          ∙ ap (λ xs. xs ++ behind) (flat_map_more (spell_template v) [] (templates_of old) f.template) ∙ ap (λ ts. spell_templates v ts ++ behind) (sym f.templates);
       counted = rw (all_terms, all_expressions) refl;
       limited = record {
         shallow = subst (All shallow) (sym f.templates) (All-append shallow (templates_of old) (f.template ∷ []) b.limited.shallow (All-cons shallow f.template [] t.shallow (All-nil shallow)));
-        small = subst (All HasSmallTypes) (sym f.templates) (All-append HasSmallTypes (templates_of old) (f.template ∷ []) b.limited.small (All-cons HasSmallTypes f.template [] t.small (All-nil HasSmallTypes)));
+        typed = subst (All (HasWrittenTypes v)) (sym f.templates) (All-append (HasWrittenTypes v) (templates_of old) (f.template ∷ []) b.limited.typed (All-cons (HasWrittenTypes v) f.template [] t.typed (All-nil (HasWrittenTypes v))));
         few_terms = omega (arith, few_terms new);
         few_expressions = omega (arith, few_program_expressions new);
       };
-      named = named_behind (spell_template f.template) behind (subst AreNamed t.spelled b.named);
+      named = named_behind (spell_template v f.template) behind (subst AreNamed t.spelled b.named);
     }
 
 -- the templates in front of an index were read
-pub record At (tokens : List Tok) (p : Program) (at : ℕ) : Type 0 where
+pub record At (v : Version) (tokens : List Tok) (p : Program) (at : ℕ) : Type 0 where
   pub within : at ≤ length tokens
-  pub behind : Behind tokens p (drop at tokens)
+  pub behind : Behind v tokens p (drop at tokens)
 
 -- the end of a list, by its length
 ends : {A : Type 0} (xs front ys zs : List A) → xs ≡ front ++ (ys ++ zs) → drop (length xs - length zs) xs ≡ zs
@@ -72,14 +73,14 @@ ends xs front ys zs same = drop-end
     drop-end : drop (length xs - length zs) xs ≡ zs
     drop-end = ap (drop (length xs - length zs)) split ∙ drop_at (front ++ ys) zs (length xs - length zs) counted
 
-pub at_more : (tokens behind : List Tok) (at : ℕ) (old new : Program) → At tokens old at → FoundTemplate old new behind (parse_template (counts_of old) (drop at tokens))
-    → At tokens new (length tokens - length behind)
-at_more tokens behind at old new a f =
-    let t = took old new (drop at tokens) behind f in
-    let whole : tokens ≡ take at tokens ++ (spell_template f.template ++ behind) = sym (take-append-drop at tokens) ∙ ap (λ r. take at tokens ++ r) t.spelled in
+pub at_more : (v : Version) (tokens behind : List Tok) (at : ℕ) (old new : Program) → At v tokens old at → FoundTemplate old new behind (parse_template v (counts_of old) (drop at tokens))
+    → At v tokens new (length tokens - length behind)
+at_more v tokens behind at old new a f =
+    let t = took v old new (drop at tokens) behind f in
+    let whole : tokens ≡ take at tokens ++ (spell_template v f.template ++ behind) = sym (take-append-drop at tokens) ∙ ap (λ r. take at tokens ++ r) t.spelled in
     record {
       within = omega arith;
-      behind = subst (Behind tokens new) (sym (ends tokens (take at tokens) (spell_template f.template) behind whole)) (behind_more tokens (drop at tokens) behind old new a.behind f);
+      behind = subst (Behind v tokens new) (sym (ends tokens (take at tokens) (spell_template v f.template) behind whole)) (behind_more v tokens (drop at tokens) behind old new a.behind f);
     }
 
 -- tokens from an index on, as a slice
@@ -91,22 +92,22 @@ places_from : (tokens : List PlacedToken) (at : ℕ) → places (take (length to
 places_from tokens at = ap places (take_rest tokens at) ∙ sym (drop-map (λ (p : PlacedToken). p.spot) at tokens)
 
 -- the templates in front of an index were read, and stand where their tokens do
-pub record Reached (tokens : List PlacedToken) (p : Program) (at : ℕ) : Type 0 where
-  pub templates : At (toks tokens) p at
-  pub placed : Consumes (TemplatesPlaced p (headers_of p)) (places tokens) (drop at (places tokens))
+pub record Reached (v : Version) (tokens : List PlacedToken) (p : Program) (at : ℕ) : Type 0 where
+  pub templates : At v (toks tokens) p at
+  pub placed : Consumes (TemplatesPlaced v p (headers_of p)) (places tokens) (drop at (places tokens))
 
 no_headers : (p : Program) (hs : List Header) → map (template_in p) hs ≡ [] → hs ≡ []
 no_headers p [] same = refl
 no_headers p (h ∷ hs) same = cc
 
-pub none_reached : (tokens : List PlacedToken) (p : Program) → IsBlankProgram p → Consumes (TemplatesPlaced p (headers_of p)) (places tokens) (drop 0 (places tokens))
-none_reached tokens p blank = record { front = []; split = refl; holds = subst (λ hs. TemplatesPlaced p hs []) (sym (no_headers p (headers_of p) blank.templates)) none_placed }
+pub none_reached : (v : Version) (tokens : List PlacedToken) (p : Program) → IsBlankProgram p → Consumes (TemplatesPlaced v p (headers_of p)) (places tokens) (drop 0 (places tokens))
+none_reached v tokens p blank = record { front = []; split = refl; holds = subst (λ hs. TemplatesPlaced v p hs []) (sym (no_headers p (headers_of p) blank.templates)) none_placed }
 
 -- one template more was reached
-placed_more : (tokens behind : List PlacedToken) (at : ℕ) (old new : Program) → Consumes (TemplatesPlaced old (headers_of old)) (places tokens) (drop at (places tokens))
-    → PlacesTemplate old new (places (take (length tokens - at) (drop at tokens))) (places behind)
-    → Consumes (TemplatesPlaced new (headers_of new)) (places tokens) (drop (length tokens - length behind) (places tokens))
-placed_more tokens behind at old new a t =
+placed_more : (v : Version) (tokens behind : List PlacedToken) (at : ℕ) (old new : Program) → Consumes (TemplatesPlaced v old (headers_of old)) (places tokens) (drop at (places tokens))
+    → PlacesTemplate v old new (places (take (length tokens - at) (drop at tokens))) (places behind)
+    → Consumes (TemplatesPlaced v new (headers_of new)) (places tokens) (drop (length tokens - length behind) (places tokens))
+placed_more v tokens behind at old new a t =
     let m : length (places tokens) ≡ length tokens = simp length-map in
     let n : length (places behind) ≡ length behind = simp length-map in
     let whole : places tokens ≡ a.front ++ (t.placed.front ++ places behind) = a.split ∙ ap (λ r. a.front ++ r) (sym (places_from tokens at) ∙ t.placed.split) in
@@ -116,49 +117,49 @@ placed_more tokens behind at old new a t =
     record {
       front = a.front ++ t.placed.front;
       split = whole ∙ sym (append_assoc a.front t.placed.front (places behind)) ∙ ap (λ r. (a.front ++ t.placed.front) ++ r) (sym rest);
-      holds = subst (λ hs. TemplatesPlaced new hs (a.front ++ t.placed.front)) (sym t.headers)
-          (templates_more new (headers_of old) t.header a.front t.placed.front (templates_keep old new t.kept (headers_of old) a.front a.holds) t.placed.holds);
+      holds = subst (λ hs. TemplatesPlaced v new hs (a.front ++ t.placed.front)) (sym t.headers)
+          (templates_more v new (headers_of old) t.header a.front t.placed.front (templates_keep v old new t.kept (headers_of old) a.front a.holds) t.placed.holds);
     }
 
 -- all templates were reached
-pub all_reached : (tokens : List PlacedToken) (p : Program) (at : ℕ) → length tokens ≤ at → Consumes (TemplatesPlaced p (headers_of p)) (places tokens) (drop at (places tokens)) → TemplatesPlaced p (headers_of p) (places tokens)
-all_reached tokens p at past c =
+pub all_reached : (v : Version) (tokens : List PlacedToken) (p : Program) (at : ℕ) → length tokens ≤ at → Consumes (TemplatesPlaced v p (headers_of p)) (places tokens) (drop at (places tokens)) → TemplatesPlaced v p (headers_of p) (places tokens)
+all_reached v tokens p at past c =
     let m : length (places tokens) ≡ length tokens = simp length-map in
     let none : drop at (places tokens) ≡ [] = drop_all at (places tokens) (omega arith) in
-    subst (TemplatesPlaced p (headers_of p)) (sym (c.split ∙ ap (λ r. c.front ++ r) none ∙ append-nil c.front)) c.holds
+    subst (TemplatesPlaced v p (headers_of p)) (sym (c.split ∙ ap (λ r. c.front ++ r) none ∙ append-nil c.front)) c.holds
 
 -- after a template was read
-pub record Next (tokens behind : List PlacedToken) (at : ℕ) (new : Program) : Type 0 where
+pub record Next (v : Version) (tokens behind : List PlacedToken) (at : ℕ) (new : Program) : Type 0 where
   pub within : length behind ≤ length tokens
   pub further : at < length tokens - length behind
-  pub reached : Reached tokens new (length tokens - length behind)
+  pub reached : Reached v tokens new (length tokens - length behind)
 
-pub next_at : (tokens behind : List PlacedToken) (at : ℕ) (old new : Program) → Reached tokens old at → at < length tokens
-    → FoundTemplate old new (toks behind) (parse_template (counts_of old) (toks (take (length tokens - at) (drop at tokens))))
-    → PlacesTemplate old new (places (take (length tokens - at) (drop at tokens))) (places behind) → Next tokens behind at new
-next_at tokens behind at old new reached short found placed =
+pub next_at : (v : Version) (tokens behind : List PlacedToken) (at : ℕ) (old new : Program) → Reached v tokens old at → at < length tokens
+    → FoundTemplate old new (toks behind) (parse_template v (counts_of old) (toks (take (length tokens - at) (drop at tokens))))
+    → PlacesTemplate v old new (places (take (length tokens - at) (drop at tokens))) (places behind) → Next v tokens behind at new
+next_at v tokens behind at old new reached short found placed =
     let a = reached.templates in
-    let f : FoundTemplate old new (toks behind) (parse_template (counts_of old) (drop at (toks tokens))) =
-    subst (λ (ts : List Tok). FoundTemplate old new (toks behind) (parse_template (counts_of old) ts)) (toks_from tokens at) found in
+    let f : FoundTemplate old new (toks behind) (parse_template v (counts_of old) (drop at (toks tokens))) =
+    subst (λ (ts : List Tok). FoundTemplate old new (toks behind) (parse_template v (counts_of old) ts)) (toks_from tokens at) found in
     let m : length (toks tokens) ≡ length tokens = simp length-map in
     let n : length (toks behind) ≡ length behind = simp length-map in
-    let s = behind_shorter old new (drop at (toks tokens)) (toks behind) f in
+    let s = behind_shorter v old new (drop at (toks tokens)) (toks behind) f in
     let d : length (drop at (toks tokens)) ≡ length (toks tokens) - at = length-drop at (toks tokens) in
     let there : length (toks tokens) - length (toks behind) ≡ length tokens - length behind = omega arith in
     record {
       within = omega arith;
       further = omega arith;
       reached = record {
-        templates = subst (At (toks tokens) new) there (at_more (toks tokens) (toks behind) at old new a f);
-        placed = placed_more tokens behind at old new reached.placed placed;
+        templates = subst (At v (toks tokens) new) there (at_more v (toks tokens) (toks behind) at old new a f);
+        placed = placed_more v tokens behind at old new reached.placed placed;
       };
     }
 
 -- a template stops behind others
-pub stops_after : (tokens : List PlacedToken) (at : ℕ) (p : Program) (e : Stop) → At (toks tokens) p at → at < length tokens
-    → StopsReading e (parse_template (counts_of p) (toks (take (length tokens - at) (drop at tokens)))) → StopsAfter e (toks tokens)
-stops_after tokens at p Memory a short stopped = tt
-stops_after tokens at p (At' fault left) a short stopped =
+pub stops_after : (v : Version) (tokens : List PlacedToken) (at : ℕ) (p : Program) (e : Stop) → At v (toks tokens) p at → at < length tokens
+    → StopsReading e (parse_template v (counts_of p) (toks (take (length tokens - at) (drop at tokens)))) → StopsAfter v e (toks tokens)
+stops_after v tokens at p Memory a short stopped = tt
+stops_after v tokens at p (At' fault left) a short stopped =
     let m : length (toks tokens) ≡ length tokens = simp length-map in
     let d : length (drop at (toks tokens)) ≡ length (toks tokens) - at = length-drop at (toks tokens) in
     record {
@@ -167,6 +168,6 @@ stops_after tokens at p (At' fault left) a short stopped =
       spelled = a.behind.spelled;
       limited = a.behind.limited;
       more = λ none. absurd (omega (arith, ap length none));
-      stopped = subst (λ (c : Counts). Stopped fault left (parse_template c (drop at (toks tokens)))) a.behind.counted
-          (subst (λ (ts : List Tok). Stopped fault left (parse_template (counts_of p) ts)) (toks_from tokens at) stopped);
+      stopped = subst (λ (c : Counts). Stopped fault left (parse_template v c (drop at (toks tokens)))) a.behind.counted
+          (subst (λ (ts : List Tok). Stopped fault left (parse_template v (counts_of p) ts)) (toks_from tokens at) stopped);
     }

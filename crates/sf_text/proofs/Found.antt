@@ -2,12 +2,12 @@
 use Rattle.std.proofs.Common.{◌≡◌, ℕ, ◌+◌, ◌<◌, ◌≤◌, inl, inr, nat_le, Bool, List, length, if◌then◌else◌, refl, sym, ◌∙◌, ap, subst, arith}
 use Rattle.std.proofs.lemmas.Bool.Decides.{leb_tells}
 use Rattle.std.proofs.lemmas.List.{length-map}
-use Rattle.sf_value.specs.Values.{Kind, pair_kind, nodes}
+use Rattle.sf_value.specs.Values.{Kind, nodes}
 use Rattle.sf_value.specs.declared.ty.TyRefusal.{TyRefusal}
 use Rattle.sf_value.specs.declared.ty.TyRefusal.TheVariants as type_refusals
 use Rattle.sf_expr.specs.declared.exprs.ExprId.{ExprId}
 use Rattle.sf_expr.specs.declared.exprs.FunctionId.{FunctionId}
-use Rattle.sf_expr.specs.Expressions.{Pattern, Expression, paired, operation, depth as expression_depth, size, function, function_depth}
+use Rattle.sf_expr.specs.Expressions.{Literal, Pattern, Expression, literal, paired, operation, depth as expression_depth, size, function, function_depth}
 use Rattle.sf_term.specs.declared.form.WithValue.{WithValue}
 use Rattle.sf_term.specs.declared.form.Join.{Join}
 use Rattle.sf_term.specs.declared.form.Side.{Side}
@@ -23,6 +23,7 @@ use Rattle.sf_term.proofs.Kept.{few_program_expressions}
 use Rattle.sf_lex.specs.declared.symbol.Symbol.TheVariants as symbols
 use Rattle.sf_lex.specs.declared.token.PlacedToken.{PlacedToken}
 use Rattle.sf_lex.specs.Tokens.{Tok}
+use Rattle.sf_grammar.specs.declared.ty.Version.{Version}
 use Rattle.sf_grammar.specs.declared.head.Link.{Link}
 use Rattle.sf_grammar.specs.declared.head.Link.TheVariants as links
 use Rattle.sf_refusal.specs.declared.rule.Rule.TheVariants.{TooMany}
@@ -58,6 +59,9 @@ expression_refused {old} {mid} {built} {rest} {read} tokens refusal e ready is m
     (λ same. let full : 100000 ≤ expression_count mid = many same in omega (arith, ready.expressions))
     (λ same. let too : 64 < expression_depth built = deep same in let d : expression_depth built ≡ expression_depth ready.value = ap expression_depth ready.same in omega (arith, ready.shallow)) named)
 
+pub literal_ready : {old : Program} (l : Literal) (start rest : List Tok) → ReadyExpression old old (literal l) start rest (expression_read (counts_of old) (literal l) start rest)
+literal_ready l start rest = record { value = literal l; is = refl; same = refl; shallow = omega arith; expressions = refl }
+
 -- a term whose parts were read, before it is added to the program
 pub record Ready (old mid : Program) (built : Term) (start rest : List Tok) (read : Read Term) : Type 0 where
   pub term : Term
@@ -74,11 +78,11 @@ term_refused {old} {mid} {built} {rest} {read} tokens refusal e ready is many de
     (λ same. let full : 100000 ≤ term_count mid = many same in omega (arith, ready.terms))
     (λ same. let too : 64 < term_depth built = deep same in let d : term_depth built ≡ term_depth ready.term = ap term_depth ready.same in omega (arith, ready.shallow)) named)
 
-expression_taken : (old new : Program) (id : ExprId) (rest tokens : List Tok) (d : ℕ) → (f : FoundExpression old new id rest (parse_expression d (counts_of old) tokens)) → TookExpression d (counts_of old) tokens f.value rest
-expression_taken old new id rest tokens d f = expression_takes d (counts_of old) tokens f.value rest f.is
+expression_taken : (v : Version) (old new : Program) (id : ExprId) (rest tokens : List Tok) (d : ℕ) → (f : FoundExpression old new id rest (parse_expression d v (counts_of old) tokens)) → TookExpression v d (counts_of old) tokens f.value rest
+expression_taken v old new id rest tokens d f = expression_takes v d (counts_of old) tokens f.value rest f.is
 
-term_taken : (old new : Program) (id : TermId) (rest tokens : List Tok) (d : ℕ) → (f : FoundTerm old new id rest (parse_term d (counts_of old) tokens)) → Took d (counts_of old) tokens f.term rest
-term_taken old new id rest tokens d f = term_takes d (counts_of old) tokens f.term rest (few_program_expressions old) f.is
+term_taken : (v : Version) (old new : Program) (id : TermId) (rest tokens : List Tok) (d : ℕ) → (f : FoundTerm old new id rest (parse_term d v (counts_of old) tokens)) → Took v d (counts_of old) tokens f.term rest
+term_taken v old new id rest tokens d f = term_takes v d (counts_of old) tokens f.term rest (few_program_expressions old) f.is
 
 behind_expression : (old mid : Program) (e : Expression) → term_count mid ≡ term_count old → expression_count mid ≡ expression_count old + size e → counts_of mid ≡ counts_with_expression (counts_of old) e
 behind_expression old mid e terms expressions = rw (terms, expressions) refl
@@ -87,21 +91,21 @@ behind_term : (old mid : Program) (f : Term) → term_count mid ≡ term_count o
 behind_term old mid f terms expressions = rw (terms, expressions) refl
 
 -- two expressions in brackets
-pub linked_ready : {old one two : Program} {start r1 r2 r3 rest : List Tok} {a b : ExprId} {l : Link} (d : ℕ) (tokens : List Tok) → d ≤ 63 → FoundExpression old one a r1 (parse_expression d (counts_of old) tokens)
-    → parse_link r1 ≡ got l r2 → FoundExpression one two b r3 (parse_expression d (counts_of one) r2) → parse_symbol symbols.Close r3 ≡ got tt rest
-    → ReadyExpression old two (linked l (expression_in two a) (expression_in two b)) start rest (parse_linked (parse_expression d) (counts_of old) start tokens)
+pub linked_ready : (v : Version) {old one two : Program} {start r1 r2 r3 rest : List Tok} {a b : ExprId} {l : Link} (d : ℕ) (tokens : List Tok) → d ≤ 63 → FoundExpression old one a r1 (parse_expression d v (counts_of old) tokens)
+    → parse_link r1 ≡ got l r2 → FoundExpression one two b r3 (parse_expression d v (counts_of one) r2) → parse_symbol symbols.Close r3 ≡ got tt rest
+    → ReadyExpression old two (linked l (expression_in two a) (expression_in two b)) start rest (parse_linked (parse_expression d v) (counts_of old) start tokens)
 unfolding parse_linked
-linked_ready {old} {one} {two} {start} {r1} {r2} {r3} {rest} {a} {b} {l} d tokens small f linking g closing =
-    let second : parse_expression d (counts_with_expression (counts_of old) f.value) r2 ≡ got g.value r3 =
-    subst (λ (c : Counts). parse_expression d c r2 ≡ got g.value r3) (behind_expression old one f.value f.terms f.expressions) g.is in
+linked_ready v {old} {one} {two} {start} {r1} {r2} {r3} {rest} {a} {b} {l} d tokens small f linking g closing =
+    let second : parse_expression d v (counts_with_expression (counts_of old) f.value) r2 ≡ got g.value r3 =
+    subst (λ (c : Counts). parse_expression d v c r2 ≡ got g.value r3) (behind_expression old one f.value f.terms f.expressions) g.is in
     let first_same : expression_in two a ≡ f.value = g.kept.trees.values a f.held ∙ f.tree in
-    let took_f = expression_taken old one a r1 tokens d f in
-    let took_g = expression_taken one two b r3 r2 d g in
+    let took_f = expression_taken v old one a r1 tokens d f in
+    let took_g = expression_taken v one two b r3 r2 d g in
     of_link l (rw (f.is, linking, second, closing) refl) first_same took_f took_g
   where
-    of_link : (l : Link) → parse_linked (parse_expression d) (counts_of old) start tokens ≡ expression_read (counts_of old) (linked l f.value g.value) start rest → expression_in two a ≡ f.value
-        → TookExpression d (counts_of old) tokens f.value r1 → TookExpression d (counts_of one) r2 g.value r3
-        → ReadyExpression old two (linked l (expression_in two a) (expression_in two b)) start rest (parse_linked (parse_expression d) (counts_of old) start tokens)
+    of_link : (l : Link) → parse_linked (parse_expression d v) (counts_of old) start tokens ≡ expression_read (counts_of old) (linked l f.value g.value) start rest → expression_in two a ≡ f.value
+        → TookExpression v d (counts_of old) tokens f.value r1 → TookExpression v d (counts_of one) r2 g.value r3
+        → ReadyExpression old two (linked l (expression_in two a) (expression_in two b)) start rest (parse_linked (parse_expression d v) (counts_of old) start tokens)
     of_link links.Pair is same took_f took_g = record {
       value = paired f.value g.value;
       is = is;
@@ -118,25 +122,25 @@ linked_ready {old} {one} {two} {start} {r1} {r2} {r3} {rest} {a} {b} {l} d token
     }
 
 -- a primitive with a value
-pub value_ready : {old mid : Program} {start rest : List Tok} {e : ExprId} {v : WithValue} (d : ℕ) (tokens : List Tok) → d ≤ 63 → FoundExpression old mid e rest (parse_expression d (counts_of old) tokens)
-    → Ready old mid (primitive (with_value v (expression_in mid e))) start rest (parse_value d (counts_of old) v start tokens)
+pub value_ready : (v : Version) {old mid : Program} {start rest : List Tok} {e : ExprId} {k : WithValue} (d : ℕ) (tokens : List Tok) → d ≤ 63 → FoundExpression old mid e rest (parse_expression d v (counts_of old) tokens)
+    → Ready old mid (primitive (with_value k (expression_in mid e))) start rest (parse_value d v (counts_of old) k start tokens)
 unfolding parse_value
-value_ready {old} {mid} {start} {rest} {e} {v} d tokens small f =
-    let took = expression_taken old mid e rest tokens d f in
+value_ready v {old} {mid} {start} {rest} {e} {k} d tokens small f =
+    let took = expression_taken v old mid e rest tokens d f in
     record {
-      term = primitive (with_value v f.value);
+      term = primitive (with_value k f.value);
       is = rw f.is refl;
-      same = ap (λ (i : Expression). primitive (with_value v i)) f.tree;
+      same = ap (λ (i : Expression). primitive (with_value k i)) f.tree;
       shallow = omega (arith, took.shallow);
       terms = omega (arith, f.terms);
     }
 
 -- a function as a primitive
-pub arrow_ready : {old mid : Program} {start rest : List Tok} {g : FunctionId} (d : ℕ) (tokens : List Tok) → d ≤ 63 → FoundFunction old mid g rest (parse_function d (counts_of old) tokens)
-    → Ready old mid (primitive (arrow (function_in mid g))) start rest (parse_arrow d (counts_of old) start tokens)
+pub arrow_ready : (v : Version) {old mid : Program} {start rest : List Tok} {g : FunctionId} (d : ℕ) (tokens : List Tok) → d ≤ 63 → FoundFunction old mid g rest (parse_function d v (counts_of old) tokens)
+    → Ready old mid (primitive (arrow (function_in mid g))) start rest (parse_arrow d v (counts_of old) start tokens)
 unfolding parse_arrow
-arrow_ready {old} {mid} {start} {rest} {g} d tokens small f =
-    let took : TookFunction d (counts_of old) tokens f.function rest = function_takes d (counts_of old) tokens f.function rest f.is in
+arrow_ready v {old} {mid} {start} {rest} {g} d tokens small f =
+    let took : TookFunction v d (counts_of old) tokens f.function rest = function_takes v d (counts_of old) tokens f.function rest f.is in
     record {
       term = primitive (arrow f.function);
       is = rw f.is refl;
@@ -146,11 +150,11 @@ arrow_ready {old} {mid} {start} {rest} {g} d tokens small f =
     }
 
 -- a term on one part of a pair
-pub sided_ready : {old mid : Program} {start rest : List Tok} {a : TermId} {s : Side} (d : ℕ) (tokens : List Tok) → d ≤ 63 → FoundTerm old mid a rest (parse_term d (counts_of old) tokens)
-    → Ready old mid (sided s (tree mid a)) start rest (parse_sided (parse_term d) (counts_of old) s start tokens)
+pub sided_ready : (v : Version) {old mid : Program} {start rest : List Tok} {a : TermId} {s : Side} (d : ℕ) (tokens : List Tok) → d ≤ 63 → FoundTerm old mid a rest (parse_term d v (counts_of old) tokens)
+    → Ready old mid (sided s (tree mid a)) start rest (parse_sided (parse_term d v) (counts_of old) s start tokens)
 unfolding parse_sided
-sided_ready {old} {mid} {start} {rest} {a} {s} d tokens small f =
-    let took = term_taken old mid a rest tokens d f in
+sided_ready v {old} {mid} {start} {rest} {a} {s} d tokens small f =
+    let took = term_taken v old mid a rest tokens d f in
     record {
       term = sided s f.term;
       is = rw f.is refl;
@@ -160,16 +164,16 @@ sided_ready {old} {mid} {start} {rest} {a} {s} d tokens small f =
     }
 
 -- a term with an expression at its head
-pub headed_ready : {old one two : Program} {start r0 r1 r2 r3 rest : List Tok} {e : ExprId} {a : TermId} {h : Heading} (d : ℕ) (tokens : List Tok) → d ≤ 63 → parse_symbol symbols.Open tokens ≡ got tt r0
-    → FoundExpression old one e r1 (parse_expression d (counts_of old) r0) → parse_symbol symbols.Comma r1 ≡ got tt r2 → FoundTerm one two a r3 (parse_term d (counts_of one) r2) → parse_symbol symbols.Close r3 ≡ got tt rest
-    → Ready old two (headed h (expression_in two e) (tree two a)) start rest (parse_headed d (parse_term d) (counts_of old) h start tokens)
+pub headed_ready : (v : Version) {old one two : Program} {start r0 r1 r2 r3 rest : List Tok} {e : ExprId} {a : TermId} {h : Heading} (d : ℕ) (tokens : List Tok) → d ≤ 63 → parse_symbol symbols.Open tokens ≡ got tt r0
+    → FoundExpression old one e r1 (parse_expression d v (counts_of old) r0) → parse_symbol symbols.Comma r1 ≡ got tt r2 → FoundTerm one two a r3 (parse_term d v (counts_of one) r2) → parse_symbol symbols.Close r3 ≡ got tt rest
+    → Ready old two (headed h (expression_in two e) (tree two a)) start rest (parse_headed d v (parse_term d v) (counts_of old) h start tokens)
 unfolding parse_headed
-headed_ready {old} {one} {two} {start} {r0} {r1} {r2} {r3} {rest} {e} {a} {h} d tokens small opening f comma g closing =
-    let second : parse_term d (counts_with_expression (counts_of old) f.value) r2 ≡ got g.term r3 =
-    subst (λ (c : Counts). parse_term d c r2 ≡ got g.term r3) (behind_expression old one f.value f.terms f.expressions) g.is in
+headed_ready v {old} {one} {two} {start} {r0} {r1} {r2} {r3} {rest} {e} {a} {h} d tokens small opening f comma g closing =
+    let second : parse_term d v (counts_with_expression (counts_of old) f.value) r2 ≡ got g.term r3 =
+    subst (λ (c : Counts). parse_term d v c r2 ≡ got g.term r3) (behind_expression old one f.value f.terms f.expressions) g.is in
     let first_same : expression_in two e ≡ f.value = g.kept.trees.values e f.held ∙ f.tree in
-    let took_f = expression_taken old one e r1 r0 d f in
-    let took_g = term_taken one two a r3 r2 d g in
+    let took_f = expression_taken v old one e r1 r0 d f in
+    let took_g = term_taken v one two a r3 r2 d g in
     record {
       term = headed h f.value g.term;
       is = rw (opening, f.is, comma, second, closing) refl;
@@ -179,16 +183,16 @@ headed_ready {old} {one} {two} {start} {r0} {r1} {r2} {r3} {rest} {e} {a} {h} d 
     }
 
 -- two terms joined
-pub joined_ready : {old one two : Program} {start r1 r2 r3 rest : List Tok} {a b : TermId} {j : Join} (d : ℕ) (tokens : List Tok) → d ≤ 63 → FoundTerm old one a r1 (parse_term d (counts_of old) tokens)
-    → parse_join r1 ≡ got j r2 → FoundTerm one two b r3 (parse_term d (counts_of one) r2) → parse_symbol symbols.Close r3 ≡ got tt rest
-    → Ready old two (joined j (tree two a) (tree two b)) start rest (parse_joined (parse_term d) (counts_of old) start tokens)
+pub joined_ready : (v : Version) {old one two : Program} {start r1 r2 r3 rest : List Tok} {a b : TermId} {j : Join} (d : ℕ) (tokens : List Tok) → d ≤ 63 → FoundTerm old one a r1 (parse_term d v (counts_of old) tokens)
+    → parse_join r1 ≡ got j r2 → FoundTerm one two b r3 (parse_term d v (counts_of one) r2) → parse_symbol symbols.Close r3 ≡ got tt rest
+    → Ready old two (joined j (tree two a) (tree two b)) start rest (parse_joined (parse_term d v) (counts_of old) start tokens)
 unfolding parse_joined
-joined_ready {old} {one} {two} {start} {r1} {r2} {r3} {rest} {a} {b} {j} d tokens small f joining g closing =
-    let second : parse_term d (counts_with (counts_of old) f.term) r2 ≡ got g.term r3 =
-    subst (λ (c : Counts). parse_term d c r2 ≡ got g.term r3) (behind_term old one f.term f.terms f.expressions) g.is in
+joined_ready v {old} {one} {two} {start} {r1} {r2} {r3} {rest} {a} {b} {j} d tokens small f joining g closing =
+    let second : parse_term d v (counts_with (counts_of old) f.term) r2 ≡ got g.term r3 =
+    subst (λ (c : Counts). parse_term d v c r2 ≡ got g.term r3) (behind_term old one f.term f.terms f.expressions) g.is in
     let first_same : tree two a ≡ f.term = g.kept.trees.trees a f.held ∙ f.tree in
-    let took_f = term_taken old one a r1 tokens d f in
-    let took_g = term_taken one two b r3 r2 d g in
+    let took_f = term_taken v old one a r1 tokens d f in
+    let took_g = term_taken v one two b r3 r2 d g in
     record {
       term = joined j f.term g.term;
       is = rw (f.is, joining, second, closing) refl;
@@ -197,11 +201,11 @@ joined_ready {old} {one} {two} {start} {r1} {r2} {r3} {rest} {a} {b} {j} d token
       terms = omega (arith, f.terms, g.terms);
     }
 
-pub function_shallow : {old new : Program} {r1 rest : List Tok} {b : ExprId} (d : ℕ) (tokens r2 : List Tok) (p : Pattern) → d ≤ 63 → parse_pattern d tokens ≡ got p r1
-    → FoundExpression old new b rest (parse_expression d (counts_of old) r2) → function_depth (function p (expression_in new b)) ≤ 64
-function_shallow {old} {new} {r1} {rest} {b} d tokens r2 p small is f =
+pub function_shallow : (v : Version) {old new : Program} {r1 rest : List Tok} {b : ExprId} (d : ℕ) (tokens r2 : List Tok) (p : Pattern) → d ≤ 63 → parse_pattern d tokens ≡ got p r1
+    → FoundExpression old new b rest (parse_expression d v (counts_of old) r2) → function_depth (function p (expression_in new b)) ≤ 64
+function_shallow v {old} {new} {r1} {rest} {b} d tokens r2 p small is f =
     let one : TookPattern d tokens p r1 = pattern_takes d tokens p r1 is in
-    let two = expression_taken old new b rest r2 d f in
+    let two = expression_taken v old new b rest r2 d f in
     let same : expression_depth (expression_in new b) ≡ expression_depth f.value = ap expression_depth f.tree in
     omega (arith, one.shallow, two.shallow)
 
@@ -213,10 +217,10 @@ function_refused read refusals.TooDeep left e p i shallow names is many deep nam
 function_refused read refusals.BadName left e p i shallow names is many deep named = absurd (named refl names)
 function_refused read refusals.Memory left e p i shallow names is many deep named = subst (λ (e : Stop). StopsReading e read) (sym is) tt
 
--- the type of pairs of two types is made, but for want of memory
-pub type_refused : (read : Read Kind) (refusal : TyRefusal) (left : ℕ) (e : Stop) (t u : Kind) → e ≡ stop_for_type refusal left → nodes (pair_kind t u) ≤ 256 → (refusal ≡ type_refusals.TypeTooLarge → 256 < nodes (pair_kind t u)) → StopsReading e read
-type_refused read type_refusals.TypeTooLarge left e t u is few large = let too : 256 < nodes (pair_kind t u) = large refl in absurd (omega arith)
-type_refused read type_refusals.Memory left e t u is few large = subst (λ (e : Stop). StopsReading e read) (sym is) tt
+-- a type of at most 256 is made, but for want of memory
+pub type_refused : (read : Read Kind) (refusal : TyRefusal) (left count : ℕ) (e : Stop) → e ≡ stop_for_type refusal left → count ≤ 256 → (refusal ≡ type_refusals.TypeTooLarge → 256 < count) → StopsReading e read
+type_refused read type_refusals.TypeTooLarge left count e is few large = let too : 256 < count = large refl in absurd (omega arith)
+type_refused read type_refusals.Memory left count e is few large = subst (λ (e : Stop). StopsReading e read) (sym is) tt
 
-pub few_first : {rest : List Tok} {t : Kind} (d : ℕ) (start : List Tok) (met : ℕ) (tokens : List Tok) → parse_inner_type d start met tokens ≡ got t rest → met + nodes t ≤ 256
-few_first {rest} {t} d start met tokens is = let took : TookType d met tokens t rest = inner_type_takes d start met tokens t rest is in took.few
+pub few_first : (v : Version) {rest : List Tok} {t : Kind} (d : ℕ) (start : List Tok) (met : ℕ) (tokens : List Tok) → parse_inner_type d v start met tokens ≡ got t rest → met + nodes t ≤ 256
+few_first v {rest} {t} d start met tokens is = let took : TookType v d met tokens t rest = inner_type_takes v d start met tokens t rest is in took.few

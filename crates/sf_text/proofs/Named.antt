@@ -13,6 +13,7 @@ use Rattle.sf_term.specs.declared.refusal.BuildRefusal.TheVariants as refusals
 use Rattle.sf_lex.specs.Words.{IsName}
 use Rattle.sf_lex.specs.declared.symbol.Symbol.TheVariants as symbols
 use Rattle.sf_lex.specs.Tokens.{Tok, symbol}
+use Rattle.sf_grammar.specs.declared.ty.Version.{Version}
 use Rattle.sf_grammar.specs.Spelling.{spell_type, spell_pattern, spell_expression, spell_term}
 use Rattle.sf_grammar.specs.Reading.{Read, got, parse_heading, parse_signature, parse_pattern, parse_expression, parse_term}
 use Rattle.sf_text.specs.Answers.{AreNamed, StopsReading, stop_for, counts_of, FoundExpression, FoundTerm}
@@ -35,18 +36,18 @@ template_refused refusals.TooDeep left n read named bad many deep = absurd (deep
 template_refused refusals.Memory left n read named bad many deep = tt
 
 -- what stands behind a template's header
-pub header_named : (tokens r1 r2 : List Tok) (n : Name) (s : Kind × Kind) → parse_heading tokens ≡ got n r1 → parse_signature r1 ≡ got s r2 → AreNamed tokens → AreNamed r2
-header_named tokens r1 r2 n s heading signature named =
+pub header_named : (v : Version) (tokens r1 r2 : List Tok) (n : Name) (s : Kind × Kind) → parse_heading tokens ≡ got n r1 → parse_signature v r1 ≡ got s r2 → AreNamed tokens → AreNamed r2
+header_named v tokens r1 r2 n s heading signature named =
     let behind : AreNamed r1 = (subst AreNamed (heading_takes tokens n r1 heading) named).1.1.1.1 in
-    named_behind (symbol symbols.Colon ∷ (spell_type s.0 ++ (symbol symbols.Leads ∷ (spell_type s.1 ++ (symbol symbols.Equals ∷ []))))) r2 (subst AreNamed (signature_takes r1 s r2 signature).spelled behind)
+    named_behind (symbol symbols.Colon ∷ (spell_type v s.0 ++ (symbol symbols.Leads ∷ (spell_type v s.1 ++ (symbol symbols.Equals ∷ []))))) r2 (subst AreNamed (signature_takes v r1 s r2 signature).spelled behind)
 
-pub expression_named : (old new : Program) (id : ExprId) (rest tokens : List Tok) (d : ℕ) → FoundExpression old new id rest (parse_expression d (counts_of old) tokens) → AreNamed tokens → AreNamed rest
-expression_named old new id rest tokens d found named =
-    named_behind (spell_expression found.value) rest (subst AreNamed (expression_takes d (counts_of old) tokens found.value rest found.is).spelled named)
+pub expression_named : (v : Version) (old new : Program) (id : ExprId) (rest tokens : List Tok) (d : ℕ) → FoundExpression old new id rest (parse_expression d v (counts_of old) tokens) → AreNamed tokens → AreNamed rest
+expression_named v old new id rest tokens d found named =
+    named_behind (spell_expression v found.value) rest (subst AreNamed (expression_takes v d (counts_of old) tokens found.value rest found.is).spelled named)
 
-pub term_named : (old new : Program) (id : TermId) (rest tokens : List Tok) (d : ℕ) → FoundTerm old new id rest (parse_term d (counts_of old) tokens) → AreNamed tokens → AreNamed rest
-term_named old new id rest tokens d found named =
-    named_behind (spell_term found.term) rest (subst AreNamed (term_takes d (counts_of old) tokens found.term rest (few_program_expressions old) found.is).spelled named)
+pub term_named : (v : Version) (old new : Program) (id : TermId) (rest tokens : List Tok) (d : ℕ) → FoundTerm old new id rest (parse_term d v (counts_of old) tokens) → AreNamed tokens → AreNamed rest
+term_named v old new id rest tokens d found named =
+    named_behind (spell_term v found.term) rest (subst AreNamed (term_takes v d (counts_of old) tokens found.term rest (few_program_expressions old) found.is).spelled named)
 
 -- the names of a pattern
 spelled_names : (p : Pattern) (rest : List Tok) → AreNamed (spell_pattern p ++ rest) → HasNames p

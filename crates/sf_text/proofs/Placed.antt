@@ -1,17 +1,18 @@
 -- What was read stays where it stands, and what is built of it stands at its first token.
-use Rattle.std.proofs.Common.{◌≡◌, ℕ, ◌-◌, ◌≤◌, List, [], ◌∷◌, ◌++◌, length, get_or, take, drop, map, Result, Ok, Err, refl, sym, ◌∙◌, ap, append_assoc, subst, arith}
-use Rattle.std.specs.Prelude.{IfOk, OnOk}
+use Rattle.std.proofs.Common.{◌≡◌, ℕ, suc, ◌-◌, ◌≤◌, List, [], ◌∷◌, ◌++◌, length, get_or, take, drop, map, Result, Ok, Err, refl, sym, ◌∙◌, ap, append_assoc, subst, arith}
+use Rattle.std.specs.Prelude.{IfOk}
 use mathlib.Core.Path.{ap₂}
 use Rattle.std.proofs.Common.{Bor}
 use Rattle.std.proofs.lemmas.List.{length-append, length-map, append-nil, take_rest}
 use Rattle.sf_refusal.specs.declared.spot.Spot.{Spot}
 use Rattle.sf_expr.specs.declared.exprs.ExprId.{ExprId}
 use Rattle.sf_expr.specs.declared.exprs.NameId.{NameId}
+use Rattle.sf_expr.specs.declared.exprs.ConstantId.{ConstantId}
 use Rattle.sf_expr.specs.declared.exprs.FunctionId.{FunctionId}
 use Rattle.sf_expr.specs.declared.exprs.ExprNode.{ExprNode}
 use Rattle.sf_expr.specs.declared.exprs.ExprNode.TheVariants as expressions
 use Rattle.sf_expr.specs.Patterns.{PlacedPattern}
-use Rattle.sf_expr.specs.Expressions.{Expression}
+use Rattle.sf_expr.specs.Expressions.{Literal, Expression, literal, text_literal, none_literal}
 use Rattle.sf_term.specs.declared.form.Bare.{Bare}
 use Rattle.sf_term.specs.declared.form.WithValue.{WithValue}
 use Rattle.sf_term.specs.declared.form.Join.{Join}
@@ -30,14 +31,17 @@ use Rattle.sf_value.specs.Values.{Kind}
 use Rattle.sf_lex.specs.Tokens.{Tok, Located, seen, shown, place_at, symbol}
 use Rattle.sf_lex.specs.Cutting.{AreTokensOf}
 use Rattle.sf_lex.specs.declared.symbol.Symbol.TheVariants as symbols
-use Rattle.sf_grammar.specs.Spelling.{spell_type, spell_signature}
-use Rattle.sf_grammar.specs.Reading.{got, parse_signature}
+use Rattle.sf_grammar.specs.declared.ty.Version.{Version}
+use Rattle.sf_grammar.specs.Spelling.{spell_type, spell_expression, spell_signature}
+use Rattle.sf_grammar.specs.Reading.{got, parse_inner_type, parse_signature}
 use Rattle.sf_text.specs.Answers.{toks}
-use Rattle.sf_grammar.proofs.Takes.{TookSignature, signature_takes}
+use Rattle.sf_grammar.proofs.Takes.{TookType, inner_type_takes, TookSignature, signature_takes}
 use Rattle.sf_lex.specs.declared.token.PlacedToken.{PlacedToken}
 use Rattle.sf_grammar.specs.declared.head.Link.{Link}
 use Rattle.sf_grammar.specs.declared.head.Link.TheVariants as links
-use Rattle.sf_grammar.specs.Placing.{around, PatternPlaced, ExpressionStands, ExpressionPlaced, number_placed, variable_placed, pair_placed, operation_placed, FunctionPlaced, function_placed, TermStands, TermPlaced, bare_placed, with_value_placed, arrow_placed, joined_placed, sided_placed, headed_placed, TemplatePlaced, TemplatesPlaced, none_placed, template_placed, NetworkPlaced, IsPlacedIn}
+use Rattle.sf_grammar.specs.Placing.{around, PatternPlaced, ExpressionStands, ExpressionPlaced, unit_placed, truth_placed, number_placed, constant_placed, variable_placed, pair_placed, operation_placed, FunctionPlaced, function_placed, TermStands, TermPlaced, bare_placed, with_value_placed, arrow_placed, joined_placed, sided_placed, headed_placed, TemplatePlaced, TemplatesPlaced, none_placed, template_placed, NetworkPlaced, IsPlacedIn}
+use Rattle.sf_text.specs.Progress.{IsSpelled}
+use Rattle.sf_text.proofs.Whole.{toks_same}
 use Rattle.sf_text.specs.Consuming.{places, BehindOne, BehindSome, HeadingPlaced, OpeningPlaced, Consumes, ConsumesBehind, PlacesTemplate, linked_node}
 
 expression_stays : (old new : Program) → KeepsTrees old new → (id : ExprId) (n : ExprNode) (at : Spot) → ExpressionStands old id n at → ExpressionStands new id n at
@@ -46,32 +50,36 @@ expression_stays old new k id n at s = record { held = k.expressions id s.held; 
 term_stays : (old new : Program) → KeepsTrees old new → (id : TermId) (n : Node) (at : Spot) → TermStands old id n at → TermStands new id n at
 term_stays old new k id n at s = record { held = k.terms id s.held; node = k.nodes id s.held ∙ s.node; spot = k.spots id s.held ∙ s.spot }
 
-pub expression_keeps : (old new : Program) → KeepsTrees old new → (id : ExprId) (xs : List Spot) → ExpressionPlaced old id xs → ExpressionPlaced new id xs
-expression_keeps old new k id xs (number_placed s) = number_placed (expression_stays old new k _ _ _ s)
-expression_keeps old new k id xs (variable_placed s) = variable_placed (expression_stays old new k _ _ _ s)
-expression_keeps old new k id xs (pair_placed comma closing s one two) =
-    pair_placed comma closing (expression_stays old new k _ _ _ s) (expression_keeps old new k _ _ one) (expression_keeps old new k _ _ two)
-expression_keeps old new k id xs (operation_placed operator closing s one two) =
-    operation_placed operator closing (expression_stays old new k _ _ _ s) (expression_keeps old new k _ _ one) (expression_keeps old new k _ _ two)
+pub expression_keeps : (v : Version) (old new : Program) → KeepsTrees old new → (id : ExprId) (xs : List Spot) → ExpressionPlaced v old id xs → ExpressionPlaced v new id xs
+expression_keeps v old new k id xs (number_placed s) = number_placed (expression_stays old new k _ _ _ s)
+expression_keeps v old new k id xs (unit_placed closing s) = unit_placed closing (expression_stays old new k _ _ _ s)
+expression_keeps v old new k id xs (truth_placed s) = truth_placed (expression_stays old new k _ _ _ s)
+expression_keeps v old new k id xs (constant_placed s counted) =
+    constant_placed (expression_stays old new k _ _ _ s) (counted ∙ ap (λ (e : Expression). length (spell_expression v e)) (sym (k.values id s.held)))
+expression_keeps v old new k id xs (variable_placed s) = variable_placed (expression_stays old new k _ _ _ s)
+expression_keeps v old new k id xs (pair_placed comma closing s one two) =
+    pair_placed comma closing (expression_stays old new k _ _ _ s) (expression_keeps v old new k _ _ one) (expression_keeps v old new k _ _ two)
+expression_keeps v old new k id xs (operation_placed operator closing s one two) =
+    operation_placed operator closing (expression_stays old new k _ _ _ s) (expression_keeps v old new k _ _ one) (expression_keeps v old new k _ _ two)
 
-function_keeps : (old new : Program) → KeepsTrees old new → (f : FunctionId) (xs : List Spot) → FunctionPlaced old f xs → FunctionPlaced new f xs
-function_keeps old new k f xs (function_placed {f = g} {xs = front} {ys = behind} leads held pattern body) =
+function_keeps : (v : Version) (old new : Program) → KeepsTrees old new → (f : FunctionId) (xs : List Spot) → FunctionPlaced v old f xs → FunctionPlaced v new f xs
+function_keeps v old new k f xs (function_placed {f = g} {xs = front} {ys = behind} leads held pattern body) =
     function_placed leads (k.functions g held) (subst (λ (q : PlacedPattern). PatternPlaced q front) (sym (k.patterns g held)) pattern)
-    (subst (λ (b : ExprId). ExpressionPlaced new b behind) (sym (k.bodies g held)) (expression_keeps old new k (function_body_at old g) behind body))
+    (subst (λ (b : ExprId). ExpressionPlaced v new b behind) (sym (k.bodies g held)) (expression_keeps v old new k (function_body_at old g) behind body))
 
-pub term_keeps : (old new : Program) → KeepsTrees old new → (id : TermId) (xs : List Spot) → TermPlaced old id xs → TermPlaced new id xs
-term_keeps old new k id xs (bare_placed s) = bare_placed (term_stays old new k _ _ _ s)
-term_keeps old new k id xs (with_value_placed s value) = with_value_placed (term_stays old new k _ _ _ s) (expression_keeps old new k _ _ value)
-term_keeps old new k id xs (arrow_placed s function) = arrow_placed (term_stays old new k _ _ _ s) (function_keeps old new k _ _ function)
-term_keeps old new k id xs (joined_placed between closing s one two) =
-    joined_placed between closing (term_stays old new k _ _ _ s) (term_keeps old new k _ _ one) (term_keeps old new k _ _ two)
-term_keeps old new k id xs (sided_placed s part) = sided_placed (term_stays old new k _ _ _ s) (term_keeps old new k _ _ part)
-term_keeps old new k id xs (headed_placed opening comma closing s value part) =
-    headed_placed opening comma closing (term_stays old new k _ _ _ s) (expression_keeps old new k _ _ value) (term_keeps old new k _ _ part)
+pub term_keeps : (v : Version) (old new : Program) → KeepsTrees old new → (id : TermId) (xs : List Spot) → TermPlaced v old id xs → TermPlaced v new id xs
+term_keeps v old new k id xs (bare_placed s) = bare_placed (term_stays old new k _ _ _ s)
+term_keeps v old new k id xs (with_value_placed s value) = with_value_placed (term_stays old new k _ _ _ s) (expression_keeps v old new k _ _ value)
+term_keeps v old new k id xs (arrow_placed s function) = arrow_placed (term_stays old new k _ _ _ s) (function_keeps v old new k _ _ function)
+term_keeps v old new k id xs (joined_placed between closing s one two) =
+    joined_placed between closing (term_stays old new k _ _ _ s) (term_keeps v old new k _ _ one) (term_keeps v old new k _ _ two)
+term_keeps v old new k id xs (sided_placed s part) = sided_placed (term_stays old new k _ _ _ s) (term_keeps v old new k _ _ part)
+term_keeps v old new k id xs (headed_placed opening comma closing s value part) =
+    headed_placed opening comma closing (term_stays old new k _ _ _ s) (expression_keeps v old new k _ _ value) (term_keeps v old new k _ _ part)
 
-pub templates_keep : (old new : Program) → KeepsTrees old new → (hs : List Header) (xs : List Spot) → TemplatesPlaced old hs xs → TemplatesPlaced new hs xs
-templates_keep old new k hs xs none_placed = none_placed
-templates_keep old new k hs xs (template_placed {h = h} t ts) =
+pub templates_keep : (v : Version) (old new : Program) → KeepsTrees old new → (hs : List Header) (xs : List Spot) → TemplatesPlaced v old hs xs → TemplatesPlaced v new hs xs
+templates_keep v old new k hs xs none_placed = none_placed
+templates_keep v old new k hs xs (template_placed {h = h} t ts) =
     template_placed (record {
       word = t.word;
       opening = t.opening;
@@ -81,14 +89,14 @@ templates_keep old new k hs xs (template_placed {h = h} t ts) =
       end = t.end;
       split = t.split;
       typed = t.typed;
-      placed = term_keeps old new k h.body t.body t.placed;
-    }) (templates_keep old new k _ _ ts)
+      placed = term_keeps v old new k h.body t.body t.placed;
+    }) (templates_keep v old new k _ _ ts)
 
 -- one template more
-pub templates_more : (p : Program) (hs : List Header) (h : Header) (xs ys : List Spot) → TemplatesPlaced p hs xs → TemplatePlaced p h ys → TemplatesPlaced p (hs ++ h ∷ []) (xs ++ ys)
-templates_more p hs h xs ys none_placed t = subst (TemplatesPlaced p (h ∷ [])) (append-nil ys) (template_placed t none_placed)
-templates_more p hs h xs ys (template_placed {xs = front} {ys = behind} first others) t =
-    subst (TemplatesPlaced p _) (sym (append_assoc front behind ys)) (template_placed first (templates_more p _ h behind ys others t))
+pub templates_more : (v : Version) (p : Program) (hs : List Header) (h : Header) (xs ys : List Spot) → TemplatesPlaced v p hs xs → TemplatePlaced v p h ys → TemplatesPlaced v p (hs ++ h ∷ []) (xs ++ ys)
+templates_more v p hs h xs ys none_placed t = subst (TemplatesPlaced v p (h ∷ [])) (append-nil ys) (template_placed t none_placed)
+templates_more v p hs h xs ys (template_placed {xs = front} {ys = behind} first others) t =
+    subst (TemplatesPlaced v p _) (sym (append_assoc front behind ys)) (template_placed first (templates_more v p _ h behind ys others t))
 
 -- the first of tokens and those behind it
 pub first_place_split : (tokens : List PlacedToken) (first : PlacedToken) → 1 ≤ length tokens → first ≡ get_or tokens 0 first → places tokens ≡ first.spot ∷ places (take (length tokens - 1) (drop 1 tokens))
@@ -134,73 +142,99 @@ expression_stands old new id n e spot a = record { held = a.within; node = a.nod
 term_stands : (old new : Program) (id : TermId) (n : Node) (t : Term) (spot : Spot) → AddsTerm old new id n t spot → TermStands new id n spot
 term_stands old new id n t spot a = record { held = a.within; node = a.node; spot = a.spotted }
 
-pub number_read : {old new : Program} {id : ExprId} {z : _} {e : Expression} {spot : Spot} (rest : List Spot) → AddsExpression old new id (expressions.Int z) e spot → Consumes (ExpressionPlaced new id) (spot ∷ rest) rest
-number_read {old} {new} {id} {z} {e} {spot} rest a = record { front = spot ∷ []; split = refl; holds = number_placed (expression_stands old new id _ e spot a) }
+pub number_read : {v : Version} {old new : Program} {id : ExprId} {z : _} {e : Expression} {spot : Spot} (rest : List Spot) → AddsExpression old new id (expressions.Int z) e spot → Consumes (ExpressionPlaced v new id) (spot ∷ rest) rest
+number_read {v} {old} {new} {id} {z} {e} {spot} rest a = record { front = spot ∷ []; split = refl; holds = number_placed (expression_stands old new id _ e spot a) }
 
-pub variable_read : {old new : Program} {id : ExprId} {n : NameId} {e : Expression} {spot : Spot} (rest : List Spot) → AddsExpression old new id (expressions.Name n) e spot → Consumes (ExpressionPlaced new id) (spot ∷ rest) rest
-variable_read {old} {new} {id} {n} {e} {spot} rest a = record { front = spot ∷ []; split = refl; holds = variable_placed (expression_stands old new id _ e spot a) }
+pub variable_read : {v : Version} {old new : Program} {id : ExprId} {n : NameId} {e : Expression} {spot : Spot} (rest : List Spot) → AddsExpression old new id (expressions.Name n) e spot → Consumes (ExpressionPlaced v new id) (spot ∷ rest) rest
+variable_read {v} {old} {new} {id} {n} {e} {spot} rest a = record { front = spot ∷ []; split = refl; holds = variable_placed (expression_stands old new id _ e spot a) }
+
+pub unit_read : {v : Version} {old new : Program} {id : ExprId} {e : Expression} {opening : Spot} (closing : Spot) (rest : List Spot) → AddsExpression old new id expressions.Unit e opening → Consumes (ExpressionPlaced v new id) (opening ∷ closing ∷ rest) rest
+unit_read {v} {old} {new} {id} {e} {opening} closing rest a = record { front = opening ∷ closing ∷ []; split = refl; holds = unit_placed closing (expression_stands old new id _ e opening a) }
+
+pub truth_read : {v : Version} {old new : Program} {id : ExprId} {b : _} {e : Expression} {spot : Spot} (rest : List Spot) → AddsExpression old new id (expressions.Truth b) e spot → Consumes (ExpressionPlaced v new id) (spot ∷ rest) rest
+truth_read {v} {old} {new} {id} {b} {e} {spot} rest a = record { front = spot ∷ []; split = refl; holds = truth_placed (expression_stands old new id _ e spot a) }
+
+pub text_read : {v : Version} {old new : Program} {id : ExprId} {n : ConstantId} {l : Literal} {s : List ℕ} {spot : Spot} (rest : List Spot) → l ≡ text_literal s → AddsExpression old new id (expressions.Constant n) (literal l) spot → Consumes (ExpressionPlaced v new id) (spot ∷ rest) rest
+text_read {v} {old} {new} {id} {n} {l} {s} {spot} rest is a =
+    record { front = spot ∷ []; split = refl; holds = constant_placed (expression_stands old new id _ _ spot a) (ap (λ (e : Expression). length (spell_expression v e)) (sym (a.is ∙ ap literal is))) }
 
 -- two expressions in brackets
-pub linked_read : {one two new : Program} {a b id : ExprId} {e : Expression} {spot : Spot} {r0 r1 r2 r3 rest : List Spot} (l : Link) → KeepsTrees one two → AddsExpression two new id (linked_node l a b) e spot
-    → Consumes (ExpressionPlaced one a) r0 r1 → BehindOne r1 r2 → Consumes (ExpressionPlaced two b) r2 r3 → BehindOne r3 rest → Consumes (ExpressionPlaced new id) (spot ∷ r0) rest
-linked_read {one} {two} {new} {a} {b} {id} {e} {spot} links.Pair k added first between second closing =
+pub linked_read : {v : Version} {one two new : Program} {a b id : ExprId} {e : Expression} {spot : Spot} {r0 r1 r2 r3 rest : List Spot} (l : Link) → KeepsTrees one two → AddsExpression two new id (linked_node l a b) e spot
+    → Consumes (ExpressionPlaced v one a) r0 r1 → BehindOne r1 r2 → Consumes (ExpressionPlaced v two b) r2 r3 → BehindOne r3 rest → Consumes (ExpressionPlaced v new id) (spot ∷ r0) rest
+linked_read {v} {one} {two} {new} {a} {b} {id} {e} {spot} links.Pair k added first between second closing =
     in_brackets_read first between second closing (λ comma closing xs ys p q.
-    pair_placed comma closing (expression_stands two new id _ e spot added) (expression_keeps two new added.kept.trees a xs (expression_keeps one two k a xs p)) (expression_keeps two new added.kept.trees b ys q))
-linked_read {one} {two} {new} {a} {b} {id} {e} {spot} (links.Operation o) k added first between second closing =
+    pair_placed comma closing (expression_stands two new id _ e spot added) (expression_keeps v two new added.kept.trees a xs (expression_keeps v one two k a xs p)) (expression_keeps v two new added.kept.trees b ys q))
+linked_read {v} {one} {two} {new} {a} {b} {id} {e} {spot} (links.Operation o) k added first between second closing =
     in_brackets_read first between second closing (λ operator closing xs ys p q.
-    operation_placed operator closing (expression_stands two new id _ e spot added) (expression_keeps two new added.kept.trees a xs (expression_keeps one two k a xs p)) (expression_keeps two new added.kept.trees b ys q))
+    operation_placed operator closing (expression_stands two new id _ e spot added) (expression_keeps v two new added.kept.trees a xs (expression_keeps v one two k a xs p)) (expression_keeps v two new added.kept.trees b ys q))
 
 -- a pattern and an expression
-pub function_read : {mid new : Program} {f : FunctionId} {q : PlacedPattern} {b : ExprId} {r0 r1 r2 rest : List Spot} → AddsProgramFunction mid new f q b
-    → Consumes (PatternPlaced q) r0 r1 → BehindOne r1 r2 → Consumes (ExpressionPlaced mid b) r2 rest → Consumes (FunctionPlaced new f) r0 rest
-function_read {mid} {new} {f} {q} {b} {r0} {r1} {r2} {rest} added pattern leads body = record {
+pub function_read : {v : Version} {mid new : Program} {f : FunctionId} {q : PlacedPattern} {b : ExprId} {r0 r1 r2 rest : List Spot} → AddsProgramFunction mid new f q b
+    → Consumes (PatternPlaced q) r0 r1 → BehindOne r1 r2 → Consumes (ExpressionPlaced v mid b) r2 rest → Consumes (FunctionPlaced v new f) r0 rest
+function_read {v} {mid} {new} {f} {q} {b} {r0} {r1} {r2} {rest} added pattern leads body = record {
   front = pattern.front ++ (leads.at ∷ body.front);
   split = rw (pattern.split, leads.split, body.split, append_assoc pattern.front (leads.at ∷ body.front) rest) refl;
   holds = function_placed leads.at added.within (subst (λ (p : PlacedPattern). PatternPlaced p pattern.front) (sym added.pattern) pattern.holds)
-      (subst (λ (x : ExprId). ExpressionPlaced new x body.front) (sym added.body) (expression_keeps mid new added.kept.trees b body.front body.holds));
+      (subst (λ (x : ExprId). ExpressionPlaced v new x body.front) (sym added.body) (expression_keeps v mid new added.kept.trees b body.front body.holds));
 }
 
-pub bare_read : {old new : Program} {id : TermId} {k : Bare} {t : Term} {spot : Spot} (rest : List Spot) → AddsTerm old new id (nodes.Primitive (primitives.Bare k)) t spot → Consumes (TermPlaced new id) (spot ∷ rest) rest
-bare_read {old} {new} {id} {k} {t} {spot} rest added = record { front = spot ∷ []; split = refl; holds = bare_placed (term_stands old new id _ t spot added) }
+pub bare_read : {v : Version} {old new : Program} {id : TermId} {k : Bare} {t : Term} {spot : Spot} (rest : List Spot) → AddsTerm old new id (nodes.Primitive (primitives.Bare k)) t spot → Consumes (TermPlaced v new id) (spot ∷ rest) rest
+bare_read {v} {old} {new} {id} {k} {t} {spot} rest added = record { front = spot ∷ []; split = refl; holds = bare_placed (term_stands old new id _ t spot added) }
 
-pub with_value_read : {mid new : Program} {id : TermId} {k : WithValue} {e : ExprId} {t : Term} {spot : Spot} {r0 rest : List Spot} → AddsTerm mid new id (nodes.Primitive (primitives.WithValue k e)) t spot
-    → Consumes (ExpressionPlaced mid e) r0 rest → Consumes (TermPlaced new id) (spot ∷ r0) rest
-with_value_read {mid} {new} {id} {k} {e} {t} {spot} added value =
-    behind_first value (λ xs p. with_value_placed (term_stands mid new id _ t spot added) (expression_keeps mid new added.kept.trees e xs p))
+pub with_value_read : {v : Version} {mid new : Program} {id : TermId} {k : WithValue} {e : ExprId} {t : Term} {spot : Spot} {r0 rest : List Spot} → AddsTerm mid new id (nodes.Primitive (primitives.WithValue k e)) t spot
+    → Consumes (ExpressionPlaced v mid e) r0 rest → Consumes (TermPlaced v new id) (spot ∷ r0) rest
+with_value_read {v} {mid} {new} {id} {k} {e} {t} {spot} added value =
+    behind_first value (λ xs p. with_value_placed (term_stands mid new id _ t spot added) (expression_keeps v mid new added.kept.trees e xs p))
 
-pub arrow_read : {mid new : Program} {id : TermId} {f : FunctionId} {t : Term} {spot : Spot} {r0 rest : List Spot} → AddsTerm mid new id (nodes.Primitive (primitives.Arrow f)) t spot
-    → Consumes (FunctionPlaced mid f) r0 rest → Consumes (TermPlaced new id) (spot ∷ r0) rest
-arrow_read {mid} {new} {id} {f} {t} {spot} added function =
-    behind_first function (λ xs p. arrow_placed (term_stands mid new id _ t spot added) (function_keeps mid new added.kept.trees f xs p))
+pub arrow_read : {v : Version} {mid new : Program} {id : TermId} {f : FunctionId} {t : Term} {spot : Spot} {r0 rest : List Spot} → AddsTerm mid new id (nodes.Primitive (primitives.Arrow f)) t spot
+    → Consumes (FunctionPlaced v mid f) r0 rest → Consumes (TermPlaced v new id) (spot ∷ r0) rest
+arrow_read {v} {mid} {new} {id} {f} {t} {spot} added function =
+    behind_first function (λ xs p. arrow_placed (term_stands mid new id _ t spot added) (function_keeps v mid new added.kept.trees f xs p))
 
-pub sided_read : {mid new : Program} {id a : TermId} {s : Side} {t : Term} {spot : Spot} {r0 rest : List Spot} → AddsTerm mid new id (nodes.Sided s a) t spot
-    → Consumes (TermPlaced mid a) r0 rest → Consumes (TermPlaced new id) (spot ∷ r0) rest
-sided_read {mid} {new} {id} {a} {s} {t} {spot} added part =
-    behind_first part (λ xs p. sided_placed (term_stands mid new id _ t spot added) (term_keeps mid new added.kept.trees a xs p))
+pub sided_read : {v : Version} {mid new : Program} {id a : TermId} {s : Side} {t : Term} {spot : Spot} {r0 rest : List Spot} → AddsTerm mid new id (nodes.Sided s a) t spot
+    → Consumes (TermPlaced v mid a) r0 rest → Consumes (TermPlaced v new id) (spot ∷ r0) rest
+sided_read {v} {mid} {new} {id} {a} {s} {t} {spot} added part =
+    behind_first part (λ xs p. sided_placed (term_stands mid new id _ t spot added) (term_keeps v mid new added.kept.trees a xs p))
 
 -- an expression and a term in brackets
-pub headed_read : {one two new : Program} {id a : TermId} {h : Heading} {e : ExprId} {t : Term} {spot : Spot} {r r0 r1 r2 r3 rest : List Spot} → KeepsTrees one two → AddsTerm two new id (nodes.Headed h e a) t spot
-    → BehindOne r r0 → Consumes (ExpressionPlaced one e) r0 r1 → BehindOne r1 r2 → Consumes (TermPlaced two a) r2 r3 → BehindOne r3 rest → Consumes (TermPlaced new id) (spot ∷ r) rest
-headed_read {one} {two} {new} {id} {a} {h} {e} {t} {spot} {r} {r0} {r1} {r2} {r3} {rest} k added opening value between part closing =
-    let inside : Consumes (λ ys. TermPlaced new id (spot ∷ ys)) (opening.at ∷ r0) rest =
+pub headed_read : {v : Version} {one two new : Program} {id a : TermId} {h : Heading} {e : ExprId} {t : Term} {spot : Spot} {r r0 r1 r2 r3 rest : List Spot} → KeepsTrees one two → AddsTerm two new id (nodes.Headed h e a) t spot
+    → BehindOne r r0 → Consumes (ExpressionPlaced v one e) r0 r1 → BehindOne r1 r2 → Consumes (TermPlaced v two a) r2 r3 → BehindOne r3 rest → Consumes (TermPlaced v new id) (spot ∷ r) rest
+headed_read {v} {one} {two} {new} {id} {a} {h} {e} {t} {spot} {r} {r0} {r1} {r2} {r3} {rest} k added opening value between part closing =
+    let inside : Consumes (λ ys. TermPlaced v new id (spot ∷ ys)) (opening.at ∷ r0) rest =
     in_brackets_read value between part closing (λ comma closing xs ys p q.
-    headed_placed opening.at comma closing (term_stands two new id _ t spot added) (expression_keeps two new added.kept.trees e xs (expression_keeps one two k e xs p)) (term_keeps two new added.kept.trees a ys q)) in
+    headed_placed opening.at comma closing (term_stands two new id _ t spot added) (expression_keeps v two new added.kept.trees e xs (expression_keeps v one two k e xs p)) (term_keeps v two new added.kept.trees a ys q)) in
     record { front = spot ∷ inside.front; split = ap (λ ts. spot ∷ ts) (opening.split ∙ inside.split); holds = inside.holds }
 
 -- two terms joined
-pub joined_read : {one two new : Program} {id a b : TermId} {j : Join} {t : Term} {spot : Spot} {r0 r1 r2 r3 rest : List Spot} → KeepsTrees one two → AddsTerm two new id (nodes.Joined j a b) t spot
-    → Consumes (TermPlaced one a) r0 r1 → BehindOne r1 r2 → Consumes (TermPlaced two b) r2 r3 → BehindOne r3 rest → Consumes (TermPlaced new id) (spot ∷ r0) rest
-joined_read {one} {two} {new} {id} {a} {b} {j} {t} {spot} k added first between second closing =
+pub joined_read : {v : Version} {one two new : Program} {id a b : TermId} {j : Join} {t : Term} {spot : Spot} {r0 r1 r2 r3 rest : List Spot} → KeepsTrees one two → AddsTerm two new id (nodes.Joined j a b) t spot
+    → Consumes (TermPlaced v one a) r0 r1 → BehindOne r1 r2 → Consumes (TermPlaced v two b) r2 r3 → BehindOne r3 rest → Consumes (TermPlaced v new id) (spot ∷ r0) rest
+joined_read {v} {one} {two} {new} {id} {a} {b} {j} {t} {spot} k added first between second closing =
     in_brackets_read first between second closing (λ between closing xs ys p q.
-    joined_placed between closing (term_stands two new id _ t spot added) (term_keeps two new added.kept.trees a xs (term_keeps one two k a xs p)) (term_keeps two new added.kept.trees b ys q))
+    joined_placed between closing (term_stands two new id _ t spot added) (term_keeps v two new added.kept.trees a xs (term_keeps v one two k a xs p)) (term_keeps v two new added.kept.trees b ys q))
 
--- the types of a template
-pub signature_read : {r0 r1 r2 r3 r4 rest : List Spot} → BehindOne r0 r1 → BehindSome r1 r2 → BehindOne r2 r3 → BehindSome r3 r4 → BehindOne r4 rest → BehindSome r0 rest
-signature_read {r0} {r1} {r2} {r3} {r4} {rest} colon input leads output equals = record {
-  front = around colon.at input.front leads.at output.front equals.at;
-  split = rw (colon.split, input.split, leads.split, output.split, equals.split) (around_split colon.at input.front output.front rest leads.at equals.at);
-  holds = tt;
-}
+-- tokens behind tokens
+pub some_more : {r s t : List Spot} → BehindSome r s → BehindSome s t → BehindSome r t
+some_more {t = t} a b = record { front = a.front ++ b.front; split = a.split ∙ ap (λ r. a.front ++ r) b.split ∙ sym (append_assoc a.front b.front t); holds = tt }
+
+pub some_of_one : {r s : List Spot} → BehindOne r s → BehindSome r s
+some_of_one a = record { front = a.at ∷ []; split = a.split; holds = tt }
+
+-- what was read behind a first token
+pub from_first : {X E : Type 0} (r : Result (X × Bor (List PlacedToken)) E) (tokens : List PlacedToken) (first : PlacedToken)
+    → 1 ≤ length tokens → first ≡ get_or tokens 0 first
+    → IfOk r (λ x. BehindSome (places (take (length tokens - 1) (drop 1 tokens))) (places x.1.now)) → IfOk r (λ x. BehindSome (places tokens) (places x.1.now))
+from_first r tokens first some is =
+    if_ok_map (λ x. BehindSome (places (take (length tokens - 1) (drop 1 tokens))) (places x.1.now)) (λ x. BehindSome (places tokens) (places x.1.now)) r
+    (λ x. some_more (record { front = first.spot ∷ []; split = first_place_split tokens first some is; holds = tt }))
+
+-- what was read behind tokens
+pub from_some : {X E : Type 0} {tokens rest : List Spot} (r : Result (X × Bor (List PlacedToken)) E) → BehindSome tokens rest
+    → IfOk r (λ x. BehindSome rest (places x.1.now)) → IfOk r (λ x. BehindSome tokens (places x.1.now))
+from_some {tokens = tokens} {rest = rest} r front = if_ok_map (λ x. BehindSome rest (places x.1.now)) (λ x. BehindSome tokens (places x.1.now)) r (λ x. some_more front)
+
+-- no token was read
+pub none_read : (tokens : List Spot) → BehindSome tokens tokens
+none_read tokens = record { front = []; split = refl; holds = tt }
 
 -- as many tokens were read as spell what was read
 front_counted : (tokens rest : List PlacedToken) (front : List Spot) (spelled : List Tok) → places tokens ≡ front ++ places rest → toks tokens ≡ spelled ++ toks rest → length front ≡ length spelled
@@ -211,16 +245,27 @@ front_counted tokens rest front spelled a b =
     let s : length (toks rest) ≡ length rest = simp length-map in
     omega (arith, ap length a, ap length b, length-append front (places rest), length-append spelled (toks rest))
 
-pub signature_counted : (tokens rest : List PlacedToken) (s : Kind × Kind) → parse_signature (toks tokens) ≡ got s (toks rest) → (b : BehindSome (places tokens) (places rest))
-    → length b.front ≡ length (symbol symbols.Colon ∷ (spell_type s.0 ++ (symbol symbols.Leads ∷ (spell_type s.1 ++ (symbol symbols.Equals ∷ [])))))
-signature_counted tokens rest s is b =
-    let took : TookSignature (toks tokens) s (toks rest) = signature_takes (toks tokens) s (toks rest) is in
-    front_counted tokens rest b.front (symbol symbols.Colon ∷ (spell_type s.0 ++ (symbol symbols.Leads ∷ (spell_type s.1 ++ (symbol symbols.Equals ∷ []))))) b.split took.spelled
+pub none_event_read : {v : Version} {old new : Program} {id : ExprId} {n : ConstantId} {l : Literal} {t : Kind} {spot : Spot} (d : ℕ) (tokens rest : List PlacedToken) → l ≡ none_literal t → AddsExpression old new id (expressions.Constant n) (literal l) spot
+    → parse_inner_type d v (toks tokens) 0 (toks tokens) ≡ got t (toks rest) → BehindSome (places tokens) (places rest) → Consumes (ExpressionPlaced v new id) (spot ∷ places tokens) (places rest)
+none_event_read {v} {old} {new} {id} {n} {l} {t} {spot} d tokens rest same a is b =
+    let took : TookType v d 0 (toks tokens) t (toks rest) = inner_type_takes v d (toks tokens) 0 (toks tokens) t (toks rest) is in
+    record {
+      front = spot ∷ b.front;
+      split = ap (λ r. spot ∷ r) b.split;
+      holds = constant_placed (expression_stands old new id _ _ spot a)
+          (ap suc (front_counted tokens rest b.front (spell_type v t) b.split took.spelled) ∙ ap (λ (e : Expression). length (spell_expression v e)) (sym (a.is ∙ ap literal same)));
+    }
+
+pub signature_counted : (v : Version) (tokens rest : List PlacedToken) (s : Kind × Kind) → parse_signature v (toks tokens) ≡ got s (toks rest) → (b : BehindSome (places tokens) (places rest))
+    → length b.front ≡ length (symbol symbols.Colon ∷ (spell_type v s.0 ++ (symbol symbols.Leads ∷ (spell_type v s.1 ++ (symbol symbols.Equals ∷ [])))))
+signature_counted v tokens rest s is b =
+    let took : TookSignature v (toks tokens) s (toks rest) = signature_takes v (toks tokens) s (toks rest) is in
+    front_counted tokens rest b.front (symbol symbols.Colon ∷ (spell_type v s.0 ++ (symbol symbols.Leads ∷ (spell_type v s.1 ++ (symbol symbols.Equals ∷ []))))) b.split took.spelled
 
 -- the parts of a template, one behind the other
-pub template_read : {old mid new : Program} {h : Header} {r0 r1 r2 r3 rest : List Spot} → KeepsProgram old mid → AddsTemplate mid new h → HeadingPlaced h.spot r0 r1
-    → (s : BehindSome r1 r2) → length s.front ≡ length (spell_signature (template_in new h)) → Consumes (TermPlaced mid h.body) r2 r3 → BehindOne r3 rest → PlacesTemplate old new r0 rest
-template_read {old} {mid} {new} {h} {r0} {r1} {r2} {r3} {rest} kept added heading signature typed body end = record {
+pub template_read : {v : Version} {old mid new : Program} {h : Header} {r0 r1 r2 r3 rest : List Spot} → KeepsProgram old mid → AddsTemplate mid new h → HeadingPlaced h.spot r0 r1
+    → (s : BehindSome r1 r2) → length s.front ≡ length (spell_signature v (template_in new h)) → Consumes (TermPlaced v mid h.body) r2 r3 → BehindOne r3 rest → PlacesTemplate v old new r0 rest
+template_read {v} {old} {mid} {new} {h} {r0} {r1} {r2} {r3} {rest} kept added heading signature typed body end = record {
   header = h;
   headers = added.headers ∙ ap (λ (hs : List Header). hs ++ h ∷ []) kept.headers;
   kept = keeps_trees_trans old mid new kept.trees added.kept;
@@ -243,15 +288,14 @@ template_read {old} {mid} {new} {h} {r0} {r1} {r2} {r3} {rest} kept added headin
       end = end.at;
       split = refl;
       typed = typed;
-      placed = term_keeps mid new added.kept h.body body.front body.holds;
+      placed = term_keeps v mid new added.kept h.body body.front body.holds;
     };
   };
 }
 
 -- templates behind what stands in front of them
-pub network_read : {E : Type 0} {tokens rest : List Spot} (p : Program) (r : Result (Unit {0}) E) → OpeningPlaced tokens rest → OnOk r (TemplatesPlaced p (headers_of p) rest) → OnOk r (NetworkPlaced p tokens)
-network_read {E} {tokens} {rest} p (Ok u) opening templates = record { word = opening.word; version = opening.version; semicolon = opening.semicolon; behind = rest; split = opening.split; templates = templates }
-network_read p (Err e) opening templates = tt
+pub network_read : {v : Version} {tokens rest : List Spot} (p : Program) → OpeningPlaced tokens rest → TemplatesPlaced v p (headers_of p) rest → NetworkPlaced v p tokens
+network_read {rest = rest} p opening templates = record { word = opening.word; version = opening.version; semicolon = opening.semicolon; behind = rest; split = opening.split; templates = templates }
 
 -- the places of tokens, as the code has them and as the bytes have them
 places_same : (bytes : List ℕ) (found : List PlacedToken) (ls : List Located) → map seen found ≡ map (shown bytes) ls → places found ≡ map (λ (l : Located). place_at bytes l.offset) ls
@@ -263,5 +307,8 @@ places_same bytes (p ∷ found) (l ∷ ls) same =
     let others : map seen found ≡ map (shown bytes) ls = cc in
     ap₂ (λ (t : Spot) (ts : List Spot). t ∷ ts) (ap (λ (x : Tok × Spot). x.1) one) (places_same bytes found ls others)
 
-pub placed_in : (bytes : List ℕ) (found : List PlacedToken) (p : Program) → AreTokensOf bytes found → NetworkPlaced p (places found) → IsPlacedIn bytes p
-placed_in bytes found p a n = record { located = a.located; cut = a.cut; placed = subst (NetworkPlaced p) (places_same bytes found a.located a.shows) n }
+pub placed_in : (bytes : List ℕ) (found : List PlacedToken) (v : Version) (p : Program) → AreTokensOf bytes found → IsSpelled v (toks found) p → NetworkPlaced v p (places found) → IsPlacedIn bytes p
+placed_in bytes found v p a s n = record {
+  text = record { version = v; located = a.located; cut = a.cut; spelled = sym (toks_same bytes found a.located a.shows) ∙ s.spelled; limited = s.limited };
+  placed = subst (NetworkPlaced v p) (places_same bytes found a.located a.shows) n;
+}

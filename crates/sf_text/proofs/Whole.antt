@@ -1,25 +1,24 @@
 -- Reading a network, and the texts that it is read from.
-use Rattle.std.proofs.Common.{◌≡◌, ℕ, ◌+◌, ◌-◌, List, [], ◌∷◌, ◌++◌, length, drop, map, Result, Ok, Err, refl, sym, ◌∙◌, ap, subst, arith}
+use Rattle.std.proofs.Common.{◌≡◌, ℕ, ◌+◌, ◌-◌, List, [], ◌∷◌, ◌++◌, length, drop, map, refl, sym, ◌∙◌, ap, subst}
 use mathlib.Core.Path.{ap₂}
 use Rattle.std.proofs.lemmas.List.{append-nil, length-map, drop-map}
 use Rattle.sf_term.specs.declared.program.Program.{Program}
-use Rattle.sf_term.specs.Trees.{Templates}
 use Rattle.sf_term.specs.Arena.{templates_of}
 use Rattle.sf_refusal.specs.declared.spot.Spot.{Spot}
 use Rattle.sf_lex.specs.declared.token.PlacedToken.{PlacedToken}
 use Rattle.sf_lex.specs.Tokens.{Tok, keyword, name, number, text, symbol, Located, seen, shown, place_at}
 use Rattle.sf_lex.specs.Cutting.{IsCutInto, here, more, IsLongest, Piece, gap, token, located, AreTokensOf, BreaksLexis}
 use Rattle.sf_refusal.specs.declared.rule.Rule.{Rule}
-use Rattle.sf_refusal.specs.declared.refusal.Breach.{Breach}
 use Rattle.sf_refusal.specs.declared.refusal.Refusal.{Refusal}
 use Rattle.sf_refusal.specs.Refusals.{OrMemory, because, no_memory}
 use Rattle.sf_refusal.proofs.Explained.{or_memory}
 use Rattle.sf_text.specs.declared.stop.Stop.{Stop}
 use Rattle.sf_text.specs.declared.stop.Stop.TheVariants.{At, Memory}
+use Rattle.sf_grammar.specs.declared.ty.Version.{Version}
 use Rattle.sf_grammar.specs.Spelling.{spell, spell_templates, IsNetworkText}
 use Rattle.sf_grammar.specs.Reading.{got, parse_opening}
 use Rattle.sf_text.specs.Answers.{StopsReading, toks, AreNamed}
-use Rattle.sf_text.specs.Progress.{StopsNetwork, ReadsTemplates, ReadsNetwork, IsSpelled, first_place, stop_refusal}
+use Rattle.sf_text.specs.Progress.{Behind, StopsAfter, StopsNetwork, IsSpelled, first_place, stop_refusal}
 use Rattle.sf_grammar.specs.Stopping.{StopsIn, in_opening, in_template, StopsAt, offset_of, place_before, BreaksText, no_tokens, no_network}
 use Rattle.sf_grammar.proofs.Takes.{opening_takes}
 
@@ -27,19 +26,21 @@ pub stops_opening : (e : Stop) (tokens : List Tok) → StopsReading e (parse_ope
 stops_opening (At fault left) tokens stopped = in_opening stopped
 stops_opening Memory tokens stopped = tt
 
-opened : (tokens rest : List Tok) → parse_opening tokens ≡ got tt rest → tokens ≡ spell [] ++ rest
-opened tokens rest is = opening_takes tokens tt rest is
+opened : (tokens rest : List Tok) (v : Version) → parse_opening tokens ≡ got v rest → tokens ≡ spell v [] ++ rest
+opened tokens rest v is = opening_takes tokens v rest is
 
-pub opening_named : (tokens rest : List Tok) → parse_opening tokens ≡ got tt rest → AreNamed tokens → AreNamed rest
-opening_named tokens rest is named = (subst AreNamed (opened tokens rest is) named).1.1.1
+pub opening_named : (tokens rest : List Tok) (v : Version) → parse_opening tokens ≡ got v rest → AreNamed tokens → AreNamed rest
+opening_named tokens rest v is named = (subst AreNamed (opened tokens rest v is) named).1.1.1
 
-pub reads_network : (r : Result (Unit {0}) Stop) (tokens rest : List Tok) (p : Program) → parse_opening tokens ≡ got tt rest → ReadsTemplates r rest p → ReadsNetwork r tokens p
-reads_network (Ok u) tokens rest p is behind = record {
-  spelled = opened tokens rest is ∙ ap (λ r. spell [] ++ r) (behind.spelled ∙ append-nil (spell_templates (templates_of p)));
+pub network_spelled : (tokens rest : List Tok) (v : Version) (p : Program) → parse_opening tokens ≡ got v rest → Behind v rest p [] → IsSpelled v tokens p
+network_spelled tokens rest v p is behind = record {
+  spelled = opened tokens rest v is ∙ ap (λ r. spell v [] ++ r) (behind.spelled ∙ append-nil (spell_templates v (templates_of p)));
   limited = behind.limited;
 }
-reads_network (Err (At fault left)) tokens rest p is stops = in_template (opened tokens rest is) stops
-reads_network (Err Memory) tokens rest p is stops = tt
+
+pub network_stops : (e : Stop) (tokens rest : List Tok) (v : Version) → parse_opening tokens ≡ got v rest → StopsAfter v e rest → StopsNetwork e tokens
+network_stops (At fault left) tokens rest v is stops = in_template v (opened tokens rest v is) stops
+network_stops Memory tokens rest v is stops = tt
 
 -- the first tokens, as the code has them and as the bytes have them
 first_same : (bytes : List ℕ) (found : List PlacedToken) (ls : List Located) → map seen found ≡ map (shown bytes) ls
@@ -83,8 +84,9 @@ cuts_named at end bytes rest found (more {n = n} {p = p} {found = others} longes
 pub tokens_named : (bytes : List ℕ) (found : List PlacedToken) → AreTokensOf bytes found → AreNamed (toks found)
 tokens_named bytes found a = subst AreNamed (sym (toks_same bytes found a.located a.shows)) (cuts_named 0 a.cut.end bytes [] a.located a.cut.cut)
 
-pub text_read : (bytes : List ℕ) (found : List PlacedToken) (p : Program) → AreTokensOf bytes found → IsSpelled (toks found) p → IsNetworkText bytes (templates_of p)
-text_read bytes found p a s = record {
+pub network_text : (bytes : List ℕ) (found : List PlacedToken) (v : Version) (p : Program) → AreTokensOf bytes found → IsSpelled v (toks found) p → IsNetworkText bytes (templates_of p)
+network_text bytes found v p a s = record {
+  version = v;
   located = a.located;
   cut = a.cut;
   spelled = sym (toks_same bytes found a.located a.shows) ∙ s.spelled;

@@ -1,9 +1,12 @@
 -- What the reading functions answer.
-use Rattle.std.specs.Prelude.{◌≡◌, ℕ, ◌+◌, List, [], ◌∷◌, ◌++◌, length, map, Result, Ok, Err}
+use Rattle.std.specs.Prelude.{◌≡◌, ℕ, ◌+◌, List, [], ◌∷◌, ◌++◌, map, Result, Ok, Err}
 use Rattle.std.proofs.Common.{Bor}
-use Rattle.sf_value.specs.Values.{Name, Kind}
+use Rattle.sf_value.specs.Values.{Name, Kind, event_kind, table_kind}
+use Rattle.sf_text.specs.declared.ty.Outer.{Outer}
+use Rattle.sf_text.specs.declared.ty.Outer.TheVariants as outers
 use Rattle.sf_text.specs.declared.part.Named.{Named}
 use Rattle.sf_text.specs.declared.part.Types.{Types}
+use Rattle.sf_value.specs.KindView.{key_kind_of}
 use Rattle.sf_value.specs.declared.ty.TyRefusal.{TyRefusal}
 use Rattle.sf_value.specs.declared.ty.TyRefusal.TheVariants as type_refusals
 use Rattle.sf_expr.specs.declared.exprs.ExprId.{ExprId}
@@ -43,6 +46,11 @@ name_bytes h = h.name.now
 
 abbrev pub kinds_in : Types → Kind × Kind
 kinds_in s = (s.input, s.output)
+
+-- the type that is made of one part
+abbrev pub outer_kind : Outer → Kind → Kind
+outer_kind outers.Event = event_kind
+outer_kind (outers.Table k) = table_kind (key_kind_of k)
 
 -- the tokens behind
 abbrev pub ReadsRest : Result (Bor (List PlacedToken)) Stop → Read (Unit {0}) → Type 0

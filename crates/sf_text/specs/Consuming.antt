@@ -8,6 +8,7 @@ use Rattle.sf_term.specs.declared.program.Program.{Program}
 use Rattle.sf_term.specs.Headers.{Header}
 use Rattle.sf_term.specs.Arena.{KeepsTrees, headers_of}
 use Rattle.sf_lex.specs.declared.token.PlacedToken.{PlacedToken}
+use Rattle.sf_grammar.specs.declared.ty.Version.{Version}
 use Rattle.sf_grammar.specs.declared.head.Link.{Link}
 use Rattle.sf_grammar.specs.declared.head.Link.TheVariants as links
 use Rattle.sf_grammar.specs.Placing.{TemplatePlaced}
@@ -59,8 +60,8 @@ linked_node links.Pair a b = expressions.Pair a b
 linked_node (links.Operation o) a b = expressions.Operation a o b
 
 -- a template was read into the program behind the others, and what was there stands
-pub record PlacesTemplate (old new : Program) (tokens rest : List Spot) : Type 0 where
+pub record PlacesTemplate (v : Version) (old new : Program) (tokens rest : List Spot) : Type 0 where
   pub header : Header
   pub headers : headers_of new ≡ headers_of old ++ header ∷ []
   pub kept : KeepsTrees old new
-  pub placed : Consumes (TemplatePlaced new header) tokens rest
+  pub placed : Consumes (TemplatePlaced v new header) tokens rest

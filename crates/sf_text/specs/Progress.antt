@@ -8,6 +8,7 @@ use Rattle.sf_lex.specs.Tokens.{Tok, place_at}
 use Rattle.sf_lex.specs.declared.token.PlacedToken.{PlacedToken}
 use Rattle.sf_term.specs.declared.program.Program.{Program}
 use Rattle.sf_term.specs.Arena.{templates_of}
+use Rattle.sf_grammar.specs.declared.ty.Version.{Version}
 use Rattle.sf_grammar.specs.Spelling.{spell, spell_templates, IsWithinLimits}
 use Rattle.sf_grammar.specs.Stopping.{counts_in, StopsBehind, StopsIn}
 use Rattle.sf_text.specs.declared.stop.Stop.{Stop}
@@ -15,10 +16,10 @@ use Rattle.sf_text.specs.declared.stop.Stop.TheVariants as stops
 use Rattle.sf_text.specs.Answers.{counts_of, AreNamed}
 
 -- the templates of a program were read in front of these tokens, and nothing else was
-pub record Behind (tokens : List Tok) (p : Program) (rest : List Tok) : Type 0 where
-  pub spelled : tokens ≡ spell_templates (templates_of p) ++ rest
+pub record Behind (v : Version) (tokens : List Tok) (p : Program) (rest : List Tok) : Type 0 where
+  pub spelled : tokens ≡ spell_templates v (templates_of p) ++ rest
   pub counted : counts_of p ≡ counts_in (templates_of p)
-  pub limited : IsWithinLimits (templates_of p)
+  pub limited : IsWithinLimits v (templates_of p)
   pub named : AreNamed rest
 
 -- nothing is in the program
@@ -27,25 +28,25 @@ pub record IsBlankProgram (p : Program) : Type 0 where
   pub counted : counts_of p ≡ counts_in []
 
 -- reading templates stopped, where it was not for want of memory
-abbrev pub StopsAfter : Stop → List Tok → Type 0
-StopsAfter (stops.At fault left) tokens = StopsBehind tokens fault left
-StopsAfter stops.Memory tokens = Unit {0}
+abbrev pub StopsAfter : Version → Stop → List Tok → Type 0
+StopsAfter v (stops.At fault left) tokens = StopsBehind v tokens fault left
+StopsAfter v stops.Memory tokens = Unit {0}
 
-abbrev pub ReadsTemplates : Result (Unit {0}) Stop → List Tok → Program → Type 0
-ReadsTemplates (Ok u) tokens p = Behind tokens p []
-ReadsTemplates (Err e) tokens p = StopsAfter e tokens
+abbrev pub ReadsTemplates : Version → Result (Unit {0}) Stop → List Tok → Program → Type 0
+ReadsTemplates v (Ok u) tokens p = Behind v tokens p []
+ReadsTemplates v (Err e) tokens p = StopsAfter v e tokens
 
 abbrev pub StopsNetwork : Stop → List Tok → Type 0
 StopsNetwork (stops.At fault left) tokens = StopsIn tokens fault left
 StopsNetwork stops.Memory tokens = Unit {0}
 
--- the tokens spell the templates of the program
-pub record IsSpelled (tokens : List Tok) (p : Program) : Type 0 where
-  pub spelled : tokens ≡ spell (templates_of p)
-  pub limited : IsWithinLimits (templates_of p)
+-- the tokens spell the templates of the program in the version
+pub record IsSpelled (v : Version) (tokens : List Tok) (p : Program) : Type 0 where
+  pub spelled : tokens ≡ spell v (templates_of p)
+  pub limited : IsWithinLimits v (templates_of p)
 
-abbrev pub ReadsNetwork : Result (Unit {0}) Stop → List Tok → Program → Type 0
-ReadsNetwork (Ok u) tokens p = IsSpelled tokens p
+abbrev pub ReadsNetwork : Result Version Stop → List Tok → Program → Type 0
+ReadsNetwork (Ok v) tokens p = IsSpelled v tokens p
 ReadsNetwork (Err e) tokens p = StopsNetwork e tokens
 
 -- the place of the first of these tokens, or where they end

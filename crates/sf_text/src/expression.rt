@@ -1,20 +1,21 @@
 //! Expressions and functions.
-ghost use Rattle.std.specs.Prelude.{◌≡◌, ◌<◌, ◌≤◌, ◌↔◌, IfOk, length, ◌∷◌};
-ghost use Rattle.sf_expr.specs.Expressions.{Expression, variable as variable_form, literal, int_literal, depth};
+ghost use Rattle.std.specs.Prelude.{◌≡◌, ◌<◌, ◌≤◌, ◌↔◌, IfOk, length, ◌∷◌, string_bytes};
+ghost use Rattle.sf_expr.specs.Expressions.{Expression, variable as variable_form, literal as literal_form, unit_literal, truth_literal, int_literal, text_literal, depth};
 ghost use Rattle.sf_lex.specs.Tokens.{token_of};
 ghost use Rattle.sf_lex.specs.Words.{IsName};
 ghost use Rattle.sf_term.specs.Arena.{HoldsExpression, AddsExpression, expression_under as expression_in, expression_count};
 ghost use Rattle.sf_text.specs.Answers.{toks, AreNamed, StopsReading, ReadsAs, ReadsExpression, ReadsFunction, counts_of, stop_for};
 ghost use Rattle.sf_grammar.specs.Placing.{ExpressionPlaced, FunctionPlaced};
 ghost use Rattle.sf_text.specs.Consuming.{places, BehindOne, Consumes, linked_node};
-ghost use Rattle.sf_grammar.specs.Reading.{begins_expression, too_deep, parse_link, linked, parse_linked, expression_read, parse_expression_form, parse_expression, parse_function};
+ghost use Rattle.sf_grammar.specs.Reading.{begins_expression, too_deep, parse_link, linked, parse_linked, literal_of, literal_read, behind_close, bracketed_from, parse_none, expression_read, parse_expression_form, parse_expression, parse_function};
 
 use crate::part::{stop_at, symbol};
 use crate::pattern::pattern;
 use crate::stop::Stop;
-use sf_expr::{ExprId, FunctionId};
-use sf_grammar::{Link, link_of};
-use sf_lex::{PlacedToken, Symbol, Token};
+use crate::ty::inner_type;
+use sf_expr::{Constant, ExprId, ExprNode, FunctionId};
+use sf_grammar::{Link, Version, link_of};
+use sf_lex::{Keyword, PlacedToken, Symbol, Token};
 use sf_refusal::{Rule, Spot};
 use sf_term::{BuildRefusal, Program};
 use std::alloc::Global;
@@ -36,7 +37,11 @@ fn begins_expression(token: &Token) -> bool
 {
     matches!(
         token,
-        Token::Name(_) | Token::Number(_) | Token::Symbol(Symbol::Open)
+        Token::Name(_)
+            | Token::Number(_)
+            | Token::Text(_)
+            | Token::Keyword(Keyword::True | Keyword::False | Keyword::NoEvent)
+            | Token::Symbol(Symbol::Open)
     )
 }
 
@@ -53,6 +58,7 @@ fn expression_too_deep(tokens: &[PlacedToken]) -> Stop
 /// A name, which is the first of these tokens, and the tokens behind it.
 fn variable<'a>(
     alloc: Global,
+    version: Version,
     tokens: &'a [PlacedToken<'a>],
     rest: &'a [PlacedToken<'a>],
     program: &mut Program,
@@ -61,7 +67,7 @@ fn variable<'a>(
 ) -> Result<(ExprId, &'a [PlacedToken<'a>]), Stop>
     requires { IsName name.now }
     ensures reads { ReadsExpression program.old program.new result (expression_read (counts_of program.old) (variable_form name.now) (toks tokens.now) (toks rest.now)) }
-    ensures placed { IfOk result (λ x. Consumes (ExpressionPlaced program.new x.0) (spot ∷ places rest.now) (places x.1.now)) }
+    ensures placed { IfOk result (λ x. Consumes (ExpressionPlaced version program.new x.0) (spot ∷ places rest.now) (places x.1.now)) }
 {
     let name = String::from_str(alloc, name)?;
     match program.name(name, spot) {
@@ -72,16 +78,117 @@ fn variable<'a>(
 
 /// A number, which is the first of these tokens, and the tokens behind it.
 fn number<'a>(
+    version: Version,
     tokens: &'a [PlacedToken<'a>],
     rest: &'a [PlacedToken<'a>],
     program: &mut Program,
     number: i64,
     spot: Spot,
 ) -> Result<(ExprId, &'a [PlacedToken<'a>]), Stop>
-    ensures reads { ReadsExpression program.old program.new result (expression_read (counts_of program.old) (literal (int_literal number)) (toks tokens.now) (toks rest.now)) }
-    ensures placed { IfOk result (λ x. Consumes (ExpressionPlaced program.new x.0) (spot ∷ places rest.now) (places x.1.now)) }
+    ensures reads { ReadsExpression program.old program.new result (expression_read (counts_of program.old) (literal_form (int_literal number)) (toks tokens.now) (toks rest.now)) }
+    ensures placed { IfOk result (λ x. Consumes (ExpressionPlaced version program.new x.0) (spot ∷ places rest.now) (places x.1.now)) }
 {
     match program.int(number, spot) {
+        Ok(id) => Ok((id, rest)),
+        Err(refusal) => Err(refused(refusal, tokens)),
+    }
+}
+
+/// True or false, which is the first of these tokens, and the tokens behind it.
+fn truth<'a>(
+    version: Version,
+    tokens: &'a [PlacedToken<'a>],
+    rest: &'a [PlacedToken<'a>],
+    program: &mut Program,
+    truth: bool,
+    spot: Spot,
+) -> Result<(ExprId, &'a [PlacedToken<'a>]), Stop>
+    ensures reads { ReadsExpression program.old program.new result (expression_read (counts_of program.old) (literal_form (truth_literal truth)) (toks tokens.now) (toks rest.now)) }
+    ensures placed { IfOk result (λ x. Consumes (ExpressionPlaced version program.new x.0) (spot ∷ places rest.now) (places x.1.now)) }
+{
+    match program.add_expression(ExprNode::Truth(truth), spot) {
+        Ok(id) => Ok((id, rest)),
+        Err(refusal) => Err(refused(refusal, tokens)),
+    }
+}
+
+/// A text, which is the first of these tokens, and the tokens behind it.
+fn text<'a>(
+    alloc: Global,
+    version: Version,
+    tokens: &'a [PlacedToken<'a>],
+    rest: &'a [PlacedToken<'a>],
+    program: &mut Program,
+    text: &String,
+    spot: Spot,
+) -> Result<(ExprId, &'a [PlacedToken<'a>]), Stop>
+    ensures reads { ReadsExpression program.old program.new result (expression_read (counts_of program.old) (literal_form (text_literal (string_bytes text.now))) (toks tokens.now) (toks rest.now)) }
+    ensures placed { IfOk result (λ x. Consumes (ExpressionPlaced version program.new x.0) (spot ∷ places rest.now) (places x.1.now)) }
+{
+    let text = String::from_str(alloc, text.as_str())?;
+    let constant = Constant::text(alloc, text)?;
+    match program.constant(constant, spot) {
+        Ok(id) => Ok((id, rest)),
+        Err(refusal) => Err(refused(refusal, tokens)),
+    }
+}
+
+/// A literal, which is the first of these tokens, and the tokens behind it.
+fn literal<'a>(
+    alloc: Global,
+    version: Version,
+    tokens: &'a [PlacedToken<'a>],
+    rest: &'a [PlacedToken<'a>],
+    program: &mut Program,
+    token: &Token,
+    spot: Spot,
+) -> Result<(ExprId, &'a [PlacedToken<'a>]), Stop>
+    ensures reads { ReadsExpression program.old program.new result (literal_read (counts_of program.old) (literal_of (token_of token.now)) (toks tokens.now) (toks rest.now)) }
+    ensures placed { IfOk result (λ x. Consumes (ExpressionPlaced version program.new x.0) (spot ∷ places rest.now) (places x.1.now)) }
+{
+    match token {
+        Token::Number(value) => number(version, tokens, rest, program, *value, spot),
+        Token::Text(value) => text(alloc, version, tokens, rest, program, value, spot),
+        Token::Keyword(Keyword::True) => truth(version, tokens, rest, program, true, spot),
+        Token::Keyword(Keyword::False) => truth(version, tokens, rest, program, false, spot),
+        _ => Err(stop_at(Rule::Unexpected, tokens)),
+    }
+}
+
+/// The only value of its type, whose opening bracket is the first of these tokens, and the tokens behind it.
+fn unit<'a>(
+    version: Version,
+    tokens: &'a [PlacedToken<'a>],
+    rest: &'a [PlacedToken<'a>],
+    program: &mut Program,
+    opening: Spot,
+    spot: Spot,
+) -> Result<(ExprId, &'a [PlacedToken<'a>]), Stop>
+    ensures reads { ReadsExpression program.old program.new result (expression_read (counts_of program.old) (literal_form unit_literal) (toks tokens.now) (toks rest.now)) }
+    ensures placed { IfOk result (λ x. Consumes (ExpressionPlaced version program.new x.0) (opening ∷ spot ∷ places rest.now) (places x.1.now)) }
+{
+    match program.add_expression(ExprNode::Unit, opening) {
+        Ok(id) => Ok((id, rest)),
+        Err(refusal) => Err(refused(refusal, tokens)),
+    }
+}
+
+/// No event, whose word is the first of these tokens, and the tokens behind its type.
+#[tactic(auto, unfolding(sf_grammar::specs::Reading::parse_none))]
+fn no_event<'a>(
+    alloc: Global,
+    version: Version,
+    tokens: &'a [PlacedToken<'a>],
+    rest: &'a [PlacedToken<'a>],
+    program: &mut Program,
+    spot: Spot,
+    left: u32,
+) -> Result<(ExprId, &'a [PlacedToken<'a>]), Stop>
+    ensures reads { ReadsExpression program.old program.new result (parse_none left version (counts_of program.old) (toks tokens.now) (toks rest.now)) }
+    ensures placed { IfOk result (λ x. Consumes (ExpressionPlaced version program.new x.0) (spot ∷ places rest.now) (places x.1.now)) }
+{
+    let (payload, rest) = inner_type(alloc, version, rest, rest, 0, left)?;
+    match program.constant(Constant::no_event(payload), spot) {
         Ok(id) => Ok((id, rest)),
         Err(refusal) => Err(refused(refusal, tokens)),
     }
@@ -129,50 +236,56 @@ fn add_linked(
 #[tactic(auto, using(crate::proofs::Deeper::expression_at_more, crate::proofs::Deeper::expression_at_zero))]
 pub(crate) fn expression<'a>(
     alloc: Global,
+    version: Version,
     tokens: &'a [PlacedToken<'a>],
     program: &mut Program,
     left: u32,
 ) -> Result<(ExprId, &'a [PlacedToken<'a>]), Stop>
     requires shallow { left ≤ 64 }
     requires named { AreNamed (toks tokens.now) }
-    ensures reads { ReadsExpression program.old program.new result (parse_expression left (counts_of program.old) (toks tokens.now)) }
-    ensures placed { IfOk result (λ x. Consumes (ExpressionPlaced program.new x.0) (places tokens.now) (places x.1.now)) }
+    ensures reads { ReadsExpression program.old program.new result (parse_expression left version (counts_of program.old) (toks tokens.now)) }
+    ensures placed { IfOk result (λ x. Consumes (ExpressionPlaced version program.new x.0) (places tokens.now) (places x.1.now)) }
 {
     if left == 0 {
         return Err(expression_too_deep(tokens));
     }
-    expression_form(alloc, tokens, program, left - 1)
+    expression_form(alloc, version, tokens, program, left - 1)
 }
 
 #[cycle(expression)]
 fn expression_form<'a>(
     alloc: Global,
+    version: Version,
     tokens: &'a [PlacedToken<'a>],
     program: &mut Program,
     left: u32,
 ) -> Result<(ExprId, &'a [PlacedToken<'a>]), Stop>
     requires shallow { left ≤ 63 }
     requires named { AreNamed (toks tokens.now) }
-    ensures reads { ReadsExpression program.old program.new result (parse_expression_form (parse_expression left) (counts_of program.old) (toks tokens.now)) }
-    ensures placed { IfOk result (λ x. Consumes (ExpressionPlaced program.new x.0) (places tokens.now) (places x.1.now)) }
+    ensures reads { ReadsExpression program.old program.new result (parse_expression_form left version (parse_expression left version) (counts_of program.old) (toks tokens.now)) }
+    ensures placed { IfOk result (λ x. Consumes (ExpressionPlaced version program.new x.0) (places tokens.now) (places x.1.now)) }
 {
     let [first, rest @ ..] = tokens else {
         return Err(stop_at(Rule::Unexpected, tokens));
     };
     let spot = first.spot;
     match &first.token {
-        Token::Name(name) => variable(alloc, tokens, rest, program, *name, spot),
-        Token::Number(value) => number(tokens, rest, program, *value, spot),
-        Token::Symbol(Symbol::Open) => linked(alloc, tokens, rest, program, spot, left),
-        _ => Err(stop_at(Rule::Unexpected, tokens)),
+        Token::Name(name) => variable(alloc, version, tokens, rest, program, *name, spot),
+        Token::Keyword(Keyword::NoEvent) => {
+            no_event(alloc, version, tokens, rest, program, spot, left)
+        }
+        Token::Symbol(Symbol::Open) => {
+            bracketed(alloc, version, tokens, rest, program, spot, left)
+        }
+        token => literal(alloc, version, tokens, rest, program, token, spot),
     }
 }
 
-/// Two expressions in brackets, the opening one of which is the first of these tokens, and the tokens behind them.
+/// What begins with an opening bracket, the first of these tokens, and the tokens behind it.
 #[cycle(expression)]
-#[tactic(auto, using(crate::proofs::Named::expression_named), unfolding(sf_grammar::specs::Reading::parse_linked))]
-fn linked<'a>(
+fn bracketed<'a>(
     alloc: Global,
+    version: Version,
     tokens: &'a [PlacedToken<'a>],
     rest: &'a [PlacedToken<'a>],
     program: &mut Program,
@@ -181,12 +294,37 @@ fn linked<'a>(
 ) -> Result<(ExprId, &'a [PlacedToken<'a>]), Stop>
     requires shallow { left ≤ 63 }
     requires named { AreNamed (toks rest.now) }
-    ensures reads { ReadsExpression program.old program.new result (parse_linked (parse_expression left) (counts_of program.old) (toks tokens.now) (toks rest.now)) }
-    ensures placed { IfOk result (λ x. Consumes (ExpressionPlaced program.new x.0) (spot ∷ places rest.now) (places x.1.now)) }
+    ensures reads { ReadsExpression program.old program.new result (bracketed_from (parse_expression left version) (counts_of program.old) (behind_close (toks rest.now)) (toks tokens.now) (toks rest.now)) }
+    ensures placed { IfOk result (λ x. Consumes (ExpressionPlaced version program.new x.0) (spot ∷ places rest.now) (places x.1.now)) }
 {
-    let (one, rest) = expression(alloc, rest, program, left)?;
+    if let [closing, behind @ ..] = rest {
+        if let Token::Symbol(Symbol::Close) = &closing.token {
+            return unit(version, tokens, behind, program, spot, closing.spot);
+        }
+    }
+    linked(alloc, version, tokens, rest, program, spot, left)
+}
+
+/// Two expressions in brackets, the opening one of which is the first of these tokens, and the tokens behind them.
+#[cycle(expression)]
+#[tactic(auto, using(crate::proofs::Named::expression_named), unfolding(sf_grammar::specs::Reading::parse_linked))]
+fn linked<'a>(
+    alloc: Global,
+    version: Version,
+    tokens: &'a [PlacedToken<'a>],
+    rest: &'a [PlacedToken<'a>],
+    program: &mut Program,
+    spot: Spot,
+    left: u32,
+) -> Result<(ExprId, &'a [PlacedToken<'a>]), Stop>
+    requires shallow { left ≤ 63 }
+    requires named { AreNamed (toks rest.now) }
+    ensures reads { ReadsExpression program.old program.new result (parse_linked (parse_expression left version) (counts_of program.old) (toks tokens.now) (toks rest.now)) }
+    ensures placed { IfOk result (λ x. Consumes (ExpressionPlaced version program.new x.0) (spot ∷ places rest.now) (places x.1.now)) }
+{
+    let (one, rest) = expression(alloc, version, rest, program, left)?;
     let (link, rest) = link(rest)?;
-    let (two, rest) = expression(alloc, rest, program, left)?;
+    let (two, rest) = expression(alloc, version, rest, program, left)?;
     let rest = symbol(rest, Symbol::Close)?;
     match add_linked(program, link, one, two, spot) {
         Ok(id) => Ok((id, rest)),
@@ -198,18 +336,19 @@ fn linked<'a>(
 #[tactic(auto, unfolding(sf_grammar::specs::Reading::parse_function))]
 pub(crate) fn function<'a>(
     alloc: Global,
+    version: Version,
     tokens: &'a [PlacedToken<'a>],
     program: &mut Program,
     left: u32,
 ) -> Result<(FunctionId, &'a [PlacedToken<'a>]), Stop>
     requires shallow { left ≤ 63 }
     requires named { AreNamed (toks tokens.now) }
-    ensures reads { ReadsFunction program.old program.new result (parse_function left (counts_of program.old) (toks tokens.now)) }
-    ensures placed { IfOk result (λ x. Consumes (FunctionPlaced program.new x.0) (places tokens.now) (places x.1.now)) }
+    ensures reads { ReadsFunction program.old program.new result (parse_function left version (counts_of program.old) (toks tokens.now)) }
+    ensures placed { IfOk result (λ x. Consumes (FunctionPlaced version program.new x.0) (places tokens.now) (places x.1.now)) }
 {
     let (pattern, rest) = pattern(alloc, tokens, left)?;
     let rest = symbol(rest, Symbol::MapsTo)?;
-    let (body, rest) = expression(alloc, rest, program, left)?;
+    let (body, rest) = expression(alloc, version, rest, program, left)?;
     match program.function(pattern, body) {
         Ok(id) => Ok((id, rest)),
         Err(refusal) => Err(refused(refusal, tokens)),

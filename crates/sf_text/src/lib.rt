@@ -14,6 +14,3 @@ mod ty;
 pub use network::read_network;
 pub use sf_grammar::{one_network, one_place_a_token};
 pub use sf_refusal::{Refusal, Spot};
-
-#[cfg(test)]
-mod tests;

@@ -14,6 +14,7 @@ use crate::part::opening;
 use crate::place::refusal_at;
 use crate::stop::Stop;
 use crate::template::template;
+use sf_grammar::Version;
 use sf_lex::{PlacedToken, tokens};
 use sf_refusal::Refusal;
 use sf_term::Program;
@@ -23,44 +24,46 @@ use std::alloc::Global;
 #[tactic(auto, using(crate::proofs::Behind::stops_after))]
 fn templates<'a>(
     alloc: Global,
+    version: Version,
     tokens: &'a [PlacedToken<'a>],
     program: &mut Program,
 ) -> Result<(), Stop>
     requires named { AreNamed (toks tokens.now) }
     requires blank { IsBlankProgram program.old }
-    ensures reads { ReadsTemplates result (toks tokens.now) program.new }
-    ensures placed { OnOk result (TemplatesPlaced program.new (headers_of program.new) (places tokens.now)) }
+    ensures reads { ReadsTemplates version result (toks tokens.now) program.new }
+    ensures placed { OnOk result (TemplatesPlaced version program.new (headers_of program.new) (places tokens.now)) }
 {
     let mut at = 0;
     while at < tokens.len() {
-        let behind = template(alloc, &tokens[at..], program)?;
+        let behind = template(alloc, version, &tokens[at..], program)?;
         at = tokens.len() - behind.len();
     }
     Ok(())
 }
 
-/// Reads a network into a program without terms and templates.
-#[tactic(auto, using(crate::proofs::Whole::stops_opening, crate::proofs::Whole::opening_named, crate::proofs::Whole::reads_network))]
+/// Reads a network into a program without terms and templates, and answers its version.
+#[tactic(auto, using(crate::proofs::Whole::stops_opening, crate::proofs::Whole::opening_named, crate::proofs::Whole::network_spelled, crate::proofs::Whole::network_stops))]
 fn network<'a>(
     alloc: Global,
     tokens: &'a [PlacedToken<'a>],
     program: &mut Program,
-) -> Result<(), Stop>
+) -> Result<Version, Stop>
     requires named { AreNamed (toks tokens.now) }
     requires blank { IsBlankProgram program.old }
     ensures reads { ReadsNetwork result (toks tokens.now) program.new }
-    ensures placed { OnOk result (NetworkPlaced program.new (places tokens.now)) }
+    ensures placed { IfOk result (λ v. NetworkPlaced v program.new (places tokens.now)) }
 {
-    let rest = opening(tokens)?;
-    templates(alloc, rest, program)
+    let (version, rest) = opening(tokens)?;
+    templates(alloc, version, rest, program)?;
+    Ok(version)
 }
 
-/// The network whose text this is: version 1, at most 1,048,576 bytes, 100,000 terms and 100,000 expressions. At most 64
+/// The network whose text this is: version 1 or 2, at most 1,048,576 bytes, 100,000 terms and 100,000 expressions. At most 64
 /// terms, expressions, patterns or types stand one inside another, and a type has at most 256 nodes. Faults of tokens come
 /// first; then the first in reading order: `Rule::Unexpected`, the first token that no network has behind the tokens before
 /// it, or the place behind the last byte; `Rule::TooDeep`, the token that begins a form 65 deep; `Rule::Version`;
 /// `Rule::WrittenTypeTooLarge`, the first token of the type; `Rule::TooMany`, the first token of the form too many.
-#[tactic(auto, using(crate::proofs::Whole::tokens_named, crate::proofs::Whole::text_read, crate::proofs::Whole::text_stops, sf_grammar::proofs::Texts::refused_none))]
+#[tactic(auto, using(crate::proofs::Whole::tokens_named, crate::proofs::Whole::network_text, crate::proofs::Whole::text_stops, sf_grammar::proofs::Texts::refused_none))]
 pub fn read_network(alloc: Global, bytes: &[u8]) -> Result<Program, Refusal>
     // What is read is the network of the text.
     ensures read { IfOk result (λ p. IsNetworkText bytes.now (templates_of p)) }
@@ -74,7 +77,7 @@ pub fn read_network(alloc: Global, bytes: &[u8]) -> Result<Program, Refusal>
     let tokens = tokens(alloc, bytes)?;
     let mut program = Program::new(alloc);
     match network(alloc, &tokens, &mut program) {
-        Ok(()) => Ok(program),
+        Ok(_version) => Ok(program),
         Err(stop) => Err(refusal_at(stop, &tokens, bytes)),
     }
 }

@@ -6,6 +6,7 @@ ghost use Rattle.sf_grammar.specs.Reading.{Read, stop, parse_symbol, parse_keywo
 
 use crate::stop::Stop;
 use crate::ty::ty;
+use sf_grammar::Version;
 use sf_lex::{Keyword, PlacedToken, Symbol, Token};
 use sf_refusal::{Rule, Spot};
 use sf_value::Ty;
@@ -76,15 +77,18 @@ fn name<'a>(tokens: &'a [PlacedToken<'a>]) -> Result<(Named<'a>, &'a [PlacedToke
     Err(stop_at(Rule::Unexpected, tokens))
 }
 
-/// The tokens behind the only version.
-fn version<'a>(tokens: &'a [PlacedToken<'a>]) -> Result<&'a [PlacedToken<'a>], Stop>
-    ensures reads { ReadsRest result (parse_version (toks tokens.now)) }
-    ensures behind { IfOk result (λ rest. BehindOne (places tokens.now) (places rest.now)) }
+/// The version, and the tokens behind it.
+fn version<'a>(tokens: &'a [PlacedToken<'a>]) -> Result<(Version, &'a [PlacedToken<'a>]), Stop>
+    ensures reads { ReadsAs (λ v. v) result (parse_version (toks tokens.now)) }
+    ensures behind { IfOk result (λ x. BehindOne (places tokens.now) (places x.1.now)) }
 {
     if let [first, rest @ ..] = tokens {
         if let Token::Number(number) = &first.token {
             if *number == 1 {
-                return Ok(rest);
+                return Ok((Version::One, rest));
+            }
+            if *number == 2 {
+                return Ok((Version::Two, rest));
             }
             return Err(stop_at(Rule::Version, tokens));
         }
@@ -92,15 +96,18 @@ fn version<'a>(tokens: &'a [PlacedToken<'a>]) -> Result<&'a [PlacedToken<'a>], S
     Err(stop_at(Rule::Unexpected, tokens))
 }
 
-/// The tokens behind what stands in front of a network's templates.
+/// The version of a network, and the tokens behind what stands in front of its templates.
 #[tactic(auto, unfolding(sf_grammar::specs::Reading::parse_opening))]
-pub(crate) fn opening<'a>(tokens: &'a [PlacedToken<'a>]) -> Result<&'a [PlacedToken<'a>], Stop>
-    ensures reads { ReadsRest result (parse_opening (toks tokens.now)) }
-    ensures placed { IfOk result (λ rest. OpeningPlaced (places tokens.now) (places rest.now)) }
+pub(crate) fn opening<'a>(
+    tokens: &'a [PlacedToken<'a>],
+) -> Result<(Version, &'a [PlacedToken<'a>]), Stop>
+    ensures reads { ReadsAs (λ v. v) result (parse_opening (toks tokens.now)) }
+    ensures placed { IfOk result (λ x. OpeningPlaced (places tokens.now) (places x.1.now)) }
 {
     let rest = keyword(tokens, Keyword::Network)?;
-    let rest = version(rest)?;
-    symbol(rest, Symbol::Semicolon)
+    let (version, rest) = version(rest)?;
+    let rest = symbol(rest, Symbol::Semicolon)?;
+    Ok((version, rest))
 }
 
 /// A template's name, and the tokens behind its empty list of parameters.
@@ -129,15 +136,16 @@ pub(crate) struct Types {
 #[tactic(auto, unfolding(sf_grammar::specs::Reading::parse_signature))]
 pub(crate) fn signature<'a>(
     alloc: Global,
+    version: Version,
     tokens: &'a [PlacedToken<'a>],
 ) -> Result<(Types, &'a [PlacedToken<'a>]), Stop>
-    ensures reads { ReadsAs kinds_in result (parse_signature (toks tokens.now)) }
+    ensures reads { ReadsAs kinds_in result (parse_signature version (toks tokens.now)) }
     ensures behind { IfOk result (λ x. BehindSome (places tokens.now) (places x.1.now)) }
 {
     let rest = symbol(tokens, Symbol::Colon)?;
-    let (input, rest) = ty(alloc, rest)?;
+    let (input, rest) = ty(alloc, version, rest)?;
     let rest = symbol(rest, Symbol::Leads)?;
-    let (output, rest) = ty(alloc, rest)?;
+    let (output, rest) = ty(alloc, version, rest)?;
     let rest = symbol(rest, Symbol::Equals)?;
     Ok((Types { input, output }, rest))
 }

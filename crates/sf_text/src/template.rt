@@ -8,6 +8,7 @@ use crate::expression::refused;
 use crate::part::{heading, signature, symbol};
 use crate::stop::Stop;
 use crate::term::term;
+use sf_grammar::Version;
 use sf_lex::{PlacedToken, Symbol};
 use sf_term::Program;
 use std::alloc::Global;
@@ -16,16 +17,17 @@ use std::alloc::Global;
 #[tactic(auto, unfolding(sf_grammar::specs::Reading::parse_template))]
 pub(crate) fn template<'a>(
     alloc: Global,
+    version: Version,
     tokens: &'a [PlacedToken<'a>],
     program: &mut Program,
 ) -> Result<&'a [PlacedToken<'a>], Stop>
     requires { AreNamed (toks tokens.now) }
-    ensures reads { ReadsTemplate program.old program.new result (parse_template (counts_of program.old) (toks tokens.now)) }
-    ensures placed { IfOk result (λ rest. PlacesTemplate program.old program.new (places tokens.now) (places rest.now)) }
+    ensures reads { ReadsTemplate program.old program.new result (parse_template version (counts_of program.old) (toks tokens.now)) }
+    ensures placed { IfOk result (λ rest. PlacesTemplate version program.old program.new (places tokens.now) (places rest.now)) }
 {
     let (heading, rest) = heading(tokens)?;
-    let (types, rest) = signature(alloc, rest)?;
-    let (body, rest) = term(alloc, rest, program, 64)?;
+    let (types, rest) = signature(alloc, version, rest)?;
+    let (body, rest) = term(alloc, version, rest, program, 64)?;
     let rest = symbol(rest, Symbol::Semicolon)?;
     let name = String::from_str(alloc, heading.name)?;
     match program.template(name, heading.spot, types.input, types.output, body) {

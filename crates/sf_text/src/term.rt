@@ -10,7 +10,7 @@ ghost use Rattle.sf_grammar.specs.Reading.{begins_term, too_deep, term_read, par
 use crate::expression::{expression, function, refused};
 use crate::part::{stop_at, symbol};
 use crate::stop::Stop;
-use sf_grammar::{Head, head_of, join_of};
+use sf_grammar::{Head, Version, head_of, join_of};
 use sf_lex::{PlacedToken, Symbol, Token};
 use sf_refusal::{Rule, Spot};
 use sf_term::{Bare, Heading, Join, Node, Primitive, Program, Side, TermId, WithValue};
@@ -38,6 +38,7 @@ fn term_too_deep(tokens: &[PlacedToken]) -> Stop
 
 /// A primitive without constants, whose word is the first of these tokens, and the tokens behind it.
 fn bare<'a>(
+    version: Version,
     tokens: &'a [PlacedToken<'a>],
     rest: &'a [PlacedToken<'a>],
     program: &mut Program,
@@ -45,7 +46,7 @@ fn bare<'a>(
     spot: Spot,
 ) -> Result<(TermId, &'a [PlacedToken<'a>]), Stop>
     ensures reads { ReadsTerm program.old program.new result (term_read (counts_of program.old) (primitive_form (bare_form kind)) (toks tokens.now) (toks rest.now)) }
-    ensures placed { IfOk result (λ x. Consumes (TermPlaced program.new x.0) (spot ∷ places rest.now) (places x.1.now)) }
+    ensures placed { IfOk result (λ x. Consumes (TermPlaced version program.new x.0) (spot ∷ places rest.now) (places x.1.now)) }
 {
     match program.add(Node::Primitive(Primitive::Bare(kind)), spot) {
         Ok(id) => Ok((id, rest)),
@@ -57,6 +58,7 @@ fn bare<'a>(
 #[tactic(auto, unfolding(sf_grammar::specs::Reading::parse_value))]
 fn with_value<'a>(
     alloc: Global,
+    version: Version,
     tokens: &'a [PlacedToken<'a>],
     rest: &'a [PlacedToken<'a>],
     program: &mut Program,
@@ -66,10 +68,10 @@ fn with_value<'a>(
 ) -> Result<(TermId, &'a [PlacedToken<'a>]), Stop>
     requires shallow { left ≤ 63 }
     requires named { AreNamed (toks rest.now) }
-    ensures reads { ReadsTerm program.old program.new result (parse_value left (counts_of program.old) kind (toks tokens.now) (toks rest.now)) }
-    ensures placed { IfOk result (λ x. Consumes (TermPlaced program.new x.0) (spot ∷ places rest.now) (places x.1.now)) }
+    ensures reads { ReadsTerm program.old program.new result (parse_value left version (counts_of program.old) kind (toks tokens.now) (toks rest.now)) }
+    ensures placed { IfOk result (λ x. Consumes (TermPlaced version program.new x.0) (spot ∷ places rest.now) (places x.1.now)) }
 {
-    let (value, rest) = expression(alloc, rest, program, left)?;
+    let (value, rest) = expression(alloc, version, rest, program, left)?;
     match program.add(Node::Primitive(Primitive::WithValue(kind, value)), spot) {
         Ok(id) => Ok((id, rest)),
         Err(refusal) => Err(refused(refusal, tokens)),
@@ -80,6 +82,7 @@ fn with_value<'a>(
 #[tactic(auto, unfolding(sf_grammar::specs::Reading::parse_arrow))]
 fn arrow<'a>(
     alloc: Global,
+    version: Version,
     tokens: &'a [PlacedToken<'a>],
     rest: &'a [PlacedToken<'a>],
     program: &mut Program,
@@ -88,10 +91,10 @@ fn arrow<'a>(
 ) -> Result<(TermId, &'a [PlacedToken<'a>]), Stop>
     requires shallow { left ≤ 63 }
     requires named { AreNamed (toks rest.now) }
-    ensures reads { ReadsTerm program.old program.new result (parse_arrow left (counts_of program.old) (toks tokens.now) (toks rest.now)) }
-    ensures placed { IfOk result (λ x. Consumes (TermPlaced program.new x.0) (spot ∷ places rest.now) (places x.1.now)) }
+    ensures reads { ReadsTerm program.old program.new result (parse_arrow left version (counts_of program.old) (toks tokens.now) (toks rest.now)) }
+    ensures placed { IfOk result (λ x. Consumes (TermPlaced version program.new x.0) (spot ∷ places rest.now) (places x.1.now)) }
 {
-    let (function, rest) = function(alloc, rest, program, left)?;
+    let (function, rest) = function(alloc, version, rest, program, left)?;
     match program.add(Node::Primitive(Primitive::Arrow(function)), spot) {
         Ok(id) => Ok((id, rest)),
         Err(refusal) => Err(refused(refusal, tokens)),
@@ -119,32 +122,34 @@ fn join<'a>(tokens: &'a [PlacedToken<'a>]) -> Result<(Join, &'a [PlacedToken<'a>
 #[tactic(auto, using(crate::proofs::Deeper::term_at_more, crate::proofs::Deeper::term_at_zero))]
 pub(crate) fn term<'a>(
     alloc: Global,
+    version: Version,
     tokens: &'a [PlacedToken<'a>],
     program: &mut Program,
     left: u32,
 ) -> Result<(TermId, &'a [PlacedToken<'a>]), Stop>
     requires shallow { left ≤ 64 }
     requires named { AreNamed (toks tokens.now) }
-    ensures reads { ReadsTerm program.old program.new result (parse_term left (counts_of program.old) (toks tokens.now)) }
-    ensures placed { IfOk result (λ x. Consumes (TermPlaced program.new x.0) (places tokens.now) (places x.1.now)) }
+    ensures reads { ReadsTerm program.old program.new result (parse_term left version (counts_of program.old) (toks tokens.now)) }
+    ensures placed { IfOk result (λ x. Consumes (TermPlaced version program.new x.0) (places tokens.now) (places x.1.now)) }
 {
     if left == 0 {
         return Err(term_too_deep(tokens));
     }
-    form(alloc, tokens, program, left - 1)
+    form(alloc, version, tokens, program, left - 1)
 }
 
 #[cycle(term)]
 fn form<'a>(
     alloc: Global,
+    version: Version,
     tokens: &'a [PlacedToken<'a>],
     program: &mut Program,
     left: u32,
 ) -> Result<(TermId, &'a [PlacedToken<'a>]), Stop>
     requires shallow { left ≤ 63 }
     requires named { AreNamed (toks tokens.now) }
-    ensures reads { ReadsTerm program.old program.new result (parse_form left (parse_term left) (counts_of program.old) (toks tokens.now)) }
-    ensures placed { IfOk result (λ x. Consumes (TermPlaced program.new x.0) (places tokens.now) (places x.1.now)) }
+    ensures reads { ReadsTerm program.old program.new result (parse_form left version (parse_term left version) (counts_of program.old) (toks tokens.now)) }
+    ensures placed { IfOk result (λ x. Consumes (TermPlaced version program.new x.0) (places tokens.now) (places x.1.now)) }
 {
     let [first, rest @ ..] = tokens else {
         return Err(stop_at(Rule::Unexpected, tokens));
@@ -152,10 +157,10 @@ fn form<'a>(
     let spot = first.spot;
     match &first.token {
         Token::Keyword(keyword) => match head_of(*keyword) {
-            Some(head) => worded(alloc, tokens, rest, program, head, spot, left),
+            Some(head) => worded(alloc, version, tokens, rest, program, head, spot, left),
             None => Err(stop_at(Rule::Unexpected, tokens)),
         },
-        Token::Symbol(Symbol::Open) => joined(alloc, tokens, rest, program, spot, left),
+        Token::Symbol(Symbol::Open) => joined(alloc, version, tokens, rest, program, spot, left),
         _ => Err(stop_at(Rule::Unexpected, tokens)),
     }
 }
@@ -164,6 +169,7 @@ fn form<'a>(
 #[cycle(term)]
 fn worded<'a>(
     alloc: Global,
+    version: Version,
     tokens: &'a [PlacedToken<'a>],
     rest: &'a [PlacedToken<'a>],
     program: &mut Program,
@@ -173,15 +179,17 @@ fn worded<'a>(
 ) -> Result<(TermId, &'a [PlacedToken<'a>]), Stop>
     requires shallow { left ≤ 63 }
     requires named { AreNamed (toks rest.now) }
-    ensures reads { ReadsTerm program.old program.new result (parse_worded left (parse_term left) (counts_of program.old) (Some head) (toks tokens.now) (toks rest.now)) }
-    ensures placed { IfOk result (λ x. Consumes (TermPlaced program.new x.0) (spot ∷ places rest.now) (places x.1.now)) }
+    ensures reads { ReadsTerm program.old program.new result (parse_worded left version (parse_term left version) (counts_of program.old) (Some head) (toks tokens.now) (toks rest.now)) }
+    ensures placed { IfOk result (λ x. Consumes (TermPlaced version program.new x.0) (spot ∷ places rest.now) (places x.1.now)) }
 {
     match head {
-        Head::Bare(kind) => bare(tokens, rest, program, kind, spot),
-        Head::WithValue(kind) => with_value(alloc, tokens, rest, program, kind, spot, left),
-        Head::Arrow => arrow(alloc, tokens, rest, program, spot, left),
-        Head::Sided(side) => sided(alloc, tokens, rest, program, side, spot, left),
-        Head::Headed(heading) => headed(alloc, tokens, rest, program, heading, spot, left),
+        Head::Bare(kind) => bare(version, tokens, rest, program, kind, spot),
+        Head::WithValue(kind) => with_value(
+            alloc, version, tokens, rest, program, kind, spot, left,
+        ),
+        Head::Arrow => arrow(alloc, version, tokens, rest, program, spot, left),
+        Head::Sided(side) => sided(alloc, version, tokens, rest, program, side, spot, left),
+        Head::Headed(heading) => headed(alloc, version, tokens, rest, program, heading, spot, left),
     }
 }
 
@@ -190,6 +198,7 @@ fn worded<'a>(
 #[tactic(auto, unfolding(sf_grammar::specs::Reading::parse_sided))]
 fn sided<'a>(
     alloc: Global,
+    version: Version,
     tokens: &'a [PlacedToken<'a>],
     rest: &'a [PlacedToken<'a>],
     program: &mut Program,
@@ -199,10 +208,10 @@ fn sided<'a>(
 ) -> Result<(TermId, &'a [PlacedToken<'a>]), Stop>
     requires shallow { left ≤ 63 }
     requires named { AreNamed (toks rest.now) }
-    ensures reads { ReadsTerm program.old program.new result (parse_sided (parse_term left) (counts_of program.old) side (toks tokens.now) (toks rest.now)) }
-    ensures placed { IfOk result (λ x. Consumes (TermPlaced program.new x.0) (spot ∷ places rest.now) (places x.1.now)) }
+    ensures reads { ReadsTerm program.old program.new result (parse_sided (parse_term left version) (counts_of program.old) side (toks tokens.now) (toks rest.now)) }
+    ensures placed { IfOk result (λ x. Consumes (TermPlaced version program.new x.0) (spot ∷ places rest.now) (places x.1.now)) }
 {
-    let (part, rest) = term(alloc, rest, program, left)?;
+    let (part, rest) = term(alloc, version, rest, program, left)?;
     match program.add(Node::Sided(side, part), spot) {
         Ok(id) => Ok((id, rest)),
         Err(refusal) => Err(refused(refusal, tokens)),
@@ -214,6 +223,7 @@ fn sided<'a>(
 #[tactic(auto, using(crate::proofs::Named::expression_named), unfolding(sf_grammar::specs::Reading::parse_headed))]
 fn headed<'a>(
     alloc: Global,
+    version: Version,
     tokens: &'a [PlacedToken<'a>],
     rest: &'a [PlacedToken<'a>],
     program: &mut Program,
@@ -223,13 +233,13 @@ fn headed<'a>(
 ) -> Result<(TermId, &'a [PlacedToken<'a>]), Stop>
     requires shallow { left ≤ 63 }
     requires named { AreNamed (toks rest.now) }
-    ensures reads { ReadsTerm program.old program.new result (parse_headed left (parse_term left) (counts_of program.old) heading (toks tokens.now) (toks rest.now)) }
-    ensures placed { IfOk result (λ x. Consumes (TermPlaced program.new x.0) (spot ∷ places rest.now) (places x.1.now)) }
+    ensures reads { ReadsTerm program.old program.new result (parse_headed left version (parse_term left version) (counts_of program.old) heading (toks tokens.now) (toks rest.now)) }
+    ensures placed { IfOk result (λ x. Consumes (TermPlaced version program.new x.0) (spot ∷ places rest.now) (places x.1.now)) }
 {
     let rest = symbol(rest, Symbol::Open)?;
-    let (value, rest) = expression(alloc, rest, program, left)?;
+    let (value, rest) = expression(alloc, version, rest, program, left)?;
     let rest = symbol(rest, Symbol::Comma)?;
-    let (part, rest) = term(alloc, rest, program, left)?;
+    let (part, rest) = term(alloc, version, rest, program, left)?;
     let rest = symbol(rest, Symbol::Close)?;
     match program.add(Node::Headed(heading, value, part), spot) {
         Ok(id) => Ok((id, rest)),
@@ -242,6 +252,7 @@ fn headed<'a>(
 #[tactic(auto, using(crate::proofs::Named::term_named), unfolding(sf_grammar::specs::Reading::parse_joined))]
 fn joined<'a>(
     alloc: Global,
+    version: Version,
     tokens: &'a [PlacedToken<'a>],
     rest: &'a [PlacedToken<'a>],
     program: &mut Program,
@@ -250,12 +261,12 @@ fn joined<'a>(
 ) -> Result<(TermId, &'a [PlacedToken<'a>]), Stop>
     requires shallow { left ≤ 63 }
     requires named { AreNamed (toks rest.now) }
-    ensures reads { ReadsTerm program.old program.new result (parse_joined (parse_term left) (counts_of program.old) (toks tokens.now) (toks rest.now)) }
-    ensures placed { IfOk result (λ x. Consumes (TermPlaced program.new x.0) (spot ∷ places rest.now) (places x.1.now)) }
+    ensures reads { ReadsTerm program.old program.new result (parse_joined (parse_term left version) (counts_of program.old) (toks tokens.now) (toks rest.now)) }
+    ensures placed { IfOk result (λ x. Consumes (TermPlaced version program.new x.0) (spot ∷ places rest.now) (places x.1.now)) }
 {
-    let (one, rest) = term(alloc, rest, program, left)?;
+    let (one, rest) = term(alloc, version, rest, program, left)?;
     let (join, rest) = join(rest)?;
-    let (two, rest) = term(alloc, rest, program, left)?;
+    let (two, rest) = term(alloc, version, rest, program, left)?;
     let rest = symbol(rest, Symbol::Close)?;
     match program.add(Node::Joined(join, one, two), spot) {
         Ok(id) => Ok((id, rest)),

@@ -1,7 +1,7 @@
 -- Steps that fail, and the code's readers of numbers.
 use Rattle.std.proofs.Common.{◌≡◌, ℕ, suc, ◌-◌, ◌≤◌, ◌<◌, List, [], ◌∷◌, length, take, drop, get_or, Result, Ok, true, sym, ap, subst, ◌∙◌, arith}
 use Rattle.sf_value.specs.declared.read.Failure.{Failure}
-use Rattle.sf_value.specs.declared.read.Failure.TheVariants.{Bad, Wide, Memory}
+use Rattle.sf_value.specs.declared.read.Failure.TheVariants.{Bad, Wide, Again, Memory}
 use Rattle.sf_value.specs.Scan.{Stop, ◌>>=◌, positive_at, integer_at, narrow}
 use Rattle.sf_decimal.specs.Decimals.{signed}
 use Rattle.sf_value.specs.Gives.{Fails}
@@ -12,6 +12,7 @@ use Rattle.sf_value.proofs.Integers.{PositiveSound, positive_sound}
 pub fails_then : {X Y : Type 0} (e : Failure) (r : Result X Stop) (f : X → Result Y Stop) → Fails e r → Fails e (r >>= f)
 fails_then (Bad n) r f h = (h.0, ap (λ x. x >>= f) h.1, h.2)
 fails_then (Wide n) r f h = (h.0, ap (λ x. x >>= f) h.1, h.2)
+fails_then (Again n) r f h = (h.0, ap (λ x. x >>= f) h.1, h.2)
 fails_then Memory r f h = tt
 
 positive_is : (s : List ℕ) (m : ℕ) (after : List ℕ) → positive_at s ≡ Ok (m, after) → 0 < m

@@ -17,3 +17,8 @@ front_kept old grown more new e h = kept old more new (subst (λ xs. take (lengt
 pub on_err : {A E : Type 0} (r : Result A E) (P : Type 0) → P → OnErr r P
 on_err (Ok x) P p = tt
 on_err (Err e) P p = p
+
+-- where an error leaves a front, it leaves the front's own front
+pub kept_on_err : {A E : Type 0} (r : Result A E) (old more grown new : List ℕ) → grown ≡ old ++ more → OnErr r (take (length grown) new ≡ grown) → OnErr r (take (length old) new ≡ old)
+kept_on_err (Ok x) old more grown new e h = tt
+kept_on_err (Err x) old more grown new e h = front_kept old grown more new e h

@@ -6,8 +6,9 @@ use Rattle.std.specs.Char.{is_ascii_digit}
 use Rattle.std.specs.Str.Parse.{digits_value}
 use Rattle.sf_decimal.specs.Decimals.{natural, integer, BeginsNoDigit, digits_at, after_digits, signed}
 use Rattle.sf_value.specs.Scan.{bad, fault, Scanned, ◌>>=◌, positive_at, integer_at, narrow}
-use Rattle.sf_value.specs.Reading.{Cause, wide}
-use Rattle.sf_value.specs.Values.{is_narrow}
+use Rattle.sf_value.specs.Reading.{Cause, wide, EndsBefore}
+use Rattle.sf_value.specs.Spelling.{key_spelling}
+use Rattle.sf_value.specs.Values.{KeyData, number_key, is_narrow}
 use Rattle.sf_decimal.proofs.Numbers.{natural_small, minus_text}
 use Rattle.sf_decimal.proofs.Digits.{AllDigits, numeral, numeral_at, numeral_read, run_longest}
 use Rattle.sf_value.proofs.Readers.{Language, IsReader, Sound, Completes, Within, NoneBefore, never_grows}
@@ -91,23 +92,23 @@ integer_read (pos (suc n)) more b =
 integer_read (negsuc n) more b =
     ap (λ o. o >>= (λ m. narrow (45 ∷ (natural (suc n) ++ more)) (signed true m.0) m.1)) (positive_read (suc n) more (omega arith) b)
 
-pub shown_alone : (v : ℤ) (before : List ℕ) (z : ℤ) → before ≡ [] → z ≡ v → integer v ≡ before ++ (integer z ++ [])
-shown_alone v before z b e = ap integer (sym e) ∙ sym (append-nil (integer z)) ∙ ap (λ x. x ++ (integer z ++ [])) (sym b)
+pub shown_alone : (v : ℤ) (before : List ℕ) (k : KeyData) → before ≡ [] → k ≡ number_key v → integer v ≡ before ++ (key_spelling k ++ [])
+shown_alone v before k b e = ap key_spelling (sym e) ∙ sym (append-nil (key_spelling k)) ∙ ap (λ x. x ++ (key_spelling k ++ [])) (sym b)
 
 -- whole numbers, of which those outside signed 64 bits have a fault
 abbrev pub integers : Language ℤ
 integers = record {
   Fit = λ _. ⊤;
   text = integer;
-  Fault = λ n before c z. (before ≡ []) × (c ≡ wide) × (z ≡ n) × (is_narrow n ≡ false);
+  Fault = λ n before c k. (before ≡ []) × (c ≡ wide) × (k ≡ number_key n) × (is_narrow n ≡ false);
   some = pos 0;
   some_fit = tt;
-  shown = λ v before c z f. ([], shown_alone v before z f.0 f.2);
+  shown = λ v before c k f. ([], shown_alone v before k f.0 f.2);
 }
 
 narrow_sound : (s : List ℕ) (z : ℤ) (rest : List ℕ) → s ≡ integer z ++ rest → BeginsNoDigit rest → (b : Bool) → is_narrow z ≡ b → Sound integers s (cond b (Ok (z, rest)) (Err (fault wide s)))
 narrow_sound s z rest e d true n = record { fit = tt; cut = e; clean = λ before c w f. false≢true (sym f.3 ∙ n) }
-narrow_sound s z rest e d false n = record { value = z; fit = tt; before = []; number = z; more = rest; at = (refl, refl, refl, n); cut = refl; is = e; ends = d }
+narrow_sound s z rest e d false n = record { value = z; fit = tt; before = []; key = number_key z; more = rest; at = (refl, refl, refl, n); cut = refl; is = e; ends = d }
 
 sound_minus : (s : List ℕ) (o : Scanned ℕ) → PositiveSound s o → Sound integers (45 ∷ s) (o >>= (λ n. narrow (45 ∷ s) (signed true n.0) n.1))
 sound_minus s (Ok p) h =
@@ -141,7 +142,7 @@ integer_sound (c ∷ s) = sound_sign c s (c == 45) refl
 
 narrow_completes : (s : List ℕ) (z : ℤ) (more : List ℕ) → length more ≤ length s → (b : Bool) → is_narrow z ≡ b → Completes integers z more (cond b (Ok (z, more)) (Err (fault wide s)))
 narrow_completes s z more h true n = (refl, refl)
-narrow_completes s z more h false n = (h, ([], z, (refl, refl, refl, n)))
+narrow_completes s z more h false n = (h, ([], number_key z, (refl, refl, refl, n)))
 
 integer_complete : (s more : List ℕ) (v : ℤ) → ⊤ → BeginsNoDigit more → s ≡ integer v ++ more → Completes integers v more (integer_at s)
 integer_complete s more v _ b e =
@@ -176,18 +177,19 @@ longest_at (negsuc n) (d ∷ f) more back e =
     let tl : natural (suc n) ≡ f ++ more = cc in
     subst (λ x. Within back (integer_at (x ∷ (f ++ back)))) hd (narrow_within back (45 ∷ (f ++ back)) (signed true) (positive_at (f ++ back)) (positive_longest (suc n) f more back (omega arith) tl))
 
-integer_first : (s before more : List ℕ) (v : ℤ) (c : Cause) (z : ℤ) → ⊤ → (before ≡ []) × (c ≡ wide) × (z ≡ v) × (is_narrow v ≡ false) → s ≡ before ++ (integer z ++ more) → BeginsNoDigit more → NoneBefore {A = ℤ} (length (integer z ++ more)) (integer_at s)
-integer_first s before more v c z _ f e b =
-    let g : s ≡ integer z ++ more = e ∙ ap (λ x. x ++ (integer z ++ more)) f.0 in
-    let n : is_narrow z ≡ false = ap is_narrow f.2 ∙ f.3 in
-    let full = integer z ++ more in
-    let stops : integer_at s ≡ Err (fault wide full) = ap integer_at g ∙ integer_read z more b ∙ ap (λ k. cond k (Ok (z, more)) (Err (fault wide full))) n in
-    subst (λ o. NoneBefore {A = ℤ} (length full) o) (sym stops) (omega arith)
+integer_first : (s before more : List ℕ) (v : ℤ) (c : Cause) (k : KeyData) → (before ≡ []) × (c ≡ wide) × (k ≡ number_key v) × (is_narrow v ≡ false) → s ≡ before ++ (key_spelling k ++ more) → EndsBefore k more → NoneBefore {A = ℤ} (length (key_spelling k ++ more)) (integer_at s)
+integer_first s before more v c k f e b =
+    let full = integer v ++ more in
+    let same : key_spelling k ++ more ≡ full = ap (λ x. key_spelling x ++ more) f.2 in
+    let g : s ≡ full = e ∙ ap (λ x. x ++ (key_spelling k ++ more)) f.0 ∙ same in
+    let ends : BeginsNoDigit more = subst (λ x. EndsBefore x more) f.2 b in
+    let stops : integer_at s ≡ Err (fault wide full) = ap integer_at g ∙ integer_read v more ends ∙ ap (λ k. cond k (Ok (v, more)) (Err (fault wide full))) f.3 in
+    subst (λ o. NoneBefore {A = ℤ} (length (key_spelling k ++ more)) o) (sym stops) (omega (arith, ap length same))
 
 pub integers_reader : IsReader integers integer_at
-integers_reader = record {
-  sound = integer_sound;
-  complete = integer_complete;
-  longest = λ s f more back v _ e g. subst (λ x. Within back (integer_at x)) (sym g) (longest_at v f more back e);
-  first = integer_first;
+integers_reader s = record {
+  sound = integer_sound s;
+  complete = integer_complete s;
+  longest = λ f more back v _ e g. subst (λ x. Within back (integer_at x)) (sym g) (longest_at v f more back e);
+  first = λ before more v c k _ f e b. integer_first s before more v c k f e b;
 }

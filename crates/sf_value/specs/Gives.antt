@@ -1,14 +1,15 @@
 -- What the private readers answer.
 use Rattle.std.specs.Prelude.{◌≡◌, ℕ, ◌-◌, ◌^◌, min, List, length, Result, Ok, Err, ⊤}
-use Rattle.sf_value.specs.Reading.{wide}
+use Rattle.sf_value.specs.Reading.{wide, again}
 use Rattle.sf_value.specs.Scan.{Stop, bad, fault}
 use Rattle.sf_value.specs.declared.read.Failure.{Failure}
-use Rattle.sf_value.specs.declared.read.Failure.TheVariants.{Bad, Wide, Memory}
+use Rattle.sf_value.specs.declared.read.Failure.TheVariants.{Bad, Wide, Again, Memory}
 
 -- reading stops for this, with so many bytes left, unless memory ran out
 abbrev pub Fails : {Y : Type 0} → Failure → Result Y Stop → Type 0
 Fails (Bad left) read = (rest : List ℕ) × (read ≡ Err (bad rest)) × (left ≡ length rest)
 Fails (Wide left) read = (rest : List ℕ) × (read ≡ Err (fault wide rest)) × (left ≡ length rest)
+Fails (Again left) read = (rest : List ℕ) × (read ≡ Err (fault again rest)) × (left ≡ length rest)
 Fails Memory read = ⊤
 
 -- an answer, seen so, is what is read

@@ -3,6 +3,8 @@ pub mod Spelling
 pub mod Reading
 pub mod Codes
 pub mod View
+pub mod Tables
+pub mod Lookups
 pub mod Falls
 pub mod KindCodes
 pub mod KindView

@@ -1,9 +1,41 @@
 -- The data that a `Value` stands for.
-use Rattle.sf_value.specs.Values.{Data, number, pair}
+use Rattle.std.specs.Prelude.{◌≡◌, List, [], ◌∷◌, map, IsTrue, ⊤, string_bytes}
+use Rattle.std.specs.Str.{IsUtf8}
+use Rattle.sf_value.specs.Values.{KeyData, number_key, text_key, Data, unit, truth, number, text, pair, no_event, event, table, Rows, no_rows, row, is_narrow, HasDifferentKeys}
+use Rattle.sf_value.specs.declared.value.Key.{Key}
+use Rattle.sf_value.specs.declared.value.Key.TheVariants.{Int as IntKey, Text as TextKey}
 use Rattle.sf_value.specs.declared.value.Form.{Form}
-use Rattle.sf_value.specs.declared.value.Form.TheVariants.{Int, Pair}
+use Rattle.sf_value.specs.declared.value.Form.TheVariants.{Unit, Bool, Int, Text, Pair, NoEvent, Event, Table}
+
+-- what a key means
+abbrev pub key_of : Key → KeyData
+key_of (IntKey z) = number_key z
+key_of (TextKey s) = text_key (string_bytes s.value)
+
+-- the rows of a list
+abbrev pub rows_of : List (Key × Data) → Rows
+rows_of [] = no_rows
+rows_of (e ∷ es) = row (key_of e.0) e.1 (rows_of es)
 
 -- what a form means
 abbrev pub data_of : Form → Data
+data_of Unit = unit
+data_of (Bool b) = truth b
 data_of (Int z) = number z
+data_of (Text s) = text (string_bytes s.value)
 data_of (Pair x y) = pair x.value y.value
+data_of NoEvent = no_event
+data_of (Event x) = event x.value
+data_of (Table t) = table (rows_of t.value.rows.items)
+
+-- a number is within signed 64 bits, a text is UTF-8, the keys of a table are different; this holds of each value that a value is made of
+abbrev pub IsProper : Data → Type 0
+IsProper (number z) = IsTrue (is_narrow z)
+IsProper (text s) = IsUtf8 s
+IsProper (table rs) = HasDifferentKeys rs
+IsProper d = ⊤
+
+-- the index of a table has the keys of its rows, in order
+abbrev pub IsIndexed : Form → Type 0
+IsIndexed (Table t) = map key_of t.value.keys.keys ≡ map (λ e. key_of e.0) t.value.rows.items
+IsIndexed f = ⊤

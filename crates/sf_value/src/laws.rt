@@ -1,6 +1,6 @@
 //! Laws of the definitions, in functions without effect.
 ghost use Rattle.std.specs.Prelude.{◌≡◌, ℕ, List, Result};
-ghost use Rattle.sf_value.specs.Values.{Kind, Data, HasKind};
+ghost use Rattle.sf_value.specs.Values.{Kind, Data};
 ghost use Rattle.sf_value.specs.Spelling.{spelling};
 ghost use Rattle.sf_value.specs.Reading.{Refusal, Reads};
 
@@ -18,9 +18,4 @@ pub fn some_reading()
 /// Values of one spelling are one value, whatever their types are and however large their numbers.
 pub fn same_value()
     ensures { (v w : Data) → spelling v ≡ spelling w → v ≡ w }
-{}
-
-/// A value has one type at most. With `same_value`, what has the same spelling has the same type.
-pub fn one_type()
-    ensures { (v : Data) (t u : Kind) → HasKind v t → HasKind v u → t ≡ u }
 {}

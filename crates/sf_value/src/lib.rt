@@ -4,18 +4,20 @@
 mod equal;
 mod fault;
 mod laws;
+mod lookup;
 mod make;
 mod read;
-#[cfg(test)]
-mod tests;
+mod table;
+mod text;
 mod ty;
 mod value;
 mod write;
 
-pub use equal::{has_type, same};
+pub use equal::{has_key_type, has_type, same, same_key};
 pub use fault::{Fault, ValueFault};
-pub use laws::{one_reading, one_type, same_value, some_reading};
+pub use laws::{one_reading, same_value, some_reading};
 pub use read::{ReadRefusal, read_value};
-pub use ty::{Ty, TyForm, TyRefusal, same_type};
-pub use value::{Form, Value};
+pub use table::TableRefusal;
+pub use ty::{KeyType, Ty, TyForm, TyRefusal, same_type};
+pub use value::{Form, Key, Table, Value};
 pub use write::write_value;

@@ -1,12 +1,29 @@
 //! Values from their parts, and back.
-ghost use Rattle.std.specs.Prelude.{◌≡◌, IfOk};
-ghost use Rattle.sf_value.specs.Values.{number, pair, HasNarrowNumbers};
-ghost use Rattle.sf_value.specs.View.{data_of};
+ghost use Rattle.std.specs.Prelude.{◌≡◌, IfOk, string_bytes};
+ghost use Rattle.sf_value.specs.Values.{unit, truth, number, text, pair, no_event, event};
+ghost use Rattle.sf_value.specs.View.{key_of, data_of, IsProper, IsIndexed};
 
-use crate::value::{Form, Value};
+use crate::value::{Form, Key, Value};
 use std::alloc::{AllocError, Global};
+use std::rc::Rc;
 
 impl Value {
+    /// The only value of its type.
+    pub fn unit() -> Value
+        ensures { result ≡ unit }
+    {
+        Value { form: Form::Unit }
+    }
+
+    /// True or false.
+    pub fn bool(b: bool) -> Value
+        ensures { result ≡ truth b }
+    {
+        Value {
+            form: Form::Bool(b),
+        }
+    }
+
     /// A whole number.
     pub fn int(n: i64) -> Value
         ensures { result ≡ number n }
@@ -14,30 +31,59 @@ impl Value {
         Value { form: Form::Int(n) }
     }
 
+    /// A text.
+    pub fn text(alloc: Global, s: String) -> Result<Value, AllocError>
+        ensures { IfOk result (λ v. v ≡ text (string_bytes s)) }
+    {
+        let _utf8 = s.as_str();
+        let shared = Rc::new(alloc, s)?;
+        Ok(Value {
+            form: Form::Text(shared),
+        })
+    }
+
     /// A pair of two values.
     pub fn pair(alloc: Global, first: Value, second: Value) -> Result<Value, AllocError>
         ensures { IfOk result (λ v. v ≡ pair first second) }
     {
-        let first = Box::new(alloc, first)?;
-        let second = Box::new(alloc, second)?;
-        Ok(Value {
-            form: Form::Pair(first, second),
-        })
+        let first = Rc::new(alloc, first)?;
+        let second = Rc::new(alloc, second)?;
+        Ok(Value::of_halves(first, second))
     }
 
-    /// A pair of two values that stand in boxes. It takes no memory.
-    pub fn of_halves(first: Box<Value>, second: Box<Value>) -> Value
+    /// A pair of two values that are shared. It takes no memory.
+    pub fn of_halves(first: Rc<Value>, second: Rc<Value>) -> Value
         ensures { result ≡ pair first.value second.value }
     {
-        let (_one, _other) = (first.form(), second.form());
-        let form = Form::Pair(first, second);
-        Value { form }
+        Value {
+            form: Form::Pair(first, second),
+        }
+    }
+
+    /// No event.
+    pub fn no_event() -> Value
+        ensures { result ≡ no_event }
+    {
+        Value {
+            form: Form::NoEvent,
+        }
+    }
+
+    /// An event with a payload.
+    pub fn event(alloc: Global, payload: Value) -> Result<Value, AllocError>
+        ensures { IfOk result (λ v. v ≡ event payload) }
+    {
+        let payload = Rc::new(alloc, payload)?;
+        Ok(Value {
+            form: Form::Event(payload),
+        })
     }
 
     /// What the value is made of.
     pub fn form(&self) -> &Form
         ensures data { data_of result.now ≡ self.now }
-        ensures narrow { HasNarrowNumbers self.now }
+        ensures proper { IsProper self.now }
+        ensures indexed { IsIndexed result.now }
     {
         &self.form
     }
@@ -45,20 +91,38 @@ impl Value {
     /// What the value is made of, taken out of it.
     pub fn into_form(self) -> Form
         ensures data { data_of result ≡ self }
-        ensures narrow { HasNarrowNumbers self }
+        ensures proper { IsProper self }
+        ensures indexed { IsIndexed result }
     {
         self.form
     }
 
-    /// A copy of the value.
-    pub fn clone_in(&self, alloc: Global) -> Result<Value, AllocError>
+    /// A copy of the value, which shares what it is made of. It takes no memory, however large the value is.
+    pub fn clone_in(&self, _alloc: Global) -> Result<Value, AllocError>
         ensures { IfOk result (λ v. v ≡ self.now) }
     {
-        match &self.form {
-            Form::Int(n) => Ok(Value::int(*n)),
-            Form::Pair(first, second) => {
-                Value::pair(alloc, first.clone_in(alloc)?, second.clone_in(alloc)?)
-            }
+        let form = match &self.form {
+            Form::Unit => Form::Unit,
+            Form::Bool(b) => Form::Bool(*b),
+            Form::Int(n) => Form::Int(*n),
+            Form::Text(s) => Form::Text(s.clone()?),
+            Form::Pair(first, second) => Form::Pair(first.clone()?, second.clone()?),
+            Form::NoEvent => Form::NoEvent,
+            Form::Event(payload) => Form::Event(payload.clone()?),
+            Form::Table(rows) => Form::Table(rows.clone()?),
+        };
+        Ok(Value { form })
+    }
+}
+
+impl Key {
+    /// A copy of the key, which shares its text. It takes no memory.
+    pub fn clone_in(&self, _alloc: Global) -> Result<Key, AllocError>
+        ensures { IfOk result (λ k. key_of k ≡ key_of self.now) }
+    {
+        match self {
+            Key::Int(n) => Ok(Key::Int(*n)),
+            Key::Text(s) => Ok(Key::Text(s.clone()?)),
         }
     }
 }

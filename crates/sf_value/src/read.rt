@@ -1,28 +1,37 @@
 //! Values from their spellings.
-ghost use Rattle.std.specs.Prelude.{◌≡◌, ◌<◌, ℕ, IfOk, IfErr, MatchResult, min};
-ghost use Rattle.sf_value.specs.Values.{Data, int_kind, pair_kind, HasKind};
+ghost use Rattle.std.specs.Prelude.{◌≡◌, ◌≤◌, ◌<◌, ℕ, IfOk, IfErr, MatchResult, min, codes, map, ◌++◌, ◌∷◌, []};
+ghost use Rattle.sf_value.specs.Values.{Data, unit_kind, bool_kind, int_kind, text_kind, pair_kind, event_kind, table_kind, HasKind, HasDifferentKeys};
+ghost use Rattle.sf_value.specs.KindView.{key_kind_of};
+ghost use Rattle.sf_value.specs.View.{key_of, rows_of};
+ghost use Rattle.sf_value.specs.Tables.{AreKeysOf, spellings};
 ghost use Rattle.sf_value.specs.Spelling.{spelling};
 ghost use Rattle.sf_decimal.specs.Decimals.{signed};
-ghost use Rattle.sf_value.specs.Scan.{byte_at, positive_at, integer_at, value_at, narrow};
+ghost use Rattle.sf_value.specs.Scan.{byte_at, word_at, positive_at, integer_at, value_at, truth_at, narrow, begins_digit, key_at, new_key_at, row_at, rows_at};
 ghost use Rattle.sf_value.specs.Reading.{Reads};
 ghost use Rattle.sf_value.specs.Refuses.{Refuses, IsMemory};
 ghost use Rattle.sf_value.specs.Gives.{GivesRead, GivesCapped, cap};
 
-use crate::ty::{Ty, TyForm};
-use crate::value::Value;
+use crate::text::text_of;
+use crate::ty::{KeyType, Ty, TyForm};
+use crate::value::{Form, Key, Table, Value};
+use indexmap::IndexSet;
 use sf_decimal::{digits_at, signed};
 use std::alloc::Global;
+use std::rc::Rc;
 use thiserror::Error;
 
 /// Why bytes are no spelling of a value of a type, with the place in bytes from 0.
 #[derive(Clone, Copy, Debug, PartialEq, Eq, Error)]
 pub enum ReadRefusal {
-    /// The longest front of the bytes that is a front of a spelling of the type, its numbers of any size, ends here.
+    /// The longest front of the bytes that is a front of a spelling of the type, its numbers of any size and its keys repeated, ends here.
     #[error("bad value at byte {0}")]
     BadValue(usize),
     /// A number outside signed 64 bits begins here.
     #[error("number out of range at byte {0}")]
     OutOfRange(usize),
+    /// A key that stood in its table before begins here.
+    #[error("duplicate key at byte {0}")]
+    DuplicateKey(usize),
     /// Memory ran out.
     #[error("out of memory")]
     Memory,
@@ -33,11 +42,12 @@ pub enum ReadRefusal {
 pub(crate) enum Failure {
     Bad(usize),
     Wide(usize),
+    Again(usize),
     Memory,
 }
 
 /// What is after this byte.
-fn byte_of(byte: u8, bytes: &[u8]) -> Result<&[u8], Failure>
+pub(crate) fn byte_of(byte: u8, bytes: &[u8]) -> Result<&[u8], Failure>
     ensures { GivesRead (λ rest. rest.now) result (byte_at byte bytes.now) }
 {
     match bytes {
@@ -111,8 +121,61 @@ fn value_of<'a>(alloc: Global, ty: &Ty, bytes: &'a [u8]) -> Result<(Value, &'a [
     ensures { GivesRead (λ x. (x.0, x.1.now)) result (value_at ty.now bytes.now) }
 {
     match &ty.form {
+        TyForm::Unit => unit_of(bytes),
+        TyForm::Bool => bool_of(bytes),
         TyForm::Int => int_of(bytes),
+        TyForm::Text => string_of(alloc, bytes),
         TyForm::Pair(first, second) => pair_of(alloc, first, second, bytes),
+        TyForm::Event(payload) => event_of(alloc, payload, bytes),
+        TyForm::Table(keys, values) => table_of(alloc, *keys, values, bytes),
+    }
+}
+
+#[tactic(auto, using(crate::proofs::Failing::fails_then), unfolding(crate::specs::Scan::value_at))]
+fn unit_of(bytes: &[u8]) -> Result<(Value, &[u8]), Failure>
+    ensures { GivesRead (λ x. (x.0, x.1.now)) result (value_at unit_kind bytes.now) }
+{
+    let rest = byte_of(b'(', bytes)?;
+    let rest = byte_of(b')', rest)?;
+    Ok((Value::unit(), rest))
+}
+
+#[tactic(auto, using(crate::proofs::Failing::fails_then))]
+fn true_of(bytes: &[u8]) -> Result<&[u8], Failure>
+    ensures { GivesRead (λ rest. rest.now) result (word_at (codes "true") bytes.now) }
+{
+    let rest = byte_of(b't', bytes)?;
+    let rest = byte_of(b'r', rest)?;
+    let rest = byte_of(b'u', rest)?;
+    byte_of(b'e', rest)
+}
+
+#[tactic(auto, using(crate::proofs::Failing::fails_then))]
+fn false_of(bytes: &[u8]) -> Result<&[u8], Failure>
+    ensures { GivesRead (λ rest. rest.now) result (word_at (codes "false") bytes.now) }
+{
+    let rest = byte_of(b'f', bytes)?;
+    let rest = byte_of(b'a', rest)?;
+    let rest = byte_of(b'l', rest)?;
+    let rest = byte_of(b's', rest)?;
+    byte_of(b'e', rest)
+}
+
+#[tactic(auto, using(crate::proofs::Failing::fails_then), unfolding(crate::specs::Scan::value_at))]
+fn bool_of(bytes: &[u8]) -> Result<(Value, &[u8]), Failure>
+    ensures { GivesRead (λ x. (x.0, x.1.now)) result (value_at bool_kind bytes.now) }
+{
+    match bytes {
+        [] => Err(Failure::Bad(0)),
+        [c, ..] => {
+            if *c == b't' {
+                let rest = true_of(bytes)?;
+                Ok((Value::bool(true), rest))
+            } else {
+                let rest = false_of(bytes)?;
+                Ok((Value::bool(false), rest))
+            }
+        }
     }
 }
 
@@ -122,6 +185,17 @@ fn int_of(bytes: &[u8]) -> Result<(Value, &[u8]), Failure>
 {
     let (n, rest) = integer_of(bytes)?;
     Ok((Value::int(n), rest))
+}
+
+#[tactic(auto, using(crate::proofs::Failing::fails_then), unfolding(crate::specs::Scan::value_at))]
+fn string_of(alloc: Global, bytes: &[u8]) -> Result<(Value, &[u8]), Failure>
+    ensures { GivesRead (λ x. (x.0, x.1.now)) result (value_at text_kind bytes.now) }
+{
+    let (text, rest) = text_of(alloc, bytes)?;
+    let Ok(value) = Value::text(alloc, text) else {
+        return Err(Failure::Memory);
+    };
+    Ok((value, rest))
 }
 
 #[cycle(value_of)]
@@ -143,6 +217,187 @@ fn pair_of<'a>(
         return Err(Failure::Memory);
     };
     Ok((value, rest))
+}
+
+#[tactic(auto, using(crate::proofs::Failing::fails_then))]
+fn none_of(bytes: &[u8]) -> Result<&[u8], Failure>
+    ensures { GivesRead (λ rest. rest.now) result (word_at (codes "none") bytes.now) }
+{
+    let rest = byte_of(b'n', bytes)?;
+    let rest = byte_of(b'o', rest)?;
+    let rest = byte_of(b'n', rest)?;
+    byte_of(b'e', rest)
+}
+
+#[tactic(auto, using(crate::proofs::Failing::fails_then))]
+fn some_of(bytes: &[u8]) -> Result<&[u8], Failure>
+    ensures { GivesRead (λ rest. rest.now) result (word_at (codes "event ") bytes.now) }
+{
+    let rest = byte_of(b'e', bytes)?;
+    let rest = byte_of(b'v', rest)?;
+    let rest = byte_of(b'e', rest)?;
+    let rest = byte_of(b'n', rest)?;
+    let rest = byte_of(b't', rest)?;
+    byte_of(b' ', rest)
+}
+
+#[cycle(value_of)]
+#[tactic(auto, using(crate::proofs::Failing::fails_then), unfolding(crate::specs::Scan::value_at))]
+fn event_of<'a>(alloc: Global, payload: &Ty, bytes: &'a [u8]) -> Result<(Value, &'a [u8]), Failure>
+    ensures { GivesRead (λ x. (x.0, x.1.now)) result (value_at (event_kind payload.now) bytes.now) }
+{
+    match bytes {
+        [] => Err(Failure::Bad(0)),
+        [c, ..] => {
+            if *c == b'n' {
+                let rest = none_of(bytes)?;
+                Ok((Value::no_event(), rest))
+            } else {
+                let rest = some_of(bytes)?;
+                let (x, rest) = value_of(alloc, payload, rest)?;
+                let Ok(value) = Value::event(alloc, x) else {
+                    return Err(Failure::Memory);
+                };
+                Ok((value, rest))
+            }
+        }
+    }
+}
+
+/// A key of a type at the front, which no digit follows where it is a number, and what is after it.
+#[tactic(auto, using(crate::proofs::Failing::fails_then))]
+fn key_in(alloc: Global, keys: KeyType, bytes: &[u8]) -> Result<(Key, &[u8]), Failure>
+    ensures { GivesRead (λ x. (key_of x.0, x.1.now)) result (key_at (key_kind_of keys) bytes.now) }
+{
+    match keys {
+        KeyType::Int => {
+            let (n, rest) = integer_of(bytes)?;
+            if goes_on(rest) {
+                return Err(Failure::Bad(rest.len()));
+            }
+            Ok((Key::Int(n), rest))
+        }
+        KeyType::Text => {
+            let (text, rest) = text_of(alloc, bytes)?;
+            let Ok(shared) = Rc::new(alloc, text) else {
+                return Err(Failure::Memory);
+            };
+            Ok((Key::Text(shared), rest))
+        }
+    }
+}
+
+fn goes_on(bytes: &[u8]) -> bool
+    ensures { result ≡ begins_digit bytes.now }
+{
+    match bytes {
+        [] => false,
+        [c, ..] => c.is_ascii_digit(),
+    }
+}
+
+/// A key at the front, which is none of those seen, and what is after it. It is then seen.
+fn new_key_in<'a>(
+    alloc: Global,
+    keys: KeyType,
+    seen: &mut IndexSet<Key>,
+    bytes: &'a [u8],
+) -> Result<(Key, &'a [u8]), Failure>
+    ensures key { GivesRead (λ x. (key_of x.0, x.1.now)) result (new_key_at (key_kind_of keys) (spellings seen.old.keys) bytes.now) }
+    ensures seen { IfOk result (λ x. map key_of seen.new.keys ≡ map key_of seen.old.keys ++ key_of x.0 ∷ []) }
+{
+    let (key, rest) = key_in(alloc, keys, bytes)?;
+    let Ok(copy) = key.clone_in(alloc) else {
+        return Err(Failure::Memory);
+    };
+    match seen.insert(copy) {
+        Err(_) => return Err(Failure::Memory),
+        Ok(false) => return Err(Failure::Again(bytes.len())),
+        Ok(true) => {}
+    }
+    Ok((key, rest))
+}
+
+/// A table of a type at the front, and what is after it. Keys are looked up in its index.
+#[cycle(value_of)]
+#[tactic(auto, using(crate::proofs::Failing::fails_then), unfolding(crate::specs::Scan::value_at))]
+fn table_of<'a>(
+    alloc: Global,
+    keys: KeyType,
+    values: &Ty,
+    bytes: &'a [u8],
+) -> Result<(Value, &'a [u8]), Failure>
+    ensures { GivesRead (λ x. (x.0, x.1.now)) result (value_at (table_kind (key_kind_of keys) values.now) bytes.now) }
+{
+    let rest = byte_of(b'{', bytes)?;
+    let (table, rest) = rows_in(alloc, keys, values, rest)?;
+    let Ok(shared) = Rc::new(alloc, table) else {
+        return Err(Failure::Memory);
+    };
+    let form = Form::Table(shared);
+    Ok((Value { form }, rest))
+}
+
+/// The rows of a table up to its closing brace, and what is after it.
+#[cycle(value_of)]
+fn rows_in<'a>(
+    alloc: Global,
+    keys: KeyType,
+    values: &Ty,
+    bytes: &'a [u8],
+) -> Result<(Table, &'a [u8]), Failure>
+    ensures rows { GivesRead (λ x. (rows_of x.0.rows.items, x.1.now)) result (rows_at (key_kind_of keys) (value_at values.now) bytes.now) }
+    ensures different { IfOk result (λ x. HasDifferentKeys (rows_of x.0.rows.items)) }
+    ensures indexed { IfOk result (λ x. AreKeysOf x.0.keys.keys x.0.rows.items) }
+{
+    let mut table = Table {
+        rows: Vec::new(alloc),
+        keys: IndexSet::new(alloc),
+    };
+    let mut left = bytes;
+    if let [c, rest @ ..] = bytes {
+        if *c == b'}' {
+            return Ok((table, rest));
+        }
+    }
+    loop {
+        let (key, value, rest) = row_in(alloc, keys, values, &mut table.keys, left)?;
+        let Ok(()) = table.rows.push((key, value)) else {
+            return Err(Failure::Memory);
+        };
+        match rest {
+            [] => return Err(Failure::Bad(0)),
+            [c, behind @ ..] => {
+                if *c == b'}' {
+                    return Ok((table, behind));
+                }
+                if *c != b',' {
+                    return Err(Failure::Bad(rest.len()));
+                }
+                left = behind;
+            }
+        }
+    }
+}
+
+/// A row at the front, whose key is none of those seen, and what is after it. Its key is then seen.
+#[cycle(value_of)]
+#[tactic(auto, using(crate::proofs::Failing::fails_then))]
+fn row_in<'a>(
+    alloc: Global,
+    keys: KeyType,
+    values: &Ty,
+    seen: &mut IndexSet<Key>,
+    bytes: &'a [u8],
+) -> Result<(Key, Value, &'a [u8]), Failure>
+    ensures row { GivesRead (λ x. ((key_of x.0, x.1), x.2.now)) result
+        (row_at (key_kind_of keys) (value_at values.now) (spellings seen.old.keys) bytes.now) }
+    ensures seen { IfOk result (λ x. map key_of seen.new.keys ≡ map key_of seen.old.keys ++ key_of x.0 ∷ []) }
+{
+    let (key, rest) = new_key_in(alloc, keys, seen, bytes)?;
+    let rest = byte_of(b':', rest)?;
+    let (value, rest) = value_of(alloc, values, rest)?;
+    Ok((key, value, rest))
 }
 
 /// The value of a type whose spelling the bytes are, to the last byte.
@@ -167,6 +422,7 @@ pub fn read_value(alloc: Global, ty: &Ty, bytes: &[u8]) -> Result<Value, ReadRef
         }
         Err(Failure::Bad(left)) => Err(ReadRefusal::BadValue(bytes.len() - left)),
         Err(Failure::Wide(left)) => Err(ReadRefusal::OutOfRange(bytes.len() - left)),
+        Err(Failure::Again(left)) => Err(ReadRefusal::DuplicateKey(bytes.len() - left)),
         Err(Failure::Memory) => Err(ReadRefusal::Memory),
     }
 }

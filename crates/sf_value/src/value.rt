@@ -1,7 +1,11 @@
 //! Values.
+use indexmap::IndexSet;
 use std::marker::Model;
+use std::rc::Rc;
 
-/// A value, whose numbers are within signed 64 bits.
+/// A value, whose numbers are within signed 64 bits and whose tables have different keys.
+///
+/// What a text, a pair, an event or a table holds is shared: a copy of a value copies no content.
 #[derive(Drop)]
 #[cycle(value)]
 pub struct Value {
@@ -12,14 +16,44 @@ pub struct Value {
 #[derive(Drop)]
 #[cycle(value)]
 pub enum Form {
+    /// The only value of its type.
+    Unit,
+    /// True or false.
+    Bool(bool),
     /// A whole number.
     Int(i64),
+    /// A text.
+    Text(Rc<String>),
     /// Two values.
-    Pair(Box<Value>, Box<Value>),
+    Pair(Rc<Value>, Rc<Value>),
+    /// No event.
+    NoEvent,
+    /// An event with its payload.
+    Event(Rc<Value>),
+    /// Values under keys, in order.
+    Table(Rc<Table>),
+}
+
+/// Values under different keys, in order.
+#[derive(Drop)]
+#[cycle(value)]
+pub struct Table {
+    pub(crate) rows: Vec<(Key, Value)>,
+    // the keys of the rows, in order
+    pub(crate) keys: IndexSet<Key>,
+}
+
+/// A key of a table.
+#[derive(PartialEq, Eq, Hash, Drop)]
+pub enum Key {
+    /// A whole number.
+    Int(i64),
+    /// A text.
+    Text(Rc<String>),
 }
 
 impl Model for Value {
-    ghost use Rattle.sf_value.specs.Values.{Data, HasNarrowNumbers, data_count};
+    ghost use Rattle.sf_value.specs.Values.{Data, count};
     ghost use Rattle.std.specs.Prelude.{List};
     ghost use Rattle.std.specs.Coded.{code_by, codes};
     ghost use Rattle.sf_value.specs.Codes.{Mark, marks_of, data_from, data_from-marks_of};
@@ -28,13 +62,13 @@ impl Model for Value {
 
     ghost coded = { code_by (List Mark) (Prim.hlevel codes) marks_of data_from data_from-marks_of };
 
-    ghost use Rattle.sf_value.specs.View.{data_of};
+    ghost use Rattle.sf_value.specs.View.{data_of, IsProper, IsIndexed};
 
     ghost view = { λ a. data_of a.form };
 
-    ghost invariant = { λ a. HasNarrowNumbers (data_of a.form) };
+    ghost invariant = { λ a. IsProper (data_of a.form) × IsIndexed a.form };
 
-    ghost size = { data_count };
+    ghost size = { count };
 
     ghost use Rattle.sf_value.specs.Falls.{deep_le-count};
 

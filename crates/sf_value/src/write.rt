@@ -1,8 +1,10 @@
 //! Spellings of values.
-ghost use Rattle.std.specs.Prelude.{◌≡◌, ◌++◌, OnOk, OnErr, length, take};
-ghost use Rattle.sf_value.specs.Spelling.{spelling};
+ghost use Rattle.std.specs.Prelude.{◌≡◌, ◌++◌, ◌∷◌, [], OnOk, OnErr, length, take};
+ghost use Rattle.std.specs.List.{flat_map};
+ghost use Rattle.sf_value.specs.Spelling.{escaped, quoted, key_spelling, spelling, rows_spelling, more_spelling};
+ghost use Rattle.sf_value.specs.View.{key_of, rows_of};
 
-use crate::value::{Form, Value};
+use crate::value::{Form, Key, Value};
 use sf_decimal::write_integer;
 use std::alloc::AllocError;
 
@@ -19,13 +21,19 @@ pub fn write_value(value: &Value, out: &mut Vec<u8>) -> Result<(), AllocError>
     written
 }
 
-// An error may leave a part of the spelling behind what was there.
+// An error may leave a part of the spelling behind what was there, here and in the functions below.
+#[cycle(append)]
+#[tactic(auto, using(crate::proofs::Fronts::front_kept))]
 fn append(value: &Value, out: &mut Vec<u8>) -> Result<(), AllocError>
     ensures ok { OnOk result (out.new.items ≡ out.old.items ++ spelling value.now) }
     ensures err { OnErr result (take (length out.old.items) out.new.items ≡ out.old.items) }
 {
     match &value.form {
+        Form::Unit => out.extend_from_slice(b"()"),
+        Form::Bool(true) => out.extend_from_slice(b"true"),
+        Form::Bool(false) => out.extend_from_slice(b"false"),
         Form::Int(n) => write_integer(*n, out),
+        Form::Text(s) => append_text(s.as_str(), out),
         Form::Pair(first, second) => {
             out.push(b'(')?;
             append(first, out)?;
@@ -34,5 +42,90 @@ fn append(value: &Value, out: &mut Vec<u8>) -> Result<(), AllocError>
             out.push(b')')?;
             Ok(())
         }
+        Form::NoEvent => out.extend_from_slice(b"none"),
+        Form::Event(payload) => {
+            out.extend_from_slice(b"event ")?;
+            append(payload, out)
+        }
+        Form::Table(table) => {
+            out.push(b'{')?;
+            append_rows(&table.rows, out)?;
+            out.push(b'}')?;
+            Ok(())
+        }
     }
+}
+
+#[cycle(append)]
+#[tactic(auto, using(crate::proofs::Fronts::front_kept))]
+fn append_rows(rows: &[(Key, Value)], out: &mut Vec<u8>) -> Result<(), AllocError>
+    ensures ok { OnOk result (out.new.items ≡ out.old.items ++ rows_spelling (rows_of rows.now)) }
+    ensures err { OnErr result (take (length out.old.items) out.new.items ≡ out.old.items) }
+{
+    match rows {
+        [] => Ok(()),
+        [(key, value), rest @ ..] => {
+            append_key(key, out)?;
+            append(value, out)?;
+            append_more(rest, out)
+        }
+    }
+}
+
+#[cycle(append)]
+#[tactic(auto, using(crate::proofs::Fronts::front_kept))]
+fn append_more(rows: &[(Key, Value)], out: &mut Vec<u8>) -> Result<(), AllocError>
+    ensures ok { OnOk result (out.new.items ≡ out.old.items ++ more_spelling (rows_of rows.now)) }
+    ensures err { OnErr result (take (length out.old.items) out.new.items ≡ out.old.items) }
+{
+    match rows {
+        [] => Ok(()),
+        [(key, value), rest @ ..] => {
+            out.push(b',')?;
+            append_key(key, out)?;
+            append(value, out)?;
+            append_more(rest, out)
+        }
+    }
+}
+
+/// A key and the colon after it.
+#[tactic(auto, using(crate::proofs::Fronts::front_kept))]
+fn append_key(key: &Key, out: &mut Vec<u8>) -> Result<(), AllocError>
+    ensures ok { OnOk result (out.new.items ≡ out.old.items ++ (key_spelling (key_of key.now) ++ 58 ∷ [])) }
+    ensures err { OnErr result (take (length out.old.items) out.new.items ≡ out.old.items) }
+{
+    match key {
+        Key::Int(n) => write_integer(*n, out)?,
+        Key::Text(s) => append_text(s.as_str(), out)?,
+    }
+    out.push(b':')?;
+    Ok(())
+}
+
+#[tactic(auto, using(crate::proofs::Fronts::front_kept))]
+fn append_text(s: &str, out: &mut Vec<u8>) -> Result<(), AllocError>
+    ensures ok { OnOk result (out.new.items ≡ out.old.items ++ quoted s.now) }
+    ensures err { OnErr result (take (length out.old.items) out.new.items ≡ out.old.items) }
+{
+    out.push(b'"')?;
+    append_escaped(s.as_bytes(), out)?;
+    out.push(b'"')?;
+    Ok(())
+}
+
+#[tactic(auto, using(crate::proofs::Fronts::front_kept))]
+fn append_escaped(bytes: &[u8], out: &mut Vec<u8>) -> Result<(), AllocError>
+    ensures ok { OnOk result (out.new.items ≡ out.old.items ++ flat_map escaped bytes.now) }
+    ensures err { OnErr result (take (length out.old.items) out.new.items ≡ out.old.items) }
+{
+    for c in bytes {
+        match c {
+            b'"' => out.extend_from_slice(b"\\\"")?,
+            b'\\' => out.extend_from_slice(b"\\\\")?,
+            b'\n' => out.extend_from_slice(b"\\n")?,
+            c => out.push(*c)?,
+        }
+    }
+    Ok(())
 }

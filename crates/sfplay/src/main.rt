@@ -121,6 +121,3 @@ fn report<R: Eprint>(rt: &R, end: PlayEnd) {
         PlayEnd::WriteFault => eprintln!(rt; "sfplay: write fault"),
     };
 }
-
-#[cfg(test)]
-mod tests;

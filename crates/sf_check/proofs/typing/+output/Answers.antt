@@ -1,15 +1,14 @@
-use Rattle.std.proofs.Common.{◌∙◌, sym, refl}
-use mathlib.Core.Path.{ap₂}
+use Rattle.std.proofs.Common.{◌∙◌, sym, refl, ap}
 use Rattle.sf_value.specs.Values.{pair_kind}
-use Rattle.sf_check.specs.Breaking.{sequence_left, fan_left, fan_right, parallel_input, side_input}
+use Rattle.sf_check.specs.Breaking.{sequence_left, fan_right, parallel_input, side_input}
 use Rattle.sf_term.specs.Arena.{expressions_of}
 use Rattle.sf_check.specs.Contexts.{context_in}
-use Rattle.sf_check.proofs.Terms.{part_refused, err_answers, memory_answers, joined_there, sided_there, mismatch_refused, primitive_answers, sequence_answers, fan_answers, left_reached, right_reached, first_reached, second_reached, parallel_answers, first_answers, second_answers, start_answers, fed_refused, loop_reached, loop_answers}
+use Rattle.sf_check.proofs.Terms.{part_refused, err_answers, memory_answers, joined_there, sided_there, mismatch_refused, primitive_answers, sequence_answers, fan_answers, copy_reached, copy_takes, left_reached, right_reached, first_reached, second_reached, parallel_answers, first_answers, second_answers, start_answers, fed_refused, loop_reached, loop_answers}
 use Rattle.sf_check.proofs.typing.+output.Goals as goal
 
 pub output_of-returns-in-Primitive : goal.output_of-returns-in-Primitive
 output_of-returns-in-Primitive t c =
-    primitive_answers c.args.context.now.program.now (context_in c.args.context.now) c.args.term c.args.input.now _ c.spot.ensures (expressions_of c.args.context.now.program.now) c.in-Primitive.primitive _ refl (sym c.in-Primitive.ensures.value) c.requires c.primitive_output.ensures
+    primitive_answers c.args.context.now.program.now (context_in c.args.context.now) c.args.term c.args.input _ c.spot.ensures (expressions_of c.args.context.now.program.now) c.in-Primitive.primitive _ refl (sym c.in-Primitive.ensures.value) c.requires c.primitive_output.ensures
 
 -- ## In sequence
 
@@ -25,8 +24,7 @@ joined_output-returns-in_ok-middle-in-InSequence t c =
 
 pub joined_output-returns-in_err-a-in-InParallel : goal.joined_output-returns-in_err-a-in-InParallel
 joined_output-returns-in_err-a-in-InParallel t c =
-    let e = c.in_err-a-in-InParallel.ensures.err in
-    err_answers _ _ _ _ _ _ c.from_residual-in_err-a-in-InParallel.ensures.1 (mismatch_refused _ _ _ _ _ c.spot-spot.ensures _ (joined_there _ _ c.in-InParallel.is c.requires.there) _ e.0 (parallel_input e.1))
+    err_answers _ _ _ _ _ _ c.from_residual-in_err-a-in-InParallel.ensures.1 (mismatch_refused _ _ _ _ _ c.spot-spot.ensures _ (joined_there _ _ c.in-InParallel.is c.requires.there) _ c.in_err-a-in-InParallel.ensures.err parallel_input)
 
 pub joined_output-returns-in_err-first-in-InParallel : goal.joined_output-returns-in_err-first-in-InParallel
 joined_output-returns-in_err-first-in-InParallel t c =
@@ -46,44 +44,40 @@ joined_output-returns-in_ok-second-in-InParallel t c =
 
 pub joined_output-returns-in_err-first-in-FannedOut : goal.joined_output-returns-in_err-first-in-FannedOut
 joined_output-returns-in_err-first-in-FannedOut t c =
-    err_answers _ _ _ _ _ _ c.from_residual-in_err-first-in-FannedOut.ensures.1 (part_refused _ _ _ _ _ (joined_there _ _ c.in-FannedOut.is c.requires.there) _ _ _ fan_left c.in_err-first-in-FannedOut.ensures)
+    err_answers _ _ _ _ _ _ c.from_residual-in_err-first-in-FannedOut.ensures.1 (part_refused _ _ _ _ _ (joined_there _ _ c.in-FannedOut.is c.requires.there) _ _ _ (copy_reached c.args.context.now.program.now _ c.args.term _ _ c.spot-spot.ensures _ c.in_ok-clone_in-in-FannedOut.ensures.same _ _) c.in_err-first-in-FannedOut.ensures)
 
 pub joined_output-returns-in_err-second-in-FannedOut : goal.joined_output-returns-in_err-second-in-FannedOut
 joined_output-returns-in_err-second-in-FannedOut t c =
-    err_answers _ _ _ _ _ _ c.from_residual-in_err-second-in-FannedOut.ensures.1 (part_refused _ _ _ _ _ (joined_there _ _ c.in-FannedOut.is c.requires.there) _ _ _ (fan_right c.in_ok-first-in-FannedOut.ensures) c.in_err-second-in-FannedOut.ensures)
+    err_answers _ _ _ _ _ _ c.from_residual-in_err-second-in-FannedOut.ensures.1 (part_refused _ _ _ _ _ (joined_there _ _ c.in-FannedOut.is c.requires.there) _ _ _ (fan_right (copy_takes c.args.context.now.program.now _ c.args.term _ _ c.spot-spot.ensures _ c.in_ok-clone_in-in-FannedOut.ensures.same _ _ c.in_ok-first-in-FannedOut.ensures)) c.in_err-second-in-FannedOut.ensures)
 
 pub joined_output-returns-in_ok-second-in-FannedOut : goal.joined_output-returns-in_ok-second-in-FannedOut
 joined_output-returns-in_ok-second-in-FannedOut t c =
-    fan_answers _ _ _ _ _ c.spot-spot.ensures _ _ _ _ _ (joined_there _ _ c.in-FannedOut.is c.requires.there) c.requires.fits c.in_ok-first-in-FannedOut.ensures c.in_ok-second-in-FannedOut.ensures c.pair_type-in-FannedOut.ensures
+    fan_answers _ _ _ _ _ c.spot-spot.ensures _ _ _ _ _ (joined_there _ _ c.in-FannedOut.is c.requires.there) c.requires.fits (copy_takes c.args.context.now.program.now _ c.args.term _ _ c.spot-spot.ensures _ c.in_ok-clone_in-in-FannedOut.ensures.same _ _ c.in_ok-first-in-FannedOut.ensures) c.in_ok-second-in-FannedOut.ensures c.pair_type-in-FannedOut.ensures
+
+pub joined_output-returns-in_err-clone_in-in-FannedOut : goal.joined_output-returns-in_err-clone_in-in-FannedOut
+joined_output-returns-in_err-clone_in-in-FannedOut t c = memory_answers _ _ c.args.term _ _ c.from_residual-in_err-clone_in-in-FannedOut.ensures.1
 
 -- ## On one side
 
 pub sided_output-returns-in_err-a : goal.sided_output-returns-in_err-a
 sided_output-returns-in_err-a t c =
-    let e = c.in_err-a.ensures.err in
-    err_answers _ _ _ _ _ _ c.from_residual.ensures.1 (mismatch_refused _ _ _ _ _ c.spot-spot.ensures _ c.requires.there _ e.0 (side_input e.1))
+    err_answers _ _ _ _ _ _ c.from_residual.ensures.1 (mismatch_refused _ _ _ _ _ c.spot-spot.ensures _ c.requires.there _ c.in_err-a.ensures.err side_input)
 
 pub sided_output-returns-in_err-first-in-First : goal.sided_output-returns-in_err-first-in-First
 sided_output-returns-in_err-first-in-First t c =
     err_answers _ _ _ _ _ _ c.from_residual-in_err-first-in-First.ensures.1 (part_refused _ _ _ _ _ (sided_there _ _ c.in-First.is c.requires.there) _ _ _ (first_reached c.args.context.now.program.now _ c.args.term _ _ c.spot-spot.ensures _ _ c.in_ok-a.ensures.ok _) c.in_err-first-in-First.ensures)
 
-pub sided_output-returns-in_ok-clone_in-in-First : goal.sided_output-returns-in_ok-clone_in-in-First
-sided_output-returns-in_ok-clone_in-in-First t c =
-    first_answers _ _ _ _ _ c.spot-spot.ensures _ _ c.in_ok-a.ensures.ok _ _ _ _ (sided_there _ _ c.in-First.is c.requires.there) c.requires.fits c.in_ok-first-in-First.ensures c.in_ok-clone_in-in-First.ensures c.pair_type-in-First.ensures
+pub sided_output-returns-in-First : goal.sided_output-returns-in-First
+sided_output-returns-in-First t c =
+    first_answers _ _ _ _ _ c.spot-spot.ensures _ _ c.in_ok-a.ensures.ok _ _ _ (sided_there _ _ c.in-First.is c.requires.there) c.requires.fits c.in_ok-first-in-First.ensures c.pair_type.ensures
 
 pub sided_output-returns-in_err-second-in-Second : goal.sided_output-returns-in_err-second-in-Second
 sided_output-returns-in_err-second-in-Second t c =
     err_answers _ _ _ _ _ _ c.from_residual-in_err-second-in-Second.ensures.1 (part_refused _ _ _ _ _ (sided_there _ _ c.in-Second.is c.requires.there) _ _ _ (second_reached c.args.context.now.program.now _ c.args.term _ _ c.spot-spot.ensures _ _ c.in_ok-a.ensures.ok _) c.in_err-second-in-Second.ensures)
 
-pub sided_output-returns-in_ok-clone_in-in-Second : goal.sided_output-returns-in_ok-clone_in-in-Second
-sided_output-returns-in_ok-clone_in-in-Second t c =
-    second_answers _ _ _ _ _ c.spot-spot.ensures _ _ c.in_ok-a.ensures.ok _ _ _ _ (sided_there _ _ c.in-Second.is c.requires.there) c.requires.fits c.in_ok-second-in-Second.ensures c.in_ok-clone_in-in-Second.ensures c.pair_type-in-Second.ensures
-
-pub sided_output-returns-in_err-clone_in-in-First : goal.sided_output-returns-in_err-clone_in-in-First
-sided_output-returns-in_err-clone_in-in-First t c = memory_answers _ _ c.args.term _ _ c.from_residual-in_err-clone_in-in-First.ensures.1
-
-pub sided_output-returns-in_err-clone_in-in-Second : goal.sided_output-returns-in_err-clone_in-in-Second
-sided_output-returns-in_err-clone_in-in-Second t c = memory_answers _ _ c.args.term _ _ c.from_residual-in_err-clone_in-in-Second.ensures.1
+pub sided_output-returns : goal.sided_output-returns
+sided_output-returns t c =
+    second_answers _ _ _ _ _ c.spot-spot.ensures _ _ c.in_ok-a.ensures.ok _ _ _ (sided_there _ _ c.in-Second.is c.requires.there) c.requires.fits c.in_ok-second-in-Second.ensures c.pair_type-in-Second.ensures
 
 -- ## `loopPre`
 
@@ -93,26 +87,20 @@ headed_output-returns-in_err-fed t c =
 
 pub headed_output-returns-in_err-given : goal.headed_output-returns-in_err-given
 headed_output-returns-in_err-given t c =
-    let copy = c.in_ok-clone_in in
-    let fed = c.in_ok-clone_in-2 in
-    err_answers _ _ _ _ _ _ c.from_residual-in_err-given.ensures.1 (fed_refused _ _ _ _ _ c.spot-spot.ensures _ _ c.requires.there _ refl _ c.in_ok-fed.ensures copy.field-0 fed.field-0 _ copy.ensures fed.ensures c.in_err-given.ensures)
+    let fed = c.in_ok-second in
+    err_answers _ _ _ _ _ _ c.from_residual-in_err-given.ensures.1 (fed_refused _ _ _ _ _ c.spot-spot.ensures _ _ c.requires.there _ refl _ c.in_ok-fed.ensures fed.second _ fed.ensures.same c.in_err-given.ensures)
 
 pub headed_output-returns-in_err-output : goal.headed_output-returns-in_err-output
 headed_output-returns-in_err-output t c =
-    let copy = c.in_ok-clone_in in
-    let fed = c.in_ok-clone_in-2 in
+    let fed = c.in_ok-second in
     let given = c.in_ok-given in
-    err_answers _ _ _ _ _ _ c.from_residual-in_err-output.ensures.1 (part_refused _ _ _ _ _ c.requires.there _ _ _ (loop_reached _ _ _ _ _ c.spot-spot.ensures _ _ c.requires.there _ refl _ c.in_ok-fed.ensures given.given (given.ensures.0 ∙ ap₂ pair_kind copy.ensures fed.ensures) given.ensures.1) c.in_err-output.ensures)
+    err_answers _ _ _ _ _ _ c.from_residual-in_err-output.ensures.1 (part_refused _ _ _ _ _ c.requires.there _ _ _ (loop_reached _ _ _ _ _ c.spot-spot.ensures _ _ c.requires.there _ refl _ c.in_ok-fed.ensures given.given (given.ensures.0 ∙ ap (pair_kind c.args.input) fed.ensures.same) given.ensures.1) c.in_err-output.ensures)
 
 pub headed_output-returns : goal.headed_output-returns
 headed_output-returns t c =
-    let copy = c.in_ok-clone_in in
-    let fed = c.in_ok-clone_in-2 in
+    let fed = c.in_ok-second in
     let given = c.in_ok-given in
-    loop_answers _ _ _ _ _ c.spot-spot.ensures _ _ c.requires.there _ refl _ c.in_ok-fed.ensures given.given _ _ (given.ensures.0 ∙ ap₂ pair_kind copy.ensures fed.ensures) c.requires.fits c.in_ok-output.ensures c.loop_output.ensures.ok c.loop_output.ensures.err
+    loop_answers _ _ _ _ _ c.spot-spot.ensures _ _ c.requires.there _ refl _ c.in_ok-fed.ensures given.given _ _ (given.ensures.0 ∙ ap (pair_kind c.args.input) fed.ensures.same) c.requires.fits c.in_ok-output.ensures c.loop_output.ensures.ok c.loop_output.ensures.err
 
-pub headed_output-returns-in_err-clone_in : goal.headed_output-returns-in_err-clone_in
-headed_output-returns-in_err-clone_in t c = memory_answers _ _ c.args.term _ _ c.from_residual-in_err-clone_in.ensures.1
-
-pub headed_output-returns-in_err-clone_in-2 : goal.headed_output-returns-in_err-clone_in-2
-headed_output-returns-in_err-clone_in-2 t c = memory_answers _ _ c.args.term _ _ c.from_residual-in_err-clone_in-2.ensures.1
+pub headed_output-returns-in_err-second : goal.headed_output-returns-in_err-second
+headed_output-returns-in_err-second t c = memory_answers _ _ c.args.term _ _ c.from_residual-in_err-second.ensures.1

@@ -6,7 +6,7 @@ use Rattle.sf_expr.specs.Arena.{expression}
 use Rattle.sf_expr.specs.Typing.{HasType, type_of_name}
 use Rattle.sf_expr.specs.Scopes.{names_of}
 use Rattle.sf_expr.specs.Refusals.{unknown_name, no_number}
-use Rattle.sf_expr.proofs.Judged.{first_judged, second_judged, left_judged, right_judged, int_typed, name_typed, pair_judged, memory_judged, operation_has_type}
+use Rattle.sf_expr.proofs.Judged.{unit_typed, truth_typed, constant_judged, first_judged, second_judged, left_judged, right_judged, int_typed, name_typed, pair_judged, memory_judged, operation_has_type}
 use Rattle.sf_expr.proofs.typing.+judge.Goals as goal
 
 pub returns-in-Int : goal.returns-in-Int
@@ -15,19 +15,35 @@ returns-in-Int t c =
     let R = names_of c.args.names.now in
     subst (λ (u : Kind). HasType R (expression x c.args.id) u) (sym c.int.ensures) (int_typed x R c.args.id c.in-Int.field-0 c.in-Int.ensures.builds c.in-Int.ensures.narrow)
 
+pub returns-in-Unit : goal.returns-in-Unit
+returns-in-Unit t c =
+    let x = c.args.exprs.now in
+    let R = names_of c.args.names.now in
+    subst (λ (u : Kind). HasType R (expression x c.args.id) u) (sym c.unit.ensures) (unit_typed x R c.args.id c.in-Unit.ensures.builds)
+
+pub returns-in-Truth : goal.returns-in-Truth
+returns-in-Truth t c =
+    let x = c.args.exprs.now in
+    let R = names_of c.args.names.now in
+    subst (λ (u : Kind). HasType R (expression x c.args.id) u) (sym c.bool.ensures) (truth_typed x R c.args.id c.in-Truth.field-0 c.in-Truth.ensures.builds)
+
+pub returns-in-Constant : goal.returns-in-Constant
+returns-in-Constant t c =
+    constant_judged c.args.exprs.now (names_of c.args.names.now) c.args.id c.in-Constant.constant _ _ _ (sym c.in-Constant.ensures.value) c.constant_at.ensures c.constant_type.ensures.valued c.spot.ensures c.constant_type.ensures.answers
+
 pub returns-in-Some : goal.returns-in-Some
 returns-in-Some t c =
     let x = c.args.exprs.now in
     let R = names_of c.args.names.now in
     let found : type_of_name c.name_of.result.now R ≡ Some c.in-Some.ty.now = c.in-Some.ensures.found in
-    subst (λ (u : Kind). HasType R (expression x c.args.id) u) (sym c.in_ok-clone_in-in-Some.ensures)
+    subst (λ (u : Kind). HasType R (expression x c.args.id) u) (sym c.in_ok-clone_in-in-Some.ensures.same)
     (name_typed x R c.args.id c.in-Name.name c.in-Some.ty.now c.in-Name.ensures.builds (ap (λ (y : Name). type_of_name y R) (sym c.name_of.ensures) ∙ found) c.in-Some.ensures.fits)
 
 pub returns-in-Name : goal.returns-in-Name
 returns-in-Name t c =
     let x = c.args.exprs.now in
     let R = names_of c.args.names.now in
-    breaks_at UnknownName c.broken.ensures c.spot.ensures
+    breaks_at UnknownName c.broken.ensures c.spot-in-None.ensures
     (unknown_name (sym c.in-Name.ensures.value) (ap (λ (y : Name). type_of_name y R) (sym c.name_of.ensures) ∙ c.in-None.ensures.absent))
 
 pub returns-in_err-first-in-Pair : goal.returns-in_err-first-in-Pair

@@ -10,7 +10,7 @@ use Rattle.sf_step.specs.Sampling.{fails}
 use Rattle.sf_step.proofs.Parts.{pass_exit}
 use Rattle.sf_step.proofs.Typed.{join_is_side, first_fed, live_fed, left_fed, right_fed, part_fed, join_is_split, wrap_is_split, output_is_split, term_typed, opened_fed}
 use Rattle.sf_step.proofs.Stages.{StagesStep, stages_fed, rest_fed, item_fed, next_fed, continues_first, continues_next, continues_fails, continues_last, pipeline_steps, pipeline_fails}
-use Rattle.sf_step.proofs.Exits.{ticked_by, closure_of, tick_fails, join_left_fails, join_right_fails, join_steps, wrap_fails, wrap_steps, early_memory, late_memory, state_steps, start_steps, start_fails, start_open_fails}
+use Rattle.sf_step.proofs.Exits.{ticked_by, closure_of, tick_fails, first_memory, join_left_fails, join_right_fails, join_steps, wrap_fails, wrap_steps, early_memory, late_memory, state_steps, start_steps, start_fails, start_open_fails}
 use Rattle.sf_step.proofs.sample.+step.Goals as goal
 
 -- ## step_state
@@ -130,40 +130,54 @@ step_pipeline-returns-clause-answers t c =
     pipeline_steps p c.args.stages.now c.args.context.now.dt c.args.value.now c.args.meter.now l.meter c.args.inside (with_items c.args.stages.now l.stage-items) l.value
     (rw whole (subst (λ bs. StagesStep p bs c.args.context.now.dt c.args.value.now (Ok (l.stage-items, l.value)) c.args.meter.now l.meter c.args.inside) c.deref_mut-stage-items.ensures.value all))
 
+-- ## step_half
+
+pub step_half-step_state-requires : goal.step_half-step_state-requires
+step_half-step_state-requires t c = (search rules, rw (c.in-Some.ensures.value ∙ c.unshare_half.ensures) c.requires)
+
+pub step_half-returns-in_default-clause-answers : goal.step_half-returns-in_default-clause-answers
+step_half-returns-in_default-clause-answers t c = first_memory c.args.context.now.plan.now c.stop.ensures.entered c.stop.ensures.height c.stop.ensures.fault
+
+pub step_half-returns-in-None-clause-answers : goal.step_half-returns-in-None-clause-answers
+step_half-returns-in-None-clause-answers t c = first_memory c.args.context.now.plan.now c.stop-in-None.ensures.entered c.stop-in-None.ensures.height c.stop-in-None.ensures.fault
+
+pub step_half-returns-in-Some-clause-answers : goal.step_half-returns-in-Some-clause-answers
+step_half-returns-in-Some-clause-answers t c = rw (c.in-Some.ensures.value ∙ c.unshare_half.ensures) at c.step_state.ensures.answers
+
 -- ## step_parallel
 
 pub step_parallel-halves-first-requires : goal.step_parallel-halves-first-requires
 step_parallel-halves-first-requires t c = join_is_split c.args.context.now.plan.now InParallel c.args.left.now c.args.right.now c.args.context.now.dt c.args.value.now c.requires
 
-pub step_parallel-step_state-requires : goal.step_parallel-step_state-requires
-step_parallel-step_state-requires t c = (
+pub step_parallel-step_half-requires : goal.step_parallel-step_half-requires
+step_parallel-step_half-requires t c = (
   search rules,
-  ∥∥₁_map c.requires (left_fed c.args.context.now.plan.now InParallel c.args.left.now c.args.right.now c.args.context.now.dt c.args.value.now c.deref_mut.result.now (c.deref_mut.ensures.value ∙ c.halves-first.ensures.0)),
+  ∥∥₁_map c.requires (left_fed c.args.context.now.plan.now InParallel c.args.left.now c.args.right.now c.args.context.now.dt c.args.value.now _ c.halves-first.ensures.0),
 )
 
-pub step_parallel-step_state-requires-2 : goal.step_parallel-step_state-requires-2
-step_parallel-step_state-requires-2 t c = (
+pub step_parallel-step_half-requires-2 : goal.step_parallel-step_half-requires-2
+step_parallel-step_half-requires-2 t c = (
   search rules,
-  ∥∥₁_map c.requires (right_fed c.args.context.now.plan.now InParallel c.args.left.now c.step_state.new.state c.args.right.now c.args.meter.now c.step_state.new.meter c.args.inside c.args.context.now.dt c.args.value.now c.deref_mut.result.now c.step_state.new.value c.deref_mut-2.result.now
-      (c.deref_mut.ensures.value ∙ c.halves-first.ensures.0) (c.deref_mut-2.ensures.value ∙ c.halves-first.ensures.1) c.in_ok-step_state.ensures.answers),
+  ∥∥₁_map c.requires (right_fed c.args.context.now.plan.now InParallel c.args.left.now c.step_half.new.state c.args.right.now c.args.meter.now c.step_half.new.meter c.args.inside c.args.context.now.dt c.args.value.now _ c.step_half.new.half.value _
+      c.halves-first.ensures.0 c.halves-first.ensures.1 c.in_ok-step_half.ensures.answers),
 )
 
-pub step_parallel-returns-in_err-step_state-clause-answers : goal.step_parallel-returns-in_err-step_state-clause-answers
-step_parallel-returns-in_err-step_state-clause-answers t c = λ m depth t P L R.
-    pass_exit _ _ c.from_residual.ensures.0 (join_left_fails c.args.context.now.plan.now InParallel c.args.left.now c.args.right.now c.args.meter.now c.step_state.new.meter c.args.inside c.args.context.now.dt c.args.value.now c.deref_mut.result.now (c.deref_mut.ensures.value ∙ c.halves-first.ensures.0)
-    _ c.in_err-step_state.ensures.answers m depth t P L R)
+pub step_parallel-returns-in_err-step_half-clause-answers : goal.step_parallel-returns-in_err-step_half-clause-answers
+step_parallel-returns-in_err-step_half-clause-answers t c = λ m depth t P L R.
+    pass_exit _ _ c.from_residual.ensures.0 (join_left_fails c.args.context.now.plan.now InParallel c.args.left.now c.args.right.now c.args.meter.now c.step_half.new.meter c.args.inside c.args.context.now.dt c.args.value.now _ c.halves-first.ensures.0
+    _ c.in_err-step_half.ensures.answers m depth t P L R)
 
-pub step_parallel-returns-in_err-step_state-2-clause-answers : goal.step_parallel-returns-in_err-step_state-2-clause-answers
-step_parallel-returns-in_err-step_state-2-clause-answers t c = λ m depth t P L R.
-    pass_exit _ _ c.from_residual-in_err-step_state-2.ensures.0 (join_right_fails c.args.context.now.plan.now InParallel c.args.left.now c.args.right.now c.args.meter.now c.step_state.new.meter c.args.inside c.args.context.now.dt c.args.value.now c.deref_mut.result.now (c.deref_mut.ensures.value ∙ c.halves-first.ensures.0)
-    c.step_state.new.state c.step_state.new.value c.deref_mut-2.result.now (c.deref_mut-2.ensures.value ∙ c.halves-first.ensures.1) c.in_ok-step_state.ensures.answers
-    c.step_state-2.new.meter _ c.in_err-step_state-2.ensures.answers m depth t P L R)
+pub step_parallel-returns-in_err-step_half-2-clause-answers : goal.step_parallel-returns-in_err-step_half-2-clause-answers
+step_parallel-returns-in_err-step_half-2-clause-answers t c = λ m depth t P L R.
+    pass_exit _ _ c.from_residual-in_err-step_half-2.ensures.0 (join_right_fails c.args.context.now.plan.now InParallel c.args.left.now c.args.right.now c.args.meter.now c.step_half.new.meter c.args.inside c.args.context.now.dt c.args.value.now _ c.halves-first.ensures.0
+    c.step_half.new.state c.step_half.new.half.value _ c.halves-first.ensures.1 c.in_ok-step_half.ensures.answers
+    c.step_half-2.new.meter _ c.in_err-step_half-2.ensures.answers m depth t P L R)
 
 pub step_parallel-returns-clause-answers : goal.step_parallel-returns-clause-answers
 step_parallel-returns-clause-answers t c =
-    join_steps c.args.context.now.plan.now InParallel c.args.left.now c.args.right.now c.args.meter.now c.step_state.new.meter c.args.inside c.args.context.now.dt c.args.value.now c.deref_mut.result.now (c.deref_mut.ensures.value ∙ c.halves-first.ensures.0)
-    c.step_state.new.state c.step_state.new.value c.deref_mut-2.result.now (c.deref_mut-2.ensures.value ∙ c.halves-first.ensures.1) c.in_ok-step_state.ensures.answers
-    c.step_state-2.new.meter c.step_state-2.new.state c.step_state-2.new.value c.of_halves.result c.of_halves.ensures c.in_ok-step_state-2.ensures.answers
+    join_steps c.args.context.now.plan.now InParallel c.args.left.now c.args.right.now c.args.meter.now c.step_half.new.meter c.args.inside c.args.context.now.dt c.args.value.now _ c.halves-first.ensures.0
+    c.step_half.new.state c.step_half.new.half.value _ c.halves-first.ensures.1 c.in_ok-step_half.ensures.answers
+    c.step_half-2.new.meter c.step_half-2.new.state c.step_half-2.new.half.value c.of_halves.result c.of_halves.ensures c.in_ok-step_half-2.ensures.answers
 
 -- ## step_fan
 
@@ -215,56 +229,62 @@ step_wrap-halves-first-requires t c = rw c.in-First.is at (wrap_is_split c.args.
 pub step_wrap-halves-first-requires-in-Second : goal.step_wrap-halves-first-requires-in-Second
 step_wrap-halves-first-requires-in-Second t c = rw c.in-Second.is at (wrap_is_split c.args.context.now.plan.now c.args.wrap.now c.args.part.now c.args.context.now.dt c.args.value.now c.requires)
 
-pub step_wrap-halves-first-requires-in-Loop : goal.step_wrap-halves-first-requires-in-Loop
-step_wrap-halves-first-requires-in-Loop t c = rw c.in-Loop.is at (output_is_split c.args.context.now.plan.now c.args.wrap.now c.args.part.now c.step_state-in-Loop.new.state c.args.meter.now c.step_state-in-Loop.new.meter c.args.inside c.args.context.now.dt c.args.value.now c.in-Ok.both c.step_state-in-Loop.new.value (rw c.in-Loop.is (rw (c.replace-input.ensures.value, c.replace-fed.ensures.value) at c.in-Ok.ensures)) c.in_ok-step_state-in-Loop.ensures.answers c.requires)
+pub step_wrap-parts-requires : goal.step_wrap-parts-requires
+step_wrap-parts-requires t c = rw c.in-Loop.is at (output_is_split c.args.context.now.plan.now c.args.wrap.now c.args.part.now c.step_state.new.state c.args.meter.now c.step_state.new.meter c.args.inside c.args.context.now.dt c.args.value.now c.in-Ok.both c.step_state.new.value (rw c.in-Loop.is (rw (c.replace-input.ensures.value, c.replace-fed.ensures.value) at c.in-Ok.ensures)) c.in_ok-step_state-in-Loop.ensures.answers c.requires)
+
+pub step_wrap-step_half-requires : goal.step_wrap-step_half-requires
+step_wrap-step_half-requires t c = (
+  search rules,
+  ∥∥₁_map c.requires (part_fed c.args.context.now.plan.now c.args.wrap.now c.args.part.now c.args.context.now.dt c.args.value.now _ (rw c.in-First.is c.halves-first.ensures.0)),
+)
+
+pub step_wrap-step_half-requires-in-Second : goal.step_wrap-step_half-requires-in-Second
+step_wrap-step_half-requires-in-Second t c = (
+  search rules,
+  ∥∥₁_map c.requires (part_fed c.args.context.now.plan.now c.args.wrap.now c.args.part.now c.args.context.now.dt c.args.value.now _ (rw c.in-Second.is c.halves-first-in-Second.ensures.1)),
+)
 
 pub step_wrap-step_state-requires : goal.step_wrap-step_state-requires
 step_wrap-step_state-requires t c = (
   search rules,
-  ∥∥₁_map c.requires (part_fed c.args.context.now.plan.now c.args.wrap.now c.args.part.now c.args.context.now.dt c.args.value.now c.deref_mut.result.now (rw c.in-First.is (c.deref_mut.ensures.value ∙ c.halves-first.ensures.0))),
-)
-
-pub step_wrap-step_state-requires-in-Second : goal.step_wrap-step_state-requires-in-Second
-step_wrap-step_state-requires-in-Second t c = (
-  search rules,
-  ∥∥₁_map c.requires (part_fed c.args.context.now.plan.now c.args.wrap.now c.args.part.now c.args.context.now.dt c.args.value.now c.deref_mut-in-Second.result.now (rw c.in-Second.is (c.deref_mut-in-Second.ensures.value ∙ c.halves-first-in-Second.ensures.1))),
-)
-
-pub step_wrap-step_state-requires-in-Loop : goal.step_wrap-step_state-requires-in-Loop
-step_wrap-step_state-requires-in-Loop t c = (
-  search rules,
   ∥∥₁_map c.requires (part_fed c.args.context.now.plan.now c.args.wrap.now c.args.part.now c.args.context.now.dt c.args.value.now c.in-Ok.both (rw c.in-Loop.is (rw (c.replace-input.ensures.value, c.replace-fed.ensures.value) at c.in-Ok.ensures))),
 )
 
-pub step_wrap-returns-in_err-step_state-in-First-clause-answers : goal.step_wrap-returns-in_err-step_state-in-First-clause-answers
-step_wrap-returns-in_err-step_state-in-First-clause-answers t c = λ m depth t P L R.
-    pass_exit _ _ c.from_residual.ensures.0 (wrap_fails c.args.context.now.plan.now c.args.wrap.now c.args.part.now c.args.meter.now c.step_state.new.meter c.args.inside c.args.context.now.dt c.args.value.now c.deref_mut.result.now (rw c.in-First.is (c.deref_mut.ensures.value ∙ c.halves-first.ensures.0))
-    _ c.in_err-step_state-in-First.ensures.answers m depth t P L R)
+pub step_wrap-returns-in_err-step_half-in-First-clause-answers : goal.step_wrap-returns-in_err-step_half-in-First-clause-answers
+step_wrap-returns-in_err-step_half-in-First-clause-answers t c = λ m depth t P L R.
+    pass_exit _ _ c.from_residual.ensures.0 (wrap_fails c.args.context.now.plan.now c.args.wrap.now c.args.part.now c.args.meter.now c.step_half.new.meter c.args.inside c.args.context.now.dt c.args.value.now _ (rw c.in-First.is c.halves-first.ensures.0)
+    _ c.in_err-step_half-in-First.ensures.answers m depth t P L R)
 
-pub step_wrap-returns-in_err-step_state-in-Second-clause-answers : goal.step_wrap-returns-in_err-step_state-in-Second-clause-answers
-step_wrap-returns-in_err-step_state-in-Second-clause-answers t c = λ m depth t P L R.
-    pass_exit _ _ c.from_residual-in_err-step_state-in-Second.ensures.0 (wrap_fails c.args.context.now.plan.now c.args.wrap.now c.args.part.now c.args.meter.now c.step_state-in-Second.new.meter c.args.inside c.args.context.now.dt c.args.value.now c.deref_mut-in-Second.result.now (rw c.in-Second.is (c.deref_mut-in-Second.ensures.value ∙ c.halves-first-in-Second.ensures.1))
-    _ c.in_err-step_state-in-Second.ensures.answers m depth t P L R)
+pub step_wrap-returns-in_err-step_half-in-Second-clause-answers : goal.step_wrap-returns-in_err-step_half-in-Second-clause-answers
+step_wrap-returns-in_err-step_half-in-Second-clause-answers t c = λ m depth t P L R.
+    pass_exit _ _ c.from_residual-in_err-step_half-in-Second.ensures.0 (wrap_fails c.args.context.now.plan.now c.args.wrap.now c.args.part.now c.args.meter.now c.step_half-in-Second.new.meter c.args.inside c.args.context.now.dt c.args.value.now _ (rw c.in-Second.is c.halves-first-in-Second.ensures.1)
+    _ c.in_err-step_half-in-Second.ensures.answers m depth t P L R)
 
 pub step_wrap-returns-in_err-step_state-in-Loop-clause-answers : goal.step_wrap-returns-in_err-step_state-in-Loop-clause-answers
 step_wrap-returns-in_err-step_state-in-Loop-clause-answers t c = λ m depth t P L R.
-    pass_exit _ _ c.from_residual-in_err-step_state-in-Loop.ensures.0 (wrap_fails c.args.context.now.plan.now c.args.wrap.now c.args.part.now c.args.meter.now c.step_state-in-Loop.new.meter c.args.inside c.args.context.now.dt c.args.value.now c.in-Ok.both (rw c.in-Loop.is (rw (c.replace-input.ensures.value, c.replace-fed.ensures.value) at c.in-Ok.ensures))
+    pass_exit _ _ c.from_residual-in_err-step_state-in-Loop.ensures.0 (wrap_fails c.args.context.now.plan.now c.args.wrap.now c.args.part.now c.args.meter.now c.step_state.new.meter c.args.inside c.args.context.now.dt c.args.value.now c.in-Ok.both (rw c.in-Loop.is (rw (c.replace-input.ensures.value, c.replace-fed.ensures.value) at c.in-Ok.ensures))
     _ c.in_err-step_state-in-Loop.ensures.answers m depth t P L R)
 
 pub step_wrap-returns-in_default-clause-answers : goal.step_wrap-returns-in_default-clause-answers
 step_wrap-returns-in_default-clause-answers t c = λ m depth t P L R. early_memory c.args.context.now.plan.now t c.stop.ensures.entered c.stop.ensures.height c.stop.ensures.fault
 
-pub step_wrap-returns-in_ok-step_state-in-First-clause-answers : goal.step_wrap-returns-in_ok-step_state-in-First-clause-answers
-step_wrap-returns-in_ok-step_state-in-First-clause-answers t c =
-    wrap_steps c.args.context.now.plan.now c.args.wrap.now c.args.part.now c.args.meter.now c.step_state.new.meter c.args.inside c.args.context.now.dt c.args.value.now c.deref_mut.result.now (rw c.in-First.is (c.deref_mut.ensures.value ∙ c.halves-first.ensures.0))
-    c.step_state.new.state c.args.wrap.now c.step_state.new.value c.of_halves.result (rw c.in-First.is refl) (rw c.in-First.is (rw c.halves-first.ensures.1 at c.of_halves.ensures)) c.in_ok-step_state-in-First.ensures.answers
+pub step_wrap-returns-in_ok-step_half-in-First-clause-answers : goal.step_wrap-returns-in_ok-step_half-in-First-clause-answers
+step_wrap-returns-in_ok-step_half-in-First-clause-answers t c =
+    wrap_steps c.args.context.now.plan.now c.args.wrap.now c.args.part.now c.args.meter.now c.step_half.new.meter c.args.inside c.args.context.now.dt c.args.value.now _ (rw c.in-First.is c.halves-first.ensures.0)
+    c.step_half.new.state c.args.wrap.now c.step_half.new.half.value c.of_halves.result (rw c.in-First.is refl) (rw c.in-First.is (rw c.halves-first.ensures.1 at c.of_halves.ensures)) c.in_ok-step_half-in-First.ensures.answers
 
-pub step_wrap-returns-in_ok-step_state-in-Second-clause-answers : goal.step_wrap-returns-in_ok-step_state-in-Second-clause-answers
-step_wrap-returns-in_ok-step_state-in-Second-clause-answers t c =
-    wrap_steps c.args.context.now.plan.now c.args.wrap.now c.args.part.now c.args.meter.now c.step_state-in-Second.new.meter c.args.inside c.args.context.now.dt c.args.value.now c.deref_mut-in-Second.result.now (rw c.in-Second.is (c.deref_mut-in-Second.ensures.value ∙ c.halves-first-in-Second.ensures.1))
-    c.step_state-in-Second.new.state c.args.wrap.now c.step_state-in-Second.new.value c.of_halves-in-Second.result (rw c.in-Second.is refl) (rw c.in-Second.is (rw c.halves-first-in-Second.ensures.0 at c.of_halves-in-Second.ensures)) c.in_ok-step_state-in-Second.ensures.answers
+pub step_wrap-returns-in_ok-step_half-in-Second-clause-answers : goal.step_wrap-returns-in_ok-step_half-in-Second-clause-answers
+step_wrap-returns-in_ok-step_half-in-Second-clause-answers t c =
+    wrap_steps c.args.context.now.plan.now c.args.wrap.now c.args.part.now c.args.meter.now c.step_half-in-Second.new.meter c.args.inside c.args.context.now.dt c.args.value.now _ (rw c.in-Second.is c.halves-first-in-Second.ensures.1)
+    c.step_half-in-Second.new.state c.args.wrap.now c.step_half-in-Second.new.half.value c.of_halves-in-Second.result (rw c.in-Second.is refl) (rw c.in-Second.is (rw c.halves-first-in-Second.ensures.0 at c.of_halves-in-Second.ensures)) c.in_ok-step_half-in-Second.ensures.answers
 
-pub step_wrap-returns-in_ok-step_state-in-Loop-clause-answers : goal.step_wrap-returns-in_ok-step_state-in-Loop-clause-answers
-step_wrap-returns-in_ok-step_state-in-Loop-clause-answers t c =
-    wrap_steps c.args.context.now.plan.now c.args.wrap.now c.args.part.now c.args.meter.now c.step_state-in-Loop.new.meter c.args.inside c.args.context.now.dt c.args.value.now c.in-Ok.both (rw c.in-Loop.is (rw (c.replace-input.ensures.value, c.replace-fed.ensures.value) at c.in-Ok.ensures))
-    c.step_state-in-Loop.new.state (Loop c.into_inner-in-Loop.result) c.step_state-in-Loop.new.value c.into_inner.result (rw c.in-Loop.is (ap Loop (c.into_inner-in-Loop.ensures ∙ c.halves-first-in-Loop.ensures.1))) (rw c.in-Loop.is (c.into_inner.ensures ∙ c.halves-first-in-Loop.ensures.0)) c.in_ok-step_state-in-Loop.ensures.answers
+pub step_wrap-returns-in_default-parts-clause-answers : goal.step_wrap-returns-in_default-parts-clause-answers
+step_wrap-returns-in_default-parts-clause-answers t c =
+    late_memory c.args.context.now.plan.now (wrap_steps c.args.context.now.plan.now c.args.wrap.now c.args.part.now c.args.meter.now c.step_state.new.meter c.args.inside c.args.context.now.dt c.args.value.now c.in-Ok.both (rw c.in-Loop.is (rw (c.replace-input.ensures.value, c.replace-fed.ensures.value) at c.in-Ok.ensures))
+    c.step_state.new.state _ c.step_state.new.value _ refl refl c.in_ok-step_state-in-Loop.ensures.answers)
+    c.stop-in_default-parts.ensures.entered c.stop-in_default-parts.ensures.height c.stop-in_default-parts.ensures.fault
+
+pub step_wrap-returns-in-Ok-parts-clause-answers : goal.step_wrap-returns-in-Ok-parts-clause-answers
+step_wrap-returns-in-Ok-parts-clause-answers t c =
+    wrap_steps c.args.context.now.plan.now c.args.wrap.now c.args.part.now c.args.meter.now c.step_state.new.meter c.args.inside c.args.context.now.dt c.args.value.now c.in-Ok.both (rw c.in-Loop.is (rw (c.replace-input.ensures.value, c.replace-fed.ensures.value) at c.in-Ok.ensures))
+    c.step_state.new.state (Loop c.in-Ok-parts.fed) c.step_state.new.value c.in-Ok-parts.output (rw c.in-Loop.is (ap Loop c.in-Ok-parts.ensures.1)) (rw c.in-Loop.is c.in-Ok-parts.ensures.0) c.in_ok-step_state-in-Loop.ensures.answers

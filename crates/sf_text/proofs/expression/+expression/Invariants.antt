@@ -2,10 +2,13 @@ use Rattle.std.proofs.Common.{◌+◌, ◌*◌}
 use Rattle.sf_text.proofs.expression.+expression.Given as goal
 
 abbrev pub decreases-expression : goal.decreases-expression
-decreases-expression l = 3 * l.left
+decreases-expression l = 4 * l.left
 
 abbrev pub decreases-expression_form : goal.decreases-expression_form
-decreases-expression_form l = 3 * l.left + 2
+decreases-expression_form l = 4 * l.left + 3
 
 abbrev pub decreases-linked : goal.decreases-linked
-decreases-linked l = 3 * l.left + 1
+decreases-linked l = 4 * l.left + 1
+
+abbrev pub decreases-bracketed : goal.decreases-bracketed
+decreases-bracketed l = 4 * l.left + 2

@@ -14,9 +14,9 @@ expression-requires-clause-named c =
 
 pub returns-in-Err-clause-reads : goal.returns-in-Err-clause-reads
 returns-in-Err-clause-reads c =
-    function_refused (parse_function c.args.left (counts_of c.args.program.now) (toks c.args.tokens.now)) c.in-Err.refusal (length c.args.tokens.now) c.refused.result
+    function_refused (parse_function c.args.left c.args.version (counts_of c.args.program.now) (toks c.args.tokens.now)) c.in-Err.refusal (length c.args.tokens.now) c.refused.result
     (pattern_of c.in_ok-pattern.pattern) (expression_in c.expression.new.program c.in_ok-body.body)
-    (function_shallow c.args.left (toks c.args.tokens.now) (toks c.in_ok-rest.rest.now) (pattern_of c.in_ok-pattern.pattern) c.requires.shallow c.in_ok-pattern.ensures.reads c.in_ok-body.ensures.reads)
+    (function_shallow c.args.version c.args.left (toks c.args.tokens.now) (toks c.in_ok-rest.rest.now) (pattern_of c.in_ok-pattern.pattern) c.requires.shallow c.in_ok-pattern.ensures.reads c.in_ok-body.ensures.reads)
     (pattern_named c.args.left (toks c.args.tokens.now) (pattern_of c.in_ok-pattern.pattern) (toks c.in_ok-pattern.rest.now) c.in_ok-pattern.ensures.reads c.requires.named).names c.refused.ensures
     (λ same. c.in-Err.ensures.not_many (ap Err same)) (λ same. c.in-Err.ensures.deep.0 (ap Err same)) (λ same. (c.in-Err.ensures.bad_name.0 (ap Err same)).1)
 

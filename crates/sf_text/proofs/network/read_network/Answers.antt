@@ -1,12 +1,12 @@
 use Rattle.std.proofs.Common.{◌≡◌, sym, ap, subst, ◌∙◌}
 use Rattle.sf_text.specs.Answers.{toks}
-use Rattle.sf_text.specs.Progress.{StopsNetwork, stop_refusal}
+use Rattle.sf_text.specs.Progress.{IsSpelled, StopsNetwork, stop_refusal}
 use Rattle.sf_grammar.specs.Stopping.{BreaksText}
 use Rattle.sf_lex.specs.declared.token.PlacedToken.{PlacedToken}
 use Rattle.std.proofs.Common.{List}
 use Rattle.sf_grammar.proofs.Texts.{none_refused, refused_none}
 use Rattle.sf_text.proofs.Whole.{bytes_refused, text_stops}
-use Rattle.sf_grammar.specs.Placing.{NetworkPlaced}
+use Rattle.sf_grammar.specs.Placing.{NetworkPlaced, IsPlacedIn}
 use Rattle.sf_text.specs.Consuming.{places}
 use Rattle.sf_refusal.specs.Refusals.{OrMemory}
 use Rattle.sf_refusal.proofs.Explained.{refused_on}
@@ -24,8 +24,8 @@ returns-clause-refused c =
 
 pub returns-in-Ok-clause-placed : goal.returns-in-Ok-clause-placed
 returns-in-Ok-clause-placed c =
-    placed_in c.args.bytes.now c.in_ok-tokens.tokens.items c.network.new.program c.in_ok-tokens.ensures.found
-    (subst (λ (ts : List PlacedToken). NetworkPlaced c.network.new.program (places ts)) c.deref.ensures.value c.in-Ok.ensures.placed)
+    subst (λ (ts : List PlacedToken). IsSpelled c.in-Ok._version (toks ts) c.network.new.program → NetworkPlaced c.in-Ok._version c.network.new.program (places ts) → IsPlacedIn c.args.bytes.now c.network.new.program) (sym c.deref.ensures.value)
+    (placed_in c.args.bytes.now c.in_ok-tokens.tokens.items c.in-Ok._version c.network.new.program c.in_ok-tokens.ensures.found) c.in-Ok.ensures.reads c.in-Ok.ensures.placed
 
 pub returns-in_err-tokens-clause-fault : goal.returns-in_err-tokens-clause-fault
 returns-in_err-tokens-clause-fault c =

@@ -1,6 +1,6 @@
-use Rattle.std.proofs.Common.{rules, ◌≡◌, ℕ, ◌≤◌, false, List, ◌∷◌, [], length, get_or, string_bytes, refl, sym, ◌∙◌, ap, subst, arith}
+use Rattle.std.proofs.Common.{rules, ◌≡◌, ℕ, ◌≤◌, false, List, ◌∷◌, [], length, get_or, refl, sym, subst, arith}
 use Rattle.std.proofs.lemmas.List.{length-map}
-use Rattle.sf_expr.specs.Patterns.{PlacedPattern, placed_name}
+use Rattle.sf_expr.specs.Patterns.{PlacedPattern}
 use Rattle.sf_grammar.specs.Placing.{around, PatternPlaced, unnamed_placed, name_placed, both_placed}
 use Rattle.sf_text.proofs.Placed.{first_alone, in_brackets_read}
 use Rattle.sf_text.proofs.pattern.+pattern.Goals.{pattern_form-in_default-token-via-in-Keyword+in_default, pattern_form-in_default-token-via-in-Symbol+in_default, pattern_form-in_default-token-via-in_default}

@@ -7,18 +7,18 @@ use Rattle.sf_text.proofs.term.+term.Goals as goal
 pub headed-returns-in-Err-clause-reads : goal.headed-returns-in-Err-clause-reads
 headed-returns-in-Err-clause-reads t c =
     term_refused c.args.tokens.now c.in-Err.refusal c.refused.result
-    (headed_ready c.args.left (toks c.args.rest.now) c.requires.shallow c.in_ok-rest.ensures.reads c.in_ok-value.ensures.reads c.in_ok-rest-2.ensures.reads c.in_ok-part.ensures.reads c.in_ok-rest-3.ensures.reads) c.refused.ensures
+    (headed_ready c.args.version c.args.left (toks c.args.rest.now) c.requires.shallow c.in_ok-rest.ensures.reads c.in_ok-value.ensures.reads c.in_ok-rest-2.ensures.reads c.in_ok-part.ensures.reads c.in_ok-rest-3.ensures.reads) c.refused.ensures
     (λ same. c.in-Err.ensures.many.0 (ap Err same)) (λ same. (c.in-Err.ensures.deep.0 (ap Err same)).1) (λ same. c.in-Err.ensures.no_name (ap Err same))
 
 pub joined-returns-in-Err-clause-reads : goal.joined-returns-in-Err-clause-reads
 joined-returns-in-Err-clause-reads t c =
     term_refused c.args.tokens.now c.in-Err.refusal c.refused.result
-    (joined_ready c.args.left (toks c.args.rest.now) c.requires.shallow c.in_ok-one.ensures.reads c.in_ok-join.ensures.reads c.in_ok-two.ensures.reads c.in_ok-rest.ensures.reads) c.refused.ensures
+    (joined_ready c.args.version c.args.left (toks c.args.rest.now) c.requires.shallow c.in_ok-one.ensures.reads c.in_ok-join.ensures.reads c.in_ok-two.ensures.reads c.in_ok-rest.ensures.reads) c.refused.ensures
     (λ same. c.in-Err.ensures.many.0 (ap Err same)) (λ same. (c.in-Err.ensures.deep.0 (ap Err same)).1) (λ same. c.in-Err.ensures.no_name (ap Err same))
 
 pub sided-returns-in-Err-clause-reads : goal.sided-returns-in-Err-clause-reads
 sided-returns-in-Err-clause-reads t c =
-    term_refused c.args.tokens.now c.in-Err.refusal c.refused.result (sided_ready c.args.left (toks c.args.rest.now) c.requires.shallow c.in_ok-part.ensures.reads) c.refused.ensures
+    term_refused c.args.tokens.now c.in-Err.refusal c.refused.result (sided_ready c.args.version c.args.left (toks c.args.rest.now) c.requires.shallow c.in_ok-part.ensures.reads) c.refused.ensures
     (λ same. c.in-Err.ensures.many.0 (ap Err same)) (λ same. (c.in-Err.ensures.deep.0 (ap Err same)).1) (λ same. c.in-Err.ensures.no_name (ap Err same))
 
 pub headed-returns-in-Ok-clause-placed : goal.headed-returns-in-Ok-clause-placed

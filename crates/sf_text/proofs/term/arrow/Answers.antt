@@ -6,7 +6,7 @@ use Rattle.sf_text.proofs.term.arrow.Goals as goal
 
 pub returns-in-Err-clause-reads : goal.returns-in-Err-clause-reads
 returns-in-Err-clause-reads c =
-    term_refused c.args.tokens.now c.in-Err.refusal c.refused.result (arrow_ready c.args.left (toks c.args.rest.now) c.requires.shallow c.in_ok-function.ensures.reads) c.refused.ensures
+    term_refused c.args.tokens.now c.in-Err.refusal c.refused.result (arrow_ready c.args.version c.args.left (toks c.args.rest.now) c.requires.shallow c.in_ok-function.ensures.reads) c.refused.ensures
     (λ same. c.in-Err.ensures.many.0 (ap Err same)) (λ same. (c.in-Err.ensures.deep.0 (ap Err same)).1) (λ same. c.in-Err.ensures.no_name (ap Err same))
 
 pub returns-in-Ok-clause-placed : goal.returns-in-Ok-clause-placed

@@ -1,5 +1,5 @@
 use Rattle.std.proofs.Common.{◌≤◌, ◌-◌, length, sym, subst, Err, arith}
-use Rattle.sf_value.specs.Reading.{Reads, bad_value, out_of_range}
+use Rattle.sf_value.specs.Reading.{wide, again, Reads, bad_value, out_of_range, duplicate_key}
 use Rattle.sf_value.proofs.ReadAnswers.{left_of_value, left_of_bad, left_of_fault, whole_reads, more_reads, bad_reads, fault_reads}
 use Rattle.sf_value.proofs.read.read_value.Goals as goal
 
@@ -14,7 +14,12 @@ overflow_sub-result-in-Err-Bad c =
 pub overflow_sub-result-in-Err-Wide : goal.overflow_sub-result-in-Err-Wide
 overflow_sub-result-in-Err-Wide c =
     let h = rw c.in-Err-Wide.field-0-is at c.in-Err-Wide.ensures in
-    let e = left_of_fault c.args.ty.now c.args.bytes.now h.0 h.1 in omega (arith, h.2)
+    let e = left_of_fault c.args.ty.now c.args.bytes.now wide h.0 h.1 in omega (arith, h.2)
+
+pub overflow_sub-result-in-Err-Again : goal.overflow_sub-result-in-Err-Again
+overflow_sub-result-in-Err-Again c =
+    let h = rw c.in-Err-Again.field-0-is at c.in-Err-Again.ensures in
+    let e = left_of_fault c.args.ty.now c.args.bytes.now again h.0 h.1 in omega (arith, h.2)
 
 pub returns-then-rest-eq0-clause-found : goal.returns-then-rest-eq0-clause-found
 returns-then-rest-eq0-clause-found c = (whole_reads c.args.ty.now c.args.bytes.now c.in-Ok.value c.in-Ok.rest.now c.if-rest-eq0.true c.in-Ok.ensures).0
@@ -43,7 +48,15 @@ returns-in-Err-Bad-clause-only c = let h = rw c.in-Err-Bad.field-0-is at c.in-Er
 pub returns-in-Err-Wide-clause-refused : goal.returns-in-Err-Wide-clause-refused
 returns-in-Err-Wide-clause-refused c =
     let h = rw c.in-Err-Wide.field-0-is at c.in-Err-Wide.ensures in
-    subst (λ n. Reads c.args.ty.now c.args.bytes.now (Err (out_of_range (length c.args.bytes.now - n)))) (sym h.2) (fault_reads c.args.ty.now c.args.bytes.now h.0 h.1).0
+    subst (λ n. Reads c.args.ty.now c.args.bytes.now (Err (out_of_range (length c.args.bytes.now - n)))) (sym h.2) (fault_reads c.args.ty.now c.args.bytes.now wide h.0 h.1).0
+
+pub returns-in-Err-Again-clause-refused : goal.returns-in-Err-Again-clause-refused
+returns-in-Err-Again-clause-refused c =
+    let h = rw c.in-Err-Again.field-0-is at c.in-Err-Again.ensures in
+    subst (λ n. Reads c.args.ty.now c.args.bytes.now (Err (duplicate_key (length c.args.bytes.now - n)))) (sym h.2) (fault_reads c.args.ty.now c.args.bytes.now again h.0 h.1).0
 
 pub returns-in-Err-Wide-clause-only : goal.returns-in-Err-Wide-clause-only
-returns-in-Err-Wide-clause-only c = let h = rw c.in-Err-Wide.field-0-is at c.in-Err-Wide.ensures in (fault_reads c.args.ty.now c.args.bytes.now h.0 h.1).1
+returns-in-Err-Wide-clause-only c = let h = rw c.in-Err-Wide.field-0-is at c.in-Err-Wide.ensures in (fault_reads c.args.ty.now c.args.bytes.now wide h.0 h.1).1
+
+pub returns-in-Err-Again-clause-only : goal.returns-in-Err-Again-clause-only
+returns-in-Err-Again-clause-only c = let h = rw c.in-Err-Again.field-0-is at c.in-Err-Again.ensures in (fault_reads c.args.ty.now c.args.bytes.now again h.0 h.1).1

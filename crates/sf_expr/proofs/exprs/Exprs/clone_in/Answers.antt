@@ -1,11 +1,22 @@
-use Rattle.std.proofs.Common.{◌∙◌}
-use Rattle.sf_expr.proofs.Entered.{unchanged, arena_same}
+use Rattle.std.proofs.Common.{◌∙◌, List, ap, subst, sym}
+use Rattle.sf_expr.specs.Expressions.{Literal, none_literal}
+use Rattle.sf_expr.specs.Entries.{AreValued}
+use Rattle.sf_expr.proofs.Entered.{unchanged, arena_same, same_sides}
 use Rattle.sf_expr.proofs.exprs.Exprs.clone_in.Goals as goal
 
 pub invariant_of-result : goal.invariant_of-result
 invariant_of-result c =
-    let same = arena_same c.args.self.now _ _ _ (c.in_ok-names.ensures ∙ c.deref.ensures.value) c.in_ok-arena.ensures (c.in_ok-functions.ensures ∙ c.deref-2.ensures.value) in
-    record { ordered = same.0; closed = same.1; nothing = c.unnamed.ensures }
+    let x = c.args.self.now in
+    let names = c.in_ok-names.ensures ∙ c.deref.ensures.value in
+    let constants = c.in_ok-constants.ensures ∙ c.deref-2.ensures.value in
+    let same = arena_same x _ _ _ (same_sides _ _ _ _ names constants) c.in_ok-arena.ensures (c.in_ok-functions.ensures ∙ c.deref-3.ensures.value) in
+    record {
+      ordered = same.0;
+      valued = subst (λ (ls : List Literal). AreValued ls) (sym constants) x.valued;
+      closed = same.1;
+      nothing = c.unnamed.ensures;
+      none = c.no_event.ensures ∙ ap none_literal c.unit.ensures;
+    }
 
 pub returns : goal.returns
-returns c = unchanged _ _ c.in_ok-arena.ensures (c.in_ok-names.ensures ∙ c.deref.ensures.value) (c.in_ok-functions.ensures ∙ c.deref-2.ensures.value)
+returns c = unchanged _ _ c.in_ok-arena.ensures (c.in_ok-names.ensures ∙ c.deref.ensures.value) (c.in_ok-constants.ensures ∙ c.deref-2.ensures.value) (c.in_ok-functions.ensures ∙ c.deref-3.ensures.value)

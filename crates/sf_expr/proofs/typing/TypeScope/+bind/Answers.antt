@@ -1,6 +1,5 @@
 use Rattle.std.proofs.Common.{◌≡◌, ◌∙◌, ◌∷◌, ap, refl, sym, subst, string_bytes}
 use Rattle.sf_value.specs.Values.{Name}
-use Rattle.sf_value.specs.KindView.{kind_of}
 use Rattle.sf_expr.specs.declared.typing.TypeScope as types
 use Rattle.sf_expr.specs.Expressions.{named}
 use Rattle.sf_expr.specs.Patterns.{PlacedPattern, placed_unnamed, placed_name, pattern_of}
@@ -9,7 +8,7 @@ use Rattle.sf_expr.specs.Typing.{Names, AddsNames, adds_nothing, adds_name}
 use Rattle.sf_expr.specs.Scopes.{names_of}
 use Rattle.sf_refusal.specs.declared.rule.Rule.TheVariants.{Mismatch}
 use Rattle.sf_refusal.proofs.Explained.{breaks_at, refused_on, memory_on}
-use Rattle.sf_expr.proofs.Bound.{names_pushed, both_adds, on_ok, on_err, first_unbound, second_unbound, number_unbound}
+use Rattle.sf_expr.proofs.Bound.{names_pushed, both_adds, on_ok, on_err, first_unbound, second_unbound, other_unbound}
 use Rattle.sf_expr.proofs.typing.TypeScope.+bind.Goals as goal
 
 pub returns-in-Unnamed-default-clause-ok : goal.returns-in-Unnamed-default-clause-ok
@@ -27,35 +26,35 @@ returns-in_ok-push-in-Name-default-clause-ok t c =
     let more : names_of grown ≡ (x, c.args.ty.now) ∷ R = names_pushed c.args.self.now grown _ c.in_ok-push-in-Name-default.ensures.ok ∙ ap (λ (y : Name). (y, c.args.ty.now) ∷ R) c.as_str-name.ensures.value in
     subst (λ (p : PlacedPattern). AddsNames (pattern_of p) c.args.ty.now R (names_of grown)) (sym whole) (subst (λ (S : Names). AddsNames (named x) c.args.ty.now R S) (sym more) adds_name)
 
-pub returns-in_ok-bind-in-Both-Pair-clause-ok : goal.returns-in_ok-bind-in-Both-Pair-clause-ok
-returns-in_ok-bind-in-Both-Pair-clause-ok t c =
-    on_ok c.bind-in-Both-Pair.result
-    (λ h. both_adds c.args.pattern.now c.in-Both-Pair.first.value c.in-Both-Pair.second.value c.deref.result.now c.deref-in-Both-Pair-2.result.now
-    c.args.ty.now c.in-Both-Pair.left.value c.in-Both-Pair.right.value c.deref-in-Both-Pair.result.now c.deref-in-Both-Pair-3.result.now
-    (sym c.form.ensures ∙ ap placed_of c.in-Both-Pair.is-0) c.deref.ensures c.deref-in-Both-Pair-2.ensures
-    (sym c.form-2.ensures.kind ∙ ap kind_of c.in-Both-Pair.is-1) c.deref-in-Both-Pair.ensures c.deref-in-Both-Pair-3.ensures
-    c.in_ok-bind-in-Both-Pair.ensures.ok h)
-    c.bind-in-Both-Pair.ensures.ok
+pub returns-in_ok-bind-in-Both-Some-clause-ok : goal.returns-in_ok-bind-in-Both-Some-clause-ok
+returns-in_ok-bind-in-Both-Some-clause-ok t c =
+    on_ok c.bind-in-Both-Some.result
+    (λ h. both_adds c.args.pattern.now c.in-Both-Some.first.value c.in-Both-Some.second.value c.deref.result.now c.deref-in-Both-Some.result.now
+    c.args.ty.now c.in-Both-Some.left.now c.in-Both-Some.right.now c.in-Both-Some.left.now c.in-Both-Some.right.now
+    (sym c.form.ensures ∙ ap placed_of c.in-Both-Some.is-0) c.deref.ensures c.deref-in-Both-Some.ensures
+    c.in-Both-Some.ensures.pair refl refl
+    c.in_ok-bind-in-Both-Some.ensures.ok h)
+    c.bind-in-Both-Some.ensures.ok
 
 pub returns-in_err-push-in-Name-default-clause-err : goal.returns-in_err-push-in-Name-default-clause-err
 returns-in_err-push-in-Name-default-clause-err t c = memory_on _ _ c.from_residual.ensures.1
 
-pub returns-in_err-bind-in-Both-Pair-clause-err : goal.returns-in_err-bind-in-Both-Pair-clause-err
-returns-in_err-bind-in-Both-Pair-clause-err t c =
-    refused_on _ _ c.from_residual-in_err-bind-in-Both-Pair.ensures.1
-    (first_unbound c.args.pattern.now c.in-Both-Pair.first.value c.in-Both-Pair.second.value c.deref.result.now c.args.ty.now c.in-Both-Pair.left.value c.in-Both-Pair.right.value c.deref-in-Both-Pair.result.now c.args.at _
-    (sym c.form.ensures ∙ ap placed_of c.in-Both-Pair.is-0) (sym c.form-2.ensures.kind ∙ ap kind_of c.in-Both-Pair.is-1)
-    c.deref.ensures c.deref-in-Both-Pair.ensures c.in_err-bind-in-Both-Pair.ensures.err)
+pub returns-in_err-bind-in-Both-Some-clause-err : goal.returns-in_err-bind-in-Both-Some-clause-err
+returns-in_err-bind-in-Both-Some-clause-err t c =
+    refused_on _ _ c.from_residual-in_err-bind-in-Both-Some.ensures.1
+    (first_unbound c.args.pattern.now c.in-Both-Some.first.value c.in-Both-Some.second.value c.deref.result.now c.args.ty.now c.in-Both-Some.left.now c.in-Both-Some.right.now c.in-Both-Some.left.now c.args.at _
+    (sym c.form.ensures ∙ ap placed_of c.in-Both-Some.is-0) c.in-Both-Some.ensures.pair
+    c.deref.ensures refl c.in_err-bind-in-Both-Some.ensures.err)
 
-pub returns-in_ok-bind-in-Both-Pair-clause-err : goal.returns-in_ok-bind-in-Both-Pair-clause-err
-returns-in_ok-bind-in-Both-Pair-clause-err t c =
-    on_err c.bind-in-Both-Pair.result
-    (λ r h. second_unbound c.args.pattern.now c.in-Both-Pair.first.value c.in-Both-Pair.second.value c.deref-in-Both-Pair-2.result.now c.args.ty.now c.in-Both-Pair.left.value c.in-Both-Pair.right.value c.deref-in-Both-Pair-3.result.now c.args.at r
-    (sym c.form.ensures ∙ ap placed_of c.in-Both-Pair.is-0) (sym c.form-2.ensures.kind ∙ ap kind_of c.in-Both-Pair.is-1)
-    c.deref-in-Both-Pair-2.ensures c.deref-in-Both-Pair-3.ensures h)
-    c.bind-in-Both-Pair.ensures.err
+pub returns-in_ok-bind-in-Both-Some-clause-err : goal.returns-in_ok-bind-in-Both-Some-clause-err
+returns-in_ok-bind-in-Both-Some-clause-err t c =
+    on_err c.bind-in-Both-Some.result
+    (λ r h. second_unbound c.args.pattern.now c.in-Both-Some.first.value c.in-Both-Some.second.value c.deref-in-Both-Some.result.now c.args.ty.now c.in-Both-Some.left.now c.in-Both-Some.right.now c.in-Both-Some.right.now c.args.at r
+    (sym c.form.ensures ∙ ap placed_of c.in-Both-Some.is-0) c.in-Both-Some.ensures.pair
+    c.deref-in-Both-Some.ensures refl h)
+    c.bind-in-Both-Some.ensures.err
 
-pub returns-in-Both-Int-clause-err : goal.returns-in-Both-Int-clause-err
-returns-in-Both-Int-clause-err t c =
+pub returns-in-Both-None-clause-err : goal.returns-in-Both-None-clause-err
+returns-in-Both-None-clause-err t c =
     breaks_at Mismatch c.broken.ensures refl
-    (refl, number_unbound c.args.pattern.now _ _ c.args.ty.now (sym c.form.ensures ∙ ap placed_of c.in-Both-Int.is-0) (sym c.form-2.ensures.kind ∙ ap kind_of c.in-Both-Int.is-1))
+    (refl, other_unbound c.args.pattern.now _ _ c.args.ty.now (sym c.form.ensures ∙ ap placed_of c.in-Both-None.is-0) c.in-Both-None.ensures.other)

@@ -1,4 +1,4 @@
-use Rattle.std.proofs.Common.{arith, length, List, sym, subst}
+use Rattle.std.proofs.Common.{arith, List, sym, subst}
 use Rattle.sf_arena.specs.declared.entry.Entry.{Entry}
 use Rattle.sf_term.specs.declared.node.Node.{Node}
 use Rattle.sf_term.specs.Entries.{AreTerms}

@@ -1,0 +1,37 @@
+-- The rows of tables in code.
+use Rattle.std.specs.Prelude.{◌≡◌, ◌⊎◌, ℕ, List, ◌∷◌, ◌++◌, map, length, ⊤}
+use Rattle.sf_value.specs.Values.{KeyData, Data, Rows, no_rows, row, IsOneOf, HasDifferentKeys}
+use Rattle.sf_value.specs.View.{key_of, rows_of}
+use Rattle.sf_value.specs.Spelling.{key_spelling}
+use Rattle.sf_value.specs.declared.value.Key.{Key}
+use Rattle.sf_value.specs.declared.table.TableRefusal.{TableRefusal}
+use Rattle.sf_value.specs.declared.table.TableRefusal.TheVariants.{DuplicateKey, Memory}
+
+-- the key of the row at this index stands before it, and no key before it does so
+pub record IsFirstRepeatedKey (es : List (Key × Data)) (i : ℕ) : Type 0 where
+  pub front : List (Key × Data)
+  pub key : Key
+  pub value : Data
+  pub more : List (Key × Data)
+  pub cut : es ≡ front ++ (key, value) ∷ more
+  pub len : length front ≡ i
+  pub again : IsOneOf (key_of key) (map (λ e. key_of e.0) front)
+  pub before : HasDifferentKeys (rows_of front)
+
+-- why rows make no table
+abbrev pub RefusesRows : List (Key × Data) → TableRefusal → Type 0
+RefusesRows es (DuplicateKey i) = IsFirstRepeatedKey es i
+RefusesRows es Memory = ⊤
+
+-- the value stands under the key
+abbrev pub StandsUnder : KeyData → Data → Rows → Type 0
+StandsUnder k x no_rows = ⊥
+StandsUnder k x (row l y rs) = ((k ≡ l) × (x ≡ y)) ⊎ StandsUnder k x rs
+
+-- the keys are those of the rows, in order
+abbrev pub AreKeysOf : List Key → List (Key × Data) → Type 0
+AreKeysOf ks es = map key_of ks ≡ map (λ e. key_of e.0) es
+
+-- the spellings of keys
+abbrev pub spellings : List Key → List (List ℕ)
+spellings ks = map (λ k. key_spelling (key_of k)) ks
