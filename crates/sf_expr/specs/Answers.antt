@@ -6,11 +6,15 @@ use Rattle.sf_expr.specs.Evaluation.{Evaluated, answer, failed}
 use Rattle.sf_expr.specs.declared.fault.EvalFault.{EvalFault}
 use Rattle.sf_expr.specs.declared.fault.EvalFault.TheVariants.{Value, Memory}
 
--- A result answers what an expression is worth: its value, or its fault. Want of memory says nothing of it.
+-- A result, seen so, answers what an expression is worth: its value, or its fault. Want of memory says nothing of it.
+abbrev pub EvaluatesAs : {A : Type 0} → (A → Data) → Result A EvalFault → Evaluated Data → Type 0
+EvaluatesAs view (Ok x) worth = worth ≡ answer (view x)
+EvaluatesAs view (Err (Value fault)) worth = worth ≡ failed fault
+EvaluatesAs view (Err Memory) worth = Unit {0}
+
+-- A result answers what an expression is worth.
 abbrev pub Evaluates : Result Data EvalFault → Evaluated Data → Type 0
-Evaluates (Ok v) worth = worth ≡ answer v
-Evaluates (Err (Value fault)) worth = worth ≡ failed fault
-Evaluates (Err Memory) worth = Unit {0}
+Evaluates r worth = EvaluatesAs (λ v. v) r worth
 
 -- A result answers what an operator makes of numbers: its number, or its fault.
 abbrev pub Computes : Result ℤ ValueFault → Evaluated Data → Type 0

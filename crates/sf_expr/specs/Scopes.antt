@@ -1,18 +1,25 @@
 -- The names that a scope has, with their values.
 use Rattle.std.specs.Borrow.{Bor}
 use Rattle.std.specs.Prelude.{ℕ, map, List, [], ◌∷◌, fold, Option, Some, None, Bool, true, false, cond, bytes_eq}
-use Rattle.sf_value.specs.Values.{Name}
+use Rattle.sf_value.specs.Values.{Name, Data}
 use Rattle.sf_expr.specs.Evaluation.{Scope, no_names, value_name}
 use Rattle.sf_expr.specs.declared.scope.Binding.{Binding}
+use Rattle.sf_expr.specs.declared.scope.Bound.{Bound}
+use Rattle.sf_expr.specs.declared.scope.Bound.TheVariants.{Whole, Half}
 use Rattle.sf_expr.specs.declared.scope.Scope as declared
 use Rattle.sf_expr.specs.declared.typed_name.TypedName.{TypedName}
 use Rattle.sf_expr.specs.declared.typing.TypeScope as types
 use Rattle.sf_expr.specs.Typing.{Names}
 
+-- the value that a name is bound to
+abbrev pub bound_value : Bound → Data
+bound_value (Whole v) = v.now
+bound_value (Half r) = r.now.value
+
 -- the scope with one more name
 abbrev pub with_binding : Scope → Option Binding → Scope
 with_binding s None = s
-with_binding s (Some b) = value_name b.name.now b.value.now s
+with_binding s (Some b) = value_name b.name.now (bound_value b.bound) s
 
 -- the scope that names with their values are, the innermost last
 abbrev pub scope_from : List (Option Binding) → Scope

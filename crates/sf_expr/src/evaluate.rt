@@ -5,15 +5,16 @@ ghost use Rattle.sf_expr.specs.Evaluation.{eval as worth_of, apply as applied, o
 ghost use Rattle.sf_expr.specs.Soundness.{IsTypedIn, TakesValue};
 ghost use Rattle.sf_expr.specs.Scopes.{scope_of};
 ghost use Rattle.sf_expr.specs.Arena.{expression, function_at};
-ghost use Rattle.sf_expr.specs.Answers.{Evaluates};
+ghost use Rattle.sf_expr.specs.Answers.{Evaluates, EvaluatesAs};
 
 use crate::arithmetic::calculate;
 use crate::exprs::{ExprId, ExprNode, Exprs, FunctionId};
 use crate::fault::EvalFault;
 use crate::operator::Operator;
-use crate::scope::Scope;
+use crate::scope::{Bound, Scope};
 use sf_value::{Form, Value};
 use std::alloc::Global;
+use std::rc::Rc;
 
 /// What an operator makes of two numbers.
 fn operate(operator: Operator, left: &Value, right: &Value) -> Result<Value, EvalFault>
@@ -28,6 +29,7 @@ fn operate(operator: Operator, left: &Value, right: &Value) -> Result<Value, Eva
 }
 
 /// What an expression is worth, or the first fault of its operations: operands stand from left to right.
+#[cycle(eval)]
 pub fn eval(alloc: Global, exprs: &Exprs, id: ExprId, scope: &Scope) -> Result<Value, EvalFault>
     requires { ∥ IsTypedIn (scope_of scope.now) (expression exprs.now id) ∥₁ }
     ensures { Evaluates result (worth_of (expression exprs.now id) (scope_of scope.now)) }
@@ -37,14 +39,14 @@ pub fn eval(alloc: Global, exprs: &Exprs, id: ExprId, scope: &Scope) -> Result<V
         ExprNode::Truth(b) => Ok(Value::bool(b)),
         ExprNode::Int(n) => Ok(Value::int(n)),
         ExprNode::Constant(constant) => Ok(exprs.constant_at(constant).value(alloc)?),
-        ExprNode::Name(name) => match scope.value(exprs.name_of(name)) {
-            Some(value) => Ok(value.clone_in(alloc)?),
+        ExprNode::Name(name) => match scope.bound(exprs.name_of(name)) {
+            Some(bound) => Ok(bound.value().clone_in(alloc)?),
             None => unreachable!(),
         },
         ExprNode::Pair(first, second) => {
-            let first = eval(alloc, exprs, first, scope)?;
-            let second = eval(alloc, exprs, second, scope)?;
-            Ok(Value::pair(alloc, first, second)?)
+            let first = half(alloc, exprs, first, scope)?;
+            let second = half(alloc, exprs, second, scope)?;
+            Ok(Value::of_halves(first, second))
         }
         ExprNode::Operation(left, operator, right) => {
             let left = eval(alloc, exprs, left, scope)?;
@@ -52,6 +54,21 @@ pub fn eval(alloc: Global, exprs: &Exprs, id: ExprId, scope: &Scope) -> Result<V
             operate(operator, &left, &right)
         }
     }
+}
+
+/// What an expression is worth, as a half of a pair: a half that a name stands for is shared.
+#[cycle(eval)]
+fn half(alloc: Global, exprs: &Exprs, id: ExprId, scope: &Scope) -> Result<Rc<Value>, EvalFault>
+    requires { ∥ IsTypedIn (scope_of scope.now) (expression exprs.now id) ∥₁ }
+    ensures { EvaluatesAs (λ half. half.value) result (worth_of (expression exprs.now id) (scope_of scope.now)) }
+{
+    if let ExprNode::Name(name) = exprs.node(id) {
+        if let Some(Bound::Half(shared)) = scope.bound(exprs.name_of(name)) {
+            return Ok(shared.clone()?);
+        }
+    }
+    let value = eval(alloc, exprs, id, scope)?;
+    Ok(Rc::new(alloc, value)?)
 }
 
 /// What a function answers to a value, where no other names are there, or the first fault.

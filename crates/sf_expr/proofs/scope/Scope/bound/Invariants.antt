@@ -1,7 +1,7 @@
 use Rattle.std.proofs.Common.{◌≡◌, ◌≤◌, length}
 use Rattle.sf_expr.specs.Evaluation.{value_of}
 use Rattle.sf_expr.specs.Scopes.{scope_of, scope_from, is_bound}
-use Rattle.sf_expr.proofs.scope.Scope.value.Given as goal
+use Rattle.sf_expr.proofs.scope.Scope.bound.Given as goal
 
 abbrev pub invariant-loop-rest : goal.invariant-loop-rest
 invariant-loop-rest l = record {

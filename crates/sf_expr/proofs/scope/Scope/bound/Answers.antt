@@ -1,7 +1,7 @@
 use Rattle.std.proofs.Common.{arith, sym, ap}
 use Rattle.sf_expr.specs.Evaluation.{value_of}
 use Rattle.sf_expr.specs.Scopes.{scope_of, scope_from, is_bound}
-use Rattle.sf_expr.proofs.scope.Scope.value.Goals as goal
+use Rattle.sf_expr.proofs.scope.Scope.bound.Goals as goal
 
 pub loop-rest-init : goal.loop-rest-init
 unfolding scope_of
