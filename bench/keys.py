@@ -1,10 +1,12 @@
-"""Counts the instructions a key of lines with tables of 100 and of some 10,000 keys, by valgrind, beside the most that is wanted.
+"""Counts the instructions a key of lines with tables of 100 and of some 10,000 keys, and those of a line whose table is looked into, by
+valgrind, beside the most that is wanted.
 
     python3 bench/keys.py [--exe PATH]
 
-The network is `identity`. A line is played 2 and 6 times, so that the difference is free of what the start costs, and it
-doesn't depend on how busy the machine is. The long line has as many keys as 65,536 bytes hold. Wanted are at most 3 times
-as many instructions a key as on the short one. Without valgrind nothing is counted, and the status is 0.
+The network is `identity`, and then `arr (t, k) => get(t, k)` beside `identity` on the same lines. A line is played 2 and 6 times, so
+that the difference is free of what the start costs, and it doesn't depend on how busy the machine is. The long line has as many keys
+as 65,536 bytes hold. Wanted are at most 3 times as many instructions a key as on the short one, and for `get` at most 1.3 times those
+of `identity`. Without valgrind nothing is counted, and the status is 0.
 """
 
 import argparse
@@ -15,29 +17,34 @@ import tempfile
 from instructions import HERE, instructions
 
 LONGEST = 65536
-MOST = 3
+MOST, MOST_FOR_GET = 3, 1.3
 FEW_LINES, MANY_LINES = 2, 6
 # The types of the inputs, with the version of their text and the spelling of a key.
 TABLES = {"Table Int Int": str, "Table Text Int": '"{}"'.format}
 
 
-def line(key, count):
-    """A line with a table of so many keys, or as many as a line holds, and how many these are."""
-    rows, size = [], len("1 {}")
+def line(key, count, front="", behind=""):
+    """A line with a table of so many keys, or as many as a line holds, between a front and what is behind, and how many these are."""
+    rows, size = [], len("1 {}" + front + behind)
     for number in range(count):
         row = f"{key(number * 7919 % 10007)}:1"
         size += len(row) + bool(rows)
         if size > LONGEST:
             break
         rows.append(row)
-    return "1 {" + ",".join(rows) + "}\n", len(rows)
+    return "1 " + front + "{" + ",".join(rows) + "}" + behind + "\n", len(rows)
+
+
+def a_line(words, given):
+    """The instructions of a line."""
+    few, many = (instructions(words, "0" + given[1:] + given * (lines - 1)) for lines in (FEW_LINES, MANY_LINES))
+    return (many - few) / (MANY_LINES - FEW_LINES)
 
 
 def a_key(words, key, count):
     """How many keys a line has, and the instructions of each."""
     given, keys = line(key, count)
-    few, many = (instructions(words, "0" + given[1:] + given * (lines - 1)) for lines in (FEW_LINES, MANY_LINES))
-    return keys, (many - few) / (MANY_LINES - FEW_LINES) / keys
+    return keys, a_line(words, given) / keys
 
 
 def main():
@@ -51,13 +58,28 @@ def main():
     print(row("tables", "keys", "instructions a key", "keys", "instructions a key", "ratio", "wanted most"))
     with tempfile.TemporaryDirectory() as place:
         path = os.path.join(place, "network")
-        for types, key in TABLES.items():
+        words = [os.path.abspath(options.exe), path, "--plain"]
+
+        def network(text):
             with open(path, "w") as file:
-                file.write(f"network 2;\ntemplate main(): {types} ~> {types} = identity;\n")
-            words = [os.path.abspath(options.exe), path, "--plain"]
+                file.write(f"network 2;\ntemplate main(): {text};\n")
+
+        for types, key in TABLES.items():
+            network(f"{types} ~> {types} = identity")
             short, short_cost = a_key(words, key, 100)
             long, long_cost = a_key(words, key, 10_000)
             print(row(types, short, f"{short_cost:.0f}", long, f"{long_cost:.0f}", f"{long_cost / short_cost:.2f}", MOST))
+        row = "{:<20} {:>6} {:>18} {:>18} {:>6} {:>12}".format
+        print()
+        print(row("looked into", "keys", "identity, a line", "get, a line", "ratio", "wanted most"))
+        for types, key in TABLES.items():
+            given, keys = line(key, 10_000, "(", f",{key(5000)})")
+            both = types.replace("Table ", "").split()[0]
+            network(f"({types}, {both}) ~> ({types}, {both}) = identity")
+            whole = a_line(words, given)
+            network(f"({types}, {both}) ~> Event Int = arr (t, k) => get(t, k)")
+            found = a_line(words, given)
+            print(row(types, keys, f"{whole:.0f}", f"{found:.0f}", f"{found / whole:.2f}", MOST_FOR_GET))
 
 
 if __name__ == "__main__":

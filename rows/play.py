@@ -2,12 +2,14 @@
 
     python3 rows/play.py --exe PATH [--only NAME] [--timeout SECONDS]
 
+All are expected to pass, and each form of the language that forms.json lists has to stand in the network of one that runs.
 The last line is `N passed, M failed`.
 """
 
 import argparse
 import json
 import os
+import re
 import subprocess
 import sys
 import tempfile
@@ -15,6 +17,8 @@ import threading
 
 HERE = os.path.dirname(os.path.abspath(__file__))
 EXAMPLES = os.path.join(HERE, "..", "examples")
+# A text or a comment, which has no forms, or a word or a symbol.
+TOKEN = re.compile(rb'"[^"\n]*"|#.*|[A-Za-z]\w*|-?\d+|[!=<>]=|~>|=>|>>>|\*{3}|&&&|\S')
 
 
 def text_of(given):
@@ -80,6 +84,14 @@ def faults(row, output, errors, status):
     return found
 
 
+def unplayed(networks):
+    """Each form that stands in none of these network texts."""
+    with open(os.path.join(HERE, "forms.json"), encoding="utf-8") as file:
+        forms = [form for group in json.load(file).values() for form in group]
+    played = {token for network in networks for token in TOKEN.findall(network)}
+    return [form for form in forms if form.encode("utf-8") not in played]
+
+
 def main():
     parser = argparse.ArgumentParser()
     parser.add_argument("--exe", required=True)
@@ -90,6 +102,7 @@ def main():
         rows = json.load(file)
     rows += [example(name[: -len(".net")]) for name in sorted(os.listdir(EXAMPLES)) if name.endswith(".net")]
     passed = failed = 0
+    networks = []
     with tempfile.TemporaryDirectory() as place:
         for row in rows:
             if options.only and row["name"] != options.only:
@@ -98,6 +111,8 @@ def main():
             if row["network"] is not None:
                 with open(network, "wb") as file:
                     file.write(text_of(row["network"]))
+            if row["status"] in (0, 3):
+                networks.append(text_of(row["network"]))
             for mode in ([], ["--plain"]):
                 words = [os.path.abspath(options.exe), network, *row["arguments"], *mode]
                 try:
@@ -107,6 +122,9 @@ def main():
                 passed, failed = passed + (not found), failed + bool(found)
                 if found:
                     print(f"row '{row['name']}' {' '.join(mode)}: {'; '.join(found)}")
+    for form in [] if options.only else unplayed(networks):
+        failed += 1
+        print(f"no row runs a network with '{form}'")
     print(f"{passed} passed, {failed} failed")
     return 1 if failed else 0
 

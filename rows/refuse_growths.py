@@ -15,12 +15,14 @@ import sys
 import tempfile
 
 HERE = os.path.dirname(os.path.abspath(__file__))
-RICH = ['(("a",event 3),{1:"b",2:"c"})', '(("",none),{})', '(("d\\"",event -4),{2:"",1:"e"})']
 RUNS = [
     ("Int ~> Int = iPre 7", ["1", "2", "3"], ["7", "1", "2"]),
     ("(Int, Int) ~> (Int, Int) = loopPre(0, arr ((x, y), total) => ((x, total), (y + total)))",
      ["(1,2)", "(2,3)", "(3,4)"], ["(1,0)", "(2,2)", "(3,5)"]),
-    ("((Text, Event Int), Table Text) ~> ((Text, Event Int), Table Text) = identity", RICH, RICH),
+    ("((Table Text, Int), Event Text) ~> ((Table Text, Event Text), Bool)"
+     " = arr ((t, k), e) => ((t, merge(if (k < 0) then none Text else get(t, k), e)), (size(t) == k))",
+     ['(({1:"b",2:"c"},1),none)', '(({},-1),event "d\\"")', '(({2:"",1:"e"},2),none)'],
+     ['(({1:"b",2:"c"},event "b"),false)', '(({},event "d\\""),false)', '(({2:"",1:"e"},event ""),true)']),
 ]
 TIMES = [0, 16, 32]
 

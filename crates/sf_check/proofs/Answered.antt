@@ -28,8 +28,9 @@ use Rattle.sf_term.specs.Arena.{term_number, tree, term_node_at, term_entry_of, 
 use Rattle.sf_term.proofs.Kept.{parts_below}
 use Rattle.sf_mean.specs.Contexts.{Context, names_of_values}
 use Rattle.sf_mean.specs.Typing.{PrimitiveTakes, identity_takes, constant_takes, initial_pre_takes, arrow_takes, Takes, FormTakes, primitive_takes, sequence_takes, parallel_takes, fan_takes, first_takes, second_takes, loop_takes}
-use Rattle.sf_mean.specs.Inference.{same_kind}
-use Rattle.sf_mean.proofs.Inferred.{same_is, is_same, PartsAre, two_parts, no_parts, parts_are, output_fits}
+use Rattle.sf_operator.specs.Kinds.{same_kind}
+use Rattle.sf_operator.proofs.SameKinds.{same_is, is_same}
+use Rattle.sf_mean.proofs.Inferred.{PartsAre, two_parts, no_parts, parts_are, output_fits}
 use Rattle.sf_check.specs.Breaking.{Exceeds, PrimitiveBreaks, value_refused, initial_differs, function_refused, FormBreaks, primitive_breaks, parallel_input, parallel_exceeds, fan_exceeds, side_input, first_exceeds, second_exceeds, start_refused, fed_exceeds, loop_differs, Reaches, sequence_left, sequence_right, parallel_left, parallel_right, fan_left, fan_right, first_part, second_part, loop_part, TermBreaks, itself, within}
 use Rattle.sf_check.specs.Answering.{primitive_in}
 use Rattle.sf_check.proofs.Made.{made}

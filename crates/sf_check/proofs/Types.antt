@@ -1,8 +1,8 @@
 -- The one type that expressions and terms can have, and its bound.
-use Rattle.std.proofs.Common.{◌≡◌, ◌≢◌, [], ◌∷◌, refl, ap, arith}
-use Rattle.sf_value.specs.Values.{Kind, int_kind, pair_kind}
+use Rattle.std.proofs.Common.{◌≡◌, ◌≢◌, [], ◌∷◌, refl, ap}
+use Rattle.sf_value.specs.Values.{Kind, pair_kind}
 use Rattle.sf_expr.specs.Expressions.{Expression, Function}
-use Rattle.sf_expr.specs.Typing.{Names, Fits, HasType, variable_has, literal_has, pair_has, operation_has, FunctionTakes, function_takes}
+use Rattle.sf_expr.specs.Typing.{Names, Fits, HasType, variable_has, literal_has, pair_has, applied_has, operation_has, conditional_has, FunctionTakes, function_takes}
 pub use Rattle.sf_expr.proofs.Judged.{one_type as expression_one}
 use Rattle.sf_term.specs.Trees.{Primitive}
 use Rattle.sf_mean.specs.Contexts.{Context, values_in}
@@ -15,7 +15,9 @@ expression_fits : {R : Names} {e : Expression} {t : Kind} → HasType R e t → 
 expression_fits (variable_has h f) = f
 expression_fits (literal_has h f) = f
 expression_fits (pair_has h i f) = f
-expression_fits (operation_has h i) = omega arith
+expression_fits (applied_has h e f) = f
+expression_fits (operation_has h i e f) = f
+expression_fits (conditional_has h i j e f) = f
 
 function_fits : {R : Names} {f : Function} {t u : Kind} → FunctionTakes R f t u → Fits u
 function_fits (function_takes fits binds h) = expression_fits h

@@ -5,26 +5,29 @@ use Rattle.std.specs.Bool.{Decides}
 use Rattle.std.proofs.lemmas.Bool.{cases_lt}
 use Rattle.std.proofs.lemmas.Slice.Eq.{bytes_eq-Decides}
 use Rattle.std.proofs.lemmas.List.Elements.{All-contains}
-use Rattle.sf_value.specs.Values.{Name, Kind, unit_kind, bool_kind, int_kind, text_kind, pair_kind, event_kind, table_kind, nodes as nodes_of}
+use Rattle.sf_value.specs.Values.{Name, Kind, unit_kind, bool_kind, int_kind, pair_kind, nodes as nodes_of}
 use Rattle.sf_refusal.specs.declared.spot.Spot.{Spot}
+use Rattle.sf_operator.specs.Kinds.{unary_kind, binary_kind, conditional_kind}
 use Rattle.sf_expr.specs.declared.exprs.ExprId.{ExprId}
 use Rattle.sf_expr.specs.declared.exprs.FunctionId.{FunctionId}
 use Rattle.sf_expr.specs.declared.exprs.ConstantId.{ConstantId}
 use Rattle.sf_expr.specs.declared.exprs.ExprNode.{ExprNode}
 use Rattle.sf_expr.specs.declared.exprs.ExprNode.TheVariants as nodes
 use Rattle.sf_expr.specs.declared.exprs.Exprs.{Exprs}
-use Rattle.sf_expr.specs.declared.operator.Operator.{Operator}
+use Rattle.sf_operator.specs.declared.operator.Operator.{Operator}
+use Rattle.sf_operator.specs.declared.operator.Unary.{Unary}
 use Rattle.sf_refusal.specs.declared.refusal.Breach.{Breach}
 use Rattle.sf_expr.specs.Expressions.{Pattern, names_in}
 use Rattle.sf_expr.specs.Patterns.{PlacedPattern, placed_unnamed, placed_name, placed_both, pattern_of}
 use Rattle.sf_expr.specs.Entries.{has_narrow}
-use Rattle.sf_expr.specs.Arena.{id_number, expression, node_at, name_at, literal_at, entry_of, pattern_at, body_at, function_at, PartsBelow}
+use Rattle.sf_expr.specs.Arena.{id_number, expression, node_at, name_at, literal_at, spot_at, entry_of, pattern_at, body_at, function_at, PartsBelow}
 use Rattle.sf_expr.specs.Typing.{Names, Fits, type_of_name, literal_kind, AllDifferent, AddsNames, adds_nothing, adds_name, adds_both, HasType, FunctionTakes, function_takes}
 use Rattle.sf_expr.specs.Inference.{is_valued, is_among, names_with, NamesFit}
-use Rattle.sf_expr.specs.Refusals.{Refused, unknown_name, literal_too_large, first_part, second_part, pair_too_large, left_operand, right_operand, no_number, IsRepeated, FunctionRefused, repeated_name, no_fit, body_refused}
+use Rattle.sf_expr.specs.Refusals.{Refused, unknown_name, literal_too_large, first_part, second_part, pair_too_large, left_operand, right_operand, no_operation, operand, no_application, condition, then_branch, else_branch, no_choice, IsRepeated, FunctionRefused, repeated_name, no_fit, body_refused}
 use Rattle.sf_expr.proofs.Entered.{node_builds, parts_below, narrow_node, literal_valued}
 use Rattle.sf_expr.proofs.Typed.{is_constant}
-use Rattle.sf_expr.proofs.Judged.{literal_has_type, unit_typed, truth_typed, int_typed, name_typed, pair_has_type, operation_has_type}
+use Rattle.sf_expr.proofs.Judged.{literal_has_type, unit_typed, truth_typed, int_typed, name_typed, pair_has_type, operation_has_type, applied_has_type, conditional_has_type}
+use Rattle.sf_operator.proofs.Refusing.{kind_answered}
 use Rattle.sf_expr.proofs.Apart.{apart_push, name_repeated, repeated_first, repeated_second}
 use Rattle.sf_expr.proofs.Inferred.{not_among, with_adds, adds_with}
 
@@ -39,16 +42,6 @@ node_parts x i = parts_below x i
 node_narrow : (x : Exprs) (i : ExprId) → IsTrue (has_narrow (node_at x i))
 unfolding node_at entry_of
 node_narrow x i = narrow_node x i
-
--- whether a type is that of numbers
-numbers : (t : Kind) → (t ≡ int_kind) ⊎ (t ≢ int_kind)
-numbers int_kind = inl refl
-numbers unit_kind = inr (λ e. cc)
-numbers bool_kind = inr (λ e. cc)
-numbers text_kind = inr (λ e. cc)
-numbers (pair_kind t u) = inr (λ e. cc)
-numbers (event_kind t) = inr (λ e. cc)
-numbers (table_kind k t) = inr (λ e. cc)
 
 module _ (x : Exprs) (R : Names) (fit : NamesFit R) where
   of_int : (i : ExprId) (z : _) → node_at x i ≡ nodes.Int z → IsTrue (has_narrow (nodes.Int z)) → IsAnswered x R i
@@ -75,12 +68,26 @@ module _ (x : Exprs) (R : Names) (fit : NamesFit R) where
   of_operation : (i a b : ExprId) (op : Operator) → node_at x i ≡ nodes.Operation a op b → IsAnswered x R a → IsAnswered x R b → IsAnswered x R i
   of_operation i a b op e (inr r) B = inr (r.0, left_operand e r.1)
   of_operation i a b op e (inl t) (inr r) = inr (r.0, right_operand e t.1 r.1)
-  of_operation i a b op e (inl t) (inl u) = each (numbers t.0) (numbers u.0)
-    where
-      each : (t.0 ≡ int_kind) ⊎ (t.0 ≢ int_kind) → (u.0 ≡ int_kind) ⊎ (u.0 ≢ int_kind) → IsAnswered x R i
-      each (inl p) (inl q) = inl (int_kind, operation_has_type x R i a b op (node_builds x i _ e) (subst (λ v. HasType R (expression x a) v) p t.1) (subst (λ v. HasType R (expression x b) v) q u.1))
-      each (inr p) q = inr (_, no_number e t.1 u.1 (λ n. p n.0))
-      each (inl p) (inr q) = inr (_, no_number e t.1 u.1 (λ n. q n.1))
+  of_operation i a b op e (inl t) (inl u) = elim (kind_answered (binary_kind op t.0 u.0) (spot_at x i)) [
+    | inl k ↦ inl (k.0, operation_has_type x R i a b op (node_builds x i _ e) t.1 u.1 k.1 k.2)
+    | inr k ↦ inr (k.0, no_operation e t.1 u.1 k.1)
+  ]
+
+  of_applied : (i a : ExprId) (o : Unary) → node_at x i ≡ nodes.Applied o a → IsAnswered x R a → IsAnswered x R i
+  of_applied i a o e (inr r) = inr (r.0, operand e r.1)
+  of_applied i a o e (inl t) = elim (kind_answered (unary_kind o t.0) (spot_at x i)) [
+    | inl k ↦ inl (k.0, applied_has_type x R i a o (node_builds x i _ e) t.1 k.1 k.2)
+    | inr k ↦ inr (k.0, no_application e t.1 k.1)
+  ]
+
+  of_conditional : (i a b c : ExprId) → node_at x i ≡ nodes.Conditional a b c → IsAnswered x R a → IsAnswered x R b → IsAnswered x R c → IsAnswered x R i
+  of_conditional i a b c e (inr r) B C = inr (r.0, condition e r.1)
+  of_conditional i a b c e (inl t) (inr r) C = inr (r.0, then_branch e t.1 r.1)
+  of_conditional i a b c e (inl t) (inl u) (inr r) = inr (r.0, else_branch e t.1 u.1 r.1)
+  of_conditional i a b c e (inl t) (inl u) (inl v) = elim (kind_answered (conditional_kind t.0 u.0 v.0) (spot_at x i)) [
+    | inl k ↦ inl (k.0, conditional_has_type x R i a b c (node_builds x i _ e) t.1 u.1 v.1 k.1 k.2)
+    | inr k ↦ inr (k.0, no_choice e t.1 u.1 v.1 k.1)
+  ]
 
   answered_within : (fuel : ℕ) (i : ExprId) → id_number i < fuel → IsAnswered x R i
   answered_within zero i h = absurd (omega arith)
@@ -93,7 +100,9 @@ module _ (x : Exprs) (R : Names) (fit : NamesFit R) where
       by_node (nodes.Int z) e p w parts = of_int i z e w
       by_node (nodes.Name n) e p w parts = of_name i n e (type_of_name (name_at x n) R) refl
       by_node (nodes.Pair a b) e p w parts = of_pair i a b e (parts a p.0) (parts b p.1)
+      by_node (nodes.Applied o a) e p w parts = of_applied i a o e (parts a p)
       by_node (nodes.Operation a op b) e p w parts = of_operation i a b op e (parts a p.0) (parts b p.1)
+      by_node (nodes.Conditional a b c) e p w parts = of_conditional i a b c e (parts a p.0) (parts b p.1) (parts c p.2)
 
   pub answered : (i : ExprId) → IsAnswered x R i
   answered i = answered_within (suc (id_number i)) i (omega arith)

@@ -21,11 +21,11 @@ use Rattle.sf_expr.specs.declared.exprs.ConstantId.{ConstantId}
 use Rattle.sf_expr.specs.declared.exprs.FunctionId.{FunctionId}
 use Rattle.sf_expr.specs.declared.exprs.Exprs.{Exprs}
 use Rattle.sf_expr.specs.declared.stored.StoredFunction.{StoredFunction}
-use Rattle.sf_expr.specs.Expressions.{Literal, Expression, variable, literal, paired, operation, function, depth, pattern_depth, function_depth}
+use Rattle.sf_expr.specs.Expressions.{Literal, Expression, variable, literal, paired, applied, operation, conditional, function, depth, pattern_depth, function_depth}
 use Rattle.sf_expr.specs.Patterns.{PlacedPattern, pattern_of}
 use Rattle.sf_expr.specs.Inference.{is_valued}
 use Rattle.sf_expr.specs.Entries.{Beside, IsArena, AreValued, IsClosed, AreFunctions, zero_expression, among, name_among, none_of_unit, literal_among, made_over, entry_made, needs, needs_names, needs_constants, has_narrow, zero_entry, entry_at, expressions, expression_at, no_function, function_entry}
-use Rattle.sf_expr.specs.Arena.{count_of, function_count, name_count, constant_count, next_name, next_constant, Holds, HoldsFunction, HoldsName, HoldsConstant, beside, expression, entry_of, node_at, name_at, literal_at, spot_at, pattern_at, body_at, function_at, expression_of, Builds, builds_unit, builds_truth, builds_constant, builds_int, builds_name, builds_pair, builds_operation, PartsBelow, HoldsParts, Keeps, Adds, AddsName, AddsConstant, AddsFunction, IsUnchanged, id_number}
+use Rattle.sf_expr.specs.Arena.{count_of, function_count, name_count, constant_count, next_name, next_constant, Holds, HoldsFunction, HoldsName, HoldsConstant, beside, expression, entry_of, node_at, name_at, literal_at, spot_at, pattern_at, body_at, function_at, expression_of, Builds, builds_unit, builds_truth, builds_constant, builds_int, builds_name, builds_pair, builds_applied, builds_operation, builds_conditional, PartsBelow, HoldsParts, Keeps, Adds, AddsName, AddsConstant, AddsFunction, IsUnchanged, id_number}
 
 -- what an expression is made over are its parts alone
 local : (b : Beside) (es more : List Expression) (entry : Entry ExprNode) → needs entry.node ≤ length es → entry_made b (es ++ more) entry ≡ entry_made b es entry
@@ -41,7 +41,9 @@ local b es more entry h = at_node entry.node h
     at_node (nodes.Constant n) h = refl
     at_node (nodes.Name n) h = refl
     at_node (nodes.Pair a c) h = ap₂ (λ i j. paired i j) (part a.0 (omega arith)) (part c.0 (omega arith))
+    at_node (nodes.Applied o a) h = ap (λ i. applied o i) (part a.0 (omega arith))
     at_node (nodes.Operation a op c) h = ap₂ (λ i j. operation i op j) (part a.0 (omega arith)) (part c.0 (omega arith))
+    at_node (nodes.Conditional a c d) h = ap₂ (λ (i : Expression) (p : Expression × Expression). conditional i p.0 p.1) (part a.0 (omega arith)) (ap₂ (λ (j k : Expression). (j, k)) (part c.0 (omega arith)) (part d.0 (omega arith)))
 
 -- Names and literals of which there are more.
 pub record IsMore (b c : Beside) : Type 0 where
@@ -56,7 +58,9 @@ same_beside b c es (nodes.Int z) m h k = refl
 same_beside b c es (nodes.Constant n) m h k = ap literal (m.literals.same n.0 none_of_unit (omega arith))
 same_beside b c es (nodes.Name n) m h k = ap variable (m.names.same n.0 [] (omega arith))
 same_beside b c es (nodes.Pair i j) m h k = refl
+same_beside b c es (nodes.Applied o i) m h k = refl
 same_beside b c es (nodes.Operation i op j) m h k = refl
+same_beside b c es (nodes.Conditional i j l) m h k = refl
 
 expressions_beside : (b c : Beside) (entries : List (Entry ExprNode)) → IsMore b c → IsArena b entries → (i : ℕ) → expression_at c entries i ≡ expression_at b entries i
 unfolding tree_at
@@ -122,7 +126,9 @@ made_expression x (nodes.Int z) = refl
 made_expression x (nodes.Constant n) = refl
 made_expression x (nodes.Name n) = refl
 made_expression x (nodes.Pair a b) = refl
+made_expression x (nodes.Applied o a) = refl
 made_expression x (nodes.Operation a op b) = refl
+made_expression x (nodes.Conditional a b c) = refl
 
 -- What a node needs of an arena.
 record HasNeeded (x : Exprs) (n : ExprNode) : Type 0 where
@@ -139,7 +145,9 @@ needed x (nodes.Int z) h = record { parts = omega arith; names = omega arith; co
 needed x (nodes.Constant n) h = record { parts = omega arith; names = omega arith; constants = h }
 needed x (nodes.Name n) h = record { parts = omega arith; names = h; constants = omega arith }
 needed x (nodes.Pair a b) h = record { parts = omega (arith, h.0, h.1); names = omega arith; constants = omega arith }
+needed x (nodes.Applied o a) h = record { parts = omega (arith, h); names = omega arith; constants = omega arith }
 needed x (nodes.Operation a op b) h = record { parts = omega (arith, h.0, h.1); names = omega arith; constants = omega arith }
+needed x (nodes.Conditional a b c) h = record { parts = omega (arith, h.0, h.1, h.2); names = omega arith; constants = omega arith }
 
 -- the entries after a call that adds, whatever it answers
 pub arena_put : (x : Exprs) (new : List (Entry ExprNode)) (n : ExprNode) (d : ℕ) (s : Spot) (r : Result ℕ ArenaRefusal) → IfOk r (Added (entries_of x.arena) new (record { node = n; depth = d; spot = s })) → OnErr r (new ≡ entries_of x.arena) → HoldsParts x n → d ≡ depth (expression_of x n) → IsTrue (has_narrow n) → IsArena (beside x) new
@@ -320,7 +328,9 @@ builds x id = subst (λ e. Builds x (entry_of x id).node e) (sym (expression_nod
     of_node (nodes.Constant n) = builds_constant
     of_node (nodes.Name n) = builds_name
     of_node (nodes.Pair a b) = builds_pair
+    of_node (nodes.Applied o a) = builds_applied
     of_node (nodes.Operation a op b) = builds_operation
+    of_node (nodes.Conditional a b c) = builds_conditional
 
 -- what a node stands for
 pub node_builds : (x : Exprs) (id : ExprId) (n : ExprNode) → node_at x id ≡ n → Builds x n (expression x id)
@@ -351,7 +361,9 @@ parts_below x id = of_node (entry_at (entries_of x.arena) id.0).node (x.ordered.
     of_node (nodes.Constant n) h = tt
     of_node (nodes.Name n) h = tt
     of_node (nodes.Pair a b) h = (omega arith, omega arith)
+    of_node (nodes.Applied o a) h = omega arith
     of_node (nodes.Operation a op b) h = (omega arith, omega arith)
+    of_node (nodes.Conditional a b c) h = (omega arith, omega arith, omega arith)
 
 -- the parts of a node are held
 pub parts_held : (x : Exprs) (id : ExprId) → HoldsParts x (entry_of x id).node
@@ -369,8 +381,12 @@ parts_held x id = of_node (entry_at (entries_of x.arena) id.0).node (x.ordered.i
     of_node (nodes.Name n) b k l w = k
     of_node (nodes.Pair a c) b k l (inl z) = absurd (omega arith)
     of_node (nodes.Pair a c) b k l (inr h) = (omega arith, omega arith)
+    of_node (nodes.Applied o a) b k l (inl z) = absurd (omega arith)
+    of_node (nodes.Applied o a) b k l (inr h) = omega arith
     of_node (nodes.Operation a op c) b k l (inl z) = absurd (omega arith)
     of_node (nodes.Operation a op c) b k l (inr h) = (omega arith, omega arith)
+    of_node (nodes.Conditional a c d) b k l (inl z) = absurd (omega arith)
+    of_node (nodes.Conditional a c d) b k l (inr h) = (omega arith, omega arith, omega arith)
 
 -- the literal of a constant stands for a value
 pub literal_valued : (x : Exprs) (n : ConstantId) → IsTrue (is_valued (literal_at x n))

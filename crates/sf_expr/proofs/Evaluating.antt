@@ -1,24 +1,26 @@
 -- Evaluation of the expressions of an arena.
-use Rattle.std.proofs.Common.{◌≡◌, [], Some, Bool, true, false, cond, IsTrue, refl, sym, ap, subst, Result, Ok, Err, IsErrAnd}
-use Rattle.std.specs.Prelude.{ℤ, bytes_eq}
+use Rattle.std.proofs.Common.{◌≡◌, [], Some, None, Bool, true, false, cond, IsTrue, refl, sym, ap, subst, Result, Ok, Err, IsErrAnd}
+use Rattle.std.specs.Prelude.{Option, bytes_eq}
 use Rattle.std.proofs.Math.Logic.{∥∥₁_elim}
 use Rattle.std.proofs.Props.{props}
-use Rattle.sf_value.specs.Values.{Name, Kind, int_kind, Data, unit, truth, number, text, pair, no_event, event, table, is_narrow, HasKind, has_int, has_pair}
+use Rattle.sf_value.specs.Values.{Name, Kind, Data, HasKind, has_pair}
 use Rattle.sf_expr.specs.declared.exprs.ExprId.{ExprId}
 use Rattle.sf_expr.specs.declared.exprs.NameId.{NameId}
 use Rattle.sf_expr.specs.declared.exprs.ExprNode.TheVariants as nodes
 use Rattle.sf_expr.specs.declared.exprs.Exprs.{Exprs}
-use Rattle.sf_expr.specs.declared.operator.Operator.{Operator}
-use Rattle.sf_expr.specs.declared.fault.EvalFault.{EvalFault}
-use Rattle.sf_expr.specs.declared.fault.EvalFault.TheVariants.{Value, Memory}
+use Rattle.sf_operator.specs.declared.operator.Operator.{Operator}
+use Rattle.sf_operator.specs.declared.operator.Unary.{Unary}
+use Rattle.sf_operator.specs.declared.fault.EvalFault.{EvalFault}
+use Rattle.sf_operator.specs.declared.fault.EvalFault.TheVariants.{Value, Memory}
 use Rattle.sf_expr.specs.Expressions.{Pattern, Expression, function}
-use Rattle.sf_expr.specs.Evaluation.{Evaluated, answer, ◌>>=◌, Scope, no_names, pattern_fits, bound_in, eval, operated}
-use Rattle.sf_expr.specs.Typing.{Names, type_of_name, AddsNames, adds_nothing, adds_name, adds_both, HasType, variable_has, pair_has, operation_has, function_takes}
-use Rattle.sf_expr.specs.Soundness.{Yields, yields, fails, ScopeHas, has_no_names, has_name, IsTypedIn, typed_in, TakesValue, takes_value}
+use Rattle.sf_operator.specs.Operations.{truth_in, decided, operated}
+use Rattle.sf_expr.specs.Evaluation.{Evaluated, answer, ◌>>=◌, known, Scope, no_names, pattern_fits, bound_in, unless_decided, eval}
+use Rattle.sf_expr.specs.Typing.{Names, type_of_name, AddsNames, adds_nothing, adds_name, adds_both, HasType, variable_has, pair_has, applied_has, operation_has, conditional_has, function_takes}
+use Rattle.sf_expr.specs.Soundness.{ScopeHas, has_no_names, has_name, IsTypedIn, typed_in, TakesValue, takes_value}
 use Rattle.sf_expr.specs.Scopes.{is_bound}
 use Rattle.sf_expr.specs.Answers.{Evaluates}
-use Rattle.sf_expr.specs.Arena.{expression, name_at, Builds, builds_name, builds_pair, builds_operation}
-use Rattle.sf_expr.proofs.Sound.{expression_yields, bound_has}
+use Rattle.sf_expr.specs.Arena.{expression, name_at, Builds, builds_name, builds_pair, builds_applied, builds_operation, builds_conditional}
+use Rattle.sf_expr.proofs.Sound.{bound_has}
 
 -- a name with a type is bound
 bound : {s : Scope} {R : Names} (x : Name) {t : Kind} → ScopeHas s R → type_of_name x R ≡ Some t → IsTrue (is_bound x s)
@@ -45,38 +47,23 @@ pair_second builds_pair (typed_in k (pair_has h l f)) = typed_in k l
 
 -- so are the operands of an operator
 pub left_typed : {x : Exprs} {s : Scope} {a b : ExprId} {op : Operator} {e : Expression} → Builds x (nodes.Operation a op b) e → IsTypedIn s e → IsTypedIn s (expression x a)
-left_typed builds_operation (typed_in k (operation_has h l)) = typed_in k h
+left_typed builds_operation (typed_in k (operation_has h l e f)) = typed_in k h
 
 pub right_typed : {x : Exprs} {s : Scope} {a b : ExprId} {op : Operator} {e : Expression} → Builds x (nodes.Operation a op b) e → IsTypedIn s e → IsTypedIn s (expression x b)
-right_typed builds_operation (typed_in k (operation_has h l)) = typed_in k l
+right_typed builds_operation (typed_in k (operation_has h l e f)) = typed_in k l
 
-yielded : {t : Kind} {d : Data} (o : Evaluated Data) → Yields t o → o ≡ answer d → HasKind d t
-yielded {t} {d} (answer c) (yields h) e = let same : c ≡ d = cc in subst (λ (c : Data). HasKind c t) same h
-yielded o fails e = absurd cc
+pub part_typed : {x : Exprs} {s : Scope} {a : ExprId} {o : Unary} {e : Expression} → Builds x (nodes.Applied o a) e → IsTypedIn s e → IsTypedIn s (expression x a)
+part_typed builds_applied (typed_in k (applied_has h e f)) = typed_in k h
 
--- and are numbers
-pub left_number : {x : Exprs} {s : Scope} {a b : ExprId} {op : Operator} {e : Expression} {d : Data} → Builds x (nodes.Operation a op b) e → IsTypedIn s e → eval (expression x a) s ≡ answer d → HasKind d int_kind
-left_number builds_operation (typed_in k (operation_has h l)) e = yielded _ (expression_yields h k) e
+-- so are the condition and the branches of a conditional
+pub condition_typed : {x : Exprs} {s : Scope} {a b c : ExprId} {e : Expression} → Builds x (nodes.Conditional a b c) e → IsTypedIn s e → IsTypedIn s (expression x a)
+condition_typed builds_conditional (typed_in k (conditional_has h l m e f)) = typed_in k h
 
-pub right_number : {x : Exprs} {s : Scope} {a b : ExprId} {op : Operator} {e : Expression} {d : Data} → Builds x (nodes.Operation a op b) e → IsTypedIn s e → eval (expression x b) s ≡ answer d → HasKind d int_kind
-right_number builds_operation (typed_in k (operation_has h l)) e = yielded _ (expression_yields l k) e
+pub then_typed : {x : Exprs} {s : Scope} {a b c : ExprId} {e : Expression} → Builds x (nodes.Conditional a b c) e → IsTypedIn s e → IsTypedIn s (expression x b)
+then_typed builds_conditional (typed_in k (conditional_has h l m e f)) = typed_in k l
 
-number_inverse : {z : ℤ} → HasKind (number z) int_kind → IsTrue (is_narrow z)
-number_inverse (has_int h) = h
-
-never_so : {A B : Type 0} → ∥ A ∥₁ → (A → ⊥) → B
-never_so h f = absurd (∥∥₁_elim h (λ a b. absurd a) f)
-
--- what is known to be a number is one
-pub settled_number : (d : Data) → ∥ HasKind d int_kind ∥₁ → HasKind d int_kind
-settled_number (number z) h = has_int (∥∥₁_elim h (hlevel props) number_inverse)
-settled_number unit h = never_so h (λ k. elim k [ ])
-settled_number (truth b) h = never_so h (λ k. elim k [ ])
-settled_number (text s) h = never_so h (λ k. elim k [ ])
-settled_number (pair x y) h = never_so h (λ k. elim k [ ])
-settled_number no_event h = never_so h (λ k. elim k [ ])
-settled_number (event x) h = never_so h (λ k. elim k [ ])
-settled_number (table rs) h = never_so h (λ k. elim k [ ])
+pub else_typed : {x : Exprs} {s : Scope} {a b c : ExprId} {e : Expression} → Builds x (nodes.Conditional a b c) e → IsTypedIn s e → IsTypedIn s (expression x c)
+else_typed builds_conditional (typed_in k (conditional_has h l m e f)) = typed_in k m
 
 -- a fault of the first operand is the answer
 through : (fault : EvalFault) (o : Evaluated Data) (f : Data → Evaluated Data) → Evaluates (Err fault) o → Evaluates (Err fault) (o >>= f)
@@ -86,20 +73,22 @@ through Memory o f e = tt
 after : {d : Data} (o : Evaluated Data) (f : Data → Evaluated Data) (r : Result Data EvalFault) → o ≡ answer d → Evaluates r (f d) → Evaluates r (o >>= f)
 after o f r e h = subst (λ p. Evaluates r (p >>= f)) (sym e) h
 
-pub pair_first_failed : (s : Scope) {x : Exprs} {a b : ExprId} {e : Expression} (fault : EvalFault) → Builds x (nodes.Pair a b) e → Evaluates (Err fault) (eval (expression x a) s) → Evaluates (Err fault) (eval e s)
-pair_first_failed s fault builds_pair h = through fault _ _ h
+-- what is answered where nothing is decided
+undecided : {o : Option Data} (q : Evaluated Data) (r : Result Data EvalFault) → o ≡ None → Evaluates r q → Evaluates r (unless_decided o q)
+undecided q r e h = subst (λ (o : Option Data). Evaluates r (unless_decided o q)) (sym e) h
 
-pub pair_second_failed : (s : Scope) {x : Exprs} {a b : ExprId} {e : Expression} {d : Data} (fault : EvalFault) → Builds x (nodes.Pair a b) e → eval (expression x a) s ≡ answer d → Evaluates (Err fault) (eval (expression x b) s) → Evaluates (Err fault) (eval e s)
-pair_second_failed s fault builds_pair first h = after _ _ (Err fault) first (through fault _ _ h)
+pub right_failed : (s : Scope) {x : Exprs} {a b : ExprId} {op : Operator} {e : Expression} {d : Data} (fault : EvalFault) → Builds x (nodes.Operation a op b) e → eval (expression x a) s ≡ answer d → decided op d ≡ None → Evaluates (Err fault) (eval (expression x b) s) → Evaluates (Err fault) (eval e s)
+right_failed s fault builds_operation first undecides h = after _ _ (Err fault) first (undecided _ (Err fault) undecides (through fault _ _ h))
 
-pub left_failed : (s : Scope) {x : Exprs} {a b : ExprId} {op : Operator} {e : Expression} (fault : EvalFault) → Builds x (nodes.Operation a op b) e → Evaluates (Err fault) (eval (expression x a) s) → Evaluates (Err fault) (eval e s)
-left_failed s fault builds_operation h = through fault _ _ h
+pub operation_answers : (s : Scope) {x : Exprs} {a b : ExprId} {op : Operator} {e : Expression} {d c : Data} (r : Result Data EvalFault) → Builds x (nodes.Operation a op b) e → eval (expression x a) s ≡ answer d → decided op d ≡ None → eval (expression x b) s ≡ answer c → Evaluates r (operated op d c) → Evaluates r (eval e s)
+operation_answers s r builds_operation first undecides second h = after _ _ r first (undecided _ r undecides (after _ _ r second h))
 
-pub right_failed : (s : Scope) {x : Exprs} {a b : ExprId} {op : Operator} {e : Expression} {d : Data} (fault : EvalFault) → Builds x (nodes.Operation a op b) e → eval (expression x a) s ≡ answer d → Evaluates (Err fault) (eval (expression x b) s) → Evaluates (Err fault) (eval e s)
-right_failed s fault builds_operation first h = after _ _ (Err fault) first (through fault _ _ h)
+-- the worth of a conditional, by what its condition is
+abbrev pub branch_of : Scope → Exprs → ExprId → ExprId → Option Bool → Evaluated Data
+branch_of s x b c o = known o (λ t. cond t (eval (expression x b) s) (eval (expression x c) s))
 
-pub operation_answers : (s : Scope) {x : Exprs} {a b : ExprId} {op : Operator} {e : Expression} {d c : Data} (r : Result Data EvalFault) → Builds x (nodes.Operation a op b) e → eval (expression x a) s ≡ answer d → eval (expression x b) s ≡ answer c → Evaluates r (operated op d c) → Evaluates r (eval e s)
-operation_answers s r builds_operation first second h = after _ _ r first (after _ _ r second h)
+pub conditional_answers : (s : Scope) {x : Exprs} {a b c : ExprId} {e : Expression} {d : Data} (o : Option Bool) (r : Result Data EvalFault) → Builds x (nodes.Conditional a b c) e → eval (expression x a) s ≡ answer d → o ≡ truth_in d → Evaluates r (branch_of s x b c o) → Evaluates r (eval e s)
+conditional_answers s {x = x} {b = b} {c = c} o r builds_conditional first is h = after _ _ r first (subst (λ (o : Option Bool). Evaluates r (branch_of s x b c o)) is h)
 
 -- a fault that is passed on answers what it answered
 pub passed_on : (r : Result Data EvalFault) (fault : EvalFault) (o : Evaluated Data) → IsErrAnd r (λ e. e ≡ fault) → Evaluates (Err fault) o → Evaluates r o

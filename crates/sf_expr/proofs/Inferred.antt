@@ -6,10 +6,12 @@ use Rattle.std.proofs.lemmas.Slice.Eq.{bytes_eq-Decides}
 use Rattle.std.proofs.lemmas.List.Elements.{All-nil, All-cons, All-head, All-tail}
 use Rattle.std.proofs.lemmas.Bool.Decides.{nat_tests}
 use Rattle.sf_value.specs.Values.{Name, Kind, unit_kind, bool_kind, int_kind, text_kind, pair_kind, event_kind, table_kind, nodes}
-use Rattle.sf_expr.specs.Expressions.{Pattern, unnamed, named, both, names_in, Literal, Expression, variable, literal, paired, operation, Function, function}
-use Rattle.sf_expr.specs.declared.operator.Operator.{Operator}
-use Rattle.sf_expr.specs.Typing.{Names, type_of_name, literal_kind, Fits, AllDifferent, AddsNames, adds_nothing, adds_name, adds_both, HasType, variable_has, literal_has, pair_has, operation_has, FunctionTakes, function_takes}
-use Rattle.sf_expr.specs.Inference.{found_then, fitting, is_valued, literal_type, pair_type, number_type, expression_type, names_with, is_among, are_different, function_output}
+use Rattle.sf_operator.specs.Kinds.{unary_kind, binary_kind, conditional_kind}
+use Rattle.sf_expr.specs.Expressions.{Pattern, unnamed, named, both, names_in, Literal, Expression, variable, literal, paired, applied, operation, conditional, Function, function}
+use Rattle.sf_operator.specs.declared.operator.Operator.{Operator}
+use Rattle.sf_operator.specs.declared.operator.Unary.{Unary}
+use Rattle.sf_expr.specs.Typing.{Names, type_of_name, literal_kind, Fits, AllDifferent, AddsNames, adds_nothing, adds_name, adds_both, HasType, variable_has, literal_has, pair_has, applied_has, operation_has, conditional_has, FunctionTakes, function_takes}
+use Rattle.sf_expr.specs.Inference.{found_then, fitting, is_valued, literal_type, pair_type, applied_type, operation_type, conditional_type, expression_type, names_with, is_among, are_different, function_output}
 use Rattle.sf_expr.proofs.Literals.{valued_has, has_valued}
 
 -- ## Types that fit
@@ -59,17 +61,47 @@ pair_found R i j (Some u) (Some v) t h k e =
 pair_found R i j (Some u) None t h k e = absurd cc
 pair_found R i j None b t h k e = absurd cc
 
-operation_found : (R : Names) (i j : Expression) (op : Operator) (a b : Option Kind) (t : Kind) → ((u : Kind) → a ≡ Some u → HasType R i u) → ((u : Kind) → b ≡ Some u → HasType R j u) → number_type a b ≡ Some t → HasType R (operation i op j) t
-operation_found R i j op (Some int_kind) (Some int_kind) t h k e =
-    let is : int_kind ≡ t = cc in
-    subst (λ (t : Kind). HasType R (operation i op j) t) is (operation_has (h int_kind refl) (k int_kind refl))
-operation_found R i j op a b t h k e = absurd cc
+applied_found : (R : Names) (i : Expression) (o : Unary) (a : Option Kind) (t : Kind) → ((u : Kind) → a ≡ Some u → HasType R i u) → applied_type o a ≡ Some t → HasType R (applied o i) t
+applied_found R i o (Some u) t h e = each (unary_kind o u) refl e
+  where
+    each : (k : Option Kind) → unary_kind o u ≡ k → found_then k fitting ≡ Some t → HasType R (applied o i) t
+    each (Some v) q e =
+        let f = fitting_found v t e in
+        subst (λ (t : Kind). HasType R (applied o i) t) f.is (applied_has (h u refl) q f.fits)
+    each None q e = absurd cc
+applied_found R i o None t h e = absurd cc
+
+operation_found : (R : Names) (i j : Expression) (op : Operator) (a b : Option Kind) (t : Kind) → ((u : Kind) → a ≡ Some u → HasType R i u) → ((u : Kind) → b ≡ Some u → HasType R j u) → operation_type op a b ≡ Some t → HasType R (operation i op j) t
+operation_found R i j op (Some u) (Some v) t h k e = each (binary_kind op u v) refl e
+  where
+    each : (o : Option Kind) → binary_kind op u v ≡ o → found_then o fitting ≡ Some t → HasType R (operation i op j) t
+    each (Some w) q e =
+        let f = fitting_found w t e in
+        subst (λ (t : Kind). HasType R (operation i op j) t) f.is (operation_has (h u refl) (k v refl) q f.fits)
+    each None q e = absurd cc
+operation_found R i j op (Some u) None t h k e = absurd cc
+operation_found R i j op None b t h k e = absurd cc
+
+-- what was found of three parts
+conditional_found : (R : Names) (i j k : Expression) (a b c : Option Kind) (t : Kind) → ((u : Kind) → a ≡ Some u → HasType R i u) → ((u : Kind) → b ≡ Some u → HasType R j u) → ((u : Kind) → c ≡ Some u → HasType R k u) → conditional_type a b c ≡ Some t → HasType R (conditional i j k) t
+conditional_found R i j k (Some u) (Some v) (Some w) t f g h e = each (conditional_kind u v w) refl e
+  where
+    each : (o : Option Kind) → conditional_kind u v w ≡ o → found_then o fitting ≡ Some t → HasType R (conditional i j k) t
+    each (Some y) q e =
+        let l = fitting_found y t e in
+        subst (λ (t : Kind). HasType R (conditional i j k) t) l.is (conditional_has (f u refl) (g v refl) (h w refl) q l.fits)
+    each None q e = absurd cc
+conditional_found R i j k (Some u) (Some v) None t f g h e = absurd cc
+conditional_found R i j k (Some u) None c t f g h e = absurd cc
+conditional_found R i j k None b c t f g h e = absurd cc
 
 pub found_typed : (R : Names) (e : Expression) (t : Kind) → expression_type R e ≡ Some t → HasType R e t
 found_typed R (variable x) t h = name_found R x (type_of_name x R) t refl h
 found_typed R (literal l) t h = literal_found R l t h
 found_typed R (paired i j) t h = pair_found R i j (expression_type R i) (expression_type R j) t (found_typed R i) (found_typed R j) h
+found_typed R (applied o i) t h = applied_found R i o (expression_type R i) t (found_typed R i) h
 found_typed R (operation i op j) t h = operation_found R i j op (expression_type R i) (expression_type R j) t (found_typed R i) (found_typed R j) h
+found_typed R (conditional i j k) t h = conditional_found R i j k (expression_type R i) (expression_type R j) (expression_type R k) t (found_typed R i) (found_typed R j) (found_typed R k) h
 
 literal_typed : (l : Literal) → IsTrue (is_valued l) → Fits (literal_kind l) → literal_type l ≡ Some (literal_kind l)
 literal_typed l h f = ap (λ b. cond b (fitting (literal_kind l)) None) h ∙ fitting_is (literal_kind l) f
@@ -78,7 +110,9 @@ pub typed_found : {R : Names} {e : Expression} {t : Kind} → HasType R e t → 
 typed_found (variable_has {t = t} e f) = ap (λ o. found_then o fitting) e ∙ fitting_is t f
 typed_found (literal_has {l = l} h f) = literal_typed l (has_valued l h) f
 typed_found (pair_has {t = t} {u = u} h k f) = rw (typed_found h, typed_found k) (fitting_is (pair_kind t u) f)
-typed_found (operation_has h k) = rw (typed_found h, typed_found k) refl
+typed_found (applied_has {t = t} {u = u} h e f) = rw (typed_found h) (ap (λ o. found_then o fitting) e ∙ fitting_is u f)
+typed_found (operation_has {v = v} h k e f) = rw (typed_found h, typed_found k) (ap (λ o. found_then o fitting) e ∙ fitting_is v f)
+typed_found (conditional_has {v = v} h k l e f) = rw (typed_found h, typed_found k, typed_found l) (ap (λ o. found_then o fitting) e ∙ fitting_is v f)
 
 -- ## Patterns
 

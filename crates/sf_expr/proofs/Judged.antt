@@ -4,11 +4,14 @@ use Rattle.std.specs.Prelude.{ℤ}
 use mathlib.Core.Path.{ap₂}
 use Rattle.std.proofs.lemmas.Bool.{cases_lt}
 use Rattle.sf_value.specs.Values.{Name, Kind, unit_kind, bool_kind, int_kind, pair_kind, is_narrow, nodes as nodes_of}
+use Rattle.sf_operator.specs.Kinds.{unary_kind, binary_kind, conditional_kind}
+use Rattle.sf_operator.specs.Breaches.{KindRefused, AnswersKind}
 use Rattle.sf_expr.specs.declared.exprs.ExprId.{ExprId}
 use Rattle.sf_expr.specs.declared.exprs.NameId.{NameId}
 use Rattle.sf_expr.specs.declared.exprs.ConstantId.{ConstantId}
 use Rattle.sf_expr.specs.declared.exprs.FunctionId.{FunctionId}
-use Rattle.sf_expr.specs.declared.operator.Operator.{Operator}
+use Rattle.sf_operator.specs.declared.operator.Operator.{Operator}
+use Rattle.sf_operator.specs.declared.operator.Unary.{Unary}
 use Rattle.sf_expr.specs.declared.exprs.ExprNode.TheVariants as nodes
 use Rattle.sf_expr.specs.declared.exprs.Exprs.{Exprs}
 use Rattle.sf_refusal.specs.declared.spot.Spot.{Spot}
@@ -18,23 +21,33 @@ use Rattle.sf_refusal.specs.declared.refusal.Refusal.{Refusal}
 use Rattle.sf_refusal.specs.declared.refusal.Refusal.TheVariants.{Memory}
 use Rattle.sf_refusal.specs.Refusals.{breach_of, OrMemory, no_memory}
 use Rattle.sf_refusal.proofs.Explained.{or_memory}
-use Rattle.sf_expr.specs.Expressions.{Pattern, names_in, Literal, unit_literal, truth_literal, int_literal, Expression, variable, literal, paired, operation}
+use Rattle.sf_expr.specs.Expressions.{Pattern, names_in, Literal, unit_literal, truth_literal, int_literal, Expression, variable, literal, paired, applied, operation, conditional}
 use Rattle.sf_expr.specs.Patterns.{pattern_of}
 use Rattle.sf_expr.specs.Arena.{expression, node_at, name_at, literal_at, spot_at, pattern_at, body_at, function_at, Builds}
 use Rattle.sf_expr.specs.Inference.{is_valued}
-use Rattle.sf_expr.specs.Typing.{Names, Fits, type_of_name, literal_kind, AllDifferent, AddsNames, adds_nothing, adds_name, adds_both, HasType, variable_has, literal_has, pair_has, operation_has, FunctionTakes, function_takes}
-use Rattle.sf_expr.specs.Refusals.{Types, TypesFunction, Refused, unknown_name, literal_too_large, first_part, second_part, pair_too_large, left_operand, right_operand, no_number, Judges, FunctionRefused, repeated_name, no_fit, body_refused, JudgesFunction, RepeatRefused, BindRefused, AnswersPair, LiteralRefused, AnswersLiteral}
+use Rattle.sf_expr.specs.Typing.{Names, Fits, type_of_name, literal_kind, AllDifferent, AddsNames, adds_nothing, adds_name, adds_both, HasType, variable_has, literal_has, pair_has, applied_has, operation_has, conditional_has, FunctionTakes, function_takes}
+use Rattle.sf_expr.specs.Refusals.{Types, TypesFunction, Refused, unknown_name, literal_too_large, first_part, second_part, pair_too_large, left_operand, right_operand, no_operation, operand, no_application, condition, then_branch, else_branch, no_choice, Judges, FunctionRefused, repeated_name, no_fit, body_refused, JudgesFunction, RepeatRefused, BindRefused, AnswersPair, LiteralRefused, AnswersLiteral}
 use Rattle.sf_expr.proofs.Apart.{repeated_apart}
 use Rattle.sf_expr.proofs.Entered.{node_builds}
 use Rattle.sf_expr.proofs.Literals.{valued_has}
-use Rattle.sf_expr.proofs.Typed.{is_unit, is_truth, is_constant, is_int, is_name, is_pair, is_operation}
+use Rattle.sf_operator.proofs.Refusing.{kind_refused}
+use Rattle.std.proofs.lemmas.Option.{same_Some}
+use Rattle.sf_expr.proofs.Typed.{is_unit, is_truth, is_constant, is_int, is_name, is_pair, is_applied, is_operation, is_conditional}
+
+-- one of two by a truth, over types that are the same
+pub same_choice : {c d t v u w : Kind} → c ≡ d → t ≡ v → u ≡ w → conditional_kind c t u ≡ conditional_kind d v w
+same_choice {d = d} {t = t} {u = u} p q r = ap (λ (k : Kind). conditional_kind k t u) p ∙ ap₂ (λ (a b : Kind). conditional_kind d a b) q r
 
 -- an expression has at most one type
 pub one_type : {R : Names} {e : Expression} {t u : Kind} → HasType R e t → HasType R e u → t ≡ u
 one_type (variable_has e f) (variable_has g h) = cc
 one_type (literal_has h f) (literal_has k g) = refl
 one_type (pair_has h i f) (pair_has k j g) = ap₂ pair_kind (one_type h k) (one_type i j)
-one_type (operation_has h i) (operation_has k j) = refl
+one_type (applied_has {o = o} h e f) (applied_has k g l) = same_Some _ _ (sym e ∙ ap (unary_kind o) (one_type h k) ∙ g)
+one_type (operation_has {op = op} h i e f) (operation_has k j g l) = same_Some _ _ (sym e ∙ ap₂ (binary_kind op) (one_type h k) (one_type i j) ∙ g)
+one_type (conditional_has {c = c} {t = t} {u = u} h i j e f) (conditional_has {c = d} {t = v} {u = w} k l m g n) =
+    let same : conditional_kind c t u ≡ conditional_kind d v w = same_choice (one_type h k) (one_type i l) (one_type j m) in
+    same_Some _ _ (sym e ∙ same ∙ g)
 
 -- a pattern adds one list of names
 pub one_scope : {p : Pattern} {t : Kind} {R S T : Names} → AddsNames p t R S → AddsNames p t R T → S ≡ T
@@ -61,12 +74,48 @@ pair_typed {R} e a b {t} q h = inverted t (subst (λ (e : Expression). HasType R
     inverted : (t : Kind) → HasType R (paired a b) t → (u : Kind) × (v : Kind) × HasType R a u × HasType R b v × Fits (pair_kind u v)
     inverted t (pair_has {t = u} {u = v} h k f) = (u, v, h, k, f)
 
--- the types of an operator's operands
-operation_typed : {R : Names} (e a b : Expression) (op : Operator) {t : Kind} → e ≡ operation a op b → HasType R e t → HasType R a int_kind × HasType R b int_kind
+-- What an operator makes of its operands.
+record Made (R : Names) (a b : Expression) (op : Operator) (v : Kind) : Type 0 where
+  first : Kind
+  second : Kind
+  left : HasType R a first
+  right : HasType R b second
+  table : binary_kind op first second ≡ Some v
+  fits : Fits v
+
+operation_typed : {R : Names} (e a b : Expression) (op : Operator) {t : Kind} → e ≡ operation a op b → HasType R e t → Made R a b op t
 operation_typed {R} e a b op {t} q h = inverted t (subst (λ (e : Expression). HasType R e t) q h)
   where
-    inverted : (t : Kind) → HasType R (operation a op b) t → HasType R a int_kind × HasType R b int_kind
-    inverted t (operation_has h k) = (h, k)
+    inverted : (t : Kind) → HasType R (operation a op b) t → Made R a b op t
+    inverted t (operation_has {t = u} {u = v} h k g f) = record { first = u; second = v; left = h; right = k; table = g; fits = f }
+
+record MadeOfOne (R : Names) (a : Expression) (o : Unary) (v : Kind) : Type 0 where
+  of : Kind
+  part : HasType R a of
+  table : unary_kind o of ≡ Some v
+  fits : Fits v
+
+applied_typed : {R : Names} (e a : Expression) (o : Unary) {t : Kind} → e ≡ applied o a → HasType R e t → MadeOfOne R a o t
+applied_typed {R} e a o {t} q h = inverted t (subst (λ (e : Expression). HasType R e t) q h)
+  where
+    inverted : (t : Kind) → HasType R (applied o a) t → MadeOfOne R a o t
+    inverted t (applied_has {t = u} h g f) = record { of = u; part = h; table = g; fits = f }
+
+record MadeOfThree (R : Names) (a b c : Expression) (v : Kind) : Type 0 where
+  truth : Kind
+  first : Kind
+  second : Kind
+  condition : HasType R a truth
+  then_branch : HasType R b first
+  else_branch : HasType R c second
+  table : conditional_kind truth first second ≡ Some v
+  fits : Fits v
+
+conditional_typed : {R : Names} (e a b c : Expression) {t : Kind} → e ≡ conditional a b c → HasType R e t → MadeOfThree R a b c t
+conditional_typed {R} e a b c {t} q h = inverted t (subst (λ (e : Expression). HasType R e t) q h)
+  where
+    inverted : (t : Kind) → HasType R (conditional a b c) t → MadeOfThree R a b c t
+    inverted t (conditional_has {c = d} {t = u} {u = v} h k l g f) = record { truth = d; first = u; second = v; condition = h; then_branch = k; else_branch = l; table = g; fits = f }
 
 -- what is refused has no type
 pub refused_untyped : {x : Exprs} {R : Names} {i : ExprId} {r : Breach} {t : Kind} → Refused x R i r → HasType R (expression x i) t → ⊥
@@ -83,11 +132,27 @@ refused_untyped {x} {R} {i} (pair_too_large {a = a} {b = b} {t = t} {u = u} e k 
     let fits : Fits (pair_kind t u) = subst (λ (v : Kind). Fits v) (ap₂ pair_kind (one_type parts.2 k) (one_type parts.3 l)) parts.4 in
     omega arith
 refused_untyped {x} {R} {i} (left_operand {a = a} {b = b} {op = op} e q) h =
-    let parts = operation_typed (expression x i) (expression x a) (expression x b) op (is_operation (node_builds x i _ e)) h in refused_untyped q parts.0
+    let parts = operation_typed (expression x i) (expression x a) (expression x b) op (is_operation (node_builds x i _ e)) h in refused_untyped q parts.left
 refused_untyped {x} {R} {i} (right_operand {a = a} {b = b} {op = op} e k q) h =
-    let parts = operation_typed (expression x i) (expression x a) (expression x b) op (is_operation (node_builds x i _ e)) h in refused_untyped q parts.1
-refused_untyped {x} {R} {i} (no_number {a = a} {b = b} {op = op} e k l q) h =
-    let parts = operation_typed (expression x i) (expression x a) (expression x b) op (is_operation (node_builds x i _ e)) h in q (one_type k parts.0, one_type l parts.1)
+    let parts = operation_typed (expression x i) (expression x a) (expression x b) op (is_operation (node_builds x i _ e)) h in refused_untyped q parts.right
+refused_untyped {x} {R} {i} (no_operation {a = a} {b = b} {op = op} {t = t} {u = u} e k l q) h =
+    let parts = operation_typed (expression x i) (expression x a) (expression x b) op (is_operation (node_builds x i _ e)) h in
+    kind_refused (binary_kind op t u) _ _ q (ap₂ (binary_kind op) (one_type k parts.left) (one_type l parts.right) ∙ parts.table) parts.fits
+refused_untyped {x} {R} {i} (operand {a = a} {o = o} e q) h =
+    let parts = applied_typed (expression x i) (expression x a) o (is_applied (node_builds x i _ e)) h in refused_untyped q parts.part
+refused_untyped {x} {R} {i} (no_application {a = a} {o = o} {t = t} e k q) h =
+    let parts = applied_typed (expression x i) (expression x a) o (is_applied (node_builds x i _ e)) h in
+    kind_refused (unary_kind o t) _ _ q (ap (unary_kind o) (one_type k parts.part) ∙ parts.table) parts.fits
+refused_untyped {x} {R} {i} (condition {a = a} {b = b} {c = c} e q) h =
+    let parts = conditional_typed (expression x i) (expression x a) (expression x b) (expression x c) (is_conditional (node_builds x i _ e)) h in refused_untyped q parts.condition
+refused_untyped {x} {R} {i} (then_branch {a = a} {b = b} {c = c} e k q) h =
+    let parts = conditional_typed (expression x i) (expression x a) (expression x b) (expression x c) (is_conditional (node_builds x i _ e)) h in refused_untyped q parts.then_branch
+refused_untyped {x} {R} {i} (else_branch {a = a} {b = b} {c = c} e k l q) h =
+    let parts = conditional_typed (expression x i) (expression x a) (expression x b) (expression x c) (is_conditional (node_builds x i _ e)) h in refused_untyped q parts.else_branch
+refused_untyped {x} {R} {i} (no_choice {a = a} {b = b} {c = c} {t = t} {u = u} {v = v} e k l m q) h =
+    let parts = conditional_typed (expression x i) (expression x a) (expression x b) (expression x c) (is_conditional (node_builds x i _ e)) h in
+    let same : conditional_kind t u v ≡ conditional_kind parts.truth parts.first parts.second = same_choice (one_type k parts.condition) (one_type l parts.then_branch) (one_type m parts.else_branch) in
+    kind_refused (conditional_kind t u v) _ _ q (same ∙ parts.table) parts.fits
 
 pub judged_types : (x : Exprs) (R : Names) (i : ExprId) (r : Result Kind Refusal) → Judges x R i r → Types R (expression x i) r
 judged_types x R i (Ok t) h = h
@@ -148,8 +213,38 @@ pair_judged x R i a b t u s (Ok w) e h k at answer =
     subst (λ (v : Kind). HasType R (expression x i) v) (sym answer.0) (pair_has_type x R i a b t u (node_builds x i _ e) h k fits)
 pair_judged x R i a b t u s (Err r) e h k at answer = or_memory (λ c q. subst (λ (c : Breach). Refused x R i c) (sym (q.0 ∙ ap (breach_of TypeTooLarge) at)) (pair_too_large e h k q.1)) answer
 
-pub operation_has_type : (x : Exprs) (R : Names) (i a b : ExprId) (op : Operator) → Builds x (nodes.Operation a op b) (expression x i) → HasType R (expression x a) int_kind → HasType R (expression x b) int_kind → HasType R (expression x i) int_kind
-operation_has_type x R i a b op q h k = subst (λ (e : Expression). HasType R e int_kind) (sym (is_operation q)) (operation_has h k)
+pub operation_has_type : (x : Exprs) (R : Names) (i a b : ExprId) (op : Operator) {t u v : Kind} → Builds x (nodes.Operation a op b) (expression x i) → HasType R (expression x a) t → HasType R (expression x b) u → binary_kind op t u ≡ Some v → Fits v → HasType R (expression x i) v
+operation_has_type x R i a b op {v = v} q h k e f = subst (λ (e : Expression). HasType R e v) (sym (is_operation q)) (operation_has h k e f)
+
+pub applied_has_type : (x : Exprs) (R : Names) (i a : ExprId) (o : Unary) {t v : Kind} → Builds x (nodes.Applied o a) (expression x i) → HasType R (expression x a) t → unary_kind o t ≡ Some v → Fits v → HasType R (expression x i) v
+applied_has_type x R i a o {v = v} q h e f = subst (λ (e : Expression). HasType R e v) (sym (is_applied q)) (applied_has h e f)
+
+pub conditional_has_type : (x : Exprs) (R : Names) (i a b c : ExprId) {t u v w : Kind} → Builds x (nodes.Conditional a b c) (expression x i) → HasType R (expression x a) t → HasType R (expression x b) u → HasType R (expression x c) v → conditional_kind t u v ≡ Some w → Fits w → HasType R (expression x i) w
+conditional_has_type x R i a b c {w = w} q h k l e f = subst (λ (e : Expression). HasType R e w) (sym (is_conditional q)) (conditional_has h k l e f)
+
+pub conditional_judged : (x : Exprs) (R : Names) (i a b c : ExprId) (t u v : Kind) (s : Spot) (r : Result Kind Refusal) → node_at x i ≡ nodes.Conditional a b c → HasType R (expression x a) t → HasType R (expression x b) u → HasType R (expression x c) v → s ≡ spot_at x i → AnswersKind (conditional_kind t u v) s r → Judges x R i r
+conditional_judged x R i a b c t u v s (Ok w) e h k l at answer = conditional_has_type x R i a b c (node_builds x i _ e) h k l answer.0 answer.1
+conditional_judged x R i a b c t u v s (Err r) e h k l at answer = or_memory (λ d q. no_choice e h k l (subst (λ (s : Spot). KindRefused (conditional_kind t u v) s d) at q)) answer
+
+pub condition_judged : (x : Exprs) (R : Names) (i a b c : ExprId) (answer : Result Kind Refusal) (r : Refusal) → node_at x i ≡ nodes.Conditional a b c → IsErrAnd answer (λ e. e ≡ r) → Judges x R a (Err r) → Judges x R i answer
+condition_judged x R i a b c answer r e q h = on x R i answer r q (or_memory (λ s k. condition e k) h)
+
+pub then_judged : (x : Exprs) (R : Names) (i a b c : ExprId) (t : Kind) (answer : Result Kind Refusal) (r : Refusal) → node_at x i ≡ nodes.Conditional a b c → HasType R (expression x a) t → IsErrAnd answer (λ e. e ≡ r) → Judges x R b (Err r) → Judges x R i answer
+then_judged x R i a b c t answer r e typed q h = on x R i answer r q (or_memory (λ s k. then_branch e typed k) h)
+
+pub else_judged : (x : Exprs) (R : Names) (i a b c : ExprId) (t u : Kind) (answer : Result Kind Refusal) (r : Refusal) → node_at x i ≡ nodes.Conditional a b c → HasType R (expression x a) t → HasType R (expression x b) u → IsErrAnd answer (λ e. e ≡ r) → Judges x R c (Err r) → Judges x R i answer
+else_judged x R i a b c t u answer r e typed second q h = on x R i answer r q (or_memory (λ s k. else_branch e typed second k) h)
+
+pub operation_judged : (x : Exprs) (R : Names) (i a b : ExprId) (op : Operator) (t u : Kind) (s : Spot) (r : Result Kind Refusal) → node_at x i ≡ nodes.Operation a op b → HasType R (expression x a) t → HasType R (expression x b) u → s ≡ spot_at x i → AnswersKind (binary_kind op t u) s r → Judges x R i r
+operation_judged x R i a b op t u s (Ok v) e h k at answer = operation_has_type x R i a b op (node_builds x i _ e) h k answer.0 answer.1
+operation_judged x R i a b op t u s (Err r) e h k at answer = or_memory (λ c q. no_operation e h k (subst (λ (s : Spot). KindRefused (binary_kind op t u) s c) at q)) answer
+
+pub applied_judged : (x : Exprs) (R : Names) (i a : ExprId) (o : Unary) (t : Kind) (s : Spot) (r : Result Kind Refusal) → node_at x i ≡ nodes.Applied o a → HasType R (expression x a) t → s ≡ spot_at x i → AnswersKind (unary_kind o t) s r → Judges x R i r
+applied_judged x R i a o t s (Ok v) e h at answer = applied_has_type x R i a o (node_builds x i _ e) h answer.0 answer.1
+applied_judged x R i a o t s (Err r) e h at answer = or_memory (λ c q. no_application e h (subst (λ (s : Spot). KindRefused (unary_kind o t) s c) at q)) answer
+
+pub part_judged : (x : Exprs) (R : Names) (i a : ExprId) (o : Unary) (answer : Result Kind Refusal) (r : Refusal) → node_at x i ≡ nodes.Applied o a → IsErrAnd answer (λ e. e ≡ r) → Judges x R a (Err r) → Judges x R i answer
+part_judged x R i a o answer r e q h = on x R i answer r q (or_memory (λ s k. operand e k) h)
 
 -- a function that is refused takes no value
 pub refused_takes_none : {x : Exprs} {R : Names} {f : FunctionId} {a : Kind} {at : Spot} {r : Breach} {b : Kind} → FunctionRefused x R f a at r → FunctionTakes R (function_at x f) a b → ⊥

@@ -3,11 +3,9 @@ pub mod Sound
 pub mod Bound
 pub mod Entered
 pub mod Typed
-pub mod Division
 pub mod Evaluating
 pub mod Apart
 pub mod Judged
-pub mod Remaining
 pub mod Inferred
 pub mod Answered
 pub mod Once

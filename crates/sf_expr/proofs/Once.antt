@@ -4,7 +4,10 @@ use Rattle.std.specs.Prelude.{slice_get}
 use Rattle.std.proofs.lemmas.Option.{same_Some}
 use Rattle.sf_value.specs.Values.{Name, Kind}
 use Rattle.sf_refusal.specs.declared.spot.Spot.{Spot}
-use Rattle.sf_expr.specs.declared.operator.Operator.{Operator}
+use Rattle.sf_operator.specs.declared.operator.Operator.{Operator}
+use Rattle.sf_operator.specs.declared.operator.Unary.{Unary}
+use Rattle.sf_operator.specs.Kinds.{unary_kind, binary_kind, conditional_kind}
+use Rattle.sf_operator.specs.Breaches.{KindRefused}
 use Rattle.sf_expr.specs.declared.exprs.ExprId.{ExprId}
 use Rattle.sf_expr.specs.declared.exprs.NameId.{NameId}
 use Rattle.sf_expr.specs.declared.exprs.ConstantId.{ConstantId}
@@ -12,16 +15,18 @@ use Rattle.sf_expr.specs.declared.exprs.FunctionId.{FunctionId}
 use Rattle.sf_expr.specs.declared.exprs.ExprNode.{ExprNode}
 use Rattle.sf_expr.specs.declared.exprs.ExprNode.TheVariants as nodes
 use Rattle.sf_expr.specs.declared.exprs.Exprs.{Exprs}
-use Rattle.sf_refusal.specs.declared.rule.Rule.TheVariants.{UnknownName, DuplicateName, Mismatch, TypeTooLarge}
+use Rattle.sf_refusal.specs.declared.rule.Rule.TheVariants.{UnknownName, DuplicateName, TypeTooLarge}
 use Rattle.sf_refusal.specs.declared.refusal.Breach.{Breach}
 use Rattle.sf_refusal.specs.Refusals.{breach_of}
 use Rattle.sf_expr.specs.Expressions.{names_in}
 use Rattle.sf_expr.specs.Patterns.{PlacedPattern, pattern_of, spots_in}
 use Rattle.sf_expr.specs.Arena.{expression, node_at, spot_at, body_at}
 use Rattle.sf_expr.specs.Typing.{Names, AllDifferent, HasType}
-use Rattle.sf_expr.specs.Refusals.{Refused, unknown_name, literal_too_large, first_part, second_part, pair_too_large, left_operand, right_operand, no_number, IsRepeated, FunctionRefused, repeated_name, no_fit, body_refused}
+use Rattle.sf_expr.specs.Refusals.{Refused, unknown_name, literal_too_large, first_part, second_part, pair_too_large, left_operand, right_operand, no_operation, operand, no_application, condition, then_branch, else_branch, no_choice, IsRepeated, FunctionRefused, repeated_name, no_fit, body_refused}
+use Rattle.sf_operator.proofs.Refusing.{kind_once}
+use mathlib.Core.Path.{ap₂}
 use Rattle.sf_expr.proofs.Apart.{repeated_apart}
-use Rattle.sf_expr.proofs.Judged.{one_scope, refused_untyped}
+use Rattle.sf_expr.proofs.Judged.{same_choice, one_type, one_scope, refused_untyped}
 
 -- ## Expressions
 
@@ -34,7 +39,13 @@ data RefusedAt (x : Exprs) (R : Names) (s : Spot) : ExprNode → Breach → Type
   at_pair : {a b : ExprId} {t u : Kind} → HasType R (expression x a) t → HasType R (expression x b) u → RefusedAt x R s (nodes.Pair a b) (breach_of TypeTooLarge s)
   at_left : {a b : ExprId} {op : Operator} {r : Breach} → Refused x R a r → RefusedAt x R s (nodes.Operation a op b) r
   at_right : {a b : ExprId} {op : Operator} {t : Kind} {r : Breach} → HasType R (expression x a) t → Refused x R b r → RefusedAt x R s (nodes.Operation a op b) r
-  at_operation : {a b : ExprId} {op : Operator} {t u : Kind} → HasType R (expression x a) t → HasType R (expression x b) u → RefusedAt x R s (nodes.Operation a op b) (breach_of Mismatch s)
+  at_operation : {a b : ExprId} {op : Operator} {t u : Kind} {r : Breach} → HasType R (expression x a) t → HasType R (expression x b) u → KindRefused (binary_kind op t u) s r → RefusedAt x R s (nodes.Operation a op b) r
+  at_condition : {a b c : ExprId} {r : Breach} → Refused x R a r → RefusedAt x R s (nodes.Conditional a b c) r
+  at_then : {a b c : ExprId} {t : Kind} {r : Breach} → HasType R (expression x a) t → Refused x R b r → RefusedAt x R s (nodes.Conditional a b c) r
+  at_else : {a b c : ExprId} {t u : Kind} {r : Breach} → HasType R (expression x a) t → HasType R (expression x b) u → Refused x R c r → RefusedAt x R s (nodes.Conditional a b c) r
+  at_choice : {a b c : ExprId} {t u v : Kind} {r : Breach} → HasType R (expression x a) t → HasType R (expression x b) u → HasType R (expression x c) v → KindRefused (conditional_kind t u v) s r → RefusedAt x R s (nodes.Conditional a b c) r
+  at_operand : {a : ExprId} {o : Unary} {r : Breach} → Refused x R a r → RefusedAt x R s (nodes.Applied o a) r
+  at_applied : {a : ExprId} {o : Unary} {t : Kind} {r : Breach} → HasType R (expression x a) t → KindRefused (unary_kind o t) s r → RefusedAt x R s (nodes.Applied o a) r
 
 module _ {x : Exprs} {R : Names} where
   by_node : {i : ExprId} {r : Breach} → Refused x R i r → RefusedAt x R (spot_at x i) (node_at x i) r
@@ -45,7 +56,13 @@ module _ {x : Exprs} {R : Names} where
   by_node {i} (pair_too_large e t u h) = subst (λ n. RefusedAt x R (spot_at x i) n (breach_of TypeTooLarge (spot_at x i))) (sym e) (at_pair t u)
   by_node {i} {r} (left_operand e h) = subst (λ n. RefusedAt x R (spot_at x i) n r) (sym e) (at_left h)
   by_node {i} {r} (right_operand e t h) = subst (λ n. RefusedAt x R (spot_at x i) n r) (sym e) (at_right t h)
-  by_node {i} (no_number e t u h) = subst (λ n. RefusedAt x R (spot_at x i) n (breach_of Mismatch (spot_at x i))) (sym e) (at_operation t u)
+  by_node {i} {r} (no_operation e t u h) = subst (λ n. RefusedAt x R (spot_at x i) n r) (sym e) (at_operation t u h)
+  by_node {i} {r} (operand e h) = subst (λ n. RefusedAt x R (spot_at x i) n r) (sym e) (at_operand h)
+  by_node {i} {r} (no_application e t h) = subst (λ n. RefusedAt x R (spot_at x i) n r) (sym e) (at_applied t h)
+  by_node {i} {r} (condition e h) = subst (λ n. RefusedAt x R (spot_at x i) n r) (sym e) (at_condition h)
+  by_node {i} {r} (then_branch e t h) = subst (λ n. RefusedAt x R (spot_at x i) n r) (sym e) (at_then t h)
+  by_node {i} {r} (else_branch e t u h) = subst (λ n. RefusedAt x R (spot_at x i) n r) (sym e) (at_else t u h)
+  by_node {i} {r} (no_choice e t u v h) = subst (λ n. RefusedAt x R (spot_at x i) n r) (sym e) (at_choice t u v h)
 
   here : {i : ExprId} {n : ExprNode} {r : Breach} → node_at x i ≡ n → Refused x R i r → RefusedAt x R (spot_at x i) n r
   here {i} {r = r} e h = subst (λ n. RefusedAt x R (spot_at x i) n r) e (by_node h)
@@ -70,12 +87,12 @@ module _ {x : Exprs} {R : Names} where
     left_once : {op : Operator} {q : Breach} → Refused x R a r → (Refused x R a q → r ≡ q) → RefusedAt x R s (nodes.Operation a op b) q → r ≡ q
     left_once h once (at_left k) = once k
     left_once h once (at_right t k) = absurd (refused_untyped h t)
-    left_once h once (at_operation t u) = absurd (refused_untyped h t)
+    left_once h once (at_operation t u k) = absurd (refused_untyped h t)
 
     right_once : {op : Operator} {t : Kind} {q : Breach} → HasType R (expression x a) t → Refused x R b r → (Refused x R b q → r ≡ q) → RefusedAt x R s (nodes.Operation a op b) q → r ≡ q
     right_once t h once (at_left k) = absurd (refused_untyped k t)
     right_once t h once (at_right u k) = once k
-    right_once t h once (at_operation u v) = absurd (refused_untyped h v)
+    right_once t h once (at_operation u v k) = absurd (refused_untyped h v)
 
   module _ {a b : ExprId} {s : Spot} {t u : Kind} (first : HasType R (expression x a) t) (second : HasType R (expression x b) u) where
     pair_once : {q : Breach} → RefusedAt x R s (nodes.Pair a b) q → breach_of TypeTooLarge s ≡ q
@@ -83,10 +100,48 @@ module _ {x : Exprs} {R : Names} where
     pair_once (at_second v k) = absurd (refused_untyped k second)
     pair_once (at_pair v w) = refl
 
-    operation_once : {op : Operator} {q : Breach} → RefusedAt x R s (nodes.Operation a op b) q → breach_of Mismatch s ≡ q
-    operation_once (at_left k) = absurd (refused_untyped k first)
-    operation_once (at_right v k) = absurd (refused_untyped k second)
-    operation_once (at_operation v w) = refl
+    operation_once : {op : Operator} {r q : Breach} → KindRefused (binary_kind op t u) s r → RefusedAt x R s (nodes.Operation a op b) q → r ≡ q
+    operation_once h (at_left k) = absurd (refused_untyped k first)
+    operation_once h (at_right v k) = absurd (refused_untyped k second)
+    operation_once {op} {r} {q} h (at_operation v w k) =
+        kind_once (binary_kind op t u) s h (subst (λ o. KindRefused o s q) (ap₂ (binary_kind op) (one_type v first) (one_type w second)) k)
+
+  module _ {a : ExprId} {s : Spot} {o : Unary} {r : Breach} where
+    operand_once : {q : Breach} → Refused x R a r → (Refused x R a q → r ≡ q) → RefusedAt x R s (nodes.Applied o a) q → r ≡ q
+    operand_once h once (at_operand k) = once k
+    operand_once h once (at_applied t k) = absurd (refused_untyped h t)
+
+    applied_once : {t : Kind} {q : Breach} → HasType R (expression x a) t → KindRefused (unary_kind o t) s r → RefusedAt x R s (nodes.Applied o a) q → r ≡ q
+    applied_once t h (at_operand k) = absurd (refused_untyped k t)
+    applied_once {t = t} {q = q} p h (at_applied v k) = kind_once (unary_kind o t) s h (subst (λ o. KindRefused o s q) (ap (unary_kind o) (one_type v p)) k)
+
+  module _ {a b c : ExprId} {s : Spot} {r q : Breach} where
+    condition_once : Refused x R a r → (Refused x R a q → r ≡ q) → RefusedAt x R s (nodes.Conditional a b c) q → r ≡ q
+    condition_once h once (at_condition k) = once k
+    condition_once h once (at_then t k) = absurd (refused_untyped h t)
+    condition_once h once (at_else t u k) = absurd (refused_untyped h t)
+    condition_once h once (at_choice t u v k) = absurd (refused_untyped h t)
+
+    then_once : {t : Kind} → HasType R (expression x a) t → Refused x R b r → (Refused x R b q → r ≡ q) → RefusedAt x R s (nodes.Conditional a b c) q → r ≡ q
+    then_once p h once (at_condition k) = absurd (refused_untyped k p)
+    then_once p h once (at_then t k) = once k
+    then_once p h once (at_else t u k) = absurd (refused_untyped h u)
+    then_once p h once (at_choice t u v k) = absurd (refused_untyped h u)
+
+    module _ {t u : Kind} (first : HasType R (expression x a) t) (second : HasType R (expression x b) u) where
+      else_once : Refused x R c r → (Refused x R c q → r ≡ q) → RefusedAt x R s (nodes.Conditional a b c) q → r ≡ q
+      else_once h once (at_condition k) = absurd (refused_untyped k first)
+      else_once h once (at_then t k) = absurd (refused_untyped k second)
+      else_once h once (at_else t u k) = once k
+      else_once h once (at_choice t u v k) = absurd (refused_untyped h v)
+
+      choice_once : {v : Kind} → HasType R (expression x c) v → KindRefused (conditional_kind t u v) s r → RefusedAt x R s (nodes.Conditional a b c) q → r ≡ q
+      choice_once third h (at_condition k) = absurd (refused_untyped k first)
+      choice_once third h (at_then t k) = absurd (refused_untyped k second)
+      choice_once third h (at_else t u k) = absurd (refused_untyped k third)
+      choice_once {v} third h (at_choice {t = d} {u = e} {v = f} l m n k) =
+          let same : conditional_kind d e f ≡ conditional_kind t u v = same_choice (one_type l first) (one_type m second) (one_type n third) in
+          kind_once (conditional_kind t u v) s h (subst (λ o. KindRefused o s q) same k)
 
   pub refused_once : {i : ExprId} {r q : Breach} → Refused x R i r → Refused x R i q → r ≡ q
   refused_once (unknown_name e h) k = name_once (here e k)
@@ -96,7 +151,13 @@ module _ {x : Exprs} {R : Names} where
   refused_once (pair_too_large e t u big) k = pair_once t u (here e k)
   refused_once (left_operand e h) k = left_once h (λ l. refused_once h l) (here e k)
   refused_once (right_operand e t h) k = right_once t h (λ l. refused_once h l) (here e k)
-  refused_once (no_number e t u other) k = operation_once t u (here e k)
+  refused_once (no_operation e t u h) k = operation_once t u h (here e k)
+  refused_once (operand e h) k = operand_once h (λ l. refused_once h l) (here e k)
+  refused_once (no_application e t h) k = applied_once t h (here e k)
+  refused_once (condition e h) k = condition_once h (λ l. refused_once h l) (here e k)
+  refused_once (then_branch e t h) k = then_once t h (λ l. refused_once h l) (here e k)
+  refused_once (else_branch e t u h) k = else_once t u h (λ l. refused_once h l) (here e k)
+  refused_once (no_choice e t u v h) k = choice_once t u v h (here e k)
 
 -- ## Functions
 

@@ -1,13 +1,13 @@
 -- A typed expression has an answer of its type, or a fault.
-use Rattle.std.proofs.Common.{◌≡◌, zero, suc, Some, Bool, true, false, cond, refl, subst}
-use Rattle.std.specs.Prelude.{ℤ, pos, negsuc, ◌+ℤ◌, ◌-ℤ◌, ◌*ℤ◌, bytes_eq}
-use Rattle.sf_value.specs.Values.{Name, Kind, int_kind, Data, number, is_narrow, HasKind, has_int, has_pair}
-use Rattle.sf_value.specs.declared.fault.ValueFault.TheVariants.{Overflow}
-use Rattle.sf_expr.specs.declared.operator.Operator.{Operator}
-use Rattle.sf_expr.specs.declared.operator.Operator.TheVariants.{Plus, Minus, Times, Divide, Modulo}
+use Rattle.std.proofs.Common.{◌≡◌, Some, None, Bool, true, false, cond, refl, subst}
+use Rattle.std.specs.Prelude.{Option, bytes_eq}
+use Rattle.sf_value.specs.Values.{Name, Kind, bool_kind, Data, HasKind, has_bool, has_pair}
+use Rattle.sf_operator.specs.Operations.{truth_in, decided}
+use Rattle.sf_operator.proofs.SameKinds.{conditional_is}
+use Rattle.sf_operator.proofs.Yielding.{unary_yields, operator_yields, decision_yields}
 use Rattle.sf_expr.specs.Expressions.{Pattern, Expression, Function}
-use Rattle.sf_expr.specs.Evaluation.{Evaluated, answer, failed, ◌>>=◌, Scope, value_of, bound_in, tested, quotient, remainder, divide, of_numbers, operated, eval, apply}
-use Rattle.sf_expr.specs.Typing.{Names, type_of_name, AddsNames, adds_nothing, adds_name, adds_both, HasType, variable_has, literal_has, pair_has, operation_has, FunctionTakes, function_takes}
+use Rattle.sf_expr.specs.Evaluation.{Evaluated, ◌>>=◌, known, Scope, value_of, bound_in, unless_decided, eval, apply}
+use Rattle.sf_expr.specs.Typing.{Names, type_of_name, AddsNames, adds_nothing, adds_name, adds_both, HasType, variable_has, literal_has, pair_has, applied_has, operation_has, conditional_has, FunctionTakes, function_takes}
 use Rattle.sf_expr.specs.Soundness.{Yields, yields, fails, ScopeHas, has_no_names, has_name}
 
 -- what is done with an answer of a type
@@ -15,26 +15,15 @@ and_yields : {t u : Kind} {o : Evaluated Data} {f : Data → Evaluated Data} →
 and_yields (yields h) k = k _ h
 and_yields fails k = fails
 
-tested_is : (z : ℤ) → Yields int_kind (tested z)
-tested_is z = elim (is_narrow z) as (λ b. is_narrow z ≡ b → Yields int_kind (cond b (answer (number z)) (failed Overflow))) [
-  | true ↦ λ e. yields (has_int e)
-  | false ↦ λ e. fails
-] refl
+-- what is decided, and what is answered where nothing is
+unless_yields : {t : Kind} (o : Option Data) {q : Evaluated Data} → ((d : Data) → o ≡ Some d → HasKind d t) → Yields t q → Yields t (unless_decided o q)
+unless_yields (Some d) h k = yields (h d refl)
+unless_yields None h k = k
 
-divide_is : (f : ℤ → ℤ → ℤ) (a b : ℤ) → Yields int_kind (divide f a b)
-divide_is f a (pos zero) = fails
-divide_is f a (pos (suc n)) = tested_is (f a (pos (suc n)))
-divide_is f a (negsuc n) = tested_is (f a (negsuc n))
-
-numbers_are : (op : Operator) (a b : ℤ) → Yields int_kind (of_numbers op a b)
-numbers_are Plus a b = tested_is (a +ℤ b)
-numbers_are Minus a b = tested_is (a -ℤ b)
-numbers_are Times a b = tested_is (a *ℤ b)
-numbers_are Divide a b = divide_is quotient a b
-numbers_are Modulo a b = divide_is remainder a b
-
-operated_is : (op : Operator) (a b : Data) → HasKind a int_kind → HasKind b int_kind → Yields int_kind (operated op a b)
-operated_is op a b (has_int {z = x} p) (has_int {z = y} q) = numbers_are op x y
+-- one of two by a truth
+chosen_yields : {t : Kind} {c : Data} {o q : Evaluated Data} → HasKind c bool_kind → Yields t o → Yields t q → Yields t (known (truth_in c) (λ b. cond b o q))
+chosen_yields (has_bool {b = true}) h k = h
+chosen_yields (has_bool {b = false}) h k = k
 
 -- the value of a name has its type
 pub value_has : {s : Scope} {R : Names} (x : Name) {t : Kind} → ScopeHas s R → type_of_name x R ≡ Some t → HasKind (value_of x s) t
@@ -57,8 +46,16 @@ expression_yields (variable_has {x = x} e f) k = yields (value_has x k e)
 expression_yields (literal_has h f) k = yields h
 expression_yields {s = s} (pair_has {i = i} {j = j} {t = t} {u = u} h l f) k =
     and_yields (expression_yields h k) (λ a p. and_yields (expression_yields l k) (λ b q. yields (has_pair p q)))
-expression_yields {s = s} (operation_has {i = i} {j = j} {op = op} h l) k =
-    and_yields (expression_yields h k) (λ a p. and_yields (expression_yields l k) (λ b q. operated_is op a b p q))
+expression_yields {s = s} (applied_has {i = i} {o = o} {t = t} {u = u} h e f) k =
+    and_yields (expression_yields h k) (λ a p. unary_yields o t u a p e)
+expression_yields {s = s} (operation_has {i = i} {j = j} {op = op} {t = t} {u = u} {v = v} h l e f) k =
+    and_yields (expression_yields h k) (λ a p. unless_yields (decided op a) (λ c d. decision_yields op t u v a c p e d)
+    (and_yields (expression_yields l k) (λ b q. operator_yields op t u v a b p q e)))
+expression_yields {s = s} (conditional_has {i = i} {j = j} {k = l} {c = c} {t = t} {u = u} {v = v} h a b e f) k =
+    let same = conditional_is c t u v e in
+    let Y : Expression → Kind → Type 0 = λ (i : Expression) (t : Kind). Yields t (eval i s) in
+    and_yields (expression_yields h k) (λ d p. chosen_yields (subst (λ (c : Kind). HasKind d c) same.0 p)
+    (subst (Y j) same.1 (expression_yields a k)) (subst (Y l) same.2 (expression_yields b k)))
 
 -- a function yields the type that it takes its argument's to
 pub function_yields : {R : Names} {s : Scope} {f : Function} {a b : Kind} {d : Data} → FunctionTakes R f a b → ScopeHas s R → HasKind d a → Yields b (apply f d s)

@@ -5,9 +5,10 @@ use Rattle.sf_expr.specs.declared.exprs.NameId.{NameId}
 use Rattle.sf_expr.specs.declared.exprs.ConstantId.{ConstantId}
 use Rattle.sf_expr.specs.declared.exprs.ExprNode.TheVariants as nodes
 use Rattle.sf_expr.specs.declared.exprs.Exprs.{Exprs}
-use Rattle.sf_expr.specs.declared.operator.Operator.{Operator}
-use Rattle.sf_expr.specs.Expressions.{Expression, variable, literal, unit_literal, truth_literal, int_literal, paired, operation}
-use Rattle.sf_expr.specs.Arena.{expression, name_at, literal_at, Builds, builds_unit, builds_truth, builds_constant, builds_int, builds_name, builds_pair, builds_operation}
+use Rattle.sf_operator.specs.declared.operator.Operator.{Operator}
+use Rattle.sf_operator.specs.declared.operator.Unary.{Unary}
+use Rattle.sf_expr.specs.Expressions.{Expression, variable, literal, unit_literal, truth_literal, int_literal, paired, applied, operation, conditional}
+use Rattle.sf_expr.specs.Arena.{expression, name_at, literal_at, Builds, builds_unit, builds_truth, builds_constant, builds_int, builds_name, builds_pair, builds_applied, builds_operation, builds_conditional}
 
 pub is_int : {x : Exprs} {z : _} {e : Expression} → Builds x (nodes.Int z) e → e ≡ literal (int_literal z)
 is_int builds_int = refl
@@ -27,5 +28,11 @@ is_name builds_name = refl
 pub is_pair : {x : Exprs} {a b : ExprId} {e : Expression} → Builds x (nodes.Pair a b) e → e ≡ paired (expression x a) (expression x b)
 is_pair builds_pair = refl
 
+pub is_applied : {x : Exprs} {o : Unary} {a : ExprId} {e : Expression} → Builds x (nodes.Applied o a) e → e ≡ applied o (expression x a)
+is_applied builds_applied = refl
+
 pub is_operation : {x : Exprs} {op : Operator} {a b : ExprId} {e : Expression} → Builds x (nodes.Operation a op b) e → e ≡ operation (expression x a) op (expression x b)
 is_operation builds_operation = refl
+
+pub is_conditional : {x : Exprs} {a b c : ExprId} {e : Expression} → Builds x (nodes.Conditional a b c) e → e ≡ conditional (expression x a) (expression x b) (expression x c)
+is_conditional builds_conditional = refl

@@ -4,7 +4,8 @@ use Rattle.sf_value.specs.Values.{Name}
 use Rattle.sf_refusal.specs.declared.spot.Spot.{Spot}
 use Rattle.sf_arena.specs.declared.entry.Entry.{Entry}
 use Rattle.sf_arena.specs.Arenas.{entries_of}
-use Rattle.sf_expr.specs.declared.operator.Operator.{Operator}
+use Rattle.sf_operator.specs.declared.operator.Operator.{Operator}
+use Rattle.sf_operator.specs.declared.operator.Unary.{Unary}
 use Rattle.sf_expr.specs.declared.exprs.ExprId.{ExprId}
 use Rattle.sf_expr.specs.declared.exprs.NameId.{NameId}
 use Rattle.sf_expr.specs.declared.exprs.ConstantId.{ConstantId}
@@ -12,7 +13,7 @@ use Rattle.sf_expr.specs.declared.exprs.FunctionId.{FunctionId}
 use Rattle.sf_expr.specs.declared.exprs.ExprNode.{ExprNode}
 use Rattle.sf_expr.specs.declared.exprs.ExprNode.TheVariants as nodes
 use Rattle.sf_expr.specs.declared.exprs.Exprs.{Exprs}
-use Rattle.sf_expr.specs.Expressions.{Literal, unit_literal, truth_literal, int_literal, Expression, variable, literal, paired, operation, Function, function}
+use Rattle.sf_expr.specs.Expressions.{Literal, unit_literal, truth_literal, int_literal, Expression, variable, literal, paired, applied, operation, conditional, Function, function}
 use Rattle.sf_expr.specs.Patterns.{PlacedPattern, pattern_of}
 use Rattle.sf_expr.specs.Entries.{name_among, literal_among, Beside, entry_at, expression_at, function_entry}
 
@@ -108,7 +109,9 @@ expression_of x (nodes.Int z) = literal (int_literal z)
 expression_of x (nodes.Constant n) = literal (literal_at x n)
 expression_of x (nodes.Name n) = variable (name_at x n)
 expression_of x (nodes.Pair a b) = paired (expression x a) (expression x b)
+expression_of x (nodes.Applied o a) = applied o (expression x a)
 expression_of x (nodes.Operation a op b) = operation (expression x a) op (expression x b)
+expression_of x (nodes.Conditional a b c) = conditional (expression x a) (expression x b) (expression x c)
 
 -- A node with the ids of its parts stands for an expression with their trees.
 pub data Builds (x : Exprs) : ExprNode → Expression → Type 0 where
@@ -118,12 +121,16 @@ pub data Builds (x : Exprs) : ExprNode → Expression → Type 0 where
   builds_int : {z : _} → Builds x (nodes.Int z) (literal (int_literal z))
   builds_name : {n : NameId} → Builds x (nodes.Name n) (variable (name_at x n))
   builds_pair : {a b : ExprId} → Builds x (nodes.Pair a b) (paired (expression x a) (expression x b))
+  builds_applied : {o : Unary} {a : ExprId} → Builds x (nodes.Applied o a) (applied o (expression x a))
   builds_operation : {op : Operator} {a b : ExprId} → Builds x (nodes.Operation a op b) (operation (expression x a) op (expression x b))
+  builds_conditional : {a b c : ExprId} → Builds x (nodes.Conditional a b c) (conditional (expression x a) (expression x b) (expression x c))
 
 -- the ids of a node's parts, as numbers, are below a number
 abbrev pub PartsBelow : ExprNode → ℕ → Type 0
 PartsBelow (nodes.Pair a b) n = (id_number a < n) × (id_number b < n)
+PartsBelow (nodes.Applied o a) n = id_number a < n
 PartsBelow (nodes.Operation a op b) n = (id_number a < n) × (id_number b < n)
+PartsBelow (nodes.Conditional a b c) n = (id_number a < n) × (id_number b < n) × (id_number c < n)
 PartsBelow k n = Unit {0}
 
 -- the parts of a node are held
@@ -131,7 +138,9 @@ abbrev pub HoldsParts : Exprs → ExprNode → Type 0
 HoldsParts x (nodes.Constant n) = HoldsConstant x n
 HoldsParts x (nodes.Name n) = HoldsName x n
 HoldsParts x (nodes.Pair a b) = Holds x a × Holds x b
+HoldsParts x (nodes.Applied o a) = Holds x a
 HoldsParts x (nodes.Operation a op b) = Holds x a × Holds x b
+HoldsParts x (nodes.Conditional a b c) = Holds x a × Holds x b × Holds x c
 HoldsParts x n = Unit {0}
 
 -- What an arena held is there as it was.

@@ -6,7 +6,7 @@ use Rattle.sf_arena.specs.Folded.{trees, tree_at}
 use Rattle.sf_expr.specs.declared.exprs.ExprNode.{ExprNode}
 use Rattle.sf_expr.specs.declared.exprs.ExprNode.TheVariants as nodes
 use Rattle.sf_expr.specs.declared.stored.StoredFunction.{StoredFunction}
-use Rattle.sf_expr.specs.Expressions.{Literal, unit_literal, truth_literal, int_literal, none_literal, Expression, variable, literal, paired, operation, depth, pattern_depth}
+use Rattle.sf_expr.specs.Expressions.{Literal, unit_literal, truth_literal, int_literal, none_literal, Expression, variable, literal, paired, applied, operation, conditional, depth, pattern_depth}
 use Rattle.sf_expr.specs.Patterns.{placed_unnamed, pattern_of}
 use Rattle.sf_expr.specs.Inference.{is_valued}
 
@@ -43,7 +43,9 @@ made_over b es (nodes.Int z) = literal (int_literal z)
 made_over b es (nodes.Constant n) = literal (literal_among b.literals n.0)
 made_over b es (nodes.Name n) = variable (name_among b.names n.0)
 made_over b es (nodes.Pair i j) = paired (among es i.0) (among es j.0)
+made_over b es (nodes.Applied o i) = applied o (among es i.0)
 made_over b es (nodes.Operation i op j) = operation (among es i.0) op (among es j.0)
+made_over b es (nodes.Conditional i j k) = conditional (among es i.0) (among es j.0) (among es k.0)
 
 -- how many expressions have to stand before a node
 abbrev pub needs : ExprNode → ℕ
@@ -53,7 +55,9 @@ needs (nodes.Int z) = 0
 needs (nodes.Constant n) = 0
 needs (nodes.Name n) = 0
 needs (nodes.Pair a b) = suc (max a.0 b.0)
+needs (nodes.Applied o a) = suc a.0
 needs (nodes.Operation a op b) = suc (max a.0 b.0)
+needs (nodes.Conditional a b c) = suc (max a.0 (max b.0 c.0))
 
 -- how many names have to be there for a node
 abbrev pub needs_names : ExprNode → ℕ

@@ -1,7 +1,8 @@
 -- Expressions as trees.
 use Rattle.std.specs.Prelude.{ℕ, suc, ◌+◌, max, ℤ, Bool, List, [], ◌∷◌, ◌++◌}
 use Rattle.sf_value.specs.Values.{Name, Kind}
-use Rattle.sf_expr.specs.declared.operator.Operator.{Operator}
+use Rattle.sf_operator.specs.declared.operator.Operator.{Operator}
+use Rattle.sf_operator.specs.declared.operator.Unary.{Unary}
 
 -- A pattern binds nothing, a name, or the two parts of a pair.
 pub data Pattern : Type 0 where
@@ -17,12 +18,14 @@ pub data Literal : Type 0 where
   text_literal : List ℕ → Literal
   none_literal : Kind → Literal
 
--- expressions: names, literals, pairs, and operators between their operands
+-- expressions: names, literals, pairs, operators on their operands, and one of two by a truth
 pub data Expression : Type 0 where
   variable : Name → Expression
   literal : Literal → Expression
   paired : Expression → Expression → Expression
+  applied : Unary → Expression → Expression
   operation : Expression → Operator → Expression → Expression
+  conditional : Expression → Expression → Expression → Expression
 
 -- A function `p => e`.
 pub data Function : Type 0 where
@@ -39,7 +42,9 @@ abbrev pub depth : Expression → ℕ
 depth (variable x) = 1
 depth (literal l) = 1
 depth (paired i j) = suc (max (depth i) (depth j))
+depth (applied o i) = suc (depth i)
 depth (operation i o j) = suc (max (depth i) (depth j))
+depth (conditional i j k) = suc (max (depth i) (max (depth j) (depth k)))
 
 -- how deep the pattern and the expression of a function are
 abbrev pub function_depth : Function → ℕ
@@ -50,7 +55,9 @@ abbrev pub size : Expression → ℕ
 size (variable x) = 1
 size (literal l) = 1
 size (paired i j) = suc (size i + size j)
+size (applied o i) = suc (size i)
 size (operation i o j) = suc (size i + size j)
+size (conditional i j k) = suc (size i + (size j + size k))
 
 -- how many expressions stand in a function
 abbrev pub function_size : Function → ℕ

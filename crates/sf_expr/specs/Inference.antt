@@ -1,14 +1,13 @@
 -- The types of expressions, found by a function.
 use Rattle.std.specs.Prelude.{◌≡◌, ◌≤◌, Bool, true, false, not, ◌||◌, ◌&&◌, nat_le, cond, List, [], ◌∷◌, Option, Some, None, bytes_eq}
 use Rattle.std.specs.Str.{is_utf8}
-use Rattle.sf_value.specs.Values.{Name, Kind, int_kind, pair_kind, nodes, is_narrow}
-use Rattle.sf_expr.specs.Expressions.{Pattern, unnamed, named, both, names_in, Literal, int_literal, text_literal, Expression, variable, literal, paired, operation, Function, function}
+use Rattle.sf_value.specs.Values.{Name, Kind, pair_kind, nodes, is_narrow}
+use Rattle.sf_operator.specs.declared.operator.Operator.{Operator}
+use Rattle.sf_operator.specs.declared.operator.Unary.{Unary}
+pub use Rattle.sf_operator.specs.Kinds.{found_then}
+use Rattle.sf_operator.specs.Kinds.{unary_kind, binary_kind, conditional_kind}
+use Rattle.sf_expr.specs.Expressions.{Pattern, unnamed, named, both, names_in, Literal, int_literal, text_literal, Expression, variable, literal, paired, applied, operation, conditional, Function, function}
 use Rattle.sf_expr.specs.Typing.{Names, type_of_name, literal_kind}
-
--- what is done with what was found, if it was
-abbrev pub found_then : {A B : Type 0} → Option A → (A → Option B) → Option B
-found_then (Some a) f = f a
-found_then None f = None
 
 -- a type, if it has at most 256 nodes
 abbrev pub fitting : Kind → Option Kind
@@ -30,17 +29,32 @@ pair_type (Some t) (Some u) = fitting (pair_kind t u)
 pair_type (Some t) None = None
 pair_type None u = None
 
--- the type of what is calculated from two numbers
-abbrev pub number_type : Option Kind → Option Kind → Option Kind
-number_type (Some int_kind) (Some int_kind) = Some int_kind
-number_type t u = None
+-- the type of what an operator makes
+abbrev pub applied_type : Unary → Option Kind → Option Kind
+applied_type o (Some t) = found_then (unary_kind o t) fitting
+applied_type o None = None
+
+-- the type of what an operator between two makes
+abbrev pub operation_type : Operator → Option Kind → Option Kind → Option Kind
+operation_type op (Some t) (Some u) = found_then (binary_kind op t u) fitting
+operation_type op (Some t) None = None
+operation_type op None u = None
+
+-- the type of one of two
+abbrev pub conditional_type : Option Kind → Option Kind → Option Kind → Option Kind
+conditional_type (Some c) (Some t) (Some u) = found_then (conditional_kind c t u) fitting
+conditional_type (Some c) (Some t) None = None
+conditional_type (Some c) None u = None
+conditional_type None t u = None
 
 -- the type of an expression where the names have types, if it has one
 abbrev pub expression_type : Names → Expression → Option Kind
 expression_type R (variable x) = found_then (type_of_name x R) fitting
 expression_type R (literal l) = literal_type l
 expression_type R (paired i j) = pair_type (expression_type R i) (expression_type R j)
-expression_type R (operation i op j) = number_type (expression_type R i) (expression_type R j)
+expression_type R (applied o i) = applied_type o (expression_type R i)
+expression_type R (operation i op j) = operation_type op (expression_type R i) (expression_type R j)
+expression_type R (conditional i j k) = conditional_type (expression_type R i) (expression_type R j) (expression_type R k)
 
 -- the names with a pattern's names before them, if the pattern fits the type
 abbrev pub names_with : Pattern → Kind → Names → Option Names

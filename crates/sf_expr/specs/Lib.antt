@@ -14,5 +14,4 @@ pub mod Arena
 pub mod Answers
 pub mod Refusals
 pub mod Laws
-pub mod Remainders
 pub mod Inference

@@ -1,6 +1,6 @@
 -- Why expressions and functions have no type.
-use Rattle.std.specs.Prelude.{◌≡◌, ◌<◌, List, [], ◌∷◌, ◌++◌, length, slice_get, Some, None, Result, Ok, Err, Contains}
-use Rattle.sf_value.specs.Values.{Name, Kind, int_kind, pair_kind, nodes as nodes_of}
+use Rattle.std.specs.Prelude.{◌≡◌, ◌<◌, List, [], ◌∷◌, ◌++◌, length, slice_get, Option, Some, None, Result, Ok, Err, Contains}
+use Rattle.sf_value.specs.Values.{Name, Kind, pair_kind, nodes as nodes_of}
 use Rattle.sf_refusal.specs.declared.spot.Spot.{Spot}
 use Rattle.sf_refusal.specs.declared.rule.Rule.TheVariants.{UnknownName, DuplicateName, Mismatch, TypeTooLarge}
 use Rattle.sf_refusal.specs.declared.refusal.Breach.{Breach}
@@ -12,7 +12,10 @@ use Rattle.sf_expr.specs.declared.exprs.ConstantId.{ConstantId}
 use Rattle.sf_expr.specs.declared.exprs.FunctionId.{FunctionId}
 use Rattle.sf_expr.specs.declared.exprs.ExprNode.TheVariants as nodes
 use Rattle.sf_expr.specs.declared.exprs.Exprs.{Exprs}
-use Rattle.sf_expr.specs.declared.operator.Operator.{Operator}
+use Rattle.sf_operator.specs.declared.operator.Operator.{Operator}
+use Rattle.sf_operator.specs.declared.operator.Unary.{Unary}
+use Rattle.sf_operator.specs.Kinds.{unary_kind, binary_kind, conditional_kind}
+use Rattle.sf_operator.specs.Breaches.{KindRefused}
 use Rattle.sf_expr.specs.Expressions.{Pattern, names_in, Literal, Expression, Function}
 use Rattle.sf_expr.specs.Patterns.{PlacedPattern, pattern_of, spots_in}
 use Rattle.sf_expr.specs.Arena.{expression, node_at, name_at, literal_at, spot_at, pattern_at, body_at, function_at}
@@ -38,8 +41,18 @@ pub data Refused (x : Exprs) (R : Names) : ExprId → Breach → Type 0 where
       → node_at x i ≡ nodes.Pair a b → HasType R (expression x a) t → HasType R (expression x b) u → 256 < nodes_of (pair_kind t u) → Refused x R i (breach_of TypeTooLarge (spot_at x i))
   left_operand : {i a b : ExprId} {op : Operator} {r : Breach} → node_at x i ≡ nodes.Operation a op b → Refused x R a r → Refused x R i r
   right_operand : {i a b : ExprId} {op : Operator} {t : Kind} {r : Breach} → node_at x i ≡ nodes.Operation a op b → HasType R (expression x a) t → Refused x R b r → Refused x R i r
-  no_number : {i a b : ExprId} {op : Operator} {t u : Kind}
-      → node_at x i ≡ nodes.Operation a op b → HasType R (expression x a) t → HasType R (expression x b) u → ¬ ((t ≡ int_kind) × (u ≡ int_kind)) → Refused x R i (breach_of Mismatch (spot_at x i))
+  no_operation : {i a b : ExprId} {op : Operator} {t u : Kind} {r : Breach}
+      → node_at x i ≡ nodes.Operation a op b → HasType R (expression x a) t → HasType R (expression x b) u → KindRefused (binary_kind op t u) (spot_at x i) r → Refused x R i r
+  operand : {i a : ExprId} {o : Unary} {r : Breach} → node_at x i ≡ nodes.Applied o a → Refused x R a r → Refused x R i r
+  no_application : {i a : ExprId} {o : Unary} {t : Kind} {r : Breach}
+      → node_at x i ≡ nodes.Applied o a → HasType R (expression x a) t → KindRefused (unary_kind o t) (spot_at x i) r → Refused x R i r
+  condition : {i a b c : ExprId} {r : Breach} → node_at x i ≡ nodes.Conditional a b c → Refused x R a r → Refused x R i r
+  then_branch : {i a b c : ExprId} {t : Kind} {r : Breach} → node_at x i ≡ nodes.Conditional a b c → HasType R (expression x a) t → Refused x R b r → Refused x R i r
+  else_branch : {i a b c : ExprId} {t u : Kind} {r : Breach}
+      → node_at x i ≡ nodes.Conditional a b c → HasType R (expression x a) t → HasType R (expression x b) u → Refused x R c r → Refused x R i r
+  no_choice : {i a b c : ExprId} {t u v : Kind} {r : Breach}
+      → node_at x i ≡ nodes.Conditional a b c → HasType R (expression x a) t → HasType R (expression x b) u → HasType R (expression x c) v
+      → KindRefused (conditional_kind t u v) (spot_at x i) r → Refused x R i r
 
 -- The answer for an expression: its type, or the first rule that it breaks.
 abbrev pub Judges : Exprs → Names → ExprId → Result Kind Refusal → Type 0

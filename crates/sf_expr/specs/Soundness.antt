@@ -1,15 +1,10 @@
 -- Typed values in typed places.
 use Rattle.std.specs.Prelude.{[], ◌∷◌}
 use Rattle.sf_value.specs.Values.{Name, Data, Kind, HasKind}
-use Rattle.sf_value.specs.declared.fault.ValueFault.{ValueFault}
+pub use Rattle.sf_operator.specs.Answers.{Yields, yields, fails}
 use Rattle.sf_expr.specs.Expressions.{Expression, Function}
-use Rattle.sf_expr.specs.Evaluation.{Evaluated, answer, failed, Scope, no_names, value_name}
+use Rattle.sf_expr.specs.Evaluation.{Scope, no_names, value_name}
 use Rattle.sf_expr.specs.Typing.{Names, HasType, FunctionTakes}
-
--- An answer of a type, or a fault.
-pub data Yields (t : Kind) : Evaluated Data → Type 0 where
-  yields : {d : Data} → HasKind d t → Yields t (answer d)
-  fails : {x : ValueFault} → Yields t (failed x)
 
 -- Values have the types of their names.
 pub data ScopeHas : Scope → Names → Type 0 where

@@ -1,8 +1,11 @@
 -- The types of expressions.
 use Rattle.std.specs.Prelude.{◌≡◌, ◌≢◌, ◌≤◌, List, [], ◌∷◌, Option, Some, None, cond, bytes_eq, All, ⊤}
 use Rattle.sf_value.specs.Values.{Name, Kind, unit_kind, bool_kind, int_kind, text_kind, pair_kind, event_kind, nodes, HasKind}
-use Rattle.sf_expr.specs.declared.operator.Operator.{Operator}
-use Rattle.sf_expr.specs.Expressions.{Pattern, unnamed, named, both, names_in, Literal, unit_literal, truth_literal, int_literal, text_literal, none_literal, Expression, variable, literal, paired, operation, Function, function}
+use Rattle.sf_operator.specs.declared.operator.Operator.{Operator}
+use Rattle.sf_operator.specs.declared.operator.Unary.{Unary}
+pub use Rattle.sf_operator.specs.Kinds.{Fits}
+use Rattle.sf_operator.specs.Kinds.{unary_kind, binary_kind, conditional_kind}
+use Rattle.sf_expr.specs.Expressions.{Pattern, unnamed, named, both, names_in, Literal, unit_literal, truth_literal, int_literal, text_literal, none_literal, Expression, variable, literal, paired, applied, operation, conditional, Function, function}
 use Rattle.sf_expr.specs.Evaluation.{literal_value}
 
 -- The names that an expression may use with their types, the innermost first.
@@ -13,10 +16,6 @@ Names = List (Name × Kind)
 abbrev pub type_of_name : Name → Names → Option Kind
 type_of_name x [] = None
 type_of_name x (r ∷ rs) = cond (bytes_eq x r.0) (Some r.1) (type_of_name x rs)
-
--- a type that is met has at most 256 nodes
-abbrev pub Fits : Kind → Type 0
-Fits t = nodes t ≤ 256
 
 -- a literal's type
 abbrev pub literal_kind : Literal → Kind
@@ -47,7 +46,9 @@ pub data HasType (R : Names) : Expression → Kind → Type 0 where
   variable_has : {x : Name} {t : Kind} → type_of_name x R ≡ Some t → Fits t → HasType R (variable x) t
   literal_has : {l : Literal} → HasKind (literal_value l) (literal_kind l) → Fits (literal_kind l) → HasType R (literal l) (literal_kind l)
   pair_has : {i j : Expression} {t u : Kind} → HasType R i t → HasType R j u → Fits (pair_kind t u) → HasType R (paired i j) (pair_kind t u)
-  operation_has : {i j : Expression} {op : Operator} → HasType R i int_kind → HasType R j int_kind → HasType R (operation i op j) int_kind
+  applied_has : {i : Expression} {o : Unary} {t u : Kind} → HasType R i t → unary_kind o t ≡ Some u → Fits u → HasType R (applied o i) u
+  operation_has : {i j : Expression} {op : Operator} {t u v : Kind} → HasType R i t → HasType R j u → binary_kind op t u ≡ Some v → Fits v → HasType R (operation i op j) v
+  conditional_has : {i j k : Expression} {c t u v : Kind} → HasType R i c → HasType R j t → HasType R k u → conditional_kind c t u ≡ Some v → Fits v → HasType R (conditional i j k) v
 
 -- A function takes one type to another.
 pub data FunctionTakes (R : Names) : Function → Kind → Kind → Type 0 where

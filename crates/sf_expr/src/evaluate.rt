@@ -1,32 +1,17 @@
 //! What expressions are worth.
 ghost use Rattle.std.specs.Prelude.{Result};
-ghost use Rattle.sf_value.specs.Values.{int_kind, HasKind};
-ghost use Rattle.sf_expr.specs.Evaluation.{eval as worth_of, apply as applied, operated, no_names};
+ghost use Rattle.sf_expr.specs.Evaluation.{eval as worth_of, apply as applied, no_names};
 ghost use Rattle.sf_expr.specs.Soundness.{IsTypedIn, TakesValue};
 ghost use Rattle.sf_expr.specs.Scopes.{scope_of};
 ghost use Rattle.sf_expr.specs.Arena.{expression, function_at};
 ghost use Rattle.sf_expr.specs.Answers.{Evaluates, EvaluatesAs};
 
-use crate::arithmetic::calculate;
 use crate::exprs::{ExprId, ExprNode, Exprs, FunctionId};
-use crate::fault::EvalFault;
-use crate::operator::Operator;
 use crate::scope::{Bound, Scope};
-use sf_value::{Form, Value};
+use sf_operator::{EvalFault, decide, is_true, operate, operate_on};
+use sf_value::Value;
 use std::alloc::Global;
 use std::rc::Rc;
-
-/// What an operator makes of two numbers.
-fn operate(operator: Operator, left: &Value, right: &Value) -> Result<Value, EvalFault>
-    requires left_number { HasKind left.now int_kind }
-    requires right_number { HasKind right.now int_kind }
-    ensures { Evaluates result (operated operator left.now right.now) }
-{
-    match (left.form(), right.form()) {
-        (Form::Int(a), Form::Int(b)) => Ok(Value::int(calculate(operator, *a, *b)?)),
-        _ => unreachable!(),
-    }
-}
 
 /// What an expression is worth, or the first fault of its operations: operands stand from left to right.
 #[cycle(eval)]
@@ -48,10 +33,27 @@ pub fn eval(alloc: Global, exprs: &Exprs, id: ExprId, scope: &Scope) -> Result<V
             let second = half(alloc, exprs, second, scope)?;
             Ok(Value::of_halves(first, second))
         }
+        ExprNode::Applied(operator, part) => {
+            let part = eval(alloc, exprs, part, scope)?;
+            operate_on(alloc, operator, &part)
+        }
         ExprNode::Operation(left, operator, right) => {
             let left = eval(alloc, exprs, left, scope)?;
-            let right = eval(alloc, exprs, right, scope)?;
-            operate(operator, &left, &right)
+            match decide(operator, &left) {
+                Some(decided) => Ok(decided),
+                None => {
+                    let right = eval(alloc, exprs, right, scope)?;
+                    operate(alloc, operator, &left, &right)
+                }
+            }
+        }
+        ExprNode::Conditional(condition, first, second) => {
+            let condition = eval(alloc, exprs, condition, scope)?;
+            match is_true(&condition) {
+                Some(true) => eval(alloc, exprs, first, scope),
+                Some(false) => eval(alloc, exprs, second, scope),
+                None => Ok(Value::int(0)),
+            }
         }
     }
 }

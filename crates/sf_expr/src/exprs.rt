@@ -7,10 +7,10 @@ ghost use Rattle.sf_arena.specs.Arenas.{entries_of};
 ghost use Rattle.sf_expr.specs.Entries.{IsArena, AreFunctions, AreValued, none_of_unit, has_narrow};
 
 use crate::constant::Constant;
-use crate::operator::Operator;
 use crate::pat::Pat;
 use crate::stored::{StoredFunction, StoredName, clone_constants, clone_functions, clone_names};
 use sf_arena::{Arena, ArenaRefusal};
+use sf_operator::{Operator, Unary};
 use sf_refusal::Spot;
 use sf_value::Ty;
 use std::alloc::{AllocError, Global};
@@ -46,8 +46,12 @@ pub enum ExprNode {
     Name(NameId),
     /// A pair of two expressions.
     Pair(ExprId, ExprId),
+    /// An operator on its operand.
+    Applied(Unary, ExprId),
     /// An operator between its operands.
     Operation(ExprId, Operator, ExprId),
+    /// The second where the first is true, the third where it is false.
+    Conditional(ExprId, ExprId, ExprId),
 }
 
 /// Expressions, of at most 100,000 nodes, of which at most 64 stand one inside another, with their names and
@@ -129,8 +133,13 @@ impl Exprs {
         match node {
             ExprNode::Unit | ExprNode::Truth(_) | ExprNode::Int(_) => 1,
             ExprNode::Constant(_) | ExprNode::Name(_) => 1,
+            ExprNode::Applied(_, part) => 1 + self.depth(part),
             ExprNode::Pair(first, second) | ExprNode::Operation(first, _, second) => {
                 1 + self.depth(first).max(self.depth(second))
+            }
+            ExprNode::Conditional(condition, first, second) => {
+                let branches = self.depth(first).max(self.depth(second));
+                1 + self.depth(condition).max(branches)
             }
         }
     }

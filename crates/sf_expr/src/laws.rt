@@ -1,16 +1,13 @@
 //! What holds of expressions.
-ghost use Rattle.std.specs.Prelude.{◌≡◌, ◌≢◌, ◌↔◌, ◌⊎◌, ℤ, pos, ◌+ℤ◌, ◌*ℤ◌, Some};
-ghost use Rattle.sf_value.specs.Values.{Kind, number};
+ghost use Rattle.std.specs.Prelude.{◌≡◌, ◌↔◌, ◌⊎◌, Some};
+ghost use Rattle.sf_value.specs.Values.{Kind};
 ghost use Rattle.sf_expr.specs.declared.exprs.Exprs.{Exprs};
 ghost use Rattle.sf_expr.specs.declared.exprs.ExprId.{ExprId};
 ghost use Rattle.sf_expr.specs.declared.exprs.FunctionId.{FunctionId};
 ghost use Rattle.sf_refusal.specs.declared.spot.Spot.{Spot};
 ghost use Rattle.sf_refusal.specs.declared.refusal.Breach.{Breach};
-ghost use Rattle.sf_expr.specs.declared.operator.Operator.TheVariants.{Divide, Modulo};
 ghost use Rattle.sf_expr.specs.Expressions.{Expression, Function};
 ghost use Rattle.sf_expr.specs.Arena.{expression, function_at};
-ghost use Rattle.sf_expr.specs.Evaluation.{answer, quotient, remainder, of_numbers};
-ghost use Rattle.sf_expr.specs.Remainders.{IsRemainder};
 ghost use Rattle.sf_expr.specs.Typing.{Names, Fits, HasType, FunctionTakes};
 ghost use Rattle.sf_expr.specs.Inference.{expression_type, function_output, NamesFit};
 ghost use Rattle.sf_expr.specs.Refusals.{Refused, FunctionRefused};
@@ -38,14 +35,6 @@ pub fn some_type()
         ((t : Kind) × HasType R (expression x i) t) ⊎ ((r : Breach) × Refused x R i r) }
     ensures functions { (x : Exprs) (R : Names) (f : FunctionId) (a : Kind) (at : Spot) → NamesFit R → Fits a →
         ((b : Kind) × FunctionTakes R (function_at x f) a b) ⊎ ((r : Breach) × FunctionRefused x R f a at r) }
-{}
-
-/// A number is the divisor times the quotient, and what is left: zero or of the divisor's sign, and nearer to zero than
-/// the divisor. So it is with `div` and `mod` where both have a value.
-pub fn floor_division()
-    ensures numbers { (a b : ℤ) → b ≢ pos 0 → (a ≡ (b *ℤ quotient a b) +ℤ remainder a b) × IsRemainder (remainder a b) b }
-    ensures operators { (a b q r : ℤ) → of_numbers Divide a b ≡ answer (number q) → of_numbers Modulo a b ≡ answer (number r) →
-        (a ≡ (b *ℤ q) +ℤ r) × IsRemainder r b }
 {}
 
 /// An expression has one first refusal at most, and so has a function of values of a type: the refusal and its place are

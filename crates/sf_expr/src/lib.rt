@@ -1,13 +1,10 @@
 //! Expressions: their trees, in an arena, with their types and values.
 #![tactic(auto)]
 
-mod arithmetic;
 mod constant;
 mod evaluate;
 mod exprs;
-mod fault;
 mod laws;
-mod operator;
 mod pat;
 mod scope;
 mod stored;
@@ -17,11 +14,10 @@ mod typing;
 pub use constant::{Constant, ConstantForm};
 pub use evaluate::{apply, eval};
 pub use exprs::{ConstantId, ExprId, ExprNode, Exprs, FunctionId, NameId};
-pub use fault::EvalFault;
-pub use laws::{floor_division, found_type, one_refusal, some_type, typed_expression};
-pub use operator::Operator;
+pub use laws::{found_type, one_refusal, some_type, typed_expression};
 pub use pat::{Pat, PatForm};
 pub use scope::Scope;
 pub use sf_arena::ArenaRefusal;
+pub use sf_operator::{Arithmetic, Comparison, Equality, EvalFault, Logic, Merge, Operator, Unary};
 pub use sf_refusal::{Refusal, Rule, Spot};
 pub use typing::{TypeScope, function_type, pair_type, type_of};

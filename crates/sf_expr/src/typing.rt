@@ -1,6 +1,5 @@
 //! The types of expressions.
 ghost use Rattle.std.specs.Prelude.{◌≡◌, ◌++◌, [], ◌↔◌, IsTrue, OnOk, IfOk, IfSome, IfNone, IfErr, Contains};
-ghost use Rattle.sf_value.specs.Values.{int_kind};
 ghost use Rattle.sf_expr.specs.Typing.{Fits, AddsNames, AllDifferent, type_of_name};
 ghost use Rattle.sf_expr.specs.Expressions.{names_in, none_literal};
 ghost use Rattle.sf_expr.specs.Inference.{is_valued};
@@ -14,8 +13,9 @@ use crate::constant::{Constant, ConstantForm};
 use crate::exprs::{ExprId, ExprNode, Exprs, FunctionId};
 use crate::pat::{Pat, PatForm};
 use crate::typed_name::TypedName;
+use sf_operator::{binary_type, conditional_type, unary_type};
 use sf_refusal::{Refusal, Rule, Spot};
-use sf_value::{Ty, TyForm, TyRefusal};
+use sf_value::{Ty, TyRefusal};
 use smallvec::SmallVec;
 use std::alloc::{AllocError, Global};
 
@@ -120,13 +120,6 @@ fn see<'a>(pattern: &'a Pat, seen: &mut SmallVec<&'a str, 4>) -> Result<(), Refu
     Ok(())
 }
 
-/// Whether two types are that of numbers.
-fn are_numbers(left: &Ty, right: &Ty) -> bool
-    ensures { IsTrue result ↔ (left.now ≡ int_kind) × (right.now ≡ int_kind) }
-{
-    matches!((left.form(), right.form()), (TyForm::Int, TyForm::Int))
-}
-
 /// The type of events of a type; refused with `TypeTooLarge` at `at` where it would be made of more than 256 types.
 fn event_type(alloc: Global, payload: Ty, at: Spot) -> Result<Ty, Refusal>
     ensures { AnswersLiteral (none_literal payload) at result }
@@ -180,14 +173,20 @@ fn judge(alloc: Global, exprs: &Exprs, id: ExprId, names: &TypeScope) -> Result<
             let second = judge(alloc, exprs, second, names)?;
             pair_type(alloc, first, second, exprs.spot(id))
         }
-        ExprNode::Operation(left, _, right) => {
+        ExprNode::Applied(operator, part) => {
+            let part = judge(alloc, exprs, part, names)?;
+            unary_type(alloc, operator, &part, exprs.spot(id))
+        }
+        ExprNode::Operation(left, operator, right) => {
             let left = judge(alloc, exprs, left, names)?;
             let right = judge(alloc, exprs, right, names)?;
-            if are_numbers(&left, &right) {
-                Ok(Ty::int())
-            } else {
-                Err(Refusal::broken(Rule::Mismatch, exprs.spot(id)))
-            }
+            binary_type(alloc, operator, &left, &right, exprs.spot(id))
+        }
+        ExprNode::Conditional(condition, first, second) => {
+            let condition = judge(alloc, exprs, condition, names)?;
+            let first = judge(alloc, exprs, first, names)?;
+            let second = judge(alloc, exprs, second, names)?;
+            conditional_type(alloc, &condition, &first, &second, exprs.spot(id))
         }
     }
 }

@@ -1,7 +1,9 @@
 -- What is spelled within the limits is read again, whatever follows.
-use Rattle.std.proofs.Common.{◌≡◌, ℕ, zero, suc, ◌+◌, ◌≤◌, true, false, Option, List, [], ◌∷◌, ◌++◌, refl, ◌∙◌, ap, append_assoc, arith}
+use Rattle.std.proofs.Common.{◌≡◌, ℕ, zero, suc, ◌+◌, ◌≤◌, Bool, true, false, Option, List, [], ◌∷◌, ◌++◌, refl, ◌∙◌, ap, append_assoc, arith}
 use Rattle.sf_value.specs.Values.{KeyKind, Kind, unit_kind, bool_kind, int_kind, text_kind, pair_kind, event_kind, table_kind, nodes}
-use Rattle.sf_expr.specs.Expressions.{Pattern, unnamed, named, both, pattern_depth, Literal, unit_literal, truth_literal, int_literal, text_literal, none_literal, Expression, variable, literal, paired, operation, depth as expression_depth, size, Function, function, function_depth, function_size}
+use Rattle.sf_expr.specs.Expressions.{Pattern, unnamed, named, both, pattern_depth, Literal, unit_literal, truth_literal, int_literal, text_literal, none_literal, Expression, variable, literal, paired, applied, operation, conditional, depth as expression_depth, size, Function, function, function_depth, function_size}
+use Rattle.sf_operator.specs.declared.operator.Unary.{Unary}
+use Rattle.sf_operator.specs.declared.operator.Operator.{Operator}
 use Rattle.sf_term.specs.Trees.{bare, with_value, arrow, fused, Term, primitive, joined, sided, headed, staged, Template, term_depth, terms_in, expressions_in}
 use Rattle.sf_lex.specs.declared.word.Keyword.TheVariants as words
 use Rattle.sf_lex.specs.declared.symbol.Symbol.TheVariants as symbols
@@ -10,10 +12,10 @@ use Rattle.sf_grammar.specs.declared.ty.Version.{Version}
 use Rattle.sf_grammar.specs.declared.head.Head.TheVariants as heads
 use Rattle.sf_grammar.specs.declared.head.Link.{Link}
 use Rattle.sf_grammar.specs.declared.head.Link.TheVariants as links
-use Rattle.sf_grammar.specs.Spelling.{spell_keys, spell_type, spell_pattern, spell_literal, spell_expression, spell_function, spell_term, spell_signature, spell_template, bare_word, value_word, side_word, heading_word, join_symbol, in_brackets, type_depth, WritesType, WritesExpression, WritesFunction, WritesTerm, HasWrittenTypes}
-use Rattle.sf_grammar.specs.Reading.{Read, got, ◌and_then◌, Counts, counts_with, counts_with_expression, parse_symbol, parse_keys, parse_outer_type, parse_inner_type, parse_pair_type, parse_pattern, parse_pattern_pair, parse_link, linked, parse_linked, bracketed_from, parse_none, parse_expression, expression_read, parse_function, parse_join, parse_term, term_read, parse_joined, parse_value, parse_arrow, parse_sided, parse_headed, parse_heading, parse_signature, parse_template}
-use Rattle.sf_grammar.proofs.Words.{head_again, join_again, link_again, link_token, keys_again, no_close}
-use Rattle.sf_grammar.proofs.Parts.{within, type_within, brackets_behind, parts_again}
+use Rattle.sf_grammar.specs.Spelling.{unary_word, takes_brackets, operator_token, stands_between, spell_operand, spell_operands, spell_choice, spell_keys, spell_type, spell_pattern, spell_literal, spell_expression, spell_function, spell_term, spell_signature, spell_template, bare_word, value_word, side_word, heading_word, join_symbol, in_brackets, type_depth, WritesType, WritesExpression, WritesFunction, WritesTerm, HasWrittenTypes}
+use Rattle.sf_grammar.specs.Reading.{Read, got, ◌and_then◌, Counts, counts_with, counts_with_expression, parse_symbol, parse_keys, parse_outer_type, parse_inner_type, parse_pair_type, parse_pattern, parse_pattern_pair, parse_link, linked, parse_linked, bracketed_from, parse_none, parse_prefixed, parse_one_in_brackets, parse_two_in_brackets, parse_conditional, parse_expression, expression_read, parse_function, parse_join, parse_term, term_read, parse_joined, parse_value, parse_arrow, parse_sided, parse_headed, parse_heading, parse_signature, parse_template}
+use Rattle.sf_grammar.proofs.Words.{head_again, join_again, link_again, link_token, LinksBetween, unary_again, IsInFront, operator_again, keys_again, no_close}
+use Rattle.sf_grammar.proofs.Parts.{within, type_within, brackets_behind, choice_behind, parts_again}
 
 -- a type that is made of one part
 outer_type_again : (v : Version) (t : Kind) (d : ℕ) (start : List Tok) (whole : Kind → Kind) (met : ℕ) (rest : List Tok) → parse_inner_type d v start (met + 1) (spell_type v t ++ rest) ≡ got t rest
@@ -67,17 +69,17 @@ pattern_again (both p q) (suc d) rest deep =
     (spell_pattern p ++ (symbol symbols.Comma ∷ behind)) (symbol symbols.Comma ∷ behind) behind rest
     (pattern_again p d (symbol symbols.Comma ∷ behind) (omega arith)) refl (pattern_again q d (symbol symbols.Close ∷ rest) (omega arith))
 
-link_at_again : (l : Link) (rest : List Tok) → parse_link (link_token l ∷ rest) ≡ got l rest
-link_at_again l rest = rw (link_again l) refl
+link_at_again : (l : Link) (rest : List Tok) → LinksBetween l → parse_link (link_token l ∷ rest) ≡ got l rest
+link_at_again l rest between = rw (link_again l between) refl
 
 -- two expressions in brackets
-linked_again : (v : Version) (l : Link) (e f : Expression) (d : ℕ) (c : Counts) (rest : List Tok)
+linked_again : (v : Version) (l : Link) (e f : Expression) (d : ℕ) (c : Counts) (rest : List Tok) → LinksBetween l
     → ((rest : List Tok) → parse_expression d v c (spell_expression v e ++ rest) ≡ got e rest)
     → ((rest : List Tok) → parse_expression d v (counts_with_expression c e) (spell_expression v f ++ rest) ≡ got f rest)
     → c.expressions + size (linked l e f) ≤ 100000
     → parse_expression (suc d) v c (in_brackets (spell_expression v e) (link_token l) (spell_expression v f) ++ rest) ≡ got (linked l e f) rest
 unfolding parse_expression parse_linked
-linked_again v l e f d c rest one two few =
+linked_again v l e f d c rest between one two few =
     let behind : List Tok = spell_expression v f ++ (symbol symbols.Close ∷ rest) in
     let tokens : List Tok = spell_expression v e ++ (link_token l ∷ behind) in
     let start : List Tok = symbol symbols.Open ∷ tokens in
@@ -85,8 +87,54 @@ linked_again v l e f d c rest one two few =
     ∙ ap (λ (o : Option (List Tok)). bracketed_from (parse_expression d v) c o start tokens) (no_close v e (link_token l ∷ behind))
     ∙ parts_again (parse_expression d v c) parse_link (λ e. parse_expression d v (counts_with_expression c e)) (λ e l f rest. expression_read c (linked l e f) start rest) e l f
     tokens (link_token l ∷ behind) behind rest
-    (one (link_token l ∷ behind)) (link_at_again l behind) (two (symbol symbols.Close ∷ rest))
+    (one (link_token l ∷ behind)) (link_at_again l behind between) (two (symbol symbols.Close ∷ rest))
     ∙ within (c.expressions + size (linked l e f)) (linked l e f) start rest few
+
+-- an operator on an expression, by how that stands
+applied_again : (v : Version) (o : Unary) (brackets : Bool) (e : Expression) (d : ℕ) (c : Counts) (rest : List Tok) → takes_brackets o ≡ brackets
+    → ((rest : List Tok) → parse_expression d v c (spell_expression v e ++ rest) ≡ got e rest) → c.expressions + size (applied o e) ≤ 100000
+    → parse_expression (suc d) v c ((keyword (unary_word o) ∷ spell_operand brackets (spell_expression v e)) ++ rest) ≡ got (applied o e) rest
+unfolding parse_expression parse_prefixed parse_one_in_brackets
+applied_again v o false e d c rest is part few =
+    rw (unary_again o, is, part rest) (within (c.expressions + size (applied o e)) (applied o e) (keyword (unary_word o) ∷ (spell_expression v e ++ rest)) rest few)
+applied_again v o true e d c rest is part few =
+    let tokens : List Tok = symbol symbols.Open ∷ (spell_expression v e ++ (symbol symbols.Close ∷ rest)) in
+    rw (append_assoc (spell_expression v e) (symbol symbols.Close ∷ []) rest, unary_again o, is, part (symbol symbols.Close ∷ rest))
+    (within (c.expressions + size (applied o e)) (applied o e) (keyword (unary_word o) ∷ tokens) rest few)
+
+-- an operator on two expressions, by where its token stands
+operation_again : (v : Version) (between : Bool) (e : Expression) (o : Operator) (f : Expression) (d : ℕ) (c : Counts) (rest : List Tok) → stands_between o ≡ between
+    → ((rest : List Tok) → parse_expression d v c (spell_expression v e ++ rest) ≡ got e rest)
+    → ((rest : List Tok) → parse_expression d v (counts_with_expression c e) (spell_expression v f ++ rest) ≡ got f rest)
+    → c.expressions + size (operation e o f) ≤ 100000
+    → parse_expression (suc d) v c (spell_operands between (operator_token o) (spell_expression v e) (spell_expression v f) ++ rest) ≡ got (operation e o f) rest
+unfolding parse_expression parse_two_in_brackets
+operation_again v true e o f d c rest is one two few = linked_again v (links.Operation o) e f d c rest is one two few
+operation_again v false e o f d c rest is one two few =
+    let front : IsInFront o = operator_again o is in
+    let behind : List Tok = spell_expression v f ++ (symbol symbols.Close ∷ rest) in
+    let tokens : List Tok = spell_expression v e ++ (symbol symbols.Comma ∷ behind) in
+    let start : List Tok = keyword front.word ∷ symbol symbols.Open ∷ tokens in
+    ap (λ (t : Tok). parse_expression (suc d) v c (t ∷ (in_brackets (spell_expression v e) (symbol symbols.Comma) (spell_expression v f) ++ rest))) front.token
+    ∙ ap (λ (r : List Tok). parse_expression (suc d) v c (keyword front.word ∷ symbol symbols.Open ∷ r)) (brackets_behind (spell_expression v e) (spell_expression v f) rest (symbol symbols.Comma))
+    ∙ rw front.head (parts_again (parse_expression d v c) (parse_symbol symbols.Comma) (λ e. parse_expression d v (counts_with_expression c e)) (λ e _ f rest. expression_read c (operation e o f) start rest) e tt f
+    tokens (symbol symbols.Comma ∷ behind) behind rest (one (symbol symbols.Comma ∷ behind)) refl (two (symbol symbols.Close ∷ rest)))
+    ∙ within (c.expressions + size (operation e o f)) (operation e o f) start rest few
+
+-- three parts with words between them
+conditional_again : (v : Version) (e f g : Expression) (d : ℕ) (c : Counts) (rest : List Tok)
+    → ((rest : List Tok) → parse_expression d v c (spell_expression v e ++ rest) ≡ got e rest)
+    → ((rest : List Tok) → parse_expression d v (counts_with_expression c e) (spell_expression v f ++ rest) ≡ got f rest)
+    → ((rest : List Tok) → parse_expression d v (counts_with_expression (counts_with_expression c e) f) (spell_expression v g ++ rest) ≡ got g rest)
+    → c.expressions + size (conditional e f g) ≤ 100000
+    → parse_expression (suc d) v c (spell_choice (spell_expression v e) (spell_expression v f) (spell_expression v g) ++ rest) ≡ got (conditional e f g) rest
+unfolding parse_expression parse_conditional
+conditional_again v e f g d c rest one two three few =
+    let third : List Tok = keyword words.Else ∷ (spell_expression v g ++ rest) in
+    let second : List Tok = keyword words.Then ∷ (spell_expression v f ++ third) in
+    ap (λ (r : List Tok). parse_expression (suc d) v c r) (choice_behind (spell_expression v e) (spell_expression v f) (spell_expression v g) rest)
+    ∙ rw (one second, two third, three rest)
+    (within (c.expressions + size (conditional e f g)) (conditional e f g) (keyword words.If ∷ (spell_expression v e ++ second)) rest few)
 
 -- a literal
 literal_again : (v : Version) (l : Literal) (d : ℕ) (c : Counts) (rest : List Tok) → c.expressions + 1 ≤ 100000 → WritesExpression v (suc d) (literal l)
@@ -107,15 +155,23 @@ unfolding parse_expression
 expression_again v (variable n) zero c rest deep few known = absurd (omega arith)
 expression_again v (literal l) zero c rest deep few known = absurd (omega arith)
 expression_again v (paired e f) zero c rest deep few known = absurd (omega arith)
+expression_again v (applied o e) zero c rest deep few known = absurd (omega arith)
 expression_again v (operation e o f) zero c rest deep few known = absurd (omega arith)
+expression_again v (conditional e f g) zero c rest deep few known = absurd (omega arith)
 expression_again v (variable n) (suc d) c rest deep few known = within (c.expressions + 1) (variable n) (name n ∷ rest) rest few
 expression_again v (literal l) (suc d) c rest deep few known = literal_again v l d c rest few known
 expression_again v (paired e f) (suc d) c rest deep few known =
-    linked_again v links.Pair e f d c rest (λ rest. expression_again v e d c rest (omega arith) (omega arith) known.0)
+    linked_again v links.Pair e f d c rest tt (λ rest. expression_again v e d c rest (omega arith) (omega arith) known.0)
     (λ rest. expression_again v f d (counts_with_expression c e) rest (omega arith) (omega arith) known.1) few
+expression_again v (applied o e) (suc d) c rest deep few known =
+    applied_again v o (takes_brackets o) e d c rest refl (λ rest. expression_again v e d c rest (omega arith) (omega arith) known) few
 expression_again v (operation e o f) (suc d) c rest deep few known =
-    linked_again v (links.Operation o) e f d c rest (λ rest. expression_again v e d c rest (omega arith) (omega arith) known.0)
+    operation_again v (stands_between o) e o f d c rest refl (λ rest. expression_again v e d c rest (omega arith) (omega arith) known.0)
     (λ rest. expression_again v f d (counts_with_expression c e) rest (omega arith) (omega arith) known.1) few
+expression_again v (conditional e f g) (suc d) c rest deep few known =
+    conditional_again v e f g d c rest (λ rest. expression_again v e d c rest (omega arith) (omega arith) known.0)
+    (λ rest. expression_again v f d (counts_with_expression c e) rest (omega arith) (omega arith) known.1)
+    (λ rest. expression_again v g d (counts_with_expression (counts_with_expression c e) f) rest (omega arith) (omega arith) known.2) few
 
 pub function_again : (v : Version) (f : Function) (d : ℕ) (c : Counts) (rest : List Tok) → function_depth f ≤ d → c.expressions + function_size f ≤ 100000 → WritesFunction v d f
     → parse_function d v c (spell_function v f ++ rest) ≡ got f rest

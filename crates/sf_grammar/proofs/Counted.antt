@@ -1,27 +1,29 @@
 -- What is placed has as many places as the tokens that spell it.
 use Rattle.std.proofs.Common.{◌≡◌, suc, true, false, List, [], ◌∷◌, ◌++◌, length, refl, ap, arith}
 use Rattle.std.proofs.lemmas.List.{length-append}
-use Rattle.sf_expr.specs.declared.operator.Operator.{Operator}
+use Rattle.sf_operator.specs.declared.operator.Unary.{Unary}
+use Rattle.sf_operator.specs.declared.operator.Operator.{Operator}
 use Rattle.sf_expr.specs.declared.exprs.ExprId.{ExprId}
 use Rattle.sf_expr.specs.declared.exprs.NameId.{NameId}
 use Rattle.sf_expr.specs.declared.exprs.FunctionId.{FunctionId}
 use Rattle.sf_expr.specs.declared.exprs.ExprNode.TheVariants as expressions
 use Rattle.sf_expr.specs.Patterns.{PlacedPattern, pattern_of}
-use Rattle.sf_expr.specs.Expressions.{variable, literal, unit_literal, truth_literal, int_literal, paired, operation}
+use Rattle.sf_expr.specs.Expressions.{variable, literal, unit_literal, truth_literal, int_literal, paired, applied, operation, conditional}
 use Rattle.sf_expr.specs.Arena.{name_at}
 use Rattle.sf_expr.proofs.Entered.{node_builds as expression_builds}
-use Rattle.sf_expr.proofs.Typed.{is_unit, is_truth, is_int, is_name, is_pair, is_operation}
+use Rattle.sf_expr.proofs.Typed.{is_unit, is_truth, is_int, is_name, is_pair, is_applied, is_operation, is_conditional}
 use Rattle.sf_term.specs.declared.node.TermId.{TermId}
 use Rattle.sf_term.specs.declared.program.Program.{Program}
 use Rattle.sf_term.specs.Headers.{Header}
 use Rattle.sf_term.specs.Arena.{expressions_of, expression_under, expression_node_at, function_in, tree, template_in}
 use Rattle.sf_term.proofs.Kept.{node_builds}
+use Rattle.sf_lex.specs.declared.word.Keyword.TheVariants as words
 use Rattle.sf_lex.specs.declared.symbol.Symbol.TheVariants as symbols
 use Rattle.sf_refusal.specs.declared.spot.Spot.{Spot}
-use Rattle.sf_lex.specs.Tokens.{Tok, symbol}
+use Rattle.sf_lex.specs.Tokens.{Tok, keyword, symbol}
 use Rattle.sf_grammar.specs.declared.ty.Version.{Version}
 use Rattle.sf_grammar.specs.Spelling.{in_brackets, operator_token, join_symbol, spell_pattern, spell_expression, spell_function, spell_term, spell_heading, spell_signature, spell_template}
-use Rattle.sf_grammar.specs.Placing.{around, PatternPlaced, unnamed_placed, name_placed, both_placed, ExpressionPlaced, unit_placed, truth_placed, number_placed, constant_placed, variable_placed, pair_placed, operation_placed, FunctionPlaced, function_placed, TermPlaced, bare_placed, with_value_placed, arrow_placed, joined_placed, sided_placed, headed_placed, TemplatePlaced}
+use Rattle.sf_grammar.specs.Placing.{around, PatternPlaced, unnamed_placed, name_placed, both_placed, ExpressionPlaced, unit_placed, truth_placed, number_placed, constant_placed, variable_placed, pair_placed, prefixed_placed, one_in_brackets_placed, operation_placed, two_in_brackets_placed, conditional_placed, FunctionPlaced, function_placed, TermPlaced, bare_placed, with_value_placed, arrow_placed, joined_placed, sided_placed, headed_placed, TemplatePlaced}
 
 around_counted : (xs ys : List Spot) (us vs : List Tok) (opening between closing : Spot) (t : Tok) → length xs ≡ length us → length ys ≡ length vs → length (around opening xs between ys closing) ≡ length (in_brackets us t vs)
 around_counted xs ys us vs opening between closing t one two =
@@ -57,6 +59,18 @@ operation_is : (p : Program) (e a b : ExprId) (o : Operator) → expression_node
 unfolding expressions_of expression_under expression_node_at
 operation_is p e a b o is = is_operation (expression_builds (expressions_of p) e _ is)
 
+applied_is : (p : Program) (e a : ExprId) (o : Unary) → expression_node_at p e ≡ expressions.Applied o a → expression_under p e ≡ applied o (expression_under p a)
+unfolding expressions_of expression_under expression_node_at
+applied_is p e a o is = is_applied (expression_builds (expressions_of p) e _ is)
+
+conditional_is : (p : Program) (e a b c : ExprId) → expression_node_at p e ≡ expressions.Conditional a b c → expression_under p e ≡ conditional (expression_under p a) (expression_under p b) (expression_under p c)
+unfolding expressions_of expression_under expression_node_at
+conditional_is p e a b c is = is_conditional (expression_builds (expressions_of p) e _ is)
+
+-- a part with a place or a token in front of each other
+between_counted : (xs ys : List Spot) (us vs : List Tok) (between : Spot) (t : Tok) → length xs ≡ length us → length ys ≡ length vs → length (xs ++ (between ∷ ys)) ≡ length (us ++ (t ∷ vs))
+between_counted xs ys us vs between t one two = omega (arith, length-append xs (between ∷ ys), length-append us (t ∷ vs))
+
 pub expression_counted : (v : Version) (p : Program) (e : ExprId) (xs : List Spot) → ExpressionPlaced v p e xs → length xs ≡ length (spell_expression v (expression_under p e))
 expression_counted v p e xs (number_placed {z = z} s) = rw (number_is p e z s.node) refl
 expression_counted v p e xs (unit_placed closing s) = rw (unit_is p e s.node) refl
@@ -66,8 +80,20 @@ expression_counted v p e xs (constant_placed s counted) = counted
 expression_counted v p e xs (variable_placed {n = n} s) = rw (variable_is p e n s.node) refl
 expression_counted v p e xs (pair_placed {a = a} {b = b} {xs = us} {ys = vs} {opening = opening} comma closing s one two) =
     rw (pair_is p e a b s.node) (around_counted us vs (spell_expression v (expression_under p a)) (spell_expression v (expression_under p b)) opening comma closing (symbol symbols.Comma) (expression_counted v p a us one) (expression_counted v p b vs two))
-expression_counted v p e xs (operation_placed {a = a} {b = b} {o = o} {xs = us} {ys = vs} {opening = opening} operator closing s one two) =
-    rw (operation_is p e a b o s.node) (around_counted us vs (spell_expression v (expression_under p a)) (spell_expression v (expression_under p b)) opening operator closing (operator_token o) (expression_counted v p a us one) (expression_counted v p b vs two))
+expression_counted v p e xs (prefixed_placed {a = a} {o = o} {xs = us} brackets s part) = rw (applied_is p e a o s.node, brackets) (ap suc (expression_counted v p a us part))
+expression_counted v p e xs (one_in_brackets_placed {a = a} {o = o} {xs = us} opening closing brackets s part) =
+    rw (applied_is p e a o s.node, brackets) (ap (λ n. suc (suc n)) (between_counted us [] (spell_expression v (expression_under p a)) [] closing (symbol symbols.Close) (expression_counted v p a us part) refl))
+expression_counted v p e xs (operation_placed {a = a} {b = b} {o = o} {xs = us} {ys = vs} {opening = opening} operator closing between s one two) =
+    rw (operation_is p e a b o s.node, between) (around_counted us vs (spell_expression v (expression_under p a)) (spell_expression v (expression_under p b)) opening operator closing (operator_token o) (expression_counted v p a us one) (expression_counted v p b vs two))
+expression_counted v p e xs (two_in_brackets_placed {a = a} {b = b} {o = o} {xs = us} {ys = vs} opening comma closing between s one two) =
+    rw (operation_is p e a b o s.node, between)
+    (ap suc (around_counted us vs (spell_expression v (expression_under p a)) (spell_expression v (expression_under p b)) opening comma closing (symbol symbols.Comma) (expression_counted v p a us one) (expression_counted v p b vs two)))
+expression_counted v p e xs (conditional_placed {a = a} {b = b} {c = c} {xs = us} {ys = vs} {zs = ws} then_at else_at s one two three) =
+    let second : List Tok = spell_expression v (expression_under p b) in
+    let third : List Tok = spell_expression v (expression_under p c) in
+    rw (conditional_is p e a b c s.node)
+    (ap suc (between_counted us (vs ++ (else_at ∷ ws)) (spell_expression v (expression_under p a)) (second ++ (keyword words.Else ∷ third)) then_at (keyword words.Then) (expression_counted v p a us one)
+    (between_counted vs ws second third else_at (keyword words.Else) (expression_counted v p b vs two) (expression_counted v p c ws three))))
 
 function_counted : (v : Version) (p : Program) (f : FunctionId) (xs : List Spot) → FunctionPlaced v p f xs → length xs ≡ length (spell_function v (function_in p f))
 function_counted v p f xs (function_placed {xs = us} {ys = vs} leads held pattern body) =

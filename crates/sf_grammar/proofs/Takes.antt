@@ -1,7 +1,9 @@
 -- What is read is spelled so, within the limits.
 use Rattle.std.proofs.Common.{◌≡◌, ℕ, zero, suc, ◌+◌, ◌<◌, ◌≤◌, true, false, pos, List, [], ◌∷◌, ◌++◌, Option, Some, None, refl, sym, ◌∙◌, ap, subst, append_assoc, arith}
 use Rattle.sf_value.specs.Values.{Name, Kind, pair_kind, event_kind, table_kind, nodes}
-use Rattle.sf_expr.specs.Expressions.{Pattern, unnamed, named, both, pattern_depth, Literal, unit_literal, truth_literal, int_literal, text_literal, none_literal, Expression, variable, literal, depth as expression_depth, size, Function, function, function_depth, function_size}
+use Rattle.sf_expr.specs.Expressions.{Pattern, unnamed, named, both, pattern_depth, unit_literal, truth_literal, int_literal, text_literal, none_literal, Expression, variable, literal, applied, operation, conditional, depth as expression_depth, size, Function, function, function_depth, function_size}
+use Rattle.sf_operator.specs.declared.operator.Unary.{Unary}
+use Rattle.sf_operator.specs.declared.operator.Operator.{Operator}
 use Rattle.sf_term.specs.declared.form.WithValue.{WithValue}
 use Rattle.sf_term.specs.declared.form.Join.{Join}
 use Rattle.sf_term.specs.declared.form.Side.{Side}
@@ -17,12 +19,14 @@ use Rattle.sf_grammar.specs.declared.ty.TypeHead.{TypeHead}
 use Rattle.sf_grammar.specs.declared.ty.TypeHead.TheVariants as type_heads
 use Rattle.sf_grammar.specs.declared.head.Head.{Head}
 use Rattle.sf_grammar.specs.declared.head.Head.TheVariants as heads
+use Rattle.sf_grammar.specs.declared.head.ExpressionHead.{ExpressionHead}
+use Rattle.sf_grammar.specs.declared.head.ExpressionHead.TheVariants as expression_heads
 use Rattle.sf_grammar.specs.declared.head.Link.{Link}
 use Rattle.sf_grammar.specs.declared.head.Link.TheVariants as links
 use Rattle.sf_grammar.specs.Spelling.{version_number, spell_keys, spell_type, spell_pattern, spell_expression, spell_function, spell_term, spell_signature, spell_template, bare_word, value_word, side_word, heading_word, join_symbol, type_depth, WritesType, IsWrittenType, WritesExpression, WritesFunction, WritesTerm, HasWrittenTypes}
-use Rattle.sf_grammar.specs.Reading.{Read, got, ◌and_then◌, Counts, counts_with, counts_with_expression, begins_type, begins_pattern, begins_expression, begins_term, type_head, word_kind, parse_keys, parse_outer_type, parse_headed_type, type_from, parse_inner_type, parse_pair_type, parse_pattern, parse_pattern_pair, link_of, link_from, parse_link, linked, parse_linked, literal_of, literal_read, behind_close, bracketed_from, parse_none, parse_expression, expression_read, parse_function, parse_term, parse_joined, parse_value, parse_arrow, parse_sided, parse_headed, parse_worded, head_of, join_of, parse_join, join_from, term_read, parse_parts, parse_opening, parse_heading, parse_signature, parse_template, template_of, parse_symbol, parse_name, parse_type, parse_keyword, parse_version}
-use Rattle.sf_grammar.proofs.Words.{head_takes, join_takes, link_token, link_takes, type_word, type_token, type_head_takes, IsWordKind, word_kind_is, IsAlone, literal_of_takes, close_takes}
-use Rattle.sf_grammar.proofs.Parts.{Same, bind_got, got_same, within_takes, deep_takes, met_takes, parts_takes, brackets_took, symbol_takes, keyword_takes, name_takes, version_takes, TookKeys, keys_takes}
+use Rattle.sf_grammar.specs.Reading.{Read, got, ◌and_then◌, Counts, counts_with, counts_with_expression, begins_type, begins_pattern, begins_expression, begins_term, type_head, word_kind, parse_keys, parse_outer_type, parse_headed_type, type_from, parse_inner_type, parse_pair_type, parse_pattern, parse_pattern_pair, link_of, link_from, parse_link, linked, parse_linked, behind_close, bracketed_from, parse_none, expression_head, parse_prefixed, parse_one_in_brackets, parse_two_in_brackets, parse_conditional, parse_worded_expression, parse_expression, expression_read, parse_function, parse_term, parse_joined, parse_value, parse_arrow, parse_sided, parse_headed, parse_worded, head_of, join_of, parse_join, join_from, term_read, parse_parts, parse_opening, parse_heading, parse_signature, parse_template, template_of, parse_symbol, parse_name, parse_type, parse_keyword, parse_version}
+use Rattle.sf_grammar.proofs.Words.{head_takes, join_takes, link_token, LinksBetween, IsLinkToken, link_takes, BeginsWith, expression_head_takes, type_word, type_token, type_head_takes, IsWordKind, word_kind_is, close_takes}
+use Rattle.sf_grammar.proofs.Parts.{Same, bind_got, got_same, within_takes, deep_takes, met_takes, parts_takes, brackets_took, choice_behind, symbol_takes, keyword_takes, name_takes, version_takes, TookKeys, keys_takes}
 
 pub record TookType (v : Version) (d met : ℕ) (tokens : List Tok) (k : Kind) (rest : List Tok) : Type 0 where
   pub spelled : tokens ≡ spell_type v k ++ rest
@@ -146,29 +150,34 @@ took_expression_as : (v : Version) (d : ℕ) (c : Counts) (tokens : List Tok) (e
 took_expression_as v d c tokens e f r u same took =
     subst (λ (e : Expression). TookExpression v d c tokens e u) same.value (subst (λ (r : List Tok). TookExpression v d c tokens e r) same.rest took)
 
-link_from_takes : (o : Option Link) (t : Tok) (tokens : List Tok) (l : Link) (rest : List Tok) → link_of t ≡ o → link_from o (t ∷ tokens) tokens ≡ got l rest → t ∷ tokens ≡ link_token l ∷ rest
+-- what stands between two expressions was taken
+pub record TookLink (tokens : List Tok) (l : Link) (rest : List Tok) : Type 0 where
+  pub spelled : tokens ≡ link_token l ∷ rest
+  pub between : LinksBetween l
+
+link_from_takes : (o : Option Link) (t : Tok) (tokens : List Tok) (l : Link) (rest : List Tok) → link_of t ≡ o → link_from o (t ∷ tokens) tokens ≡ got l rest → TookLink (t ∷ tokens) l rest
 link_from_takes (Some k) t tokens l rest found is =
-    let same = got_same k l tokens rest is in
-    let q : t ≡ link_token l = link_takes t k found ∙ ap link_token same.value in
-    let r : tokens ≡ rest = same.rest in cc
+    let same : Same k l tokens rest = got_same k l tokens rest is in
+    let link : IsLinkToken t k = link_takes t k found in
+    subst (λ (l : Link). TookLink (t ∷ tokens) l rest) same.value (record { spelled = rw (← link.token, same.rest) refl; between = link.between })
 link_from_takes None t tokens l rest found is = cc
 
-pub link_at_takes : (tokens : List Tok) (l : Link) (rest : List Tok) → parse_link tokens ≡ got l rest → tokens ≡ link_token l ∷ rest
+pub link_at_takes : (tokens : List Tok) (l : Link) (rest : List Tok) → parse_link tokens ≡ got l rest → TookLink tokens l rest
 link_at_takes (t ∷ tokens) l rest is = link_from_takes (link_of t) t tokens l rest refl is
 link_at_takes [] l rest is = cc
 
 -- two expressions in brackets
-linked_took : (v : Version) (l : Link) (e f : Expression) (d : ℕ) (c : Counts) (tokens r1 r2 r3 rest : List Tok) → TookExpression v d c tokens e r1 → r1 ≡ link_token l ∷ r2
+linked_took : (v : Version) (l : Link) (e f : Expression) (d : ℕ) (c : Counts) (tokens r1 r2 r3 rest : List Tok) → TookExpression v d c tokens e r1 → TookLink r1 l r2
     → TookExpression v d (counts_with_expression c e) r2 f r3 → r3 ≡ symbol symbols.Close ∷ rest → c.expressions + size (linked l e f) ≤ 100000
     → TookExpression v (suc d) c (symbol symbols.Open ∷ tokens) (linked l e f) rest
 linked_took v links.Pair e f d c tokens r1 r2 r3 rest one between two closed few = record {
-  spelled = brackets_took (spell_expression v e) (spell_expression v f) tokens r1 r2 r3 rest (link_token links.Pair) one.spelled between two.spelled closed;
+  spelled = brackets_took (spell_expression v e) (spell_expression v f) tokens r1 r2 r3 rest (link_token links.Pair) one.spelled between.spelled two.spelled closed;
   shallow = omega (arith, one.shallow, two.shallow);
   few = few;
   known = (one.known, two.known);
 }
 linked_took v (links.Operation o) e f d c tokens r1 r2 r3 rest one between two closed few = record {
-  spelled = brackets_took (spell_expression v e) (spell_expression v f) tokens r1 r2 r3 rest (link_token (links.Operation o)) one.spelled between two.spelled closed;
+  spelled = rw between.between (brackets_took (spell_expression v e) (spell_expression v f) tokens r1 r2 r3 rest (link_token (links.Operation o)) one.spelled between.spelled two.spelled closed);
   shallow = omega (arith, one.shallow, two.shallow);
   few = few;
   known = (one.known, two.known);
@@ -198,38 +207,138 @@ bracketed_takes v d c (Some behind) tokens e rest part found is =
     (record { spelled = ap (λ r. symbol symbols.Open ∷ r) (close_takes tokens behind found); shallow = omega arith; few = few; known = tt }))
 bracketed_takes v d c None tokens e rest part found is = linked_takes v d c tokens e rest part is
 
-none_takes : (v : Version) (d : ℕ) (c : Counts) (tokens : List Tok) (e : Expression) (rest : List Tok)
-    → parse_none d v c (keyword words.NoEvent ∷ tokens) tokens ≡ got e rest → TookExpression v (suc d) c (keyword words.NoEvent ∷ tokens) e rest
+none_takes : (v : Version) (d : ℕ) (c : Counts) (k : Keyword) (tokens : List Tok) (e : Expression) (rest : List Tok) → k ≡ words.NoEvent
+    → parse_none d v c (keyword k ∷ tokens) tokens ≡ got e rest → TookExpression v (suc d) c (keyword k ∷ tokens) e rest
 unfolding parse_none
-none_takes v d c tokens e rest is =
-    let start : List Tok = keyword words.NoEvent ∷ tokens in
+none_takes v d c k tokens e rest word is =
+    let start : List Tok = keyword k ∷ tokens in
     bind_got (λ t r. expression_read c (literal (none_literal t)) start r) (parse_inner_type d v tokens 0 tokens) e rest is (λ t behind at_t is_e.
     let took : TookType v d 0 tokens t behind = inner_type_takes v d tokens 0 tokens t behind at_t in
     within_takes (c.expressions + 1) (literal (none_literal t)) e start behind rest is_e (λ few same.
     took_expression_as v (suc d) c start (literal (none_literal t)) e behind rest same
-    (record { spelled = ap (λ r. keyword words.NoEvent ∷ r) took.spelled; shallow = omega arith; few = few; known = written_type v d tokens t behind took })))
+    (record { spelled = rw (word, took.spelled) refl; shallow = omega arith; few = few; known = written_type v d tokens t behind took })))
 
-literal_read_takes : (v : Version) (d : ℕ) (c : Counts) (o : Option Literal) (t : Tok) (tokens : List Tok) (e : Expression) (rest : List Tok) → literal_of t ≡ o
-    → literal_read c o (t ∷ tokens) tokens ≡ got e rest → TookExpression v (suc d) c (t ∷ tokens) e rest
-literal_read_takes v d c (Some l) t tokens e rest found is =
-    let alone : IsAlone v d t l = literal_of_takes v d t l found in
-    within_takes (c.expressions + 1) (literal l) e (t ∷ tokens) tokens rest is (λ few same.
-    took_expression_as v (suc d) c (t ∷ tokens) (literal l) e tokens rest same
-    (record { spelled = ap (λ (f : List Tok). f ++ tokens) (sym alone.spelled); shallow = omega arith; few = few; known = alone.known }))
-literal_read_takes v d c None t tokens e rest found is = cc
+-- an operator on what was taken behind its word
+prefixed_takes : (v : Version) (d : ℕ) (c : Counts) (o : Unary) (k : Keyword) (tokens : List Tok) (e : Expression) (rest : List Tok) → TakesExpressions v d → BeginsWith (expression_heads.Prefixed o) k
+    → parse_prefixed (parse_expression d v) c o (keyword k ∷ tokens) tokens ≡ got e rest → TookExpression v (suc d) c (keyword k ∷ tokens) e rest
+unfolding parse_prefixed
+prefixed_takes v d c o k tokens e rest part begins is =
+    let start : List Tok = keyword k ∷ tokens in
+    bind_got (λ f r. expression_read c (applied o f) start r) (parse_expression d v c tokens) e rest is (λ f r1 at_f is_f.
+    within_takes (c.expressions + size (applied o f)) (applied o f) e start r1 rest is_f (λ few same.
+    let one : TookExpression v d c tokens f r1 = part c tokens f r1 at_f in
+    took_expression_as v (suc d) c start (applied o f) e r1 rest same
+    (record { spelled = rw (begins.0, begins.1, one.spelled) refl; shallow = omega (arith, one.shallow); few = few; known = one.known })))
+
+-- an operator on what was taken in brackets behind its word
+one_in_brackets_takes : (v : Version) (d : ℕ) (c : Counts) (o : Unary) (k : Keyword) (tokens : List Tok) (e : Expression) (rest : List Tok) → TakesExpressions v d → BeginsWith (expression_heads.OneInBrackets o) k
+    → parse_one_in_brackets (parse_expression d v) c o (keyword k ∷ tokens) tokens ≡ got e rest → TookExpression v (suc d) c (keyword k ∷ tokens) e rest
+unfolding parse_one_in_brackets
+one_in_brackets_takes v d c o k tokens e rest part begins is =
+    let start : List Tok = keyword k ∷ tokens in
+    bind_got (λ _ r. parse_expression d v c r and_then λ f r. parse_symbol symbols.Close r and_then λ _ r. expression_read c (applied o f) start r) (parse_symbol symbols.Open tokens) e rest is (λ u r0 opened is_u.
+    bind_got (λ f r. parse_symbol symbols.Close r and_then λ _ r. expression_read c (applied o f) start r) (parse_expression d v c r0) e rest is_u (λ f r1 at_f is_f.
+    bind_got (λ _ r. expression_read c (applied o f) start r) (parse_symbol symbols.Close r1) e rest is_f (λ w r2 closed is_w.
+    within_takes (c.expressions + size (applied o f)) (applied o f) e start r2 rest is_w (λ few same.
+    let one : TookExpression v d c r0 f r1 = part c r0 f r1 at_f in
+    took_expression_as v (suc d) c start (applied o f) e r2 rest same (record {
+      spelled = rw (
+        begins.0,
+        begins.1,
+        symbol_takes symbols.Open tokens u r0 opened,
+        one.spelled,
+        symbol_takes symbols.Close r1 w r2 closed,
+        append_assoc (spell_expression v f) (symbol symbols.Close ∷ []) r2,
+      ) refl;
+      shallow = omega (arith, one.shallow);
+      few = few;
+      known = one.known;
+    })))))
+
+-- an operator on the two that were taken in brackets behind its word
+two_in_brackets_takes : (v : Version) (d : ℕ) (c : Counts) (o : Operator) (k : Keyword) (tokens : List Tok) (e : Expression) (rest : List Tok) → TakesExpressions v d → BeginsWith (expression_heads.TwoInBrackets o) k
+    → parse_two_in_brackets (parse_expression d v) c o (keyword k ∷ tokens) tokens ≡ got e rest → TookExpression v (suc d) c (keyword k ∷ tokens) e rest
+unfolding parse_two_in_brackets
+two_in_brackets_takes v d c o k tokens e rest part begins is =
+    let start : List Tok = keyword k ∷ tokens in
+    bind_got (λ _ r. parse_parts (parse_expression d v c) (parse_symbol symbols.Comma) (λ f. parse_expression d v (counts_with_expression c f)) (λ f _ g rest. expression_read c (operation f o g) start rest) r)
+    (parse_symbol symbols.Open tokens) e rest is (λ u r0 opened is_u.
+    parts_takes (parse_expression d v c) (parse_symbol symbols.Comma) (λ f. parse_expression d v (counts_with_expression c f)) (λ f _ g rest. expression_read c (operation f o g) start rest) r0 e rest is_u
+    (λ f m g r1 r2 r3 r4 at_f at_m at_g closed is_e.
+    within_takes (c.expressions + size (operation f o g)) (operation f o g) e start r4 rest is_e (λ few same.
+    let one : TookExpression v d c r0 f r1 = part c r0 f r1 at_f in
+    let two : TookExpression v d (counts_with_expression c f) r2 g r3 = part (counts_with_expression c f) r2 g r3 at_g in
+    took_expression_as v (suc d) c start (operation f o g) e r4 rest same (record {
+      spelled = rw (begins.1, ← begins.0) (ap (λ r. keyword k ∷ r) (symbol_takes symbols.Open tokens u r0 opened
+          ∙ brackets_took (spell_expression v f) (spell_expression v g) r0 r1 r2 r3 r4 (symbol symbols.Comma) one.spelled (symbol_takes symbols.Comma r1 m r2 at_m) two.spelled closed));
+      shallow = omega (arith, one.shallow, two.shallow);
+      few = few;
+      known = (one.known, two.known);
+    }))))
+
+-- three parts, with words between them
+conditional_takes : (v : Version) (d : ℕ) (c : Counts) (k : Keyword) (tokens : List Tok) (e : Expression) (rest : List Tok) → TakesExpressions v d → k ≡ words.If
+    → parse_conditional (parse_expression d v) c (keyword k ∷ tokens) tokens ≡ got e rest → TookExpression v (suc d) c (keyword k ∷ tokens) e rest
+unfolding parse_conditional
+conditional_takes v d c k tokens e rest part word is =
+    let start : List Tok = keyword k ∷ tokens in
+    let last : Expression → Expression → List Tok → Read Expression = λ f g r. parse_expression d v (counts_with_expression (counts_with_expression c f) g) r and_then λ h r. expression_read c (conditional f g h) start r in
+    let second : Expression → List Tok → Read Expression = λ f r. parse_expression d v (counts_with_expression c f) r and_then λ g r. parse_keyword words.Else r and_then λ _ r. last f g r in
+    bind_got (λ f r. parse_keyword words.Then r and_then λ _ r. second f r) (parse_expression d v c tokens) e rest is (λ f r1 at_f is_f.
+    bind_got (λ _ r. second f r) (parse_keyword words.Then r1) e rest is_f (λ u r2 then_word is_u.
+    bind_got (λ g r. parse_keyword words.Else r and_then λ _ r. last f g r) (parse_expression d v (counts_with_expression c f) r2) e rest is_u (λ g r3 at_g is_g.
+    bind_got (λ _ r. last f g r) (parse_keyword words.Else r3) e rest is_g (λ w r4 else_word is_w.
+    bind_got (λ h r. expression_read c (conditional f g h) start r) (parse_expression d v (counts_with_expression (counts_with_expression c f) g) r4) e rest is_w (λ h r5 at_h is_h.
+    within_takes (c.expressions + size (conditional f g h)) (conditional f g h) e start r5 rest is_h (λ few same.
+    let one : TookExpression v d c tokens f r1 = part c tokens f r1 at_f in
+    let two : TookExpression v d (counts_with_expression c f) r2 g r3 = part (counts_with_expression c f) r2 g r3 at_g in
+    let three : TookExpression v d (counts_with_expression (counts_with_expression c f) g) r4 h r5 = part (counts_with_expression (counts_with_expression c f) g) r4 h r5 at_h in
+    took_expression_as v (suc d) c start (conditional f g h) e r5 rest same (record {
+      spelled = rw (
+        word,
+        one.spelled,
+        keyword_takes words.Then r1 u r2 then_word,
+        two.spelled,
+        keyword_takes words.Else r3 w r4 else_word,
+        three.spelled,
+        choice_behind (spell_expression v f) (spell_expression v g) (spell_expression v h) r5,
+      ) refl;
+      shallow = omega (arith, one.shallow, two.shallow, three.shallow);
+      few = few;
+      known = (one.known, two.known, three.known);
+    })))))))
+
+-- a form that is a token alone
+alone_takes : (v : Version) (d : ℕ) (c : Counts) (t : Tok) (f : Expression) (tokens : List Tok) (e : Expression) (rest : List Tok) → t ∷ [] ≡ spell_expression v f → expression_depth f ≡ 1 → size f ≡ 1 → WritesExpression v (suc d) f
+    → expression_read c f (t ∷ tokens) tokens ≡ got e rest → TookExpression v (suc d) c (t ∷ tokens) e rest
+alone_takes v d c t f tokens e rest spelled depth one known is =
+    within_takes (c.expressions + size f) f e (t ∷ tokens) tokens rest is (λ few same.
+    took_expression_as v (suc d) c (t ∷ tokens) f e tokens rest same
+    (record { spelled = ap (λ (front : List Tok). front ++ tokens) spelled; shallow = omega (arith, depth); few = few; known = known }))
+
+worded_expression_takes : (v : Version) (d : ℕ) (c : Counts) (h : Option ExpressionHead) (k : Keyword) (tokens : List Tok) (e : Expression) (rest : List Tok) → TakesExpressions v d → expression_head k ≡ h
+    → parse_worded_expression d v (parse_expression d v) c h (keyword k ∷ tokens) tokens ≡ got e rest → TookExpression v (suc d) c (keyword k ∷ tokens) e rest
+worded_expression_takes v d c (Some (expression_heads.Truth true)) k tokens e rest part found is =
+    alone_takes v d c (keyword k) (literal (truth_literal true)) tokens e rest (ap (λ w. keyword w ∷ []) (expression_head_takes k (expression_heads.Truth true) found)) refl refl tt is
+worded_expression_takes v d c (Some (expression_heads.Truth false)) k tokens e rest part found is =
+    alone_takes v d c (keyword k) (literal (truth_literal false)) tokens e rest (ap (λ w. keyword w ∷ []) (expression_head_takes k (expression_heads.Truth false) found)) refl refl tt is
+worded_expression_takes v d c (Some expression_heads.NoEvent) k tokens e rest part found is =
+    none_takes v d c k tokens e rest (expression_head_takes k expression_heads.NoEvent found) is
+worded_expression_takes v d c (Some (expression_heads.Prefixed o)) k tokens e rest part found is = prefixed_takes v d c o k tokens e rest part (expression_head_takes k (expression_heads.Prefixed o) found) is
+worded_expression_takes v d c (Some (expression_heads.OneInBrackets o)) k tokens e rest part found is = one_in_brackets_takes v d c o k tokens e rest part (expression_head_takes k (expression_heads.OneInBrackets o) found) is
+worded_expression_takes v d c (Some (expression_heads.TwoInBrackets o)) k tokens e rest part found is = two_in_brackets_takes v d c o k tokens e rest part (expression_head_takes k (expression_heads.TwoInBrackets o) found) is
+worded_expression_takes v d c (Some expression_heads.Conditional) k tokens e rest part found is =
+    conditional_takes v d c k tokens e rest part (expression_head_takes k expression_heads.Conditional found) is
+worded_expression_takes v d c None k tokens e rest part found is = cc
 
 pub expression_takes : (v : Version) (d : ℕ) → TakesExpressions v d
 unfolding parse_expression
 expression_takes v zero c tokens e rest is = deep_takes begins_expression tokens e rest is
-expression_takes v (suc d) c (name n ∷ tokens) e rest is =
-    within_takes (c.expressions + 1) (variable n) e (name n ∷ tokens) tokens rest is (λ few same.
-    took_expression_as v (suc d) c (name n ∷ tokens) (variable n) e tokens rest same (record { spelled = refl; shallow = omega arith; few = few; known = tt }))
-expression_takes v (suc d) c (keyword words.NoEvent ∷ tokens) e rest is = none_takes v d c tokens e rest is
+expression_takes v (suc d) c (name n ∷ tokens) e rest is = alone_takes v d c (name n) (variable n) tokens e rest refl refl refl tt is
+expression_takes v (suc d) c (number z ∷ tokens) e rest is = alone_takes v d c (number z) (literal (int_literal z)) tokens e rest refl refl refl tt is
+expression_takes v (suc d) c (text x ∷ tokens) e rest is = alone_takes v d c (text x) (literal (text_literal x)) tokens e rest refl refl refl tt is
+expression_takes v (suc d) c (keyword k ∷ tokens) e rest is = worded_expression_takes v d c (expression_head k) k tokens e rest (expression_takes v d) refl is
 expression_takes v (suc d) c (symbol symbols.Open ∷ tokens) e rest is = bracketed_takes v d c (behind_close tokens) tokens e rest (expression_takes v d) refl is
-expression_takes v (suc d) c (keyword words.True ∷ tokens) e rest is = literal_read_takes v d c (Some (truth_literal true)) (keyword words.True) tokens e rest refl is
-expression_takes v (suc d) c (keyword words.False ∷ tokens) e rest is = literal_read_takes v d c (Some (truth_literal false)) (keyword words.False) tokens e rest refl is
-expression_takes v (suc d) c (number z ∷ tokens) e rest is = literal_read_takes v d c (Some (int_literal z)) (number z) tokens e rest refl is
-expression_takes v (suc d) c (text x ∷ tokens) e rest is = literal_read_takes v d c (Some (text_literal x)) (text x) tokens e rest refl is
 expression_takes v (suc d) c _ e rest is = cc
 
 pub record TookFunction (v : Version) (d : ℕ) (c : Counts) (tokens : List Tok) (f : Function) (rest : List Tok) : Type 0 where

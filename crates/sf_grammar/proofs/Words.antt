@@ -1,18 +1,26 @@
 -- Words and symbols, and the forms that they stand for.
-use Rattle.std.proofs.Common.{◌≡◌, ℕ, suc, true, false, List, [], ◌∷◌, ◌++◌, Some, None, refl, subst}
+use Rattle.std.proofs.Common.{◌≡◌, Bool, true, false, List, [], ◌∷◌, ◌++◌, Option, Some, None, option_map, refl, subst}
 use Rattle.sf_term.specs.declared.form.Bare.TheVariants as bares
 use Rattle.sf_term.specs.declared.form.WithValue.TheVariants as values
 use Rattle.sf_term.specs.declared.form.Join.{Join}
 use Rattle.sf_term.specs.declared.form.Join.TheVariants as joins
 use Rattle.sf_term.specs.declared.form.Side.TheVariants as sides
 use Rattle.sf_term.specs.declared.form.Heading.TheVariants as headings
-use Rattle.sf_expr.specs.declared.operator.Operator.TheVariants as operators
-use Rattle.sf_expr.specs.Expressions.{Literal, unit_literal, truth_literal, int_literal, text_literal, none_literal, Expression, variable, literal, paired, operation}
+use Rattle.sf_operator.specs.declared.operator.Unary.{Unary}
+use Rattle.sf_operator.specs.declared.operator.Unary.TheVariants as unaries
+use Rattle.sf_operator.specs.declared.operator.Operator.{Operator}
+use Rattle.sf_operator.specs.declared.operator.Operator.TheVariants as operators
+use Rattle.sf_operator.specs.declared.operator.Arithmetic.TheVariants as arithmetics
+use Rattle.sf_operator.specs.declared.operator.Equality.TheVariants as equalities
+use Rattle.sf_operator.specs.declared.operator.Comparison.TheVariants as comparisons
+use Rattle.sf_operator.specs.declared.operator.Logic.TheVariants as logics
+use Rattle.sf_operator.specs.declared.operator.Merge.TheVariants as merges
+use Rattle.sf_expr.specs.Expressions.{unit_literal, truth_literal, int_literal, text_literal, none_literal, Expression, variable, literal, paired, applied, operation, conditional}
 use Rattle.sf_lex.specs.declared.word.Keyword.{Keyword}
 use Rattle.sf_lex.specs.declared.word.Keyword.TheVariants as words
 use Rattle.sf_lex.specs.declared.symbol.Symbol.{Symbol}
 use Rattle.sf_lex.specs.declared.symbol.Symbol.TheVariants as symbols
-use Rattle.sf_lex.specs.Tokens.{Tok, keyword, number, text, symbol}
+use Rattle.sf_lex.specs.Tokens.{Tok, keyword, symbol}
 use Rattle.sf_value.specs.Values.{KeyKind, int_keys, text_keys, nodes}
 use Rattle.sf_grammar.specs.declared.ty.Version.{Version}
 use Rattle.sf_grammar.specs.declared.ty.Version.TheVariants as versions
@@ -22,10 +30,12 @@ use Rattle.sf_grammar.specs.declared.ty.TypeHead.{TypeHead}
 use Rattle.sf_grammar.specs.declared.ty.TypeHead.TheVariants as type_heads
 use Rattle.sf_grammar.specs.declared.head.Head.{Head}
 use Rattle.sf_grammar.specs.declared.head.Head.TheVariants as heads
+use Rattle.sf_grammar.specs.declared.head.ExpressionHead.{ExpressionHead}
+use Rattle.sf_grammar.specs.declared.head.ExpressionHead.TheVariants as expression_heads
 use Rattle.sf_grammar.specs.declared.head.Link.{Link}
 use Rattle.sf_grammar.specs.declared.head.Link.TheVariants as links
-use Rattle.sf_grammar.specs.Spelling.{bare_word, value_word, side_word, heading_word, join_symbol, operator_token, spell_type, spell_keys, type_depth, WritesKeys, WritesType, spell_literal, spell_expression, WritesExpression}
-use Rattle.sf_grammar.specs.Reading.{head_of, join_of, link_of, type_head, word_kind, got, parse_keys, literal_of, behind_close}
+use Rattle.sf_grammar.specs.Spelling.{bare_word, value_word, side_word, heading_word, join_symbol, unary_word, takes_brackets, operator_token, stands_between, spell_operands, spell_type, spell_keys, type_depth, WritesKeys, WritesType, spell_expression}
+use Rattle.sf_grammar.specs.Reading.{head_of, join_of, operator_of, link_of, expression_head, type_head, word_kind, got, parse_keys, behind_close}
 
 -- the word of a form
 abbrev pub head_word : Head → Keyword
@@ -70,22 +80,123 @@ abbrev pub link_token : Link → Tok
 link_token links.Pair = symbol symbols.Comma
 link_token (links.Operation o) = operator_token o
 
-pub link_again : (l : Link) → link_of (link_token l) ≡ Some l
-link_again links.Pair = refl
-link_again (links.Operation operators.Plus) = refl
-link_again (links.Operation operators.Minus) = refl
-link_again (links.Operation operators.Times) = refl
-link_again (links.Operation operators.Divide) = refl
-link_again (links.Operation operators.Modulo) = refl
+-- it stands there, in a text
+abbrev pub LinksBetween : Link → Type 0
+LinksBetween links.Pair = Unit {0}
+LinksBetween (links.Operation o) = stands_between o ≡ true
 
-pub link_takes : (t : Tok) (l : Link) → link_of t ≡ Some l → t ≡ link_token l
-link_takes (symbol symbols.Comma) l e = let p : links.Pair ≡ l = cc in rw (← p) refl
-link_takes (symbol symbols.Plus) l e = let p : links.Operation operators.Plus ≡ l = cc in rw (← p) refl
-link_takes (symbol symbols.Minus) l e = let p : links.Operation operators.Minus ≡ l = cc in rw (← p) refl
-link_takes (symbol symbols.Times) l e = let p : links.Operation operators.Times ≡ l = cc in rw (← p) refl
-link_takes (keyword words.Div) l e = let p : links.Operation operators.Divide ≡ l = cc in rw (← p) refl
-link_takes (keyword words.Mod) l e = let p : links.Operation operators.Modulo ≡ l = cc in rw (← p) refl
-link_takes _ l e = cc
+pub link_again : (l : Link) → LinksBetween l → link_of (link_token l) ≡ Some l
+link_again links.Pair between = refl
+link_again (links.Operation (operators.Arithmetic arithmetics.Plus)) between = refl
+link_again (links.Operation (operators.Arithmetic arithmetics.Minus)) between = refl
+link_again (links.Operation (operators.Arithmetic arithmetics.Times)) between = refl
+link_again (links.Operation (operators.Arithmetic arithmetics.Divide)) between = refl
+link_again (links.Operation (operators.Arithmetic arithmetics.Modulo)) between = refl
+link_again (links.Operation (operators.Equality equalities.Equal)) between = refl
+link_again (links.Operation (operators.Equality equalities.Unequal)) between = refl
+link_again (links.Operation (operators.Comparison comparisons.Less)) between = refl
+link_again (links.Operation (operators.Comparison comparisons.AtMost)) between = refl
+link_again (links.Operation (operators.Comparison comparisons.Greater)) between = refl
+link_again (links.Operation (operators.Comparison comparisons.AtLeast)) between = refl
+link_again (links.Operation (operators.Logic logics.And)) between = refl
+link_again (links.Operation (operators.Logic logics.Or)) between = refl
+link_again (links.Operation _) between = cc
+
+-- a token between two expressions is that of a link
+pub record IsLinkToken (t : Tok) (l : Link) : Type 0 where
+  pub token : t ≡ link_token l
+  pub between : LinksBetween l
+
+operator_as : (t : Tok) (o p : Operator) → Some o ≡ Some p → t ≡ operator_token o → stands_between o ≡ true → IsLinkToken t (links.Operation p)
+operator_as t o p same token between = let q : o ≡ p = cc in subst (λ (p : Operator). IsLinkToken t (links.Operation p)) q (record { token = token; between = between })
+
+operator_takes : (t : Tok) (o : Operator) → operator_of t ≡ Some o → IsLinkToken t (links.Operation o)
+operator_takes (symbol symbols.Plus) o e = operator_as (symbol symbols.Plus) (operators.Arithmetic arithmetics.Plus) o e refl refl
+operator_takes (symbol symbols.Minus) o e = operator_as (symbol symbols.Minus) (operators.Arithmetic arithmetics.Minus) o e refl refl
+operator_takes (symbol symbols.Times) o e = operator_as (symbol symbols.Times) (operators.Arithmetic arithmetics.Times) o e refl refl
+operator_takes (keyword words.Div) o e = operator_as (keyword words.Div) (operators.Arithmetic arithmetics.Divide) o e refl refl
+operator_takes (keyword words.Mod) o e = operator_as (keyword words.Mod) (operators.Arithmetic arithmetics.Modulo) o e refl refl
+operator_takes (symbol symbols.IsEqual) o e = operator_as (symbol symbols.IsEqual) (operators.Equality equalities.Equal) o e refl refl
+operator_takes (symbol symbols.IsDifferent) o e = operator_as (symbol symbols.IsDifferent) (operators.Equality equalities.Unequal) o e refl refl
+operator_takes (symbol symbols.Less) o e = operator_as (symbol symbols.Less) (operators.Comparison comparisons.Less) o e refl refl
+operator_takes (symbol symbols.AtMost) o e = operator_as (symbol symbols.AtMost) (operators.Comparison comparisons.AtMost) o e refl refl
+operator_takes (symbol symbols.Greater) o e = operator_as (symbol symbols.Greater) (operators.Comparison comparisons.Greater) o e refl refl
+operator_takes (symbol symbols.AtLeast) o e = operator_as (symbol symbols.AtLeast) (operators.Comparison comparisons.AtLeast) o e refl refl
+operator_takes (keyword words.And) o e = operator_as (keyword words.And) (operators.Logic logics.And) o e refl refl
+operator_takes (keyword words.Or) o e = operator_as (keyword words.Or) (operators.Logic logics.Or) o e refl refl
+operator_takes _ o e = cc
+
+operator_link : (found : Option Operator) (t : Tok) (l : Link) → operator_of t ≡ found → option_map links.Operation found ≡ Some l → IsLinkToken t l
+operator_link (Some o) t l found e = let p : links.Operation o ≡ l = cc in subst (IsLinkToken t) p (operator_takes t o found)
+operator_link None t l found e = cc
+
+pub link_takes : (t : Tok) (l : Link) → link_of t ≡ Some l → IsLinkToken t l
+link_takes (symbol symbols.Comma) l e = let p : links.Pair ≡ l = cc in subst (IsLinkToken (symbol symbols.Comma)) p (record { token = refl; between = tt })
+link_takes t l e = operator_link (operator_of t) t l refl e
+
+-- a word is that of a form of expressions, whose operands stand so
+abbrev pub BeginsWith : ExpressionHead → Keyword → Type 0
+BeginsWith (expression_heads.Truth true) k = k ≡ words.True
+BeginsWith (expression_heads.Truth false) k = k ≡ words.False
+BeginsWith expression_heads.NoEvent k = k ≡ words.NoEvent
+BeginsWith (expression_heads.Prefixed o) k = (k ≡ unary_word o) × (takes_brackets o ≡ false)
+BeginsWith (expression_heads.OneInBrackets o) k = (k ≡ unary_word o) × (takes_brackets o ≡ true)
+BeginsWith (expression_heads.TwoInBrackets o) k = (keyword k ≡ operator_token o) × (stands_between o ≡ false)
+BeginsWith expression_heads.Conditional k = k ≡ words.If
+
+begins_as : (k : Keyword) (g h : ExpressionHead) → Some g ≡ Some h → BeginsWith g k → BeginsWith h k
+begins_as k g h same begins = let p : g ≡ h = cc in subst (λ (h : ExpressionHead). BeginsWith h k) p begins
+
+pub expression_head_takes : (k : Keyword) (h : ExpressionHead) → expression_head k ≡ Some h → BeginsWith h k
+expression_head_takes words.True h e = begins_as words.True (expression_heads.Truth true) h e refl
+expression_head_takes words.False h e = begins_as words.False (expression_heads.Truth false) h e refl
+expression_head_takes words.NoEvent h e = begins_as words.NoEvent expression_heads.NoEvent h e refl
+expression_head_takes words.Not h e = begins_as words.Not (expression_heads.Prefixed unaries.Not) h e (refl, refl)
+expression_head_takes words.EventOf h e = begins_as words.EventOf (expression_heads.Prefixed unaries.Event) h e (refl, refl)
+expression_head_takes words.Fst h e = begins_as words.Fst (expression_heads.OneInBrackets unaries.First) h e (refl, refl)
+expression_head_takes words.Snd h e = begins_as words.Snd (expression_heads.OneInBrackets unaries.Second) h e (refl, refl)
+expression_head_takes words.IsEvent h e = begins_as words.IsEvent (expression_heads.OneInBrackets unaries.IsEvent) h e (refl, refl)
+expression_head_takes words.Size h e = begins_as words.Size (expression_heads.OneInBrackets unaries.Size) h e (refl, refl)
+expression_head_takes words.Tag h e = begins_as words.Tag (expression_heads.TwoInBrackets operators.Tag) h e (refl, refl)
+expression_head_takes words.Attach h e = begins_as words.Attach (expression_heads.TwoInBrackets operators.Attach) h e (refl, refl)
+expression_head_takes words.FromEvent h e = begins_as words.FromEvent (expression_heads.TwoInBrackets operators.FromEvent) h e (refl, refl)
+expression_head_takes words.Gate h e = begins_as words.Gate (expression_heads.TwoInBrackets operators.Gate) h e (refl, refl)
+expression_head_takes words.LMerge h e = begins_as words.LMerge (expression_heads.TwoInBrackets (operators.Merge merges.Left)) h e (refl, refl)
+expression_head_takes words.RMerge h e = begins_as words.RMerge (expression_heads.TwoInBrackets (operators.Merge merges.Right)) h e (refl, refl)
+expression_head_takes words.Merge h e = begins_as words.Merge (expression_heads.TwoInBrackets (operators.Merge merges.Exclusive)) h e (refl, refl)
+expression_head_takes words.Get h e = begins_as words.Get (expression_heads.TwoInBrackets operators.Get) h e (refl, refl)
+expression_head_takes words.If h e = begins_as words.If expression_heads.Conditional h e refl
+expression_head_takes _ h e = cc
+
+-- what the word of an operator on one value begins, by how its operand stands
+abbrev pub unary_head : Bool → Unary → ExpressionHead
+unary_head false o = expression_heads.Prefixed o
+unary_head true o = expression_heads.OneInBrackets o
+
+pub unary_again : (o : Unary) → expression_head (unary_word o) ≡ Some (unary_head (takes_brackets o) o)
+unary_again unaries.Not = refl
+unary_again unaries.Event = refl
+unary_again unaries.First = refl
+unary_again unaries.Second = refl
+unary_again unaries.IsEvent = refl
+unary_again unaries.Size = refl
+
+-- the token of an operator in front of its operands is a word, which begins it
+pub record IsInFront (o : Operator) : Type 0 where
+  pub word : Keyword
+  pub token : operator_token o ≡ keyword word
+  pub head : expression_head word ≡ Some (expression_heads.TwoInBrackets o)
+
+pub operator_again : (o : Operator) → stands_between o ≡ false → IsInFront o
+operator_again operators.Tag front = record { word = words.Tag; token = refl; head = refl }
+operator_again operators.Attach front = record { word = words.Attach; token = refl; head = refl }
+operator_again operators.FromEvent front = record { word = words.FromEvent; token = refl; head = refl }
+operator_again operators.Gate front = record { word = words.Gate; token = refl; head = refl }
+operator_again (operators.Merge merges.Left) front = record { word = words.LMerge; token = refl; head = refl }
+operator_again (operators.Merge merges.Right) front = record { word = words.RMerge; token = refl; head = refl }
+operator_again (operators.Merge merges.Exclusive) front = record { word = words.Merge; token = refl; head = refl }
+operator_again operators.Get front = record { word = words.Get; token = refl; head = refl }
+operator_again _ front = cc
 
 -- the word of a type that is a word alone
 abbrev pub type_word : WordType → Keyword
@@ -130,24 +241,13 @@ keys_again versions.One text_keys rest known = absurd known
 keys_again versions.Two int_keys rest known = refl
 keys_again versions.Two text_keys rest known = refl
 
--- a literal that is a token alone
-pub record IsAlone (v : Version) (d : ℕ) (t : Tok) (l : Literal) : Type 0 where
-  pub spelled : spell_literal v l ≡ t ∷ []
-  pub known : WritesExpression v (suc d) (literal l)
-
-alone_as : (v : Version) (d : ℕ) (t : Tok) (j l : Literal) → Some j ≡ Some l → IsAlone v d t j → IsAlone v d t l
-alone_as v d t j l same alone = let p : j ≡ l = cc in subst (IsAlone v d t) p alone
-
-pub literal_of_takes : (v : Version) (d : ℕ) (t : Tok) (l : Literal) → literal_of t ≡ Some l → IsAlone v d t l
-literal_of_takes v d (number z) l e = alone_as v d (number z) (int_literal z) l e (record { spelled = refl; known = tt })
-literal_of_takes v d (text s) l e = alone_as v d (text s) (text_literal s) l e (record { spelled = refl; known = tt })
-literal_of_takes v d (keyword words.True) l e = alone_as v d (keyword words.True) (truth_literal true) l e (record { spelled = refl; known = tt })
-literal_of_takes v d (keyword words.False) l e = alone_as v d (keyword words.False) (truth_literal false) l e (record { spelled = refl; known = tt })
-literal_of_takes v d _ l e = cc
-
 pub close_takes : (tokens rest : List Tok) → behind_close tokens ≡ Some rest → tokens ≡ symbol symbols.Close ∷ rest
 close_takes (symbol symbols.Close ∷ tokens) rest e = let p : tokens ≡ rest = cc in rw p refl
 close_takes _ rest e = cc
+
+operands_open : (between : Bool) (o : Operator) (xs ys rest : List Tok) → stands_between o ≡ between → behind_close (spell_operands between (operator_token o) xs ys ++ rest) ≡ None
+operands_open true o xs ys rest is = refl
+operands_open false o xs ys rest is = let front = operator_again o is in rw front.token refl
 
 -- no expression begins with a closing bracket
 pub no_close : (v : Version) (e : Expression) (rest : List Tok) → behind_close (spell_expression v e ++ rest) ≡ None
@@ -159,4 +259,6 @@ no_close v (literal (int_literal z)) rest = refl
 no_close v (literal (text_literal s)) rest = refl
 no_close v (literal (none_literal t)) rest = refl
 no_close v (paired e f) rest = refl
-no_close v (operation e o f) rest = refl
+no_close v (applied o e) rest = refl
+no_close v (operation e o f) rest = operands_open (stands_between o) o (spell_expression v e) (spell_expression v f) rest refl
+no_close v (conditional e f g) rest = refl

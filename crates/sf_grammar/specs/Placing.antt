@@ -1,8 +1,9 @@
 -- Where what was read from a text stands: a form at its first token, and a name at its own.
-use Rattle.std.specs.Prelude.{◌≡◌, ℕ, List, [], ◌∷◌, ◌++◌, length, map}
+use Rattle.std.specs.Prelude.{◌≡◌, ℕ, true, false, List, [], ◌∷◌, ◌++◌, length, map}
 use Rattle.sf_value.specs.Values.{Name}
 use Rattle.sf_refusal.specs.declared.spot.Spot.{Spot}
-use Rattle.sf_expr.specs.declared.operator.Operator.{Operator}
+use Rattle.sf_operator.specs.declared.operator.Unary.{Unary}
+use Rattle.sf_operator.specs.declared.operator.Operator.{Operator}
 use Rattle.sf_expr.specs.declared.exprs.ExprId.{ExprId}
 use Rattle.sf_expr.specs.declared.exprs.NameId.{NameId}
 use Rattle.sf_expr.specs.declared.exprs.ConstantId.{ConstantId}
@@ -24,7 +25,7 @@ use Rattle.sf_term.specs.Headers.{Header}
 use Rattle.sf_term.specs.Arena.{HoldsTerm, HoldsExpression, ProgramHoldsFunction, term_node_at, term_spot_at, expression_under, expression_node_at, expression_spot_at, function_pattern_at, function_body_at, headers_of, template_in, templates_of}
 use Rattle.sf_lex.specs.Tokens.{Located, place_at}
 use Rattle.sf_grammar.specs.declared.ty.Version.{Version}
-use Rattle.sf_grammar.specs.Spelling.{spell_expression, spell_signature, IsNetworkText}
+use Rattle.sf_grammar.specs.Spelling.{takes_brackets, stands_between, spell_expression, spell_signature, IsNetworkText}
 
 -- the places of two parts in brackets, with a token between them
 abbrev pub around : Spot → List Spot → Spot → List Spot → Spot → List Spot
@@ -52,8 +53,16 @@ pub data ExpressionPlaced (v : Version) (p : Program) : ExprId → List Spot →
   variable_placed : {id : ExprId} {n : NameId} {at : Spot} → ExpressionStands p id (expressions.Name n) at → ExpressionPlaced v p id (at ∷ [])
   pair_placed : {id a b : ExprId} {xs ys : List Spot} {opening : Spot} (comma closing : Spot) → ExpressionStands p id (expressions.Pair a b) opening
       → ExpressionPlaced v p a xs → ExpressionPlaced v p b ys → ExpressionPlaced v p id (around opening xs comma ys closing)
-  operation_placed : {id a b : ExprId} {o : Operator} {xs ys : List Spot} {opening : Spot} (operator closing : Spot) → ExpressionStands p id (expressions.Operation a o b) opening
+  prefixed_placed : {id a : ExprId} {o : Unary} {xs : List Spot} {at : Spot} → takes_brackets o ≡ false → ExpressionStands p id (expressions.Applied o a) at
+      → ExpressionPlaced v p a xs → ExpressionPlaced v p id (at ∷ xs)
+  one_in_brackets_placed : {id a : ExprId} {o : Unary} {xs : List Spot} {at : Spot} (opening closing : Spot) → takes_brackets o ≡ true → ExpressionStands p id (expressions.Applied o a) at
+      → ExpressionPlaced v p a xs → ExpressionPlaced v p id (at ∷ opening ∷ (xs ++ (closing ∷ [])))
+  operation_placed : {id a b : ExprId} {o : Operator} {xs ys : List Spot} {opening : Spot} (operator closing : Spot) → stands_between o ≡ true → ExpressionStands p id (expressions.Operation a o b) opening
       → ExpressionPlaced v p a xs → ExpressionPlaced v p b ys → ExpressionPlaced v p id (around opening xs operator ys closing)
+  two_in_brackets_placed : {id a b : ExprId} {o : Operator} {xs ys : List Spot} {at : Spot} (opening comma closing : Spot) → stands_between o ≡ false → ExpressionStands p id (expressions.Operation a o b) at
+      → ExpressionPlaced v p a xs → ExpressionPlaced v p b ys → ExpressionPlaced v p id (at ∷ around opening xs comma ys closing)
+  conditional_placed : {id a b c : ExprId} {xs ys zs : List Spot} {at : Spot} (then_at else_at : Spot) → ExpressionStands p id (expressions.Conditional a b c) at
+      → ExpressionPlaced v p a xs → ExpressionPlaced v p b ys → ExpressionPlaced v p c zs → ExpressionPlaced v p id (at ∷ (xs ++ (then_at ∷ (ys ++ (else_at ∷ zs)))))
 
 -- the function at an id, whose tokens have these places
 pub data FunctionPlaced (v : Version) (p : Program) : FunctionId → List Spot → Type 0 where

@@ -1,10 +1,18 @@
 -- What reading a list of tokens from left to right gives.
-use Rattle.std.specs.Prelude.{ℕ, zero, suc, ◌+◌, nat_le, nat_lt, Bool, true, false, pos, List, [], ◌∷◌, Option, Some, None, is_some, if◌then◌else◌}
+use Rattle.std.specs.Prelude.{ℕ, zero, suc, ◌+◌, nat_le, nat_lt, Bool, true, false, pos, List, [], ◌∷◌, Option, Some, None, is_some, option_map, if◌then◌else◌}
 use Rattle.std.specs.Ordering.{int_eq}
 use denote.Enum.Bare.{sameb}
 use Rattle.sf_value.specs.Values.{Name, KeyKind, int_keys, text_keys, Kind, unit_kind, bool_kind, int_kind, text_kind, pair_kind, event_kind, table_kind, nodes}
-use Rattle.sf_expr.specs.declared.operator.Operator.TheVariants as operators
-use Rattle.sf_expr.specs.Expressions.{Pattern, unnamed, named, both, Literal, unit_literal, truth_literal, int_literal, text_literal, none_literal, Expression, variable, literal, paired, operation, size, Function, function}
+use Rattle.sf_operator.specs.declared.operator.Unary.{Unary}
+use Rattle.sf_operator.specs.declared.operator.Unary.TheVariants as unaries
+use Rattle.sf_operator.specs.declared.operator.Operator.{Operator}
+use Rattle.sf_operator.specs.declared.operator.Operator.TheVariants as operators
+use Rattle.sf_operator.specs.declared.operator.Arithmetic.TheVariants as arithmetics
+use Rattle.sf_operator.specs.declared.operator.Equality.TheVariants as equalities
+use Rattle.sf_operator.specs.declared.operator.Comparison.TheVariants as comparisons
+use Rattle.sf_operator.specs.declared.operator.Logic.TheVariants as logics
+use Rattle.sf_operator.specs.declared.operator.Merge.TheVariants as merges
+use Rattle.sf_expr.specs.Expressions.{Pattern, unnamed, named, both, unit_literal, truth_literal, int_literal, text_literal, none_literal, Expression, variable, literal, paired, applied, operation, conditional, size, Function, function}
 use Rattle.sf_term.specs.declared.form.Bare.TheVariants as bares
 use Rattle.sf_term.specs.declared.form.WithValue.{WithValue}
 use Rattle.sf_term.specs.declared.form.WithValue.TheVariants as values
@@ -32,6 +40,8 @@ use Rattle.sf_grammar.specs.declared.ty.TypeHead.{TypeHead}
 use Rattle.sf_grammar.specs.declared.ty.TypeHead.TheVariants as type_heads
 use Rattle.sf_grammar.specs.declared.head.Head.{Head}
 use Rattle.sf_grammar.specs.declared.head.Head.TheVariants as heads
+use Rattle.sf_grammar.specs.declared.head.ExpressionHead.{ExpressionHead}
+use Rattle.sf_grammar.specs.declared.head.ExpressionHead.TheVariants as expression_heads
 use Rattle.sf_grammar.specs.declared.head.Link.{Link}
 use Rattle.sf_grammar.specs.declared.head.Link.TheVariants as links
 
@@ -191,15 +201,27 @@ counts_with c t = record { terms = c.terms + terms_in t; expressions = c.express
 abbrev pub expression_read : Counts → Expression → List Tok → List Tok → Read Expression
 expression_read c e start rest = if nat_le (c.expressions + size e) 100000 then got e rest else stop TooMany start
 
+-- the operator that a token between two operands is
+abbrev pub operator_of : Tok → Option Operator
+operator_of (symbol symbols.Plus) = Some (operators.Arithmetic arithmetics.Plus)
+operator_of (symbol symbols.Minus) = Some (operators.Arithmetic arithmetics.Minus)
+operator_of (symbol symbols.Times) = Some (operators.Arithmetic arithmetics.Times)
+operator_of (keyword words.Div) = Some (operators.Arithmetic arithmetics.Divide)
+operator_of (keyword words.Mod) = Some (operators.Arithmetic arithmetics.Modulo)
+operator_of (symbol symbols.IsEqual) = Some (operators.Equality equalities.Equal)
+operator_of (symbol symbols.IsDifferent) = Some (operators.Equality equalities.Unequal)
+operator_of (symbol symbols.Less) = Some (operators.Comparison comparisons.Less)
+operator_of (symbol symbols.AtMost) = Some (operators.Comparison comparisons.AtMost)
+operator_of (symbol symbols.Greater) = Some (operators.Comparison comparisons.Greater)
+operator_of (symbol symbols.AtLeast) = Some (operators.Comparison comparisons.AtLeast)
+operator_of (keyword words.And) = Some (operators.Logic logics.And)
+operator_of (keyword words.Or) = Some (operators.Logic logics.Or)
+operator_of _ = None
+
 -- what makes one expression of the two in front of a token and behind it
 abbrev pub link_of : Tok → Option Link
 link_of (symbol symbols.Comma) = Some links.Pair
-link_of (symbol symbols.Plus) = Some (links.Operation operators.Plus)
-link_of (symbol symbols.Minus) = Some (links.Operation operators.Minus)
-link_of (symbol symbols.Times) = Some (links.Operation operators.Times)
-link_of (keyword words.Div) = Some (links.Operation operators.Divide)
-link_of (keyword words.Mod) = Some (links.Operation operators.Modulo)
-link_of _ = None
+link_of t = option_map links.Operation (operator_of t)
 
 abbrev pub link_from : Option Link → List Tok → List Tok → Read Link
 link_from (Some l) start rest = got l rest
@@ -218,18 +240,6 @@ linked (links.Operation o) e f = operation e o f
 unfoldable pub parse_linked : (Counts → List Tok → Read Expression) → Counts → List Tok → List Tok → Read Expression
 parse_linked part c start tokens = parse_parts (part c) parse_link (λ e. part (counts_with_expression c e)) (λ e l f rest. expression_read c (linked l e f) start rest) tokens
 
--- the literal that is a token alone
-abbrev pub literal_of : Tok → Option Literal
-literal_of (number z) = Some (int_literal z)
-literal_of (text s) = Some (text_literal s)
-literal_of (keyword words.True) = Some (truth_literal true)
-literal_of (keyword words.False) = Some (truth_literal false)
-literal_of _ = None
-
-abbrev pub literal_read : Counts → Option Literal → List Tok → List Tok → Read Expression
-literal_read c (Some l) start rest = expression_read c (literal l) start rest
-literal_read c None start rest = stop Unexpected start
-
 -- behind a closing bracket
 abbrev pub behind_close : List Tok → Option (List Tok)
 behind_close (symbol symbols.Close ∷ rest) = Some rest
@@ -244,19 +254,82 @@ bracketed_from part c None start tokens = parse_linked part c start tokens
 unfoldable pub parse_none : ℕ → Version → Counts → List Tok → List Tok → Read Expression
 parse_none left v c start tokens = parse_inner_type left v tokens 0 tokens and_then λ t rest. expression_read c (literal (none_literal t)) start rest
 
+-- what a word begins within expressions
+abbrev pub expression_head : Keyword → Option ExpressionHead
+expression_head words.True = Some (expression_heads.Truth true)
+expression_head words.False = Some (expression_heads.Truth false)
+expression_head words.NoEvent = Some expression_heads.NoEvent
+expression_head words.Not = Some (expression_heads.Prefixed unaries.Not)
+expression_head words.EventOf = Some (expression_heads.Prefixed unaries.Event)
+expression_head words.Fst = Some (expression_heads.OneInBrackets unaries.First)
+expression_head words.Snd = Some (expression_heads.OneInBrackets unaries.Second)
+expression_head words.IsEvent = Some (expression_heads.OneInBrackets unaries.IsEvent)
+expression_head words.Size = Some (expression_heads.OneInBrackets unaries.Size)
+expression_head words.Tag = Some (expression_heads.TwoInBrackets operators.Tag)
+expression_head words.Attach = Some (expression_heads.TwoInBrackets operators.Attach)
+expression_head words.FromEvent = Some (expression_heads.TwoInBrackets operators.FromEvent)
+expression_head words.Gate = Some (expression_heads.TwoInBrackets operators.Gate)
+expression_head words.LMerge = Some (expression_heads.TwoInBrackets (operators.Merge merges.Left))
+expression_head words.RMerge = Some (expression_heads.TwoInBrackets (operators.Merge merges.Right))
+expression_head words.Merge = Some (expression_heads.TwoInBrackets (operators.Merge merges.Exclusive))
+expression_head words.Get = Some (expression_heads.TwoInBrackets operators.Get)
+expression_head words.If = Some expression_heads.Conditional
+expression_head _ = None
+
+-- behind the word of an operator, with which `start` begins: the operand, where it is read so
+unfoldable pub parse_prefixed : (Counts → List Tok → Read Expression) → Counts → Unary → List Tok → List Tok → Read Expression
+parse_prefixed part c o start tokens = part c tokens and_then λ e rest. expression_read c (applied o e) start rest
+
+-- behind the word of an operator, with which `start` begins: the operand in brackets
+unfoldable pub parse_one_in_brackets : (Counts → List Tok → Read Expression) → Counts → Unary → List Tok → List Tok → Read Expression
+parse_one_in_brackets part c o start tokens =
+    parse_symbol symbols.Open tokens and_then λ _ rest.
+    part c rest and_then λ e rest.
+    parse_symbol symbols.Close rest and_then λ _ rest.
+    expression_read c (applied o e) start rest
+
+-- behind the word of an operator, with which `start` begins: the two operands in brackets
+unfoldable pub parse_two_in_brackets : (Counts → List Tok → Read Expression) → Counts → Operator → List Tok → List Tok → Read Expression
+parse_two_in_brackets part c o start tokens =
+    parse_symbol symbols.Open tokens and_then λ _ rest.
+    parse_parts (part c) (parse_symbol symbols.Comma) (λ e. part (counts_with_expression c e)) (λ e _ f rest. expression_read c (operation e o f) start rest) rest
+
+-- behind `if`, with which `start` begins
+unfoldable pub parse_conditional : (Counts → List Tok → Read Expression) → Counts → List Tok → List Tok → Read Expression
+parse_conditional part c start tokens =
+    part c tokens and_then λ e rest.
+    parse_keyword words.Then rest and_then λ _ rest.
+    part (counts_with_expression c e) rest and_then λ f rest.
+    parse_keyword words.Else rest and_then λ _ rest.
+    part (counts_with_expression (counts_with_expression c e) f) rest and_then λ g rest.
+    expression_read c (conditional e f g) start rest
+
+-- behind the word of an expression, with which `start` begins
+abbrev pub parse_worded_expression : ℕ → Version → (Counts → List Tok → Read Expression) → Counts → Option ExpressionHead → List Tok → List Tok → Read Expression
+parse_worded_expression left v part c (Some (expression_heads.Truth b)) start tokens = expression_read c (literal (truth_literal b)) start tokens
+parse_worded_expression left v part c (Some expression_heads.NoEvent) start tokens = parse_none left v c start tokens
+parse_worded_expression left v part c (Some (expression_heads.Prefixed o)) start tokens = parse_prefixed part c o start tokens
+parse_worded_expression left v part c (Some (expression_heads.OneInBrackets o)) start tokens = parse_one_in_brackets part c o start tokens
+parse_worded_expression left v part c (Some (expression_heads.TwoInBrackets o)) start tokens = parse_two_in_brackets part c o start tokens
+parse_worded_expression left v part c (Some expression_heads.Conditional) start tokens = parse_conditional part c start tokens
+parse_worded_expression left v part c None start tokens = stop Unexpected start
+
 -- an expression by its first token
 abbrev pub parse_expression_form : ℕ → Version → (Counts → List Tok → Read Expression) → Counts → List Tok → Read Expression
 parse_expression_form left v part c (name n ∷ rest) = expression_read c (variable n) (name n ∷ rest) rest
-parse_expression_form left v part c (keyword words.NoEvent ∷ rest) = parse_none left v c (keyword words.NoEvent ∷ rest) rest
+parse_expression_form left v part c (number z ∷ rest) = expression_read c (literal (int_literal z)) (number z ∷ rest) rest
+parse_expression_form left v part c (text s ∷ rest) = expression_read c (literal (text_literal s)) (text s ∷ rest) rest
+parse_expression_form left v part c (keyword k ∷ rest) = parse_worded_expression left v part c (expression_head k) (keyword k ∷ rest) rest
 parse_expression_form left v part c (symbol symbols.Open ∷ rest) = bracketed_from part c (behind_close rest) (symbol symbols.Open ∷ rest) rest
-parse_expression_form left v part c (t ∷ rest) = literal_read c (literal_of t) (t ∷ rest) rest
-parse_expression_form left v part c [] = stop Unexpected []
+parse_expression_form left v part c tokens = stop Unexpected tokens
 
 abbrev pub begins_expression : Tok → Bool
 begins_expression (name n) = true
-begins_expression (keyword words.NoEvent) = true
+begins_expression (number z) = true
+begins_expression (text s) = true
+begins_expression (keyword k) = is_some (expression_head k)
 begins_expression (symbol symbols.Open) = true
-begins_expression t = is_some (literal_of t)
+begins_expression _ = false
 
 -- an expression of so much depth at most
 unfoldable pub parse_expression : ℕ → Version → Counts → List Tok → Read Expression

@@ -1,10 +1,17 @@
 -- Networks, and the tokens that spell them.
-use Rattle.std.specs.Prelude.{◌≡◌, ℕ, zero, suc, max, true, false, ◌≤◌, pos, List, [], ◌∷◌, ◌++◌, map, ⊤}
+use Rattle.std.specs.Prelude.{◌≡◌, ℕ, suc, max, Bool, true, false, ◌≤◌, pos, List, [], ◌∷◌, ◌++◌, map, ⊤}
 use Rattle.std.specs.List.{All, flat_map, sum_by}
 use Rattle.sf_value.specs.Values.{KeyKind, int_keys, text_keys, Kind, unit_kind, bool_kind, int_kind, text_kind, pair_kind, event_kind, table_kind, nodes}
-use Rattle.sf_expr.specs.declared.operator.Operator.{Operator}
-use Rattle.sf_expr.specs.declared.operator.Operator.TheVariants as operators
-use Rattle.sf_expr.specs.Expressions.{Pattern, unnamed, named, both, Literal, unit_literal, truth_literal, int_literal, text_literal, none_literal, Expression, variable, literal, paired, operation, Function, function}
+use Rattle.sf_operator.specs.declared.operator.Unary.{Unary}
+use Rattle.sf_operator.specs.declared.operator.Unary.TheVariants as unaries
+use Rattle.sf_operator.specs.declared.operator.Operator.{Operator}
+use Rattle.sf_operator.specs.declared.operator.Operator.TheVariants as operators
+use Rattle.sf_operator.specs.declared.operator.Arithmetic.TheVariants as arithmetics
+use Rattle.sf_operator.specs.declared.operator.Equality.TheVariants as equalities
+use Rattle.sf_operator.specs.declared.operator.Comparison.TheVariants as comparisons
+use Rattle.sf_operator.specs.declared.operator.Logic.TheVariants as logics
+use Rattle.sf_operator.specs.declared.operator.Merge.TheVariants as merges
+use Rattle.sf_expr.specs.Expressions.{Pattern, unnamed, named, both, Literal, unit_literal, truth_literal, int_literal, text_literal, none_literal, Expression, variable, literal, paired, applied, operation, conditional, Function, function}
 use Rattle.sf_term.specs.declared.form.Bare.{Bare}
 use Rattle.sf_term.specs.declared.form.Bare.TheVariants as bares
 use Rattle.sf_term.specs.declared.form.WithValue.{WithValue}
@@ -49,17 +56,78 @@ side_word sides.Second = words.Second
 abbrev pub heading_word : Heading → Keyword
 heading_word headings.LoopPre = words.LoopPre
 
--- the token between two operands
+-- the word of an operator on one value
+abbrev pub unary_word : Unary → Keyword
+unary_word unaries.Not = words.Not
+unary_word unaries.Event = words.EventOf
+unary_word unaries.First = words.Fst
+unary_word unaries.Second = words.Snd
+unary_word unaries.IsEvent = words.IsEvent
+unary_word unaries.Size = words.Size
+
+-- whether the operand stands in brackets behind that word
+abbrev pub takes_brackets : Unary → Bool
+takes_brackets unaries.Not = false
+takes_brackets unaries.Event = false
+takes_brackets unaries.First = true
+takes_brackets unaries.Second = true
+takes_brackets unaries.IsEvent = true
+takes_brackets unaries.Size = true
+
+-- the token of an operator on two values
 abbrev pub operator_token : Operator → Tok
-operator_token operators.Plus = symbol symbols.Plus
-operator_token operators.Minus = symbol symbols.Minus
-operator_token operators.Times = symbol symbols.Times
-operator_token operators.Divide = keyword words.Div
-operator_token operators.Modulo = keyword words.Mod
+operator_token (operators.Arithmetic arithmetics.Plus) = symbol symbols.Plus
+operator_token (operators.Arithmetic arithmetics.Minus) = symbol symbols.Minus
+operator_token (operators.Arithmetic arithmetics.Times) = symbol symbols.Times
+operator_token (operators.Arithmetic arithmetics.Divide) = keyword words.Div
+operator_token (operators.Arithmetic arithmetics.Modulo) = keyword words.Mod
+operator_token (operators.Equality equalities.Equal) = symbol symbols.IsEqual
+operator_token (operators.Equality equalities.Unequal) = symbol symbols.IsDifferent
+operator_token (operators.Comparison comparisons.Less) = symbol symbols.Less
+operator_token (operators.Comparison comparisons.AtMost) = symbol symbols.AtMost
+operator_token (operators.Comparison comparisons.Greater) = symbol symbols.Greater
+operator_token (operators.Comparison comparisons.AtLeast) = symbol symbols.AtLeast
+operator_token (operators.Logic logics.And) = keyword words.And
+operator_token (operators.Logic logics.Or) = keyword words.Or
+operator_token operators.Tag = keyword words.Tag
+operator_token operators.Attach = keyword words.Attach
+operator_token operators.FromEvent = keyword words.FromEvent
+operator_token operators.Gate = keyword words.Gate
+operator_token (operators.Merge merges.Left) = keyword words.LMerge
+operator_token (operators.Merge merges.Right) = keyword words.RMerge
+operator_token (operators.Merge merges.Exclusive) = keyword words.Merge
+operator_token operators.Get = keyword words.Get
+
+-- whether that token stands between the operands; else it stands in front of them
+abbrev pub stands_between : Operator → Bool
+stands_between (operators.Arithmetic o) = true
+stands_between (operators.Equality o) = true
+stands_between (operators.Comparison o) = true
+stands_between (operators.Logic o) = true
+stands_between operators.Tag = false
+stands_between operators.Attach = false
+stands_between operators.FromEvent = false
+stands_between operators.Gate = false
+stands_between (operators.Merge m) = false
+stands_between operators.Get = false
 
 -- two parts in brackets, with a token between them
 abbrev pub in_brackets : List Tok → Tok → List Tok → List Tok
 in_brackets one between two = symbol symbols.Open ∷ (one ++ (between ∷ (two ++ (symbol symbols.Close ∷ []))))
+
+-- a part, in brackets or not
+abbrev pub spell_operand : Bool → List Tok → List Tok
+spell_operand false part = part
+spell_operand true part = symbol symbols.Open ∷ (part ++ (symbol symbols.Close ∷ []))
+
+-- two operands in brackets with a token, which stands between them or in front
+abbrev pub spell_operands : Bool → Tok → List Tok → List Tok → List Tok
+spell_operands true t one two = in_brackets one t two
+spell_operands false t one two = t ∷ in_brackets one (symbol symbols.Comma) two
+
+-- a condition and two parts behind it
+abbrev pub spell_choice : List Tok → List Tok → List Tok → List Tok
+spell_choice condition one two = keyword words.If ∷ (condition ++ (keyword words.Then ∷ (one ++ (keyword words.Else ∷ two))))
 
 -- only version 2 writes the type of the keys of a table
 abbrev pub spell_keys : Version → KeyKind → List Tok
@@ -94,7 +162,9 @@ abbrev pub spell_expression : Version → Expression → List Tok
 spell_expression v (variable x) = name x ∷ []
 spell_expression v (literal l) = spell_literal v l
 spell_expression v (paired e f) = in_brackets (spell_expression v e) (symbol symbols.Comma) (spell_expression v f)
-spell_expression v (operation e o f) = in_brackets (spell_expression v e) (operator_token o) (spell_expression v f)
+spell_expression v (applied o e) = keyword (unary_word o) ∷ spell_operand (takes_brackets o) (spell_expression v e)
+spell_expression v (operation e o f) = spell_operands (stands_between o) (operator_token o) (spell_expression v e) (spell_expression v f)
+spell_expression v (conditional e f g) = spell_choice (spell_expression v e) (spell_expression v f) (spell_expression v g)
 
 abbrev pub spell_function : Version → Function → List Tok
 spell_function v (function p e) = spell_pattern p ++ (symbol symbols.MapsTo ∷ spell_expression v e)
@@ -169,7 +239,9 @@ pub record IsWrittenType (v : Version) (d : ℕ) (k : Kind) : Type 0 where
 abbrev pub WritesExpression : Version → ℕ → Expression → Type 0
 WritesExpression v (suc d) (literal (none_literal t)) = IsWrittenType v d t
 WritesExpression v (suc d) (paired e f) = WritesExpression v d e × WritesExpression v d f
+WritesExpression v (suc d) (applied o e) = WritesExpression v d e
 WritesExpression v (suc d) (operation e o f) = WritesExpression v d e × WritesExpression v d f
+WritesExpression v (suc d) (conditional e f g) = WritesExpression v d e × WritesExpression v d f × WritesExpression v d g
 WritesExpression v d e = ⊤
 
 abbrev pub WritesFunction : Version → ℕ → Function → Type 0

@@ -1,9 +1,9 @@
 //! What tokens stand for within terms and expressions.
 ghost use Rattle.std.specs.Prelude.{◌≡◌};
 ghost use Rattle.sf_lex.specs.Tokens.{token_of};
-ghost use Rattle.sf_grammar.specs.Reading.{head_of, join_of, link_of};
+ghost use Rattle.sf_grammar.specs.Reading.{expression_head, head_of, join_of, link_of, operator_of};
 
-use sf_expr::Operator;
+use sf_expr::{Arithmetic, Comparison, Equality, Logic, Merge, Operator, Unary};
 use sf_lex::{Keyword, Symbol, Token};
 use sf_term::{Bare, Heading, Join, Side, WithValue};
 
@@ -20,6 +20,23 @@ pub enum Head {
     Sided(Side),
     /// A word, and behind it an expression and a term in brackets.
     Headed(Heading),
+}
+
+/// An expression that a word begins, by its shape.
+#[derive(Clone, Copy, Debug, PartialEq, Eq)]
+pub enum ExpressionHead {
+    /// A word alone: true or false.
+    Truth(bool),
+    /// A word, and a type behind it.
+    NoEvent,
+    /// A word, and an expression behind it.
+    Prefixed(Unary),
+    /// A word, and an expression in brackets behind it.
+    OneInBrackets(Unary),
+    /// A word, and two expressions in brackets behind it.
+    TwoInBrackets(Operator),
+    /// A word, and behind it three expressions with a word between each two.
+    Conditional,
 }
 
 /// What makes one expression of two in brackets.
@@ -59,17 +76,64 @@ pub fn join_of(symbol: Symbol) -> Option<Join>
     }
 }
 
+/// The expression that a word begins.
+pub fn expression_head(word: Keyword) -> Option<ExpressionHead>
+    ensures { result ≡ expression_head word }
+{
+    match word {
+        Keyword::True => Some(ExpressionHead::Truth(true)),
+        Keyword::False => Some(ExpressionHead::Truth(false)),
+        Keyword::NoEvent => Some(ExpressionHead::NoEvent),
+        Keyword::Not => Some(ExpressionHead::Prefixed(Unary::Not)),
+        Keyword::EventOf => Some(ExpressionHead::Prefixed(Unary::Event)),
+        Keyword::Fst => Some(ExpressionHead::OneInBrackets(Unary::First)),
+        Keyword::Snd => Some(ExpressionHead::OneInBrackets(Unary::Second)),
+        Keyword::IsEvent => Some(ExpressionHead::OneInBrackets(Unary::IsEvent)),
+        Keyword::Size => Some(ExpressionHead::OneInBrackets(Unary::Size)),
+        Keyword::Tag => Some(ExpressionHead::TwoInBrackets(Operator::Tag)),
+        Keyword::Attach => Some(ExpressionHead::TwoInBrackets(Operator::Attach)),
+        Keyword::FromEvent => Some(ExpressionHead::TwoInBrackets(Operator::FromEvent)),
+        Keyword::Gate => Some(ExpressionHead::TwoInBrackets(Operator::Gate)),
+        Keyword::LMerge => Some(ExpressionHead::TwoInBrackets(Operator::Merge(Merge::Left))),
+        Keyword::RMerge => Some(ExpressionHead::TwoInBrackets(Operator::Merge(Merge::Right))),
+        Keyword::Merge => Some(ExpressionHead::TwoInBrackets(Operator::Merge(Merge::Exclusive))),
+        Keyword::Get => Some(ExpressionHead::TwoInBrackets(Operator::Get)),
+        Keyword::If => Some(ExpressionHead::Conditional),
+        _ => None,
+    }
+}
+
+/// The operator that a token between two operands is.
+fn operator_of(token: &Token) -> Option<Operator>
+    ensures { result ≡ operator_of (token_of token.now) }
+{
+    match token {
+        Token::Symbol(Symbol::Plus) => Some(Operator::Arithmetic(Arithmetic::Plus)),
+        Token::Symbol(Symbol::Minus) => Some(Operator::Arithmetic(Arithmetic::Minus)),
+        Token::Symbol(Symbol::Times) => Some(Operator::Arithmetic(Arithmetic::Times)),
+        Token::Keyword(Keyword::Div) => Some(Operator::Arithmetic(Arithmetic::Divide)),
+        Token::Keyword(Keyword::Mod) => Some(Operator::Arithmetic(Arithmetic::Modulo)),
+        Token::Symbol(Symbol::IsEqual) => Some(Operator::Equality(Equality::Equal)),
+        Token::Symbol(Symbol::IsDifferent) => Some(Operator::Equality(Equality::Unequal)),
+        Token::Symbol(Symbol::Less) => Some(Operator::Comparison(Comparison::Less)),
+        Token::Symbol(Symbol::AtMost) => Some(Operator::Comparison(Comparison::AtMost)),
+        Token::Symbol(Symbol::Greater) => Some(Operator::Comparison(Comparison::Greater)),
+        Token::Symbol(Symbol::AtLeast) => Some(Operator::Comparison(Comparison::AtLeast)),
+        Token::Keyword(Keyword::And) => Some(Operator::Logic(Logic::And)),
+        Token::Keyword(Keyword::Or) => Some(Operator::Logic(Logic::Or)),
+        _ => None,
+    }
+}
+
 /// What a token between two expressions makes of them.
 pub fn link_of(token: &Token) -> Option<Link>
     ensures { result ≡ link_of (token_of token.now) }
 {
     match token {
         Token::Symbol(Symbol::Comma) => Some(Link::Pair),
-        Token::Symbol(Symbol::Plus) => Some(Link::Operation(Operator::Plus)),
-        Token::Symbol(Symbol::Minus) => Some(Link::Operation(Operator::Minus)),
-        Token::Symbol(Symbol::Times) => Some(Link::Operation(Operator::Times)),
-        Token::Keyword(Keyword::Div) => Some(Link::Operation(Operator::Divide)),
-        Token::Keyword(Keyword::Mod) => Some(Link::Operation(Operator::Modulo)),
-        _ => None,
+        _ => match operator_of(token) {
+            Some(operator) => Some(Link::Operation(operator)),
+            None => None,
+        },
     }
 }

@@ -1,10 +1,9 @@
 -- The output types that are found are those that terms take inputs to.
-use Rattle.std.proofs.Common.{◌≡◌, ℕ, Bool, true, false, cond, List, [], ◌∷◌, Some, None, refl, sym, ap, subst, ◌∙◌}
-use Rattle.std.specs.Prelude.{Option, nat_le, map}
-use Rattle.std.proofs.lemmas.Slice.Eq.{bytes_eq-Decides}
-use mathlib.Core.Path.{ap₂}
+use Rattle.std.proofs.Common.{◌≡◌, Bool, true, false, cond, Some, None, refl, sym, ap, subst, ◌∙◌}
+use Rattle.std.specs.Prelude.{Option, nat_le}
 use Rattle.sf_value.specs.Values.{Kind, unit_kind, bool_kind, int_kind, text_kind, pair_kind, event_kind, table_kind, nodes, IsNoPair}
-use Rattle.sf_value.specs.KindCodes.{KindMark, is_unit, is_bool, is_int, is_text, is_pair, is_event, is_int_table, is_text_table, kind_marks_of, kind_from, kind_from-kind_marks_of}
+use Rattle.sf_operator.specs.Kinds.{same_kind, parts_of}
+use Rattle.sf_operator.proofs.SameKinds.{same_is, is_same}
 use Rattle.sf_expr.specs.Expressions.{Expression}
 use Rattle.sf_expr.specs.Typing.{Fits, HasType}
 use Rattle.sf_expr.specs.Inference.{found_then, fitting, expression_type}
@@ -19,40 +18,7 @@ use Rattle.sf_term.specs.declared.form.Heading.TheVariants.{LoopPre}
 use Rattle.sf_term.specs.Trees.{Chain, lone, chained, on_side, on_both, fanned, Primitive, bare, with_value, arrow, fused, Term, primitive, joined, sided, headed, staged}
 use Rattle.sf_mean.specs.Contexts.{Context, names_of_values}
 use Rattle.sf_mean.specs.Typing.{ChainTakes, lone_takes, chained_takes, on_first_takes, on_second_takes, on_both_takes, fanned_takes, PrimitiveTakes, identity_takes, constant_takes, initial_pre_takes, arrow_takes, fused_takes, Takes, takes, FormTakes, primitive_takes, sequence_takes, parallel_takes, fan_takes, first_takes, second_takes, loop_takes, stages_take}
-use Rattle.sf_mean.specs.Inference.{Finds, mark_number, same_kind, parts_of, both_outputs, join_output, side_output, first_beside, heading_output, chain_output, primitive_output, with_fitting, form_output, term_output}
-
--- ## The same types
-
-same_mark : (m n : KindMark) → mark_number m ≡ mark_number n → m ≡ n
-same_mark m n h = sym (marked m) ∙ ap mark_at h ∙ marked n
-  where
-    mark_at : ℕ → KindMark
-    mark_at i = cond (nat_le i 0) is_unit (cond (nat_le i 1) is_bool (cond (nat_le i 2) is_int (cond (nat_le i 3) is_text (cond (nat_le i 4) is_pair (cond (nat_le i 5) is_event (cond (nat_le i 6) is_int_table is_text_table))))))
-
-    marked : (m : KindMark) → mark_at (mark_number m) ≡ m
-    marked is_unit = refl
-    marked is_bool = refl
-    marked is_int = refl
-    marked is_text = refl
-    marked is_pair = refl
-    marked is_event = refl
-    marked is_int_table = refl
-    marked is_text_table = refl
-
-same_marks : (ms ns : List KindMark) → map mark_number ms ≡ map mark_number ns → ms ≡ ns
-same_marks [] [] h = refl
-same_marks [] (n ∷ ns) h = absurd cc
-same_marks (m ∷ ms) [] h = absurd cc
-same_marks (m ∷ ms) (n ∷ ns) h =
-    let front : mark_number m ≡ mark_number n = cc in
-    let rest : map mark_number ms ≡ map mark_number ns = cc in
-    ap₂ (λ k ks. k ∷ ks) (same_mark m n front) (same_marks ms ns rest)
-
-pub same_is : (t u : Kind) → same_kind t u ≡ true → t ≡ u
-same_is t u h = sym (kind_from-kind_marks_of t) ∙ ap kind_from (same_marks (kind_marks_of t) (kind_marks_of u) ((bytes_eq-Decides (map mark_number (kind_marks_of t)) (map mark_number (kind_marks_of u))).0 h)) ∙ kind_from-kind_marks_of u
-
-pub is_same : (t : Kind) → same_kind t t ≡ true
-is_same t = let ns = map mark_number (kind_marks_of t) in (bytes_eq-Decides ns ns).1 refl
+use Rattle.sf_mean.specs.Inference.{Finds, both_outputs, join_output, side_output, first_beside, heading_output, chain_output, primitive_output, with_fitting, form_output, term_output}
 
 -- ## Types of pairs
 

@@ -1,8 +1,7 @@
 -- The output types of terms under a context, found by a function.
-use Rattle.std.specs.Prelude.{ℕ, Bool, nat_le, cond, map, Option, Some, None}
-use Rattle.std.specs.Str.{bytes_eq}
+use Rattle.std.specs.Prelude.{nat_le, cond, Option, Some, None}
 use Rattle.sf_value.specs.Values.{Kind, pair_kind, nodes}
-use Rattle.sf_value.specs.KindCodes.{KindMark, is_unit, is_bool, is_int, is_text, is_pair, is_event, is_int_table, is_text_table, kind_marks_of}
+use Rattle.sf_operator.specs.Kinds.{same_kind, parts_of}
 use Rattle.sf_expr.specs.Inference.{found_then, fitting, expression_type, function_output}
 use Rattle.sf_term.specs.declared.form.Bare.TheVariants.{Identity}
 use Rattle.sf_term.specs.declared.form.WithValue.TheVariants.{Constant, InitialPre}
@@ -18,26 +17,6 @@ use Rattle.sf_mean.specs.Contexts.{Context, names_of_values}
 -- What finds an output type for an input type, if inputs of that type are taken.
 abbrev pub Finds : Type 0
 Finds = Kind → Option Kind
-
--- the number of a mark
-abbrev pub mark_number : KindMark → ℕ
-mark_number is_unit = 0
-mark_number is_bool = 1
-mark_number is_int = 2
-mark_number is_text = 3
-mark_number is_pair = 4
-mark_number is_event = 5
-mark_number is_int_table = 6
-mark_number is_text_table = 7
-
--- whether two types are the same, by their marks
-abbrev pub same_kind : Kind → Kind → Bool
-same_kind t u = bytes_eq (map mark_number (kind_marks_of t)) (map mark_number (kind_marks_of u))
-
--- the two parts of a type of pairs
-abbrev pub parts_of : Kind → Option (Kind × Kind)
-parts_of (pair_kind t u) = Some (t, u)
-parts_of t = None
 
 -- the type of pairs of two outputs
 abbrev pub both_outputs : Option Kind → Option Kind → Option Kind

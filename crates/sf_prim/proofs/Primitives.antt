@@ -6,8 +6,8 @@ use Rattle.sf_expr.specs.Expressions.{Expression}
 use Rattle.sf_expr.specs.Evaluation.{Scope, no_names, answer, ◌>>=◌, eval, apply}
 use Rattle.sf_expr.specs.Soundness.{has_no_names, IsTypedIn, typed_in, TakesValue, takes_value}
 use Rattle.sf_expr.specs.Answers.{Evaluates}
-use Rattle.sf_expr.specs.declared.fault.EvalFault.{EvalFault}
-use Rattle.sf_expr.specs.declared.fault.EvalFault.TheVariants.{Value, Memory}
+use Rattle.sf_operator.specs.declared.fault.EvalFault.{EvalFault}
+use Rattle.sf_operator.specs.declared.fault.EvalFault.TheVariants.{Value, Memory}
 use Rattle.sf_expr.specs.declared.exprs.FunctionId.{FunctionId}
 use Rattle.sf_expr.specs.Arena.{function_at}
 use Rattle.sf_term.specs.declared.form.WithValue.{WithValue}

@@ -7,8 +7,8 @@ use Rattle.sf_expr.specs.Evaluation.{Scope, no_names, answer, failed, eval}
 use Rattle.sf_expr.specs.declared.exprs.FunctionId.{FunctionId}
 use Rattle.sf_expr.specs.declared.exprs.Exprs.{Exprs}
 use Rattle.sf_expr.specs.Arena.{expression, function_at}
-use Rattle.sf_expr.specs.declared.fault.EvalFault.{EvalFault}
-use Rattle.sf_expr.specs.declared.fault.EvalFault.TheVariants.{Value, Memory}
+use Rattle.sf_operator.specs.declared.fault.EvalFault.{EvalFault}
+use Rattle.sf_operator.specs.declared.fault.EvalFault.TheVariants.{Value, Memory}
 use Rattle.sf_term.specs.declared.form.Bare.TheVariants.{Identity as BIdentity}
 use Rattle.sf_term.specs.declared.form.WithValue.TheVariants.{Constant as VConstant, InitialPre}
 use Rattle.sf_term.specs.declared.node.Primitive.{Primitive as SPrimitive}

@@ -4,7 +4,7 @@ ghost use Rattle.sf_expr.specs.Arena.{function_at};
 ghost use Rattle.sf_expr.specs.Answers.{Evaluates};
 ghost use Rattle.sf_expr.specs.Evaluation.{no_names, apply as applied};
 ghost use Rattle.sf_expr.specs.Soundness.{TakesValue};
-ghost use Rattle.sf_expr.specs.declared.fault.EvalFault.TheVariants.{Memory};
+ghost use Rattle.sf_operator.specs.declared.fault.EvalFault.TheVariants.{Memory};
 ghost use Rattle.sf_prim.specs.Gifts.{gift};
 
 use sf_expr::{EvalFault, Exprs, FunctionId, Scope, apply, eval};

@@ -1,6 +1,7 @@
 -- Each network has a plan: an optimiser on trees, with what its laws make and the form of it.
 use Rattle.std.proofs.Common.{pos, ◌≡◌, Bool, true, false, IsTrue, refl, sym, subst, ◌⊎◌, inl, inr}
-use Rattle.sf_expr.specs.declared.operator.Operator.TheVariants.{Divide}
+use Rattle.sf_operator.specs.declared.operator.Operator.TheVariants.{Arithmetic}
+use Rattle.sf_operator.specs.declared.operator.Arithmetic.TheVariants.{Divide}
 use Rattle.sf_expr.specs.Expressions.{Expression, unnamed, literal, int_literal, operation, Function, function}
 use Rattle.sf_term.specs.declared.form.Bare.TheVariants.{Identity}
 use Rattle.sf_term.specs.declared.form.WithValue.TheVariants.{Constant, InitialPre}
@@ -290,7 +291,7 @@ abbrev one : Expression
 one = literal (int_literal (pos 1))
 
 abbrev two : Expression
-two = operation one Divide one
+two = operation one (Arithmetic Divide) one
 
 -- a quiet part, and parts that may fail
 abbrev q : Term

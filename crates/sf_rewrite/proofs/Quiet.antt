@@ -1,8 +1,16 @@
 -- Quiet terms give a value without readings at each step, and cost their text.
-use Rattle.std.proofs.Common.{◌≡◌, IsTrue, Bool, true, false, ◌&&◌, List, [], ◌∷◌, refl, ap, ◌∙◌, subst}
+use Rattle.std.proofs.Common.{◌≡◌, IsTrue, Bool, true, false, ◌&&◌, cond, List, [], ◌∷◌, Some, None, refl, ap, ◌∙◌, subst}
+use Rattle.std.specs.Prelude.{Option}
 use Rattle.sf_value.specs.Values.{Data, pair, first_of, second_of}
-use Rattle.sf_expr.specs.Expressions.{Expression, variable, literal, paired as paired_expression, operation, Function, function}
-use Rattle.sf_expr.specs.Evaluation.{Evaluated, answer, ◌>>=◌, Scope, bound_in, eval, apply}
+use Rattle.sf_expr.specs.Expressions.{Expression, variable, literal, paired as paired_expression, applied, operation, conditional, Function, function}
+use Rattle.sf_operator.specs.declared.operator.Unary.{Unary}
+use Rattle.sf_operator.specs.declared.operator.Unary.TheVariants.{Not, Event, First as FirstOf, Second as SecondOf, IsEvent, Size}
+use Rattle.sf_operator.specs.declared.operator.Operator.{Operator}
+use Rattle.sf_operator.specs.declared.operator.Operator.TheVariants.{Arithmetic, Equality, Comparison, Logic, Tag, Attach, FromEvent, Gate, Merge, Get}
+use Rattle.sf_operator.specs.declared.operator.Merge as merge
+use Rattle.sf_operator.specs.declared.operator.Merge.TheVariants.{Left, Right, Exclusive}
+use Rattle.sf_operator.specs.Operations.{truth_in, halves_in, payload_in, rows_in, key_in, order_of, merged, unary_value, decided, operated}
+use Rattle.sf_expr.specs.Evaluation.{Evaluated, answer, ◌>>=◌, known, Scope, bound_in, unless_decided, eval, apply}
 use Rattle.sf_term.specs.declared.form.Bare.TheVariants.{Identity}
 use Rattle.sf_term.specs.declared.form.Join.{Join}
 use Rattle.sf_term.specs.declared.form.Join.TheVariants.{InSequence, InParallel, FannedOut}
@@ -11,7 +19,7 @@ use Rattle.sf_term.specs.Trees.{Chain, lone, chained as chained_functions, on_si
 use Rattle.sf_mean.specs.Lives.{Step, step, wait_of, input_of, Life, Environment, scope_around, with_inputs, relay, fed}
 use Rattle.sf_mean.specs.Formulas.{side_of, with_side, apply_chain, value_formula, formula}
 use Rattle.sf_mean.specs.Meaning.{Outcome, gave, as_outcome, Cost, one_term, text_cost}
-use Rattle.sf_rewrite.specs.Quiet.{is_quiet_expression, is_quiet_function, is_quiet_chain, is_quiet_primitive, is_quiet}
+use Rattle.sf_rewrite.specs.Quiet.{is_quiet_unary, is_quiet_operator, is_quiet_expression, is_quiet_function, is_quiet_chain, is_quiet_primitive, is_quiet}
 use Rattle.sf_rewrite.proofs.Parts.{Leaves, Part, part, Parts, begins, then_gave, At, at_primitive, at_join, at_stages, at_side, at_loop, then_part, Rounds, no_round, one_round, no_truth, OneLeaf, once_at}
 
 pub both_true : (a b : Bool) → a && b ≡ true → (a ≡ true) × (b ≡ true)
@@ -25,13 +33,67 @@ Answers v = (y : Data) × (v ≡ answer y)
 next : (v : Evaluated Data) (f : Data → Evaluated Data) → Answers v → ((y : Data) → Answers (f y)) → Answers (v >>= f)
 next v f a b = ((b a.0).0, ap (λ v. v >>= f) a.1 ∙ (b a.0).1)
 
+-- what is made of a part of a value
+of_known : {A : Type 0} (o : Option A) (f : A → Evaluated Data) → ((a : A) → Answers (f a)) → Answers (known o f)
+of_known (Some a) f h = h a
+of_known None f h = (_, refl)
+
+quiet_unary : (o : Unary) (d : Data) → IsTrue (is_quiet_unary o) → Answers (unary_value o d)
+quiet_unary Not d h = of_known (truth_in d) _ (λ b. (_, refl))
+quiet_unary Event d h = (_, refl)
+quiet_unary FirstOf d h = of_known (halves_in d) _ (λ p. (_, refl))
+quiet_unary SecondOf d h = of_known (halves_in d) _ (λ p. (_, refl))
+quiet_unary IsEvent d h = of_known (payload_in d) _ (λ e. (_, refl))
+quiet_unary Size d h = absurd (no_truth h)
+
+-- one event of two, where not both occur or one is preferred
+quiet_merge : (m : merge.Merge) (e f : Option Data) → IsTrue (is_quiet_operator (Merge m)) → Answers (merged m e f)
+quiet_merge m None f h = (_, refl)
+quiet_merge m (Some x) None h = (_, refl)
+quiet_merge Left (Some x) (Some y) h = (_, refl)
+quiet_merge Right (Some x) (Some y) h = (_, refl)
+quiet_merge Exclusive (Some x) (Some y) h = absurd (no_truth h)
+
+quiet_operator : (op : Operator) (a b : Data) → IsTrue (is_quiet_operator op) → Answers (operated op a b)
+quiet_operator (Arithmetic o) a b h = absurd (no_truth h)
+quiet_operator (Equality o) a b h = (_, refl)
+quiet_operator (Comparison o) a b h = of_known (order_of a b) _ (λ r. (_, refl))
+quiet_operator (Logic o) a b h = (_, refl)
+quiet_operator Tag a b h = of_known (payload_in a) _ (λ e. (_, refl))
+quiet_operator Attach a b h = of_known (payload_in a) _ (λ e. (_, refl))
+quiet_operator FromEvent a b h = of_known (payload_in a) _ (λ e. (_, refl))
+quiet_operator Gate a b h = of_known (truth_in b) _ (λ c. (_, refl))
+quiet_operator (Merge m) a b h = of_known (payload_in a) _ (λ e. of_known (payload_in b) _ (λ f. quiet_merge m e f h))
+quiet_operator Get a b h = of_known (rows_in a) _ (λ rs. of_known (key_in b) _ (λ k. (_, refl)))
+
+-- what the first operand decides, or an answer
+or_decided : (o : Option Data) (v : Evaluated Data) → Answers v → Answers (unless_decided o v)
+or_decided (Some d) v h = (d, refl)
+or_decided None v h = h
+
+chosen : (b : Bool) (v w : Evaluated Data) → Answers v → Answers w → Answers (cond b v w)
+chosen true v w h k = h
+chosen false v w h k = k
+
 pub quiet_eval : (i : Expression) → IsTrue (is_quiet_expression i) → (sc : Scope) → Answers (eval i sc)
 quiet_eval (variable x) h sc = (_, refl)
 quiet_eval (literal n) h sc = (_, refl)
 quiet_eval (paired_expression a b) h sc =
     let k = both_true (is_quiet_expression a) (is_quiet_expression b) h in
     next (eval a sc) (λ x. eval b sc >>= λ y. answer (pair x y)) (quiet_eval a k.0 sc) (λ x. next (eval b sc) (λ y. answer (pair x y)) (quiet_eval b k.1 sc) (λ y. (pair x y, refl)))
-quiet_eval (operation a o b) h sc = absurd (no_truth h)
+quiet_eval (applied o a) h sc =
+    let k = both_true (is_quiet_unary o) (is_quiet_expression a) h in
+    next (eval a sc) (unary_value o) (quiet_eval a k.1 sc) (λ x. quiet_unary o x k.0)
+quiet_eval (operation a op b) h sc =
+    let k = both_true (is_quiet_operator op) (is_quiet_expression a && is_quiet_expression b) h in
+    let l = both_true (is_quiet_expression a) (is_quiet_expression b) k.1 in
+    next (eval a sc) (λ x. unless_decided (decided op x) (eval b sc >>= operated op x)) (quiet_eval a l.0 sc)
+    (λ x. or_decided (decided op x) (eval b sc >>= operated op x) (next (eval b sc) (operated op x) (quiet_eval b l.1 sc) (λ y. quiet_operator op x y k.0)))
+quiet_eval (conditional a b c) h sc =
+    let k = both_true (is_quiet_expression a) (is_quiet_expression b && is_quiet_expression c) h in
+    let l = both_true (is_quiet_expression b) (is_quiet_expression c) k.1 in
+    next (eval a sc) (λ x. known (truth_in x) (λ t. cond t (eval b sc) (eval c sc))) (quiet_eval a k.0 sc)
+    (λ x. of_known (truth_in x) _ (λ t. chosen t (eval b sc) (eval c sc) (quiet_eval b l.0 sc) (quiet_eval c l.1 sc)))
 
 quiet_apply : (f : Function) → IsTrue (is_quiet_function f) → (x : Data) (sc : Scope) → Answers (apply f x sc)
 quiet_apply (function p i) h x sc = quiet_eval i h (bound_in p x sc)

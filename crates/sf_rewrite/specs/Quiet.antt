@@ -1,21 +1,39 @@
 -- Quiet terms: by their text they give a value without readings at each step, whatever their input. What they would give
 -- can be left out, and they can change places with a part that may fail.
 use Rattle.std.specs.Prelude.{Bool, true, false, ◌&&◌}
-use Rattle.sf_expr.specs.Expressions.{Expression, variable, literal, paired, operation, Function, function}
+use Rattle.sf_operator.specs.declared.operator.Unary.{Unary}
+use Rattle.sf_operator.specs.declared.operator.Unary.TheVariants.{Size}
+use Rattle.sf_operator.specs.declared.operator.Operator.{Operator}
+use Rattle.sf_operator.specs.declared.operator.Operator.TheVariants.{Arithmetic, Merge}
+use Rattle.sf_operator.specs.declared.operator.Merge.TheVariants.{Exclusive}
+use Rattle.sf_expr.specs.Expressions.{Expression, variable, literal, paired, applied, operation, conditional, Function, function}
 use Rattle.sf_term.specs.Trees.{Chain, lone, chained, on_side, on_both, fanned, Primitive, bare, with_value, arrow, fused, Term, primitive, joined, sided, headed, staged}
 
--- an expression that calculates nothing has a value
+-- an operator on a value that always makes one; a table may have more keys than there are numbers
+abbrev pub is_quiet_unary : Unary → Bool
+is_quiet_unary Size = false
+is_quiet_unary o = true
+
+-- an operator on two values that always makes one
+abbrev pub is_quiet_operator : Operator → Bool
+is_quiet_operator (Arithmetic o) = false
+is_quiet_operator (Merge Exclusive) = false
+is_quiet_operator op = true
+
+-- an expression of quiet operators has a value
 abbrev pub is_quiet_expression : Expression → Bool
 is_quiet_expression (variable x) = true
 is_quiet_expression (literal l) = true
 is_quiet_expression (paired i j) = is_quiet_expression i && is_quiet_expression j
-is_quiet_expression (operation i o j) = false
+is_quiet_expression (applied o i) = is_quiet_unary o && is_quiet_expression i
+is_quiet_expression (operation i op j) = is_quiet_operator op && (is_quiet_expression i && is_quiet_expression j)
+is_quiet_expression (conditional i j k) = is_quiet_expression i && (is_quiet_expression j && is_quiet_expression k)
 
--- so has a function whose body calculates nothing
+-- so has a function with such a body
 abbrev pub is_quiet_function : Function → Bool
 is_quiet_function (function p i) = is_quiet_expression i
 
--- so have functions made into one, if each of them calculates nothing
+-- so have functions made into one, if each of them is quiet
 abbrev pub is_quiet_chain : Chain → Bool
 is_quiet_chain (lone f) = is_quiet_function f
 is_quiet_chain (chained f g) = is_quiet_chain f && is_quiet_chain g

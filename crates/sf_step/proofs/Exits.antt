@@ -9,8 +9,8 @@ use Rattle.sf_expr.specs.Expressions.{Expression}
 use Rattle.sf_expr.specs.Evaluation.{Scope, answer, failed as no_answer, ◌>>=◌, no_names, eval}
 use Rattle.sf_expr.specs.Answers.{Evaluates}
 use Rattle.sf_expr.specs.declared.exprs.ExprId.{ExprId}
-use Rattle.sf_expr.specs.declared.fault.EvalFault.{EvalFault}
-use Rattle.sf_expr.specs.declared.fault.EvalFault.TheVariants.{Value as EValue, Memory as EMemory}
+use Rattle.sf_operator.specs.declared.fault.EvalFault.{EvalFault}
+use Rattle.sf_operator.specs.declared.fault.EvalFault.TheVariants.{Value as EValue, Memory as EMemory}
 use Rattle.sf_term.specs.declared.form.Join.{Join}
 use Rattle.sf_term.specs.declared.form.Join.TheVariants.{InSequence}
 use Rattle.sf_term.specs.declared.form.Side.{Side}

@@ -4,8 +4,8 @@ use Rattle.sf_value.specs.Values.{Kind, Data, HasKind}
 use Rattle.sf_value.specs.declared.fault.ValueFault.{ValueFault}
 use Rattle.sf_value.specs.declared.fault.Fault.{Fault}
 use Rattle.sf_value.specs.declared.fault.Fault.TheVariants.{Value, Large, Memory}
-use Rattle.sf_expr.specs.declared.fault.EvalFault.{EvalFault}
-use Rattle.sf_expr.specs.declared.fault.EvalFault.TheVariants.{Value as EValue, Memory as EMemory}
+use Rattle.sf_operator.specs.declared.fault.EvalFault.{EvalFault}
+use Rattle.sf_operator.specs.declared.fault.EvalFault.TheVariants.{Value as EValue, Memory as EMemory}
 use Rattle.sf_law.specs.declared.plan.Plan.{Plan}
 use Rattle.sf_term.specs.Trees.{Term}
 use Rattle.sf_mean.specs.Lives.{Step, input_of, Life, Process, closure, Environment, first_input}

@@ -1,7 +1,7 @@
 //! Programs: terms and templates, in an arena.
 ghost use Rattle.std.specs.Prelude.{◌≡◌, ◌<◌, ◌≤◌, ◌↔◌, IfOk, OnOk, OnErr, [], length, string_bytes, All};
 ghost use Rattle.sf_lex.specs.Words.{IsName};
-ghost use Rattle.sf_expr.specs.Expressions.{variable, literal, int_literal, paired, operation as operation_of};
+ghost use Rattle.sf_expr.specs.Expressions.{variable, literal, int_literal, paired, applied as applied_of, operation as operation_of, conditional as conditional_of};
 ghost use Rattle.sf_expr.specs.Expressions.{function as function_of, depth as expression_depth_of, function_depth as function_depth_of};
 ghost use Rattle.sf_expr.specs.Patterns.{pattern_of};
 ghost use Rattle.sf_expr.specs.Arena.{next_name, next_constant, expression_of, HoldsParts as HoldsExpressionParts};
@@ -18,7 +18,7 @@ use crate::node::{Node, Primitive, TermId};
 use crate::refusal::BuildRefusal;
 use crate::template::{Template, clone_all};
 use sf_arena::{Arena, Entry};
-use sf_expr::{Constant, ExprId, ExprNode, Exprs, FunctionId, Operator, Pat, Spot};
+use sf_expr::{Constant, ExprId, ExprNode, Exprs, FunctionId, Operator, Pat, Spot, Unary};
 use sf_lex::is_name;
 use sf_value::Ty;
 use std::alloc::{AllocError, Global};
@@ -215,6 +215,53 @@ impl Program {
         ensures err { OnErr result (IsSameProgram self.old self.new) }
     {
         self.add_expression(ExprNode::Operation(left, operator, right), spot)
+    }
+
+    /// Adds an operator on its operand to the expressions. Refused with `TooMany` where 100,000 expressions are there,
+    /// then with `TooDeep` where more than 64 would stand one inside another, and with `Memory`. A refused call changes
+    /// nothing.
+    #[tactic(auto, unfolding(crate::specs::Arena::expression_count, crate::specs::Arena::expressions_of, crate::specs::Arena::expression_under, crate::specs::Arena::HoldsExpression))]
+    pub fn applied(
+        &mut self,
+        operator: Unary,
+        part: ExprId,
+        spot: Spot,
+    ) -> Result<ExprId, BuildRefusal>
+        requires { HoldsExpression self.old part }
+        ensures ok { let whole = applied_of operator (expression_under self.old part) in
+            IfOk result (λ id. AddsExpression self.old self.new id (expressions.Applied operator part) whole spot) }
+        ensures many { result ≡ Err BuildRefusal.TooMany ↔ 100000 ≤ expression_count self.old }
+        ensures deep { let whole = applied_of operator (expression_under self.old part) in
+            result ≡ Err BuildRefusal.TooDeep ↔ (expression_count self.old < 100000) × (64 < expression_depth_of whole) }
+        ensures no_name { ¬ (result ≡ Err BuildRefusal.BadName) }
+        ensures err { OnErr result (IsSameProgram self.old self.new) }
+    {
+        self.add_expression(ExprNode::Applied(operator, part), spot)
+    }
+
+    /// Adds one of two by a condition to the expressions. Refused with `TooMany` where 100,000 expressions are there, then
+    /// with `TooDeep` where more than 64 would stand one inside another, and with `Memory`. A refused call changes
+    /// nothing.
+    #[tactic(auto, unfolding(crate::specs::Arena::expression_count, crate::specs::Arena::expressions_of, crate::specs::Arena::expression_under, crate::specs::Arena::HoldsExpression))]
+    pub fn conditional(
+        &mut self,
+        condition: ExprId,
+        first: ExprId,
+        second: ExprId,
+        spot: Spot,
+    ) -> Result<ExprId, BuildRefusal>
+        requires condition_held { HoldsExpression self.old condition }
+        requires first_held { HoldsExpression self.old first }
+        requires second_held { HoldsExpression self.old second }
+        ensures ok { let whole = conditional_of (expression_under self.old condition) (expression_under self.old first) (expression_under self.old second) in
+            IfOk result (λ id. AddsExpression self.old self.new id (expressions.Conditional condition first second) whole spot) }
+        ensures many { result ≡ Err BuildRefusal.TooMany ↔ 100000 ≤ expression_count self.old }
+        ensures deep { let whole = conditional_of (expression_under self.old condition) (expression_under self.old first) (expression_under self.old second) in
+            result ≡ Err BuildRefusal.TooDeep ↔ (expression_count self.old < 100000) × (64 < expression_depth_of whole) }
+        ensures no_name { ¬ (result ≡ Err BuildRefusal.BadName) }
+        ensures err { OnErr result (IsSameProgram self.old self.new) }
+    {
+        self.add_expression(ExprNode::Conditional(condition, first, second), spot)
     }
 
     /// Adds a function, which counts as no expression. Refused with `TooDeep` where more than 64 patterns or

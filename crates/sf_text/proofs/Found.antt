@@ -5,9 +5,11 @@ use Rattle.std.proofs.lemmas.List.{length-map}
 use Rattle.sf_value.specs.Values.{Kind, nodes}
 use Rattle.sf_value.specs.declared.ty.TyRefusal.{TyRefusal}
 use Rattle.sf_value.specs.declared.ty.TyRefusal.TheVariants as type_refusals
+use Rattle.sf_operator.specs.declared.operator.Unary.{Unary}
+use Rattle.sf_operator.specs.declared.operator.Operator.{Operator}
 use Rattle.sf_expr.specs.declared.exprs.ExprId.{ExprId}
 use Rattle.sf_expr.specs.declared.exprs.FunctionId.{FunctionId}
-use Rattle.sf_expr.specs.Expressions.{Literal, Pattern, Expression, literal, paired, operation, depth as expression_depth, size, function, function_depth}
+use Rattle.sf_expr.specs.Expressions.{Literal, Pattern, Expression, literal, paired, applied, operation, conditional, depth as expression_depth, size, function, function_depth}
 use Rattle.sf_term.specs.declared.form.WithValue.{WithValue}
 use Rattle.sf_term.specs.declared.form.Join.{Join}
 use Rattle.sf_term.specs.declared.form.Side.{Side}
@@ -21,6 +23,7 @@ use Rattle.sf_term.specs.Trees.{Term, primitive, with_value, arrow, joined, side
 use Rattle.sf_term.specs.Arena.{tree, expression_under as expression_in, function_in, term_count, expression_count}
 use Rattle.sf_term.proofs.Kept.{few_program_expressions}
 use Rattle.sf_lex.specs.declared.symbol.Symbol.TheVariants as symbols
+use Rattle.sf_lex.specs.declared.word.Keyword.TheVariants as words
 use Rattle.sf_lex.specs.declared.token.PlacedToken.{PlacedToken}
 use Rattle.sf_lex.specs.Tokens.{Tok}
 use Rattle.sf_grammar.specs.declared.ty.Version.{Version}
@@ -28,7 +31,7 @@ use Rattle.sf_grammar.specs.declared.head.Link.{Link}
 use Rattle.sf_grammar.specs.declared.head.Link.TheVariants as links
 use Rattle.sf_refusal.specs.declared.rule.Rule.TheVariants.{TooMany}
 use Rattle.sf_text.specs.declared.stop.Stop.{Stop}
-use Rattle.sf_grammar.specs.Reading.{Read, got, stop, Counts, counts_with, counts_with_expression, parse_symbol, parse_inner_type, parse_pattern, parse_link, linked, parse_linked, parse_expression, expression_read, parse_function, parse_value, parse_arrow, parse_sided, parse_headed, term_read, parse_join, parse_joined, parse_term}
+use Rattle.sf_grammar.specs.Reading.{Read, got, stop, Counts, counts_with, counts_with_expression, parse_symbol, parse_keyword, parse_inner_type, parse_pattern, parse_link, linked, parse_linked, parse_prefixed, parse_one_in_brackets, parse_two_in_brackets, parse_conditional, parse_expression, expression_read, parse_function, parse_value, parse_arrow, parse_sided, parse_headed, term_read, parse_join, parse_joined, parse_term}
 use Rattle.sf_text.specs.Answers.{StopsReading, FoundExpression, FoundFunction, FoundTerm, counts_of, stop_for, stop_for_type, toks}
 use Rattle.sf_grammar.proofs.Takes.{TookType, TookPattern, TookExpression, TookFunction, Took, inner_type_takes, pattern_takes, expression_takes, function_takes, term_takes}
 
@@ -90,35 +93,103 @@ behind_expression old mid e terms expressions = rw (terms, expressions) refl
 behind_term : (old mid : Program) (f : Term) → term_count mid ≡ term_count old + terms_in f → expression_count mid ≡ expression_count old + expressions_in f → counts_of mid ≡ counts_with (counts_of old) f
 behind_term old mid f terms expressions = rw (terms, expressions) refl
 
+-- a part of an expression was read into the program, which had so many before
+record Part (v : Version) (d : ℕ) (c : Counts) (new : Program) (id : ExprId) (tokens rest : List Tok) (value : Expression) : Type 0 where
+  pub is : parse_expression d v c tokens ≡ got value rest
+  pub same : expression_in new id ≡ value
+  pub shallow : expression_depth value ≤ d
+  pub expressions : expression_count new ≡ c.expressions + size value
+  pub counted : counts_of new ≡ counts_with_expression c value
+
+part : (v : Version) {old new : Program} {id : ExprId} {rest : List Tok} (d : ℕ) (c : Counts) (tokens : List Tok) → counts_of old ≡ c
+    → (f : FoundExpression old new id rest (parse_expression d v (counts_of old) tokens)) → Part v d c new id tokens rest f.value
+part v {old} {new} {id} {rest} d c tokens same f =
+    let took = expression_taken v old new id rest tokens d f in
+    subst (λ (c : Counts). Part v d c new id tokens rest f.value) same (record {
+      is = f.is;
+      same = f.tree;
+      shallow = took.shallow;
+      expressions = f.expressions;
+      counted = behind_expression old new f.value f.terms f.expressions;
+    })
+
+-- an operator on one expression
+applied_ready : (v : Version) {old mid : Program} {start rest r : List Tok} {a : ExprId} {read : Read Expression} (d : ℕ) (tokens : List Tok) (o : Unary) → d ≤ 63 → (f : FoundExpression old mid a r (parse_expression d v (counts_of old) tokens))
+    → read ≡ expression_read (counts_of old) (applied o f.value) start rest → ReadyExpression old mid (applied o (expression_in mid a)) start rest read
+applied_ready v {old} {mid} {start} {rest} {r} {a} {read} d tokens o small f is =
+    let one = part v d (counts_of old) tokens refl f in
+    record { value = applied o f.value; is = is; same = ap (applied o) one.same; shallow = omega (arith, one.shallow); expressions = omega (arith, one.expressions) }
+
+pub prefixed_ready : (v : Version) {old mid : Program} {start rest : List Tok} {a : ExprId} {o : Unary} (d : ℕ) (tokens : List Tok) → d ≤ 63 → FoundExpression old mid a rest (parse_expression d v (counts_of old) tokens)
+    → ReadyExpression old mid (applied o (expression_in mid a)) start rest (parse_prefixed (parse_expression d v) (counts_of old) o start tokens)
+unfolding parse_prefixed
+prefixed_ready v {o = o} d tokens small f = applied_ready v d tokens o small f (rw f.is refl)
+
+pub one_in_brackets_ready : (v : Version) {old mid : Program} {start r0 r1 rest : List Tok} {a : ExprId} {o : Unary} (d : ℕ) (tokens : List Tok) → d ≤ 63 → parse_symbol symbols.Open tokens ≡ got tt r0
+    → FoundExpression old mid a r1 (parse_expression d v (counts_of old) r0) → parse_symbol symbols.Close r1 ≡ got tt rest
+    → ReadyExpression old mid (applied o (expression_in mid a)) start rest (parse_one_in_brackets (parse_expression d v) (counts_of old) o start tokens)
+unfolding parse_one_in_brackets
+one_in_brackets_ready v {r0 = r0} {o = o} d tokens small opening f closing = applied_ready v d r0 o small f (rw (opening, f.is, closing) refl)
+
+-- two expressions, of which one is made
+two_ready : (v : Version) {old one two : Program} {start r1 r3 rest : List Tok} {a b : ExprId} {read : Read Expression} (d : ℕ) (tokens r2 : List Tok) (l : Link) → d ≤ 63
+    → (f : FoundExpression old one a r1 (parse_expression d v (counts_of old) tokens)) → (g : FoundExpression one two b r3 (parse_expression d v (counts_of one) r2))
+    → read ≡ expression_read (counts_of old) (linked l f.value g.value) start rest → ReadyExpression old two (linked l (expression_in two a) (expression_in two b)) start rest read
+two_ready v {old} {one} {two} {start} {r1} {r3} {rest} {a} {b} {read} d tokens r2 l small f g is =
+    let first = part v d (counts_of old) tokens refl f in
+    let second = part v d (counts_with_expression (counts_of old) f.value) r2 first.counted g in
+    let first_same : expression_in two a ≡ f.value = g.kept.trees.values a f.held ∙ first.same in
+    of_link l is first_same second.same first.shallow second.shallow second.expressions
+  where
+    of_link : (l : Link) → read ≡ expression_read (counts_of old) (linked l f.value g.value) start rest → expression_in two a ≡ f.value → expression_in two b ≡ g.value
+        → expression_depth f.value ≤ d → expression_depth g.value ≤ d → expression_count two ≡ expression_count old + size f.value + size g.value
+        → ReadyExpression old two (linked l (expression_in two a) (expression_in two b)) start rest read
+    of_link links.Pair is first second shallow other expressions =
+        record { value = paired f.value g.value; is = is; same = rw (first, second) refl; shallow = omega (arith, shallow, other); expressions = omega (arith, expressions) }
+    of_link (links.Operation o) is first second shallow other expressions =
+        record { value = operation f.value o g.value; is = is; same = rw (first, second) refl; shallow = omega (arith, shallow, other); expressions = omega (arith, expressions) }
+
+-- the second of two expressions, as it is read behind the first
+second_is : (v : Version) {old one two : Program} {r1 r3 : List Tok} {a b : ExprId} (d : ℕ) (tokens r2 : List Tok) → (f : FoundExpression old one a r1 (parse_expression d v (counts_of old) tokens))
+    → (g : FoundExpression one two b r3 (parse_expression d v (counts_of one) r2)) → parse_expression d v (counts_with_expression (counts_of old) f.value) r2 ≡ got g.value r3
+second_is v {old} d tokens r2 f g =
+    let first = part v d (counts_of old) tokens refl f in
+    let second = part v d (counts_with_expression (counts_of old) f.value) r2 first.counted g in
+    second.is
+
 -- two expressions in brackets
 pub linked_ready : (v : Version) {old one two : Program} {start r1 r2 r3 rest : List Tok} {a b : ExprId} {l : Link} (d : ℕ) (tokens : List Tok) → d ≤ 63 → FoundExpression old one a r1 (parse_expression d v (counts_of old) tokens)
     → parse_link r1 ≡ got l r2 → FoundExpression one two b r3 (parse_expression d v (counts_of one) r2) → parse_symbol symbols.Close r3 ≡ got tt rest
     → ReadyExpression old two (linked l (expression_in two a) (expression_in two b)) start rest (parse_linked (parse_expression d v) (counts_of old) start tokens)
 unfolding parse_linked
-linked_ready v {old} {one} {two} {start} {r1} {r2} {r3} {rest} {a} {b} {l} d tokens small f linking g closing =
-    let second : parse_expression d v (counts_with_expression (counts_of old) f.value) r2 ≡ got g.value r3 =
-    subst (λ (c : Counts). parse_expression d v c r2 ≡ got g.value r3) (behind_expression old one f.value f.terms f.expressions) g.is in
-    let first_same : expression_in two a ≡ f.value = g.kept.trees.values a f.held ∙ f.tree in
-    let took_f = expression_taken v old one a r1 tokens d f in
-    let took_g = expression_taken v one two b r3 r2 d g in
-    of_link l (rw (f.is, linking, second, closing) refl) first_same took_f took_g
-  where
-    of_link : (l : Link) → parse_linked (parse_expression d v) (counts_of old) start tokens ≡ expression_read (counts_of old) (linked l f.value g.value) start rest → expression_in two a ≡ f.value
-        → TookExpression v d (counts_of old) tokens f.value r1 → TookExpression v d (counts_of one) r2 g.value r3
-        → ReadyExpression old two (linked l (expression_in two a) (expression_in two b)) start rest (parse_linked (parse_expression d v) (counts_of old) start tokens)
-    of_link links.Pair is same took_f took_g = record {
-      value = paired f.value g.value;
-      is = is;
-      same = rw (same, g.tree) refl;
-      shallow = omega (arith, took_f.shallow, took_g.shallow);
-      expressions = omega (arith, f.expressions, g.expressions);
-    }
-    of_link (links.Operation o) is same took_f took_g = record {
-      value = operation f.value o g.value;
-      is = is;
-      same = rw (same, g.tree) refl;
-      shallow = omega (arith, took_f.shallow, took_g.shallow);
-      expressions = omega (arith, f.expressions, g.expressions);
+linked_ready v {r2 = r2} {l = l} d tokens small f linking g closing =
+    let second = second_is v d tokens r2 f g in two_ready v d tokens r2 l small f g (rw (f.is, linking, second, closing) refl)
+
+pub two_in_brackets_ready : (v : Version) {old one two : Program} {start r0 r1 r2 r3 rest : List Tok} {a b : ExprId} {o : Operator} (d : ℕ) (tokens : List Tok) → d ≤ 63 → parse_symbol symbols.Open tokens ≡ got tt r0
+    → FoundExpression old one a r1 (parse_expression d v (counts_of old) r0) → parse_symbol symbols.Comma r1 ≡ got tt r2 → FoundExpression one two b r3 (parse_expression d v (counts_of one) r2)
+    → parse_symbol symbols.Close r3 ≡ got tt rest → ReadyExpression old two (operation (expression_in two a) o (expression_in two b)) start rest (parse_two_in_brackets (parse_expression d v) (counts_of old) o start tokens)
+unfolding parse_two_in_brackets
+two_in_brackets_ready v {r0 = r0} {r2 = r2} {o = o} d tokens small opening f comma g closing =
+    let second = second_is v d r0 r2 f g in two_ready v d r0 r2 (links.Operation o) small f g (rw (opening, f.is, comma, second, closing) refl)
+
+-- one of two expressions by a condition
+pub conditional_ready : (v : Version) {old one two three : Program} {start r1 r2 r3 r4 rest : List Tok} {a b c : ExprId} (d : ℕ) (tokens : List Tok) → d ≤ 63 → FoundExpression old one a r1 (parse_expression d v (counts_of old) tokens)
+    → parse_keyword words.Then r1 ≡ got tt r2 → FoundExpression one two b r3 (parse_expression d v (counts_of one) r2) → parse_keyword words.Else r3 ≡ got tt r4
+    → FoundExpression two three c rest (parse_expression d v (counts_of two) r4)
+    → ReadyExpression old three (conditional (expression_in three a) (expression_in three b) (expression_in three c)) start rest (parse_conditional (parse_expression d v) (counts_of old) start tokens)
+unfolding parse_conditional
+conditional_ready v {old} {one} {two} {three} {start} {r1} {r2} {r3} {r4} {rest} {a} {b} {c} d tokens small f then_word g else_word h =
+    let first = part v d (counts_of old) tokens refl f in
+    let second = part v d (counts_with_expression (counts_of old) f.value) r2 first.counted g in
+    let third = part v d (counts_with_expression (counts_with_expression (counts_of old) f.value) g.value) r4 second.counted h in
+    let first_same : expression_in three a ≡ f.value = h.kept.trees.values a (g.kept.trees.expressions a f.held) ∙ g.kept.trees.values a f.held ∙ first.same in
+    let second_same : expression_in three b ≡ g.value = h.kept.trees.values b g.held ∙ second.same in
+    record {
+      value = conditional f.value g.value h.value;
+      is = rw (first.is, then_word, second.is, else_word, third.is) refl;
+      same = rw (first_same, second_same, third.same) refl;
+      shallow = omega (arith, first.shallow, second.shallow, third.shallow);
+      expressions = omega (arith, third.expressions);
     }
 
 -- a primitive with a value

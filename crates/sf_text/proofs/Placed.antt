@@ -1,10 +1,12 @@
 -- What was read stays where it stands, and what is built of it stands at its first token.
-use Rattle.std.proofs.Common.{◌≡◌, ℕ, suc, ◌-◌, ◌≤◌, List, [], ◌∷◌, ◌++◌, length, get_or, take, drop, map, Result, Ok, Err, refl, sym, ◌∙◌, ap, append_assoc, subst, arith}
+use Rattle.std.proofs.Common.{◌≡◌, ℕ, suc, true, false, ◌-◌, ◌≤◌, List, [], ◌∷◌, ◌++◌, length, get_or, take, drop, map, Result, Ok, Err, refl, sym, ◌∙◌, ap, append_assoc, subst, arith}
 use Rattle.std.specs.Prelude.{IfOk}
 use mathlib.Core.Path.{ap₂}
 use Rattle.std.proofs.Common.{Bor}
 use Rattle.std.proofs.lemmas.List.{length-append, length-map, append-nil, take_rest}
 use Rattle.sf_refusal.specs.declared.spot.Spot.{Spot}
+use Rattle.sf_operator.specs.declared.operator.Unary.{Unary}
+use Rattle.sf_operator.specs.declared.operator.Operator.{Operator}
 use Rattle.sf_expr.specs.declared.exprs.ExprId.{ExprId}
 use Rattle.sf_expr.specs.declared.exprs.NameId.{NameId}
 use Rattle.sf_expr.specs.declared.exprs.ConstantId.{ConstantId}
@@ -32,14 +34,14 @@ use Rattle.sf_lex.specs.Tokens.{Tok, Located, seen, shown, place_at, symbol}
 use Rattle.sf_lex.specs.Cutting.{AreTokensOf}
 use Rattle.sf_lex.specs.declared.symbol.Symbol.TheVariants as symbols
 use Rattle.sf_grammar.specs.declared.ty.Version.{Version}
-use Rattle.sf_grammar.specs.Spelling.{spell_type, spell_expression, spell_signature}
-use Rattle.sf_grammar.specs.Reading.{got, parse_inner_type, parse_signature}
+use Rattle.sf_grammar.specs.Spelling.{takes_brackets, stands_between, spell_type, spell_expression, spell_signature}
+use Rattle.sf_grammar.specs.Reading.{got, parse_inner_type, parse_link, parse_signature}
 use Rattle.sf_text.specs.Answers.{toks}
-use Rattle.sf_grammar.proofs.Takes.{TookType, inner_type_takes, TookSignature, signature_takes}
+use Rattle.sf_grammar.proofs.Takes.{TookLink, link_at_takes, TookType, inner_type_takes, TookSignature, signature_takes}
 use Rattle.sf_lex.specs.declared.token.PlacedToken.{PlacedToken}
 use Rattle.sf_grammar.specs.declared.head.Link.{Link}
 use Rattle.sf_grammar.specs.declared.head.Link.TheVariants as links
-use Rattle.sf_grammar.specs.Placing.{around, PatternPlaced, ExpressionStands, ExpressionPlaced, unit_placed, truth_placed, number_placed, constant_placed, variable_placed, pair_placed, operation_placed, FunctionPlaced, function_placed, TermStands, TermPlaced, bare_placed, with_value_placed, arrow_placed, joined_placed, sided_placed, headed_placed, TemplatePlaced, TemplatesPlaced, none_placed, template_placed, NetworkPlaced, IsPlacedIn}
+use Rattle.sf_grammar.specs.Placing.{around, PatternPlaced, ExpressionStands, ExpressionPlaced, unit_placed, truth_placed, number_placed, constant_placed, variable_placed, pair_placed, prefixed_placed, one_in_brackets_placed, operation_placed, two_in_brackets_placed, conditional_placed, FunctionPlaced, function_placed, TermStands, TermPlaced, bare_placed, with_value_placed, arrow_placed, joined_placed, sided_placed, headed_placed, TemplatePlaced, TemplatesPlaced, none_placed, template_placed, NetworkPlaced, IsPlacedIn}
 use Rattle.sf_text.specs.Progress.{IsSpelled}
 use Rattle.sf_text.proofs.Whole.{toks_same}
 use Rattle.sf_text.specs.Consuming.{places, BehindOne, BehindSome, HeadingPlaced, OpeningPlaced, Consumes, ConsumesBehind, PlacesTemplate, linked_node}
@@ -59,8 +61,15 @@ expression_keeps v old new k id xs (constant_placed s counted) =
 expression_keeps v old new k id xs (variable_placed s) = variable_placed (expression_stays old new k _ _ _ s)
 expression_keeps v old new k id xs (pair_placed comma closing s one two) =
     pair_placed comma closing (expression_stays old new k _ _ _ s) (expression_keeps v old new k _ _ one) (expression_keeps v old new k _ _ two)
-expression_keeps v old new k id xs (operation_placed operator closing s one two) =
-    operation_placed operator closing (expression_stays old new k _ _ _ s) (expression_keeps v old new k _ _ one) (expression_keeps v old new k _ _ two)
+expression_keeps v old new k id xs (prefixed_placed takes s part) = prefixed_placed takes (expression_stays old new k _ _ _ s) (expression_keeps v old new k _ _ part)
+expression_keeps v old new k id xs (one_in_brackets_placed opening closing takes s part) =
+    one_in_brackets_placed opening closing takes (expression_stays old new k _ _ _ s) (expression_keeps v old new k _ _ part)
+expression_keeps v old new k id xs (operation_placed operator closing between s one two) =
+    operation_placed operator closing between (expression_stays old new k _ _ _ s) (expression_keeps v old new k _ _ one) (expression_keeps v old new k _ _ two)
+expression_keeps v old new k id xs (two_in_brackets_placed opening comma closing between s one two) =
+    two_in_brackets_placed opening comma closing between (expression_stays old new k _ _ _ s) (expression_keeps v old new k _ _ one) (expression_keeps v old new k _ _ two)
+expression_keeps v old new k id xs (conditional_placed between second s condition one two) =
+    conditional_placed between second (expression_stays old new k _ _ _ s) (expression_keeps v old new k _ _ condition) (expression_keeps v old new k _ _ one) (expression_keeps v old new k _ _ two)
 
 function_keeps : (v : Version) (old new : Program) → KeepsTrees old new → (f : FunctionId) (xs : List Spot) → FunctionPlaced v old f xs → FunctionPlaced v new f xs
 function_keeps v old new k f xs (function_placed {f = g} {xs = front} {ys = behind} leads held pattern body) =
@@ -136,6 +145,10 @@ in_brackets_read {P} {Q} {R} {opening} {r0} {r1} {r2} {r3} {rest} one between tw
   holds = f between.at closing.at one.front two.front one.holds two.holds;
 }
 
+-- what stands in brackets behind a word
+behind_opening : {P : List Spot → Type 0} {spot : Spot} {r r0 rest : List Spot} (opening : BehindOne r r0) → Consumes (λ ys. P (spot ∷ ys)) (opening.at ∷ r0) rest → Consumes P (spot ∷ r) rest
+behind_opening {P} {spot} opening inside = record { front = spot ∷ inside.front; split = ap (λ ts. spot ∷ ts) (opening.split ∙ inside.split); holds = inside.holds }
+
 expression_stands : (old new : Program) (id : ExprId) (n : ExprNode) (e : Expression) (spot : Spot) → AddsExpression old new id n e spot → ExpressionStands new id n spot
 expression_stands old new id n e spot a = record { held = a.within; node = a.node; spot = a.spotted }
 
@@ -158,15 +171,64 @@ pub text_read : {v : Version} {old new : Program} {id : ExprId} {n : ConstantId}
 text_read {v} {old} {new} {id} {n} {l} {s} {spot} rest is a =
     record { front = spot ∷ []; split = refl; holds = constant_placed (expression_stands old new id _ _ spot a) (ap (λ (e : Expression). length (spell_expression v e)) (sym (a.is ∙ ap literal is))) }
 
+-- what was read is read in a program that keeps it
+abbrev stays_read : {v : Version} {old new : Program} {id : ExprId} {r rest : List Spot} → KeepsTrees old new → Consumes (ExpressionPlaced v old id) r rest → Consumes (ExpressionPlaced v new id) r rest
+stays_read {v} {old} {new} {id} k c = record { front = c.front; split = c.split; holds = expression_keeps v old new k id c.front c.holds }
+
+-- an operator on one expression
+pub prefixed_read : {v : Version} {mid new : Program} {a id : ExprId} {o : Unary} {e : Expression} {spot : Spot} {r0 rest : List Spot} → takes_brackets o ≡ false → AddsExpression mid new id (expressions.Applied o a) e spot
+    → Consumes (ExpressionPlaced v mid a) r0 rest → Consumes (ExpressionPlaced v new id) (spot ∷ r0) rest
+prefixed_read {v} {mid} {new} {a} {id} {o} {e} {spot} takes added part =
+    behind_first (stays_read added.kept.trees part) (λ xs p. prefixed_placed takes (expression_stands mid new id _ e spot added) p)
+
+pub one_in_brackets_read : {v : Version} {mid new : Program} {a id : ExprId} {o : Unary} {e : Expression} {spot : Spot} {r0 r1 r2 rest : List Spot} → takes_brackets o ≡ true → AddsExpression mid new id (expressions.Applied o a) e spot
+    → BehindOne r0 r1 → Consumes (ExpressionPlaced v mid a) r1 r2 → BehindOne r2 rest → Consumes (ExpressionPlaced v new id) (spot ∷ r0) rest
+one_in_brackets_read {v} {mid} {new} {a} {id} {o} {e} {spot} {r0} {r1} {r2} {rest} takes added opening part closing =
+    let inside : Consumes (ExpressionPlaced v new a) r1 r2 = stays_read added.kept.trees part in record {
+      front = spot ∷ opening.at ∷ (part.front ++ (closing.at ∷ []));
+      split = rw (opening.split, part.split, closing.split, append_assoc part.front (closing.at ∷ []) rest) refl;
+      holds = one_in_brackets_placed opening.at closing.at takes (expression_stands mid new id _ e spot added) inside.holds;
+    }
+
 -- two expressions in brackets
-pub linked_read : {v : Version} {one two new : Program} {a b id : ExprId} {e : Expression} {spot : Spot} {r0 r1 r2 r3 rest : List Spot} (l : Link) → KeepsTrees one two → AddsExpression two new id (linked_node l a b) e spot
-    → Consumes (ExpressionPlaced v one a) r0 r1 → BehindOne r1 r2 → Consumes (ExpressionPlaced v two b) r2 r3 → BehindOne r3 rest → Consumes (ExpressionPlaced v new id) (spot ∷ r0) rest
-linked_read {v} {one} {two} {new} {a} {b} {id} {e} {spot} links.Pair k added first between second closing =
-    in_brackets_read first between second closing (λ comma closing xs ys p q.
-    pair_placed comma closing (expression_stands two new id _ e spot added) (expression_keeps v two new added.kept.trees a xs (expression_keeps v one two k a xs p)) (expression_keeps v two new added.kept.trees b ys q))
-linked_read {v} {one} {two} {new} {a} {b} {id} {e} {spot} (links.Operation o) k added first between second closing =
-    in_brackets_read first between second closing (λ operator closing xs ys p q.
-    operation_placed operator closing (expression_stands two new id _ e spot added) (expression_keeps v two new added.kept.trees a xs (expression_keeps v one two k a xs p)) (expression_keeps v two new added.kept.trees b ys q))
+pub linked_read : {v : Version} {one two new : Program} {a b id : ExprId} {e : Expression} {spot : Spot} {r0 r1 r2 r3 rest : List Spot} (l : Link) (t1 t2 : List Tok) → KeepsTrees one two → AddsExpression two new id (linked_node l a b) e spot
+    → Consumes (ExpressionPlaced v one a) r0 r1 → parse_link t1 ≡ got l t2 → BehindOne r1 r2 → Consumes (ExpressionPlaced v two b) r2 r3 → BehindOne r3 rest → Consumes (ExpressionPlaced v new id) (spot ∷ r0) rest
+linked_read {v} {one} {two} {new} {a} {b} {id} {e} {spot} links.Pair t1 t2 k added first linking between second closing =
+    in_brackets_read (stays_read added.kept.trees (stays_read k first)) between (stays_read added.kept.trees second) closing (λ comma closing xs ys p q.
+    pair_placed comma closing (expression_stands two new id _ e spot added) p q)
+linked_read {v} {one} {two} {new} {a} {b} {id} {e} {spot} (links.Operation o) t1 t2 k added first linking between second closing =
+    let link : TookLink t1 (links.Operation o) t2 = link_at_takes t1 (links.Operation o) t2 linking in
+    in_brackets_read (stays_read added.kept.trees (stays_read k first)) between (stays_read added.kept.trees second) closing (λ operator closing xs ys p q.
+    operation_placed operator closing link.between (expression_stands two new id _ e spot added) p q)
+
+pub two_in_brackets_read : {v : Version} {one two new : Program} {a b id : ExprId} {o : Operator} {e : Expression} {spot : Spot} {r r0 r1 r2 r3 rest : List Spot} → stands_between o ≡ false → KeepsTrees one two
+    → AddsExpression two new id (expressions.Operation a o b) e spot → BehindOne r r0 → Consumes (ExpressionPlaced v one a) r0 r1 → BehindOne r1 r2 → Consumes (ExpressionPlaced v two b) r2 r3 → BehindOne r3 rest
+    → Consumes (ExpressionPlaced v new id) (spot ∷ r) rest
+two_in_brackets_read {v} {one} {two} {new} {a} {b} {id} {o} {e} {spot} {r} {r0} {r1} {r2} {r3} {rest} front k added opening first between second closing =
+    behind_opening opening (in_brackets_read (stays_read added.kept.trees (stays_read k first)) between (stays_read added.kept.trees second) closing (λ comma closing xs ys p q.
+    two_in_brackets_placed opening.at comma closing front (expression_stands two new id _ e spot added) p q))
+
+-- one of two expressions by a condition
+pub conditional_read : {v : Version} {one two three new : Program} {a b c id : ExprId} {e : Expression} {spot : Spot} {r0 r1 r2 r3 r4 rest : List Spot} → KeepsTrees one two → KeepsTrees two three
+    → AddsExpression three new id (expressions.Conditional a b c) e spot → Consumes (ExpressionPlaced v one a) r0 r1 → BehindOne r1 r2 → Consumes (ExpressionPlaced v two b) r2 r3 → BehindOne r3 r4
+    → Consumes (ExpressionPlaced v three c) r4 rest → Consumes (ExpressionPlaced v new id) (spot ∷ r0) rest
+conditional_read {v} {one} {two} {three} {new} {a} {b} {c} {id} {e} {spot} {r0} {r1} {r2} {r3} {r4} {rest} k l added condition then_word first else_word second =
+    let x : Consumes (ExpressionPlaced v new a) r0 r1 = stays_read added.kept.trees (stays_read l (stays_read k condition)) in
+    let y : Consumes (ExpressionPlaced v new b) r2 r3 = stays_read added.kept.trees (stays_read l first) in
+    let z : Consumes (ExpressionPlaced v new c) r4 rest = stays_read added.kept.trees second in
+    record {
+      front = spot ∷ (condition.front ++ (then_word.at ∷ (first.front ++ (else_word.at ∷ second.front))));
+      split = rw (
+        condition.split,
+        then_word.split,
+        first.split,
+        else_word.split,
+        second.split,
+        append_assoc condition.front (then_word.at ∷ (first.front ++ (else_word.at ∷ second.front))) rest,
+        append_assoc first.front (else_word.at ∷ second.front) rest,
+      ) refl;
+      holds = conditional_placed then_word.at else_word.at (expression_stands three new id _ e spot added) x.holds y.holds z.holds;
+    }
 
 -- a pattern and an expression
 pub function_read : {v : Version} {mid new : Program} {f : FunctionId} {q : PlacedPattern} {b : ExprId} {r0 r1 r2 rest : List Spot} → AddsProgramFunction mid new f q b
@@ -200,10 +262,8 @@ sided_read {v} {mid} {new} {id} {a} {s} {t} {spot} added part =
 pub headed_read : {v : Version} {one two new : Program} {id a : TermId} {h : Heading} {e : ExprId} {t : Term} {spot : Spot} {r r0 r1 r2 r3 rest : List Spot} → KeepsTrees one two → AddsTerm two new id (nodes.Headed h e a) t spot
     → BehindOne r r0 → Consumes (ExpressionPlaced v one e) r0 r1 → BehindOne r1 r2 → Consumes (TermPlaced v two a) r2 r3 → BehindOne r3 rest → Consumes (TermPlaced v new id) (spot ∷ r) rest
 headed_read {v} {one} {two} {new} {id} {a} {h} {e} {t} {spot} {r} {r0} {r1} {r2} {r3} {rest} k added opening value between part closing =
-    let inside : Consumes (λ ys. TermPlaced v new id (spot ∷ ys)) (opening.at ∷ r0) rest =
-    in_brackets_read value between part closing (λ comma closing xs ys p q.
-    headed_placed opening.at comma closing (term_stands two new id _ t spot added) (expression_keeps v two new added.kept.trees e xs (expression_keeps v one two k e xs p)) (term_keeps v two new added.kept.trees a ys q)) in
-    record { front = spot ∷ inside.front; split = ap (λ ts. spot ∷ ts) (opening.split ∙ inside.split); holds = inside.holds }
+    behind_opening opening (in_brackets_read value between part closing (λ comma closing xs ys p q.
+    headed_placed opening.at comma closing (term_stands two new id _ t spot added) (expression_keeps v two new added.kept.trees e xs (expression_keeps v one two k e xs p)) (term_keeps v two new added.kept.trees a ys q)))
 
 -- two terms joined
 pub joined_read : {v : Version} {one two new : Program} {id a b : TermId} {j : Join} {t : Term} {spot : Spot} {r0 r1 r2 r3 rest : List Spot} → KeepsTrees one two → AddsTerm two new id (nodes.Joined j a b) t spot

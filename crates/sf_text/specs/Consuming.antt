@@ -1,5 +1,5 @@
 -- Which tokens were read, by their places, and that what was read of them stands there.
-use Rattle.std.specs.Prelude.{◌≡◌, List, [], ◌∷◌, ◌++◌, map}
+use Rattle.std.specs.Prelude.{◌≡◌, true, false, List, [], ◌∷◌, ◌++◌, map}
 use Rattle.sf_refusal.specs.declared.spot.Spot.{Spot}
 use Rattle.sf_expr.specs.declared.exprs.ExprId.{ExprId}
 use Rattle.sf_expr.specs.declared.exprs.ExprNode.{ExprNode}
@@ -9,9 +9,12 @@ use Rattle.sf_term.specs.Headers.{Header}
 use Rattle.sf_term.specs.Arena.{KeepsTrees, headers_of}
 use Rattle.sf_lex.specs.declared.token.PlacedToken.{PlacedToken}
 use Rattle.sf_grammar.specs.declared.ty.Version.{Version}
+use Rattle.sf_grammar.specs.declared.head.ExpressionHead.{ExpressionHead}
+use Rattle.sf_grammar.specs.declared.head.ExpressionHead.TheVariants as expression_heads
 use Rattle.sf_grammar.specs.declared.head.Link.{Link}
 use Rattle.sf_grammar.specs.declared.head.Link.TheVariants as links
 use Rattle.sf_grammar.specs.Placing.{TemplatePlaced}
+use Rattle.sf_grammar.specs.Spelling.{takes_brackets, stands_between}
 
 -- the places of tokens
 abbrev pub places : List PlacedToken → List Spot
@@ -58,6 +61,13 @@ ConsumesBehind P tokens rest = (at : Spot) → Consumes P (at ∷ tokens) rest
 abbrev pub linked_node : Link → ExprId → ExprId → ExprNode
 linked_node links.Pair a b = expressions.Pair a b
 linked_node (links.Operation o) a b = expressions.Operation a o b
+
+-- the operands of a form stand as its word wants them
+abbrev pub HasOperandsSo : ExpressionHead → Type 0
+HasOperandsSo (expression_heads.Prefixed o) = takes_brackets o ≡ false
+HasOperandsSo (expression_heads.OneInBrackets o) = takes_brackets o ≡ true
+HasOperandsSo (expression_heads.TwoInBrackets o) = stands_between o ≡ false
+HasOperandsSo h = Unit {0}
 
 -- a template was read into the program behind the others, and what was there stands
 pub record PlacesTemplate (v : Version) (old new : Program) (tokens rest : List Spot) : Type 0 where

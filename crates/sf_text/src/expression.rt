@@ -1,20 +1,21 @@
 //! Expressions and functions.
-ghost use Rattle.std.specs.Prelude.{◌≡◌, ◌<◌, ◌≤◌, ◌↔◌, IfOk, length, ◌∷◌, string_bytes};
+ghost use Rattle.std.specs.Prelude.{◌≡◌, ◌<◌, ◌≤◌, ◌↔◌, true, false, IfOk, length, ◌∷◌, string_bytes};
 ghost use Rattle.sf_expr.specs.Expressions.{Expression, variable as variable_form, literal as literal_form, unit_literal, truth_literal, int_literal, text_literal, depth};
 ghost use Rattle.sf_lex.specs.Tokens.{token_of};
 ghost use Rattle.sf_lex.specs.Words.{IsName};
 ghost use Rattle.sf_term.specs.Arena.{HoldsExpression, AddsExpression, expression_under as expression_in, expression_count};
 ghost use Rattle.sf_text.specs.Answers.{toks, AreNamed, StopsReading, ReadsAs, ReadsExpression, ReadsFunction, counts_of, stop_for};
 ghost use Rattle.sf_grammar.specs.Placing.{ExpressionPlaced, FunctionPlaced};
-ghost use Rattle.sf_text.specs.Consuming.{places, BehindOne, Consumes, linked_node};
-ghost use Rattle.sf_grammar.specs.Reading.{begins_expression, too_deep, parse_link, linked, parse_linked, literal_of, literal_read, behind_close, bracketed_from, parse_none, expression_read, parse_expression_form, parse_expression, parse_function};
+ghost use Rattle.sf_grammar.specs.Spelling.{takes_brackets, stands_between};
+ghost use Rattle.sf_text.specs.Consuming.{places, BehindOne, Consumes, linked_node, HasOperandsSo};
+ghost use Rattle.sf_grammar.specs.Reading.{begins_expression, too_deep, parse_link, linked, parse_linked, behind_close, bracketed_from, parse_none, parse_prefixed, parse_one_in_brackets, parse_two_in_brackets, parse_conditional, parse_worded_expression, expression_read, parse_expression_form, parse_expression, parse_function};
 
-use crate::part::{stop_at, symbol};
+use crate::part::{keyword, stop_at, symbol};
 use crate::pattern::pattern;
 use crate::stop::Stop;
 use crate::ty::inner_type;
-use sf_expr::{Constant, ExprId, ExprNode, FunctionId};
-use sf_grammar::{Link, Version, link_of};
+use sf_expr::{Constant, ExprId, ExprNode, FunctionId, Operator, Unary};
+use sf_grammar::{ExpressionHead, Link, Version, expression_head, link_of};
 use sf_lex::{Keyword, PlacedToken, Symbol, Token};
 use sf_refusal::{Rule, Spot};
 use sf_term::{BuildRefusal, Program};
@@ -35,14 +36,11 @@ pub(crate) fn refused(refusal: BuildRefusal, tokens: &[PlacedToken]) -> Stop
 fn begins_expression(token: &Token) -> bool
     ensures { result ≡ begins_expression (token_of token.now) }
 {
-    matches!(
-        token,
-        Token::Name(_)
-            | Token::Number(_)
-            | Token::Text(_)
-            | Token::Keyword(Keyword::True | Keyword::False | Keyword::NoEvent)
-            | Token::Symbol(Symbol::Open)
-    )
+    match token {
+        Token::Name(_) | Token::Number(_) | Token::Text(_) => true,
+        Token::Keyword(keyword) => expression_head(*keyword).is_some(),
+        Token::Symbol(symbol) => *symbol == Symbol::Open,
+    }
 }
 
 /// An expression would be 65 deep here.
@@ -130,28 +128,6 @@ fn text<'a>(
     match program.constant(constant, spot) {
         Ok(id) => Ok((id, rest)),
         Err(refusal) => Err(refused(refusal, tokens)),
-    }
-}
-
-/// A literal, which is the first of these tokens, and the tokens behind it.
-fn literal<'a>(
-    alloc: Global,
-    version: Version,
-    tokens: &'a [PlacedToken<'a>],
-    rest: &'a [PlacedToken<'a>],
-    program: &mut Program,
-    token: &Token,
-    spot: Spot,
-) -> Result<(ExprId, &'a [PlacedToken<'a>]), Stop>
-    ensures reads { ReadsExpression program.old program.new result (literal_read (counts_of program.old) (literal_of (token_of token.now)) (toks tokens.now) (toks rest.now)) }
-    ensures placed { IfOk result (λ x. Consumes (ExpressionPlaced version program.new x.0) (spot ∷ places rest.now) (places x.1.now)) }
-{
-    match token {
-        Token::Number(value) => number(version, tokens, rest, program, *value, spot),
-        Token::Text(value) => text(alloc, version, tokens, rest, program, value, spot),
-        Token::Keyword(Keyword::True) => truth(version, tokens, rest, program, true, spot),
-        Token::Keyword(Keyword::False) => truth(version, tokens, rest, program, false, spot),
-        _ => Err(stop_at(Rule::Unexpected, tokens)),
     }
 }
 
@@ -271,13 +247,52 @@ fn expression_form<'a>(
     let spot = first.spot;
     match &first.token {
         Token::Name(name) => variable(alloc, version, tokens, rest, program, *name, spot),
-        Token::Keyword(Keyword::NoEvent) => {
-            no_event(alloc, version, tokens, rest, program, spot, left)
-        }
+        Token::Number(value) => number(version, tokens, rest, program, *value, spot),
+        Token::Text(value) => text(alloc, version, tokens, rest, program, value, spot),
+        Token::Keyword(keyword) => match expression_head(*keyword) {
+            Some(head) => worded(alloc, version, tokens, rest, program, head, spot, left),
+            None => Err(stop_at(Rule::Unexpected, tokens)),
+        },
         Token::Symbol(Symbol::Open) => {
             bracketed(alloc, version, tokens, rest, program, spot, left)
         }
-        token => literal(alloc, version, tokens, rest, program, token, spot),
+        Token::Symbol(_) => Err(stop_at(Rule::Unexpected, tokens)),
+    }
+}
+
+/// An expression whose word is the first of these tokens, and the tokens behind it.
+#[cycle(expression)]
+fn worded<'a>(
+    alloc: Global,
+    version: Version,
+    tokens: &'a [PlacedToken<'a>],
+    rest: &'a [PlacedToken<'a>],
+    program: &mut Program,
+    head: ExpressionHead,
+    spot: Spot,
+    left: u32,
+) -> Result<(ExprId, &'a [PlacedToken<'a>]), Stop>
+    requires shallow { left ≤ 63 }
+    requires named { AreNamed (toks rest.now) }
+    requires stands { HasOperandsSo head }
+    ensures reads { ReadsExpression program.old program.new result (parse_worded_expression left version (parse_expression left version) (counts_of program.old) (Some head) (toks tokens.now) (toks rest.now)) }
+    ensures placed { IfOk result (λ x. Consumes (ExpressionPlaced version program.new x.0) (spot ∷ places rest.now) (places x.1.now)) }
+{
+    match head {
+        ExpressionHead::Truth(value) => truth(version, tokens, rest, program, value, spot),
+        ExpressionHead::NoEvent => no_event(alloc, version, tokens, rest, program, spot, left),
+        ExpressionHead::Prefixed(operator) => prefixed(
+            alloc, version, tokens, rest, program, operator, spot, left,
+        ),
+        ExpressionHead::OneInBrackets(operator) => one_in_brackets(
+            alloc, version, tokens, rest, program, operator, spot, left,
+        ),
+        ExpressionHead::TwoInBrackets(operator) => two_in_brackets(
+            alloc, version, tokens, rest, program, operator, spot, left,
+        ),
+        ExpressionHead::Conditional => {
+            conditional(alloc, version, tokens, rest, program, spot, left)
+        }
     }
 }
 
@@ -327,6 +342,118 @@ fn linked<'a>(
     let (two, rest) = expression(alloc, version, rest, program, left)?;
     let rest = symbol(rest, Symbol::Close)?;
     match add_linked(program, link, one, two, spot) {
+        Ok(id) => Ok((id, rest)),
+        Err(refusal) => Err(refused(refusal, tokens)),
+    }
+}
+
+/// An operator on one expression, whose word is the first of these tokens, and the tokens behind it.
+#[cycle(expression)]
+#[tactic(auto, unfolding(sf_grammar::specs::Reading::parse_prefixed))]
+fn prefixed<'a>(
+    alloc: Global,
+    version: Version,
+    tokens: &'a [PlacedToken<'a>],
+    rest: &'a [PlacedToken<'a>],
+    program: &mut Program,
+    operator: Unary,
+    spot: Spot,
+    left: u32,
+) -> Result<(ExprId, &'a [PlacedToken<'a>]), Stop>
+    requires shallow { left ≤ 63 }
+    requires named { AreNamed (toks rest.now) }
+    requires stands { takes_brackets operator ≡ false }
+    ensures reads { ReadsExpression program.old program.new result (parse_prefixed (parse_expression left version) (counts_of program.old) operator (toks tokens.now) (toks rest.now)) }
+    ensures placed { IfOk result (λ x. Consumes (ExpressionPlaced version program.new x.0) (spot ∷ places rest.now) (places x.1.now)) }
+{
+    let (part, rest) = expression(alloc, version, rest, program, left)?;
+    match program.applied(operator, part, spot) {
+        Ok(id) => Ok((id, rest)),
+        Err(refusal) => Err(refused(refusal, tokens)),
+    }
+}
+
+/// An operator on one expression in brackets, whose word is the first of these tokens, and the tokens behind it.
+#[cycle(expression)]
+#[tactic(auto, unfolding(sf_grammar::specs::Reading::parse_one_in_brackets))]
+fn one_in_brackets<'a>(
+    alloc: Global,
+    version: Version,
+    tokens: &'a [PlacedToken<'a>],
+    rest: &'a [PlacedToken<'a>],
+    program: &mut Program,
+    operator: Unary,
+    spot: Spot,
+    left: u32,
+) -> Result<(ExprId, &'a [PlacedToken<'a>]), Stop>
+    requires shallow { left ≤ 63 }
+    requires named { AreNamed (toks rest.now) }
+    requires stands { takes_brackets operator ≡ true }
+    ensures reads { ReadsExpression program.old program.new result (parse_one_in_brackets (parse_expression left version) (counts_of program.old) operator (toks tokens.now) (toks rest.now)) }
+    ensures placed { IfOk result (λ x. Consumes (ExpressionPlaced version program.new x.0) (spot ∷ places rest.now) (places x.1.now)) }
+{
+    let rest = symbol(rest, Symbol::Open)?;
+    let (part, rest) = expression(alloc, version, rest, program, left)?;
+    let rest = symbol(rest, Symbol::Close)?;
+    match program.applied(operator, part, spot) {
+        Ok(id) => Ok((id, rest)),
+        Err(refusal) => Err(refused(refusal, tokens)),
+    }
+}
+
+/// An operator on two expressions in brackets, whose word is the first of these tokens, and the tokens behind it.
+#[cycle(expression)]
+#[tactic(auto, using(crate::proofs::Named::expression_named), unfolding(sf_grammar::specs::Reading::parse_two_in_brackets))]
+fn two_in_brackets<'a>(
+    alloc: Global,
+    version: Version,
+    tokens: &'a [PlacedToken<'a>],
+    rest: &'a [PlacedToken<'a>],
+    program: &mut Program,
+    operator: Operator,
+    spot: Spot,
+    left: u32,
+) -> Result<(ExprId, &'a [PlacedToken<'a>]), Stop>
+    requires shallow { left ≤ 63 }
+    requires named { AreNamed (toks rest.now) }
+    requires stands { stands_between operator ≡ false }
+    ensures reads { ReadsExpression program.old program.new result (parse_two_in_brackets (parse_expression left version) (counts_of program.old) operator (toks tokens.now) (toks rest.now)) }
+    ensures placed { IfOk result (λ x. Consumes (ExpressionPlaced version program.new x.0) (spot ∷ places rest.now) (places x.1.now)) }
+{
+    let rest = symbol(rest, Symbol::Open)?;
+    let (one, rest) = expression(alloc, version, rest, program, left)?;
+    let rest = symbol(rest, Symbol::Comma)?;
+    let (two, rest) = expression(alloc, version, rest, program, left)?;
+    let rest = symbol(rest, Symbol::Close)?;
+    match program.operation(one, operator, two, spot) {
+        Ok(id) => Ok((id, rest)),
+        Err(refusal) => Err(refused(refusal, tokens)),
+    }
+}
+
+/// One of two expressions by a condition, whose word is the first of these tokens, and the tokens behind it.
+#[cycle(expression)]
+#[tactic(auto, using(crate::proofs::Named::expression_named), unfolding(sf_grammar::specs::Reading::parse_conditional))]
+fn conditional<'a>(
+    alloc: Global,
+    version: Version,
+    tokens: &'a [PlacedToken<'a>],
+    rest: &'a [PlacedToken<'a>],
+    program: &mut Program,
+    spot: Spot,
+    left: u32,
+) -> Result<(ExprId, &'a [PlacedToken<'a>]), Stop>
+    requires shallow { left ≤ 63 }
+    requires named { AreNamed (toks rest.now) }
+    ensures reads { ReadsExpression program.old program.new result (parse_conditional (parse_expression left version) (counts_of program.old) (toks tokens.now) (toks rest.now)) }
+    ensures placed { IfOk result (λ x. Consumes (ExpressionPlaced version program.new x.0) (spot ∷ places rest.now) (places x.1.now)) }
+{
+    let (condition, rest) = expression(alloc, version, rest, program, left)?;
+    let rest = keyword(rest, Keyword::Then)?;
+    let (one, rest) = expression(alloc, version, rest, program, left)?;
+    let rest = keyword(rest, Keyword::Else)?;
+    let (two, rest) = expression(alloc, version, rest, program, left)?;
+    match program.conditional(condition, one, two, spot) {
         Ok(id) => Ok((id, rest)),
         Err(refusal) => Err(refused(refusal, tokens)),
     }

@@ -45,6 +45,7 @@ pub(crate) fn keyword<'a>(
 ) -> Result<&'a [PlacedToken<'a>], Stop>
     ensures reads { ReadsRest result (parse_keyword wanted (toks tokens.now)) }
     ensures behind { IfOk result (λ rest. BehindOne (places tokens.now) (places rest.now)) }
+    ensures named { IfOk result (λ rest. AreNamed (toks tokens.now) → AreNamed (toks rest.now)) }
 {
     if let [first, rest @ ..] = tokens {
         if let Token::Keyword(keyword) = &first.token {

@@ -1,7 +1,7 @@
 use Rattle.std.proofs.Common.{Err, ap}
 use Rattle.sf_text.specs.Answers.{toks}
-use Rattle.sf_text.proofs.Found.{expression_refused, linked_ready}
-use Rattle.sf_text.proofs.Placed.{linked_read}
+use Rattle.sf_text.proofs.Found.{expression_refused, linked_ready, prefixed_ready, one_in_brackets_ready, two_in_brackets_ready, conditional_ready}
+use Rattle.sf_text.proofs.Placed.{linked_read, prefixed_read, one_in_brackets_read, two_in_brackets_read, conditional_read}
 use Rattle.sf_text.proofs.expression.+expression.Goals as goal
 
 pub linked-returns-in-Err-clause-reads : goal.linked-returns-in-Err-clause-reads
@@ -12,4 +12,40 @@ linked-returns-in-Err-clause-reads t c =
 
 pub linked-returns-in-Ok-clause-placed : goal.linked-returns-in-Ok-clause-placed
 linked-returns-in-Ok-clause-placed t c =
-    linked_read c.in_ok-link.link c.in_ok-two.ensures.reads.kept.trees c.in-Ok.ensures.ok c.in_ok-one.ensures.placed c.in_ok-link.ensures.behind c.in_ok-two.ensures.placed c.in_ok-rest.ensures.behind
+    linked_read c.in_ok-link.link (toks c.in_ok-one.rest.now) (toks c.in_ok-link.rest.now) c.in_ok-two.ensures.reads.kept.trees c.in-Ok.ensures.ok c.in_ok-one.ensures.placed c.in_ok-link.ensures.reads c.in_ok-link.ensures.behind c.in_ok-two.ensures.placed c.in_ok-rest.ensures.behind
+
+pub prefixed-returns-in-Err-clause-reads : goal.prefixed-returns-in-Err-clause-reads
+prefixed-returns-in-Err-clause-reads t c =
+    expression_refused c.args.tokens.now c.in-Err.refusal c.refused.result
+    (prefixed_ready c.args.version c.args.left (toks c.args.rest.now) c.requires.shallow c.in_ok-part.ensures.reads) c.refused.ensures
+    (λ same. c.in-Err.ensures.many.0 (ap Err same)) (λ same. (c.in-Err.ensures.deep.0 (ap Err same)).1) (λ same. c.in-Err.ensures.no_name (ap Err same))
+
+pub prefixed-returns-in-Ok-clause-placed : goal.prefixed-returns-in-Ok-clause-placed
+prefixed-returns-in-Ok-clause-placed t c = prefixed_read c.requires.stands c.in-Ok.ensures.ok c.in_ok-part.ensures.placed
+
+pub one_in_brackets-returns-in-Err-clause-reads : goal.one_in_brackets-returns-in-Err-clause-reads
+one_in_brackets-returns-in-Err-clause-reads t c =
+    expression_refused c.args.tokens.now c.in-Err.refusal c.refused.result
+    (one_in_brackets_ready c.args.version c.args.left (toks c.args.rest.now) c.requires.shallow c.in_ok-rest.ensures.reads c.in_ok-part.ensures.reads c.in_ok-rest-2.ensures.reads) c.refused.ensures
+    (λ same. c.in-Err.ensures.many.0 (ap Err same)) (λ same. (c.in-Err.ensures.deep.0 (ap Err same)).1) (λ same. c.in-Err.ensures.no_name (ap Err same))
+
+pub one_in_brackets-returns-in-Ok-clause-placed : goal.one_in_brackets-returns-in-Ok-clause-placed
+one_in_brackets-returns-in-Ok-clause-placed t c = one_in_brackets_read c.requires.stands c.in-Ok.ensures.ok c.in_ok-rest.ensures.behind c.in_ok-part.ensures.placed c.in_ok-rest-2.ensures.behind
+
+pub two_in_brackets-returns-in-Err-clause-reads : goal.two_in_brackets-returns-in-Err-clause-reads
+two_in_brackets-returns-in-Err-clause-reads t c =
+    expression_refused c.args.tokens.now c.in-Err.refusal c.refused.result
+    (two_in_brackets_ready c.args.version c.args.left (toks c.args.rest.now) c.requires.shallow c.in_ok-rest.ensures.reads c.in_ok-one.ensures.reads c.in_ok-rest-2.ensures.reads c.in_ok-two.ensures.reads c.in_ok-rest-3.ensures.reads) c.refused.ensures
+    (λ same. c.in-Err.ensures.many.0 (ap Err same)) (λ same. (c.in-Err.ensures.deep.0 (ap Err same)).1) (λ same. c.in-Err.ensures.no_name (ap Err same))
+
+pub two_in_brackets-returns-in-Ok-clause-placed : goal.two_in_brackets-returns-in-Ok-clause-placed
+two_in_brackets-returns-in-Ok-clause-placed t c = two_in_brackets_read c.requires.stands c.in_ok-two.ensures.reads.kept.trees c.in-Ok.ensures.ok c.in_ok-rest.ensures.behind c.in_ok-one.ensures.placed c.in_ok-rest-2.ensures.behind c.in_ok-two.ensures.placed c.in_ok-rest-3.ensures.behind
+
+pub conditional-returns-in-Err-clause-reads : goal.conditional-returns-in-Err-clause-reads
+conditional-returns-in-Err-clause-reads t c =
+    expression_refused c.args.tokens.now c.in-Err.refusal c.refused.result
+    (conditional_ready c.args.version c.args.left (toks c.args.rest.now) c.requires.shallow c.in_ok-condition.ensures.reads c.in_ok-rest.ensures.reads c.in_ok-one.ensures.reads c.in_ok-rest-2.ensures.reads c.in_ok-two.ensures.reads) c.refused.ensures
+    (λ same. c.in-Err.ensures.many.0 (ap Err same)) (λ same. (c.in-Err.ensures.deep.0 (ap Err same)).1) (λ same. c.in-Err.ensures.no_name (ap Err same))
+
+pub conditional-returns-in-Ok-clause-placed : goal.conditional-returns-in-Ok-clause-placed
+conditional-returns-in-Ok-clause-placed t c = conditional_read c.in_ok-one.ensures.reads.kept.trees c.in_ok-two.ensures.reads.kept.trees c.in-Ok.ensures.ok c.in_ok-condition.ensures.placed c.in_ok-rest.ensures.behind c.in_ok-one.ensures.placed c.in_ok-rest-2.ensures.behind c.in_ok-two.ensures.placed

@@ -12,3 +12,18 @@ decreases-linked l = 4 * l.left + 1
 
 abbrev pub decreases-bracketed : goal.decreases-bracketed
 decreases-bracketed l = 4 * l.left + 2
+
+abbrev pub decreases-worded : goal.decreases-worded
+decreases-worded l = 4 * l.left + 2
+
+abbrev pub decreases-prefixed : goal.decreases-prefixed
+decreases-prefixed l = 4 * l.left + 1
+
+abbrev pub decreases-one_in_brackets : goal.decreases-one_in_brackets
+decreases-one_in_brackets l = 4 * l.left + 1
+
+abbrev pub decreases-two_in_brackets : goal.decreases-two_in_brackets
+decreases-two_in_brackets l = 4 * l.left + 1
+
+abbrev pub decreases-conditional : goal.decreases-conditional
+decreases-conditional l = 4 * l.left + 1

@@ -1,0 +1,7 @@
+pub mod Outcomes
+pub mod Kinds
+pub mod Breaches
+pub mod Answers
+pub mod Operations
+pub mod Remainders
+pub mod Laws

@@ -1,0 +1,89 @@
+//! The parts of values of each type.
+ghost use Rattle.std.specs.Prelude.{◌≡◌, IfOk};
+ghost use Rattle.std.specs.Option.{option_map};
+ghost use Rattle.sf_value.specs.View.{key_of, rows_of};
+ghost use Rattle.sf_operator.specs.Operations.{truth_in, number_in as a_number_in, halves_in as the_halves_in, payload_in as the_payload_in, rows_in as the_rows_in, key_in as a_key_in, order_of as the_order_of};
+
+use sf_value::{Form, Key, Value};
+use std::alloc::AllocError;
+use std::cmp::Ordering;
+use std::rc::Rc;
+
+/// The truth that a value is, if it is one.
+pub fn is_true(value: &Value) -> Option<bool>
+    ensures { result ≡ truth_in value.now }
+{
+    match value.form() {
+        Form::Bool(truth) => Some(*truth),
+        _ => None,
+    }
+}
+
+/// The number that a value is, if it is one.
+pub(crate) fn number_in(value: &Value) -> Option<i64>
+    ensures { result ≡ a_number_in value.now }
+{
+    match value.form() {
+        Form::Int(number) => Some(*number),
+        _ => None,
+    }
+}
+
+/// The halves of a pair; none of another value.
+pub(crate) fn halves_in(value: &Value) -> Option<(&Rc<Value>, &Rc<Value>)>
+    ensures { option_map (λ h. (h.0.now.value, h.1.now.value)) result ≡ the_halves_in value.now }
+{
+    match value.form() {
+        Form::Pair(first, second) => Some((first, second)),
+        _ => None,
+    }
+}
+
+/// The payload of an event, if it occurs; none of another value.
+pub(crate) fn payload_in(value: &Value) -> Option<Option<&Rc<Value>>>
+    ensures { option_map (λ e. option_map (λ x. x.now.value) e) result ≡ the_payload_in value.now }
+{
+    match value.form() {
+        Form::NoEvent => Some(None),
+        Form::Event(payload) => Some(Some(payload)),
+        _ => None,
+    }
+}
+
+/// The rows of a table; none of another value.
+pub(crate) fn rows_in(value: &Value) -> Option<&[(Key, Value)]>
+    ensures { option_map (λ rs. rows_of rs.now) result ≡ the_rows_in value.now }
+{
+    match value.form() {
+        Form::Table(_) => Some(value.rows()),
+        _ => None,
+    }
+}
+
+/// The key that a value is, if it is one. A text is shared.
+pub(crate) fn key_in(value: &Value) -> Result<Option<Key>, AllocError>
+    ensures { IfOk result (λ k. option_map key_of k ≡ a_key_in value.now) }
+{
+    match value.form() {
+        Form::Int(number) => Ok(Some(Key::Int(*number))),
+        Form::Text(text) => Ok(Some(Key::Text(text.clone()?))),
+        _ => Ok(None),
+    }
+}
+
+/// How two numbers or two texts stand in order; none of other values.
+pub(crate) fn order_of(left: &Value, right: &Value) -> Option<Ordering>
+    ensures { result ≡ the_order_of left.now right.now }
+{
+    match left.form() {
+        Form::Int(left) => match right.form() {
+            Form::Int(right) => Some(left.cmp(right)),
+            _ => None,
+        },
+        Form::Text(left) => match right.form() {
+            Form::Text(right) => Some(left.as_str().cmp(right.as_str())),
+            _ => None,
+        },
+        _ => None,
+    }
+}

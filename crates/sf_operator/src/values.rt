@@ -1,0 +1,210 @@
+//! What operators make of values.
+ghost use Rattle.std.specs.Prelude.{◌≡◌, Result, pos};
+ghost use Rattle.sf_value.specs.View.{rows_of};
+ghost use Rattle.sf_operator.specs.Outcomes.{nonsense as the_nonsense, tested};
+ghost use Rattle.sf_operator.specs.Operations.{unary_value, decided, operated, row_count, same_data, of_equality, of_comparison};
+ghost use Rattle.sf_operator.specs.Answers.{Computes, Evaluates};
+
+use crate::arithmetic::{calculate, narrow};
+use crate::fault::EvalFault;
+use crate::operator::{Arithmetic, Comparison, Equality, Logic, Merge, Operator, Unary};
+use crate::parts::{halves_in, is_true, key_in, number_in, order_of, payload_in, rows_in};
+use sf_value::{Form, Key, Value, ValueFault, same};
+use std::alloc::Global;
+use std::cmp::Ordering;
+use std::rc::Rc;
+
+/// What stands where an operator makes no sense.
+fn nonsense() -> Value
+    ensures { result ≡ the_nonsense }
+{
+    Value::int(0)
+}
+
+/// What an operator makes of a value, or its fault.
+pub fn operate_on(alloc: Global, operator: Unary, value: &Value) -> Result<Value, EvalFault>
+    ensures { Evaluates result (unary_value operator value.now) }
+{
+    match operator {
+        Unary::Not => match is_true(value) {
+            Some(truth) => Ok(Value::bool(!truth)),
+            None => Ok(nonsense()),
+        },
+        Unary::Event => Ok(Value::event(alloc, value.clone_in(alloc)?)?),
+        Unary::First => match halves_in(value) {
+            Some((first, _)) => Ok(first.clone_in(alloc)?),
+            None => Ok(nonsense()),
+        },
+        Unary::Second => match halves_in(value) {
+            Some((_, second)) => Ok(second.clone_in(alloc)?),
+            None => Ok(nonsense()),
+        },
+        Unary::IsEvent => match payload_in(value) {
+            Some(payload) => Ok(Value::bool(payload.is_some())),
+            None => Ok(nonsense()),
+        },
+        Unary::Size => match rows_in(value) {
+            Some(rows) => Ok(Value::int(size(rows)?)),
+            None => Ok(nonsense()),
+        },
+    }
+}
+
+/// How many rows there are.
+#[tactic(auto, using(crate::proofs::Counting::rows_counted))]
+fn size(rows: &[(Key, Value)]) -> Result<i64, ValueFault>
+    ensures { Computes result (tested (pos (row_count (rows_of rows.now)))) }
+{
+    narrow(rows.len() as i128)
+}
+
+/// What the first operand decides alone: false decides `and`, true `or`.
+pub fn decide(operator: Operator, left: &Value) -> Option<Value>
+    ensures { result ≡ decided operator left.now }
+{
+    match (operator, left.form()) {
+        (Operator::Logic(Logic::And), Form::Bool(false)) => Some(Value::bool(false)),
+        (Operator::Logic(Logic::Or), Form::Bool(true)) => Some(Value::bool(true)),
+        _ => None,
+    }
+}
+
+/// What an operator makes of two values, or its fault. Where the first operand decides alone, it isn't to be asked.
+pub fn operate(
+    alloc: Global,
+    operator: Operator,
+    left: &Value,
+    right: &Value,
+) -> Result<Value, EvalFault>
+    ensures { Evaluates result (operated operator left.now right.now) }
+{
+    match operator {
+        Operator::Arithmetic(operator) => compute(operator, left, right),
+        Operator::Equality(operator) => Ok(Value::bool(equates(operator, left, right))),
+        Operator::Comparison(operator) => match order_of(left, right) {
+            Some(order) => Ok(Value::bool(compare(operator, order))),
+            None => Ok(nonsense()),
+        },
+        Operator::Logic(_) => Ok(right.clone_in(alloc)?),
+        Operator::Tag => tag(alloc, left, right),
+        Operator::Attach => attach(alloc, left, right),
+        Operator::FromEvent => from_event(alloc, left, right),
+        Operator::Gate => match is_true(right) {
+            Some(true) => Ok(left.clone_in(alloc)?),
+            Some(false) => Ok(Value::no_event()),
+            None => Ok(nonsense()),
+        },
+        Operator::Merge(operator) => merge(alloc, operator, left, right),
+        Operator::Get => get(alloc, left, right),
+    }
+}
+
+/// What an operator makes of two numbers.
+fn compute(operator: Arithmetic, left: &Value, right: &Value) -> Result<Value, EvalFault>
+    ensures { Evaluates result (operated (Operator.Arithmetic operator) left.now right.now) }
+{
+    match number_in(left) {
+        Some(left) => match number_in(right) {
+            Some(right) => Ok(Value::int(calculate(operator, left, right)?)),
+            None => Ok(nonsense()),
+        },
+        None => Ok(nonsense()),
+    }
+}
+
+/// Whether two values are the same, or whether they are not.
+fn equates(operator: Equality, left: &Value, right: &Value) -> bool
+    ensures { result ≡ of_equality operator (same_data left.now right.now) }
+{
+    let same = same(left, right);
+    match operator {
+        Equality::Equal => same,
+        Equality::Unequal => !same,
+    }
+}
+
+/// Whether two values that stand so in order do as an operator says.
+fn compare(operator: Comparison, order: Ordering) -> bool
+    ensures { result ≡ of_comparison operator order }
+{
+    match operator {
+        Comparison::Less => order.is_lt(),
+        Comparison::AtMost => order.is_le(),
+        Comparison::Greater => order.is_gt(),
+        Comparison::AtLeast => order.is_ge(),
+    }
+}
+
+/// An event with another payload.
+fn tag(alloc: Global, event: &Value, value: &Value) -> Result<Value, EvalFault>
+    ensures { Evaluates result (operated Operator.Tag event.now value.now) }
+{
+    match payload_in(event) {
+        Some(Some(_)) => Ok(Value::event(alloc, value.clone_in(alloc)?)?),
+        Some(None) => Ok(Value::no_event()),
+        None => Ok(nonsense()),
+    }
+}
+
+/// An event with a value beside its payload, which is shared.
+fn attach(alloc: Global, event: &Value, value: &Value) -> Result<Value, EvalFault>
+    ensures { Evaluates result (operated Operator.Attach event.now value.now) }
+{
+    match payload_in(event) {
+        Some(Some(payload)) => {
+            let value = Rc::new(alloc, value.clone_in(alloc)?)?;
+            Ok(Value::event(alloc, Value::of_halves(payload.clone()?, value))?)
+        }
+        Some(None) => Ok(Value::no_event()),
+        None => Ok(nonsense()),
+    }
+}
+
+/// The payload of an event, or a value where there is none.
+fn from_event(alloc: Global, event: &Value, default: &Value) -> Result<Value, EvalFault>
+    ensures { Evaluates result (operated Operator.FromEvent event.now default.now) }
+{
+    match payload_in(event) {
+        Some(Some(payload)) => Ok(payload.clone_in(alloc)?),
+        Some(None) => Ok(default.clone_in(alloc)?),
+        None => Ok(nonsense()),
+    }
+}
+
+/// Two events made one.
+fn merge(alloc: Global, operator: Merge, left: &Value, right: &Value) -> Result<Value, EvalFault>
+    ensures { Evaluates result (operated (Operator.Merge operator) left.now right.now) }
+{
+    match payload_in(left) {
+        Some(None) => match payload_in(right) {
+            Some(_) => Ok(right.clone_in(alloc)?),
+            None => Ok(nonsense()),
+        },
+        Some(Some(_)) => match payload_in(right) {
+            Some(None) => Ok(left.clone_in(alloc)?),
+            Some(Some(_)) => match operator {
+                Merge::Left => Ok(left.clone_in(alloc)?),
+                Merge::Right => Ok(right.clone_in(alloc)?),
+                Merge::Exclusive => Err(EvalFault::Value(ValueFault::Clash)),
+            },
+            None => Ok(nonsense()),
+        },
+        None => Ok(nonsense()),
+    }
+}
+
+/// The event of the value under a key of a table.
+fn get(alloc: Global, table: &Value, key: &Value) -> Result<Value, EvalFault>
+    ensures { Evaluates result (operated Operator.Get table.now key.now) }
+{
+    match rows_in(table) {
+        Some(_) => match key_in(key)? {
+            Some(key) => match table.get(&key) {
+                Some(found) => Ok(Value::event(alloc, found.clone_in(alloc)?)?),
+                None => Ok(Value::no_event()),
+            },
+            None => Ok(nonsense()),
+        },
+        None => Ok(nonsense()),
+    }
+}
