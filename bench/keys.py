@@ -3,10 +3,10 @@ valgrind, beside the most that is wanted.
 
     python3 bench/keys.py [--exe PATH]
 
-The network is `identity`, and then `arr (t, k) => get(t, k)` beside `identity` on the same lines. A line is played 2 and 6 times, so
-that the difference is free of what the start costs, and it doesn't depend on how busy the machine is. The long line has as many keys
-as 65,536 bytes hold. Wanted are at most 3 times as many instructions a key as on the short one, and for `get` at most 1.3 times those
-of `identity`. Without valgrind nothing is counted, and the status is 0.
+The networks are `identity` and one that sums the table by `fold`, and then `arr (t, k) => get(t, k)` beside `identity` on the same
+lines. A line is played 2 and 6 times, so that the difference is free of what the start costs, and it doesn't depend on how busy the
+machine is. The long line has as many keys as 65,536 bytes hold. Wanted are at most 3 times as many instructions a key as on the short
+one, and for `get` at most 1.3 times those of `identity`. Without valgrind nothing is counted, and the status is 0.
 """
 
 import argparse
@@ -19,6 +19,7 @@ from instructions import HERE, instructions
 LONGEST = 65536
 MOST, MOST_FOR_GET = 3, 1.3
 FEW_LINES, MANY_LINES = 2, 6
+FOLD = "{} ~> Int = arr t => fold(t, 0, (sum, (_, value)) => (sum + value))"
 # The types of the inputs, with the version of their text and the spelling of a key.
 TABLES = {"Table Int Int": str, "Table Text Int": '"{}"'.format}
 
@@ -65,10 +66,11 @@ def main():
                 file.write(f"network 2;\ntemplate main(): {text};\n")
 
         for types, key in TABLES.items():
-            network(f"{types} ~> {types} = identity")
-            short, short_cost = a_key(words, key, 100)
-            long, long_cost = a_key(words, key, 10_000)
-            print(row(types, short, f"{short_cost:.0f}", long, f"{long_cost:.0f}", f"{long_cost / short_cost:.2f}", MOST))
+            for name, text in ((types, f"{types} ~> {types} = identity"), (f"fold, {types}", FOLD.format(types))):
+                network(text)
+                short, short_cost = a_key(words, key, 100)
+                long, long_cost = a_key(words, key, 10_000)
+                print(row(name, short, f"{short_cost:.0f}", long, f"{long_cost:.0f}", f"{long_cost / short_cost:.2f}", MOST))
         row = "{:<20} {:>6} {:>18} {:>18} {:>6} {:>12}".format
         print()
         print(row("looked into", "keys", "identity, a line", "get, a line", "ratio", "wanted most"))

@@ -1,5 +1,5 @@
-"""Plays three networks, a delay of numbers, a loop over pairs and one of texts, events and tables, on three lines with each
-growth of memory refused in turn.
+"""Plays three networks, a delay of numbers, a loop over pairs and one of texts, events and tables with functions inside, on three
+lines with each growth of memory refused in turn.
 
     python3 rows/refuse_growths.py --exe PATH
 
@@ -19,10 +19,12 @@ RUNS = [
     ("Int ~> Int = iPre 7", ["1", "2", "3"], ["7", "1", "2"]),
     ("(Int, Int) ~> (Int, Int) = loopPre(0, arr ((x, y), total) => ((x, total), (y + total)))",
      ["(1,2)", "(2,3)", "(3,4)"], ["(1,0)", "(2,2)", "(3,5)"]),
-    ("((Table Text, Int), Event Text) ~> ((Table Text, Event Text), Bool)"
-     " = arr ((t, k), e) => ((t, merge(if (k < 0) then none Text else get(t, k), e)), (size(t) == k))",
-     ['(({1:"b",2:"c"},1),none)', '(({},-1),event "d\\"")', '(({2:"",1:"e"},2),none)'],
-     ['(({1:"b",2:"c"},event "b"),false)', '(({},event "d\\""),false)', '(({2:"",1:"e"},event ""),true)']),
+    ("((Table Text Text, Text), Event Text) ~> ((Table Text Text, Event Text), Bool)"
+     ' = arr ((t, k), e) => let found = if (k == "") then none Text else get(t, k) in'
+     ' ((t, mergeBy(merge(found, none Text), mapE(filterE(e, s => (s != "")), s => s), (_, b) => b)),'
+     ' ((size(t) == 2) and (fold(t, match(e, "", s => s), (most, (j, _)) => if (j > most) then j else most) == k)))',
+     ['(({"a":"b","c":""},"c"),event "x")', '(({},""),event "d\\"")', '(({"c":"","a":"e"},"c"),none)'],
+     ['(({"a":"b","c":""},event "x"),false)', '(({},event "d\\""),false)', '(({"c":"","a":"e"},event ""),true)']),
 ]
 TIMES = [0, 16, 32]
 
@@ -44,7 +46,7 @@ def play(exe, place, shim, network, inputs, values):
     """How many refused growths went well and how many didn't."""
     path = os.path.join(place, "network")
     with open(path, "w") as file:
-        file.write(f"network 1;\ntemplate main(): {network};\n")
+        file.write(f"network 2;\ntemplate main(): {network};\n")
     lines = "".join(f"{16 if at else 0} {value}\n" for at, value in enumerate(inputs)).encode("ascii")
     wanted = allowed(values)
     passed = failed = number = 0

@@ -2,7 +2,7 @@
 use Rattle.std.proofs.Common.{◌≡◌, ◌≢◌, [], ◌∷◌, refl, ap}
 use Rattle.sf_value.specs.Values.{Kind, pair_kind}
 use Rattle.sf_expr.specs.Expressions.{Expression, Function}
-use Rattle.sf_expr.specs.Typing.{Names, Fits, HasType, variable_has, literal_has, pair_has, applied_has, operation_has, conditional_has, FunctionTakes, function_takes}
+use Rattle.sf_expr.specs.Typing.{Names, Fits, HasType, variable_has, literal_has, pair_has, applied_has, operation_has, conditional_has, mapped_has, folded_has, FunctionTakes, function_takes}
 pub use Rattle.sf_expr.proofs.Judged.{one_type as expression_one}
 use Rattle.sf_term.specs.Trees.{Primitive}
 use Rattle.sf_mean.specs.Contexts.{Context, values_in}
@@ -18,6 +18,8 @@ expression_fits (pair_has h i f) = f
 expression_fits (applied_has h e f) = f
 expression_fits (operation_has h i e f) = f
 expression_fits (conditional_has h i j e f) = f
+expression_fits (mapped_has h a f b i e g) = g
+expression_fits (folded_has h i a f b j e g) = g
 
 function_fits : {R : Names} {f : Function} {t u : Kind} → FunctionTakes R f t u → Fits u
 function_fits (function_takes fits binds h) = expression_fits h

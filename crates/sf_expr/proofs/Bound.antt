@@ -26,6 +26,10 @@ pub scope_empty : (s : declared.Scope) → s.bindings.items ≡ [] → scope_of 
 unfolding scope_of
 scope_empty s e = ap (λ bs. fold with_binding no_names bs) e
 
+pub scope_same : (s t : declared.Scope) → s.bindings.items ≡ t.bindings.items → scope_of s ≡ scope_of t
+unfolding scope_of
+scope_same s t e = ap (λ bs. fold with_binding no_names bs) e
+
 pub names_empty : (s : types.TypeScope) → s.names.items ≡ [] → names_of s ≡ []
 unfolding names_of
 names_empty s e = ap (λ ns. fold with_name [] ns) e

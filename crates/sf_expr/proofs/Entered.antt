@@ -18,14 +18,15 @@ use Rattle.sf_expr.specs.declared.exprs.ExprNode.TheVariants as nodes
 use Rattle.sf_expr.specs.declared.exprs.ExprId.{ExprId}
 use Rattle.sf_expr.specs.declared.exprs.NameId.{NameId}
 use Rattle.sf_expr.specs.declared.exprs.ConstantId.{ConstantId}
+use Rattle.sf_expr.specs.declared.exprs.PatternId.{PatternId}
 use Rattle.sf_expr.specs.declared.exprs.FunctionId.{FunctionId}
 use Rattle.sf_expr.specs.declared.exprs.Exprs.{Exprs}
 use Rattle.sf_expr.specs.declared.stored.StoredFunction.{StoredFunction}
-use Rattle.sf_expr.specs.Expressions.{Literal, Expression, variable, literal, paired, applied, operation, conditional, function, depth, pattern_depth, function_depth}
-use Rattle.sf_expr.specs.Patterns.{PlacedPattern, pattern_of}
+use Rattle.sf_expr.specs.Expressions.{Literal, Expression, variable, literal, paired, applied, operation, conditional, mapped, folded, function, depth, pattern_depth, function_depth}
+use Rattle.sf_expr.specs.Patterns.{PlacedPattern, placed_unnamed, pattern_of}
 use Rattle.sf_expr.specs.Inference.{is_valued}
-use Rattle.sf_expr.specs.Entries.{Beside, IsArena, AreValued, IsClosed, AreFunctions, zero_expression, among, name_among, none_of_unit, literal_among, made_over, entry_made, needs, needs_names, needs_constants, has_narrow, zero_entry, entry_at, expressions, expression_at, no_function, function_entry}
-use Rattle.sf_expr.specs.Arena.{count_of, function_count, name_count, constant_count, next_name, next_constant, Holds, HoldsFunction, HoldsName, HoldsConstant, beside, expression, entry_of, node_at, name_at, literal_at, spot_at, pattern_at, body_at, function_at, expression_of, Builds, builds_unit, builds_truth, builds_constant, builds_int, builds_name, builds_pair, builds_applied, builds_operation, builds_conditional, PartsBelow, HoldsParts, Keeps, Adds, AddsName, AddsConstant, AddsFunction, IsUnchanged, id_number}
+use Rattle.sf_expr.specs.Entries.{Beside, IsArena, AreValued, IsShallow, AreShallowPatterns, IsClosed, AreFunctions, zero_expression, among, name_among, none_of_unit, literal_among, placed_among, made_over, entry_made, needs, needs_names, needs_constants, needs_patterns, has_narrow, zero_entry, entry_at, expressions, expression_at, no_function, function_entry}
+use Rattle.sf_expr.specs.Arena.{count_of, function_count, name_count, constant_count, pattern_count, next_name, next_constant, next_pattern, Holds, HoldsFunction, HoldsName, HoldsConstant, HoldsPattern, beside, expression, entry_of, node_at, name_at, literal_at, placed_at, spot_at, pattern_at, body_at, function_at, expression_of, Builds, builds_unit, builds_truth, builds_constant, builds_int, builds_name, builds_pair, builds_applied, builds_operation, builds_conditional, builds_mapped, builds_folded, PartsBelow, HoldsParts, Keeps, Adds, AddsName, AddsConstant, AddsPattern, AddsFunction, IsUnchanged, id_number}
 
 -- what an expression is made over are its parts alone
 local : (b : Beside) (es more : List Expression) (entry : Entry ExprNode) → needs entry.node ≤ length es → entry_made b (es ++ more) entry ≡ entry_made b es entry
@@ -44,28 +45,33 @@ local b es more entry h = at_node entry.node h
     at_node (nodes.Applied o a) h = ap (λ i. applied o i) (part a.0 (omega arith))
     at_node (nodes.Operation a op c) h = ap₂ (λ i j. operation i op j) (part a.0 (omega arith)) (part c.0 (omega arith))
     at_node (nodes.Conditional a c d) h = ap₂ (λ (i : Expression) (p : Expression × Expression). conditional i p.0 p.1) (part a.0 (omega arith)) (ap₂ (λ (j k : Expression). (j, k)) (part c.0 (omega arith)) (part d.0 (omega arith)))
+    at_node (nodes.Mapped a m p c) h = ap₂ (λ i j. mapped i m (pattern_of (placed_among b.patterns p.0)) j) (part a.0 (omega arith)) (part c.0 (omega arith))
+    at_node (nodes.Folded a o c p d) h = ap₂ (λ (i : Expression) (q : Expression × Expression). folded i o q.0 (pattern_of (placed_among b.patterns p.0)) q.1) (part a.0 (omega arith)) (ap₂ (λ (j k : Expression). (j, k)) (part c.0 (omega arith)) (part d.0 (omega arith)))
 
--- Names and literals of which there are more.
+-- Names, literals and patterns of which there are more.
 pub record IsMore (b c : Beside) : Type 0 where
   pub names : Grows b.names c.names
   pub literals : Grows b.literals c.literals
+  pub patterns : Grows b.patterns c.patterns
 
 -- an expression is the same where there is more beside it
-same_beside : (b c : Beside) (es : List Expression) (n : ExprNode) → IsMore b c → needs_names n ≤ length b.names → needs_constants n ≤ length b.literals → made_over c es n ≡ made_over b es n
-same_beside b c es nodes.Unit m h k = refl
-same_beside b c es (nodes.Truth t) m h k = refl
-same_beside b c es (nodes.Int z) m h k = refl
-same_beside b c es (nodes.Constant n) m h k = ap literal (m.literals.same n.0 none_of_unit (omega arith))
-same_beside b c es (nodes.Name n) m h k = ap variable (m.names.same n.0 [] (omega arith))
-same_beside b c es (nodes.Pair i j) m h k = refl
-same_beside b c es (nodes.Applied o i) m h k = refl
-same_beside b c es (nodes.Operation i op j) m h k = refl
-same_beside b c es (nodes.Conditional i j l) m h k = refl
+same_beside : (b c : Beside) (es : List Expression) (n : ExprNode) → IsMore b c → needs_names n ≤ length b.names → needs_constants n ≤ length b.literals → needs_patterns n ≤ length b.patterns → made_over c es n ≡ made_over b es n
+same_beside b c es nodes.Unit m h k l = refl
+same_beside b c es (nodes.Truth t) m h k l = refl
+same_beside b c es (nodes.Int z) m h k l = refl
+same_beside b c es (nodes.Constant n) m h k l = ap literal (m.literals.same n.0 none_of_unit (omega arith))
+same_beside b c es (nodes.Name n) m h k l = ap variable (m.names.same n.0 [] (omega arith))
+same_beside b c es (nodes.Pair i j) m h k l = refl
+same_beside b c es (nodes.Applied o i) m h k l = refl
+same_beside b c es (nodes.Operation i op j) m h k l = refl
+same_beside b c es (nodes.Conditional i j d) m h k l = refl
+same_beside b c es (nodes.Mapped i f p j) m h k l = ap (λ q. mapped (among es i.0) f (pattern_of q) (among es j.0)) (m.patterns.same p.0 placed_unnamed (omega arith))
+same_beside b c es (nodes.Folded i f j p d) m h k l = ap (λ q. folded (among es i.0) f (among es j.0) (pattern_of q) (among es d.0)) (m.patterns.same p.0 placed_unnamed (omega arith))
 
 expressions_beside : (b c : Beside) (entries : List (Entry ExprNode)) → IsMore b c → IsArena b entries → (i : ℕ) → expression_at c entries i ≡ expression_at b entries i
 unfolding tree_at
 expressions_beside b c entries m a i =
-    ap (λ es. among es i) (trees-same (entry_made c) (entry_made b) zero_entry entries (λ j es h. same_beside b c es (entry_at entries j).node m (a.named j) (a.constants j)))
+    ap (λ es. among es i) (trees-same (entry_made c) (entry_made b) zero_entry entries (λ j es h. same_beside b c es (entry_at entries j).node m (a.named j) (a.constants j) (a.patterned j)))
 
 -- nothing is an arena
 pub arena_empty : (b : Beside) → IsArena b []
@@ -74,16 +80,18 @@ arena_empty b = record {
   in_order = λ i. omega arith;
   named = λ i. omega arith;
   constants = λ i. omega arith;
+  patterned = λ i. omega arith;
   measured = λ i. refl;
   narrow = λ i. refl;
 }
 
 -- the arena once an entry is added
-arena_added : (b : Beside) (old new : List (Entry ExprNode)) (entry : Entry ExprNode) (n : ℕ) → Added old new entry n → IsArena b old → needs entry.node ≤ length old → needs_names entry.node ≤ length b.names → needs_constants entry.node ≤ length b.literals → entry.depth ≡ depth (entry_made b (expressions b old) entry) → IsTrue (has_narrow entry.node) → IsArena b new
-arena_added b old new entry n added a in_order named constants measured narrow = record {
+arena_added : (b : Beside) (old new : List (Entry ExprNode)) (entry : Entry ExprNode) (n : ℕ) → Added old new entry n → IsArena b old → needs entry.node ≤ length old → needs_names entry.node ≤ length b.names → needs_constants entry.node ≤ length b.literals → needs_patterns entry.node ≤ length b.patterns → entry.depth ≡ depth (entry_made b (expressions b old) entry) → IsTrue (has_narrow entry.node) → IsArena b new
+arena_added b old new entry n added a in_order named constants patterned measured narrow = record {
   in_order = each_item old new entry n added (λ i e. needs e.node ≤ i) zero_entry a.in_order (omega (arith, added.next));
   named = each_item old new entry n added (λ i e. needs_names e.node ≤ length b.names) zero_entry a.named named;
   constants = each_item old new entry n added (λ i e. needs_constants e.node ≤ length b.literals) zero_entry a.constants constants;
+  patterned = each_item old new entry n added (λ i e. needs_patterns e.node ≤ length b.patterns) zero_entry a.patterned patterned;
   measured = each_tree old new entry n added (entry_made b) zero_expression (λ i e t. e.depth ≡ depth t) zero_entry a.measured measured;
   narrow = each_item old new entry n added (λ i e. IsTrue (has_narrow e.node)) zero_entry a.narrow narrow;
 }
@@ -94,6 +102,7 @@ arena_beside b c entries m a = record {
   in_order = a.in_order;
   named = λ i. omega (arith, a.named i, m.names.longer);
   constants = λ i. omega (arith, a.constants i, m.literals.longer);
+  patterned = λ i. omega (arith, a.patterned i, m.patterns.longer);
   measured = λ i. a.measured i ∙ ap depth (sym (expressions_beside b c entries m a i));
   narrow = a.narrow;
 }
@@ -103,11 +112,22 @@ grows_put : {A : Type 0} (old new : List A) (x : A) (put : Bool) → new ≡ con
 grows_put old new x true e = grows_added old new x (length old) (record { next = refl; grown = e })
 grows_put old new x false e = grows_same old new e
 
-pub arena_put_name : (old new : List Name) (name : Name) (literals : List Literal) (entries : List (Entry ExprNode)) (put : Bool) → new ≡ cond put (old ++ name ∷ []) old → IsArena (record { names = old; literals = literals }) entries → IsArena (record { names = new; literals = literals }) entries
-arena_put_name old new name literals entries put e a = arena_beside _ _ entries (record { names = grows_put old new name put e; literals = grows_same literals literals refl }) a
+pub arena_put_name : (old new : List Name) (name : Name) (literals : List Literal) (patterns : List PlacedPattern) (entries : List (Entry ExprNode)) (put : Bool) → new ≡ cond put (old ++ name ∷ []) old → IsArena (record { names = old; literals = literals; patterns = patterns }) entries → IsArena (record { names = new; literals = literals; patterns = patterns }) entries
+arena_put_name old new name literals patterns entries put e a = arena_beside _ _ entries (record { names = grows_put old new name put e; literals = grows_same literals literals refl; patterns = grows_same patterns patterns refl }) a
 
-pub arena_put_constant : (names : List Name) (old new : List Literal) (l : Literal) (entries : List (Entry ExprNode)) (put : Bool) → new ≡ cond put (old ++ l ∷ []) old → IsArena (record { names = names; literals = old }) entries → IsArena (record { names = names; literals = new }) entries
-arena_put_constant names old new l entries put e a = arena_beside _ _ entries (record { names = grows_same names names refl; literals = grows_put old new l put e }) a
+pub arena_put_constant : (names : List Name) (old new : List Literal) (l : Literal) (patterns : List PlacedPattern) (entries : List (Entry ExprNode)) (put : Bool) → new ≡ cond put (old ++ l ∷ []) old → IsArena (record { names = names; literals = old; patterns = patterns }) entries → IsArena (record { names = names; literals = new; patterns = patterns }) entries
+arena_put_constant names old new l patterns entries put e a = arena_beside _ _ entries (record { names = grows_same names names refl; literals = grows_put old new l put e; patterns = grows_same patterns patterns refl }) a
+
+pub arena_put_pattern : (names : List Name) (literals : List Literal) (old new : List PlacedPattern) (p : PlacedPattern) (entries : List (Entry ExprNode)) (put : Bool) → new ≡ cond put (old ++ p ∷ []) old → IsArena (record { names = names; literals = literals; patterns = old }) entries → IsArena (record { names = names; literals = literals; patterns = new }) entries
+arena_put_pattern names literals old new p entries put e a = arena_beside _ _ entries (record { names = grows_same names names refl; literals = grows_same literals literals refl; patterns = grows_put old new p put e }) a
+
+-- no patterns
+pub patterns_empty : AreShallowPatterns []
+patterns_empty = All-nil IsShallow
+
+pub patterns_put : (old new : List PlacedPattern) (p : PlacedPattern) (put : Bool) → new ≡ cond put (old ++ p ∷ []) old → AreShallowPatterns old → pattern_depth (pattern_of p) ≤ 64 → AreShallowPatterns new
+patterns_put old new p true e a h = subst (λ ps. AreShallowPatterns ps) (sym e) (All-push IsShallow old p a h)
+patterns_put old new p false e a h = subst (λ ps. AreShallowPatterns ps) (sym e) a
 
 -- no literals
 pub literals_empty : AreValued []
@@ -119,7 +139,7 @@ literals_put old new l false e a h = subst (λ ls. AreValued ls) (sym e) a
 
 -- the expression of a node, as the entries make it
 made_expression : (x : Exprs) (n : ExprNode) → made_over (beside x) (expressions (beside x) (entries_of x.arena)) n ≡ expression_of x n
-unfolding expression name_at literal_at tree_at
+unfolding expression name_at literal_at placed_at tree_at
 made_expression x nodes.Unit = refl
 made_expression x (nodes.Truth t) = refl
 made_expression x (nodes.Int z) = refl
@@ -129,25 +149,30 @@ made_expression x (nodes.Pair a b) = refl
 made_expression x (nodes.Applied o a) = refl
 made_expression x (nodes.Operation a op b) = refl
 made_expression x (nodes.Conditional a b c) = refl
+made_expression x (nodes.Mapped a m p b) = refl
+made_expression x (nodes.Folded a o b p c) = refl
 
 -- What a node needs of an arena.
 record HasNeeded (x : Exprs) (n : ExprNode) : Type 0 where
   parts : needs n ≤ length (entries_of x.arena)
   names : needs_names n ≤ length x.names.items
   constants : needs_constants n ≤ length x.constants.items
+  patterns : needs_patterns n ≤ length x.patterns.items
 
 -- what a node of which the parts are held needs
 needed : (x : Exprs) (n : ExprNode) → HoldsParts x n → HasNeeded x n
-unfolding Holds HoldsName HoldsConstant
-needed x nodes.Unit h = record { parts = omega arith; names = omega arith; constants = omega arith }
-needed x (nodes.Truth t) h = record { parts = omega arith; names = omega arith; constants = omega arith }
-needed x (nodes.Int z) h = record { parts = omega arith; names = omega arith; constants = omega arith }
-needed x (nodes.Constant n) h = record { parts = omega arith; names = omega arith; constants = h }
-needed x (nodes.Name n) h = record { parts = omega arith; names = h; constants = omega arith }
-needed x (nodes.Pair a b) h = record { parts = omega (arith, h.0, h.1); names = omega arith; constants = omega arith }
-needed x (nodes.Applied o a) h = record { parts = omega (arith, h); names = omega arith; constants = omega arith }
-needed x (nodes.Operation a op b) h = record { parts = omega (arith, h.0, h.1); names = omega arith; constants = omega arith }
-needed x (nodes.Conditional a b c) h = record { parts = omega (arith, h.0, h.1, h.2); names = omega arith; constants = omega arith }
+unfolding Holds HoldsName HoldsConstant HoldsPattern
+needed x nodes.Unit h = record { parts = omega arith; names = omega arith; constants = omega arith; patterns = omega arith }
+needed x (nodes.Truth t) h = record { parts = omega arith; names = omega arith; constants = omega arith; patterns = omega arith }
+needed x (nodes.Int z) h = record { parts = omega arith; names = omega arith; constants = omega arith; patterns = omega arith }
+needed x (nodes.Constant n) h = record { parts = omega arith; names = omega arith; constants = h; patterns = omega arith }
+needed x (nodes.Name n) h = record { parts = omega arith; names = h; constants = omega arith; patterns = omega arith }
+needed x (nodes.Pair a b) h = record { parts = omega (arith, h.0, h.1); names = omega arith; constants = omega arith; patterns = omega arith }
+needed x (nodes.Applied o a) h = record { parts = omega (arith, h); names = omega arith; constants = omega arith; patterns = omega arith }
+needed x (nodes.Operation a op b) h = record { parts = omega (arith, h.0, h.1); names = omega arith; constants = omega arith; patterns = omega arith }
+needed x (nodes.Conditional a b c) h = record { parts = omega (arith, h.0, h.1, h.2); names = omega arith; constants = omega arith; patterns = omega arith }
+needed x (nodes.Mapped a m p b) h = record { parts = omega (arith, h.0, h.2); names = omega arith; constants = omega arith; patterns = h.1 }
+needed x (nodes.Folded a o b p c) h = record { parts = omega (arith, h.0, h.1, h.3); names = omega arith; constants = omega arith; patterns = h.2 }
 
 -- the entries after a call that adds, whatever it answers
 pub arena_put : (x : Exprs) (new : List (Entry ExprNode)) (n : ExprNode) (d : ℕ) (s : Spot) (r : Result ℕ ArenaRefusal) → IfOk r (Added (entries_of x.arena) new (record { node = n; depth = d; spot = s })) → OnErr r (new ≡ entries_of x.arena) → HoldsParts x n → d ≡ depth (expression_of x n) → IsTrue (has_narrow n) → IsArena (beside x) new
@@ -156,7 +181,7 @@ arena_put x new n d s r ok err held measured narrow = ⊎_elim added same (added
     added : Added (entries_of x.arena) new (record { node = n; depth = d; spot = s }) (length (entries_of x.arena)) → IsArena (beside x) new
     added a =
         let parts = needed x n held in
-        arena_added (beside x) (entries_of x.arena) new _ _ a x.ordered parts.parts parts.names parts.constants (measured ∙ ap depth (sym (made_expression x n))) narrow
+        arena_added (beside x) (entries_of x.arena) new _ _ a x.ordered parts.parts parts.names parts.constants parts.patterns (measured ∙ ap depth (sym (made_expression x n))) narrow
 
     same : new ≡ entries_of x.arena → IsArena (beside x) new
     same e = subst (λ es. IsArena (beside x) es) (sym e) x.ordered
@@ -174,9 +199,9 @@ functions_put n old new f true e a body shallow = subst (λ fs. AreFunctions n f
 functions_put n old new f false e a body shallow = subst (λ fs. AreFunctions n fs) (sym e) a
 
 -- an arena of which each list has grown keeps what it held, where the expressions stay
-keeps : (old new : Exprs) → Grows (entries_of old.arena) (entries_of new.arena) → Grows old.names.items new.names.items → Grows old.constants.items new.constants.items → Grows old.functions.items new.functions.items → ((i : ExprId) → Holds old i → expression new i ≡ expression old i) → Keeps old new
-unfolding Holds HoldsName HoldsConstant HoldsFunction node_at spot_at name_at literal_at pattern_at body_at
-keeps old new e n l f trees = record {
+keeps : (old new : Exprs) → Grows (entries_of old.arena) (entries_of new.arena) → Grows old.names.items new.names.items → Grows old.constants.items new.constants.items → Grows old.patterns.items new.patterns.items → Grows old.functions.items new.functions.items → ((i : ExprId) → Holds old i → expression new i ≡ expression old i) → Keeps old new
+unfolding Holds HoldsName HoldsConstant HoldsPattern HoldsFunction node_at spot_at name_at literal_at placed_at pattern_at body_at
+keeps old new e n l p f trees = record {
   holds = λ i h. omega (arith, e.longer);
   nodes = λ i h. ap (λ (k : Entry ExprNode). k.node) (e.same i.0 zero_entry h);
   trees = trees;
@@ -191,39 +216,46 @@ keeps old new e n l f trees = record {
   names = λ m h. n.same m.0 [] h;
   holds_constants = λ m h. omega (arith, l.longer);
   constants = λ m h. l.same m.0 none_of_unit h;
+  holds_patterns = λ m h. omega (arith, p.longer);
+  placed = λ m h. p.same m.0 placed_unnamed h;
 }
 
+-- the same lists beside nodes
+pub same_sides : (ns ms : List Name) (ls ks : List Literal) (ps qs : List PlacedPattern) → ns ≡ ms → ls ≡ ks → ps ≡ qs → ◌≡◌ {A = Beside} (record { names = ns; literals = ls; patterns = ps }) (record { names = ms; literals = ks; patterns = qs })
+same_sides ns ms ls ks ps qs n l p = ap₂ (λ (ns : List Name) (s : List Literal × List PlacedPattern). record { names = ns; literals = s.0; patterns = s.1 }) n (ap₂ (λ (ls : List Literal) (ps : List PlacedPattern). (ls, ps)) l p)
+
 -- an entry that is added adds its expression
-pub adds_added : (old new : Exprs) (id : ExprId) (n : ExprNode) (d : ℕ) (s : Spot) → Added (entries_of old.arena) (entries_of new.arena) (record { node = n; depth = d; spot = s }) id.0 → new.names.items ≡ old.names.items → new.constants.items ≡ old.constants.items → new.functions.items ≡ old.functions.items → Adds old new id n (expression_of old n) s
-unfolding count_of function_count name_count constant_count Holds expression node_at spot_at
-adds_added old new id n d s added same_names same_constants same_functions = record {
+pub adds_added : (old new : Exprs) (id : ExprId) (n : ExprNode) (d : ℕ) (s : Spot) → Added (entries_of old.arena) (entries_of new.arena) (record { node = n; depth = d; spot = s }) id.0 → new.names.items ≡ old.names.items → new.constants.items ≡ old.constants.items → new.patterns.items ≡ old.patterns.items → new.functions.items ≡ old.functions.items → Adds old new id n (expression_of old n) s
+unfolding count_of function_count name_count constant_count pattern_count Holds expression node_at spot_at
+adds_added old new id n d s added same_names same_constants same_patterns same_functions = record {
   within = added_within _ _ _ _ added;
   fresh = added_fresh _ _ _ _ added;
   node = ap (λ (k : Entry ExprNode). k.node) here;
   is = ap (λ b. expression_at b (entries_of new.arena) id.0) same ∙ tree_added _ _ _ _ added (entry_made (beside old)) zero_expression ∙ made_expression old n;
   spotted = ap (λ (k : Entry ExprNode). k.spot) here;
-  kept = keeps old new (grows_added _ _ _ _ added) (grows_same _ _ same_names) (grows_same _ _ same_constants) (grows_same _ _ same_functions)
+  kept = keeps old new (grows_added _ _ _ _ added) (grows_same _ _ same_names) (grows_same _ _ same_constants) (grows_same _ _ same_patterns) (grows_same _ _ same_functions)
       (λ i h. ap (λ b. expression_at b (entries_of new.arena) i.0) same ∙ tree_kept _ _ _ _ added (entry_made (beside old)) zero_expression i.0 h);
   count = added_counted _ _ _ _ added;
   functions = ap length same_functions;
   names = ap length same_names;
   constants = ap length same_constants;
+  pattern_counted = ap length same_patterns;
 }
   where
     same : beside new ≡ beside old
-    same = ap₂ (λ ns ls. record { names = ns; literals = ls }) same_names same_constants
+    same = same_sides _ _ _ _ _ _ same_names same_constants same_patterns
 
     here : entry_at (entries_of new.arena) id.0 ≡ record { node = n; depth = d; spot = s }
     here = added_item _ _ _ _ added zero_entry
 
 -- a name that is put behind is added
-pub adds_name_put : (old new : Exprs) (n : NameId) (x : Name) → Added old.names.items new.names.items x n.0 → entries_of new.arena ≡ entries_of old.arena → new.constants.items ≡ old.constants.items → new.functions.items ≡ old.functions.items → AddsName old new n x
-unfolding count_of function_count name_count constant_count next_name next_constant Holds HoldsName HoldsConstant expression node_at spot_at name_at literal_at pattern_at body_at
-adds_name_put old new n x added same_entries same_other same_functions = record {
+pub adds_name_put : (old new : Exprs) (n : NameId) (x : Name) → Added old.names.items new.names.items x n.0 → entries_of new.arena ≡ entries_of old.arena → new.constants.items ≡ old.constants.items → new.patterns.items ≡ old.patterns.items → new.functions.items ≡ old.functions.items → AddsName old new n x
+unfolding count_of function_count name_count constant_count pattern_count next_name next_constant Holds HoldsName HoldsConstant expression node_at spot_at name_at literal_at pattern_at body_at
+adds_name_put old new n x added same_entries same_other same_patterns same_functions = record {
   next = ap (λ (i : ℕ). record { 0 = i }) added.next;
   within = added_within _ _ _ _ added;
   is = added_item _ _ _ _ added [];
-  kept = keeps old new (grows_same _ _ same_entries) (grows_added _ _ _ _ added) (grows_same _ _ same_other) (grows_same _ _ same_functions) (λ i h. trees i);
+  kept = keeps old new (grows_same _ _ same_entries) (grows_added _ _ _ _ added) (grows_same _ _ same_other) (grows_same _ _ same_patterns) (grows_same _ _ same_functions) (λ i h. trees i);
   nodes = λ i. ap (λ es. (entry_at es i.0).node) same_entries;
   trees = trees;
   spots = λ i. ap (λ es. (entry_at es i.0).spot) same_entries;
@@ -233,19 +265,20 @@ adds_name_put old new n x added same_entries same_other same_functions = record 
   functions = ap length same_functions;
   names = added_counted _ _ _ _ added;
   constants = ap length same_other;
+  pattern_counted = ap length same_patterns;
 }
   where
     trees : (i : ExprId) → expression new i ≡ expression old i
-    trees i = ap (λ es. expression_at (beside new) es i.0) same_entries ∙ expressions_beside (beside old) (beside new) (entries_of old.arena) (record { names = grows_added _ _ _ _ added; literals = grows_same _ _ same_other }) old.ordered i.0
+    trees i = ap (λ es. expression_at (beside new) es i.0) same_entries ∙ expressions_beside (beside old) (beside new) (entries_of old.arena) (record { names = grows_added _ _ _ _ added; literals = grows_same _ _ same_other; patterns = grows_same _ _ same_patterns }) old.ordered i.0
 
 -- a constant that is put behind is added
-pub adds_constant_put : (old new : Exprs) (n : ConstantId) (x : Literal) → Added old.constants.items new.constants.items x n.0 → entries_of new.arena ≡ entries_of old.arena → new.names.items ≡ old.names.items → new.functions.items ≡ old.functions.items → AddsConstant old new n x
-unfolding count_of function_count name_count constant_count next_name next_constant Holds HoldsName HoldsConstant expression node_at spot_at name_at literal_at pattern_at body_at
-adds_constant_put old new n x added same_entries same_other same_functions = record {
+pub adds_constant_put : (old new : Exprs) (n : ConstantId) (x : Literal) → Added old.constants.items new.constants.items x n.0 → entries_of new.arena ≡ entries_of old.arena → new.names.items ≡ old.names.items → new.patterns.items ≡ old.patterns.items → new.functions.items ≡ old.functions.items → AddsConstant old new n x
+unfolding count_of function_count name_count constant_count pattern_count next_name next_constant Holds HoldsName HoldsConstant expression node_at spot_at name_at literal_at pattern_at body_at
+adds_constant_put old new n x added same_entries same_other same_patterns same_functions = record {
   next = ap (λ (i : ℕ). record { 0 = i }) added.next;
   within = added_within _ _ _ _ added;
   is = added_item _ _ _ _ added none_of_unit;
-  kept = keeps old new (grows_same _ _ same_entries) (grows_same _ _ same_other) (grows_added _ _ _ _ added) (grows_same _ _ same_functions) (λ i h. trees i);
+  kept = keeps old new (grows_same _ _ same_entries) (grows_same _ _ same_other) (grows_added _ _ _ _ added) (grows_same _ _ same_patterns) (grows_same _ _ same_functions) (λ i h. trees i);
   nodes = λ i. ap (λ es. (entry_at es i.0).node) same_entries;
   trees = trees;
   spots = λ i. ap (λ es. (entry_at es i.0).spot) same_entries;
@@ -255,48 +288,75 @@ adds_constant_put old new n x added same_entries same_other same_functions = rec
   functions = ap length same_functions;
   names = ap length same_other;
   constants = added_counted _ _ _ _ added;
+  pattern_counted = ap length same_patterns;
 }
   where
     trees : (i : ExprId) → expression new i ≡ expression old i
-    trees i = ap (λ es. expression_at (beside new) es i.0) same_entries ∙ expressions_beside (beside old) (beside new) (entries_of old.arena) (record { names = grows_same _ _ same_other; literals = grows_added _ _ _ _ added }) old.ordered i.0
+    trees i = ap (λ es. expression_at (beside new) es i.0) same_entries ∙ expressions_beside (beside old) (beside new) (entries_of old.arena) (record { names = grows_same _ _ same_other; literals = grows_added _ _ _ _ added; patterns = grows_same _ _ same_patterns }) old.ordered i.0
+
+-- a pattern that is put behind is added
+pub adds_pattern_put : (old new : Exprs) (p : PatternId) (x : PlacedPattern) → Added old.patterns.items new.patterns.items x p.0 → entries_of new.arena ≡ entries_of old.arena → new.names.items ≡ old.names.items → new.constants.items ≡ old.constants.items → new.functions.items ≡ old.functions.items → AddsPattern old new p x
+unfolding count_of function_count name_count constant_count pattern_count next_pattern Holds HoldsPattern expression node_at spot_at placed_at pattern_at body_at
+adds_pattern_put old new p x added same_entries same_names same_constants same_functions = record {
+  next = ap (λ (i : ℕ). record { 0 = i }) added.next;
+  within = added_within _ _ _ _ added;
+  is = added_item _ _ _ _ added placed_unnamed;
+  kept = keeps old new (grows_same _ _ same_entries) (grows_same _ _ same_names) (grows_same _ _ same_constants) (grows_added _ _ _ _ added) (grows_same _ _ same_functions) (λ i h. trees i);
+  nodes = λ i. ap (λ es. (entry_at es i.0).node) same_entries;
+  trees = trees;
+  spots = λ i. ap (λ es. (entry_at es i.0).spot) same_entries;
+  patterns = λ f. ap (λ fs. (function_entry fs f.0).pattern) same_functions;
+  bodies = λ f. ap (λ fs. (function_entry fs f.0).body) same_functions;
+  count = ap length same_entries;
+  functions = ap length same_functions;
+  names = ap length same_names;
+  constants = ap length same_constants;
+  pattern_counted = added_counted _ _ _ _ added;
+}
+  where
+    trees : (i : ExprId) → expression new i ≡ expression old i
+    trees i = ap (λ es. expression_at (beside new) es i.0) same_entries ∙ expressions_beside (beside old) (beside new) (entries_of old.arena) (record { names = grows_same _ _ same_names; literals = grows_same _ _ same_constants; patterns = grows_added _ _ _ _ added }) old.ordered i.0
 
 -- a function that is put behind is added
-pub adds_function_put : (old new : Exprs) (f : StoredFunction) (id : FunctionId) → Added old.functions.items new.functions.items f id.0 → entries_of new.arena ≡ entries_of old.arena → new.names.items ≡ old.names.items → new.constants.items ≡ old.constants.items → AddsFunction old new id f.pattern f.body
-unfolding count_of function_count name_count constant_count Holds HoldsFunction expression pattern_at body_at
-adds_function_put old new f id added same_entries same_names same_constants = record {
+pub adds_function_put : (old new : Exprs) (f : StoredFunction) (id : FunctionId) → Added old.functions.items new.functions.items f id.0 → entries_of new.arena ≡ entries_of old.arena → new.names.items ≡ old.names.items → new.constants.items ≡ old.constants.items → new.patterns.items ≡ old.patterns.items → AddsFunction old new id f.pattern f.body
+unfolding count_of function_count name_count constant_count pattern_count Holds HoldsFunction expression pattern_at body_at
+adds_function_put old new f id added same_entries same_names same_constants same_patterns = record {
   within = added_within _ _ _ _ added;
   fresh = added_fresh _ _ _ _ added;
   pattern = ap (λ (k : StoredFunction). k.pattern) here;
   body = ap (λ (k : StoredFunction). k.body) here;
   is = ap₂ (λ q e. function q e) (ap (λ (k : StoredFunction). pattern_of k.pattern) here) (ap (λ (k : StoredFunction). expression new k.body) here ∙ trees f.body);
-  kept = keeps old new (grows_same _ _ same_entries) (grows_same _ _ same_names) (grows_same _ _ same_constants) (grows_added _ _ _ _ added) (λ i h. trees i);
+  kept = keeps old new (grows_same _ _ same_entries) (grows_same _ _ same_names) (grows_same _ _ same_constants) (grows_same _ _ same_patterns) (grows_added _ _ _ _ added) (λ i h. trees i);
   count = ap length same_entries;
   functions = added_counted _ _ _ _ added;
   names = ap length same_names;
   constants = ap length same_constants;
+  pattern_counted = ap length same_patterns;
 }
   where
     here : function_entry new.functions.items id.0 ≡ f
     here = added_item _ _ _ _ added no_function
 
     trees : (i : ExprId) → expression new i ≡ expression old i
-    trees i = ap₂ (λ b es. expression_at b es i.0) (ap₂ (λ ns ls. record { names = ns; literals = ls }) same_names same_constants) same_entries
+    trees i = ap₂ (λ b es. expression_at b es i.0) (same_sides _ _ _ _ _ _ same_names same_constants same_patterns) same_entries
 
 -- the same entries, names, constants and functions show the same
-pub unchanged : (old new : Exprs) → entries_of new.arena ≡ entries_of old.arena → new.names.items ≡ old.names.items → new.constants.items ≡ old.constants.items → new.functions.items ≡ old.functions.items → IsUnchanged old new
-unfolding count_of function_count name_count constant_count expression node_at spot_at name_at literal_at pattern_at body_at
-unchanged old new e n l f = record {
+pub unchanged : (old new : Exprs) → entries_of new.arena ≡ entries_of old.arena → new.names.items ≡ old.names.items → new.constants.items ≡ old.constants.items → new.patterns.items ≡ old.patterns.items → new.functions.items ≡ old.functions.items → IsUnchanged old new
+unfolding count_of function_count name_count constant_count pattern_count expression node_at spot_at name_at literal_at placed_at pattern_at body_at
+unchanged old new e n l p f = record {
   count = ap length e;
   functions = ap length f;
   name_counted = ap length n;
   constant_counted = ap length l;
+  pattern_counted = ap length p;
   nodes = λ i. ap (λ es. (entry_at es i.0).node) e;
-  trees = λ i. ap₂ (λ b es. expression_at b es i.0) (ap₂ (λ ns ls. record { names = ns; literals = ls }) n l) e;
+  trees = λ i. ap₂ (λ b es. expression_at b es i.0) (same_sides _ _ _ _ _ _ n l p) e;
   spots = λ i. ap (λ es. (entry_at es i.0).spot) e;
   patterns = λ i. ap (λ fs. (function_entry fs i.0).pattern) f;
   bodies = λ i. ap (λ fs. (function_entry fs i.0).body) f;
   names = λ i. ap (λ names. name_among names i.0) n;
   constants = λ i. ap (λ ls. literal_among ls i.0) l;
+  placed = λ i. ap (λ ps. placed_among ps i.0) p;
 }
 
 -- the same lists make an arena
@@ -305,9 +365,6 @@ arena_same x b entries fs s e f = (
   subst (λ c. IsArena c entries) (sym s) (subst (λ es. IsArena (beside x) es) (sym e) x.ordered),
   subst (λ gs. AreFunctions (length entries) gs) (sym f) (subst (λ (es : List (Entry ExprNode)). AreFunctions (length es) x.functions.items) (sym e) x.closed),
 )
-
-pub same_sides : (ns ms : List Name) (ls ks : List Literal) → ns ≡ ms → ls ≡ ks → ◌≡◌ {A = Beside} (record { names = ns; literals = ls }) (record { names = ms; literals = ks })
-same_sides ns ms ls ks n l = ap₂ (λ ns ls. record { names = ns; literals = ls }) n l
 
 -- the expression at an id is that of its node
 pub expression_node : (x : Exprs) (id : ExprId) → expression x id ≡ expression_of x (node_at x id)
@@ -331,6 +388,8 @@ builds x id = subst (λ e. Builds x (entry_of x id).node e) (sym (expression_nod
     of_node (nodes.Applied o a) = builds_applied
     of_node (nodes.Operation a op b) = builds_operation
     of_node (nodes.Conditional a b c) = builds_conditional
+    of_node (nodes.Mapped a m p b) = builds_mapped
+    of_node (nodes.Folded a o b p c) = builds_folded
 
 -- what a node stands for
 pub node_builds : (x : Exprs) (id : ExprId) (n : ExprNode) → node_at x id ≡ n → Builds x n (expression x id)
@@ -364,29 +423,35 @@ parts_below x id = of_node (entry_at (entries_of x.arena) id.0).node (x.ordered.
     of_node (nodes.Applied o a) h = omega arith
     of_node (nodes.Operation a op b) h = (omega arith, omega arith)
     of_node (nodes.Conditional a b c) h = (omega arith, omega arith, omega arith)
+    of_node (nodes.Mapped a m p b) h = (omega arith, omega arith)
+    of_node (nodes.Folded a o b p c) h = (omega arith, omega arith, omega arith)
 
 -- the parts of a node are held
 pub parts_held : (x : Exprs) (id : ExprId) → HoldsParts x (entry_of x id).node
-unfolding entry_of Holds HoldsName HoldsConstant
-parts_held x id = of_node (entry_at (entries_of x.arena) id.0).node (x.ordered.in_order id.0) (x.ordered.named id.0) (x.ordered.constants id.0) within
+unfolding entry_of Holds HoldsName HoldsConstant HoldsPattern
+parts_held x id = of_node (entry_at (entries_of x.arena) id.0).node (x.ordered.in_order id.0) (x.ordered.named id.0) (x.ordered.constants id.0) (x.ordered.patterned id.0) within
   where
     within : (needs (entry_at (entries_of x.arena) id.0).node ≡ 0) ⊎ (id.0 < length (entries_of x.arena))
     within = elim (cases_lt id.0 (length (entries_of x.arena))) [ inl h ↦ inr h | inr h ↦ inl (ap (λ (n : Entry ExprNode). needs n.node) (get_or_past (entries_of x.arena) id.0 zero_entry h)) ]
 
-    of_node : (n : ExprNode) → needs n ≤ id.0 → needs_names n ≤ length x.names.items → needs_constants n ≤ length x.constants.items → (needs n ≡ 0) ⊎ (id.0 < length (entries_of x.arena)) → HoldsParts x n
-    of_node nodes.Unit b k l w = tt
-    of_node (nodes.Truth t) b k l w = tt
-    of_node (nodes.Int z) b k l w = tt
-    of_node (nodes.Constant n) b k l w = l
-    of_node (nodes.Name n) b k l w = k
-    of_node (nodes.Pair a c) b k l (inl z) = absurd (omega arith)
-    of_node (nodes.Pair a c) b k l (inr h) = (omega arith, omega arith)
-    of_node (nodes.Applied o a) b k l (inl z) = absurd (omega arith)
-    of_node (nodes.Applied o a) b k l (inr h) = omega arith
-    of_node (nodes.Operation a op c) b k l (inl z) = absurd (omega arith)
-    of_node (nodes.Operation a op c) b k l (inr h) = (omega arith, omega arith)
-    of_node (nodes.Conditional a c d) b k l (inl z) = absurd (omega arith)
-    of_node (nodes.Conditional a c d) b k l (inr h) = (omega arith, omega arith, omega arith)
+    of_node : (n : ExprNode) → needs n ≤ id.0 → needs_names n ≤ length x.names.items → needs_constants n ≤ length x.constants.items → needs_patterns n ≤ length x.patterns.items → (needs n ≡ 0) ⊎ (id.0 < length (entries_of x.arena)) → HoldsParts x n
+    of_node nodes.Unit b k l q w = tt
+    of_node (nodes.Truth t) b k l q w = tt
+    of_node (nodes.Int z) b k l q w = tt
+    of_node (nodes.Constant n) b k l q w = l
+    of_node (nodes.Name n) b k l q w = k
+    of_node (nodes.Pair a c) b k l q (inl z) = absurd (omega arith)
+    of_node (nodes.Pair a c) b k l q (inr h) = (omega arith, omega arith)
+    of_node (nodes.Applied o a) b k l q (inl z) = absurd (omega arith)
+    of_node (nodes.Applied o a) b k l q (inr h) = omega arith
+    of_node (nodes.Operation a op c) b k l q (inl z) = absurd (omega arith)
+    of_node (nodes.Operation a op c) b k l q (inr h) = (omega arith, omega arith)
+    of_node (nodes.Conditional a c d) b k l q (inl z) = absurd (omega arith)
+    of_node (nodes.Conditional a c d) b k l q (inr h) = (omega arith, omega arith, omega arith)
+    of_node (nodes.Mapped a m p c) b k l q (inl z) = absurd (omega arith)
+    of_node (nodes.Mapped a m p c) b k l q (inr h) = (omega arith, q, omega arith)
+    of_node (nodes.Folded a o c p d) b k l q (inl z) = absurd (omega arith)
+    of_node (nodes.Folded a o c p d) b k l q (inr h) = (omega arith, omega arith, q, omega arith)
 
 -- the literal of a constant stands for a value
 pub literal_valued : (x : Exprs) (n : ConstantId) → IsTrue (is_valued (literal_at x n))
@@ -439,6 +504,14 @@ pub below_constant : (x : Exprs) (n : ConstantId) → n.0 < constant_count x →
 unfolding HoldsConstant constant_count
 below_constant x n h = h
 
+pub pattern_below : (x : Exprs) (p : PatternId) → HoldsPattern x p → p.0 < pattern_count x
+unfolding HoldsPattern pattern_count
+pattern_below x p h = h
+
+pub below_pattern : (x : Exprs) (p : PatternId) → p.0 < pattern_count x → HoldsPattern x p
+unfolding HoldsPattern pattern_count
+below_pattern x p h = h
+
 -- what adding keeps
 pub adds_keeps : (old new : Exprs) (id : ExprId) (n : ExprNode) (e : Expression) (s : Spot) → Adds old new id n e s → Keeps old new
 adds_keeps old new id n e s a = a.kept
@@ -461,6 +534,8 @@ unchanged_keeps old new u = record {
   names = λ n h. u.names n;
   holds_constants = λ n h. below_constant new n (omega (arith, constant_below old n h, u.constant_counted));
   constants = λ n h. u.constants n;
+  holds_patterns = λ p h. below_pattern new p (omega (arith, pattern_below old p h, u.pattern_counted));
+  placed = λ p h. u.placed p;
 }
 
 pub keeps_trans : (a b c : Exprs) → Keeps a b → Keeps b c → Keeps a c
@@ -477,6 +552,8 @@ keeps_trans a b c f g = record {
   names = λ i h. g.names i (f.holds_names i h) ∙ f.names i h;
   holds_constants = λ i h. g.holds_constants i (f.holds_constants i h);
   constants = λ i h. g.constants i (f.holds_constants i h) ∙ f.constants i h;
+  holds_patterns = λ i h. g.holds_patterns i (f.holds_patterns i h);
+  placed = λ i h. g.placed i (f.holds_patterns i h) ∙ f.placed i h;
 }
 
 -- no arena holds more than 100,000 expressions
@@ -488,6 +565,14 @@ few_expressions x = few_entries x.arena
 pub expression_shallow : (x : Exprs) (id : ExprId) → depth (expression x id) ≤ 64
 unfolding expression
 expression_shallow x id = omega (arith, x.ordered.measured id.0, shallow_at (entries_of x.arena) zero_entry id.0 (shallow_entries x.arena) (omega arith))
+
+-- no more than 64 patterns stand one inside another
+pub placed_shallow : (x : Exprs) (p : PatternId) → pattern_depth (pattern_of (placed_at x p)) ≤ 64
+unfolding placed_at
+placed_shallow x p = ⊎_elim
+    (λ h. All-get_or IsShallow x.patterns.items p.0 placed_unnamed h x.shallow)
+    (λ h. subst (λ (q : PlacedPattern). pattern_depth (pattern_of q) ≤ 64) (sym (get_or_past x.patterns.items p.0 placed_unnamed h)) (omega arith))
+    (cases_lt p.0 (length x.patterns.items))
 
 -- no more than 64 patterns or expressions stand one inside another in a function
 pub pattern_shallow : (x : Exprs) (f : FunctionId) → pattern_depth (pattern_of (pattern_at x f)) ≤ 64
@@ -516,6 +601,10 @@ name_kept_by x y (Err e) n a u = unchanged_keeps x y u
 pub constant_kept_by : {E : Type 0} (x y : Exprs) (r : Result ConstantId E) (l : Literal) → IfOk r (λ n. AddsConstant x y n l) → OnErr r (IsUnchanged x y) → Keeps x y
 constant_kept_by x y (Ok n) l a u = a.kept
 constant_kept_by x y (Err e) l a u = unchanged_keeps x y u
+
+pub pattern_kept_by : (x y : Exprs) (r : Result PatternId ArenaRefusal) (p : PlacedPattern) → IfOk r (λ n. AddsPattern x y n p) → OnErr r (IsUnchanged x y) → Keeps x y
+pattern_kept_by x y (Ok n) p a u = a.kept
+pattern_kept_by x y (Err e) p a u = unchanged_keeps x y u
 
 pub function_kept_by : (x y : Exprs) (r : Result FunctionId ArenaRefusal) (p : PlacedPattern) (b : ExprId) → IfOk r (λ f. AddsFunction x y f p b) → OnErr r (IsUnchanged x y) → Keeps x y
 function_kept_by x y (Ok f) p b a u = a.kept

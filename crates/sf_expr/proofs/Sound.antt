@@ -5,15 +5,11 @@ use Rattle.sf_value.specs.Values.{Name, Kind, bool_kind, Data, HasKind, has_bool
 use Rattle.sf_operator.specs.Operations.{truth_in, decided}
 use Rattle.sf_operator.proofs.SameKinds.{conditional_is}
 use Rattle.sf_operator.proofs.Yielding.{unary_yields, operator_yields, decision_yields}
+use Rattle.sf_operator.proofs.Forming.{and_yields, mapping_yields, folding_yields}
 use Rattle.sf_expr.specs.Expressions.{Pattern, Expression, Function}
-use Rattle.sf_expr.specs.Evaluation.{Evaluated, ◌>>=◌, known, Scope, value_of, bound_in, unless_decided, eval, apply}
-use Rattle.sf_expr.specs.Typing.{Names, type_of_name, AddsNames, adds_nothing, adds_name, adds_both, HasType, variable_has, literal_has, pair_has, applied_has, operation_has, conditional_has, FunctionTakes, function_takes}
-use Rattle.sf_expr.specs.Soundness.{Yields, yields, fails, ScopeHas, has_no_names, has_name}
-
--- what is done with an answer of a type
-and_yields : {t u : Kind} {o : Evaluated Data} {f : Data → Evaluated Data} → Yields t o → ((d : Data) → HasKind d t → Yields u (f d)) → Yields u (o >>= f)
-and_yields (yields h) k = k _ h
-and_yields fails k = fails
+use Rattle.sf_expr.specs.Evaluation.{Evaluated, known, Scope, value_of, bound_in, unless_decided, eval, apply}
+use Rattle.sf_expr.specs.Typing.{Names, type_of_name, AddsNames, adds_nothing, adds_name, adds_both, HasType, variable_has, literal_has, pair_has, applied_has, operation_has, conditional_has, mapped_has, folded_has, FunctionTakes, function_takes}
+use Rattle.sf_expr.specs.Soundness.{Yields, yields, ScopeHas, has_no_names, has_name}
 
 -- what is decided, and what is answered where nothing is
 unless_yields : {t : Kind} (o : Option Data) {q : Evaluated Data} → ((d : Data) → o ≡ Some d → HasKind d t) → Yields t q → Yields t (unless_decided o q)
@@ -56,6 +52,10 @@ expression_yields {s = s} (conditional_has {i = i} {j = j} {k = l} {c = c} {t = 
     let Y : Expression → Kind → Type 0 = λ (i : Expression) (t : Kind). Yields t (eval i s) in
     and_yields (expression_yields h k) (λ d p. chosen_yields (subst (λ (c : Kind). HasKind d c) same.0 p)
     (subst (Y j) same.1 (expression_yields a k)) (subst (Y l) same.2 (expression_yields b k)))
+expression_yields {s = s} (mapped_has {j = j} {m = m} {p = p} {t = t} {a = a} {u = u} {v = v} h e f b l g n) k =
+    and_yields (expression_yields h k) (λ d q. mapping_yields m t a u v d (λ x. eval j (bound_in p x s)) q e g (λ x r. expression_yields l (bound_has b.adds r k)))
+expression_yields {s = s} (folded_has {j = j} {k = c} {o = o} {p = p} {t = t} {u = u} {a = a} {v = v} {w = w} h l e f b q g n) k =
+    and_yields (expression_yields h k) (λ d r. folding_yields o t u a v w d (eval j s) (λ x. eval c (bound_in p x s)) r (expression_yields l k) e g (λ x y. expression_yields q (bound_has b.adds y k)))
 
 -- a function yields the type that it takes its argument's to
 pub function_yields : {R : Names} {s : Scope} {f : Function} {a b : Kind} {d : Data} → FunctionTakes R f a b → ScopeHas s R → HasKind d a → Yields b (apply f d s)

@@ -3,12 +3,16 @@ use Rattle.std.proofs.Common.{◌≡◌, refl}
 use Rattle.sf_expr.specs.declared.exprs.ExprId.{ExprId}
 use Rattle.sf_expr.specs.declared.exprs.NameId.{NameId}
 use Rattle.sf_expr.specs.declared.exprs.ConstantId.{ConstantId}
+use Rattle.sf_expr.specs.declared.exprs.PatternId.{PatternId}
 use Rattle.sf_expr.specs.declared.exprs.ExprNode.TheVariants as nodes
 use Rattle.sf_expr.specs.declared.exprs.Exprs.{Exprs}
 use Rattle.sf_operator.specs.declared.operator.Operator.{Operator}
 use Rattle.sf_operator.specs.declared.operator.Unary.{Unary}
-use Rattle.sf_expr.specs.Expressions.{Expression, variable, literal, unit_literal, truth_literal, int_literal, paired, applied, operation, conditional}
-use Rattle.sf_expr.specs.Arena.{expression, name_at, literal_at, Builds, builds_unit, builds_truth, builds_constant, builds_int, builds_name, builds_pair, builds_applied, builds_operation, builds_conditional}
+use Rattle.sf_operator.specs.declared.operator.Mapping.{Mapping}
+use Rattle.sf_operator.specs.declared.operator.Folding.{Folding}
+use Rattle.sf_expr.specs.Expressions.{Expression, variable, literal, unit_literal, truth_literal, int_literal, paired, applied, operation, conditional, mapped, folded}
+use Rattle.sf_expr.specs.Arena.{expression, name_at, literal_at, placed_at, Builds, builds_unit, builds_truth, builds_constant, builds_int, builds_name, builds_pair, builds_applied, builds_operation, builds_conditional, builds_mapped, builds_folded}
+use Rattle.sf_expr.specs.Patterns.{pattern_of}
 
 pub is_int : {x : Exprs} {z : _} {e : Expression} → Builds x (nodes.Int z) e → e ≡ literal (int_literal z)
 is_int builds_int = refl
@@ -36,3 +40,9 @@ is_operation builds_operation = refl
 
 pub is_conditional : {x : Exprs} {a b c : ExprId} {e : Expression} → Builds x (nodes.Conditional a b c) e → e ≡ conditional (expression x a) (expression x b) (expression x c)
 is_conditional builds_conditional = refl
+
+pub is_mapped : {x : Exprs} {a b : ExprId} {m : Mapping} {p : PatternId} {e : Expression} → Builds x (nodes.Mapped a m p b) e → e ≡ mapped (expression x a) m (pattern_of (placed_at x p)) (expression x b)
+is_mapped builds_mapped = refl
+
+pub is_folded : {x : Exprs} {a b c : ExprId} {o : Folding} {p : PatternId} {e : Expression} → Builds x (nodes.Folded a o b p c) e → e ≡ folded (expression x a) o (expression x b) (pattern_of (placed_at x p)) (expression x c)
+is_folded builds_folded = refl

@@ -6,16 +6,19 @@ use Rattle.sf_arena.specs.declared.entry.Entry.{Entry}
 use Rattle.sf_arena.specs.Arenas.{entries_of}
 use Rattle.sf_operator.specs.declared.operator.Operator.{Operator}
 use Rattle.sf_operator.specs.declared.operator.Unary.{Unary}
+use Rattle.sf_operator.specs.declared.operator.Mapping.{Mapping}
+use Rattle.sf_operator.specs.declared.operator.Folding.{Folding}
 use Rattle.sf_expr.specs.declared.exprs.ExprId.{ExprId}
 use Rattle.sf_expr.specs.declared.exprs.NameId.{NameId}
 use Rattle.sf_expr.specs.declared.exprs.ConstantId.{ConstantId}
+use Rattle.sf_expr.specs.declared.exprs.PatternId.{PatternId}
 use Rattle.sf_expr.specs.declared.exprs.FunctionId.{FunctionId}
 use Rattle.sf_expr.specs.declared.exprs.ExprNode.{ExprNode}
 use Rattle.sf_expr.specs.declared.exprs.ExprNode.TheVariants as nodes
 use Rattle.sf_expr.specs.declared.exprs.Exprs.{Exprs}
-use Rattle.sf_expr.specs.Expressions.{Literal, unit_literal, truth_literal, int_literal, Expression, variable, literal, paired, applied, operation, conditional, Function, function}
+use Rattle.sf_expr.specs.Expressions.{Literal, unit_literal, truth_literal, int_literal, Expression, variable, literal, paired, applied, operation, conditional, mapped, folded, Function, function}
 use Rattle.sf_expr.specs.Patterns.{PlacedPattern, pattern_of}
-use Rattle.sf_expr.specs.Entries.{name_among, literal_among, Beside, entry_at, expression_at, function_entry}
+use Rattle.sf_expr.specs.Entries.{name_among, literal_among, placed_among, Beside, entry_at, expression_at, function_entry}
 
 -- the number of an id
 abbrev pub id_number : ExprId → ℕ
@@ -37,6 +40,10 @@ name_count x = length x.names.items
 unfoldable pub constant_count : Exprs → ℕ
 constant_count x = length x.constants.items
 
+-- how many patterns an arena holds beside its functions
+unfoldable pub pattern_count : Exprs → ℕ
+pattern_count x = length x.patterns.items
+
 -- the id of the next name
 unfoldable pub next_name : Exprs → NameId
 next_name x = record { 0 = length x.names.items }
@@ -44,6 +51,10 @@ next_name x = record { 0 = length x.names.items }
 -- the id of the next constant
 unfoldable pub next_constant : Exprs → ConstantId
 next_constant x = record { 0 = length x.constants.items }
+
+-- the id of the next pattern
+unfoldable pub next_pattern : Exprs → PatternId
+next_pattern x = record { 0 = length x.patterns.items }
 
 -- an arena holds an expression under an id
 unfoldable pub Holds : Exprs → ExprId → Type 0
@@ -61,9 +72,13 @@ HoldsName x n = n.0 < length x.names.items
 unfoldable pub HoldsConstant : Exprs → ConstantId → Type 0
 HoldsConstant x n = n.0 < length x.constants.items
 
+-- an arena holds a pattern under an id
+unfoldable pub HoldsPattern : Exprs → PatternId → Type 0
+HoldsPattern x p = p.0 < length x.patterns.items
+
 -- what stands beside the nodes of an arena
 abbrev pub beside : Exprs → Beside
-beside x = record { names = x.names.items; literals = x.constants.items }
+beside x = record { names = x.names.items; literals = x.constants.items; patterns = x.patterns.items }
 
 -- the expression at an id; the number 0 where the arena holds none
 unfoldable pub expression : Exprs → ExprId → Expression
@@ -85,6 +100,10 @@ name_at x n = name_among x.names.items n.0
 unfoldable pub literal_at : Exprs → ConstantId → Literal
 literal_at x n = literal_among x.constants.items n.0
 
+-- the pattern at an id of patterns; the one that binds nothing where the arena holds none
+unfoldable pub placed_at : Exprs → PatternId → PlacedPattern
+placed_at x p = placed_among x.patterns.items p.0
+
 -- where the expression at an id stands in the text
 unfoldable pub spot_at : Exprs → ExprId → Spot
 spot_at x id = (entry_at (entries_of x.arena) id.0).spot
@@ -101,6 +120,10 @@ body_at x f = (function_entry x.functions.items f.0).body
 abbrev pub function_at : Exprs → FunctionId → Function
 function_at x f = function (pattern_of (pattern_at x f)) (expression x (body_at x f))
 
+-- the function of the pattern at an id and an expression
+abbrev pub function_under : Exprs → PatternId → ExprId → Function
+function_under x p i = function (pattern_of (placed_at x p)) (expression x i)
+
 -- the expression that a node stands for in an arena
 abbrev pub expression_of : Exprs → ExprNode → Expression
 expression_of x nodes.Unit = literal unit_literal
@@ -112,6 +135,8 @@ expression_of x (nodes.Pair a b) = paired (expression x a) (expression x b)
 expression_of x (nodes.Applied o a) = applied o (expression x a)
 expression_of x (nodes.Operation a op b) = operation (expression x a) op (expression x b)
 expression_of x (nodes.Conditional a b c) = conditional (expression x a) (expression x b) (expression x c)
+expression_of x (nodes.Mapped a m p b) = mapped (expression x a) m (pattern_of (placed_at x p)) (expression x b)
+expression_of x (nodes.Folded a o b p c) = folded (expression x a) o (expression x b) (pattern_of (placed_at x p)) (expression x c)
 
 -- A node with the ids of its parts stands for an expression with their trees.
 pub data Builds (x : Exprs) : ExprNode → Expression → Type 0 where
@@ -124,6 +149,8 @@ pub data Builds (x : Exprs) : ExprNode → Expression → Type 0 where
   builds_applied : {o : Unary} {a : ExprId} → Builds x (nodes.Applied o a) (applied o (expression x a))
   builds_operation : {op : Operator} {a b : ExprId} → Builds x (nodes.Operation a op b) (operation (expression x a) op (expression x b))
   builds_conditional : {a b c : ExprId} → Builds x (nodes.Conditional a b c) (conditional (expression x a) (expression x b) (expression x c))
+  builds_mapped : {a b : ExprId} {m : Mapping} {p : PatternId} → Builds x (nodes.Mapped a m p b) (mapped (expression x a) m (pattern_of (placed_at x p)) (expression x b))
+  builds_folded : {a b c : ExprId} {o : Folding} {p : PatternId} → Builds x (nodes.Folded a o b p c) (folded (expression x a) o (expression x b) (pattern_of (placed_at x p)) (expression x c))
 
 -- the ids of a node's parts, as numbers, are below a number
 abbrev pub PartsBelow : ExprNode → ℕ → Type 0
@@ -131,6 +158,8 @@ PartsBelow (nodes.Pair a b) n = (id_number a < n) × (id_number b < n)
 PartsBelow (nodes.Applied o a) n = id_number a < n
 PartsBelow (nodes.Operation a op b) n = (id_number a < n) × (id_number b < n)
 PartsBelow (nodes.Conditional a b c) n = (id_number a < n) × (id_number b < n) × (id_number c < n)
+PartsBelow (nodes.Mapped a m p b) n = (id_number a < n) × (id_number b < n)
+PartsBelow (nodes.Folded a o b p c) n = (id_number a < n) × (id_number b < n) × (id_number c < n)
 PartsBelow k n = Unit {0}
 
 -- the parts of a node are held
@@ -141,6 +170,8 @@ HoldsParts x (nodes.Pair a b) = Holds x a × Holds x b
 HoldsParts x (nodes.Applied o a) = Holds x a
 HoldsParts x (nodes.Operation a op b) = Holds x a × Holds x b
 HoldsParts x (nodes.Conditional a b c) = Holds x a × Holds x b × Holds x c
+HoldsParts x (nodes.Mapped a m p b) = Holds x a × HoldsPattern x p × Holds x b
+HoldsParts x (nodes.Folded a o b p c) = Holds x a × Holds x b × HoldsPattern x p × Holds x c
 HoldsParts x n = Unit {0}
 
 -- What an arena held is there as it was.
@@ -157,6 +188,8 @@ pub record Keeps (old new : Exprs) : Type 0 where
   pub names : (n : NameId) → HoldsName old n → name_at new n ≡ name_at old n
   pub holds_constants : (n : ConstantId) → HoldsConstant old n → HoldsConstant new n
   pub constants : (n : ConstantId) → HoldsConstant old n → literal_at new n ≡ literal_at old n
+  pub holds_patterns : (p : PatternId) → HoldsPattern old p → HoldsPattern new p
+  pub placed : (p : PatternId) → HoldsPattern old p → placed_at new p ≡ placed_at old p
 
 -- an expression was added under a new id, with the parts that its node names, and what was there stands
 pub record Adds (old new : Exprs) (id : ExprId) (n : ExprNode) (e : Expression) (s : Spot) : Type 0 where
@@ -170,6 +203,7 @@ pub record Adds (old new : Exprs) (id : ExprId) (n : ExprNode) (e : Expression) 
   pub functions : function_count new ≡ function_count old
   pub names : name_count new ≡ name_count old
   pub constants : constant_count new ≡ constant_count old
+  pub pattern_counted : pattern_count new ≡ pattern_count old
 
 -- a name was added under the next id, and what was there stands: at each id the same expressions and functions are shown
 pub record AddsName (old new : Exprs) (n : NameId) (x : Name) : Type 0 where
@@ -186,6 +220,7 @@ pub record AddsName (old new : Exprs) (n : NameId) (x : Name) : Type 0 where
   pub functions : function_count new ≡ function_count old
   pub names : name_count new ≡ name_count old + 1
   pub constants : constant_count new ≡ constant_count old
+  pub pattern_counted : pattern_count new ≡ pattern_count old
 
 -- a constant was added under the next id, and what was there stands: at each id the same expressions and functions are shown
 pub record AddsConstant (old new : Exprs) (n : ConstantId) (l : Literal) : Type 0 where
@@ -202,6 +237,24 @@ pub record AddsConstant (old new : Exprs) (n : ConstantId) (l : Literal) : Type 
   pub functions : function_count new ≡ function_count old
   pub names : name_count new ≡ name_count old
   pub constants : constant_count new ≡ constant_count old + 1
+  pub pattern_counted : pattern_count new ≡ pattern_count old
+
+-- a pattern was added under the next id, and what was there stands: at each id the same expressions and functions are shown
+pub record AddsPattern (old new : Exprs) (p : PatternId) (q : PlacedPattern) : Type 0 where
+  pub next : p ≡ next_pattern old
+  pub within : HoldsPattern new p
+  pub is : placed_at new p ≡ q
+  pub kept : Keeps old new
+  pub nodes : (i : ExprId) → node_at new i ≡ node_at old i
+  pub trees : (i : ExprId) → expression new i ≡ expression old i
+  pub spots : (i : ExprId) → spot_at new i ≡ spot_at old i
+  pub patterns : (f : FunctionId) → pattern_at new f ≡ pattern_at old f
+  pub bodies : (f : FunctionId) → body_at new f ≡ body_at old f
+  pub count : count_of new ≡ count_of old
+  pub functions : function_count new ≡ function_count old
+  pub names : name_count new ≡ name_count old
+  pub constants : constant_count new ≡ constant_count old
+  pub pattern_counted : pattern_count new ≡ pattern_count old + 1
 
 -- a function was added under a new id, and what was there stands
 pub record AddsFunction (old new : Exprs) (f : FunctionId) (p : PlacedPattern) (b : ExprId) : Type 0 where
@@ -215,6 +268,7 @@ pub record AddsFunction (old new : Exprs) (f : FunctionId) (p : PlacedPattern) (
   pub functions : function_count new ≡ function_count old + 1
   pub names : name_count new ≡ name_count old
   pub constants : constant_count new ≡ constant_count old
+  pub pattern_counted : pattern_count new ≡ pattern_count old
 
 -- two arenas show the same at each id
 pub record IsUnchanged (old new : Exprs) : Type 0 where
@@ -222,6 +276,7 @@ pub record IsUnchanged (old new : Exprs) : Type 0 where
   pub functions : function_count new ≡ function_count old
   pub name_counted : name_count new ≡ name_count old
   pub constant_counted : constant_count new ≡ constant_count old
+  pub pattern_counted : pattern_count new ≡ pattern_count old
   pub nodes : (i : ExprId) → node_at new i ≡ node_at old i
   pub trees : (i : ExprId) → expression new i ≡ expression old i
   pub spots : (i : ExprId) → spot_at new i ≡ spot_at old i
@@ -229,6 +284,7 @@ pub record IsUnchanged (old new : Exprs) : Type 0 where
   pub bodies : (f : FunctionId) → body_at new f ≡ body_at old f
   pub names : (n : NameId) → name_at new n ≡ name_at old n
   pub constants : (n : ConstantId) → literal_at new n ≡ literal_at old n
+  pub placed : (p : PatternId) → placed_at new p ≡ placed_at old p
 
 -- an arena is a copy of another: it shows the same at each id
 abbrev pub IsCopy : Exprs → Exprs → Type 0

@@ -6,8 +6,8 @@ use Rattle.sf_arena.specs.Folded.{trees, tree_at}
 use Rattle.sf_expr.specs.declared.exprs.ExprNode.{ExprNode}
 use Rattle.sf_expr.specs.declared.exprs.ExprNode.TheVariants as nodes
 use Rattle.sf_expr.specs.declared.stored.StoredFunction.{StoredFunction}
-use Rattle.sf_expr.specs.Expressions.{Literal, unit_literal, truth_literal, int_literal, none_literal, Expression, variable, literal, paired, applied, operation, conditional, depth, pattern_depth}
-use Rattle.sf_expr.specs.Patterns.{placed_unnamed, pattern_of}
+use Rattle.sf_expr.specs.Expressions.{Literal, unit_literal, truth_literal, int_literal, none_literal, Expression, variable, literal, paired, applied, operation, conditional, mapped, folded, depth, pattern_depth}
+use Rattle.sf_expr.specs.Patterns.{PlacedPattern, placed_unnamed, pattern_of}
 use Rattle.sf_expr.specs.Inference.{is_valued}
 
 -- the number 0
@@ -30,10 +30,15 @@ none_of_unit = none_literal unit_kind
 abbrev pub literal_among : List Literal → ℕ → Literal
 literal_among ls i = slice_index_or ls i none_of_unit
 
--- What stands beside the nodes of an arena: their names, and the literals that are no part of a node.
+-- the pattern at a place; the one that binds nothing past the end
+abbrev pub placed_among : List PlacedPattern → ℕ → PlacedPattern
+placed_among ps i = slice_index_or ps i placed_unnamed
+
+-- What stands beside the nodes of an arena: their names, the literals that are no part of a node, and their patterns.
 pub record Beside : Type 0 where
   pub names : List Name
   pub literals : List Literal
+  pub patterns : List PlacedPattern
 
 -- the expression of a node, over the expressions before it
 abbrev pub made_over : Beside → List Expression → ExprNode → Expression
@@ -46,6 +51,8 @@ made_over b es (nodes.Pair i j) = paired (among es i.0) (among es j.0)
 made_over b es (nodes.Applied o i) = applied o (among es i.0)
 made_over b es (nodes.Operation i op j) = operation (among es i.0) op (among es j.0)
 made_over b es (nodes.Conditional i j k) = conditional (among es i.0) (among es j.0) (among es k.0)
+made_over b es (nodes.Mapped i m p j) = mapped (among es i.0) m (pattern_of (placed_among b.patterns p.0)) (among es j.0)
+made_over b es (nodes.Folded i o j p k) = folded (among es i.0) o (among es j.0) (pattern_of (placed_among b.patterns p.0)) (among es k.0)
 
 -- how many expressions have to stand before a node
 abbrev pub needs : ExprNode → ℕ
@@ -58,6 +65,8 @@ needs (nodes.Pair a b) = suc (max a.0 b.0)
 needs (nodes.Applied o a) = suc a.0
 needs (nodes.Operation a op b) = suc (max a.0 b.0)
 needs (nodes.Conditional a b c) = suc (max a.0 (max b.0 c.0))
+needs (nodes.Mapped a m p b) = suc (max a.0 b.0)
+needs (nodes.Folded a o b p c) = suc (max a.0 (max b.0 c.0))
 
 -- how many names have to be there for a node
 abbrev pub needs_names : ExprNode → ℕ
@@ -68,6 +77,12 @@ needs_names n = 0
 abbrev pub needs_constants : ExprNode → ℕ
 needs_constants (nodes.Constant n) = suc n.0
 needs_constants n = 0
+
+-- how many patterns have to be there for a node
+abbrev pub needs_patterns : ExprNode → ℕ
+needs_patterns (nodes.Mapped a m p b) = suc p.0
+needs_patterns (nodes.Folded a o b p c) = suc p.0
+needs_patterns n = 0
 
 -- whether the numbers of a node are within signed 64 bits
 abbrev pub has_narrow : ExprNode → Bool
@@ -98,11 +113,19 @@ expression_at b entries i = tree_at (entry_made b) zero_expression entries i
 abbrev pub AreValued : List Literal → Type 0
 AreValued ls = All (λ l. IsTrue (is_valued l)) ls
 
+-- no more than 64 patterns stand one inside another
+abbrev pub IsShallow : PlacedPattern → Type 0
+IsShallow p = pattern_depth (pattern_of p) ≤ 64
+
+abbrev pub AreShallowPatterns : List PlacedPattern → Type 0
+AreShallowPatterns ps = All IsShallow ps
+
 -- What holds of the entries of an arena, with what stands beside them.
 pub record IsArena (b : Beside) (entries : List (Entry ExprNode)) : Type 0 where
   pub in_order : (i : ℕ) → needs (entry_at entries i).node ≤ i
   pub named : (i : ℕ) → needs_names (entry_at entries i).node ≤ length b.names
   pub constants : (i : ℕ) → needs_constants (entry_at entries i).node ≤ length b.literals
+  pub patterned : (i : ℕ) → needs_patterns (entry_at entries i).node ≤ length b.patterns
   pub measured : (i : ℕ) → (entry_at entries i).depth ≡ depth (expression_at b entries i)
   pub narrow : (i : ℕ) → IsTrue (has_narrow (entry_at entries i).node)
 
@@ -116,7 +139,7 @@ function_entry fs i = slice_index_or fs i no_function
 
 -- a function has a body among so many expressions, and a pattern of at most 64 patterns, one inside another
 abbrev pub IsClosed : ℕ → StoredFunction → Type 0
-IsClosed count f = (f.body.0 < count) × (pattern_depth (pattern_of f.pattern) ≤ 64)
+IsClosed count f = (f.body.0 < count) × IsShallow f.pattern
 
 -- what holds of the functions of an arena with so many expressions
 abbrev pub AreFunctions : ℕ → List StoredFunction → Type 0

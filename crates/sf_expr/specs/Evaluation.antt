@@ -3,7 +3,8 @@ use Rattle.std.specs.Prelude.{Bool, true, false, cond, Option, Some, None, bytes
 use Rattle.sf_value.specs.Values.{Name, Data, unit, truth, number, text, pair, no_event, first_of, second_of}
 pub use Rattle.sf_operator.specs.Outcomes.{Evaluated, answer, failed, ◌>>=◌, nonsense, known}
 use Rattle.sf_operator.specs.Operations.{truth_in, unary_value, decided, operated}
-use Rattle.sf_expr.specs.Expressions.{Pattern, unnamed, named, both, Literal, unit_literal, truth_literal, int_literal, text_literal, none_literal, Expression, variable, literal, paired, applied, operation, conditional, Function, function}
+use Rattle.sf_operator.specs.FunctionForms.{mapped_value, folded_value}
+use Rattle.sf_expr.specs.Expressions.{Pattern, unnamed, named, both, Literal, unit_literal, truth_literal, int_literal, text_literal, none_literal, Expression, variable, literal, paired, applied, operation, conditional, mapped, folded, Function, function}
 
 -- The names that an expression may use with their values, the innermost first.
 pub data Scope : Type 0 where
@@ -42,7 +43,7 @@ unless_decided (Some d) else = answer d
 unless_decided None else = else
 
 -- what an expression is worth: operands stand from left to right, and the first fault is the answer; the second operand of `and` and `or` is
--- looked at only where the first doesn't decide, and of an `if` only the chosen branch
+-- looked at only where the first doesn't decide, and of an `if` only the chosen branch; a function binds the names of its pattern to its argument
 abbrev pub eval : Expression → Scope → Evaluated Data
 eval (variable x) scope = answer (value_of x scope)
 eval (literal l) scope = answer (literal_value l)
@@ -50,6 +51,8 @@ eval (paired i j) scope = eval i scope >>= λ a. eval j scope >>= λ b. answer (
 eval (applied o i) scope = eval i scope >>= unary_value o
 eval (operation i op j) scope = eval i scope >>= λ a. unless_decided (decided op a) (eval j scope >>= operated op a)
 eval (conditional i j k) scope = eval i scope >>= λ c. known (truth_in c) (λ b. cond b (eval j scope) (eval k scope))
+eval (mapped i m p j) scope = eval i scope >>= λ a. mapped_value m a (λ x. eval j (bound_in p x scope))
+eval (folded i o j p k) scope = eval i scope >>= λ a. folded_value o a (eval j scope) (λ x. eval k (bound_in p x scope))
 
 -- what a function answers to a value
 abbrev pub apply : Function → Data → Scope → Evaluated Data

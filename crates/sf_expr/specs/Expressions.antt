@@ -3,6 +3,8 @@ use Rattle.std.specs.Prelude.{ℕ, suc, ◌+◌, max, ℤ, Bool, List, [], ◌�
 use Rattle.sf_value.specs.Values.{Name, Kind}
 use Rattle.sf_operator.specs.declared.operator.Operator.{Operator}
 use Rattle.sf_operator.specs.declared.operator.Unary.{Unary}
+use Rattle.sf_operator.specs.declared.operator.Mapping.{Mapping}
+use Rattle.sf_operator.specs.declared.operator.Folding.{Folding}
 
 -- A pattern binds nothing, a name, or the two parts of a pair.
 pub data Pattern : Type 0 where
@@ -18,7 +20,8 @@ pub data Literal : Type 0 where
   text_literal : List ℕ → Literal
   none_literal : Kind → Literal
 
--- expressions: names, literals, pairs, operators on their operands, and one of two by a truth
+-- expressions: names, literals, pairs, operators on their operands, one of two by a truth, and forms with a function, whose pattern and
+-- expression stand last
 pub data Expression : Type 0 where
   variable : Name → Expression
   literal : Literal → Expression
@@ -26,6 +29,8 @@ pub data Expression : Type 0 where
   applied : Unary → Expression → Expression
   operation : Expression → Operator → Expression → Expression
   conditional : Expression → Expression → Expression → Expression
+  mapped : Expression → Mapping → Pattern → Expression → Expression
+  folded : Expression → Folding → Expression → Pattern → Expression → Expression
 
 -- A function `p => e`.
 pub data Function : Type 0 where
@@ -37,7 +42,7 @@ pattern_depth unnamed = 1
 pattern_depth (named x) = 1
 pattern_depth (both p q) = suc (max (pattern_depth p) (pattern_depth q))
 
--- how many expressions stand one inside another
+-- how many expressions or patterns stand one inside another
 abbrev pub depth : Expression → ℕ
 depth (variable x) = 1
 depth (literal l) = 1
@@ -45,6 +50,8 @@ depth (paired i j) = suc (max (depth i) (depth j))
 depth (applied o i) = suc (depth i)
 depth (operation i o j) = suc (max (depth i) (depth j))
 depth (conditional i j k) = suc (max (depth i) (max (depth j) (depth k)))
+depth (mapped i m p j) = suc (max (depth i) (max (pattern_depth p) (depth j)))
+depth (folded i o j p k) = suc (max (depth i) (max (depth j) (max (pattern_depth p) (depth k))))
 
 -- how deep the pattern and the expression of a function are
 abbrev pub function_depth : Function → ℕ
@@ -58,6 +65,8 @@ size (paired i j) = suc (size i + size j)
 size (applied o i) = suc (size i)
 size (operation i o j) = suc (size i + size j)
 size (conditional i j k) = suc (size i + (size j + size k))
+size (mapped i m p j) = suc (size i + size j)
+size (folded i o j p k) = suc (size i + (size j + size k))
 
 -- how many expressions stand in a function
 abbrev pub function_size : Function → ℕ

@@ -5,8 +5,8 @@ use Rattle.sf_value.specs.Values.{Name, Kind, pair_kind, nodes, is_narrow}
 use Rattle.sf_operator.specs.declared.operator.Operator.{Operator}
 use Rattle.sf_operator.specs.declared.operator.Unary.{Unary}
 pub use Rattle.sf_operator.specs.Kinds.{found_then}
-use Rattle.sf_operator.specs.Kinds.{unary_kind, binary_kind, conditional_kind}
-use Rattle.sf_expr.specs.Expressions.{Pattern, unnamed, named, both, names_in, Literal, int_literal, text_literal, Expression, variable, literal, paired, applied, operation, conditional, Function, function}
+use Rattle.sf_operator.specs.Kinds.{unary_kind, binary_kind, conditional_kind, mapped_argument, mapped_kind, folded_argument, folded_kind}
+use Rattle.sf_expr.specs.Expressions.{Pattern, unnamed, named, both, names_in, Literal, int_literal, text_literal, Expression, variable, literal, paired, applied, operation, conditional, mapped, folded, Function, function}
 use Rattle.sf_expr.specs.Typing.{Names, type_of_name, literal_kind}
 
 -- a type, if it has at most 256 nodes
@@ -47,15 +47,6 @@ conditional_type (Some c) (Some t) None = None
 conditional_type (Some c) None u = None
 conditional_type None t u = None
 
--- the type of an expression where the names have types, if it has one
-abbrev pub expression_type : Names → Expression → Option Kind
-expression_type R (variable x) = found_then (type_of_name x R) fitting
-expression_type R (literal l) = literal_type l
-expression_type R (paired i j) = pair_type (expression_type R i) (expression_type R j)
-expression_type R (applied o i) = applied_type o (expression_type R i)
-expression_type R (operation i op j) = operation_type op (expression_type R i) (expression_type R j)
-expression_type R (conditional i j k) = conditional_type (expression_type R i) (expression_type R j) (expression_type R k)
-
 -- the names with a pattern's names before them, if the pattern fits the type
 abbrev pub names_with : Pattern → Kind → Names → Option Names
 names_with unnamed t R = Some R
@@ -72,6 +63,25 @@ is_among x (y ∷ ys) = bytes_eq x y || is_among x ys
 abbrev pub are_different : List Name → Bool
 are_different [] = true
 are_different (x ∷ xs) = not (is_among x xs) && are_different xs
+
+-- the names that a pattern adds for a type of at most 256 nodes, if it fits the type and its names are different
+abbrev pub names_bound : Pattern → Kind → Names → Option Names
+names_bound p t R = cond (nat_le (nodes t) 256 && are_different (names_in p)) (names_with p t R) None
+
+-- the type of an expression where the names have types, if it has one
+abbrev pub expression_type : Names → Expression → Option Kind
+expression_type R (variable x) = found_then (type_of_name x R) fitting
+expression_type R (literal l) = literal_type l
+expression_type R (paired i j) = pair_type (expression_type R i) (expression_type R j)
+expression_type R (applied o i) = applied_type o (expression_type R i)
+expression_type R (operation i op j) = operation_type op (expression_type R i) (expression_type R j)
+expression_type R (conditional i j k) = conditional_type (expression_type R i) (expression_type R j) (expression_type R k)
+expression_type R (mapped i m p j) =
+    found_then (expression_type R i) (λ t. found_then (mapped_argument m t) (λ a. found_then (names_bound p a R) (λ S. found_then (expression_type S j) (λ u.
+    found_then (mapped_kind m t u) fitting))))
+expression_type R (folded i o j p k) =
+    found_then (expression_type R i) (λ t. found_then (expression_type R j) (λ u. found_then (folded_argument o t u) (λ a. found_then (names_bound p a R) (λ S.
+    found_then (expression_type S k) (λ v. found_then (folded_kind o t u v) fitting)))))
 
 -- the type that a function takes values of a type to, if it takes them
 abbrev pub function_output : Names → Function → Kind → Option Kind

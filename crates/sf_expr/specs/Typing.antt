@@ -1,11 +1,13 @@
 -- The types of expressions.
-use Rattle.std.specs.Prelude.{◌≡◌, ◌≢◌, ◌≤◌, List, [], ◌∷◌, Option, Some, None, cond, bytes_eq, All, ⊤}
-use Rattle.sf_value.specs.Values.{Name, Kind, unit_kind, bool_kind, int_kind, text_kind, pair_kind, event_kind, nodes, HasKind}
+use Rattle.std.specs.Prelude.{◌≡◌, ◌≢◌, List, [], ◌∷◌, Option, Some, None, cond, bytes_eq, All, ⊤}
+use Rattle.sf_value.specs.Values.{Name, Kind, unit_kind, bool_kind, int_kind, text_kind, pair_kind, event_kind, HasKind}
 use Rattle.sf_operator.specs.declared.operator.Operator.{Operator}
 use Rattle.sf_operator.specs.declared.operator.Unary.{Unary}
+use Rattle.sf_operator.specs.declared.operator.Mapping.{Mapping}
+use Rattle.sf_operator.specs.declared.operator.Folding.{Folding}
 pub use Rattle.sf_operator.specs.Kinds.{Fits}
-use Rattle.sf_operator.specs.Kinds.{unary_kind, binary_kind, conditional_kind}
-use Rattle.sf_expr.specs.Expressions.{Pattern, unnamed, named, both, names_in, Literal, unit_literal, truth_literal, int_literal, text_literal, none_literal, Expression, variable, literal, paired, applied, operation, conditional, Function, function}
+use Rattle.sf_operator.specs.Kinds.{unary_kind, binary_kind, conditional_kind, mapped_argument, mapped_kind, folded_argument, folded_kind}
+use Rattle.sf_expr.specs.Expressions.{Pattern, unnamed, named, both, names_in, Literal, unit_literal, truth_literal, int_literal, text_literal, none_literal, Expression, variable, literal, paired, applied, operation, conditional, mapped, folded, Function, function}
 use Rattle.sf_expr.specs.Evaluation.{literal_value}
 
 -- The names that an expression may use with their types, the innermost first.
@@ -42,13 +44,17 @@ pub record Binds (p : Pattern) (t : Kind) (R S : Names) : Type 0 where
   pub apart : AllDifferent (names_in p)
 
 -- An expression has a type, where the names have types. Each type has at most 256 nodes.
-pub data HasType (R : Names) : Expression → Kind → Type 0 where
-  variable_has : {x : Name} {t : Kind} → type_of_name x R ≡ Some t → Fits t → HasType R (variable x) t
-  literal_has : {l : Literal} → HasKind (literal_value l) (literal_kind l) → Fits (literal_kind l) → HasType R (literal l) (literal_kind l)
-  pair_has : {i j : Expression} {t u : Kind} → HasType R i t → HasType R j u → Fits (pair_kind t u) → HasType R (paired i j) (pair_kind t u)
-  applied_has : {i : Expression} {o : Unary} {t u : Kind} → HasType R i t → unary_kind o t ≡ Some u → Fits u → HasType R (applied o i) u
-  operation_has : {i j : Expression} {op : Operator} {t u v : Kind} → HasType R i t → HasType R j u → binary_kind op t u ≡ Some v → Fits v → HasType R (operation i op j) v
-  conditional_has : {i j k : Expression} {c t u v : Kind} → HasType R i c → HasType R j t → HasType R k u → conditional_kind c t u ≡ Some v → Fits v → HasType R (conditional i j k) v
+pub data HasType : Names → Expression → Kind → Type 0 where
+  variable_has : {R : Names} {x : Name} {t : Kind} → type_of_name x R ≡ Some t → Fits t → HasType R (variable x) t
+  literal_has : {R : Names} {l : Literal} → HasKind (literal_value l) (literal_kind l) → Fits (literal_kind l) → HasType R (literal l) (literal_kind l)
+  pair_has : {R : Names} {i j : Expression} {t u : Kind} → HasType R i t → HasType R j u → Fits (pair_kind t u) → HasType R (paired i j) (pair_kind t u)
+  applied_has : {R : Names} {i : Expression} {o : Unary} {t u : Kind} → HasType R i t → unary_kind o t ≡ Some u → Fits u → HasType R (applied o i) u
+  operation_has : {R : Names} {i j : Expression} {op : Operator} {t u v : Kind} → HasType R i t → HasType R j u → binary_kind op t u ≡ Some v → Fits v → HasType R (operation i op j) v
+  conditional_has : {R : Names} {i j k : Expression} {c t u v : Kind} → HasType R i c → HasType R j t → HasType R k u → conditional_kind c t u ≡ Some v → Fits v → HasType R (conditional i j k) v
+  mapped_has : {R S : Names} {i j : Expression} {m : Mapping} {p : Pattern} {t a u v : Kind}
+      → HasType R i t → mapped_argument m t ≡ Some a → Fits a → Binds p a R S → HasType S j u → mapped_kind m t u ≡ Some v → Fits v → HasType R (mapped i m p j) v
+  folded_has : {R S : Names} {i j k : Expression} {o : Folding} {p : Pattern} {t u a v w : Kind}
+      → HasType R i t → HasType R j u → folded_argument o t u ≡ Some a → Fits a → Binds p a R S → HasType S k v → folded_kind o t u v ≡ Some w → Fits w → HasType R (folded i o j p k) w
 
 -- A function takes one type to another.
 pub data FunctionTakes (R : Names) : Function → Kind → Kind → Type 0 where

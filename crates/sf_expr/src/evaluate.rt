@@ -1,15 +1,24 @@
 //! What expressions are worth.
-ghost use Rattle.std.specs.Prelude.{Result};
-ghost use Rattle.sf_expr.specs.Evaluation.{eval as worth_of, apply as applied, no_names};
-ghost use Rattle.sf_expr.specs.Soundness.{IsTypedIn, TakesValue};
+ghost use Rattle.std.specs.Prelude.{◌≡◌, Result};
+ghost use Rattle.sf_expr.specs.Expressions as trees;
+ghost use Rattle.sf_expr.specs.Evaluation.{eval as worth_of, apply as answered, no_names};
+ghost use Rattle.sf_operator.specs.declared.operator.Folding.TheVariants as foldings;
+ghost use Rattle.sf_operator.specs.declared.operator.Operator.TheVariants as operators;
+ghost use Rattle.sf_operator.specs.Operations.{number_in as a_number_in};
+ghost use Rattle.sf_value.specs.Values.{int_kind, number as number_of};
+ghost use Rattle.sf_expr.specs.Soundness.{IsTypedIn, TakesValue, Yields};
 ghost use Rattle.sf_expr.specs.Scopes.{scope_of};
-ghost use Rattle.sf_expr.specs.Arena.{expression, function_at};
+ghost use Rattle.sf_expr.specs.Patterns.{pattern_of};
+ghost use Rattle.sf_expr.specs.Arena.{expression, placed_at, function_at, function_under};
 ghost use Rattle.sf_expr.specs.Answers.{Evaluates, EvaluatesAs};
 
-use crate::exprs::{ExprId, ExprNode, Exprs, FunctionId};
+use crate::exprs::{ExprId, ExprNode, Exprs, FunctionId, PatternId};
 use crate::scope::{Bound, Scope};
-use sf_operator::{EvalFault, decide, is_true, operate, operate_on};
-use sf_value::Value;
+use sf_operator::{
+    Arithmetic, EvalFault, Folding, Mapping, Operator, Unary, calculate, decide, is_true, operate,
+    operate_on, payload_in, rows_in, value_of_key,
+};
+use sf_value::{Form, Value};
 use std::alloc::Global;
 use std::rc::Rc;
 
@@ -28,33 +37,352 @@ pub fn eval(alloc: Global, exprs: &Exprs, id: ExprId, scope: &Scope) -> Result<V
             Some(bound) => Ok(bound.value().clone_in(alloc)?),
             None => unreachable!(),
         },
-        ExprNode::Pair(first, second) => {
-            let first = half(alloc, exprs, first, scope)?;
-            let second = half(alloc, exprs, second, scope)?;
-            Ok(Value::of_halves(first, second))
-        }
-        ExprNode::Applied(operator, part) => {
-            let part = eval(alloc, exprs, part, scope)?;
-            operate_on(alloc, operator, &part)
+        ExprNode::Pair(first, second) => pair(alloc, exprs, first, second, scope),
+        ExprNode::Applied(operator, part) => applied(alloc, exprs, operator, part, scope),
+        ExprNode::Operation(left, Operator::Arithmetic(operator), right) => {
+            computed(alloc, exprs, left, operator, right, scope)
         }
         ExprNode::Operation(left, operator, right) => {
-            let left = eval(alloc, exprs, left, scope)?;
-            match decide(operator, &left) {
-                Some(decided) => Ok(decided),
-                None => {
-                    let right = eval(alloc, exprs, right, scope)?;
-                    operate(alloc, operator, &left, &right)
-                }
-            }
+            operation(alloc, exprs, left, operator, right, scope)
         }
         ExprNode::Conditional(condition, first, second) => {
-            let condition = eval(alloc, exprs, condition, scope)?;
-            match is_true(&condition) {
-                Some(true) => eval(alloc, exprs, first, scope),
-                Some(false) => eval(alloc, exprs, second, scope),
-                None => Ok(Value::int(0)),
+            conditional(alloc, exprs, condition, first, second, scope)
+        }
+        ExprNode::Mapped(part, mapping, pattern, body) => {
+            mapped(alloc, exprs, part, mapping, pattern, body, scope)
+        }
+        ExprNode::Folded(first, folding, second, pattern, body) => {
+            folded(alloc, exprs, first, folding, second, pattern, body, scope)
+        }
+    }
+}
+
+/// What a pair of two expressions is worth, or the first fault.
+#[cycle(eval)]
+#[inline(never)]
+fn pair(
+    alloc: Global,
+    exprs: &Exprs,
+    first: ExprId,
+    second: ExprId,
+    scope: &Scope,
+) -> Result<Value, EvalFault>
+    requires { ∥ IsTypedIn (scope_of scope.now) (trees.paired (expression exprs.now first) (expression exprs.now second)) ∥₁ }
+    ensures { Evaluates result (worth_of (trees.paired (expression exprs.now first) (expression exprs.now second)) (scope_of scope.now)) }
+{
+    let first = half(alloc, exprs, first, scope)?;
+    let second = half(alloc, exprs, second, scope)?;
+    Ok(Value::of_halves(first, second))
+}
+
+/// What an operator makes of one expression, or the first fault.
+#[cycle(eval)]
+#[inline(never)]
+fn applied(
+    alloc: Global,
+    exprs: &Exprs,
+    operator: Unary,
+    part: ExprId,
+    scope: &Scope,
+) -> Result<Value, EvalFault>
+    requires { ∥ IsTypedIn (scope_of scope.now) (trees.applied operator (expression exprs.now part)) ∥₁ }
+    ensures { Evaluates result (worth_of (trees.applied operator (expression exprs.now part)) (scope_of scope.now)) }
+{
+    let part = eval(alloc, exprs, part, scope)?;
+    operate_on(alloc, operator, &part)
+}
+
+/// What an operator makes of two expressions, or the first fault: the second is evaluated where the first decides nothing.
+#[cycle(eval)]
+#[inline(never)]
+fn operation(
+    alloc: Global,
+    exprs: &Exprs,
+    left: ExprId,
+    operator: Operator,
+    right: ExprId,
+    scope: &Scope,
+) -> Result<Value, EvalFault>
+    requires { ∥ IsTypedIn (scope_of scope.now) (trees.operation (expression exprs.now left) operator (expression exprs.now right)) ∥₁ }
+    ensures { Evaluates result (worth_of (trees.operation (expression exprs.now left) operator (expression exprs.now right)) (scope_of scope.now)) }
+{
+    let left = eval(alloc, exprs, left, scope)?;
+    match decide(operator, &left) {
+        Some(decided) => Ok(decided),
+        None => {
+            let right = eval(alloc, exprs, right, scope)?;
+            operate(alloc, operator, &left, &right)
+        }
+    }
+}
+
+/// What arithmetic makes of two expressions, or the first fault.
+#[cycle(eval)]
+#[inline(never)]
+fn computed(
+    alloc: Global,
+    exprs: &Exprs,
+    left: ExprId,
+    operator: Arithmetic,
+    right: ExprId,
+    scope: &Scope,
+) -> Result<Value, EvalFault>
+    requires { ∥ IsTypedIn (scope_of scope.now) (trees.operation (expression exprs.now left) (operators.Arithmetic operator) (expression exprs.now right)) ∥₁ }
+    ensures { Evaluates result (worth_of (trees.operation (expression exprs.now left) (operators.Arithmetic operator) (expression exprs.now right)) (scope_of scope.now)) }
+{
+    let number = arithmetic(alloc, exprs, left, operator, right, scope)?;
+    Ok(Value::int(number))
+}
+
+/// The number that arithmetic makes of two expressions, or the first fault.
+#[cycle(eval)]
+fn arithmetic(
+    alloc: Global,
+    exprs: &Exprs,
+    left: ExprId,
+    operator: Arithmetic,
+    right: ExprId,
+    scope: &Scope,
+) -> Result<i64, EvalFault>
+    requires { ∥ IsTypedIn (scope_of scope.now) (trees.operation (expression exprs.now left) (operators.Arithmetic operator) (expression exprs.now right)) ∥₁ }
+    ensures { EvaluatesAs (λ n. number_of n) result (worth_of (trees.operation (expression exprs.now left) (operators.Arithmetic operator) (expression exprs.now right)) (scope_of scope.now)) }
+{
+    let left = number(alloc, exprs, left, scope)?;
+    let right = number(alloc, exprs, right, scope)?;
+    Ok(calculate(operator, left, right)?)
+}
+
+/// The number that an expression is worth, or the first fault.
+#[cycle(eval)]
+fn number(alloc: Global, exprs: &Exprs, id: ExprId, scope: &Scope) -> Result<i64, EvalFault>
+    requires typed { ∥ IsTypedIn (scope_of scope.now) (expression exprs.now id) ∥₁ }
+    requires whole { ∥ Yields int_kind (worth_of (expression exprs.now id) (scope_of scope.now)) ∥₁ }
+    ensures { EvaluatesAs (λ n. number_of n) result (worth_of (expression exprs.now id) (scope_of scope.now)) }
+{
+    match exprs.node(id) {
+        ExprNode::Int(n) => Ok(n),
+        ExprNode::Name(name) => match scope.bound(exprs.name_of(name)) {
+            Some(bound) => match number_in(bound.value()) {
+                Some(number) => Ok(number),
+                None => unreachable!(),
+            },
+            None => unreachable!(),
+        },
+        ExprNode::Operation(left, Operator::Arithmetic(operator), right) => {
+            arithmetic(alloc, exprs, left, operator, right, scope)
+        }
+        _ => {
+            let value = eval(alloc, exprs, id, scope)?;
+            match number_in(&value) {
+                Some(number) => Ok(number),
+                None => unreachable!(),
             }
         }
+    }
+}
+
+/// The number that a value is, if it is one.
+fn number_in(value: &Value) -> Option<i64>
+    ensures { result ≡ a_number_in value.now }
+{
+    match value.form() {
+        Form::Int(number) => Some(*number),
+        _ => None,
+    }
+}
+
+/// What the one of two expressions is worth that a condition chooses, or the first fault.
+#[cycle(eval)]
+#[inline(never)]
+fn conditional(
+    alloc: Global,
+    exprs: &Exprs,
+    condition: ExprId,
+    first: ExprId,
+    second: ExprId,
+    scope: &Scope,
+) -> Result<Value, EvalFault>
+    requires { ∥ IsTypedIn (scope_of scope.now) (trees.conditional (expression exprs.now condition) (expression exprs.now first) (expression exprs.now second)) ∥₁ }
+    ensures { Evaluates result (worth_of (trees.conditional (expression exprs.now condition) (expression exprs.now first) (expression exprs.now second)) (scope_of scope.now)) }
+{
+    let condition = eval(alloc, exprs, condition, scope)?;
+    match is_true(&condition) {
+        Some(true) => eval(alloc, exprs, first, scope),
+        Some(false) => eval(alloc, exprs, second, scope),
+        None => Ok(Value::int(0)),
+    }
+}
+
+/// What a function answers to a value, where the names around it are there too, or the first fault.
+#[cycle(eval)]
+#[inline(never)]
+fn answer(
+    alloc: Global,
+    exprs: &Exprs,
+    pattern: PatternId,
+    body: ExprId,
+    value: &Value,
+    scope: &Scope,
+) -> Result<Value, EvalFault>
+    requires { ∥ TakesValue (scope_of scope.now) (function_under exprs.now pattern body) value.now ∥₁ }
+    ensures { Evaluates result (answered (function_under exprs.now pattern body) value.now (scope_of scope.now)) }
+{
+    let placed = (&*exprs).placed(pattern);
+    let inner = (&*scope).within(alloc, placed, &*value)?;
+    eval(alloc, &*exprs, body, &inner)
+}
+
+/// What a form makes of one expression and a function, or the first fault.
+#[cycle(eval)]
+#[inline(never)]
+fn mapped(
+    alloc: Global,
+    exprs: &Exprs,
+    part: ExprId,
+    mapping: Mapping,
+    pattern: PatternId,
+    body: ExprId,
+    scope: &Scope,
+) -> Result<Value, EvalFault>
+    requires { ∥ IsTypedIn (scope_of scope.now) (trees.mapped (expression exprs.now part) mapping (pattern_of (placed_at exprs.now pattern)) (expression exprs.now body)) ∥₁ }
+    ensures { Evaluates result (worth_of (trees.mapped (expression exprs.now part) mapping (pattern_of (placed_at exprs.now pattern)) (expression exprs.now body)) (scope_of scope.now)) }
+{
+    let part = eval(alloc, exprs, part, scope)?;
+    match mapping {
+        Mapping::Let => answer(alloc, exprs, pattern, body, &part, scope),
+        Mapping::Filter => match payload_in(&part) {
+            Some(Some(payload)) => {
+                let kept = answer(alloc, exprs, pattern, body, payload, scope)?;
+                match is_true(&kept) {
+                    Some(true) => Ok(part),
+                    Some(false) => Ok(Value::no_event()),
+                    None => Ok(Value::int(0)),
+                }
+            }
+            Some(None) => Ok(Value::no_event()),
+            None => Ok(Value::int(0)),
+        },
+        Mapping::Map => match payload_in(&part) {
+            Some(Some(payload)) => {
+                let made = answer(alloc, exprs, pattern, body, payload, scope)?;
+                Ok(Value::event(alloc, made)?)
+            }
+            Some(None) => Ok(Value::no_event()),
+            None => Ok(Value::int(0)),
+        },
+    }
+}
+
+/// What a form makes of two expressions and a function, or the first fault.
+#[cycle(eval)]
+fn folded(
+    alloc: Global,
+    exprs: &Exprs,
+    first: ExprId,
+    folding: Folding,
+    second: ExprId,
+    pattern: PatternId,
+    body: ExprId,
+    scope: &Scope,
+) -> Result<Value, EvalFault>
+    requires { ∥ IsTypedIn (scope_of scope.now) (trees.folded (expression exprs.now first) folding (expression exprs.now second) (pattern_of (placed_at exprs.now pattern)) (expression exprs.now body)) ∥₁ }
+    ensures { Evaluates result (worth_of (trees.folded (expression exprs.now first) folding (expression exprs.now second) (pattern_of (placed_at exprs.now pattern)) (expression exprs.now body)) (scope_of scope.now)) }
+{
+    match folding {
+        Folding::Match => matched(alloc, exprs, first, second, pattern, body, scope),
+        Folding::Merge => merged(alloc, exprs, first, second, pattern, body, scope),
+        Folding::Fold => fold(alloc, exprs, first, second, pattern, body, scope),
+    }
+}
+
+/// What a function answers to an event's payload, or, where there is no event, what the second expression is worth, or
+/// the first fault.
+#[cycle(eval)]
+#[inline(never)]
+fn matched(
+    alloc: Global,
+    exprs: &Exprs,
+    first: ExprId,
+    second: ExprId,
+    pattern: PatternId,
+    body: ExprId,
+    scope: &Scope,
+) -> Result<Value, EvalFault>
+    requires { ∥ IsTypedIn (scope_of scope.now) (trees.folded (expression exprs.now first) foldings.Match (expression exprs.now second) (pattern_of (placed_at exprs.now pattern)) (expression exprs.now body)) ∥₁ }
+    ensures { Evaluates result (worth_of (trees.folded (expression exprs.now first) foldings.Match (expression exprs.now second) (pattern_of (placed_at exprs.now pattern)) (expression exprs.now body)) (scope_of scope.now)) }
+{
+    let first = eval(alloc, exprs, first, scope)?;
+    match payload_in(&first) {
+        Some(Some(payload)) => answer(alloc, exprs, pattern, body, payload, scope),
+        Some(None) => eval(alloc, exprs, second, scope),
+        None => Ok(Value::int(0)),
+    }
+}
+
+/// Two events made one, where both occur by a function of both payloads, or the first fault.
+#[cycle(eval)]
+#[inline(never)]
+fn merged(
+    alloc: Global,
+    exprs: &Exprs,
+    first: ExprId,
+    second: ExprId,
+    pattern: PatternId,
+    body: ExprId,
+    scope: &Scope,
+) -> Result<Value, EvalFault>
+    requires { ∥ IsTypedIn (scope_of scope.now) (trees.folded (expression exprs.now first) foldings.Merge (expression exprs.now second) (pattern_of (placed_at exprs.now pattern)) (expression exprs.now body)) ∥₁ }
+    ensures { Evaluates result (worth_of (trees.folded (expression exprs.now first) foldings.Merge (expression exprs.now second) (pattern_of (placed_at exprs.now pattern)) (expression exprs.now body)) (scope_of scope.now)) }
+{
+    let first = eval(alloc, exprs, first, scope)?;
+    let second = eval(alloc, exprs, second, scope)?;
+    match payload_in(&first) {
+        Some(Some(left)) => match payload_in(&second) {
+            Some(Some(right)) => {
+                let both = Value::of_halves(left.clone()?, right.clone()?);
+                let made = answer(alloc, exprs, pattern, body, &both, scope)?;
+                Ok(Value::event(alloc, made)?)
+            }
+            Some(None) => Ok(first),
+            None => Ok(Value::int(0)),
+        },
+        Some(None) => match payload_in(&second) {
+            Some(_) => Ok(second),
+            None => Ok(Value::int(0)),
+        },
+        None => Ok(Value::int(0)),
+    }
+}
+
+/// What a function makes of the second value and the rows of a table, one after the other, or the first fault.
+#[cycle(eval)]
+#[inline(never)]
+fn fold(
+    alloc: Global,
+    exprs: &Exprs,
+    first: ExprId,
+    second: ExprId,
+    pattern: PatternId,
+    body: ExprId,
+    scope: &Scope,
+) -> Result<Value, EvalFault>
+    requires { ∥ IsTypedIn (scope_of scope.now) (trees.folded (expression exprs.now first) foldings.Fold (expression exprs.now second) (pattern_of (placed_at exprs.now pattern)) (expression exprs.now body)) ∥₁ }
+    ensures { Evaluates result (worth_of (trees.folded (expression exprs.now first) foldings.Fold (expression exprs.now second) (pattern_of (placed_at exprs.now pattern)) (expression exprs.now body)) (scope_of scope.now)) }
+{
+    let table = eval(alloc, exprs, first, scope)?;
+    let mut so_far = eval(alloc, exprs, second, scope)?;
+    match rows_in(&table) {
+        Some(rows) => {
+            let mut rest = rows;
+            while let [(key, value), after @ ..] = rest {
+                let row = Value::pair(alloc, value_of_key(alloc, key)?, value.clone_in(alloc)?)?;
+                let argument = Value::pair(alloc, so_far, row)?;
+                so_far = answer(alloc, exprs, pattern, body, &argument, scope)?;
+                rest = after;
+            }
+            Ok(so_far)
+        }
+        None => Ok(Value::int(0)),
     }
 }
 
@@ -81,7 +409,7 @@ pub fn apply(
     value: &Value,
 ) -> Result<Value, EvalFault>
     requires { ∥ TakesValue no_names (function_at exprs.now function) value.now ∥₁ }
-    ensures { Evaluates result (applied (function_at exprs.now function) value.now no_names) }
+    ensures { Evaluates result (answered (function_at exprs.now function) value.now no_names) }
 {
     let mut scope = Scope::new(alloc);
     scope.bind(exprs.pattern(function), value)?;

@@ -4,13 +4,15 @@ ghost use Rattle.sf_expr.specs.Expressions.{function as function_of};
 ghost use Rattle.sf_expr.specs.Expressions.{depth as depth_of, pattern_depth, function_depth as function_depth_of};
 ghost use Rattle.sf_expr.specs.Patterns.{placed_unnamed, pattern_of};
 ghost use Rattle.sf_arena.specs.Arenas.{entries_of};
-ghost use Rattle.sf_expr.specs.Entries.{IsArena, AreFunctions, AreValued, none_of_unit, has_narrow};
+ghost use Rattle.sf_expr.specs.Entries.{IsArena, AreFunctions, AreValued, AreShallowPatterns, none_of_unit, has_narrow};
 
 use crate::constant::Constant;
 use crate::pat::Pat;
-use crate::stored::{StoredFunction, StoredName, clone_constants, clone_functions, clone_names};
+use crate::stored::{
+    StoredFunction, StoredName, clone_constants, clone_functions, clone_names, clone_patterns,
+};
 use sf_arena::{Arena, ArenaRefusal};
-use sf_operator::{Operator, Unary};
+use sf_operator::{Folding, Mapping, Operator, Unary};
 use sf_refusal::Spot;
 use sf_value::Ty;
 use std::alloc::{AllocError, Global};
@@ -26,6 +28,10 @@ pub struct NameId(usize);
 /// A constant in its arena.
 #[derive(Clone, Copy, Debug, PartialEq, Eq)]
 pub struct ConstantId(usize);
+
+/// A pattern in its arena.
+#[derive(Clone, Copy, Debug, PartialEq, Eq)]
+pub struct PatternId(usize);
 
 /// A function in its arena.
 #[derive(Clone, Copy, Debug, PartialEq, Eq)]
@@ -52,42 +58,50 @@ pub enum ExprNode {
     Operation(ExprId, Operator, ExprId),
     /// The second where the first is true, the third where it is false.
     Conditional(ExprId, ExprId, ExprId),
+    /// A form on a value with a function, whose pattern and expression stand last.
+    Mapped(ExprId, Mapping, PatternId, ExprId),
+    /// A form on two values with a function, whose pattern and expression stand last.
+    Folded(ExprId, Folding, ExprId, PatternId, ExprId),
 }
 
-/// Expressions, of at most 100,000 nodes, of which at most 64 stand one inside another, with their names and
-/// constants, and functions of them.
+/// Expressions, of at most 100,000 nodes, of which at most 64 stand one inside another, with their names,
+/// constants and patterns, and functions of them.
 #[derive(Drop)]
 pub struct Exprs {
     arena: Arena<ExprNode>,
     names: Vec<StoredName>,
     constants: Vec<Constant>,
+    patterns: Vec<Pat>,
     functions: Vec<StoredFunction>,
     unnamed: Pat,
     absent: Constant,
-    ghost ordered: { IsArena (record { names = names.items; literals = constants.items }) (entries_of arena) },
+    ghost ordered: { IsArena (record { names = names.items; literals = constants.items; patterns = patterns.items }) (entries_of arena) },
     ghost valued: { AreValued constants.items },
+    ghost shallow: { AreShallowPatterns patterns.items },
     ghost closed: { AreFunctions (length (entries_of arena)) functions.items },
     ghost nothing: { unnamed ≡ placed_unnamed },
     ghost none: { absent ≡ none_of_unit },
 }
 
 impl Exprs {
-    ghost use Rattle.sf_expr.specs.Arena.{count_of, function_count, name_count, constant_count, Holds, HoldsFunction, expression, name_at, literal_at, spot_at};
+    ghost use Rattle.sf_expr.specs.Arena.{count_of, function_count, name_count, constant_count, pattern_count, Holds, HoldsFunction, expression, name_at, literal_at, placed_at, spot_at};
     ghost use Rattle.sf_expr.specs.Arena.{pattern_at, body_at, function_at, id_number, entry_of, node_at, expression_of};
-    ghost use Rattle.sf_expr.specs.Arena.{Builds, PartsBelow, HoldsParts, Adds, AddsName, AddsConstant, AddsFunction, IsUnchanged, IsCopy};
+    ghost use Rattle.sf_expr.specs.Arena.{Builds, PartsBelow, HoldsParts, Adds, AddsName, AddsConstant, AddsPattern, AddsFunction, IsUnchanged, IsCopy};
 
-    /// No expression, no name, no constant and no function.
-    #[tactic(auto, unfolding(crate::specs::Arena::count_of, crate::specs::Arena::function_count, crate::specs::Arena::name_count, crate::specs::Arena::constant_count))]
+    /// No expression, no name, no constant, no pattern and no function.
+    #[tactic(auto, unfolding(crate::specs::Arena::count_of, crate::specs::Arena::function_count, crate::specs::Arena::name_count, crate::specs::Arena::constant_count, crate::specs::Arena::pattern_count))]
     pub fn new(alloc: Global) -> Exprs
         ensures expressions { count_of result ≡ 0 }
         ensures functions { function_count result ≡ 0 }
         ensures names { name_count result ≡ 0 }
         ensures constants { constant_count result ≡ 0 }
+        ensures patterns { pattern_count result ≡ 0 }
     {
         Exprs {
             arena: Arena::new(alloc),
             names: Vec::new(alloc),
             constants: Vec::new(alloc),
+            patterns: Vec::new(alloc),
             functions: Vec::new(alloc),
             unnamed: Pat::unnamed(),
             absent: Constant::no_event(Ty::unit()),
@@ -124,6 +138,15 @@ impl Exprs {
         self.pattern(id).depth().max(self.depth(body))
     }
 
+    // How many patterns or expressions stand one inside another in a pattern and the expression that it binds names for.
+    #[tactic(auto, using(crate::proofs::Entered::placed_shallow, crate::proofs::Entered::expression_shallow))]
+    fn depth_under(&self, pattern: PatternId, body: ExprId) -> u32
+        ensures value { result ≡ function_depth_of (function_of (pattern_of (placed_at self.now pattern)) (expression self.now body)) }
+        ensures bound { result ≤ 64 }
+    {
+        self.placed(pattern).depth().max(self.depth(body))
+    }
+
     // How many expressions would stand one inside another in that of a node.
     fn depth_with(&self, node: ExprNode) -> u32
         ensures value { result ≡ depth_of (expression_of self.now node) }
@@ -140,6 +163,13 @@ impl Exprs {
             ExprNode::Conditional(condition, first, second) => {
                 let branches = self.depth(first).max(self.depth(second));
                 1 + self.depth(condition).max(branches)
+            }
+            ExprNode::Mapped(part, _, pattern, body) => {
+                1 + self.depth(part).max(self.depth_under(pattern, body))
+            }
+            ExprNode::Folded(first, _, second, pattern, body) => {
+                let later = self.depth(second).max(self.depth_under(pattern, body));
+                1 + self.depth(first).max(later)
             }
         }
     }
@@ -181,6 +211,22 @@ impl Exprs {
         let _valued = constant.form();
         self.constants.push(constant)?;
         Ok(ConstantId(number))
+    }
+
+    /// Adds a pattern, which counts as no expression. Refused with `TooDeep` where more than 64 patterns stand one inside
+    /// another, and with `Memory`. A refused call changes nothing.
+    pub fn pattern_in(&mut self, pattern: Pat) -> Result<PatternId, ArenaRefusal>
+        ensures ok { IfOk result (λ p. AddsPattern self.old self.new p pattern) }
+        ensures not_many { ¬ (result ≡ Err ArenaRefusal.TooMany) }
+        ensures deep { result ≡ Err ArenaRefusal.TooDeep ↔ 64 < pattern_depth (pattern_of pattern) }
+        ensures err { OnErr result (IsUnchanged self.old self.new) }
+    {
+        if 64 < pattern.depth() {
+            return Err(ArenaRefusal::TooDeep);
+        }
+        let number = self.patterns.len();
+        self.patterns.push(pattern)?;
+        Ok(PatternId(number))
     }
 
     /// Adds a function, which counts as no expression. Refused with `TooDeep` where more than 64 patterns or
@@ -239,6 +285,17 @@ impl Exprs {
         }
     }
 
+    /// The pattern at an id of patterns; the one that binds nothing at an id that the arena does not hold.
+    #[tactic(auto, unfolding(crate::specs::Arena::placed_at))]
+    pub fn placed(&self, pattern: PatternId) -> &Pat
+        ensures { result.now ≡ placed_at self.now pattern }
+    {
+        match self.patterns.get(pattern.0) {
+            Some(pattern) => pattern,
+            None => &self.unnamed,
+        }
+    }
+
     /// Where the expression at an id stands in the text; `Spot::NONE` at an id that the arena does not hold.
     #[tactic(auto, unfolding(crate::specs::Arena::spot_at))]
     pub fn spot(&self, id: ExprId) -> Spot
@@ -273,18 +330,20 @@ impl Exprs {
         }
     }
 
-    /// A copy, with the same expressions, names, constants and functions at the same ids.
+    /// A copy, with the same expressions, names, constants, patterns and functions at the same ids.
     pub fn clone_in(&self, alloc: Global) -> Result<Exprs, AllocError>
         ensures { IfOk result (λ copy. IsCopy self.now copy) }
     {
         let arena = self.arena.clone_in(alloc)?;
         let names = clone_names(alloc, &self.names)?;
         let constants = clone_constants(alloc, &self.constants)?;
+        let patterns = clone_patterns(alloc, &self.patterns)?;
         let functions = clone_functions(alloc, &self.functions)?;
         Ok(Exprs {
             arena,
             names,
             constants,
+            patterns,
             functions,
             unnamed: Pat::unnamed(),
             absent: Constant::no_event(Ty::unit()),

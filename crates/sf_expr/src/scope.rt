@@ -1,5 +1,5 @@
 //! Names with their values.
-ghost use Rattle.std.specs.Prelude.{◌≡◌, ◌↔◌, OnOk, IfSome, IsSome, IsTrue, length};
+ghost use Rattle.std.specs.Prelude.{◌≡◌, ◌↔◌, OnOk, IfOk, IfSome, IsSome, IsTrue, length};
 ghost use Rattle.sf_expr.specs.Evaluation.{no_names, pattern_fits, bound_in, value_of};
 ghost use Rattle.sf_expr.specs.Patterns.{pattern_of};
 ghost use Rattle.sf_expr.specs.Scopes.{scope_of, bound_value, is_bound};
@@ -60,6 +60,24 @@ impl<'a> Scope<'a> {
         ensures { OnOk result (scope_of self.new ≡ bound_in (pattern_of pattern.now) value.now (scope_of self.old)) }
     {
         self.bind_to(pattern, Bound::Whole(value))
+    }
+
+    /// These names, and behind them those of a pattern with the parts of a value that it fits.
+    #[tactic(auto, using(crate::proofs::Bound::scope_same))]
+    pub(crate) fn within<'b>(
+        &'b self,
+        alloc: Global,
+        pattern: &'b Pat,
+        value: &'b Value,
+    ) -> Result<Scope<'b>, AllocError>
+        requires { IsTrue (pattern_fits (pattern_of pattern.now) value.now) }
+        ensures { IfOk result (λ inner. scope_of inner ≡ bound_in (pattern_of pattern.now) value.now (scope_of self.now)) }
+    {
+        let mut inner = Scope {
+            bindings: SmallVec::from_slice(alloc, self.bindings.as_slice())?,
+        };
+        inner.bind(pattern, value)?;
+        Ok(inner)
     }
 
     #[tactic(auto, using(crate::proofs::Bound::scope_pushed))]

@@ -1,4 +1,4 @@
-//! The names, the constants and the functions that an arena of expressions stores.
+//! The names, the constants, the patterns and the functions that an arena of expressions stores.
 ghost use Rattle.std.specs.Prelude.{◌≡◌, IfOk, string_bytes};
 
 use crate::constant::Constant;
@@ -86,6 +86,17 @@ pub(crate) fn clone_constants(
     let mut copies = Vec::new(alloc);
     for constant in constants {
         copies.push(constant.clone_in(alloc)?)?;
+    }
+    Ok(copies)
+}
+
+/// Copies of patterns, in order.
+pub(crate) fn clone_patterns(alloc: Global, patterns: &[Pat]) -> Result<Vec<Pat>, AllocError>
+    ensures { IfOk result (λ copies. copies.items ≡ patterns.now) }
+{
+    let mut copies = Vec::new(alloc);
+    for pattern in patterns {
+        copies.push(pattern.clone_in(alloc)?)?;
     }
     Ok(copies)
 }

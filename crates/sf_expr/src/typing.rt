@@ -1,21 +1,25 @@
 //! The types of expressions.
-ghost use Rattle.std.specs.Prelude.{◌≡◌, ◌++◌, [], ◌↔◌, IsTrue, OnOk, IfOk, IfSome, IfNone, IfErr, Contains};
-ghost use Rattle.sf_expr.specs.Typing.{Fits, AddsNames, AllDifferent, type_of_name};
-ghost use Rattle.sf_expr.specs.Expressions.{names_in, none_literal};
+ghost use Rattle.std.specs.Prelude.{◌≡◌, ◌++◌, [], ◌↔◌, IsTrue, Some, OnOk, IfOk, IfSome, IfNone, IfErr, Contains};
+ghost use Rattle.sf_expr.specs.Typing.{Fits, AddsNames, Binds, AllDifferent, type_of_name, literal_kind};
+ghost use Rattle.sf_expr.specs.Expressions.{names_in};
 ghost use Rattle.sf_expr.specs.Inference.{is_valued};
-ghost use Rattle.sf_expr.specs.Arena.{expression, function_at, pattern_at};
+ghost use Rattle.sf_expr.specs.Arena.{expression, function_at};
 ghost use Rattle.sf_expr.specs.Patterns.{pattern_of};
 ghost use Rattle.sf_expr.specs.Scopes.{names_of, names_seen};
-ghost use Rattle.sf_expr.specs.Refusals.{Types, TypesFunction, Judges, JudgesFunction, AnswersPair, AnswersLiteral, BindRefused, RepeatRefused};
+ghost use Rattle.sf_expr.specs.Refusals.{Types, TypesFunction, Judges, JudgesFunction, AnswersPair, BindRefused, RepeatRefused, PatternRefused, JudgesPart};
+ghost use Rattle.sf_operator.specs.Breaches.{AnswersKind};
 ghost use Rattle.sf_refusal.specs.Refusals.{OrMemory};
 
 use crate::constant::{Constant, ConstantForm};
 use crate::exprs::{ExprId, ExprNode, Exprs, FunctionId};
 use crate::pat::{Pat, PatForm};
 use crate::typed_name::TypedName;
-use sf_operator::{binary_type, conditional_type, unary_type};
+use sf_operator::{
+    binary_type, conditional_type, event_type, folded_argument_type, folded_type,
+    mapped_argument_type, mapped_type, unary_type,
+};
 use sf_refusal::{Refusal, Rule, Spot};
-use sf_value::{Ty, TyRefusal};
+use sf_value::Ty;
 use smallvec::SmallVec;
 use std::alloc::{AllocError, Global};
 
@@ -36,9 +40,9 @@ impl<'a> TypeScope<'a> {
         }
     }
 
-    /// The same names.
+    /// The same names, for as long as they are looked at here.
     #[tactic(auto, using(crate::proofs::Bound::names_same))]
-    fn copy(&self, alloc: Global) -> Result<TypeScope<'a>, AllocError>
+    fn shorter<'b>(&'b self, alloc: Global) -> Result<TypeScope<'b>, AllocError>
         ensures { IfOk result (λ copy. names_of copy ≡ names_of self.now) }
     {
         Ok(TypeScope {
@@ -120,40 +124,27 @@ fn see<'a>(pattern: &'a Pat, seen: &mut SmallVec<&'a str, 4>) -> Result<(), Refu
     Ok(())
 }
 
-/// The type of events of a type; refused with `TypeTooLarge` at `at` where it would be made of more than 256 types.
-fn event_type(alloc: Global, payload: Ty, at: Spot) -> Result<Ty, Refusal>
-    ensures { AnswersLiteral (none_literal payload) at result }
-{
-    match Ty::event(alloc, payload) {
-        Ok(event) => Ok(event),
-        Err(TyRefusal::TypeTooLarge) => Err(Refusal::broken(Rule::TypeTooLarge, at)),
-        Err(TyRefusal::Memory) => Err(Refusal::Memory),
-    }
-}
-
 /// The type of pairs of two types; refused with `TypeTooLarge` at `at` where it would be made of more than 256 types.
+#[tactic(auto, using(crate::proofs::Judged::answers_pair))]
 pub fn pair_type(alloc: Global, first: Ty, second: Ty, at: Spot) -> Result<Ty, Refusal>
     ensures { AnswersPair first second at result }
 {
-    match Ty::pair(alloc, first, second) {
-        Ok(pair) => Ok(pair),
-        Err(TyRefusal::TypeTooLarge) => Err(Refusal::broken(Rule::TypeTooLarge, at)),
-        Err(TyRefusal::Memory) => Err(Refusal::Memory),
-    }
+    sf_operator::pair_type(alloc, &first, &second, at)
 }
 
 /// The type of a constant; refused with `TypeTooLarge` at `at` where it would be made of more than 256 types.
 fn constant_type(alloc: Global, constant: &Constant, at: Spot) -> Result<Ty, Refusal>
-    ensures answers { AnswersLiteral constant.now at result }
+    ensures answers { AnswersKind (Some (literal_kind constant.now)) at result }
     ensures valued { IsTrue (is_valued constant.now) }
 {
     match constant.form() {
         ConstantForm::Text(_) => Ok(Ty::text()),
-        ConstantForm::NoEvent(payload) => event_type(alloc, payload.clone_in(alloc)?, at),
+        ConstantForm::NoEvent(payload) => event_type(alloc, payload, at),
     }
 }
 
 /// The type of an expression, or the first refusal, parts first.
+#[cycle(judge)]
 fn judge(alloc: Global, exprs: &Exprs, id: ExprId, names: &TypeScope) -> Result<Ty, Refusal>
     ensures { Judges exprs.now (names_of names.now) id result }
 {
@@ -188,7 +179,73 @@ fn judge(alloc: Global, exprs: &Exprs, id: ExprId, names: &TypeScope) -> Result<
             let second = judge(alloc, exprs, second, names)?;
             conditional_type(alloc, &condition, &first, &second, exprs.spot(id))
         }
+        ExprNode::Mapped(part, mapping, pattern, body) => {
+            let part = judge(alloc, exprs, part, names)?;
+            let argument = mapped_argument_type(alloc, mapping, &part, exprs.spot(id))?;
+            let made = judge_part(
+                alloc,
+                exprs,
+                exprs.placed(pattern),
+                body,
+                &argument,
+                names,
+                exprs.spot(id),
+            )?;
+            mapped_type(alloc, mapping, &part, &made, exprs.spot(id))
+        }
+        ExprNode::Folded(first, folding, second, pattern, body) => {
+            let first = judge(alloc, exprs, first, names)?;
+            let second = judge(alloc, exprs, second, names)?;
+            let argument = folded_argument_type(alloc, folding, &first, &second, exprs.spot(id))?;
+            let made = judge_part(
+                alloc,
+                exprs,
+                exprs.placed(pattern),
+                body,
+                &argument,
+                names,
+                exprs.spot(id),
+            )?;
+            folded_type(alloc, folding, &first, &second, &made, exprs.spot(id))
+        }
     }
+}
+
+/// The names around with those of a pattern behind them, for the parts of a type. Refused with `DuplicateName` where two
+/// of its names are the same, with the place of the later one, then with `Mismatch` at `at` where it does not fit the
+/// type, and with `Memory`.
+fn names_with<'a>(
+    alloc: Global,
+    pattern: &'a Pat,
+    from: &'a Ty,
+    around: &'a TypeScope,
+    at: Spot,
+) -> Result<TypeScope<'a>, Refusal>
+    ensures bound { IfOk result (λ names. Binds (pattern_of pattern.now) from.now (names_of around.now) (names_of names)) }
+    ensures fits { OnOk result (Fits from.now) }
+    ensures err { IfErr result (OrMemory (PatternRefused pattern.now from.now at)) }
+{
+    see(pattern, &mut SmallVec::new(alloc))?;
+    let mut names = around.shorter(alloc)?;
+    names.bind(pattern, from, at)?;
+    Ok(names)
+}
+
+/// The type of an expression where a pattern before it binds names for the parts of a type, or the first refusal.
+#[cycle(judge)]
+fn judge_part(
+    alloc: Global,
+    exprs: &Exprs,
+    pattern: &Pat,
+    body: ExprId,
+    from: &Ty,
+    around: &TypeScope,
+    at: Spot,
+) -> Result<Ty, Refusal>
+    ensures { JudgesPart exprs.now (names_of around.now) pattern.now body from.now at result }
+{
+    let names = names_with(alloc, &*pattern, &*from, &*around, at)?;
+    judge(alloc, &*exprs, body, &names)
 }
 
 /// The type of an expression, where names have these types, or why it has none.
@@ -203,29 +260,10 @@ pub fn type_of(alloc: Global, exprs: &Exprs, id: ExprId, names: &TypeScope) -> R
     judge(alloc, exprs, id, names)
 }
 
-/// The type that a function takes values of a type to, or the first refusal.
-fn judge_function<'a>(
-    alloc: Global,
-    exprs: &'a Exprs,
-    function: FunctionId,
-    from: &'a Ty,
-    around: &TypeScope<'a>,
-    at: Spot,
-) -> Result<Ty, Refusal>
-    ensures { JudgesFunction exprs.now (names_of around.now) function from.now at result }
-{
-    let pattern = exprs.pattern(function);
-    see(pattern, &mut SmallVec::new(alloc))?;
-    let mut names = around.copy(alloc)?;
-    names.bind(pattern, from, at)?;
-    judge(alloc, exprs, exprs.body(function), &names)
-}
-
 /// The type that a function takes values of a type to, where the names around it have these types, or why there is none.
 ///
 /// `DuplicateName` where two names of its pattern are the same, with the place of the later one, then `Mismatch` at `at`
 /// where the pattern does not fit the type, then what its body is refused for.
-#[tactic(auto, using(crate::proofs::Judged::judged_types_function))]
 pub fn function_type<'a>(
     alloc: Global,
     exprs: &'a Exprs,
@@ -237,5 +275,13 @@ pub fn function_type<'a>(
     ensures typed { TypesFunction (names_of names.now) (function_at exprs.now function) from.now result }
     ensures first { JudgesFunction exprs.now (names_of names.now) function from.now at result }
 {
-    judge_function(alloc, exprs, function, from, names, at)
+    judge_part(
+        alloc,
+        exprs,
+        exprs.pattern(function),
+        exprs.body(function),
+        from,
+        names,
+        at,
+    )
 }

@@ -1,2 +1,3 @@
-pub mod Closures
+pub mod Adapters
 pub mod Lookups
+pub mod Typed

@@ -1,5 +1,4 @@
 pub mod Meaning
 pub mod Numbers
-pub mod Storing
 pub mod Registries
-pub mod Examples
+pub mod Arithmetic

@@ -1,25 +1,26 @@
--- What closures on numbers give to values.
-use Rattle.std.specs.Prelude.{◌≡◌, ◌≢◌, ℤ, Option, Some, None, IsTrue}
+-- What functions on numbers answer to values.
+use Rattle.std.specs.Prelude.{ℤ, Option, Some, None, cond}
+use Rattle.std.specs.Option.{option_and_then}
 use Rattle.sf_value.specs.Values.{Data, number, pair, is_narrow}
 
--- The number that a value is.
-pub data IsNumber : Data → Option ℤ → Type 0 where
-  is_number : {n : ℤ} → IsNumber (number n) (Some n)
-  no_number : {d : Data} → ((n : ℤ) → d ≢ number n) → IsNumber d None
+-- the number that a value is
+abbrev pub as_number : Data → Option ℤ
+as_number (number n) = Some n
+as_number d = None
 
--- The two numbers of which a value is a pair.
-pub data IsNumbers : Data → Option (ℤ × ℤ) → Type 0 where
-  are_numbers : {n m : ℤ} → IsNumbers (pair (number n) (number m)) (Some (n, m))
-  no_numbers : {d : Data} → ((n m : ℤ) → d ≢ pair (number n) (number m)) → IsNumbers d None
+-- the two numbers of which a value is a pair
+abbrev pub as_numbers : Data → Option (ℤ × ℤ)
+as_numbers (pair x y) = option_and_then (λ n. option_and_then (λ m. Some (n, m)) (as_number y)) (as_number x)
+as_numbers d = None
 
--- What a relation of numbers and their answers gives to a value: to a number its answer, and to another value a refusal.
-pub data GivesInt1 (R : ℤ → Option ℤ → Type 0) : Data → Option Data → Type 0 where
-  gives_int : {n a : ℤ} → IsTrue (is_narrow a) → R n (Some a) → GivesInt1 R (number n) (Some (number a))
-  refuses_int : {n : ℤ} → R n None → GivesInt1 R (number n) None
-  refuses_other : {d : Data} → ((n : ℤ) → d ≢ number n) → GivesInt1 R d None
+-- a number within signed 64 bits, as a value
+abbrev pub narrowed : ℤ → Option Data
+narrowed a = cond (is_narrow a) (Some (number a)) None
 
--- The same of two numbers.
-pub data GivesInt2 (R : ℤ → ℤ → Option ℤ → Type 0) : Data → Option Data → Type 0 where
-  gives_ints : {n m a : ℤ} → IsTrue (is_narrow a) → R n m (Some a) → GivesInt2 R (pair (number n) (number m)) (Some (number a))
-  refuses_ints : {n m : ℤ} → R n m None → GivesInt2 R (pair (number n) (number m)) None
-  refuses_others : {d : Data} → ((n m : ℤ) → d ≢ pair (number n) (number m)) → GivesInt2 R d None
+-- A function of one number, on values: it answers numbers alone.
+abbrev pub on_number : (ℤ → Option ℤ) → Data → Option Data
+on_number f d = option_and_then narrowed (option_and_then f (as_number d))
+
+-- A function of two numbers, on values: it answers pairs of numbers alone.
+abbrev pub on_numbers : (ℤ → ℤ → Option ℤ) → Data → Option Data
+on_numbers f d = option_and_then narrowed (option_and_then (λ p. f p.0 p.1) (as_numbers d))

@@ -1,6 +1,7 @@
 -- What registries hold.
-use Rattle.std.specs.Prelude.{◌≡◌, ◌≢◌, ◌≤◌, ◌<◌, List, [], ◌∷◌, map, length, Option, Some, None, string_bytes, ⊤}
+use Rattle.std.specs.Prelude.{◌≡◌, ◌≢◌, ◌≤◌, ◌<◌, List, map, length, Option, Some, None, string_bytes}
 use Rattle.std.specs.Map.{lookup}
+use Rattle.std.specs.Option.{option_and_then}
 use Rattle.std.specs.Str.{bytes_eq}
 use Rattle.sf_value.specs.Values.{Name, Kind, Data, HasKind}
 use Rattle.sf_func.specs.declared.registry.Entry.{Entry}
@@ -13,39 +14,41 @@ pub record FunctionTypes : Type 0 where
   pub from : Kind
   pub to : Kind
 
+abbrev pub types_shown : Kind → Kind → FunctionTypes
+types_shown from to = record { from = from; to = to }
+
 -- the types of functions by name, in the order in which they were added
 abbrev pub TypesByName : Type 0
 TypesByName = List (Name × FunctionTypes)
+
+-- what functions answer, by name: a value, or none where there is no function of the name or it refuses the argument
+abbrev pub AnswersByName : Type 0
+AnswersByName = Name → Data → Option Data
 
 -- the types of the function of that name
 abbrev pub types_named : Name → TypesByName → Option FunctionTypes
 types_named name ts = lookup (bytes_eq name) ts
 
--- on a value of the one type, only a value of the other is given
-abbrev pub KeepsTypes : Kind → Kind → (Data → Option Data → Type 0) → Type 0
-KeepsTypes from to gives = (d a : Data) → HasKind d from → gives d (Some a) → HasKind a to
+-- on a value of the one type, only a value of the other is answered
+abbrev pub KeepsTypes : Kind → Kind → (Data → Option Data) → Type 0
+KeepsTypes from to answers = (d a : Data) → HasKind d from → answers d ≡ Some a → HasKind a to
 
--- P of each element
-abbrev pub each : {A : Type 0} → (A → Type 0) → List A → Type 0
-each P [] = ⊤
-each P (x ∷ xs) = P x × each P xs
+-- each function keeps its types
+abbrev pub KeepTheirTypes : TypesByName → AnswersByName → Type 0
+KeepTheirTypes ts answers = (name : Name) (t : FunctionTypes) → types_named name ts ≡ Some t → KeepsTypes t.from t.to (answers name)
 
-module _ {A B C : Type 0} {F : A → Type 0} {G : B → Type 0} {H : C → Type 0} {m : _} {n : _} where
+module _ {A : Type 0} {F : A → Type 0} where
   -- the types of an entry
-  abbrev pub types_of : Entry A B C F G H m n → FunctionTypes
-  types_of e = record { from = e.from; to = e.to }
+  abbrev pub types_of : Entry A F → FunctionTypes
+  types_of e = types_shown e.from e.to
 
   -- the types of the functions of a registry
-  abbrev pub types_in : Registry A B C F G H m n → TypesByName
+  abbrev pub types_in : Registry A F → TypesByName
   types_in r = map (λ e. (string_bytes e.0, types_of e.1)) r.entries.entries
 
-  -- what the function of a name gives, where this is what each entry gives
-  abbrev pub gives_in : (Entry A B C F G H m n → Data → Option Data → Type 0) → Registry A B C F G H m n → Name → Data → Option Data → Type 0
-  gives_in gives r name d a = (e : Entry A B C F G H m n) × (lookup (λ k. bytes_eq name (string_bytes k)) r.entries.entries ≡ Some e) × gives e d a
-
-  -- each function keeps its types
-  abbrev pub are_typed_in : (Entry A B C F G H m n → Data → Option Data → Type 0) → Registry A B C F G H m n → Type 0
-  are_typed_in gives r = each (λ e. KeepsTypes e.1.from e.1.to (gives e.1)) r.entries.entries
+  -- what the functions of a registry answer, where this is what each entry answers
+  abbrev pub answers_in : (Entry A F → Data → Option Data) → Registry A F → AnswersByName
+  answers_in answers r name d = option_and_then (λ e. answers e d) (lookup (λ k. bytes_eq name (string_bytes k)) r.entries.entries)
 
 -- a function of this name may be added
 abbrev pub HasRoomFor : Name → TypesByName → Type 0

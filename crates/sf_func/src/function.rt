@@ -20,10 +20,10 @@ pub enum FunctionFault {
 
 /// A function that networks call by its name.
 pub trait Function: Drop {
-    // what it may answer to an argument: a value, or none where it refuses it
-    ghost gives: { Self → Data → Option Data → Type 0 };
+    // what it answers to an argument: a value, or none where it refuses it
+    ghost answers: { Self → Data → Option Data };
 
     /// What it answers to an argument. The error is its refusal, or `Memory`.
     fn apply(&self, alloc: Global, value: &Value) -> Result<Value, FunctionFault>
-        ensures { Applied (gives self.now value.now) result };
+        ensures { Applied (answers self.now value.now) result };
 }

@@ -1,13 +1,13 @@
 //! Stored functions.
 #![tactic(auto)]
 
-mod closure;
+mod adapter;
+mod arithmetic;
 mod function;
 mod numbers;
 mod registry;
-mod stored;
 
-pub use closure::{Int1, Int2, OnNumber, OnNumbers};
+pub use adapter::{Int1, Int2, OnNumber, OnNumbers};
+pub use arithmetic::{Absolute, Greatest, Least, Sign};
 pub use function::{Function, FunctionFault};
-pub use registry::{AddRefusal, Entry, HasFunctionTypes, Holds, Registry};
-pub use stored::{Gives, Stored};
+pub use registry::{AddRefusal, Answers, Entry, HasFunctionTypes, Holds, Registry};

@@ -1,11 +1,12 @@
 //! Numbers in values.
-ghost use Rattle.sf_func.specs.Numbers.{IsNumber, IsNumbers};
+ghost use Rattle.std.specs.Prelude.{◌≡◌};
+ghost use Rattle.sf_func.specs.Numbers.{as_number, as_numbers};
 
 use sf_value::{Form, Value};
 
 /// The number that a value is, if it is one.
 pub(crate) fn number_of(value: &Value) -> Option<i64>
-    ensures { IsNumber value.now result }
+    ensures { result ≡ as_number value.now }
 {
     match value.form() {
         Form::Int(n) => Some(*n),
@@ -15,7 +16,7 @@ pub(crate) fn number_of(value: &Value) -> Option<i64>
 
 /// The numbers of which a value is a pair, if it is one of two numbers.
 pub(crate) fn numbers_of(value: &Value) -> Option<(i64, i64)>
-    ensures { IsNumbers value.now result }
+    ensures { result ≡ as_numbers value.now }
 {
     match value.form() {
         Form::Pair(first, second) => Some((number_of(first)?, number_of(second)?)),

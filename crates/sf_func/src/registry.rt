@@ -1,15 +1,11 @@
 //! Functions by name.
-ghost use Rattle.std.specs.Prelude.{◌≡◌, Option, IfSome, OnOk, IfErr, ◌≤◌, [], ◌∷◌, ◌++◌, ◌⊎◌, length};
-ghost use Rattle.std.specs.Option.{option_map};
+ghost use Rattle.std.specs.Prelude.{◌≡◌, ◌≢◌, Option, OnOk, IfErr, [], ◌∷◌, ◌++◌};
+ghost use Rattle.std.specs.Option.{option_map, option_and_then};
 ghost use Rattle.sf_value.specs.Values.{Name, Data};
 ghost use Rattle.sf_func.specs.Meaning.{Applied};
-ghost use Rattle.sf_func.specs.Numbers.{GivesInt1, GivesInt2};
-ghost use Rattle.sf_func.specs.Storing.{gives_by};
-ghost use Rattle.sf_func.specs.Registries.{FunctionTypes, TypesByName, KeepsTypes, types_named, types_of, types_in, gives_in, are_typed_in, HasRoomFor, IsCause};
+ghost use Rattle.sf_func.specs.Registries.{FunctionTypes, TypesByName, AnswersByName, KeepsTypes, KeepTheirTypes, types_shown, types_of, types_in, answers_in, types_named, HasRoomFor, IsCause};
 
-use crate::closure::{OnNumber, OnNumbers};
 use crate::function::{Function, FunctionFault};
-use crate::stored::{Gives, Stored};
 use indexmap::IndexMap;
 use sf_value::{Ty, Value};
 use std::alloc::Global;
@@ -20,7 +16,7 @@ use thiserror::Error;
 pub struct Entry {
     from: Ty,
     to: Ty,
-    function: Stored,
+    function: Box<dyn Function>,
 }
 
 /// Functions by name, at most 256, in the order in which they were added.
@@ -52,27 +48,49 @@ impl HasFunctionTypes for Entry {
     ghost types = { types_of };
 }
 
-impl Gives for Entry {
-    ghost gives = { λ e. gives_by (λ b. (Function-box b).gives b.value) (λ i. GivesInt1 (λ n r. OnNumber.post i.closure n r)) (λ i. GivesInt2 (λ n m r. OnNumbers.post i.closure n m r)) e.function };
+/// What is applied to values.
+pub trait Answers {
+    // what it answers to an argument: a value, or none where it refuses it
+    ghost answers: { Self → Data → Option Data };
+}
+
+impl Answers for Entry {
+    ghost answers = { λ e. (Function-box e.function).answers e.function.value };
 }
 
 /// What holds functions by name.
 pub trait Holds {
     ghost types: { Self → TypesByName };
 
-    // what the function of a name may answer to an argument
-    ghost gives: { Self → Name → Data → Option Data → Type 0 };
+    ghost answers: { Self → AnswersByName };
 
-    // each function keeps its types
-    ghost are_typed: { Self → Type 0 };
+    /// The types of the function of that name: that of its arguments and that of its answers.
+    fn types_of<'r>(&'r self, name: &str) -> Option<(&'r Ty, &'r Ty)>
+        ensures { option_map (λ t. types_shown t.0.now t.1.now) result ≡ types_named name.now (types self.now) };
+
+    /// What the function of that name answers to an argument. It is refused where there is none of that name.
+    fn call(&self, alloc: Global, name: &str, value: &Value) -> Result<Value, FunctionFault>
+        ensures { Applied (answers self.now name.now value.now) result };
 }
 
 impl Holds for Registry {
     ghost types = { types_in };
 
-    ghost gives = { gives_in (λ e. gives_by (λ b. (Function-box b).gives b.value) (λ i. GivesInt1 (λ n r. OnNumber.post i.closure n r)) (λ i. GivesInt2 (λ n m r. OnNumbers.post i.closure n m r)) e.function) };
+    ghost answers = { answers_in (λ e. (Function-box e.function).answers e.function.value) };
 
-    ghost are_typed = { are_typed_in (λ e. gives_by (λ b. (Function-box b).gives b.value) (λ i. GivesInt1 (λ n r. OnNumber.post i.closure n r)) (λ i. GivesInt2 (λ n m r. OnNumbers.post i.closure n m r)) e.function) };
+    fn types_of<'r>(&'r self, name: &str) -> Option<(&'r Ty, &'r Ty)> {
+        match self.find(name) {
+            Some(entry) => Some((entry.from(), entry.to())),
+            None => None,
+        }
+    }
+
+    fn call(&self, alloc: Global, name: &str, value: &Value) -> Result<Value, FunctionFault> {
+        match self.find(name) {
+            Some(entry) => entry.apply(alloc, value),
+            None => Err(FunctionFault::Refused),
+        }
+    }
 }
 
 impl Entry {
@@ -91,7 +109,7 @@ impl Entry {
     }
 
     // The function, without its types.
-    fn into_function(self) -> Stored
+    fn into_function(self) -> Box<dyn Function>
         ensures { result ≡ self.function }
     {
         self.function
@@ -99,7 +117,7 @@ impl Entry {
 
     /// What it answers to an argument. The error is its refusal, or `Memory`.
     pub fn apply(&self, alloc: Global, value: &Value) -> Result<Value, FunctionFault>
-        ensures { Applied (⟦<Entry as Gives>⟧.gives self.now value.now) result }
+        ensures { Applied (⟦<Entry as Answers>⟧.answers self.now value.now) result }
     {
         self.function.apply(alloc, value)
     }
@@ -108,8 +126,8 @@ impl Entry {
 impl Registry {
     /// No functions.
     pub fn new(alloc: Global) -> Registry
-        ensures empty { ⟦<Registry as Holds>⟧.types result ≡ [] }
-        ensures typed { ⟦<Registry as Holds>⟧.are_typed result }
+        ensures types { ⟦<Registry as Holds>⟧.types result ≡ [] }
+        ensures typed { KeepTheirTypes (⟦<Registry as Holds>⟧.types result) (⟦<Registry as Holds>⟧.answers result) }
     {
         Registry {
             entries: IndexMap::new(alloc),
@@ -118,9 +136,8 @@ impl Registry {
 
     /// The function of that name, with its types.
     pub fn find<'r>(&'r self, name: &str) -> Option<&'r Entry>
-        ensures found { option_map (λ e. ⟦<Entry as HasFunctionTypes>⟧.types e.now) result ≡ types_named name.now (⟦<Registry as Holds>⟧.types self.now) }
-        ensures gives { IfSome result (λ e. (d : Data) (a : Option Data) → ⟦<Entry as Gives>⟧.gives e.now d a → ⟦<Registry as Holds>⟧.gives self.now name.now d a) }
-        ensures typed { ⟦<Registry as Holds>⟧.are_typed self.now → IfSome result (λ e. KeepsTypes (⟦<Entry as HasFunctionTypes>⟧.types e.now).from (⟦<Entry as HasFunctionTypes>⟧.types e.now).to (⟦<Entry as Gives>⟧.gives e.now)) }
+        ensures types { option_map (λ e. ⟦<Entry as HasFunctionTypes>⟧.types e.now) result ≡ types_named name.now (⟦<Registry as Holds>⟧.types self.now) }
+        ensures answers { (d : Data) → option_and_then (λ e. ⟦<Entry as Answers>⟧.answers e.now d) result ≡ ⟦<Registry as Holds>⟧.answers self.now name.now d }
     {
         self.entries.get(name)
     }
@@ -133,17 +150,16 @@ impl Registry {
         name: &str,
         from: Ty,
         to: Ty,
-        function: Stored,
-    ) -> Result<(), (AddRefusal, Stored)>
-        requires { KeepsTypes from to (⟦<Stored as Gives>⟧.gives function) }
+        function: Box<dyn Function>,
+    ) -> Result<(), (AddRefusal, Box<dyn Function>)>
+        requires { KeepsTypes from to (answers function) }
         ensures room { OnOk result (HasRoomFor name.now (⟦<Registry as Holds>⟧.types self.old)) }
-        ensures added { let types : FunctionTypes = record { from = from; to = to } in
-            OnOk result (⟦<Registry as Holds>⟧.types self.new ≡ ⟦<Registry as Holds>⟧.types self.old ++ (name.now, types) ∷ []) }
-        ensures gives { OnOk result ((d : Data) (a : Option Data) → ⟦<Stored as Gives>⟧.gives function d a → ⟦<Registry as Holds>⟧.gives self.new name.now d a) }
-        ensures kept { (n : Name) (d : Data) (a : Option Data) → ⟦<Registry as Holds>⟧.gives self.old n d a → ⟦<Registry as Holds>⟧.gives self.new n d a }
-        ensures typed { ⟦<Registry as Holds>⟧.are_typed self.old → ⟦<Registry as Holds>⟧.are_typed self.new }
+        ensures types { OnOk result (⟦<Registry as Holds>⟧.types self.new ≡ ⟦<Registry as Holds>⟧.types self.old ++ (name.now, types_shown from to) ∷ []) }
+        ensures answers { OnOk result ((d : Data) → ⟦<Registry as Holds>⟧.answers self.new name.now d ≡ answers function d) }
+        ensures others { (n : Name) (d : Data) → n ≢ name.now → ⟦<Registry as Holds>⟧.answers self.new n d ≡ ⟦<Registry as Holds>⟧.answers self.old n d }
+        ensures typed { KeepTheirTypes (⟦<Registry as Holds>⟧.types self.old) (⟦<Registry as Holds>⟧.answers self.old) → KeepTheirTypes (⟦<Registry as Holds>⟧.types self.new) (⟦<Registry as Holds>⟧.answers self.new) }
         ensures refused { IfErr result (λ e. (e.1 ≡ function) × IsCause e.0 name.now (⟦<Registry as Holds>⟧.types self.old)) }
-        ensures unchanged { IfErr result (λ e. ⟦<Registry as Holds>⟧.types self.new ≡ ⟦<Registry as Holds>⟧.types self.old) }
+        ensures unchanged { IfErr result (λ e. (⟦<Registry as Holds>⟧.types self.new ≡ ⟦<Registry as Holds>⟧.types self.old) × ((n : Name) (d : Data) → ⟦<Registry as Holds>⟧.answers self.new n d ≡ ⟦<Registry as Holds>⟧.answers self.old n d)) }
     {
         if self.entries.contains_key(name) {
             return Err((AddRefusal::DuplicateName, function));

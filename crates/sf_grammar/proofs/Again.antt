@@ -1,21 +1,25 @@
 -- What is spelled within the limits is read again, whatever follows.
-use Rattle.std.proofs.Common.{◌≡◌, ℕ, zero, suc, ◌+◌, ◌≤◌, Bool, true, false, Option, List, [], ◌∷◌, ◌++◌, refl, ◌∙◌, ap, append_assoc, arith}
+use Rattle.std.proofs.Common.{◌≡◌, ℕ, zero, suc, ◌+◌, ◌≤◌, Bool, true, false, Option, Some, List, [], ◌∷◌, ◌++◌, refl, ◌∙◌, ap, append_assoc, arith}
 use Rattle.sf_value.specs.Values.{KeyKind, Kind, unit_kind, bool_kind, int_kind, text_kind, pair_kind, event_kind, table_kind, nodes}
-use Rattle.sf_expr.specs.Expressions.{Pattern, unnamed, named, both, pattern_depth, Literal, unit_literal, truth_literal, int_literal, text_literal, none_literal, Expression, variable, literal, paired, applied, operation, conditional, depth as expression_depth, size, Function, function, function_depth, function_size}
+use Rattle.sf_expr.specs.Expressions.{Pattern, unnamed, named, both, pattern_depth, Literal, unit_literal, truth_literal, int_literal, text_literal, none_literal, Expression, variable, literal, paired, applied, operation, conditional, mapped, folded, depth as expression_depth, size, Function, function, function_depth, function_size}
 use Rattle.sf_operator.specs.declared.operator.Unary.{Unary}
 use Rattle.sf_operator.specs.declared.operator.Operator.{Operator}
+use Rattle.sf_operator.specs.declared.operator.Mapping.{Mapping}
+use Rattle.sf_operator.specs.declared.operator.Mapping.TheVariants as mappings
+use Rattle.sf_operator.specs.declared.operator.Folding.{Folding}
 use Rattle.sf_term.specs.Trees.{bare, with_value, arrow, fused, Term, primitive, joined, sided, headed, staged, Template, term_depth, terms_in, expressions_in}
 use Rattle.sf_lex.specs.declared.word.Keyword.TheVariants as words
 use Rattle.sf_lex.specs.declared.symbol.Symbol.TheVariants as symbols
 use Rattle.sf_lex.specs.Tokens.{Tok, keyword, name, number, text, symbol}
 use Rattle.sf_grammar.specs.declared.ty.Version.{Version}
 use Rattle.sf_grammar.specs.declared.head.Head.TheVariants as heads
+use Rattle.sf_grammar.specs.declared.head.ExpressionHead.TheVariants as expression_heads
 use Rattle.sf_grammar.specs.declared.head.Link.{Link}
 use Rattle.sf_grammar.specs.declared.head.Link.TheVariants as links
-use Rattle.sf_grammar.specs.Spelling.{unary_word, takes_brackets, operator_token, stands_between, spell_operand, spell_operands, spell_choice, spell_keys, spell_type, spell_pattern, spell_literal, spell_expression, spell_function, spell_term, spell_signature, spell_template, bare_word, value_word, side_word, heading_word, join_symbol, in_brackets, type_depth, WritesType, WritesExpression, WritesFunction, WritesTerm, HasWrittenTypes}
-use Rattle.sf_grammar.specs.Reading.{Read, got, ◌and_then◌, Counts, counts_with, counts_with_expression, parse_symbol, parse_keys, parse_outer_type, parse_inner_type, parse_pair_type, parse_pattern, parse_pattern_pair, parse_link, linked, parse_linked, bracketed_from, parse_none, parse_prefixed, parse_one_in_brackets, parse_two_in_brackets, parse_conditional, parse_expression, expression_read, parse_function, parse_join, parse_term, term_read, parse_joined, parse_value, parse_arrow, parse_sided, parse_headed, parse_heading, parse_signature, parse_template}
-use Rattle.sf_grammar.proofs.Words.{head_again, join_again, link_again, link_token, LinksBetween, unary_again, IsInFront, operator_again, keys_again, no_close}
-use Rattle.sf_grammar.proofs.Parts.{within, type_within, brackets_behind, choice_behind, parts_again}
+use Rattle.sf_grammar.specs.Spelling.{unary_word, takes_brackets, operator_token, stands_between, mapping_word, maps_in_brackets, folding_word, spell_operand, spell_operands, spell_choice, spell_mapped, spell_folded, spell_keys, spell_type, spell_pattern, spell_literal, spell_expression, spell_function, spell_term, spell_signature, spell_template, bare_word, value_word, side_word, heading_word, join_symbol, in_brackets, type_depth, WritesType, WritesExpression, WritesFunction, WritesTerm, HasWrittenTypes}
+use Rattle.sf_grammar.specs.Reading.{Read, got, ◌and_then◌, Counts, counts_with, counts_with_expression, parse_symbol, parse_keys, parse_outer_type, parse_inner_type, parse_pair_type, parse_pattern, parse_pattern_pair, parse_link, linked, parse_linked, bracketed_from, parse_none, parse_prefixed, parse_one_in_brackets, parse_two_in_brackets, parse_conditional, parse_mapping, parse_let, parse_one_and_function, parse_two_and_function, expression_head, parse_expression, expression_read, parse_function, parse_join, parse_term, term_read, parse_joined, parse_value, parse_arrow, parse_sided, parse_headed, parse_heading, parse_signature, parse_template}
+use Rattle.sf_grammar.proofs.Words.{head_again, join_again, link_again, link_token, LinksBetween, unary_again, IsInFront, operator_again, folding_again, keys_again, no_close}
+use Rattle.sf_grammar.proofs.Parts.{within, type_within, brackets_behind, three_behind, parts_again}
 
 -- a type that is made of one part
 outer_type_again : (v : Version) (t : Kind) (d : ℕ) (start : List Tok) (whole : Kind → Kind) (met : ℕ) (rest : List Tok) → parse_inner_type d v start (met + 1) (spell_type v t ++ rest) ≡ got t rest
@@ -132,9 +136,66 @@ unfolding parse_expression parse_conditional
 conditional_again v e f g d c rest one two three few =
     let third : List Tok = keyword words.Else ∷ (spell_expression v g ++ rest) in
     let second : List Tok = keyword words.Then ∷ (spell_expression v f ++ third) in
-    ap (λ (r : List Tok). parse_expression (suc d) v c r) (choice_behind (spell_expression v e) (spell_expression v f) (spell_expression v g) rest)
+    ap (λ (r : List Tok). parse_expression (suc d) v c (keyword words.If ∷ r)) (three_behind (spell_expression v e) (spell_expression v f) (spell_expression v g) rest (keyword words.Then) (keyword words.Else))
     ∙ rw (one second, two third, three rest)
     (within (c.expressions + size (conditional e f g)) (conditional e f g) (keyword words.If ∷ (spell_expression v e ++ second)) rest few)
+
+-- a function whose body is read again
+mapping_again : (v : Version) (p : Pattern) (e : Expression) (d : ℕ) (c : Counts) (rest : List Tok) → pattern_depth p ≤ d → ((rest : List Tok) → parse_expression d v c (spell_expression v e ++ rest) ≡ got e rest)
+    → parse_mapping d (parse_expression d v) c (spell_function v (function p e) ++ rest) ≡ got (function p e) rest
+mapping_again v p e d c rest deep part =
+    rw (append_assoc (spell_pattern p) (symbol symbols.MapsTo ∷ spell_expression v e) rest, pattern_again p d (symbol symbols.MapsTo ∷ (spell_expression v e ++ rest)) deep, part rest) refl
+
+-- a value and a function in brackets
+one_and_function_again : (v : Version) (m : Mapping) (e : Expression) (p : Pattern) (f : Expression) (d : ℕ) (c : Counts) (rest : List Tok)
+    → expression_head (mapping_word m) ≡ Some (expression_heads.OneAndFunction m) → maps_in_brackets m ≡ true → pattern_depth p ≤ d
+    → ((rest : List Tok) → parse_expression d v c (spell_expression v e ++ rest) ≡ got e rest)
+    → ((rest : List Tok) → parse_expression d v (counts_with_expression c e) (spell_expression v f ++ rest) ≡ got f rest)
+    → c.expressions + size (mapped e m p f) ≤ 100000
+    → parse_expression (suc d) v c (spell_mapped m (spell_expression v e) (spell_pattern p) (spell_expression v f) ++ rest) ≡ got (mapped e m p f) rest
+unfolding parse_expression parse_one_and_function
+one_and_function_again v m e p f d c rest head is deep one two few =
+    let function_tokens : List Tok = spell_function v (function p f) in
+    let behind : List Tok = symbol symbols.Comma ∷ (function_tokens ++ (symbol symbols.Close ∷ rest)) in
+    rw (is, brackets_behind (spell_expression v e) function_tokens rest (symbol symbols.Comma), head, one behind, mapping_again v p f d (counts_with_expression c e) (symbol symbols.Close ∷ rest) deep two)
+    (within (c.expressions + size (mapped e m p f)) (mapped e m p f) (keyword (mapping_word m) ∷ symbol symbols.Open ∷ (spell_expression v e ++ behind)) rest few)
+
+-- a value and a function, by the form's word
+mapped_again : (v : Version) (m : Mapping) (e : Expression) (p : Pattern) (f : Expression) (d : ℕ) (c : Counts) (rest : List Tok) → pattern_depth p ≤ d
+    → ((rest : List Tok) → parse_expression d v c (spell_expression v e ++ rest) ≡ got e rest)
+    → ((rest : List Tok) → parse_expression d v (counts_with_expression c e) (spell_expression v f ++ rest) ≡ got f rest)
+    → c.expressions + size (mapped e m p f) ≤ 100000
+    → parse_expression (suc d) v c (spell_mapped m (spell_expression v e) (spell_pattern p) (spell_expression v f) ++ rest) ≡ got (mapped e m p f) rest
+unfolding parse_expression parse_let
+mapped_again v mappings.Let e p f d c rest deep one two few =
+    let second : List Tok = keyword words.In ∷ (spell_expression v f ++ rest) in
+    let first : List Tok = symbol symbols.Equals ∷ (spell_expression v e ++ second) in
+    ap (λ (r : List Tok). parse_expression (suc d) v c (keyword words.Let ∷ r)) (three_behind (spell_pattern p) (spell_expression v e) (spell_expression v f) rest (symbol symbols.Equals) (keyword words.In))
+    ∙ rw (pattern_again p d first deep, one second, two rest) (within (c.expressions + size (mapped e mappings.Let p f)) (mapped e mappings.Let p f) (keyword words.Let ∷ (spell_pattern p ++ first)) rest few)
+mapped_again v mappings.Filter e p f d c rest deep one two few = one_and_function_again v mappings.Filter e p f d c rest refl refl deep one two few
+mapped_again v mappings.Map e p f d c rest deep one two few = one_and_function_again v mappings.Map e p f d c rest refl refl deep one two few
+
+-- two values and a function in brackets
+folded_again : (v : Version) (o : Folding) (e f : Expression) (p : Pattern) (g : Expression) (d : ℕ) (c : Counts) (rest : List Tok) → pattern_depth p ≤ d
+    → ((rest : List Tok) → parse_expression d v c (spell_expression v e ++ rest) ≡ got e rest)
+    → ((rest : List Tok) → parse_expression d v (counts_with_expression c e) (spell_expression v f ++ rest) ≡ got f rest)
+    → ((rest : List Tok) → parse_expression d v (counts_with_expression (counts_with_expression c e) f) (spell_expression v g ++ rest) ≡ got g rest)
+    → c.expressions + size (folded e o f p g) ≤ 100000
+    → parse_expression (suc d) v c (spell_folded o (spell_expression v e) (spell_expression v f) (spell_pattern p) (spell_expression v g) ++ rest) ≡ got (folded e o f p g) rest
+unfolding parse_expression parse_two_and_function
+folded_again v o e f p g d c rest deep one two three few =
+    let function_tokens : List Tok = spell_function v (function p g) in
+    let closing : List Tok = symbol symbols.Close ∷ rest in
+    let second : List Tok = symbol symbols.Comma ∷ (function_tokens ++ closing) in
+    let first : List Tok = symbol symbols.Comma ∷ (spell_expression v f ++ second) in
+    rw (
+      brackets_behind (spell_expression v e) (spell_expression v f ++ (symbol symbols.Comma ∷ function_tokens)) rest (symbol symbols.Comma),
+      append_assoc (spell_expression v f) (symbol symbols.Comma ∷ function_tokens) closing,
+      folding_again o,
+      one first,
+      two second,
+      mapping_again v p g d (counts_with_expression (counts_with_expression c e) f) closing deep three,
+    ) (within (c.expressions + size (folded e o f p g)) (folded e o f p g) (keyword (folding_word o) ∷ symbol symbols.Open ∷ (spell_expression v e ++ first)) rest few)
 
 -- a literal
 literal_again : (v : Version) (l : Literal) (d : ℕ) (c : Counts) (rest : List Tok) → c.expressions + 1 ≤ 100000 → WritesExpression v (suc d) (literal l)
@@ -158,6 +219,8 @@ expression_again v (paired e f) zero c rest deep few known = absurd (omega arith
 expression_again v (applied o e) zero c rest deep few known = absurd (omega arith)
 expression_again v (operation e o f) zero c rest deep few known = absurd (omega arith)
 expression_again v (conditional e f g) zero c rest deep few known = absurd (omega arith)
+expression_again v (mapped e m p f) zero c rest deep few known = absurd (omega arith)
+expression_again v (folded e o f p g) zero c rest deep few known = absurd (omega arith)
 expression_again v (variable n) (suc d) c rest deep few known = within (c.expressions + 1) (variable n) (name n ∷ rest) rest few
 expression_again v (literal l) (suc d) c rest deep few known = literal_again v l d c rest few known
 expression_again v (paired e f) (suc d) c rest deep few known =
@@ -172,16 +235,18 @@ expression_again v (conditional e f g) (suc d) c rest deep few known =
     conditional_again v e f g d c rest (λ rest. expression_again v e d c rest (omega arith) (omega arith) known.0)
     (λ rest. expression_again v f d (counts_with_expression c e) rest (omega arith) (omega arith) known.1)
     (λ rest. expression_again v g d (counts_with_expression (counts_with_expression c e) f) rest (omega arith) (omega arith) known.2) few
+expression_again v (mapped e m p f) (suc d) c rest deep few known =
+    mapped_again v m e p f d c rest (omega arith) (λ rest. expression_again v e d c rest (omega arith) (omega arith) known.0)
+    (λ rest. expression_again v f d (counts_with_expression c e) rest (omega arith) (omega arith) known.1) few
+expression_again v (folded e o f p g) (suc d) c rest deep few known =
+    folded_again v o e f p g d c rest (omega arith) (λ rest. expression_again v e d c rest (omega arith) (omega arith) known.0)
+    (λ rest. expression_again v f d (counts_with_expression c e) rest (omega arith) (omega arith) known.1)
+    (λ rest. expression_again v g d (counts_with_expression (counts_with_expression c e) f) rest (omega arith) (omega arith) known.2) few
 
 pub function_again : (v : Version) (f : Function) (d : ℕ) (c : Counts) (rest : List Tok) → function_depth f ≤ d → c.expressions + function_size f ≤ 100000 → WritesFunction v d f
     → parse_function d v c (spell_function v f ++ rest) ≡ got f rest
 unfolding parse_function
-function_again v (function p e) d c rest deep few known =
-    rw (
-      append_assoc (spell_pattern p) (symbol symbols.MapsTo ∷ spell_expression v e) rest,
-      pattern_again p d (symbol symbols.MapsTo ∷ (spell_expression v e ++ rest)) (omega arith),
-      expression_again v e d c rest (omega arith) few known,
-    ) refl
+function_again v (function p e) d c rest deep few known = mapping_again v p e d c rest (omega arith) (λ rest. expression_again v e d c rest (omega arith) few known)
 
 pub term_again : (v : Version) (t : Term) (d : ℕ) (c : Counts) (rest : List Tok) → d ≤ 64 → term_depth t ≤ d → c.terms + terms_in t ≤ 100000 → c.expressions + expressions_in t ≤ 100000 → WritesTerm v d t
     → parse_term d v c (spell_term v t ++ rest) ≡ got t rest

@@ -3,27 +3,31 @@ use Rattle.std.proofs.Common.{◌≡◌, suc, true, false, List, [], ◌∷◌, 
 use Rattle.std.proofs.lemmas.List.{length-append}
 use Rattle.sf_operator.specs.declared.operator.Unary.{Unary}
 use Rattle.sf_operator.specs.declared.operator.Operator.{Operator}
+use Rattle.sf_operator.specs.declared.operator.Mapping.{Mapping}
+use Rattle.sf_operator.specs.declared.operator.Mapping.TheVariants as mappings
+use Rattle.sf_operator.specs.declared.operator.Folding.{Folding}
 use Rattle.sf_expr.specs.declared.exprs.ExprId.{ExprId}
 use Rattle.sf_expr.specs.declared.exprs.NameId.{NameId}
 use Rattle.sf_expr.specs.declared.exprs.FunctionId.{FunctionId}
+use Rattle.sf_expr.specs.declared.exprs.PatternId.{PatternId}
 use Rattle.sf_expr.specs.declared.exprs.ExprNode.TheVariants as expressions
 use Rattle.sf_expr.specs.Patterns.{PlacedPattern, pattern_of}
-use Rattle.sf_expr.specs.Expressions.{variable, literal, unit_literal, truth_literal, int_literal, paired, applied, operation, conditional}
+use Rattle.sf_expr.specs.Expressions.{variable, literal, unit_literal, truth_literal, int_literal, paired, applied, operation, conditional, mapped, folded}
 use Rattle.sf_expr.specs.Arena.{name_at}
 use Rattle.sf_expr.proofs.Entered.{node_builds as expression_builds}
-use Rattle.sf_expr.proofs.Typed.{is_unit, is_truth, is_int, is_name, is_pair, is_applied, is_operation, is_conditional}
+use Rattle.sf_expr.proofs.Typed.{is_unit, is_truth, is_int, is_name, is_pair, is_applied, is_operation, is_conditional, is_mapped, is_folded}
 use Rattle.sf_term.specs.declared.node.TermId.{TermId}
 use Rattle.sf_term.specs.declared.program.Program.{Program}
 use Rattle.sf_term.specs.Headers.{Header}
-use Rattle.sf_term.specs.Arena.{expressions_of, expression_under, expression_node_at, function_in, tree, template_in}
+use Rattle.sf_term.specs.Arena.{expressions_of, expression_under, expression_node_at, pattern_under, function_in, tree, template_in}
 use Rattle.sf_term.proofs.Kept.{node_builds}
 use Rattle.sf_lex.specs.declared.word.Keyword.TheVariants as words
 use Rattle.sf_lex.specs.declared.symbol.Symbol.TheVariants as symbols
 use Rattle.sf_refusal.specs.declared.spot.Spot.{Spot}
 use Rattle.sf_lex.specs.Tokens.{Tok, keyword, symbol}
 use Rattle.sf_grammar.specs.declared.ty.Version.{Version}
-use Rattle.sf_grammar.specs.Spelling.{in_brackets, operator_token, join_symbol, spell_pattern, spell_expression, spell_function, spell_term, spell_heading, spell_signature, spell_template}
-use Rattle.sf_grammar.specs.Placing.{around, PatternPlaced, unnamed_placed, name_placed, both_placed, ExpressionPlaced, unit_placed, truth_placed, number_placed, constant_placed, variable_placed, pair_placed, prefixed_placed, one_in_brackets_placed, operation_placed, two_in_brackets_placed, conditional_placed, FunctionPlaced, function_placed, TermPlaced, bare_placed, with_value_placed, arrow_placed, joined_placed, sided_placed, headed_placed, TemplatePlaced}
+use Rattle.sf_grammar.specs.Spelling.{in_brackets, operator_token, join_symbol, spell_mapping, spell_pattern, spell_expression, spell_function, spell_term, spell_heading, spell_signature, spell_template}
+use Rattle.sf_grammar.specs.Placing.{around, PatternPlaced, unnamed_placed, name_placed, both_placed, ExpressionPlaced, unit_placed, truth_placed, number_placed, constant_placed, variable_placed, pair_placed, prefixed_placed, one_in_brackets_placed, operation_placed, two_in_brackets_placed, conditional_placed, let_placed, one_and_function_placed, two_and_function_placed, FunctionPlaced, function_placed, TermPlaced, bare_placed, with_value_placed, arrow_placed, joined_placed, sided_placed, headed_placed, TemplatePlaced}
 
 around_counted : (xs ys : List Spot) (us vs : List Tok) (opening between closing : Spot) (t : Tok) → length xs ≡ length us → length ys ≡ length vs → length (around opening xs between ys closing) ≡ length (in_brackets us t vs)
 around_counted xs ys us vs opening between closing t one two =
@@ -67,6 +71,16 @@ conditional_is : (p : Program) (e a b c : ExprId) → expression_node_at p e ≡
 unfolding expressions_of expression_under expression_node_at
 conditional_is p e a b c is = is_conditional (expression_builds (expressions_of p) e _ is)
 
+mapped_is : (p : Program) (e a b : ExprId) (m : Mapping) (q : PatternId) → expression_node_at p e ≡ expressions.Mapped a m q b
+    → expression_under p e ≡ mapped (expression_under p a) m (pattern_of (pattern_under p q)) (expression_under p b)
+unfolding expressions_of expression_under expression_node_at pattern_under
+mapped_is p e a b m q is = is_mapped (expression_builds (expressions_of p) e _ is)
+
+folded_is : (p : Program) (e a b c : ExprId) (o : Folding) (q : PatternId) → expression_node_at p e ≡ expressions.Folded a o b q c
+    → expression_under p e ≡ folded (expression_under p a) o (expression_under p b) (pattern_of (pattern_under p q)) (expression_under p c)
+unfolding expressions_of expression_under expression_node_at pattern_under
+folded_is p e a b c o q is = is_folded (expression_builds (expressions_of p) e _ is)
+
 -- a part with a place or a token in front of each other
 between_counted : (xs ys : List Spot) (us vs : List Tok) (between : Spot) (t : Tok) → length xs ≡ length us → length ys ≡ length vs → length (xs ++ (between ∷ ys)) ≡ length (us ++ (t ∷ vs))
 between_counted xs ys us vs between t one two = omega (arith, length-append xs (between ∷ ys), length-append us (t ∷ vs))
@@ -94,6 +108,26 @@ expression_counted v p e xs (conditional_placed {a = a} {b = b} {c = c} {xs = us
     rw (conditional_is p e a b c s.node)
     (ap suc (between_counted us (vs ++ (else_at ∷ ws)) (spell_expression v (expression_under p a)) (second ++ (keyword words.Else ∷ third)) then_at (keyword words.Then) (expression_counted v p a us one)
     (between_counted vs ws second third else_at (keyword words.Else) (expression_counted v p b vs two) (expression_counted v p c ws three))))
+expression_counted v p e xs (let_placed {a = a} {b = b} {q = q} {ps = ps} {xs = us} {ys = vs} equals in_at s pattern one two) =
+    let value : List Tok = spell_expression v (expression_under p a) in
+    let body : List Tok = spell_expression v (expression_under p b) in
+    rw (mapped_is p e a b mappings.Let q s.node)
+    (ap suc (between_counted ps (us ++ (in_at ∷ vs)) (spell_pattern (pattern_of (pattern_under p q))) (value ++ (keyword words.In ∷ body)) equals (symbol symbols.Equals) (pattern_counted (pattern_under p q) ps pattern.placed)
+    (between_counted us vs value body in_at (keyword words.In) (expression_counted v p a us one) (expression_counted v p b vs two))))
+expression_counted v p e xs (one_and_function_placed {a = a} {b = b} {m = m} {q = q} {xs = us} {ps = ps} {ys = vs} opening comma leads closing brackets s one pattern two) =
+    let names : List Tok = spell_pattern (pattern_of (pattern_under p q)) in
+    let body : List Tok = spell_expression v (expression_under p b) in
+    rw (mapped_is p e a b m q s.node, brackets)
+    (ap suc (around_counted us (ps ++ (leads ∷ vs)) (spell_expression v (expression_under p a)) (spell_mapping names body) opening comma closing (symbol symbols.Comma) (expression_counted v p a us one)
+    (between_counted ps vs names body leads (symbol symbols.MapsTo) (pattern_counted (pattern_under p q) ps pattern.placed) (expression_counted v p b vs two))))
+expression_counted v p e xs (two_and_function_placed {a = a} {b = b} {c = c} {o = o} {q = q} {xs = us} {ys = vs} {ps = ps} {zs = ws} opening comma second leads closing s one two pattern three) =
+    let names : List Tok = spell_pattern (pattern_of (pattern_under p q)) in
+    let value : List Tok = spell_expression v (expression_under p b) in
+    let body : List Tok = spell_expression v (expression_under p c) in
+    rw (folded_is p e a b c o q s.node)
+    (ap suc (around_counted us (vs ++ (second ∷ (ps ++ (leads ∷ ws)))) (spell_expression v (expression_under p a)) (value ++ (symbol symbols.Comma ∷ spell_mapping names body)) opening comma closing (symbol symbols.Comma)
+    (expression_counted v p a us one) (between_counted vs (ps ++ (leads ∷ ws)) value (spell_mapping names body) second (symbol symbols.Comma) (expression_counted v p b vs two)
+    (between_counted ps ws names body leads (symbol symbols.MapsTo) (pattern_counted (pattern_under p q) ps pattern.placed) (expression_counted v p c ws three)))))
 
 function_counted : (v : Version) (p : Program) (f : FunctionId) (xs : List Spot) → FunctionPlaced v p f xs → length xs ≡ length (spell_function v (function_in p f))
 function_counted v p f xs (function_placed {xs = us} {ys = vs} leads held pattern body) =

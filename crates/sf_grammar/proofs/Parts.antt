@@ -17,7 +17,7 @@ use Rattle.sf_value.specs.Values.{KeyKind, int_keys, text_keys}
 use Rattle.sf_grammar.specs.declared.ty.Version.{Version}
 use Rattle.sf_grammar.specs.declared.ty.Version.TheVariants as versions
 use Rattle.sf_lex.specs.declared.word.Keyword.TheVariants as words
-use Rattle.sf_grammar.specs.Spelling.{in_brackets, spell_choice, version_number, spell_keys, WritesKeys}
+use Rattle.sf_grammar.specs.Spelling.{in_brackets, version_number, spell_keys, WritesKeys}
 use Rattle.sf_grammar.specs.Reading.{Read, got, stop, ◌and_then◌, parse_symbol, parse_keyword, parse_name, parse_version, parse_keys, too_deep, type_met, parse_parts}
 
 -- what was got, and the tokens behind it
@@ -122,9 +122,9 @@ met_takes met start read k rest e then_p = met_if (nat_lt met 256) start read k 
 pub brackets_behind : (xs ys rest : List Tok) (m : Tok) → (xs ++ (m ∷ (ys ++ (symbol symbols.Close ∷ [])))) ++ rest ≡ xs ++ (m ∷ (ys ++ (symbol symbols.Close ∷ rest)))
 brackets_behind xs ys rest m = rw (append_assoc xs (m ∷ (ys ++ (symbol symbols.Close ∷ []))) rest, append_assoc ys (symbol symbols.Close ∷ []) rest) refl
 
--- three parts with words between them, and what is behind them
-pub choice_behind : (xs ys zs rest : List Tok) → spell_choice xs ys zs ++ rest ≡ keyword words.If ∷ (xs ++ (keyword words.Then ∷ (ys ++ (keyword words.Else ∷ (zs ++ rest)))))
-choice_behind xs ys zs rest = rw (append_assoc xs (keyword words.Then ∷ (ys ++ (keyword words.Else ∷ zs))) rest, append_assoc ys (keyword words.Else ∷ zs) rest) refl
+-- three parts with tokens between them, and what is behind them
+pub three_behind : (xs ys zs rest : List Tok) (s t : Tok) → (xs ++ (s ∷ (ys ++ (t ∷ zs)))) ++ rest ≡ xs ++ (s ∷ (ys ++ (t ∷ (zs ++ rest))))
+three_behind xs ys zs rest s t = rw (append_assoc xs (s ∷ (ys ++ (t ∷ zs))) rest, append_assoc ys (t ∷ zs) rest) refl
 
 -- parts that are read again are the parts of a whole
 pub parts_again : {A M B C : Type 0} (one : List Tok → Read A) (between : List Tok → Read M) (two : A → List Tok → Read B) (whole : A → M → B → List Tok → Read C)

@@ -1,9 +1,12 @@
 -- What is read is spelled so, within the limits.
 use Rattle.std.proofs.Common.{◌≡◌, ℕ, zero, suc, ◌+◌, ◌<◌, ◌≤◌, true, false, pos, List, [], ◌∷◌, ◌++◌, Option, Some, None, refl, sym, ◌∙◌, ap, subst, append_assoc, arith}
 use Rattle.sf_value.specs.Values.{Name, Kind, pair_kind, event_kind, table_kind, nodes}
-use Rattle.sf_expr.specs.Expressions.{Pattern, unnamed, named, both, pattern_depth, unit_literal, truth_literal, int_literal, text_literal, none_literal, Expression, variable, literal, applied, operation, conditional, depth as expression_depth, size, Function, function, function_depth, function_size}
+use Rattle.sf_expr.specs.Expressions.{Pattern, unnamed, named, both, pattern_depth, unit_literal, truth_literal, int_literal, text_literal, none_literal, Expression, variable, literal, applied, operation, conditional, mapped, depth as expression_depth, size, Function, function, function_depth, function_size}
 use Rattle.sf_operator.specs.declared.operator.Unary.{Unary}
 use Rattle.sf_operator.specs.declared.operator.Operator.{Operator}
+use Rattle.sf_operator.specs.declared.operator.Mapping.{Mapping}
+use Rattle.sf_operator.specs.declared.operator.Mapping.TheVariants as mappings
+use Rattle.sf_operator.specs.declared.operator.Folding.{Folding}
 use Rattle.sf_term.specs.declared.form.WithValue.{WithValue}
 use Rattle.sf_term.specs.declared.form.Join.{Join}
 use Rattle.sf_term.specs.declared.form.Side.{Side}
@@ -23,10 +26,10 @@ use Rattle.sf_grammar.specs.declared.head.ExpressionHead.{ExpressionHead}
 use Rattle.sf_grammar.specs.declared.head.ExpressionHead.TheVariants as expression_heads
 use Rattle.sf_grammar.specs.declared.head.Link.{Link}
 use Rattle.sf_grammar.specs.declared.head.Link.TheVariants as links
-use Rattle.sf_grammar.specs.Spelling.{version_number, spell_keys, spell_type, spell_pattern, spell_expression, spell_function, spell_term, spell_signature, spell_template, bare_word, value_word, side_word, heading_word, join_symbol, type_depth, WritesType, IsWrittenType, WritesExpression, WritesFunction, WritesTerm, HasWrittenTypes}
-use Rattle.sf_grammar.specs.Reading.{Read, got, ◌and_then◌, Counts, counts_with, counts_with_expression, begins_type, begins_pattern, begins_expression, begins_term, type_head, word_kind, parse_keys, parse_outer_type, parse_headed_type, type_from, parse_inner_type, parse_pair_type, parse_pattern, parse_pattern_pair, link_of, link_from, parse_link, linked, parse_linked, behind_close, bracketed_from, parse_none, expression_head, parse_prefixed, parse_one_in_brackets, parse_two_in_brackets, parse_conditional, parse_worded_expression, parse_expression, expression_read, parse_function, parse_term, parse_joined, parse_value, parse_arrow, parse_sided, parse_headed, parse_worded, head_of, join_of, parse_join, join_from, term_read, parse_parts, parse_opening, parse_heading, parse_signature, parse_template, template_of, parse_symbol, parse_name, parse_type, parse_keyword, parse_version}
+use Rattle.sf_grammar.specs.Spelling.{version_number, mapping_word, folding_word, spell_keys, spell_type, spell_pattern, spell_expression, spell_function, spell_term, spell_signature, spell_template, bare_word, value_word, side_word, heading_word, join_symbol, type_depth, WritesType, IsWrittenType, WritesExpression, WritesFunction, WritesTerm, HasWrittenTypes}
+use Rattle.sf_grammar.specs.Reading.{Read, got, ◌and_then◌, Counts, counts_with, counts_with_expression, begins_type, begins_pattern, begins_expression, begins_term, type_head, word_kind, parse_keys, parse_outer_type, parse_headed_type, type_from, parse_inner_type, parse_pair_type, parse_pattern, parse_pattern_pair, link_of, link_from, parse_link, linked, parse_linked, behind_close, bracketed_from, parse_none, expression_head, parse_prefixed, parse_one_in_brackets, parse_two_in_brackets, parse_conditional, parse_mapping, parse_let, mapped_by, folded_by, parse_one_and_function, parse_two_and_function, parse_worded_expression, parse_expression, expression_read, parse_function, parse_term, parse_joined, parse_value, parse_arrow, parse_sided, parse_headed, parse_worded, head_of, join_of, parse_join, join_from, term_read, parse_parts, parse_opening, parse_heading, parse_signature, parse_template, template_of, parse_symbol, parse_name, parse_type, parse_keyword, parse_version}
 use Rattle.sf_grammar.proofs.Words.{head_takes, join_takes, link_token, LinksBetween, IsLinkToken, link_takes, BeginsWith, expression_head_takes, type_word, type_token, type_head_takes, IsWordKind, word_kind_is, close_takes}
-use Rattle.sf_grammar.proofs.Parts.{Same, bind_got, got_same, within_takes, deep_takes, met_takes, parts_takes, brackets_took, choice_behind, symbol_takes, keyword_takes, name_takes, version_takes, TookKeys, keys_takes}
+use Rattle.sf_grammar.proofs.Parts.{Same, bind_got, got_same, within_takes, deep_takes, met_takes, parts_takes, brackets_took, three_behind, symbol_takes, keyword_takes, name_takes, version_takes, TookKeys, keys_takes}
 
 pub record TookType (v : Version) (d met : ℕ) (tokens : List Tok) (k : Kind) (rest : List Tok) : Type 0 where
   pub spelled : tokens ≡ spell_type v k ++ rest
@@ -301,12 +304,123 @@ conditional_takes v d c k tokens e rest part word is =
         two.spelled,
         keyword_takes words.Else r3 w r4 else_word,
         three.spelled,
-        choice_behind (spell_expression v f) (spell_expression v g) (spell_expression v h) r5,
+        three_behind (spell_expression v f) (spell_expression v g) (spell_expression v h) r5 (keyword words.Then) (keyword words.Else),
       ) refl;
       shallow = omega (arith, one.shallow, two.shallow, three.shallow);
       few = few;
       known = (one.known, two.known, three.known);
     })))))))
+
+pub record TookFunction (v : Version) (d : ℕ) (c : Counts) (tokens : List Tok) (f : Function) (rest : List Tok) : Type 0 where
+  pub spelled : tokens ≡ spell_function v f ++ rest
+  pub shallow : function_depth f ≤ d
+  pub few : c.expressions + function_size f ≤ 100000
+  pub known : WritesFunction v d f
+
+mapping_takes : (v : Version) (d : ℕ) (c : Counts) (tokens : List Tok) (f : Function) (rest : List Tok) → TakesExpressions v d → parse_mapping d (parse_expression d v) c tokens ≡ got f rest → TookFunction v d c tokens f rest
+mapping_takes v d c tokens f rest part is =
+    bind_got (λ p r. parse_symbol symbols.MapsTo r and_then λ _ r. parse_expression d v c r and_then λ e r. got (function p e) r) (parse_pattern d tokens) f rest is (λ p r1 at_p is_p.
+    bind_got (λ _ r. parse_expression d v c r and_then λ e r. got (function p e) r) (parse_symbol symbols.MapsTo r1) f rest is_p (λ u r2 leads is_u.
+    bind_got (λ e r. got (function p e) r) (parse_expression d v c r2) f rest is_u (λ e r3 at_e is_e.
+    let one : TookPattern d tokens p r1 = pattern_takes d tokens p r1 at_p in
+    let two : TookExpression v d c r2 e r3 = part c r2 e r3 at_e in
+    let same : Same (function p e) f r3 rest = got_same (function p e) f r3 rest is_e in
+    let took : TookFunction v d c tokens (function p e) r3 = record {
+      spelled = rw (one.spelled, symbol_takes symbols.MapsTo r1 u r2 leads, two.spelled, append_assoc (spell_pattern p) (symbol symbols.MapsTo ∷ spell_expression v e) r3) refl;
+      shallow = omega (arith, one.shallow, two.shallow);
+      few = two.few;
+      known = two.known;
+    } in
+    subst (λ (f : Function). TookFunction v d c tokens f rest) same.value (subst (λ (r : List Tok). TookFunction v d c tokens (function p e) r) same.rest took))))
+
+-- a pattern, the value that it names, and a body
+let_takes : (v : Version) (d : ℕ) (c : Counts) (k : Keyword) (tokens : List Tok) (e : Expression) (rest : List Tok) → TakesExpressions v d → k ≡ words.Let
+    → parse_let d (parse_expression d v) c (keyword k ∷ tokens) tokens ≡ got e rest → TookExpression v (suc d) c (keyword k ∷ tokens) e rest
+unfolding parse_let
+let_takes v d c k tokens e rest part word is =
+    let start : List Tok = keyword k ∷ tokens in
+    let last : Pattern → Expression → List Tok → Read Expression = λ p f r. parse_expression d v (counts_with_expression c f) r and_then λ g r. expression_read c (mapped f mappings.Let p g) start r in
+    let value : Pattern → List Tok → Read Expression = λ p r. parse_expression d v c r and_then λ f r. parse_keyword words.In r and_then λ _ r. last p f r in
+    bind_got (λ p r. parse_symbol symbols.Equals r and_then λ _ r. value p r) (parse_pattern d tokens) e rest is (λ p r1 at_p is_p.
+    bind_got (λ _ r. value p r) (parse_symbol symbols.Equals r1) e rest is_p (λ u r2 equals is_u.
+    bind_got (λ f r. parse_keyword words.In r and_then λ _ r. last p f r) (parse_expression d v c r2) e rest is_u (λ f r3 at_f is_f.
+    bind_got (λ _ r. last p f r) (parse_keyword words.In r3) e rest is_f (λ w r4 in_word is_w.
+    bind_got (λ g r. expression_read c (mapped f mappings.Let p g) start r) (parse_expression d v (counts_with_expression c f) r4) e rest is_w (λ g r5 at_g is_g.
+    within_takes (c.expressions + size (mapped f mappings.Let p g)) (mapped f mappings.Let p g) e start r5 rest is_g (λ few same.
+    let pattern : TookPattern d tokens p r1 = pattern_takes d tokens p r1 at_p in
+    let one : TookExpression v d c r2 f r3 = part c r2 f r3 at_f in
+    let two : TookExpression v d (counts_with_expression c f) r4 g r5 = part (counts_with_expression c f) r4 g r5 at_g in
+    took_expression_as v (suc d) c start (mapped f mappings.Let p g) e r5 rest same (record {
+      spelled = rw (
+        word,
+        pattern.spelled,
+        symbol_takes symbols.Equals r1 u r2 equals,
+        one.spelled,
+        keyword_takes words.In r3 w r4 in_word,
+        two.spelled,
+        three_behind (spell_pattern p) (spell_expression v f) (spell_expression v g) r5 (symbol symbols.Equals) (keyword words.In),
+      ) refl;
+      shallow = omega (arith, pattern.shallow, one.shallow, two.shallow);
+      few = few;
+      known = (one.known, two.known);
+    })))))))
+
+-- a value and a function in brackets behind a word
+mapped_took : (v : Version) (m : Mapping) (f : Expression) (g : Function) (d : ℕ) (c : Counts) (k : Keyword) (tokens r0 r1 r2 r3 rest : List Tok) → BeginsWith (expression_heads.OneAndFunction m) k → tokens ≡ symbol symbols.Open ∷ r0
+    → TookExpression v d c r0 f r1 → r1 ≡ symbol symbols.Comma ∷ r2 → TookFunction v d (counts_with_expression c f) r2 g r3 → r3 ≡ symbol symbols.Close ∷ rest
+    → c.expressions + size (mapped_by f m g) ≤ 100000 → TookExpression v (suc d) c (keyword k ∷ tokens) (mapped_by f m g) rest
+mapped_took v m f (function p g) d c k tokens r0 r1 r2 r3 rest begins opened one comma two closed few = record {
+  spelled = rw (begins.0, begins.1) (ap (λ r. keyword (mapping_word m) ∷ r) (opened ∙ brackets_took (spell_expression v f) (spell_function v (function p g)) r0 r1 r2 r3 rest (symbol symbols.Comma) one.spelled comma two.spelled closed));
+  shallow = omega (arith, one.shallow, two.shallow);
+  few = few;
+  known = (one.known, two.known);
+}
+
+one_and_function_takes : (v : Version) (d : ℕ) (c : Counts) (m : Mapping) (k : Keyword) (tokens : List Tok) (e : Expression) (rest : List Tok) → TakesExpressions v d → BeginsWith (expression_heads.OneAndFunction m) k
+    → parse_one_and_function d (parse_expression d v) c m (keyword k ∷ tokens) tokens ≡ got e rest → TookExpression v (suc d) c (keyword k ∷ tokens) e rest
+unfolding parse_one_and_function
+one_and_function_takes v d c m k tokens e rest part begins is =
+    let start : List Tok = keyword k ∷ tokens in
+    let behind : Expression → List Tok → Read Function = λ f. parse_mapping d (parse_expression d v) (counts_with_expression c f) in
+    bind_got (λ _ r. parse_parts (parse_expression d v c) (parse_symbol symbols.Comma) behind (λ f _ g rest. expression_read c (mapped_by f m g) start rest) r) (parse_symbol symbols.Open tokens) e rest is (λ u r0 opened is_u.
+    parts_takes (parse_expression d v c) (parse_symbol symbols.Comma) behind (λ f _ g rest. expression_read c (mapped_by f m g) start rest) r0 e rest is_u
+    (λ f w g r1 r2 r3 r4 at_f at_w at_g closed is_e.
+    within_takes (c.expressions + size (mapped_by f m g)) (mapped_by f m g) e start r4 rest is_e (λ few same.
+    took_expression_as v (suc d) c start (mapped_by f m g) e r4 rest same
+    (mapped_took v m f g d c k tokens r0 r1 r2 r3 r4 begins (symbol_takes symbols.Open tokens u r0 opened) (part c r0 f r1 at_f) (symbol_takes symbols.Comma r1 w r2 at_w)
+    (mapping_takes v d (counts_with_expression c f) r2 g r3 part at_g) closed few))))
+
+-- two values and a function in brackets behind a word
+folded_took : (v : Version) (o : Folding) (f g : Expression) (h : Function) (d : ℕ) (c : Counts) (k : Keyword) (tokens r0 r1 r2 r3 r4 r5 rest : List Tok) → k ≡ folding_word o → tokens ≡ symbol symbols.Open ∷ r0
+    → TookExpression v d c r0 f r1 → r1 ≡ symbol symbols.Comma ∷ r2 → TookExpression v d (counts_with_expression c f) r2 g r3 → r3 ≡ symbol symbols.Comma ∷ r4
+    → TookFunction v d (counts_with_expression (counts_with_expression c f) g) r4 h r5 → r5 ≡ symbol symbols.Close ∷ rest
+    → c.expressions + size (folded_by f o g h) ≤ 100000 → TookExpression v (suc d) c (keyword k ∷ tokens) (folded_by f o g h) rest
+folded_took v o f g (function p h) d c k tokens r0 r1 r2 r3 r4 r5 rest word opened one comma two second three closed few =
+    let function_tokens : List Tok = spell_function v (function p h) in
+    let behind : r2 ≡ (spell_expression v g ++ (symbol symbols.Comma ∷ function_tokens)) ++ r5 = rw (two.spelled, second, three.spelled, append_assoc (spell_expression v g) (symbol symbols.Comma ∷ function_tokens) r5) refl in
+    record {
+      spelled = rw word (ap (λ r. keyword (folding_word o) ∷ r) (opened ∙ brackets_took (spell_expression v f) (spell_expression v g ++ (symbol symbols.Comma ∷ function_tokens)) r0 r1 r2 r5 rest (symbol symbols.Comma) one.spelled comma behind closed));
+      shallow = omega (arith, one.shallow, two.shallow, three.shallow);
+      few = few;
+      known = (one.known, two.known, three.known);
+    }
+
+two_and_function_takes : (v : Version) (d : ℕ) (c : Counts) (o : Folding) (k : Keyword) (tokens : List Tok) (e : Expression) (rest : List Tok) → TakesExpressions v d → k ≡ folding_word o
+    → parse_two_and_function d (parse_expression d v) c o (keyword k ∷ tokens) tokens ≡ got e rest → TookExpression v (suc d) c (keyword k ∷ tokens) e rest
+unfolding parse_two_and_function
+two_and_function_takes v d c o k tokens e rest part word is =
+    let start : List Tok = keyword k ∷ tokens in
+    let behind : Expression → Expression → List Tok → Read Function = λ f g. parse_mapping d (parse_expression d v) (counts_with_expression (counts_with_expression c f) g) in
+    let others : Expression → List Tok → Read Expression = λ f r. parse_parts (parse_expression d v (counts_with_expression c f)) (parse_symbol symbols.Comma) (behind f) (λ g _ h rest. expression_read c (folded_by f o g h) start rest) r in
+    bind_got (λ _ r. parse_expression d v c r and_then λ f r. parse_symbol symbols.Comma r and_then λ _ r. others f r) (parse_symbol symbols.Open tokens) e rest is (λ u r0 opened is_u.
+    bind_got (λ f r. parse_symbol symbols.Comma r and_then λ _ r. others f r) (parse_expression d v c r0) e rest is_u (λ f r1 at_f is_f.
+    bind_got (λ _ r. others f r) (parse_symbol symbols.Comma r1) e rest is_f (λ w r2 at_w is_w.
+    parts_takes (parse_expression d v (counts_with_expression c f)) (parse_symbol symbols.Comma) (behind f) (λ g _ h rest. expression_read c (folded_by f o g h) start rest) r2 e rest is_w
+    (λ g x h r3 r4 r5 r6 at_g at_x at_h closed is_e.
+    within_takes (c.expressions + size (folded_by f o g h)) (folded_by f o g h) e start r6 rest is_e (λ few same.
+    took_expression_as v (suc d) c start (folded_by f o g h) e r6 rest same
+    (folded_took v o f g h d c k tokens r0 r1 r2 r3 r4 r5 r6 word (symbol_takes symbols.Open tokens u r0 opened) (part c r0 f r1 at_f) (symbol_takes symbols.Comma r1 w r2 at_w)
+    (part (counts_with_expression c f) r2 g r3 at_g) (symbol_takes symbols.Comma r3 x r4 at_x) (mapping_takes v d (counts_with_expression (counts_with_expression c f) g) r4 h r5 part at_h) closed few))))))
 
 -- a form that is a token alone
 alone_takes : (v : Version) (d : ℕ) (c : Counts) (t : Tok) (f : Expression) (tokens : List Tok) (e : Expression) (rest : List Tok) → t ∷ [] ≡ spell_expression v f → expression_depth f ≡ 1 → size f ≡ 1 → WritesExpression v (suc d) f
@@ -329,6 +443,10 @@ worded_expression_takes v d c (Some (expression_heads.OneInBrackets o)) k tokens
 worded_expression_takes v d c (Some (expression_heads.TwoInBrackets o)) k tokens e rest part found is = two_in_brackets_takes v d c o k tokens e rest part (expression_head_takes k (expression_heads.TwoInBrackets o) found) is
 worded_expression_takes v d c (Some expression_heads.Conditional) k tokens e rest part found is =
     conditional_takes v d c k tokens e rest part (expression_head_takes k expression_heads.Conditional found) is
+worded_expression_takes v d c (Some expression_heads.Let) k tokens e rest part found is =
+    let_takes v d c k tokens e rest part (expression_head_takes k expression_heads.Let found) is
+worded_expression_takes v d c (Some (expression_heads.OneAndFunction m)) k tokens e rest part found is = one_and_function_takes v d c m k tokens e rest part (expression_head_takes k (expression_heads.OneAndFunction m) found) is
+worded_expression_takes v d c (Some (expression_heads.TwoAndFunction o)) k tokens e rest part found is = two_and_function_takes v d c o k tokens e rest part (expression_head_takes k (expression_heads.TwoAndFunction o) found) is
 worded_expression_takes v d c None k tokens e rest part found is = cc
 
 pub expression_takes : (v : Version) (d : ℕ) → TakesExpressions v d
@@ -341,28 +459,9 @@ expression_takes v (suc d) c (keyword k ∷ tokens) e rest is = worded_expressio
 expression_takes v (suc d) c (symbol symbols.Open ∷ tokens) e rest is = bracketed_takes v d c (behind_close tokens) tokens e rest (expression_takes v d) refl is
 expression_takes v (suc d) c _ e rest is = cc
 
-pub record TookFunction (v : Version) (d : ℕ) (c : Counts) (tokens : List Tok) (f : Function) (rest : List Tok) : Type 0 where
-  pub spelled : tokens ≡ spell_function v f ++ rest
-  pub shallow : function_depth f ≤ d
-  pub few : c.expressions + function_size f ≤ 100000
-  pub known : WritesFunction v d f
-
 pub function_takes : (v : Version) (d : ℕ) (c : Counts) (tokens : List Tok) (f : Function) (rest : List Tok) → parse_function d v c tokens ≡ got f rest → TookFunction v d c tokens f rest
 unfolding parse_function
-function_takes v d c tokens f rest is =
-    bind_got (λ p r. parse_symbol symbols.MapsTo r and_then λ _ r. parse_expression d v c r and_then λ e r. got (function p e) r) (parse_pattern d tokens) f rest is (λ p r1 at_p is_p.
-    bind_got (λ _ r. parse_expression d v c r and_then λ e r. got (function p e) r) (parse_symbol symbols.MapsTo r1) f rest is_p (λ u r2 leads is_u.
-    bind_got (λ e r. got (function p e) r) (parse_expression d v c r2) f rest is_u (λ e r3 at_e is_e.
-    let one : TookPattern d tokens p r1 = pattern_takes d tokens p r1 at_p in
-    let two : TookExpression v d c r2 e r3 = expression_takes v d c r2 e r3 at_e in
-    let same : Same (function p e) f r3 rest = got_same (function p e) f r3 rest is_e in
-    let took : TookFunction v d c tokens (function p e) r3 = record {
-      spelled = rw (one.spelled, symbol_takes symbols.MapsTo r1 u r2 leads, two.spelled, append_assoc (spell_pattern p) (symbol symbols.MapsTo ∷ spell_expression v e) r3) refl;
-      shallow = omega (arith, one.shallow, two.shallow);
-      few = two.few;
-      known = two.known;
-    } in
-    subst (λ (f : Function). TookFunction v d c tokens f rest) same.value (subst (λ (r : List Tok). TookFunction v d c tokens (function p e) r) same.rest took))))
+function_takes v d c tokens f rest is = mapping_takes v d c tokens f rest (expression_takes v d) is
 
 pub record Took (v : Version) (d : ℕ) (c : Counts) (tokens : List Tok) (t : Term) (rest : List Tok) : Type 0 where
   pub spelled : tokens ≡ spell_term v t ++ rest

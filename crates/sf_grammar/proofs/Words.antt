@@ -15,7 +15,10 @@ use Rattle.sf_operator.specs.declared.operator.Equality.TheVariants as equalitie
 use Rattle.sf_operator.specs.declared.operator.Comparison.TheVariants as comparisons
 use Rattle.sf_operator.specs.declared.operator.Logic.TheVariants as logics
 use Rattle.sf_operator.specs.declared.operator.Merge.TheVariants as merges
-use Rattle.sf_expr.specs.Expressions.{unit_literal, truth_literal, int_literal, text_literal, none_literal, Expression, variable, literal, paired, applied, operation, conditional}
+use Rattle.sf_operator.specs.declared.operator.Mapping.TheVariants as mappings
+use Rattle.sf_operator.specs.declared.operator.Folding.{Folding}
+use Rattle.sf_operator.specs.declared.operator.Folding.TheVariants as foldings
+use Rattle.sf_expr.specs.Expressions.{unit_literal, truth_literal, int_literal, text_literal, none_literal, Expression, variable, literal, paired, applied, operation, conditional, mapped, folded}
 use Rattle.sf_lex.specs.declared.word.Keyword.{Keyword}
 use Rattle.sf_lex.specs.declared.word.Keyword.TheVariants as words
 use Rattle.sf_lex.specs.declared.symbol.Symbol.{Symbol}
@@ -34,7 +37,7 @@ use Rattle.sf_grammar.specs.declared.head.ExpressionHead.{ExpressionHead}
 use Rattle.sf_grammar.specs.declared.head.ExpressionHead.TheVariants as expression_heads
 use Rattle.sf_grammar.specs.declared.head.Link.{Link}
 use Rattle.sf_grammar.specs.declared.head.Link.TheVariants as links
-use Rattle.sf_grammar.specs.Spelling.{bare_word, value_word, side_word, heading_word, join_symbol, unary_word, takes_brackets, operator_token, stands_between, spell_operands, spell_type, spell_keys, type_depth, WritesKeys, WritesType, spell_expression}
+use Rattle.sf_grammar.specs.Spelling.{bare_word, value_word, side_word, heading_word, join_symbol, unary_word, takes_brackets, operator_token, stands_between, mapping_word, maps_in_brackets, folding_word, spell_operands, spell_type, spell_keys, type_depth, WritesKeys, WritesType, spell_expression}
 use Rattle.sf_grammar.specs.Reading.{head_of, join_of, operator_of, link_of, expression_head, type_head, word_kind, got, parse_keys, behind_close}
 
 -- the word of a form
@@ -143,6 +146,9 @@ BeginsWith (expression_heads.Prefixed o) k = (k ≡ unary_word o) × (takes_brac
 BeginsWith (expression_heads.OneInBrackets o) k = (k ≡ unary_word o) × (takes_brackets o ≡ true)
 BeginsWith (expression_heads.TwoInBrackets o) k = (keyword k ≡ operator_token o) × (stands_between o ≡ false)
 BeginsWith expression_heads.Conditional k = k ≡ words.If
+BeginsWith expression_heads.Let k = k ≡ words.Let
+BeginsWith (expression_heads.OneAndFunction m) k = (k ≡ mapping_word m) × (maps_in_brackets m ≡ true)
+BeginsWith (expression_heads.TwoAndFunction o) k = k ≡ folding_word o
 
 begins_as : (k : Keyword) (g h : ExpressionHead) → Some g ≡ Some h → BeginsWith g k → BeginsWith h k
 begins_as k g h same begins = let p : g ≡ h = cc in subst (λ (h : ExpressionHead). BeginsWith h k) p begins
@@ -166,6 +172,12 @@ expression_head_takes words.RMerge h e = begins_as words.RMerge (expression_head
 expression_head_takes words.Merge h e = begins_as words.Merge (expression_heads.TwoInBrackets (operators.Merge merges.Exclusive)) h e (refl, refl)
 expression_head_takes words.Get h e = begins_as words.Get (expression_heads.TwoInBrackets operators.Get) h e (refl, refl)
 expression_head_takes words.If h e = begins_as words.If expression_heads.Conditional h e refl
+expression_head_takes words.Let h e = begins_as words.Let expression_heads.Let h e refl
+expression_head_takes words.FilterE h e = begins_as words.FilterE (expression_heads.OneAndFunction mappings.Filter) h e (refl, refl)
+expression_head_takes words.MapE h e = begins_as words.MapE (expression_heads.OneAndFunction mappings.Map) h e (refl, refl)
+expression_head_takes words.Match h e = begins_as words.Match (expression_heads.TwoAndFunction foldings.Match) h e refl
+expression_head_takes words.MergeBy h e = begins_as words.MergeBy (expression_heads.TwoAndFunction foldings.Merge) h e refl
+expression_head_takes words.Fold h e = begins_as words.Fold (expression_heads.TwoAndFunction foldings.Fold) h e refl
 expression_head_takes _ h e = cc
 
 -- what the word of an operator on one value begins, by how its operand stands
@@ -197,6 +209,11 @@ operator_again (operators.Merge merges.Right) front = record { word = words.RMer
 operator_again (operators.Merge merges.Exclusive) front = record { word = words.Merge; token = refl; head = refl }
 operator_again operators.Get front = record { word = words.Get; token = refl; head = refl }
 operator_again _ front = cc
+
+pub folding_again : (o : Folding) → expression_head (folding_word o) ≡ Some (expression_heads.TwoAndFunction o)
+folding_again foldings.Match = refl
+folding_again foldings.Merge = refl
+folding_again foldings.Fold = refl
 
 -- the word of a type that is a word alone
 abbrev pub type_word : WordType → Keyword
@@ -262,3 +279,5 @@ no_close v (paired e f) rest = refl
 no_close v (applied o e) rest = refl
 no_close v (operation e o f) rest = operands_open (stands_between o) o (spell_expression v e) (spell_expression v f) rest refl
 no_close v (conditional e f g) rest = refl
+no_close v (mapped e m p f) rest = refl
+no_close v (folded e o f p g) rest = refl

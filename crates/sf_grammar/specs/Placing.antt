@@ -4,10 +4,14 @@ use Rattle.sf_value.specs.Values.{Name}
 use Rattle.sf_refusal.specs.declared.spot.Spot.{Spot}
 use Rattle.sf_operator.specs.declared.operator.Unary.{Unary}
 use Rattle.sf_operator.specs.declared.operator.Operator.{Operator}
+use Rattle.sf_operator.specs.declared.operator.Mapping.{Mapping}
+use Rattle.sf_operator.specs.declared.operator.Mapping.TheVariants as mappings
+use Rattle.sf_operator.specs.declared.operator.Folding.{Folding}
 use Rattle.sf_expr.specs.declared.exprs.ExprId.{ExprId}
 use Rattle.sf_expr.specs.declared.exprs.NameId.{NameId}
 use Rattle.sf_expr.specs.declared.exprs.ConstantId.{ConstantId}
 use Rattle.sf_expr.specs.declared.exprs.FunctionId.{FunctionId}
+use Rattle.sf_expr.specs.declared.exprs.PatternId.{PatternId}
 use Rattle.sf_expr.specs.declared.exprs.ExprNode.{ExprNode}
 use Rattle.sf_expr.specs.declared.exprs.ExprNode.TheVariants as expressions
 use Rattle.sf_expr.specs.Patterns.{PlacedPattern, placed_unnamed, placed_name, placed_both}
@@ -22,10 +26,10 @@ use Rattle.sf_term.specs.declared.node.Node.{Node}
 use Rattle.sf_term.specs.declared.node.Node.TheVariants as nodes
 use Rattle.sf_term.specs.declared.program.Program.{Program}
 use Rattle.sf_term.specs.Headers.{Header}
-use Rattle.sf_term.specs.Arena.{HoldsTerm, HoldsExpression, ProgramHoldsFunction, term_node_at, term_spot_at, expression_under, expression_node_at, expression_spot_at, function_pattern_at, function_body_at, headers_of, template_in, templates_of}
+use Rattle.sf_term.specs.Arena.{HoldsTerm, HoldsExpression, HoldsPatternIn, ProgramHoldsFunction, term_node_at, term_spot_at, expression_under, expression_node_at, expression_spot_at, function_pattern_at, function_body_at, pattern_under, headers_of, template_in, templates_of}
 use Rattle.sf_lex.specs.Tokens.{Located, place_at}
 use Rattle.sf_grammar.specs.declared.ty.Version.{Version}
-use Rattle.sf_grammar.specs.Spelling.{takes_brackets, stands_between, spell_expression, spell_signature, IsNetworkText}
+use Rattle.sf_grammar.specs.Spelling.{takes_brackets, stands_between, maps_in_brackets, spell_expression, spell_signature, IsNetworkText}
 
 -- the places of two parts in brackets, with a token between them
 abbrev pub around : Spot → List Spot → Spot → List Spot → Spot → List Spot
@@ -42,6 +46,11 @@ pub record ExpressionStands (p : Program) (id : ExprId) (n : ExprNode) (at : Spo
   pub held : HoldsExpression p id
   pub node : expression_node_at p id ≡ n
   pub spot : expression_spot_at p id ≡ at
+
+-- a program holds a pattern under an id, whose tokens have these places
+pub record PatternStands (p : Program) (q : PatternId) (places : List Spot) : Type 0 where
+  pub held : HoldsPatternIn p q
+  pub placed : PatternPlaced (pattern_under p q) places
 
 -- the expression at an id, whose tokens have these places in a text of the version
 pub data ExpressionPlaced (v : Version) (p : Program) : ExprId → List Spot → Type 0 where
@@ -63,6 +72,12 @@ pub data ExpressionPlaced (v : Version) (p : Program) : ExprId → List Spot →
       → ExpressionPlaced v p a xs → ExpressionPlaced v p b ys → ExpressionPlaced v p id (at ∷ around opening xs comma ys closing)
   conditional_placed : {id a b c : ExprId} {xs ys zs : List Spot} {at : Spot} (then_at else_at : Spot) → ExpressionStands p id (expressions.Conditional a b c) at
       → ExpressionPlaced v p a xs → ExpressionPlaced v p b ys → ExpressionPlaced v p c zs → ExpressionPlaced v p id (at ∷ (xs ++ (then_at ∷ (ys ++ (else_at ∷ zs)))))
+  let_placed : {id a b : ExprId} {q : PatternId} {ps xs ys : List Spot} {at : Spot} (equals in_at : Spot) → ExpressionStands p id (expressions.Mapped a mappings.Let q b) at
+      → PatternStands p q ps → ExpressionPlaced v p a xs → ExpressionPlaced v p b ys → ExpressionPlaced v p id (at ∷ (ps ++ (equals ∷ (xs ++ (in_at ∷ ys)))))
+  one_and_function_placed : {id a b : ExprId} {m : Mapping} {q : PatternId} {xs ps ys : List Spot} {at : Spot} (opening comma leads closing : Spot) → maps_in_brackets m ≡ true → ExpressionStands p id (expressions.Mapped a m q b) at
+      → ExpressionPlaced v p a xs → PatternStands p q ps → ExpressionPlaced v p b ys → ExpressionPlaced v p id (at ∷ around opening xs comma (ps ++ (leads ∷ ys)) closing)
+  two_and_function_placed : {id a b c : ExprId} {o : Folding} {q : PatternId} {xs ys ps zs : List Spot} {at : Spot} (opening comma second leads closing : Spot) → ExpressionStands p id (expressions.Folded a o b q c) at
+      → ExpressionPlaced v p a xs → ExpressionPlaced v p b ys → PatternStands p q ps → ExpressionPlaced v p c zs → ExpressionPlaced v p id (at ∷ around opening xs comma (ys ++ (second ∷ (ps ++ (leads ∷ zs)))) closing)
 
 -- the function at an id, whose tokens have these places
 pub data FunctionPlaced (v : Version) (p : Program) : FunctionId → List Spot → Type 0 where

@@ -12,7 +12,11 @@ use Rattle.sf_operator.specs.declared.operator.Equality.TheVariants as equalitie
 use Rattle.sf_operator.specs.declared.operator.Comparison.TheVariants as comparisons
 use Rattle.sf_operator.specs.declared.operator.Logic.TheVariants as logics
 use Rattle.sf_operator.specs.declared.operator.Merge.TheVariants as merges
-use Rattle.sf_expr.specs.Expressions.{Pattern, unnamed, named, both, unit_literal, truth_literal, int_literal, text_literal, none_literal, Expression, variable, literal, paired, applied, operation, conditional, size, Function, function}
+use Rattle.sf_operator.specs.declared.operator.Mapping.{Mapping}
+use Rattle.sf_operator.specs.declared.operator.Mapping.TheVariants as mappings
+use Rattle.sf_operator.specs.declared.operator.Folding.{Folding}
+use Rattle.sf_operator.specs.declared.operator.Folding.TheVariants as foldings
+use Rattle.sf_expr.specs.Expressions.{Pattern, unnamed, named, both, unit_literal, truth_literal, int_literal, text_literal, none_literal, Expression, variable, literal, paired, applied, operation, conditional, mapped, folded, size, Function, function}
 use Rattle.sf_term.specs.declared.form.Bare.TheVariants as bares
 use Rattle.sf_term.specs.declared.form.WithValue.{WithValue}
 use Rattle.sf_term.specs.declared.form.WithValue.TheVariants as values
@@ -274,6 +278,12 @@ expression_head words.RMerge = Some (expression_heads.TwoInBrackets (operators.M
 expression_head words.Merge = Some (expression_heads.TwoInBrackets (operators.Merge merges.Exclusive))
 expression_head words.Get = Some (expression_heads.TwoInBrackets operators.Get)
 expression_head words.If = Some expression_heads.Conditional
+expression_head words.Let = Some expression_heads.Let
+expression_head words.FilterE = Some (expression_heads.OneAndFunction mappings.Filter)
+expression_head words.MapE = Some (expression_heads.OneAndFunction mappings.Map)
+expression_head words.Match = Some (expression_heads.TwoAndFunction foldings.Match)
+expression_head words.MergeBy = Some (expression_heads.TwoAndFunction foldings.Merge)
+expression_head words.Fold = Some (expression_heads.TwoAndFunction foldings.Fold)
 expression_head _ = None
 
 -- behind the word of an operator, with which `start` begins: the operand, where it is read so
@@ -304,6 +314,46 @@ parse_conditional part c start tokens =
     part (counts_with_expression (counts_with_expression c e) f) rest and_then λ g rest.
     expression_read c (conditional e f g) start rest
 
+-- a function, whose pattern is of so much depth at most and whose body is read so
+abbrev pub parse_mapping : ℕ → (Counts → List Tok → Read Expression) → Counts → List Tok → Read Function
+parse_mapping left part c tokens =
+    parse_pattern left tokens and_then λ p rest.
+    parse_symbol symbols.MapsTo rest and_then λ _ rest.
+    part c rest and_then λ e rest.
+    got (function p e) rest
+
+-- behind `let`, with which `start` begins, where the pattern is of so much depth at most
+unfoldable pub parse_let : ℕ → (Counts → List Tok → Read Expression) → Counts → List Tok → List Tok → Read Expression
+parse_let left part c start tokens =
+    parse_pattern left tokens and_then λ p rest.
+    parse_symbol symbols.Equals rest and_then λ _ rest.
+    part c rest and_then λ e rest.
+    parse_keyword words.In rest and_then λ _ rest.
+    part (counts_with_expression c e) rest and_then λ f rest.
+    expression_read c (mapped e mappings.Let p f) start rest
+
+-- a form of a value and a function
+abbrev pub mapped_by : Expression → Mapping → Function → Expression
+mapped_by e m (function p f) = mapped e m p f
+
+-- a form of two values and a function
+abbrev pub folded_by : Expression → Folding → Expression → Function → Expression
+folded_by e o f (function p g) = folded e o f p g
+
+-- behind the word of a form, with which `start` begins: a value and a function in brackets
+unfoldable pub parse_one_and_function : ℕ → (Counts → List Tok → Read Expression) → Counts → Mapping → List Tok → List Tok → Read Expression
+parse_one_and_function left part c m start tokens =
+    parse_symbol symbols.Open tokens and_then λ _ rest.
+    parse_parts (part c) (parse_symbol symbols.Comma) (λ e. parse_mapping left part (counts_with_expression c e)) (λ e _ f rest. expression_read c (mapped_by e m f) start rest) rest
+
+-- behind the word of a form, with which `start` begins: two values and a function in brackets
+unfoldable pub parse_two_and_function : ℕ → (Counts → List Tok → Read Expression) → Counts → Folding → List Tok → List Tok → Read Expression
+parse_two_and_function left part c o start tokens =
+    parse_symbol symbols.Open tokens and_then λ _ rest.
+    part c rest and_then λ e rest.
+    parse_symbol symbols.Comma rest and_then λ _ rest.
+    parse_parts (part (counts_with_expression c e)) (parse_symbol symbols.Comma) (λ f. parse_mapping left part (counts_with_expression (counts_with_expression c e) f)) (λ f _ g rest. expression_read c (folded_by e o f g) start rest) rest
+
 -- behind the word of an expression, with which `start` begins
 abbrev pub parse_worded_expression : ℕ → Version → (Counts → List Tok → Read Expression) → Counts → Option ExpressionHead → List Tok → List Tok → Read Expression
 parse_worded_expression left v part c (Some (expression_heads.Truth b)) start tokens = expression_read c (literal (truth_literal b)) start tokens
@@ -312,6 +362,9 @@ parse_worded_expression left v part c (Some (expression_heads.Prefixed o)) start
 parse_worded_expression left v part c (Some (expression_heads.OneInBrackets o)) start tokens = parse_one_in_brackets part c o start tokens
 parse_worded_expression left v part c (Some (expression_heads.TwoInBrackets o)) start tokens = parse_two_in_brackets part c o start tokens
 parse_worded_expression left v part c (Some expression_heads.Conditional) start tokens = parse_conditional part c start tokens
+parse_worded_expression left v part c (Some expression_heads.Let) start tokens = parse_let left part c start tokens
+parse_worded_expression left v part c (Some (expression_heads.OneAndFunction m)) start tokens = parse_one_and_function left part c m start tokens
+parse_worded_expression left v part c (Some (expression_heads.TwoAndFunction o)) start tokens = parse_two_and_function left part c o start tokens
 parse_worded_expression left v part c None start tokens = stop Unexpected start
 
 -- an expression by its first token
@@ -338,11 +391,7 @@ parse_expression (suc left) v c tokens = parse_expression_form left v (parse_exp
 
 -- a function, whose pattern and expression are of so much depth at most
 unfoldable pub parse_function : ℕ → Version → Counts → List Tok → Read Function
-parse_function left v c tokens =
-    parse_pattern left tokens and_then λ p rest.
-    parse_symbol symbols.MapsTo rest and_then λ _ rest.
-    parse_expression left v c rest and_then λ e rest.
-    got (function p e) rest
+parse_function left v c tokens = parse_mapping left (parse_expression left v) c tokens
 
 -- a term was read to its end: it may be one too many
 abbrev pub term_read : Counts → Term → List Tok → List Tok → Read Term

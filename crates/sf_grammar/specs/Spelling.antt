@@ -11,7 +11,11 @@ use Rattle.sf_operator.specs.declared.operator.Equality.TheVariants as equalitie
 use Rattle.sf_operator.specs.declared.operator.Comparison.TheVariants as comparisons
 use Rattle.sf_operator.specs.declared.operator.Logic.TheVariants as logics
 use Rattle.sf_operator.specs.declared.operator.Merge.TheVariants as merges
-use Rattle.sf_expr.specs.Expressions.{Pattern, unnamed, named, both, Literal, unit_literal, truth_literal, int_literal, text_literal, none_literal, Expression, variable, literal, paired, applied, operation, conditional, Function, function}
+use Rattle.sf_operator.specs.declared.operator.Mapping.{Mapping}
+use Rattle.sf_operator.specs.declared.operator.Mapping.TheVariants as mappings
+use Rattle.sf_operator.specs.declared.operator.Folding.{Folding}
+use Rattle.sf_operator.specs.declared.operator.Folding.TheVariants as foldings
+use Rattle.sf_expr.specs.Expressions.{Pattern, unnamed, named, both, Literal, unit_literal, truth_literal, int_literal, text_literal, none_literal, Expression, variable, literal, paired, applied, operation, conditional, mapped, folded, Function, function}
 use Rattle.sf_term.specs.declared.form.Bare.{Bare}
 use Rattle.sf_term.specs.declared.form.Bare.TheVariants as bares
 use Rattle.sf_term.specs.declared.form.WithValue.{WithValue}
@@ -111,6 +115,24 @@ stands_between operators.Gate = false
 stands_between (operators.Merge m) = false
 stands_between operators.Get = false
 
+-- the word of a form with a value and a function
+abbrev pub mapping_word : Mapping → Keyword
+mapping_word mappings.Let = words.Let
+mapping_word mappings.Filter = words.FilterE
+mapping_word mappings.Map = words.MapE
+
+-- whether the value and the function stand in brackets behind that word; else the pattern stands in front of the value
+abbrev pub maps_in_brackets : Mapping → Bool
+maps_in_brackets mappings.Let = false
+maps_in_brackets mappings.Filter = true
+maps_in_brackets mappings.Map = true
+
+-- the word of a form with two values and a function
+abbrev pub folding_word : Folding → Keyword
+folding_word foldings.Match = words.Match
+folding_word foldings.Merge = words.MergeBy
+folding_word foldings.Fold = words.Fold
+
 -- two parts in brackets, with a token between them
 abbrev pub in_brackets : List Tok → Tok → List Tok → List Tok
 in_brackets one between two = symbol symbols.Open ∷ (one ++ (between ∷ (two ++ (symbol symbols.Close ∷ []))))
@@ -128,6 +150,23 @@ spell_operands false t one two = t ∷ in_brackets one (symbol symbols.Comma) tw
 -- a condition and two parts behind it
 abbrev pub spell_choice : List Tok → List Tok → List Tok → List Tok
 spell_choice condition one two = keyword words.If ∷ (condition ++ (keyword words.Then ∷ (one ++ (keyword words.Else ∷ two))))
+
+-- a pattern and a body make a function
+abbrev pub spell_mapping : List Tok → List Tok → List Tok
+spell_mapping pattern body = pattern ++ (symbol symbols.MapsTo ∷ body)
+
+-- a value, and the pattern and the body of a function, in brackets or not
+abbrev pub spell_mapped_so : Bool → List Tok → List Tok → List Tok → List Tok
+spell_mapped_so false value pattern body = pattern ++ (symbol symbols.Equals ∷ (value ++ (keyword words.In ∷ body)))
+spell_mapped_so true value pattern body = in_brackets value (symbol symbols.Comma) (spell_mapping pattern body)
+
+-- a form with a value, and the pattern and the body of its function
+abbrev pub spell_mapped : Mapping → List Tok → List Tok → List Tok → List Tok
+spell_mapped m value pattern body = keyword (mapping_word m) ∷ spell_mapped_so (maps_in_brackets m) value pattern body
+
+-- a form with two values, and the pattern and the body of its function
+abbrev pub spell_folded : Folding → List Tok → List Tok → List Tok → List Tok → List Tok
+spell_folded o first second pattern body = keyword (folding_word o) ∷ in_brackets first (symbol symbols.Comma) (second ++ (symbol symbols.Comma ∷ spell_mapping pattern body))
 
 -- only version 2 writes the type of the keys of a table
 abbrev pub spell_keys : Version → KeyKind → List Tok
@@ -165,9 +204,11 @@ spell_expression v (paired e f) = in_brackets (spell_expression v e) (symbol sym
 spell_expression v (applied o e) = keyword (unary_word o) ∷ spell_operand (takes_brackets o) (spell_expression v e)
 spell_expression v (operation e o f) = spell_operands (stands_between o) (operator_token o) (spell_expression v e) (spell_expression v f)
 spell_expression v (conditional e f g) = spell_choice (spell_expression v e) (spell_expression v f) (spell_expression v g)
+spell_expression v (mapped e m p f) = spell_mapped m (spell_expression v e) (spell_pattern p) (spell_expression v f)
+spell_expression v (folded e o f p g) = spell_folded o (spell_expression v e) (spell_expression v f) (spell_pattern p) (spell_expression v g)
 
 abbrev pub spell_function : Version → Function → List Tok
-spell_function v (function p e) = spell_pattern p ++ (symbol symbols.MapsTo ∷ spell_expression v e)
+spell_function v (function p e) = spell_mapping (spell_pattern p) (spell_expression v e)
 
 -- the forms of plans stand in no text
 abbrev pub spell_term : Version → Term → List Tok
@@ -242,6 +283,8 @@ WritesExpression v (suc d) (paired e f) = WritesExpression v d e × WritesExpres
 WritesExpression v (suc d) (applied o e) = WritesExpression v d e
 WritesExpression v (suc d) (operation e o f) = WritesExpression v d e × WritesExpression v d f
 WritesExpression v (suc d) (conditional e f g) = WritesExpression v d e × WritesExpression v d f × WritesExpression v d g
+WritesExpression v (suc d) (mapped e m p f) = WritesExpression v d e × WritesExpression v d f
+WritesExpression v (suc d) (folded e o f p g) = WritesExpression v d e × WritesExpression v d f × WritesExpression v d g
 WritesExpression v d e = ⊤
 
 abbrev pub WritesFunction : Version → ℕ → Function → Type 0

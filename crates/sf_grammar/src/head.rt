@@ -3,7 +3,7 @@ ghost use Rattle.std.specs.Prelude.{◌≡◌};
 ghost use Rattle.sf_lex.specs.Tokens.{token_of};
 ghost use Rattle.sf_grammar.specs.Reading.{expression_head, head_of, join_of, link_of, operator_of};
 
-use sf_expr::{Arithmetic, Comparison, Equality, Logic, Merge, Operator, Unary};
+use sf_expr::{Arithmetic, Comparison, Equality, Folding, Logic, Mapping, Merge, Operator, Unary};
 use sf_lex::{Keyword, Symbol, Token};
 use sf_term::{Bare, Heading, Join, Side, WithValue};
 
@@ -37,6 +37,12 @@ pub enum ExpressionHead {
     TwoInBrackets(Operator),
     /// A word, and behind it three expressions with a word between each two.
     Conditional,
+    /// A word, and behind it a pattern, the expression that it names, and another.
+    Let,
+    /// A word, and an expression and a function in brackets behind it.
+    OneAndFunction(Mapping),
+    /// A word, and two expressions and a function in brackets behind it.
+    TwoAndFunction(Folding),
 }
 
 /// What makes one expression of two in brackets.
@@ -99,6 +105,12 @@ pub fn expression_head(word: Keyword) -> Option<ExpressionHead>
         Keyword::Merge => Some(ExpressionHead::TwoInBrackets(Operator::Merge(Merge::Exclusive))),
         Keyword::Get => Some(ExpressionHead::TwoInBrackets(Operator::Get)),
         Keyword::If => Some(ExpressionHead::Conditional),
+        Keyword::Let => Some(ExpressionHead::Let),
+        Keyword::FilterE => Some(ExpressionHead::OneAndFunction(Mapping::Filter)),
+        Keyword::MapE => Some(ExpressionHead::OneAndFunction(Mapping::Map)),
+        Keyword::Match => Some(ExpressionHead::TwoAndFunction(Folding::Match)),
+        Keyword::MergeBy => Some(ExpressionHead::TwoAndFunction(Folding::Merge)),
+        Keyword::Fold => Some(ExpressionHead::TwoAndFunction(Folding::Fold)),
         _ => None,
     }
 }

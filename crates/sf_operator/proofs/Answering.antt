@@ -1,5 +1,5 @@
 -- The answers for types: where no type was found, where it would be too large, and where memory was wanting.
-use Rattle.std.proofs.Common.{◌≡◌, ◌<◌, Bool, true, false, cond, Some, None, refl, sym, ◌∙◌, ap, subst, arith, Result, Ok, Err, IsErrAnd, IsTrue, ◌↔◌}
+use Rattle.std.proofs.Common.{◌≡◌, ◌<◌, ◌≤◌, Bool, true, false, cond, Some, None, refl, sym, ◌∙◌, ap, subst, arith, Result, Ok, Err, IsErrAnd, IsTrue, ◌↔◌}
 use Rattle.std.specs.Prelude.{Option}
 use Rattle.sf_value.specs.Values.{Kind, event_kind, pair_kind, nodes}
 use Rattle.sf_value.specs.declared.ty.TyRefusal.{TyRefusal}
@@ -41,6 +41,11 @@ not_made t s reasons.Memory r h large memory = subst (λ (r : Refusal). OrMemory
 pub pair_refused : (o : Option Kind) (t u : Kind) (s : Spot) (answer : Result Kind Refusal) {r : Refusal} → o ≡ Some (event_kind (pair_kind t u)) → IsErrAnd answer (λ e. e ≡ r) → OrMemory (KindRefused (Some (pair_kind t u)) s) r → AnswersKind o s answer
 pair_refused o t u s answer {r} e is h =
     subst (λ (o : Option Kind). AnswersKind o s answer) (sym e) (refused_for (Some (event_kind (pair_kind t u))) s answer r is (or_memory (λ b k. (k.0, omega (arith, k.1))) h))
+
+-- a type that is too large stands in no larger type either
+pub part_refused : (o : Option Kind) (t u : Kind) (s : Spot) (answer : Result Kind Refusal) {r : Refusal} → o ≡ Some u → nodes t ≤ nodes u → IsErrAnd answer (λ e. e ≡ r) → OrMemory (KindRefused (Some t) s) r → AnswersKind o s answer
+part_refused o t u s answer {r} e less is h =
+    subst (λ (o : Option Kind). AnswersKind o s answer) (sym e) (refused_for (Some u) s answer r is (or_memory (λ b k. (k.0, omega (arith, k.1, less))) h))
 
 -- what is not the same
 pub not_same : (t u : Kind) → (IsTrue false ↔ (t ≡ u)) → same_kind t u ≡ false

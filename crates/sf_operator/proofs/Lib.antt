@@ -3,6 +3,7 @@ pub mod Remaining
 pub mod Refusing
 pub mod SameKinds
 pub mod Yielding
+pub mod Forming
 pub mod SameData
 pub mod Counting
 pub mod Answering

@@ -21,15 +21,15 @@ use Rattle.sf_operator.specs.Laws.{EachUnaryYields, EachOperatorYields, EachDeci
 use Rattle.sf_operator.proofs.SameKinds.{only_is, found_is, parts_is, payload_is, columns_is}
 
 -- what is of one type is of another that is the same
-as_kind : {d : Data} {t u : Kind} → t ≡ u → HasKind d t → HasKind d u
+pub as_kind : {d : Data} {t u : Kind} → t ≡ u → HasKind d t → HasKind d u
 as_kind {d} e h = subst (λ (t : Kind). HasKind d t) e h
 
-yields_as : {o : Evaluated Data} {t u : Kind} → Some t ≡ Some u → Yields t o → Yields u o
+pub yields_as : {o : Evaluated Data} {t u : Kind} → Some t ≡ Some u → Yields t o → Yields u o
 yields_as {o} {t} {u} e h = let is : t ≡ u = cc in subst (λ (t : Kind). Yields t o) is h
 
 -- ## What is made of the part of a value that its type has
 
-of_truth : {d : Data} {t u : Kind} (f : Bool → Evaluated Data) → t ≡ bool_kind → HasKind d t → ((b : Bool) → Yields u (f b)) → Yields u (known (truth_in d) f)
+pub of_truth : {d : Data} {t u : Kind} (f : Bool → Evaluated Data) → t ≡ bool_kind → HasKind d t → ((b : Bool) → Yields u (f b)) → Yields u (known (truth_in d) f)
 of_truth {u = u} f e h = each (as_kind e h)
   where
     each : {d : Data} → HasKind d bool_kind → ((b : Bool) → Yields u (f b)) → Yields u (known (truth_in d) f)
@@ -48,18 +48,18 @@ of_halves {a = a} {b = b} {u = u} f e h = each (as_kind e h)
     each (has_pair {x = x} {y = y} h l) k = k x y h l
 
 -- a payload has a type, where there is one
-data HasPayload (a : Kind) : Option Data → Type 0 where
+pub data HasPayload (a : Kind) : Option Data → Type 0 where
   has_none : HasPayload a None
   has_some : {x : Data} → HasKind x a → HasPayload a (Some x)
 
-of_payload : {d : Data} {t a u : Kind} (f : Option Data → Evaluated Data) → t ≡ event_kind a → HasKind d t → ((e : Option Data) → HasPayload a e → Yields u (f e)) → Yields u (known (payload_in d) f)
+pub of_payload : {d : Data} {t a u : Kind} (f : Option Data → Evaluated Data) → t ≡ event_kind a → HasKind d t → ((e : Option Data) → HasPayload a e → Yields u (f e)) → Yields u (known (payload_in d) f)
 of_payload {a = a} {u = u} f e h = each (as_kind e h)
   where
     each : {d : Data} → HasKind d (event_kind a) → ((e : Option Data) → HasPayload a e → Yields u (f e)) → Yields u (known (payload_in d) f)
     each has_no_event k = k None has_none
     each (has_event {x = x} h) k = k (Some x) (has_some h)
 
-of_rows : {d : Data} {t a u : Kind} {k : KeyKind} (f : Rows → Evaluated Data) → t ≡ table_kind k a → HasKind d t → ((rs : Rows) → HasRowKinds rs k a → Yields u (f rs)) → Yields u (known (rows_in d) f)
+pub of_rows : {d : Data} {t a u : Kind} {k : KeyKind} (f : Rows → Evaluated Data) → t ≡ table_kind k a → HasKind d t → ((rs : Rows) → HasRowKinds rs k a → Yields u (f rs)) → Yields u (known (rows_in d) f)
 of_rows {a = a} {u = u} {k = k} f e h = each (as_kind e h)
   where
     each : {d : Data} → HasKind d (table_kind k a) → ((rs : Rows) → HasRowKinds rs k a → Yields u (f rs)) → Yields u (known (rows_in d) f)
@@ -100,7 +100,7 @@ numbers_yield Times a b = tested_yields (a *ℤ b)
 numbers_yield Divide a b = divide_yields quotient a b
 numbers_yield Modulo a b = divide_yields remainder a b
 
-event_has : {a : Kind} {e : Option Data} → HasPayload a e → HasKind (event_of e) (event_kind a)
+pub event_has : {a : Kind} {e : Option Data} → HasPayload a e → HasKind (event_of e) (event_kind a)
 event_has has_none = has_no_event
 event_has (has_some h) = has_event h
 
@@ -120,7 +120,7 @@ merged_yields Left (has_some h) (has_some l) = yields (has_event h)
 merged_yields Right (has_some h) (has_some l) = yields (has_event l)
 merged_yields Exclusive (has_some h) (has_some l) = fails
 
-gated_has : {d : Data} {a : Kind} (c : Bool) → HasKind d (event_kind a) → HasKind (cond c d no_event) (event_kind a)
+pub gated_has : {d : Data} {a : Kind} (c : Bool) → HasKind d (event_kind a) → HasKind (cond c d no_event) (event_kind a)
 gated_has true h = h
 gated_has false h = has_no_event
 

@@ -5,6 +5,10 @@ use Rattle.sf_value.specs.Values.{KeyKind, int_keys, text_keys, Kind, bool_kind,
 use Rattle.sf_value.specs.KindCodes.{KindMark, is_unit, is_bool, is_int, is_text, is_pair, is_event, is_int_table, is_text_table, kind_marks_of}
 use Rattle.sf_operator.specs.declared.operator.Unary.{Unary}
 use Rattle.sf_operator.specs.declared.operator.Unary.TheVariants.{Not, Event, First, Second, IsEvent, Size}
+use Rattle.sf_operator.specs.declared.operator.Mapping.{Mapping}
+use Rattle.sf_operator.specs.declared.operator.Mapping.TheVariants as mapping
+use Rattle.sf_operator.specs.declared.operator.Folding.{Folding}
+use Rattle.sf_operator.specs.declared.operator.Folding.TheVariants as folding
 use Rattle.sf_operator.specs.declared.operator.Operator.{Operator}
 use Rattle.sf_operator.specs.declared.operator.Operator.TheVariants.{Arithmetic, Equality, Comparison, Logic, Tag, Attach, FromEvent, Gate, Merge, Get}
 
@@ -87,3 +91,27 @@ binary_kind Get t u = found_then (columns_of t) (λ c. only u (kind_of_keys c.0)
 -- the type of one of two values by a truth: a truth, and two of one type
 abbrev pub conditional_kind : Kind → Kind → Kind → Option Kind
 conditional_kind c t u = only c bool_kind (only t u (Some t))
+
+-- the type of what the function of a form on a value of a type takes, if the form is one on such values
+abbrev pub mapped_argument : Mapping → Kind → Option Kind
+mapped_argument mapping.Let t = Some t
+mapped_argument mapping.Filter t = payload_of t
+mapped_argument mapping.Map t = payload_of t
+
+-- the type of what such a form makes, where its function makes values of a type
+abbrev pub mapped_kind : Mapping → Kind → Kind → Option Kind
+mapped_kind mapping.Let t u = Some u
+mapped_kind mapping.Filter t u = only u bool_kind (Some t)
+mapped_kind mapping.Map t u = Some (event_kind u)
+
+-- the type of what the function of a form on values of two types takes, if the form is one on such a first value
+abbrev pub folded_argument : Folding → Kind → Kind → Option Kind
+folded_argument folding.Match t u = payload_of t
+folded_argument folding.Merge t u = found_then (payload_of t) (λ a. Some (pair_kind a a))
+folded_argument folding.Fold t u = found_then (columns_of t) (λ c. Some (pair_kind u (pair_kind (kind_of_keys c.0) c.1)))
+
+-- the type of what such a form makes, where its function makes values of a type
+abbrev pub folded_kind : Folding → Kind → Kind → Kind → Option Kind
+folded_kind folding.Match t u v = only u v (Some v)
+folded_kind folding.Merge t u v = found_then (payload_of t) (λ a. only t u (only a v (Some t)))
+folded_kind folding.Fold t u v = only u v (Some u)

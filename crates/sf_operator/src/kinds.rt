@@ -16,7 +16,7 @@ use sf_value::{KeyType, Ty, TyForm, TyRefusal, same_type};
 use std::alloc::Global;
 
 /// Nothing where two types are the same; else refused with `Mismatch` at `at`.
-fn same(left: &Ty, right: &Ty, at: Spot) -> Result<(), Refusal>
+pub(crate) fn same(left: &Ty, right: &Ty, at: Spot) -> Result<(), Refusal>
     ensures ok { OnOk result (same_kind left.now right.now ≡ true) }
     ensures err { IfErr result (λ r. (same_kind left.now right.now ≡ false) × (r ≡ broken Mismatch at)) }
 {
@@ -39,7 +39,7 @@ fn parts(ty: &Ty, at: Spot) -> Result<(&Ty, &Ty), Refusal>
 }
 
 /// The type of the payloads of a type of events; another type is refused with `Mismatch` at `at`.
-fn payload(ty: &Ty, at: Spot) -> Result<&Ty, Refusal>
+pub(crate) fn payload(ty: &Ty, at: Spot) -> Result<&Ty, Refusal>
     ensures ok { IfOk result (λ payload. payload_of ty.now ≡ Some payload.now) }
     ensures err { IfErr result (λ r. (payload_of ty.now ≡ None) × (r ≡ broken Mismatch at)) }
 {
@@ -50,7 +50,7 @@ fn payload(ty: &Ty, at: Spot) -> Result<&Ty, Refusal>
 }
 
 /// The types of the keys and the values of a type of tables; another type is refused with `Mismatch` at `at`.
-fn columns(ty: &Ty, at: Spot) -> Result<(KeyType, &Ty), Refusal>
+pub(crate) fn columns(ty: &Ty, at: Spot) -> Result<(KeyType, &Ty), Refusal>
     ensures ok { IfOk result (λ columns. columns_of ty.now ≡ Some (key_kind_of columns.0, columns.1.now)) }
     ensures err { IfErr result (λ r. (columns_of ty.now ≡ None) × (r ≡ broken Mismatch at)) }
 {
@@ -61,7 +61,7 @@ fn columns(ty: &Ty, at: Spot) -> Result<(KeyType, &Ty), Refusal>
 }
 
 /// The type of keys, as a type of values.
-fn type_of_keys(keys: KeyType) -> Ty
+pub(crate) fn type_of_keys(keys: KeyType) -> Ty
     ensures { result ≡ kind_of_keys (key_kind_of keys) }
 {
     match keys {
@@ -82,7 +82,7 @@ fn not_made(why: TyRefusal, at: Spot) -> Refusal
 }
 
 /// The type of events of a type; refused with `TypeTooLarge` at `at` where it would be made of more than 256 types.
-fn event_type(alloc: Global, payload: &Ty, at: Spot) -> Result<Ty, Refusal>
+pub fn event_type(alloc: Global, payload: &Ty, at: Spot) -> Result<Ty, Refusal>
     ensures { AnswersKind (Some (event_kind payload.now)) at result }
 {
     match Ty::event(alloc, payload.clone_in(alloc)?) {
@@ -92,7 +92,7 @@ fn event_type(alloc: Global, payload: &Ty, at: Spot) -> Result<Ty, Refusal>
 }
 
 /// The type of pairs of two types; refused with `TypeTooLarge` at `at` where it would be made of more than 256 types.
-fn pair_type(alloc: Global, first: &Ty, second: &Ty, at: Spot) -> Result<Ty, Refusal>
+pub fn pair_type(alloc: Global, first: &Ty, second: &Ty, at: Spot) -> Result<Ty, Refusal>
     ensures { AnswersKind (Some (pair_kind first.now second.now)) at result }
 {
     match Ty::pair(alloc, first.clone_in(alloc)?, second.clone_in(alloc)?) {

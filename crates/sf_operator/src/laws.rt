@@ -5,7 +5,7 @@ ghost use Rattle.sf_operator.specs.declared.operator.Arithmetic.TheVariants.{Div
 ghost use Rattle.sf_operator.specs.Outcomes.{answer};
 ghost use Rattle.sf_operator.specs.Operations.{quotient, remainder, of_numbers};
 ghost use Rattle.sf_operator.specs.Remainders.{IsRemainder};
-ghost use Rattle.sf_operator.specs.Laws.{EachUnaryYields, EachOperatorYields, EachDecisionYields};
+ghost use Rattle.sf_operator.specs.Laws.{EachUnaryYields, EachOperatorYields, EachDecisionYields, EachMappingYields, EachFoldingYields};
 
 /// A number is the divisor times the quotient, and what is left: zero or of the divisor's sign, and nearer to zero than
 /// the divisor. So it is with `div` and `mod` where both have a value.
@@ -21,4 +21,11 @@ pub fn typed_operators()
     ensures unary { EachUnaryYields }
     ensures binary { EachOperatorYields }
     ensures decided { EachDecisionYields }
+{}
+
+/// A form with a function makes a value of the type that the table of types says, or a fault, where its function does so
+/// of each value that it takes.
+pub fn typed_functions()
+    ensures on_one { EachMappingYields }
+    ensures on_two { EachFoldingYields }
 {}

@@ -3,15 +3,20 @@
 
 mod arithmetic;
 mod fault;
+mod function_types;
 mod kinds;
 mod laws;
 mod operator;
 mod parts;
 mod values;
 
+pub use arithmetic::calculate;
 pub use fault::EvalFault;
-pub use kinds::{binary_type, conditional_type, unary_type};
-pub use laws::{floor_division, typed_operators};
-pub use operator::{Arithmetic, Comparison, Equality, Logic, Merge, Operator, Unary};
-pub use parts::is_true;
+pub use function_types::{folded_argument_type, folded_type, mapped_argument_type, mapped_type};
+pub use kinds::{binary_type, conditional_type, event_type, pair_type, unary_type};
+pub use laws::{floor_division, typed_functions, typed_operators};
+pub use operator::{
+    Arithmetic, Comparison, Equality, Folding, Logic, Mapping, Merge, Operator, Unary,
+};
+pub use parts::{is_true, payload_in, rows_in, value_of_key};
 pub use values::{decide, operate, operate_on};

@@ -98,3 +98,25 @@ pub enum Operator {
     /// `get`: the event of the value under a key of a table.
     Get,
 }
+
+/// A form that makes something of a value with a function.
+#[derive(Clone, Copy, Debug, PartialEq, Eq)]
+pub enum Mapping {
+    /// `let`: what the function makes of the value.
+    Let,
+    /// `filterE`: the event, where the function is true of its payload.
+    Filter,
+    /// `mapE`: the event of what the function makes of the payload.
+    Map,
+}
+
+/// A form that makes something of two values with a function.
+#[derive(Clone, Copy, Debug, PartialEq, Eq)]
+pub enum Folding {
+    /// `match`: what the function makes of the payload of an event, or a value where there is none.
+    Match,
+    /// `mergeBy`: two events made one, by the function where both occur.
+    Merge,
+    /// `fold`: a value with which the function takes in each key and value of a table, in order.
+    Fold,
+}

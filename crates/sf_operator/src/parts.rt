@@ -3,9 +3,10 @@ ghost use Rattle.std.specs.Prelude.{◌≡◌, IfOk};
 ghost use Rattle.std.specs.Option.{option_map};
 ghost use Rattle.sf_value.specs.View.{key_of, rows_of};
 ghost use Rattle.sf_operator.specs.Operations.{truth_in, number_in as a_number_in, halves_in as the_halves_in, payload_in as the_payload_in, rows_in as the_rows_in, key_in as a_key_in, order_of as the_order_of};
+ghost use Rattle.sf_operator.specs.FunctionForms.{value_of_key as the_value_of_key};
 
 use sf_value::{Form, Key, Value};
-use std::alloc::AllocError;
+use std::alloc::{AllocError, Global};
 use std::cmp::Ordering;
 use std::rc::Rc;
 
@@ -40,7 +41,7 @@ pub(crate) fn halves_in(value: &Value) -> Option<(&Rc<Value>, &Rc<Value>)>
 }
 
 /// The payload of an event, if it occurs; none of another value.
-pub(crate) fn payload_in(value: &Value) -> Option<Option<&Rc<Value>>>
+pub fn payload_in(value: &Value) -> Option<Option<&Rc<Value>>>
     ensures { option_map (λ e. option_map (λ x. x.now.value) e) result ≡ the_payload_in value.now }
 {
     match value.form() {
@@ -51,7 +52,7 @@ pub(crate) fn payload_in(value: &Value) -> Option<Option<&Rc<Value>>>
 }
 
 /// The rows of a table; none of another value.
-pub(crate) fn rows_in(value: &Value) -> Option<&[(Key, Value)]>
+pub fn rows_in(value: &Value) -> Option<&[(Key, Value)]>
     ensures { option_map (λ rs. rows_of rs.now) result ≡ the_rows_in value.now }
 {
     match value.form() {
@@ -68,6 +69,16 @@ pub(crate) fn key_in(value: &Value) -> Result<Option<Key>, AllocError>
         Form::Int(number) => Ok(Some(Key::Int(*number))),
         Form::Text(text) => Ok(Some(Key::Text(text.clone()?))),
         _ => Ok(None),
+    }
+}
+
+/// A key, as a value. A text is copied.
+pub fn value_of_key(alloc: Global, key: &Key) -> Result<Value, AllocError>
+    ensures { IfOk result (λ v. v ≡ the_value_of_key (key_of key.now)) }
+{
+    match key {
+        Key::Int(number) => Ok(Value::int(*number)),
+        Key::Text(text) => Value::text(alloc, String::from_str(alloc, text.as_str())?),
     }
 }
 

@@ -1,14 +1,19 @@
 -- Quiet terms give a value without readings at each step, and cost their text.
 use Rattle.std.proofs.Common.{◌≡◌, IsTrue, Bool, true, false, ◌&&◌, cond, List, [], ◌∷◌, Some, None, refl, ap, ◌∙◌, subst}
 use Rattle.std.specs.Prelude.{Option}
-use Rattle.sf_value.specs.Values.{Data, pair, first_of, second_of}
-use Rattle.sf_expr.specs.Expressions.{Expression, variable, literal, paired as paired_expression, applied, operation, conditional, Function, function}
+use Rattle.sf_value.specs.Values.{Data, pair, Rows, no_rows, row, first_of, second_of}
+use Rattle.sf_expr.specs.Expressions.{Expression, variable, literal, paired as paired_expression, applied, operation, conditional, mapped, folded, Function, function}
 use Rattle.sf_operator.specs.declared.operator.Unary.{Unary}
 use Rattle.sf_operator.specs.declared.operator.Unary.TheVariants.{Not, Event, First as FirstOf, Second as SecondOf, IsEvent, Size}
 use Rattle.sf_operator.specs.declared.operator.Operator.{Operator}
 use Rattle.sf_operator.specs.declared.operator.Operator.TheVariants.{Arithmetic, Equality, Comparison, Logic, Tag, Attach, FromEvent, Gate, Merge, Get}
 use Rattle.sf_operator.specs.declared.operator.Merge as merge
 use Rattle.sf_operator.specs.declared.operator.Merge.TheVariants.{Left, Right, Exclusive}
+use Rattle.sf_operator.specs.declared.operator.Mapping.{Mapping}
+use Rattle.sf_operator.specs.declared.operator.Mapping.TheVariants.{Let, Filter, Map}
+use Rattle.sf_operator.specs.declared.operator.Folding.{Folding}
+use Rattle.sf_operator.specs.declared.operator.Folding.TheVariants as folding
+use Rattle.sf_operator.specs.FunctionForms.{kept_payload, mapped_payload, mapped_value, matched_payload, merged_by, value_of_key, folded_rows, folded_value}
 use Rattle.sf_operator.specs.Operations.{truth_in, halves_in, payload_in, rows_in, key_in, order_of, merged, unary_value, decided, operated}
 use Rattle.sf_expr.specs.Evaluation.{Evaluated, answer, ◌>>=◌, known, Scope, bound_in, unless_decided, eval, apply}
 use Rattle.sf_term.specs.declared.form.Bare.TheVariants.{Identity}
@@ -75,6 +80,39 @@ chosen : (b : Bool) (v w : Evaluated Data) → Answers v → Answers w → Answe
 chosen true v w h k = h
 chosen false v w h k = k
 
+-- what is made with a function that has an answer for each value
+module _ (f : Data → Evaluated Data) (h : (x : Data) → Answers (f x)) where
+  quiet_kept : (e : Option Data) → Answers (kept_payload e f)
+  quiet_kept None = (_, refl)
+  quiet_kept (Some x) = next (f x) _ (h x) (λ b. of_known (truth_in b) _ (λ c. (_, refl)))
+
+  quiet_payload : (e : Option Data) → Answers (mapped_payload e f)
+  quiet_payload None = (_, refl)
+  quiet_payload (Some x) = next (f x) _ (h x) (λ y. (_, refl))
+
+  quiet_mapped : (m : Mapping) (d : Data) → Answers (mapped_value m d f)
+  quiet_mapped Let d = h d
+  quiet_mapped Filter d = of_known (payload_in d) _ quiet_kept
+  quiet_mapped Map d = of_known (payload_in d) _ quiet_payload
+
+  quiet_matched : (e : Option Data) (other : Evaluated Data) → Answers other → Answers (matched_payload e other f)
+  quiet_matched None other k = k
+  quiet_matched (Some x) other k = h x
+
+  quiet_both : (e g : Option Data) → Answers (merged_by e g f)
+  quiet_both None g = (_, refl)
+  quiet_both (Some x) None = (_, refl)
+  quiet_both (Some x) (Some y) = next (f (pair x y)) _ (h (pair x y)) (λ z. (_, refl))
+
+  quiet_rows : (rs : Rows) (d : Data) → Answers (folded_rows rs d f)
+  quiet_rows no_rows d = (d, refl)
+  quiet_rows (row k x rs) d = next (f (pair d (pair (value_of_key k) x))) (λ c. folded_rows rs c f) (h (pair d (pair (value_of_key k) x))) (quiet_rows rs)
+
+  quiet_folded : (o : Folding) (d : Data) (other : Evaluated Data) → Answers other → Answers (folded_value o d other f)
+  quiet_folded folding.Match d other k = of_known (payload_in d) _ (λ e. quiet_matched e other k)
+  quiet_folded folding.Merge d other k = next other _ k (λ c. of_known (payload_in d) _ (λ e. of_known (payload_in c) _ (quiet_both e)))
+  quiet_folded folding.Fold d other k = next other _ k (λ c. of_known (rows_in d) _ (λ rs. quiet_rows rs c))
+
 pub quiet_eval : (i : Expression) → IsTrue (is_quiet_expression i) → (sc : Scope) → Answers (eval i sc)
 quiet_eval (variable x) h sc = (_, refl)
 quiet_eval (literal n) h sc = (_, refl)
@@ -94,6 +132,15 @@ quiet_eval (conditional a b c) h sc =
     let l = both_true (is_quiet_expression b) (is_quiet_expression c) k.1 in
     next (eval a sc) (λ x. known (truth_in x) (λ t. cond t (eval b sc) (eval c sc))) (quiet_eval a k.0 sc)
     (λ x. of_known (truth_in x) _ (λ t. chosen t (eval b sc) (eval c sc) (quiet_eval b l.0 sc) (quiet_eval c l.1 sc)))
+quiet_eval (mapped a m p b) h sc =
+    let k = both_true (is_quiet_expression a) (is_quiet_expression b) h in
+    next (eval a sc) (λ x. mapped_value m x (λ y. eval b (bound_in p y sc))) (quiet_eval a k.0 sc)
+    (quiet_mapped (λ y. eval b (bound_in p y sc)) (λ y. quiet_eval b k.1 (bound_in p y sc)) m)
+quiet_eval (folded a o b p c) h sc =
+    let k = both_true (is_quiet_expression a) (is_quiet_expression b && is_quiet_expression c) h in
+    let l = both_true (is_quiet_expression b) (is_quiet_expression c) k.1 in
+    next (eval a sc) (λ x. folded_value o x (eval b sc) (λ y. eval c (bound_in p y sc))) (quiet_eval a k.0 sc)
+    (λ x. quiet_folded (λ y. eval c (bound_in p y sc)) (λ y. quiet_eval c l.1 (bound_in p y sc)) o x (eval b sc) (quiet_eval b l.0 sc))
 
 quiet_apply : (f : Function) → IsTrue (is_quiet_function f) → (x : Data) (sc : Scope) → Answers (apply f x sc)
 quiet_apply (function p i) h x sc = quiet_eval i h (bound_in p x sc)

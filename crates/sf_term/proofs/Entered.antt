@@ -13,11 +13,12 @@ use Rattle.sf_value.specs.Values.{Name}
 use Rattle.sf_expr.specs.declared.exprs.NameId.{NameId}
 use Rattle.sf_expr.specs.declared.exprs.ConstantId.{ConstantId}
 use Rattle.sf_expr.specs.declared.exprs.FunctionId.{FunctionId}
+use Rattle.sf_expr.specs.declared.exprs.PatternId.{PatternId}
 use Rattle.sf_expr.specs.declared.exprs.ExprNode.{ExprNode}
 use Rattle.sf_refusal.specs.declared.spot.Spot.{Spot}
 use Rattle.sf_expr.specs.Expressions.{Literal, Expression}
 use Rattle.sf_expr.specs.Patterns.{PlacedPattern}
-use Rattle.sf_expr.specs.Arena.{expression, count_of, function_count, Keeps as KeepsExpressions, Adds, AddsName, AddsConstant, AddsFunction, IsUnchanged}
+use Rattle.sf_expr.specs.Arena.{expression, count_of, function_count, Keeps as KeepsExpressions, Adds, AddsName, AddsConstant, AddsPattern, AddsFunction, IsUnchanged}
 use Rattle.sf_expr.proofs.Entered.{below_holds, below_function, unchanged_keeps}
 use Rattle.sf_term.specs.declared.node.Primitive.TheVariants as primitives
 use Rattle.sf_term.specs.declared.node.Node.{Node}
@@ -112,6 +113,10 @@ name_grown_by x y (Err e) n a u = unchanged_grown x y u
 pub constant_grown_by : {E : Type 0} (x y : Exprs) (r : Result ConstantId E) (l : Literal) → IfOk r (λ id. AddsConstant x y id l) → OnErr r (IsUnchanged x y) → IsGrown x y
 constant_grown_by x y (Ok id) l a u = record { kept = a.kept; more = omega (arith, a.count); more_functions = omega (arith, a.functions) }
 constant_grown_by x y (Err e) l a u = unchanged_grown x y u
+
+pub pattern_grown_by : (x y : Exprs) (r : Result PatternId ArenaRefusal) (p : PlacedPattern) → IfOk r (λ id. AddsPattern x y id p) → OnErr r (IsUnchanged x y) → IsGrown x y
+pattern_grown_by x y (Ok id) p a u = record { kept = a.kept; more = omega (arith, a.count); more_functions = omega (arith, a.functions) }
+pattern_grown_by x y (Err e) p a u = unchanged_grown x y u
 
 pub function_grown_by : (x y : Exprs) (r : Result FunctionId ArenaRefusal) (p : PlacedPattern) (b : ExprId) → IfOk r (λ f. AddsFunction x y f p b) → OnErr r (IsUnchanged x y) → IsGrown x y
 function_grown_by x y (Ok f) p b a u = record { kept = a.kept; more = omega (arith, a.count); more_functions = omega (arith, a.functions) }

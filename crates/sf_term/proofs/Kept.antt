@@ -1,7 +1,7 @@
 -- What builders keep of a program.
-use Rattle.std.proofs.Common.{◌≡◌, ℕ, zero, suc, max, ◌+◌, ◌<◌, ◌≤◌, List, [], ◌∷◌, ◌++◌, length, get_or, map, Bool, true, false, cond, Result, Ok, Err, IfOk, OnErr, refl, sym, ◌∙◌, ap, subst, arith, ◌⊎◌, inl, inr, All}
+use Rattle.std.proofs.Common.{◌≡◌, ℕ, zero, suc, max, ◌<◌, ◌≤◌, List, [], ◌∷◌, ◌++◌, length, get_or, map, Bool, true, false, cond, Result, Ok, Err, IfOk, OnOk, OnErr, refl, sym, ◌∙◌, ap, subst, arith, ◌⊎◌, inl, inr, All}
 use mathlib.Core.Path.{ap₂}
-use Rattle.std.proofs.lemmas.List.{length-append, map-append, get_or_past}
+use Rattle.std.proofs.lemmas.List.{map-append, get_or_past}
 use Rattle.std.proofs.lemmas.Bool.{cases_lt}
 use Rattle.sf_refusal.specs.declared.spot.Spot.{Spot}
 use Rattle.sf_arena.specs.declared.entry.Entry.{Entry}
@@ -11,6 +11,7 @@ use Rattle.sf_arena.specs.Items.{Added}
 use Rattle.sf_arena.proofs.Grown.{trees-length, added_counted, added_within, added_fresh, added_item, item_kept, tree_kept, tree_added, shallow_at, few_entries, shallow_entries}
 use Rattle.sf_expr.specs.declared.exprs.ExprId.{ExprId}
 use Rattle.sf_expr.specs.declared.exprs.FunctionId.{FunctionId}
+use Rattle.sf_expr.specs.declared.exprs.PatternId.{PatternId}
 use Rattle.sf_expr.specs.declared.exprs.NameId.{NameId}
 use Rattle.sf_expr.specs.declared.exprs.ConstantId.{ConstantId}
 use Rattle.sf_expr.specs.declared.exprs.ExprNode.TheVariants as expressions
@@ -19,18 +20,18 @@ use Rattle.sf_expr.specs.declared.exprs.ExprNode.{ExprNode}
 use Rattle.sf_expr.specs.declared.exprs.Exprs.{Exprs}
 use Rattle.sf_expr.specs.Patterns.{PlacedPattern}
 use Rattle.sf_expr.specs.Expressions.{Literal, Expression, variable, literal}
-use Rattle.sf_expr.specs.Arena.{expression, count_of, function_count, Holds, HoldsFunction as HoldsFunctionIn, function_at, pattern_at as pattern_at_in, body_at as body_at_in, node_at as value_node_at, spot_at as value_spot_at, Keeps as KeepsExpressions, Adds as AddsToExpressions, AddsName, name_at, next_name, AddsConstant, literal_at, next_constant, AddsFunction as AddsFunctionIn, IsUnchanged as ExpressionsUnchanged}
-use Rattle.sf_expr.proofs.Entered.{below_holds, holds_below, below_function, function_below, few_expressions, adds_keeps as expressions_kept, unchanged_keeps as unchanged_expressions_kept}
+use Rattle.sf_expr.specs.Arena.{expression, count_of, function_count, Holds, HoldsFunction as HoldsFunctionIn, function_at, pattern_at as pattern_at_in, body_at as body_at_in, node_at as value_node_at, spot_at as value_spot_at, Keeps as KeepsExpressions, Adds as AddsToExpressions, AddsName, name_at, next_name, AddsConstant, literal_at, next_constant, HoldsPattern, placed_at, next_pattern, AddsPattern, expression_of, AddsFunction as AddsFunctionIn, IsUnchanged as ExpressionsUnchanged}
+use Rattle.sf_expr.proofs.Entered.{below_holds, holds_below, below_function, function_below, pattern_below, below_pattern, few_expressions, adds_keeps as expressions_kept, unchanged_keeps as unchanged_expressions_kept}
 use Rattle.sf_term.specs.declared.refusal.BuildRefusal.{BuildRefusal}
 use Rattle.sf_term.specs.declared.node.TermId.{TermId}
 use Rattle.sf_term.specs.declared.node.Primitive.TheVariants as primitives
 use Rattle.sf_term.specs.declared.node.Node.{Node}
 use Rattle.sf_term.specs.declared.node.Node.TheVariants as nodes
 use Rattle.sf_term.specs.declared.program.Program.{Program}
-use Rattle.sf_term.specs.Trees.{Term, Template, primitive, joined, sided, headed, bare, with_value, arrow, term_depth}
+use Rattle.sf_term.specs.Trees.{Term, Template, term_depth}
 use Rattle.sf_term.specs.Headers.{Header, bodies_end}
 use Rattle.sf_term.specs.Entries.{identity_term, term_over, needs_terms, needs_expressions, needs_functions, identity_entry, term_entry, term_made, terms_made, term_entered}
-use Rattle.sf_term.specs.Arena.{term_number, expressions_of, term_count, expression_count, HoldsTerm, HoldsExpression, ProgramHoldsFunction, function_pattern_at, function_body_at, function_in, tree, expression_under, term_entry_of, term_node_at, expression_node_at, term_spot_at, expression_spot_at, term_of, headers_of, template_in, TermPartsBelow, HoldsTermParts, KeepsTrees, KeepsProgram, AddsTerm, AddsExpression, AddsProgramFunction, AddsTemplate, IsSameProgram}
+use Rattle.sf_term.specs.Arena.{term_number, expressions_of, term_count, expression_count, HoldsTerm, HoldsExpression, ProgramHoldsFunction, HoldsPatternIn, function_pattern_at, function_body_at, pattern_under, function_in, tree, expression_under, term_entry_of, term_node_at, expression_node_at, term_spot_at, expression_spot_at, term_of, headers_of, template_in, TermPartsBelow, HoldsTermParts, KeepsTrees, KeepsProgram, AddsTerm, AddsExpression, AddsProgramFunction, AddsTemplate, IsSameProgram}
 use Rattle.sf_term.proofs.Entered.{term-built, term-same}
 
 -- what a node needs is there where its parts are held
@@ -92,7 +93,7 @@ keeps_of old new k e = record {
 
 -- the trees stay where an entry is added
 added_keeps : (old new : Program) (entry : Entry Node) (n : ℕ) → new.expressions ≡ old.expressions → Added (entries_of old.terms) (entries_of new.terms) entry n → KeepsTrees old new
-unfolding HoldsTerm HoldsExpression ProgramHoldsFunction tree term_node_at term_spot_at expression_under expression_node_at expression_spot_at function_pattern_at function_body_at
+unfolding HoldsTerm HoldsExpression ProgramHoldsFunction HoldsPatternIn tree term_node_at term_spot_at expression_under expression_node_at expression_spot_at function_pattern_at function_body_at pattern_under
 added_keeps old new entry n same added = record {
   terms = λ t h. omega (arith, added_counted _ _ _ _ added);
   nodes = λ t h. ap (λ (e : Entry Node). e.node) (other t h);
@@ -106,6 +107,8 @@ added_keeps old new entry n same added = record {
   patterns = λ f h. ap (λ x. pattern_at_in x f) same;
   bodies = λ f h. ap (λ x. body_at_in x f) same;
   meanings = λ f h. ap (λ x. function_at x f) same;
+  holds_patterns = λ q h. subst (λ x. HoldsPattern x q) (sym same) h;
+  placed = λ q h. ap (λ x. placed_at x q) same;
 }
   where
     other : (t : TermId) → HoldsTerm old t → term_entry (entries_of new.terms) t.0 ≡ term_entry (entries_of old.terms) t.0
@@ -131,7 +134,7 @@ adds_added old new n d s id same added headers measured = record {
 
 -- the trees stay where the expressions grow
 grown_keeps : (old new : Program) → KeepsExpressions old.expressions new.expressions → entries_of new.terms ≡ entries_of old.terms → KeepsTrees old new
-unfolding HoldsTerm HoldsExpression ProgramHoldsFunction tree term_node_at term_spot_at expression_under expression_node_at expression_spot_at function_pattern_at function_body_at
+unfolding HoldsTerm HoldsExpression ProgramHoldsFunction HoldsPatternIn tree term_node_at term_spot_at expression_under expression_node_at expression_spot_at function_pattern_at function_body_at pattern_under
 grown_keeps old new k e = record {
   terms = λ t h. omega (arith, ap length e);
   nodes = λ t h. ap (λ es. (term_entry es t.0).node) e;
@@ -145,6 +148,8 @@ grown_keeps old new k e = record {
   patterns = λ f h. k.patterns f h;
   bodies = λ f h. k.bodies f h;
   meanings = λ f h. k.meanings f h;
+  holds_patterns = λ q h. k.holds_patterns q h;
+  placed = λ q h. k.placed q h;
 }
 
 -- what is added to the expressions is added to the program
@@ -177,7 +182,7 @@ adds_function old new f q b a same headers = record {
 
 -- the same expressions are kept
 same_kept : (x y : Exprs) → y ≡ x → KeepsExpressions x y
-same_kept x y e = subst (λ z. KeepsExpressions x z) (sym e) (record { holds = λ i h. h; nodes = λ i h. refl; trees = λ i h. refl; spots = λ i h. refl; functions = λ f h. h; patterns = λ f h. refl; bodies = λ f h. refl; meanings = λ f h. refl; holds_names = λ n h. h; names = λ n h. refl; holds_constants = λ n h. h; constants = λ n h. refl })
+same_kept x y e = subst (λ z. KeepsExpressions x z) (sym e) (record { holds = λ i h. h; nodes = λ i h. refl; trees = λ i h. refl; spots = λ i h. refl; functions = λ f h. h; patterns = λ f h. refl; bodies = λ f h. refl; meanings = λ f h. refl; holds_names = λ n h. h; names = λ n h. refl; holds_constants = λ n h. h; constants = λ n h. refl; holds_patterns = λ q h. h; placed = λ q h. refl })
 
 pub bodies_end-append : (hs : List Header) (h : Header) → bodies_end (hs ++ h ∷ []) ≡ max (bodies_end hs) (suc h.body.0)
 bodies_end-append [] h = omega arith
@@ -208,7 +213,7 @@ adds_template old new h same terms headers held = record {
 
 -- what shows the same
 pub unchanged : (old new : Program) → ExpressionsUnchanged old.expressions new.expressions → entries_of new.terms ≡ entries_of old.terms → headers_of new ≡ headers_of old → IsSameProgram old new
-unfolding term_count expression_count tree term_node_at term_spot_at expression_under expression_node_at expression_spot_at ProgramHoldsFunction function_pattern_at function_body_at
+unfolding term_count expression_count tree term_node_at term_spot_at expression_under expression_node_at expression_spot_at ProgramHoldsFunction HoldsPatternIn function_pattern_at function_body_at pattern_under
 unchanged old new x terms headers = record {
   term_counted = ap length terms;
   expression_counted = x.count;
@@ -221,16 +226,37 @@ unchanged old new x terms headers = record {
   holds_functions = λ f h. below_function new.expressions f (omega (arith, function_below old.expressions f h, x.functions));
   patterns = λ f. x.patterns f;
   bodies = λ f. x.bodies f;
+  holds_patterns = λ q h. below_pattern new.expressions q (omega (arith, pattern_below old.expressions q h, x.pattern_counted));
+  placed = λ q h. x.placed q;
   headers = headers;
 }
 
 pub same_expressions : (x : Exprs) → ExpressionsUnchanged x x
-same_expressions x = record { count = refl; functions = refl; name_counted = refl; constant_counted = refl; nodes = λ i. refl; trees = λ i. refl; spots = λ i. refl; patterns = λ f. refl; bodies = λ f. refl; names = λ n. refl; constants = λ n. refl }
+same_expressions x = record { count = refl; functions = refl; name_counted = refl; constant_counted = refl; pattern_counted = refl; nodes = λ i. refl; trees = λ i. refl; spots = λ i. refl; patterns = λ f. refl; bodies = λ f. refl; names = λ n. refl; constants = λ n. refl; placed = λ q. refl }
 
--- a program shows the same where a name is added
-pub named : (old new : Program) (n : NameId) (y : Name) → AddsName old.expressions new.expressions n y → entries_of new.terms ≡ entries_of old.terms → headers_of new ≡ headers_of old → IsSameProgram old new
-unfolding term_count expression_count tree term_node_at term_spot_at expression_under expression_node_at expression_spot_at ProgramHoldsFunction function_pattern_at function_body_at
-named old new n y x terms headers = record {
+-- Beside the nodes something was added: what an arena shows of its expressions and functions is the same.
+pub record AddsBeside (x y : Exprs) : Type 0 where
+  pub kept : KeepsExpressions x y
+  pub nodes : (i : ExprId) → value_node_at y i ≡ value_node_at x i
+  pub trees : (i : ExprId) → expression y i ≡ expression x i
+  pub spots : (i : ExprId) → value_spot_at y i ≡ value_spot_at x i
+  pub patterns : (f : FunctionId) → pattern_at_in y f ≡ pattern_at_in x f
+  pub bodies : (f : FunctionId) → body_at_in y f ≡ body_at_in x f
+  pub count : count_of y ≡ count_of x
+
+pub name_beside : (x y : Exprs) (n : NameId) (z : Name) → AddsName x y n z → AddsBeside x y
+name_beside x y n z a = record { kept = a.kept; nodes = a.nodes; trees = a.trees; spots = a.spots; patterns = a.patterns; bodies = a.bodies; count = a.count }
+
+pub constant_beside : (x y : Exprs) (n : ConstantId) (l : Literal) → AddsConstant x y n l → AddsBeside x y
+constant_beside x y n l a = record { kept = a.kept; nodes = a.nodes; trees = a.trees; spots = a.spots; patterns = a.patterns; bodies = a.bodies; count = a.count }
+
+pub pattern_beside : (x y : Exprs) (q : PatternId) (p : PlacedPattern) → AddsPattern x y q p → AddsBeside x y
+pattern_beside x y q p a = record { kept = a.kept; nodes = a.nodes; trees = a.trees; spots = a.spots; patterns = a.patterns; bodies = a.bodies; count = a.count }
+
+-- a program shows the same where something is added beside its nodes
+pub put_beside : (old new : Program) → AddsBeside old.expressions new.expressions → entries_of new.terms ≡ entries_of old.terms → headers_of new ≡ headers_of old → IsSameProgram old new
+unfolding term_count expression_count tree term_node_at term_spot_at expression_under expression_node_at expression_spot_at ProgramHoldsFunction HoldsPatternIn function_pattern_at function_body_at pattern_under
+put_beside old new x terms headers = record {
   term_counted = ap length terms;
   expression_counted = x.count;
   nodes = λ t. ap (λ es. (term_entry es t.0).node) terms;
@@ -242,24 +268,8 @@ named old new n y x terms headers = record {
   holds_functions = λ f h. x.kept.functions f h;
   patterns = λ f. x.patterns f;
   bodies = λ f. x.bodies f;
-  headers = headers;
-}
-
--- a program shows the same where a constant is added
-pub with_constant : (old new : Program) (n : ConstantId) (y : Literal) → AddsConstant old.expressions new.expressions n y → entries_of new.terms ≡ entries_of old.terms → headers_of new ≡ headers_of old → IsSameProgram old new
-unfolding term_count expression_count tree term_node_at term_spot_at expression_under expression_node_at expression_spot_at ProgramHoldsFunction function_pattern_at function_body_at
-with_constant old new n y x terms headers = record {
-  term_counted = ap length terms;
-  expression_counted = x.count;
-  nodes = λ t. ap (λ es. (term_entry es t.0).node) terms;
-  trees = λ t. ap (λ es. term_entered new.expressions es t.0) terms ∙ term-same old.expressions new.expressions (entries_of old.terms) t.0 x.kept old.arena.closed old.arena.functions_closed;
-  spots = λ t. ap (λ es. (term_entry es t.0).spot) terms;
-  value_nodes = λ e. x.nodes e;
-  values = λ e. x.trees e;
-  value_spots = λ e. x.spots e;
-  holds_functions = λ f h. x.kept.functions f h;
-  patterns = λ f. x.patterns f;
-  bodies = λ f. x.bodies f;
+  holds_patterns = λ q h. x.kept.holds_patterns q h;
+  placed = λ q h. x.kept.placed q h;
   headers = headers;
 }
 
@@ -279,6 +289,8 @@ unchanged_keeps old new u = keeps_of old new (record {
   patterns = λ f h. u.patterns f;
   bodies = λ f h. u.bodies f;
   meanings = λ f h. rw (u.patterns f, u.bodies f, u.values (function_body_at old f)) refl;
+  holds_patterns = λ q h. u.holds_patterns q h;
+  placed = λ q h. u.placed q h;
 }) u.headers
 
 pub keeps_trees_trans : (a b c : Program) → KeepsTrees a b → KeepsTrees b c → KeepsTrees a c
@@ -295,6 +307,8 @@ keeps_trees_trans a b c f g = record {
   patterns = λ i h. g.patterns i (f.functions i h) ∙ f.patterns i h;
   bodies = λ i h. g.bodies i (f.functions i h) ∙ f.bodies i h;
   meanings = λ i h. g.meanings i (f.functions i h) ∙ f.meanings i h;
+  holds_patterns = λ i h. g.holds_patterns i (f.holds_patterns i h);
+  placed = λ i h. g.placed i (f.holds_patterns i h) ∙ f.placed i h;
 }
 
 pub keeps_trans : (a b c : Program) → KeepsProgram a b → KeepsProgram b c → KeepsProgram a c
@@ -409,6 +423,18 @@ pub in_holds_function : (p : Program) (f : FunctionId) → HoldsFunctionIn (expr
 unfolding expressions_of ProgramHoldsFunction
 in_holds_function p f h = h
 
+pub pattern_under_in : (p : Program) (q : PatternId) → placed_at (expressions_of p) q ≡ pattern_under p q
+unfolding expressions_of pattern_under
+pattern_under_in p q = refl
+
+pub pattern_holds_in : (p : Program) (q : PatternId) → HoldsPatternIn p q → HoldsPattern (expressions_of p) q
+unfolding expressions_of HoldsPatternIn
+pattern_holds_in p q h = h
+
+pub in_holds_pattern : (p : Program) (q : PatternId) → HoldsPattern (expressions_of p) q → HoldsPatternIn p q
+unfolding expressions_of HoldsPatternIn
+in_holds_pattern p q h = h
+
 pub unchanged_trans : (a b c : Program) → IsSameProgram a b → IsSameProgram b c → IsSameProgram a c
 unchanged_trans a b c f g = record {
   term_counted = g.term_counted ∙ f.term_counted;
@@ -422,6 +448,8 @@ unchanged_trans a b c f g = record {
   holds_functions = λ i h. g.holds_functions i (f.holds_functions i h);
   patterns = λ i. g.patterns i ∙ f.patterns i;
   bodies = λ i. g.bodies i ∙ f.bodies i;
+  holds_patterns = λ i h. g.holds_patterns i (f.holds_patterns i h);
+  placed = λ i h. g.placed i (f.holds_patterns i h) ∙ f.placed i h;
   headers = g.headers ∙ f.headers;
 }
 
@@ -451,6 +479,21 @@ adds_with_constant a b c m l s (Ok id) added u adds =
     subst (λ (k : ConstantId). AddsExpression a c id (expressions.Constant k) (literal l) s) added.next
     (subst (λ (k : Literal). AddsExpression a c id (expressions.Constant m) (literal k) s) added.is (adds_after a b c id _ _ s u adds))
 adds_with_constant a b c m l s (Err f) added u adds = tt
+
+-- a pattern that is put beside the functions, and then the expression of a node that names it
+pub adds_with_pattern : (a b c : Program) (r : Result ExprId BuildRefusal) (q : PatternId) (p : PlacedPattern) (n : PatternId → ExprNode) (e : Expression) (s : Spot) → AddsPattern a.expressions b.expressions q p → IsSameProgram a b → expression_of b.expressions (n q) ≡ e → IfOk r (λ id. AddsExpression b c id (n q) (expression_of b.expressions (n q)) s) → IfOk r (λ id. AddsExpression a c id (n (next_pattern a.expressions)) e s)
+adds_with_pattern a b c (Ok id) q p n e s put u is adds =
+    subst (λ (k : PatternId). AddsExpression a c id (n k) e s) put.next
+    (subst (λ (w : Expression). AddsExpression a c id (n q) w s) is (adds_after a b c id _ _ s u adds))
+adds_with_pattern a b c (Err f) q p n e s put u is adds = tt
+
+-- and the pattern is there
+pub pattern_there : (a b c : Program) (r : Result ExprId BuildRefusal) (q : PatternId) (p : PlacedPattern) (n : ExprNode) (e : Expression) (s : Spot) → AddsPattern a.expressions b.expressions q p → IfOk r (λ id. AddsExpression b c id n e s) → OnOk r (HoldsPatternIn c (next_pattern a.expressions) × (pattern_under c (next_pattern a.expressions) ≡ p))
+unfolding HoldsPatternIn pattern_under
+pattern_there a b c (Ok id) q p n e s put adds =
+    subst (λ (k : PatternId). HoldsPattern c.expressions k × (placed_at c.expressions k ≡ p)) put.next
+    (adds.kept.trees.holds_patterns q put.within, adds.kept.trees.placed q put.within ∙ put.is)
+pattern_there a b c (Err f) q p n e s put adds = tt
 
 pub unchanged_after : {A E : Type 0} (a b c : Program) (r : Result A E) → IsSameProgram a b → OnErr r (IsSameProgram b c) → OnErr r (IsSameProgram a c)
 unchanged_after a b c (Ok x) u e = tt

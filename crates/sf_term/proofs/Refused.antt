@@ -1,9 +1,9 @@
 -- Refusals of arenas, as those of programs.
-use Rattle.std.proofs.Common.{◌≡◌, ◌↔◌, ℕ, ◌<◌, refl, ap, arith, Result, Err}
+use Rattle.std.proofs.Common.{◌≡◌, ◌↔◌, ℕ, suc, ◌<◌, ◌≤◌, refl, ap, arith, Result, Err}
 use Rattle.sf_arena.specs.declared.arena.ArenaRefusal.{ArenaRefusal}
 use Rattle.sf_arena.specs.declared.arena.ArenaRefusal.TheVariants as of_arenas
 use Rattle.sf_term.specs.declared.refusal.BuildRefusal.{BuildRefusal}
-use Rattle.sf_term.specs.declared.refusal.BuildRefusal.TheVariants.{TooMany, TooDeep}
+use Rattle.sf_term.specs.declared.refusal.BuildRefusal.TheVariants.{TooMany, TooDeep, BadName}
 use Rattle.sf_term.specs.Refusals.{as_build_refusal}
 
 -- a refusal is TooMany exactly where that of the arena is
@@ -23,3 +23,13 @@ pub deep_with : {X Y : Type 0} {count : ℕ} (d e : ℕ) (r : ArenaRefusal) (f :
 deep_with d e of_arenas.TooDeep f is same h = (λ q. let g = h.0 refl in (g.0, omega (arith, g.1, same)), λ p. ap (λ g. Err g) is)
 deep_with d e of_arenas.TooMany f is same h = (λ q. cc, λ p. let q = h.1 (p.0, omega (arith, p.1, same)) in cc)
 deep_with d e of_arenas.Memory f is same h = (λ q. cc, λ p. let q = h.1 (p.0, omega (arith, p.1, same)) in cc)
+
+-- a refusal is BadName exactly where the pattern's is, whose parts are one less deep than the whole
+pub bad_name_as : {X Y B : Type 0} {count : ℕ} (inner whole : ℕ) (f : BuildRefusal) → (◌≡◌ {A = Result Y BuildRefusal} (Err f) (Err BadName) ↔ (count < 100000) × (inner < 64) × B) → whole ≡ suc inner → ◌≡◌ {A = Result X BuildRefusal} (Err f) (Err BadName) ↔ (count < 100000) × (whole ≤ 64) × B
+bad_name_as inner whole f h e = (
+  λ q. let g = h.0 (ap (λ g. Err g) (of_err q)) in (g.0, omega (arith, g.1, e), g.2),
+  λ p. ap (λ g. Err g) (of_err (h.1 (p.0, omega (arith, p.1, e), p.2))),
+)
+  where
+    of_err : {Z : Type 0} → ◌≡◌ {A = Result Z BuildRefusal} (Err f) (Err BadName) → f ≡ BadName
+    of_err q = cc

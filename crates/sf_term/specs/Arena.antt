@@ -5,11 +5,12 @@ use Rattle.sf_arena.specs.declared.entry.Entry.{Entry}
 use Rattle.sf_arena.specs.Arenas.{entries_of}
 use Rattle.sf_expr.specs.declared.exprs.ExprId.{ExprId}
 use Rattle.sf_expr.specs.declared.exprs.FunctionId.{FunctionId}
+use Rattle.sf_expr.specs.declared.exprs.PatternId.{PatternId}
 use Rattle.sf_expr.specs.declared.exprs.ExprNode.{ExprNode}
 use Rattle.sf_expr.specs.declared.exprs.Exprs.{Exprs}
 use Rattle.sf_expr.specs.Expressions.{Expression, Function, function}
 use Rattle.sf_expr.specs.Patterns.{PlacedPattern, pattern_of}
-use Rattle.sf_expr.specs.Arena.{expression, count_of, Holds, HoldsFunction as HoldsFunctionIn, pattern_at as pattern_at_in, body_at as body_at_in, node_at as expression_node_in, spot_at as expression_spot_in}
+use Rattle.sf_expr.specs.Arena.{expression, count_of, Holds, HoldsFunction as HoldsFunctionIn, HoldsPattern, placed_at, pattern_at as pattern_at_in, body_at as body_at_in, node_at as expression_node_in, spot_at as expression_spot_in}
 use Rattle.sf_term.specs.declared.node.TermId.{TermId}
 use Rattle.sf_term.specs.declared.node.Primitive.TheVariants as primitives
 use Rattle.sf_term.specs.declared.node.Node.{Node}
@@ -47,6 +48,10 @@ HoldsExpression p e = Holds p.expressions e
 unfoldable pub ProgramHoldsFunction : Program → FunctionId → Type 0
 ProgramHoldsFunction p f = HoldsFunctionIn p.expressions f
 
+-- a program holds a pattern under an id, beside its functions
+unfoldable pub HoldsPatternIn : Program → PatternId → Type 0
+HoldsPatternIn p q = HoldsPattern p.expressions q
+
 -- the term at an id; the identity where the program holds none
 unfoldable pub tree : Program → TermId → Term
 tree p t = term_entered p.expressions (entries_of p.terms) t.0
@@ -62,6 +67,10 @@ function_pattern_at p f = pattern_at_in p.expressions f
 -- the id of the body of the function at an id
 unfoldable pub function_body_at : Program → FunctionId → ExprId
 function_body_at p f = body_at_in p.expressions f
+
+-- the pattern at an id; the one that binds nothing where the program holds none
+unfoldable pub pattern_under : Program → PatternId → PlacedPattern
+pattern_under p q = placed_at p.expressions q
 
 -- the function at an id
 abbrev pub function_in : Program → FunctionId → Function
@@ -128,7 +137,7 @@ HoldsTermParts p (nodes.Joined j a b) = HoldsTerm p a × HoldsTerm p b
 HoldsTermParts p (nodes.Sided d a) = HoldsTerm p a
 HoldsTermParts p (nodes.Headed h e a) = HoldsExpression p e × HoldsTerm p a
 
--- Terms, expressions and functions that a program held are there as they were.
+-- Terms, expressions, functions and patterns that a program held are there as they were.
 pub record KeepsTrees (old new : Program) : Type 0 where
   pub terms : (t : TermId) → HoldsTerm old t → HoldsTerm new t
   pub nodes : (t : TermId) → HoldsTerm old t → term_node_at new t ≡ term_node_at old t
@@ -142,6 +151,8 @@ pub record KeepsTrees (old new : Program) : Type 0 where
   pub patterns : (f : FunctionId) → ProgramHoldsFunction old f → function_pattern_at new f ≡ function_pattern_at old f
   pub bodies : (f : FunctionId) → ProgramHoldsFunction old f → function_body_at new f ≡ function_body_at old f
   pub meanings : (f : FunctionId) → ProgramHoldsFunction old f → function_in new f ≡ function_in old f
+  pub holds_patterns : (q : PatternId) → HoldsPatternIn old q → HoldsPatternIn new q
+  pub placed : (q : PatternId) → HoldsPatternIn old q → pattern_under new q ≡ pattern_under old q
 
 -- All that a program held is there as it was, and it has the same templates.
 pub record KeepsProgram (old new : Program) : Type 0 where
@@ -193,7 +204,7 @@ pub record AddsTemplate (old new : Program) (h : Header) : Type 0 where
   pub term_counted : term_count new ≡ term_count old
   pub expression_counted : expression_count new ≡ expression_count old
 
--- two programs show the same
+-- two programs show the same, but that there may be more patterns
 pub record IsSameProgram (old new : Program) : Type 0 where
   pub term_counted : term_count new ≡ term_count old
   pub expression_counted : expression_count new ≡ expression_count old
@@ -206,6 +217,8 @@ pub record IsSameProgram (old new : Program) : Type 0 where
   pub holds_functions : (f : FunctionId) → ProgramHoldsFunction old f → ProgramHoldsFunction new f
   pub patterns : (f : FunctionId) → function_pattern_at new f ≡ function_pattern_at old f
   pub bodies : (f : FunctionId) → function_body_at new f ≡ function_body_at old f
+  pub holds_patterns : (q : PatternId) → HoldsPatternIn old q → HoldsPatternIn new q
+  pub placed : (q : PatternId) → HoldsPatternIn old q → pattern_under new q ≡ pattern_under old q
   pub headers : headers_of new ≡ headers_of old
 
 -- a program is a copy of another: it shows the same

@@ -1,10 +1,11 @@
 //! Programs: terms and templates, in an arena.
-ghost use Rattle.std.specs.Prelude.{◌≡◌, ◌<◌, ◌≤◌, ◌↔◌, IfOk, OnOk, OnErr, [], length, string_bytes, All};
+ghost use Rattle.std.specs.Prelude.{◌≡◌, ◌<◌, ◌≤◌, ◌↔◌, max, IfOk, OnOk, OnErr, [], length, string_bytes, All};
 ghost use Rattle.sf_lex.specs.Words.{IsName};
 ghost use Rattle.sf_expr.specs.Expressions.{variable, literal, int_literal, paired, applied as applied_of, operation as operation_of, conditional as conditional_of};
+ghost use Rattle.sf_expr.specs.Expressions.{mapped as mapped_of, folded as folded_of, pattern_depth};
 ghost use Rattle.sf_expr.specs.Expressions.{function as function_of, depth as expression_depth_of, function_depth as function_depth_of};
 ghost use Rattle.sf_expr.specs.Patterns.{pattern_of};
-ghost use Rattle.sf_expr.specs.Arena.{next_name, next_constant, expression_of, HoldsParts as HoldsExpressionParts};
+ghost use Rattle.sf_expr.specs.Arena.{next_name, next_constant, next_pattern, AddsPattern, expression_of, HoldsParts as HoldsExpressionParts};
 ghost use Rattle.sf_expr.specs.declared.exprs.ExprNode.TheVariants as expressions;
 ghost use Rattle.sf_term.specs.Headers.{bodies_end};
 ghost use Rattle.sf_arena.specs.Arenas.{entries_of};
@@ -18,7 +19,10 @@ use crate::node::{Node, Primitive, TermId};
 use crate::refusal::BuildRefusal;
 use crate::template::{Template, clone_all};
 use sf_arena::{Arena, Entry};
-use sf_expr::{Constant, ExprId, ExprNode, Exprs, FunctionId, Operator, Pat, Spot, Unary};
+use sf_expr::{
+    Constant, ExprId, ExprNode, Exprs, Folding, FunctionId, Mapping, Operator, Pat, PatternId,
+    Spot, Unary,
+};
 use sf_lex::is_name;
 use sf_value::Ty;
 use std::alloc::{AllocError, Global};
@@ -37,7 +41,7 @@ pub struct Program {
 impl Program {
     ghost use Rattle.sf_term.specs.Arena.{term_count, expression_count, HoldsTerm, HoldsExpression, ProgramHoldsFunction};
     ghost use Rattle.sf_term.specs.Arena.{tree, expression_under, function_in, term_entry_of, term_node_at, term_spot_at, term_of, term_number};
-    ghost use Rattle.sf_term.specs.Arena.{expressions_of, headers_of, TermPartsBelow, HoldsTermParts};
+    ghost use Rattle.sf_term.specs.Arena.{expressions_of, headers_of, HoldsPatternIn, pattern_under, TermPartsBelow, HoldsTermParts};
     ghost use Rattle.sf_term.specs.Arena.{AddsTerm, AddsExpression, AddsProgramFunction, AddsTemplate, IsSameProgram, IsProgramCopy};
 
     /// No term, no expression and no template.
@@ -262,6 +266,115 @@ impl Program {
         ensures err { OnErr result (IsSameProgram self.old self.new) }
     {
         self.add_expression(ExprNode::Conditional(condition, first, second), spot)
+    }
+
+    // Puts the pattern of an expression beside the functions; `parts` is how many expressions stand one inside another in
+    // the expression's parts. Refused as the expression that is to be added behind it: with `TooMany`, then `TooDeep`,
+    // then `BadName`, and with `Memory`.
+    #[tactic(auto, unfolding(crate::specs::Arena::expression_count, crate::specs::Arena::expressions_of))]
+    fn place(&mut self, pattern: Pat, parts: u32) -> Result<PatternId, BuildRefusal>
+        ensures ok { IfOk result (λ q. AddsPattern (expressions_of self.old) (expressions_of self.new) q pattern) }
+        ensures same { IsSameProgram self.old self.new }
+        ensures named { OnOk result (HasNames (pattern_of pattern)) }
+        ensures many { result ≡ Err BuildRefusal.TooMany ↔ 100000 ≤ expression_count self.old }
+        ensures deep { let inner = max parts (pattern_depth (pattern_of pattern)) in
+            result ≡ Err BuildRefusal.TooDeep ↔ (expression_count self.old < 100000) × (64 ≤ inner) }
+        ensures bad_name { let inner = max parts (pattern_depth (pattern_of pattern)) in
+            result ≡ Err BuildRefusal.BadName ↔ (expression_count self.old < 100000) × (inner < 64) × ¬ HasNames (pattern_of pattern) }
+    {
+        if 100_000 <= self.expressions.len() {
+            return Err(BuildRefusal::TooMany);
+        }
+        if 64 <= parts.max(pattern.depth()) {
+            return Err(BuildRefusal::TooDeep);
+        }
+        let named = has_names(&pattern);
+        if !named {
+            return Err(BuildRefusal::BadName);
+        }
+        match self.expressions.pattern_in(pattern) {
+            Ok(id) => Ok(id),
+            Err(refusal) => Err(BuildRefusal::from(refusal)),
+        }
+    }
+
+    /// Adds a form on a value with a function to the expressions. Refused with `TooMany` where 100,000 expressions are
+    /// there, then with `TooDeep` where more than 64 patterns or expressions would stand one inside another, then with
+    /// `BadName` where a name of its pattern is no name of the language, and with `Memory`. A refused call changes
+    /// nothing.
+    #[tactic(auto, unfolding(crate::specs::Arena::expressions_of, crate::specs::Arena::expression_under))]
+    pub fn mapped(
+        &mut self,
+        part: ExprId,
+        mapping: Mapping,
+        pattern: Pat,
+        body: ExprId,
+        spot: Spot,
+    ) -> Result<ExprId, BuildRefusal>
+        requires part_held { HoldsExpression self.old part }
+        requires body_held { HoldsExpression self.old body }
+        ensures ok { let next = next_pattern (expressions_of self.old) in
+            let whole = mapped_of (expression_under self.old part) mapping (pattern_of pattern) (expression_under self.old body) in
+            IfOk result (λ id. AddsExpression self.old self.new id (expressions.Mapped part mapping next body) whole spot) }
+        ensures placed { let next = next_pattern (expressions_of self.old) in
+            OnOk result (HoldsPatternIn self.new next × (pattern_under self.new next ≡ pattern)) }
+        ensures named { OnOk result (HasNames (pattern_of pattern)) }
+        ensures many { result ≡ Err BuildRefusal.TooMany ↔ 100000 ≤ expression_count self.old }
+        ensures deep { let whole = mapped_of (expression_under self.old part) mapping (pattern_of pattern) (expression_under self.old body) in
+            result ≡ Err BuildRefusal.TooDeep ↔ (expression_count self.old < 100000) × (64 < expression_depth_of whole) }
+        ensures bad_name { let whole = mapped_of (expression_under self.old part) mapping (pattern_of pattern) (expression_under self.old body) in
+            result ≡ Err BuildRefusal.BadName ↔ (expression_count self.old < 100000) × (expression_depth_of whole ≤ 64) × ¬ HasNames (pattern_of pattern) }
+        ensures err { OnErr result (IsSameProgram self.old self.new) }
+    {
+        let parts = self
+            .expressions
+            .depth(part)
+            .max(self.expressions.depth(body));
+        match self.place(pattern, parts) {
+            Ok(id) => self.add_expression(ExprNode::Mapped(part, mapping, id, body), spot),
+            Err(refusal) => Err(refusal),
+        }
+    }
+
+    /// Adds a form on two values with a function to the expressions. Refused with `TooMany` where 100,000 expressions are
+    /// there, then with `TooDeep` where more than 64 patterns or expressions would stand one inside another, then with
+    /// `BadName` where a name of its pattern is no name of the language, and with `Memory`. A refused call changes
+    /// nothing.
+    #[tactic(auto, unfolding(crate::specs::Arena::expressions_of, crate::specs::Arena::expression_under))]
+    pub fn folded(
+        &mut self,
+        first: ExprId,
+        folding: Folding,
+        second: ExprId,
+        pattern: Pat,
+        body: ExprId,
+        spot: Spot,
+    ) -> Result<ExprId, BuildRefusal>
+        requires first_held { HoldsExpression self.old first }
+        requires second_held { HoldsExpression self.old second }
+        requires body_held { HoldsExpression self.old body }
+        ensures ok { let next = next_pattern (expressions_of self.old) in
+            let whole = folded_of (expression_under self.old first) folding (expression_under self.old second) (pattern_of pattern) (expression_under self.old body) in
+            IfOk result (λ id. AddsExpression self.old self.new id (expressions.Folded first folding second next body) whole spot) }
+        ensures placed { let next = next_pattern (expressions_of self.old) in
+            OnOk result (HoldsPatternIn self.new next × (pattern_under self.new next ≡ pattern)) }
+        ensures named { OnOk result (HasNames (pattern_of pattern)) }
+        ensures many { result ≡ Err BuildRefusal.TooMany ↔ 100000 ≤ expression_count self.old }
+        ensures deep { let whole = folded_of (expression_under self.old first) folding (expression_under self.old second) (pattern_of pattern) (expression_under self.old body) in
+            result ≡ Err BuildRefusal.TooDeep ↔ (expression_count self.old < 100000) × (64 < expression_depth_of whole) }
+        ensures bad_name { let whole = folded_of (expression_under self.old first) folding (expression_under self.old second) (pattern_of pattern) (expression_under self.old body) in
+            result ≡ Err BuildRefusal.BadName ↔ (expression_count self.old < 100000) × (expression_depth_of whole ≤ 64) × ¬ HasNames (pattern_of pattern) }
+        ensures err { OnErr result (IsSameProgram self.old self.new) }
+    {
+        let operands = self
+            .expressions
+            .depth(first)
+            .max(self.expressions.depth(second));
+        let parts = operands.max(self.expressions.depth(body));
+        match self.place(pattern, parts) {
+            Ok(id) => self.add_expression(ExprNode::Folded(first, folding, second, id, body), spot),
+            Err(refusal) => Err(refusal),
+        }
     }
 
     /// Adds a function, which counts as no expression. Refused with `TooDeep` where more than 64 patterns or

@@ -1,86 +1,35 @@
 //! Stored functions, which no network calls yet.
-ghost use Rattle.std.specs.Prelude.{◌≡◌, Some};
-ghost use Rattle.sf_func.specs.Examples.{below, greater_number};
+ghost use Rattle.std.specs.Prelude.{◌≡◌, Some, None, cond};
+ghost use Rattle.std.specs.Int.Signed.{lt_z};
 
-use sf_func::{Function, FunctionFault, Int1, Int2, OnNumber, OnNumbers, Registry, Stored};
+use sf_func::{
+    Absolute, AddRefusal, Function, FunctionFault, Greatest, Holds, Int1, Int2, Least, OnNumber,
+    Registry, Sign,
+};
 use sf_value::{Ty, Value, same};
 use std::alloc::Global;
 use std::test::Fail;
 
 /// Numbers below a bound, by themselves.
-#[tactic(auto, using(sf_func::proofs::Closures::int1_keeps))]
-fn add_below(alloc: Global, registry: &mut Registry, bound: i64) -> Result<(), Fail> {
-    let closure: OnNumber = Box::new(
-        alloc,
-        move |n: i64| -> Option<i64>
-            ensures { result ≡ below bound n }
-        { if n < bound { Some(n) } else { None } },
-    )?;
-    let stored = Stored::Int1(Int1::new(closure));
-    match registry.add(alloc, "below", Ty::int(), Ty::int(), stored) {
-        Ok(()) => Ok(()),
-        Err(_) => Err(Fail::new("not added")),
-    }
+#[derive(Drop)]
+struct Below {
+    bound: i64,
 }
 
-/// The greater one of two numbers.
-#[tactic(auto, using(sf_func::proofs::Closures::int2_keeps))]
-fn add_max(alloc: Global, registry: &mut Registry) -> Result<(), Fail> {
-    let closure: OnNumbers = Box::new(
-        alloc,
-        |n: i64, m: i64| -> Option<i64>
-            ensures { result ≡ greater_number n m }
-        { if n < m { Some(m) } else { Some(n) } },
-    )?;
-    let from = Ty::pair(alloc, Ty::int(), Ty::int())?;
-    let stored = Stored::Int2(Int2::new(closure));
-    match registry.add(alloc, "max", from, Ty::int(), stored) {
-        Ok(()) => Ok(()),
-        Err(_) => Err(Fail::new("not added")),
-    }
-}
+impl OnNumber for Below {
+    ghost answer = { λ b n. cond (lt_z n b.bound) (Some n) None };
 
-/// What the function of a name answers.
-fn answer(
-    alloc: Global,
-    registry: &Registry,
-    name: &str,
-    value: &Value,
-) -> Option<Result<Value, FunctionFault>> {
-    match registry.find(name) {
-        Some(entry) => Some(entry.apply(alloc, value)),
-        None => None,
+    fn answer(&self, n: i64) -> Option<i64> {
+        if n < self.bound { Some(n) } else { None }
     }
-}
-
-/// Whether the answer is this number.
-fn is_number(answer: &Option<Result<Value, FunctionFault>>, wanted: i64) -> bool {
-    match answer {
-        Some(Ok(value)) => same(value, &Value::int(wanted)),
-        _ => false,
-    }
-}
-
-#[test]
-fn closures_on_numbers_answer(rt: HostRuntime) -> Result<(), Fail> {
-    let alloc = rt.alloc();
-    let mut registry = Registry::new(alloc);
-    add_below(alloc, &mut registry, 10)?;
-    add_max(alloc, &mut registry)?;
-    let nine = Value::int(9);
-    assert!(rt; is_number(&answer(alloc, &registry, "below", &nine), 9));
-    let both = Value::pair(alloc, nine, Value::int(10))?;
-    assert!(rt; is_number(&answer(alloc, &registry, "max", &both), 10));
-    assert!(rt; answer(alloc, &registry, "least", &both).is_none());
-    Ok(())
 }
 
 /// A function of a type of its own: it answers each argument by itself.
 #[derive(Drop)]
-struct Same;
+struct Echo;
 
-impl Function for Same {
-    ghost gives = { λ _ d a. a ≡ Some d };
+impl Function for Echo {
+    ghost answers = { λ _ d. Some d };
 
     fn apply(&self, alloc: Global, value: &Value) -> Result<Value, FunctionFault> {
         match value.clone_in(alloc) {
@@ -90,13 +39,121 @@ impl Function for Same {
     }
 }
 
+/// Whether the answer is this number.
+fn is_number(answer: &Result<Value, FunctionFault>, wanted: i64) -> bool {
+    match answer {
+        Ok(value) => same(value, &Value::int(wanted)),
+        Err(_) => false,
+    }
+}
+
+/// Whether the answer is a refusal.
+fn is_refused(answer: &Result<Value, FunctionFault>) -> bool {
+    match answer {
+        Err(FunctionFault::Refused) => true,
+        _ => false,
+    }
+}
+
 #[test]
-fn a_function_of_its_own_type_answers(rt: HostRuntime) -> Result<(), Fail> {
+fn functions_of_one_number_answer(rt: HostRuntime) -> Result<(), Fail> {
     let alloc = rt.alloc();
     let mut registry = Registry::new(alloc);
-    let own: Box<dyn Function> = Box::new(alloc, Same)?;
-    let added = registry.add(alloc, "same", Ty::int(), Ty::int(), Stored::Own(own));
-    assert!(rt; added.is_ok());
-    assert!(rt; is_number(&answer(alloc, &registry, "same", &Value::int(5)), 5));
+    let abs: Box<dyn Function> = Box::new(alloc, Int1::new(Absolute))?;
+    assert!(rt;
+        registry
+            .add(alloc, "abs", Ty::int(), Ty::int(), abs)
+            .is_ok()
+    );
+    let sign: Box<dyn Function> = Box::new(alloc, Int1::new(Sign))?;
+    assert!(rt;
+        registry
+            .add(alloc, "sign", Ty::int(), Ty::int(), sign)
+            .is_ok()
+    );
+    let below: Box<dyn Function> = Box::new(alloc, Int1::new(Below { bound: 10 }))?;
+    assert!(rt;
+        registry
+            .add(alloc, "below", Ty::int(), Ty::int(), below)
+            .is_ok()
+    );
+    assert!(rt; is_number(&registry.call(alloc, "abs", &Value::int(-5)), 5));
+    assert!(rt;
+        is_number(
+            &registry.call(alloc, "abs", &Value::int(i64::MAX)),
+            i64::MAX
+        )
+    );
+    assert!(rt; is_refused(&registry.call(alloc, "abs", &Value::int(i64::MIN))));
+    assert!(rt; is_refused(&registry.call(alloc, "abs", &Value::unit())));
+    assert!(rt; is_number(&registry.call(alloc, "sign", &Value::int(-5)), -1));
+    assert!(rt; is_number(&registry.call(alloc, "sign", &Value::int(0)), 0));
+    assert!(rt; is_number(&registry.call(alloc, "sign", &Value::int(5)), 1));
+    assert!(rt; is_number(&registry.call(alloc, "below", &Value::int(9)), 9));
+    assert!(rt; is_refused(&registry.call(alloc, "below", &Value::int(10))));
+    assert!(rt; is_refused(&registry.call(alloc, "above", &Value::int(10))));
+    Ok(())
+}
+
+#[test]
+fn functions_of_two_numbers_answer(rt: HostRuntime) -> Result<(), Fail> {
+    let alloc = rt.alloc();
+    let mut registry = Registry::new(alloc);
+    let from = Ty::pair(alloc, Ty::int(), Ty::int())?;
+    let max: Box<dyn Function> = Box::new(alloc, Int2::new(Greatest))?;
+    assert!(rt; registry.add(alloc, "max", from, Ty::int(), max).is_ok());
+    let from = Ty::pair(alloc, Ty::int(), Ty::int())?;
+    let min: Box<dyn Function> = Box::new(alloc, Int2::new(Least))?;
+    assert!(rt; registry.add(alloc, "min", from, Ty::int(), min).is_ok());
+    let both = Value::pair(alloc, Value::int(9), Value::int(10))?;
+    assert!(rt; is_number(&registry.call(alloc, "max", &both), 10));
+    assert!(rt; is_number(&registry.call(alloc, "min", &both), 9));
+    assert!(rt; is_refused(&registry.call(alloc, "min", &Value::int(9))));
+    Ok(())
+}
+
+#[test]
+fn a_function_from_texts_to_texts_answers(rt: HostRuntime) -> Result<(), Fail> {
+    let alloc = rt.alloc();
+    let mut registry = Registry::new(alloc);
+    let echo: Box<dyn Function> = Box::new(alloc, Echo)?;
+    assert!(rt;
+        registry
+            .add(alloc, "echo", Ty::text(), Ty::text(), echo)
+            .is_ok()
+    );
+    let hello = Value::text(alloc, String::from_str(alloc, "hello")?)?;
+    match registry.call(alloc, "echo", &hello) {
+        Ok(answer) => assert!(rt; same(&answer, &hello)),
+        Err(_) => assert!(rt; false),
+    }
+    Ok(())
+}
+
+#[test]
+fn refused_functions_come_back(rt: HostRuntime) -> Result<(), Fail> {
+    let alloc = rt.alloc();
+    let mut registry = Registry::new(alloc);
+    for i in 0..256u64 {
+        let name = format!(in alloc; "f{i}")?;
+        let echo: Box<dyn Function> = Box::new(alloc, Echo)?;
+        assert!(rt;
+            registry
+                .add(alloc, name.as_str(), Ty::int(), Ty::int(), echo)
+                .is_ok()
+        );
+    }
+    let echo: Box<dyn Function> = Box::new(alloc, Echo)?;
+    let Err((cause, echo)) = registry.add(alloc, "f7", Ty::int(), Ty::int(), echo) else {
+        return Err(Fail::new("added again"));
+    };
+    assert!(rt; cause == AddRefusal::DuplicateName);
+    let Err((cause, echo)) = registry.add(alloc, "f256", Ty::int(), Ty::int(), echo) else {
+        return Err(Fail::new("added the 257th"));
+    };
+    assert!(rt; cause == AddRefusal::Full);
+    assert!(rt; is_number(&echo.apply(alloc, &Value::int(3)), 3));
+    assert!(rt; is_number(&registry.call(alloc, "f255", &Value::int(3)), 3));
+    assert!(rt; registry.types_of("f256").is_none());
     Ok(())
 }

@@ -58,12 +58,8 @@ spelled_names (both p q) rest named =
     let all : AreNamed (spell_pattern p ++ behind) = subst AreNamed (brackets_behind (spell_pattern p) (spell_pattern q) rest (symbol symbols.Comma)) named.1 in
     All-append IsName (names_in p) (names_in q) (spelled_names p behind all) (spelled_names q (symbol symbols.Close ∷ rest) (named_behind (spell_pattern p) behind all).1)
 
--- a pattern whose tokens are named
-pub record NamedPattern (p : Pattern) (rest : List Tok) : Type 0 where
-  pub names : HasNames p
-  pub behind : AreNamed rest
+pub pattern_behind : (d : ℕ) (tokens : List Tok) (p : Pattern) (rest : List Tok) → parse_pattern d tokens ≡ got p rest → AreNamed tokens → AreNamed rest
+pattern_behind d tokens p rest is named = named_behind (spell_pattern p) rest (subst AreNamed (pattern_takes d tokens p rest is).spelled named)
 
-pub pattern_named : (d : ℕ) (tokens : List Tok) (p : Pattern) (rest : List Tok) → parse_pattern d tokens ≡ got p rest → AreNamed tokens → NamedPattern p rest
-pattern_named d tokens p rest is named =
-    let all : AreNamed (spell_pattern p ++ rest) = subst AreNamed (pattern_takes d tokens p rest is).spelled named in
-    record { names = spelled_names p rest all; behind = named_behind (spell_pattern p) rest all }
+pub pattern_named : (d : ℕ) (tokens : List Tok) (p : Pattern) (rest : List Tok) → parse_pattern d tokens ≡ got p rest → AreNamed tokens → HasNames p
+pattern_named d tokens p rest is named = spelled_names p rest (subst AreNamed (pattern_takes d tokens p rest is).spelled named)

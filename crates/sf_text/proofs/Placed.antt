@@ -7,10 +7,14 @@ use Rattle.std.proofs.lemmas.List.{length-append, length-map, append-nil, take_r
 use Rattle.sf_refusal.specs.declared.spot.Spot.{Spot}
 use Rattle.sf_operator.specs.declared.operator.Unary.{Unary}
 use Rattle.sf_operator.specs.declared.operator.Operator.{Operator}
+use Rattle.sf_operator.specs.declared.operator.Mapping.{Mapping}
+use Rattle.sf_operator.specs.declared.operator.Mapping.TheVariants as mappings
+use Rattle.sf_operator.specs.declared.operator.Folding.{Folding}
 use Rattle.sf_expr.specs.declared.exprs.ExprId.{ExprId}
 use Rattle.sf_expr.specs.declared.exprs.NameId.{NameId}
 use Rattle.sf_expr.specs.declared.exprs.ConstantId.{ConstantId}
 use Rattle.sf_expr.specs.declared.exprs.FunctionId.{FunctionId}
+use Rattle.sf_expr.specs.declared.exprs.PatternId.{PatternId}
 use Rattle.sf_expr.specs.declared.exprs.ExprNode.{ExprNode}
 use Rattle.sf_expr.specs.declared.exprs.ExprNode.TheVariants as expressions
 use Rattle.sf_expr.specs.Patterns.{PlacedPattern}
@@ -27,27 +31,30 @@ use Rattle.sf_term.specs.declared.node.Node.TheVariants as nodes
 use Rattle.sf_term.specs.declared.program.Program.{Program}
 use Rattle.sf_term.specs.Trees.{Term}
 use Rattle.sf_term.specs.Headers.{Header}
-use Rattle.sf_term.specs.Arena.{KeepsTrees, KeepsProgram, AddsTerm, AddsExpression, AddsProgramFunction, AddsTemplate, function_body_at, headers_of, template_in}
+use Rattle.sf_term.specs.Arena.{KeepsTrees, KeepsProgram, HoldsPatternIn, pattern_under, AddsTerm, AddsExpression, AddsProgramFunction, AddsTemplate, function_body_at, headers_of, template_in}
 use Rattle.sf_term.proofs.Kept.{keeps_trees_trans}
 use Rattle.sf_value.specs.Values.{Kind}
 use Rattle.sf_lex.specs.Tokens.{Tok, Located, seen, shown, place_at, symbol}
 use Rattle.sf_lex.specs.Cutting.{AreTokensOf}
 use Rattle.sf_lex.specs.declared.symbol.Symbol.TheVariants as symbols
 use Rattle.sf_grammar.specs.declared.ty.Version.{Version}
-use Rattle.sf_grammar.specs.Spelling.{takes_brackets, stands_between, spell_type, spell_expression, spell_signature}
+use Rattle.sf_grammar.specs.Spelling.{takes_brackets, stands_between, maps_in_brackets, spell_type, spell_expression, spell_signature}
 use Rattle.sf_grammar.specs.Reading.{got, parse_inner_type, parse_link, parse_signature}
 use Rattle.sf_text.specs.Answers.{toks}
 use Rattle.sf_grammar.proofs.Takes.{TookLink, link_at_takes, TookType, inner_type_takes, TookSignature, signature_takes}
 use Rattle.sf_lex.specs.declared.token.PlacedToken.{PlacedToken}
 use Rattle.sf_grammar.specs.declared.head.Link.{Link}
 use Rattle.sf_grammar.specs.declared.head.Link.TheVariants as links
-use Rattle.sf_grammar.specs.Placing.{around, PatternPlaced, ExpressionStands, ExpressionPlaced, unit_placed, truth_placed, number_placed, constant_placed, variable_placed, pair_placed, prefixed_placed, one_in_brackets_placed, operation_placed, two_in_brackets_placed, conditional_placed, FunctionPlaced, function_placed, TermStands, TermPlaced, bare_placed, with_value_placed, arrow_placed, joined_placed, sided_placed, headed_placed, TemplatePlaced, TemplatesPlaced, none_placed, template_placed, NetworkPlaced, IsPlacedIn}
+use Rattle.sf_grammar.specs.Placing.{around, PatternPlaced, PatternStands, ExpressionStands, ExpressionPlaced, unit_placed, truth_placed, number_placed, constant_placed, variable_placed, pair_placed, prefixed_placed, one_in_brackets_placed, operation_placed, two_in_brackets_placed, conditional_placed, let_placed, one_and_function_placed, two_and_function_placed, FunctionPlaced, function_placed, TermStands, TermPlaced, bare_placed, with_value_placed, arrow_placed, joined_placed, sided_placed, headed_placed, TemplatePlaced, TemplatesPlaced, none_placed, template_placed, NetworkPlaced, IsPlacedIn}
 use Rattle.sf_text.specs.Progress.{IsSpelled}
 use Rattle.sf_text.proofs.Whole.{toks_same}
-use Rattle.sf_text.specs.Consuming.{places, BehindOne, BehindSome, HeadingPlaced, OpeningPlaced, Consumes, ConsumesBehind, PlacesTemplate, linked_node}
+use Rattle.sf_text.specs.Consuming.{places, BehindOne, BehindSome, HeadingPlaced, OpeningPlaced, Parted, Consumes, ConsumesBehind, PlacesTemplate, linked_node}
 
 expression_stays : (old new : Program) → KeepsTrees old new → (id : ExprId) (n : ExprNode) (at : Spot) → ExpressionStands old id n at → ExpressionStands new id n at
 expression_stays old new k id n at s = record { held = k.expressions id s.held; node = k.value_nodes id s.held ∙ s.node; spot = k.value_spots id s.held ∙ s.spot }
+
+pattern_stays : (old new : Program) → KeepsTrees old new → (q : PatternId) (xs : List Spot) → PatternStands old q xs → PatternStands new q xs
+pattern_stays old new k q xs s = record { held = k.holds_patterns q s.held; placed = subst (λ (p : PlacedPattern). PatternPlaced p xs) (sym (k.placed q s.held)) s.placed }
 
 term_stays : (old new : Program) → KeepsTrees old new → (id : TermId) (n : Node) (at : Spot) → TermStands old id n at → TermStands new id n at
 term_stays old new k id n at s = record { held = k.terms id s.held; node = k.nodes id s.held ∙ s.node; spot = k.spots id s.held ∙ s.spot }
@@ -70,6 +77,12 @@ expression_keeps v old new k id xs (two_in_brackets_placed opening comma closing
     two_in_brackets_placed opening comma closing between (expression_stays old new k _ _ _ s) (expression_keeps v old new k _ _ one) (expression_keeps v old new k _ _ two)
 expression_keeps v old new k id xs (conditional_placed between second s condition one two) =
     conditional_placed between second (expression_stays old new k _ _ _ s) (expression_keeps v old new k _ _ condition) (expression_keeps v old new k _ _ one) (expression_keeps v old new k _ _ two)
+expression_keeps v old new k id xs (let_placed equals in_at s pattern value body) =
+    let_placed equals in_at (expression_stays old new k _ _ _ s) (pattern_stays old new k _ _ pattern) (expression_keeps v old new k _ _ value) (expression_keeps v old new k _ _ body)
+expression_keeps v old new k id xs (one_and_function_placed opening comma leads closing brackets s value pattern body) =
+    one_and_function_placed opening comma leads closing brackets (expression_stays old new k _ _ _ s) (expression_keeps v old new k _ _ value) (pattern_stays old new k _ _ pattern) (expression_keeps v old new k _ _ body)
+expression_keeps v old new k id xs (two_and_function_placed opening comma second leads closing s one two pattern body) =
+    two_and_function_placed opening comma second leads closing (expression_stays old new k _ _ _ s) (expression_keeps v old new k _ _ one) (expression_keeps v old new k _ _ two) (pattern_stays old new k _ _ pattern) (expression_keeps v old new k _ _ body)
 
 function_keeps : (v : Version) (old new : Program) → KeepsTrees old new → (f : FunctionId) (xs : List Spot) → FunctionPlaced v old f xs → FunctionPlaced v new f xs
 function_keeps v old new k f xs (function_placed {f = g} {xs = front} {ys = behind} leads held pattern body) =
@@ -208,36 +221,70 @@ two_in_brackets_read {v} {one} {two} {new} {a} {b} {id} {o} {e} {spot} {r} {r0} 
     behind_opening opening (in_brackets_read (stays_read added.kept.trees (stays_read k first)) between (stays_read added.kept.trees second) closing (λ comma closing xs ys p q.
     two_in_brackets_placed opening.at comma closing front (expression_stands two new id _ e spot added) p q))
 
+-- two parts with a token between them
+pub parted_read : {P Q : List Spot → Type 0} {r0 r1 r2 rest : List Spot} → Consumes P r0 r1 → BehindOne r1 r2 → Consumes Q r2 rest → Consumes (Parted P Q) r0 rest
+parted_read {rest = rest} one between two = record {
+  front = one.front ++ (between.at ∷ two.front);
+  split = rw (one.split, between.split, two.split, append_assoc one.front (between.at ∷ two.front) rest) refl;
+  holds = record { first = one.front; between = between.at; second = two.front; split = refl; first_holds = one.holds; second_holds = two.holds };
+}
+
+-- what holds of the places of such parts
+parted : {P Q : List Spot → Type 0} {xs : List Spot} (R : List Spot → Type 0) → Parted P Q xs → ((at : Spot) (ys zs : List Spot) → P ys → Q zs → R (ys ++ (at ∷ zs))) → R xs
+parted R m f = subst R (sym m.split) (f m.between m.first m.second m.first_holds m.second_holds)
+
 -- one of two expressions by a condition
 pub conditional_read : {v : Version} {one two three new : Program} {a b c id : ExprId} {e : Expression} {spot : Spot} {r0 r1 r2 r3 r4 rest : List Spot} → KeepsTrees one two → KeepsTrees two three
     → AddsExpression three new id (expressions.Conditional a b c) e spot → Consumes (ExpressionPlaced v one a) r0 r1 → BehindOne r1 r2 → Consumes (ExpressionPlaced v two b) r2 r3 → BehindOne r3 r4
     → Consumes (ExpressionPlaced v three c) r4 rest → Consumes (ExpressionPlaced v new id) (spot ∷ r0) rest
-conditional_read {v} {one} {two} {three} {new} {a} {b} {c} {id} {e} {spot} {r0} {r1} {r2} {r3} {r4} {rest} k l added condition then_word first else_word second =
-    let x : Consumes (ExpressionPlaced v new a) r0 r1 = stays_read added.kept.trees (stays_read l (stays_read k condition)) in
-    let y : Consumes (ExpressionPlaced v new b) r2 r3 = stays_read added.kept.trees (stays_read l first) in
-    let z : Consumes (ExpressionPlaced v new c) r4 rest = stays_read added.kept.trees second in
-    record {
-      front = spot ∷ (condition.front ++ (then_word.at ∷ (first.front ++ (else_word.at ∷ second.front))));
-      split = rw (
-        condition.split,
-        then_word.split,
-        first.split,
-        else_word.split,
-        second.split,
-        append_assoc condition.front (then_word.at ∷ (first.front ++ (else_word.at ∷ second.front))) rest,
-        append_assoc first.front (else_word.at ∷ second.front) rest,
-      ) refl;
-      holds = conditional_placed then_word.at else_word.at (expression_stands three new id _ e spot added) x.holds y.holds z.holds;
-    }
+conditional_read {v} {one} {two} {three} {new} {a} {b} {c} {id} {e} {spot} k l added condition then_word first else_word second =
+    behind_first (parted_read (stays_read added.kept.trees (stays_read l (stays_read k condition))) then_word (parted_read (stays_read added.kept.trees (stays_read l first)) else_word (stays_read added.kept.trees second))) (λ xs m.
+    parted (λ xs. ExpressionPlaced v new id (spot ∷ xs)) m (λ at xs ys p n.
+    parted (λ ys. ExpressionPlaced v new id (spot ∷ (xs ++ (at ∷ ys)))) n (λ other ys zs q r.
+    conditional_placed at other (expression_stands three new id _ e spot added) p q r)))
+
+-- a pattern that was put beside the functions
+pattern_stands : (new : Program) (q : PatternId) (p : PlacedPattern) (xs : List Spot) → HoldsPatternIn new q × (pattern_under new q ≡ p) → PatternPlaced p xs → PatternStands new q xs
+pattern_stands new q p xs there placed = record { held = there.0; placed = subst (λ (p : PlacedPattern). PatternPlaced p xs) (sym there.1) placed }
+
+-- an expression with names for a value
+pub let_read : {v : Version} {one two new : Program} {a b id : ExprId} {p : PlacedPattern} {q : PatternId} {e : Expression} {spot : Spot} {r0 r1 r2 r3 r4 rest : List Spot} → KeepsTrees one two
+    → AddsExpression two new id (expressions.Mapped a mappings.Let q b) e spot → HoldsPatternIn new q × (pattern_under new q ≡ p) → Consumes (PatternPlaced p) r0 r1 → BehindOne r1 r2 → Consumes (ExpressionPlaced v one a) r2 r3
+    → BehindOne r3 r4 → Consumes (ExpressionPlaced v two b) r4 rest → Consumes (ExpressionPlaced v new id) (spot ∷ r0) rest
+let_read {v} {one} {two} {new} {a} {b} {id} {p} {q} {e} {spot} k added there pattern equals value in_word body =
+    behind_first (parted_read pattern equals (parted_read (stays_read added.kept.trees (stays_read k value)) in_word (stays_read added.kept.trees body))) (λ xs m.
+    parted (λ xs. ExpressionPlaced v new id (spot ∷ xs)) m (λ at ps xs placed n.
+    parted (λ xs. ExpressionPlaced v new id (spot ∷ (ps ++ (at ∷ xs)))) n (λ other xs ys x y.
+    let_placed at other (expression_stands two new id _ e spot added) (pattern_stands new q p ps there placed) x y)))
+
+-- an expression and a function in brackets
+pub one_and_function_read : {v : Version} {one two new : Program} {a b id : ExprId} {m : Mapping} {p : PlacedPattern} {q : PatternId} {e : Expression} {spot : Spot} {r r0 r1 r2 r3 rest : List Spot} → maps_in_brackets m ≡ true
+    → KeepsTrees one two → AddsExpression two new id (expressions.Mapped a m q b) e spot → HoldsPatternIn new q × (pattern_under new q ≡ p) → BehindOne r r0 → Consumes (ExpressionPlaced v one a) r0 r1 → BehindOne r1 r2
+    → Consumes (Parted (PatternPlaced p) (ExpressionPlaced v two b)) r2 r3 → BehindOne r3 rest → Consumes (ExpressionPlaced v new id) (spot ∷ r) rest
+one_and_function_read {v} {one} {two} {new} {a} {b} {id} {m} {p} {q} {e} {spot} brackets k added there opening value comma function closing =
+    behind_opening opening (in_brackets_read (stays_read added.kept.trees (stays_read k value)) comma function closing (λ comma closing xs zs x n.
+    parted (λ zs. ExpressionPlaced v new id (spot ∷ around opening.at xs comma zs closing)) n (λ leads ps ys placed y.
+    one_and_function_placed opening.at comma leads closing brackets (expression_stands two new id _ e spot added) x (pattern_stands new q p ps there placed) (expression_keeps v two new added.kept.trees b ys y))))
+
+-- two expressions and a function in brackets
+pub two_and_function_read : {v : Version} {one two three new : Program} {a b c id : ExprId} {o : Folding} {p : PlacedPattern} {q : PatternId} {e : Expression} {spot : Spot} {r r0 r1 r2 r3 r4 r5 rest : List Spot} → KeepsTrees one two → KeepsTrees two three
+    → AddsExpression three new id (expressions.Folded a o b q c) e spot → HoldsPatternIn new q × (pattern_under new q ≡ p) → BehindOne r r0 → Consumes (ExpressionPlaced v one a) r0 r1 → BehindOne r1 r2
+    → Consumes (ExpressionPlaced v two b) r2 r3 → BehindOne r3 r4 → Consumes (Parted (PatternPlaced p) (ExpressionPlaced v three c)) r4 r5 → BehindOne r5 rest → Consumes (ExpressionPlaced v new id) (spot ∷ r) rest
+two_and_function_read {v} {one} {two} {three} {new} {a} {b} {c} {id} {o} {p} {q} {e} {spot} k l added there opening first comma second other function closing =
+    behind_opening opening (in_brackets_read (stays_read added.kept.trees (stays_read l (stays_read k first))) comma (parted_read (stays_read added.kept.trees (stays_read l second)) other function) closing (λ comma closing xs ts x n.
+    parted (λ ts. ExpressionPlaced v new id (spot ∷ around opening.at xs comma ts closing)) n (λ other ys ts y n.
+    parted (λ ts. ExpressionPlaced v new id (spot ∷ around opening.at xs comma (ys ++ (other ∷ ts)) closing)) n (λ leads ps zs placed z.
+    two_and_function_placed opening.at comma other leads closing (expression_stands three new id _ e spot added) x y (pattern_stands new q p ps there placed) (expression_keeps v three new added.kept.trees c zs z)))))
 
 -- a pattern and an expression
-pub function_read : {v : Version} {mid new : Program} {f : FunctionId} {q : PlacedPattern} {b : ExprId} {r0 r1 r2 rest : List Spot} → AddsProgramFunction mid new f q b
-    → Consumes (PatternPlaced q) r0 r1 → BehindOne r1 r2 → Consumes (ExpressionPlaced v mid b) r2 rest → Consumes (FunctionPlaced v new f) r0 rest
-function_read {v} {mid} {new} {f} {q} {b} {r0} {r1} {r2} {rest} added pattern leads body = record {
-  front = pattern.front ++ (leads.at ∷ body.front);
-  split = rw (pattern.split, leads.split, body.split, append_assoc pattern.front (leads.at ∷ body.front) rest) refl;
-  holds = function_placed leads.at added.within (subst (λ (p : PlacedPattern). PatternPlaced p pattern.front) (sym added.pattern) pattern.holds)
-      (subst (λ (x : ExprId). ExpressionPlaced v new x body.front) (sym added.body) (expression_keeps v mid new added.kept.trees b body.front body.holds));
+pub function_read : {v : Version} {mid new : Program} {f : FunctionId} {q : PlacedPattern} {b : ExprId} {r0 rest : List Spot} → AddsProgramFunction mid new f q b
+    → Consumes (Parted (PatternPlaced q) (ExpressionPlaced v mid b)) r0 rest → Consumes (FunctionPlaced v new f) r0 rest
+function_read {v} {mid} {new} {f} {q} {b} added parts = record {
+  front = parts.front;
+  split = parts.split;
+  holds = parted (FunctionPlaced v new f) parts.holds (λ leads xs ys pattern body.
+      function_placed leads added.within (subst (λ (p : PlacedPattern). PatternPlaced p xs) (sym added.pattern) pattern)
+      (subst (λ (x : ExprId). ExpressionPlaced v new x ys) (sym added.body) (expression_keeps v mid new added.kept.trees b ys body)));
 }
 
 pub bare_read : {v : Version} {old new : Program} {id : TermId} {k : Bare} {t : Term} {spot : Spot} (rest : List Spot) → AddsTerm old new id (nodes.Primitive (primitives.Bare k)) t spot → Consumes (TermPlaced v new id) (spot ∷ rest) rest

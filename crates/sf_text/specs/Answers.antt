@@ -11,11 +11,13 @@ use Rattle.sf_value.specs.declared.ty.TyRefusal.{TyRefusal}
 use Rattle.sf_value.specs.declared.ty.TyRefusal.TheVariants as type_refusals
 use Rattle.sf_expr.specs.declared.exprs.ExprId.{ExprId}
 use Rattle.sf_expr.specs.declared.exprs.FunctionId.{FunctionId}
-use Rattle.sf_expr.specs.Expressions.{Expression, size, Function, function_size}
+use Rattle.sf_expr.specs.Expressions.{Pattern, Expression, size, Function, function, function_size}
+use Rattle.sf_expr.specs.Patterns.{PlacedPattern, pattern_of}
 use Rattle.sf_term.specs.declared.node.TermId.{TermId}
 use Rattle.sf_term.specs.declared.program.Program.{Program}
 use Rattle.sf_term.specs.Trees.{Term, Template, terms_in, expressions_in}
 use Rattle.sf_term.specs.Arena.{HoldsTerm, HoldsExpression, ProgramHoldsFunction, tree, expression_under, function_in, term_count, expression_count, templates_of, KeepsProgram}
+use Rattle.sf_term.specs.Names.{HasNames}
 use Rattle.sf_lex.specs.Words.{IsName}
 use Rattle.sf_lex.specs.Tokens.{Tok, name, token_of}
 use Rattle.sf_lex.specs.declared.token.PlacedToken.{PlacedToken}
@@ -70,6 +72,21 @@ pub record FoundExpression (old new : Program) (id : ExprId) (rest : List Tok) (
 abbrev pub ReadsExpression : Program → Program → Result (ExprId × Bor (List PlacedToken)) Stop → Read Expression → Type 0
 ReadsExpression old new (Ok x) read = FoundExpression old new x.0 (toks x.1.now) read
 ReadsExpression old new (Err e) read = StopsReading e read
+
+-- the pattern and the expression of a function were read, the expression into the program
+pub record FoundMapping (old new : Program) (p : Pattern) (id : ExprId) (rest : List Tok) (read : Read Function) : Type 0 where
+  pub value : Expression
+  pub is : read ≡ got (function p value) rest
+  pub names : HasNames p
+  pub held : HoldsExpression new id
+  pub tree : expression_under new id ≡ value
+  pub kept : KeepsProgram old new
+  pub terms : term_count new ≡ term_count old
+  pub expressions : expression_count new ≡ expression_count old + size value
+
+abbrev pub ReadsMapping : Program → Program → Result (PlacedPattern × ExprId × Bor (List PlacedToken)) Stop → Read Function → Type 0
+ReadsMapping old new (Ok x) read = FoundMapping old new (pattern_of x.0) x.1 (toks x.2.now) read
+ReadsMapping old new (Err e) read = StopsReading e read
 
 -- a function was read into the program
 pub record FoundFunction (old new : Program) (id : FunctionId) (rest : List Tok) (read : Read Function) : Type 0 where

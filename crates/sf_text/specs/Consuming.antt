@@ -14,7 +14,7 @@ use Rattle.sf_grammar.specs.declared.head.ExpressionHead.TheVariants as expressi
 use Rattle.sf_grammar.specs.declared.head.Link.{Link}
 use Rattle.sf_grammar.specs.declared.head.Link.TheVariants as links
 use Rattle.sf_grammar.specs.Placing.{TemplatePlaced}
-use Rattle.sf_grammar.specs.Spelling.{takes_brackets, stands_between}
+use Rattle.sf_grammar.specs.Spelling.{takes_brackets, stands_between, maps_in_brackets}
 
 -- the places of tokens
 abbrev pub places : List PlacedToken → List Spot
@@ -49,6 +49,15 @@ pub record Consumes (P : List Spot → Type 0) (tokens rest : List Spot) : Type 
   pub split : tokens ≡ front ++ rest
   pub holds : P front
 
+-- the places of two parts with a token between them
+pub record Parted (P Q : List Spot → Type 0) (places : List Spot) : Type 0 where
+  pub first : List Spot
+  pub between : Spot
+  pub second : List Spot
+  pub split : places ≡ first ++ (between ∷ second)
+  pub first_holds : P first
+  pub second_holds : Q second
+
 -- tokens were read
 abbrev pub BehindSome : List Spot → List Spot → Type 0
 BehindSome tokens rest = Consumes (λ _. Unit {0}) tokens rest
@@ -67,6 +76,7 @@ abbrev pub HasOperandsSo : ExpressionHead → Type 0
 HasOperandsSo (expression_heads.Prefixed o) = takes_brackets o ≡ false
 HasOperandsSo (expression_heads.OneInBrackets o) = takes_brackets o ≡ true
 HasOperandsSo (expression_heads.TwoInBrackets o) = stands_between o ≡ false
+HasOperandsSo (expression_heads.OneAndFunction m) = maps_in_brackets m ≡ true
 HasOperandsSo h = Unit {0}
 
 -- a template was read into the program behind the others, and what was there stands

@@ -4,17 +4,17 @@ ghost use Rattle.sf_expr.specs.Expressions.{Expression, variable as variable_for
 ghost use Rattle.sf_lex.specs.Tokens.{token_of};
 ghost use Rattle.sf_lex.specs.Words.{IsName};
 ghost use Rattle.sf_term.specs.Arena.{HoldsExpression, AddsExpression, expression_under as expression_in, expression_count};
-ghost use Rattle.sf_text.specs.Answers.{toks, AreNamed, StopsReading, ReadsAs, ReadsExpression, ReadsFunction, counts_of, stop_for};
-ghost use Rattle.sf_grammar.specs.Placing.{ExpressionPlaced, FunctionPlaced};
-ghost use Rattle.sf_grammar.specs.Spelling.{takes_brackets, stands_between};
-ghost use Rattle.sf_text.specs.Consuming.{places, BehindOne, Consumes, linked_node, HasOperandsSo};
-ghost use Rattle.sf_grammar.specs.Reading.{begins_expression, too_deep, parse_link, linked, parse_linked, behind_close, bracketed_from, parse_none, parse_prefixed, parse_one_in_brackets, parse_two_in_brackets, parse_conditional, parse_worded_expression, expression_read, parse_expression_form, parse_expression, parse_function};
+ghost use Rattle.sf_text.specs.Answers.{toks, AreNamed, StopsReading, ReadsAs, ReadsExpression, ReadsMapping, ReadsFunction, counts_of, stop_for};
+ghost use Rattle.sf_grammar.specs.Placing.{PatternPlaced, ExpressionPlaced, FunctionPlaced};
+ghost use Rattle.sf_grammar.specs.Spelling.{takes_brackets, stands_between, maps_in_brackets};
+ghost use Rattle.sf_text.specs.Consuming.{places, BehindOne, Consumes, Parted, linked_node, HasOperandsSo};
+ghost use Rattle.sf_grammar.specs.Reading.{begins_expression, too_deep, parse_link, linked, parse_linked, behind_close, bracketed_from, parse_none, parse_prefixed, parse_one_in_brackets, parse_two_in_brackets, parse_conditional, parse_mapping, parse_let, parse_one_and_function, parse_two_and_function, parse_worded_expression, expression_read, parse_expression_form, parse_expression, parse_function};
 
 use crate::part::{keyword, stop_at, symbol};
 use crate::pattern::pattern;
 use crate::stop::Stop;
 use crate::ty::inner_type;
-use sf_expr::{Constant, ExprId, ExprNode, FunctionId, Operator, Unary};
+use sf_expr::{Constant, ExprId, ExprNode, Folding, FunctionId, Mapping, Operator, Pat, Unary};
 use sf_grammar::{ExpressionHead, Link, Version, expression_head, link_of};
 use sf_lex::{Keyword, PlacedToken, Symbol, Token};
 use sf_refusal::{Rule, Spot};
@@ -293,6 +293,13 @@ fn worded<'a>(
         ExpressionHead::Conditional => {
             conditional(alloc, version, tokens, rest, program, spot, left)
         }
+        ExpressionHead::Let => let_in(alloc, version, tokens, rest, program, spot, left),
+        ExpressionHead::OneAndFunction(mapping) => one_and_function(
+            alloc, version, tokens, rest, program, mapping, spot, left,
+        ),
+        ExpressionHead::TwoAndFunction(folding) => two_and_function(
+            alloc, version, tokens, rest, program, folding, spot, left,
+        ),
     }
 }
 
@@ -459,6 +466,116 @@ fn conditional<'a>(
     }
 }
 
+/// An expression with names for a value, whose word is the first of these tokens, and the tokens behind it.
+#[cycle(expression)]
+#[tactic(auto, using(crate::proofs::Named::expression_named, crate::proofs::Named::pattern_behind), unfolding(sf_grammar::specs::Reading::parse_let))]
+fn let_in<'a>(
+    alloc: Global,
+    version: Version,
+    tokens: &'a [PlacedToken<'a>],
+    rest: &'a [PlacedToken<'a>],
+    program: &mut Program,
+    spot: Spot,
+    left: u32,
+) -> Result<(ExprId, &'a [PlacedToken<'a>]), Stop>
+    requires shallow { left ≤ 63 }
+    requires named { AreNamed (toks rest.now) }
+    ensures reads { ReadsExpression program.old program.new result (parse_let left (parse_expression left version) (counts_of program.old) (toks tokens.now) (toks rest.now)) }
+    ensures placed { IfOk result (λ x. Consumes (ExpressionPlaced version program.new x.0) (spot ∷ places rest.now) (places x.1.now)) }
+{
+    let (pattern, rest) = pattern(alloc, rest, left)?;
+    let rest = symbol(rest, Symbol::Equals)?;
+    let (value, rest) = expression(alloc, version, rest, program, left)?;
+    let rest = keyword(rest, Keyword::In)?;
+    let (body, rest) = expression(alloc, version, rest, program, left)?;
+    match program.mapped(value, Mapping::Let, pattern, body, spot) {
+        Ok(id) => Ok((id, rest)),
+        Err(refusal) => Err(refused(refusal, tokens)),
+    }
+}
+
+/// A value and a function in brackets, whose word is the first of these tokens, and the tokens behind it.
+#[cycle(expression)]
+#[tactic(auto, using(crate::proofs::Named::expression_named), unfolding(sf_grammar::specs::Reading::parse_one_and_function))]
+fn one_and_function<'a>(
+    alloc: Global,
+    version: Version,
+    tokens: &'a [PlacedToken<'a>],
+    rest: &'a [PlacedToken<'a>],
+    program: &mut Program,
+    mapping: Mapping,
+    spot: Spot,
+    left: u32,
+) -> Result<(ExprId, &'a [PlacedToken<'a>]), Stop>
+    requires shallow { left ≤ 63 }
+    requires named { AreNamed (toks rest.now) }
+    requires stands { maps_in_brackets mapping ≡ true }
+    ensures reads { ReadsExpression program.old program.new result (parse_one_and_function left (parse_expression left version) (counts_of program.old) mapping (toks tokens.now) (toks rest.now)) }
+    ensures placed { IfOk result (λ x. Consumes (ExpressionPlaced version program.new x.0) (spot ∷ places rest.now) (places x.1.now)) }
+{
+    let rest = symbol(rest, Symbol::Open)?;
+    let (value, rest) = expression(alloc, version, rest, program, left)?;
+    let rest = symbol(rest, Symbol::Comma)?;
+    let (pattern, body, rest) = mapping_parts(alloc, version, rest, program, left)?;
+    let rest = symbol(rest, Symbol::Close)?;
+    match program.mapped(value, mapping, pattern, body, spot) {
+        Ok(id) => Ok((id, rest)),
+        Err(refusal) => Err(refused(refusal, tokens)),
+    }
+}
+
+/// Two values and a function in brackets, whose word is the first of these tokens, and the tokens behind it.
+#[cycle(expression)]
+#[tactic(auto, using(crate::proofs::Named::expression_named), unfolding(sf_grammar::specs::Reading::parse_two_and_function))]
+fn two_and_function<'a>(
+    alloc: Global,
+    version: Version,
+    tokens: &'a [PlacedToken<'a>],
+    rest: &'a [PlacedToken<'a>],
+    program: &mut Program,
+    folding: Folding,
+    spot: Spot,
+    left: u32,
+) -> Result<(ExprId, &'a [PlacedToken<'a>]), Stop>
+    requires shallow { left ≤ 63 }
+    requires named { AreNamed (toks rest.now) }
+    ensures reads { ReadsExpression program.old program.new result (parse_two_and_function left (parse_expression left version) (counts_of program.old) folding (toks tokens.now) (toks rest.now)) }
+    ensures placed { IfOk result (λ x. Consumes (ExpressionPlaced version program.new x.0) (spot ∷ places rest.now) (places x.1.now)) }
+{
+    let rest = symbol(rest, Symbol::Open)?;
+    let (one, rest) = expression(alloc, version, rest, program, left)?;
+    let rest = symbol(rest, Symbol::Comma)?;
+    let (two, rest) = expression(alloc, version, rest, program, left)?;
+    let rest = symbol(rest, Symbol::Comma)?;
+    let (pattern, body, rest) = mapping_parts(alloc, version, rest, program, left)?;
+    let rest = symbol(rest, Symbol::Close)?;
+    match program.folded(one, folding, two, pattern, body, spot) {
+        Ok(id) => Ok((id, rest)),
+        Err(refusal) => Err(refused(refusal, tokens)),
+    }
+}
+
+/// The pattern and the expression of a function, of so much depth at most, and the tokens behind them.
+#[cycle(expression)]
+#[tactic(auto, using(crate::proofs::Named::pattern_behind))]
+fn mapping_parts<'a>(
+    alloc: Global,
+    version: Version,
+    tokens: &'a [PlacedToken<'a>],
+    program: &mut Program,
+    left: u32,
+) -> Result<(Pat, ExprId, &'a [PlacedToken<'a>]), Stop>
+    requires shallow { left ≤ 63 }
+    requires named { AreNamed (toks tokens.now) }
+    ensures reads { ReadsMapping program.old program.new result (parse_mapping left (parse_expression left version) (counts_of program.old) (toks tokens.now)) }
+    ensures placed { IfOk result (λ x. Consumes (Parted (PatternPlaced x.0) (ExpressionPlaced version program.new x.1)) (places tokens.now) (places x.2.now)) }
+{
+    let (pattern, rest) = pattern(alloc, tokens, left)?;
+    let rest = symbol(rest, Symbol::MapsTo)?;
+    let (body, rest) = expression(alloc, version, rest, program, left)?;
+    Ok((pattern, body, rest))
+}
+
 /// A function, whose pattern and expression are of so much depth at most, and the tokens behind it.
 #[tactic(auto, unfolding(sf_grammar::specs::Reading::parse_function))]
 pub(crate) fn function<'a>(
@@ -473,9 +590,7 @@ pub(crate) fn function<'a>(
     ensures reads { ReadsFunction program.old program.new result (parse_function left version (counts_of program.old) (toks tokens.now)) }
     ensures placed { IfOk result (λ x. Consumes (FunctionPlaced version program.new x.0) (places tokens.now) (places x.1.now)) }
 {
-    let (pattern, rest) = pattern(alloc, tokens, left)?;
-    let rest = symbol(rest, Symbol::MapsTo)?;
-    let (body, rest) = expression(alloc, version, rest, program, left)?;
+    let (pattern, body, rest) = mapping_parts(alloc, version, tokens, program, left)?;
     match program.function(pattern, body) {
         Ok(id) => Ok((id, rest)),
         Err(refusal) => Err(refused(refusal, tokens)),

@@ -1,7 +1,9 @@
 use Rattle.std.proofs.Common.{Err, ap}
 use Rattle.sf_text.specs.Answers.{toks}
-use Rattle.sf_text.proofs.Found.{expression_refused, linked_ready, prefixed_ready, one_in_brackets_ready, two_in_brackets_ready, conditional_ready}
-use Rattle.sf_text.proofs.Placed.{linked_read, prefixed_read, one_in_brackets_read, two_in_brackets_read, conditional_read}
+use Rattle.sf_expr.specs.Patterns.{pattern_of}
+use Rattle.sf_text.proofs.Named.{pattern_named}
+use Rattle.sf_text.proofs.Found.{expression_refused, linked_ready, prefixed_ready, one_in_brackets_ready, two_in_brackets_ready, conditional_ready, let_ready, mapping_found, one_and_function_ready, two_and_function_ready}
+use Rattle.sf_text.proofs.Placed.{linked_read, prefixed_read, one_in_brackets_read, two_in_brackets_read, conditional_read, parted_read, let_read, one_and_function_read, two_and_function_read}
 use Rattle.sf_text.proofs.expression.+expression.Goals as goal
 
 pub linked-returns-in-Err-clause-reads : goal.linked-returns-in-Err-clause-reads
@@ -49,3 +51,42 @@ conditional-returns-in-Err-clause-reads t c =
 
 pub conditional-returns-in-Ok-clause-placed : goal.conditional-returns-in-Ok-clause-placed
 conditional-returns-in-Ok-clause-placed t c = conditional_read c.in_ok-one.ensures.reads.kept.trees c.in_ok-two.ensures.reads.kept.trees c.in-Ok.ensures.ok c.in_ok-condition.ensures.placed c.in_ok-rest.ensures.behind c.in_ok-one.ensures.placed c.in_ok-rest-2.ensures.behind c.in_ok-two.ensures.placed
+
+pub let_in-returns-in-Err-clause-reads : goal.let_in-returns-in-Err-clause-reads
+let_in-returns-in-Err-clause-reads t c =
+    expression_refused c.args.tokens.now c.in-Err.refusal c.refused.result
+    (let_ready c.args.version c.args.left (toks c.args.rest.now) c.requires.shallow c.in_ok-pattern.ensures.reads c.in_ok-rest.ensures.reads c.in_ok-value.ensures.reads c.in_ok-rest-2.ensures.reads c.in_ok-body.ensures.reads) c.refused.ensures
+    (λ same. c.in-Err.ensures.many.0 (ap Err same)) (λ same. (c.in-Err.ensures.deep.0 (ap Err same)).1)
+    (λ same. (c.in-Err.ensures.bad_name.0 (ap Err same)).2
+    (pattern_named c.args.left (toks c.args.rest.now) (pattern_of c.in_ok-pattern.pattern) (toks c.in_ok-pattern.rest.now) c.in_ok-pattern.ensures.reads c.requires.named))
+
+pub let_in-returns-in-Ok-clause-placed : goal.let_in-returns-in-Ok-clause-placed
+let_in-returns-in-Ok-clause-placed t c = let_read c.in_ok-body.ensures.reads.kept.trees c.in-Ok.ensures.ok c.in-Ok.ensures.placed c.in_ok-pattern.ensures.placed c.in_ok-rest.ensures.behind c.in_ok-value.ensures.placed c.in_ok-rest-2.ensures.behind c.in_ok-body.ensures.placed
+
+pub one_and_function-returns-in-Err-clause-reads : goal.one_and_function-returns-in-Err-clause-reads
+one_and_function-returns-in-Err-clause-reads t c =
+    expression_refused c.args.tokens.now c.in-Err.refusal c.refused.result
+    (one_and_function_ready c.args.version c.args.left (toks c.args.rest.now) c.requires.shallow c.in_ok-rest.ensures.reads c.in_ok-value.ensures.reads c.in_ok-rest-2.ensures.reads c.in_ok-pattern.ensures.reads c.in_ok-rest-3.ensures.reads) c.refused.ensures
+    (λ same. c.in-Err.ensures.many.0 (ap Err same)) (λ same. (c.in-Err.ensures.deep.0 (ap Err same)).1) (λ same. (c.in-Err.ensures.bad_name.0 (ap Err same)).2 c.in_ok-pattern.ensures.reads.names)
+
+pub one_and_function-returns-in-Ok-clause-placed : goal.one_and_function-returns-in-Ok-clause-placed
+one_and_function-returns-in-Ok-clause-placed t c =
+    one_and_function_read c.requires.stands c.in_ok-pattern.ensures.reads.kept.trees c.in-Ok.ensures.ok c.in-Ok.ensures.placed c.in_ok-rest.ensures.behind c.in_ok-value.ensures.placed c.in_ok-rest-2.ensures.behind c.in_ok-pattern.ensures.placed c.in_ok-rest-3.ensures.behind
+
+pub two_and_function-returns-in-Err-clause-reads : goal.two_and_function-returns-in-Err-clause-reads
+two_and_function-returns-in-Err-clause-reads t c =
+    expression_refused c.args.tokens.now c.in-Err.refusal c.refused.result
+    (two_and_function_ready c.args.version c.args.left (toks c.args.rest.now) c.requires.shallow c.in_ok-rest.ensures.reads c.in_ok-one.ensures.reads c.in_ok-rest-2.ensures.reads c.in_ok-two.ensures.reads c.in_ok-rest-3.ensures.reads c.in_ok-pattern.ensures.reads c.in_ok-rest-4.ensures.reads) c.refused.ensures
+    (λ same. c.in-Err.ensures.many.0 (ap Err same)) (λ same. (c.in-Err.ensures.deep.0 (ap Err same)).1) (λ same. (c.in-Err.ensures.bad_name.0 (ap Err same)).2 c.in_ok-pattern.ensures.reads.names)
+
+pub two_and_function-returns-in-Ok-clause-placed : goal.two_and_function-returns-in-Ok-clause-placed
+two_and_function-returns-in-Ok-clause-placed t c =
+    two_and_function_read c.in_ok-two.ensures.reads.kept.trees c.in_ok-pattern.ensures.reads.kept.trees c.in-Ok.ensures.ok c.in-Ok.ensures.placed c.in_ok-rest.ensures.behind c.in_ok-one.ensures.placed c.in_ok-rest-2.ensures.behind c.in_ok-two.ensures.placed c.in_ok-rest-3.ensures.behind c.in_ok-pattern.ensures.placed c.in_ok-rest-4.ensures.behind
+
+pub mapping_parts-returns-clause-reads : goal.mapping_parts-returns-clause-reads
+mapping_parts-returns-clause-reads t c =
+    mapping_found c.args.version c.args.left (toks c.args.tokens.now) c.in_ok-pattern.ensures.reads c.in_ok-rest.ensures.reads
+    (pattern_named c.args.left (toks c.args.tokens.now) (pattern_of c.in_ok-pattern.pattern) (toks c.in_ok-pattern.rest.now) c.in_ok-pattern.ensures.reads c.requires.named) c.in_ok-body.ensures.reads
+
+pub mapping_parts-returns-clause-placed : goal.mapping_parts-returns-clause-placed
+mapping_parts-returns-clause-placed t c = parted_read c.in_ok-pattern.ensures.placed c.in_ok-rest.ensures.behind c.in_ok-body.ensures.placed

@@ -11,12 +11,13 @@ invariant_of-self c =
       ordered = arena_put x _ c.args.node c.depth_with-depth.result c.args.spot c.add.result c.add.ensures.ok c.add.ensures.err c.requires c.depth_with-depth.ensures.value c.depth_with-depth.ensures.narrow;
       closed = functions_grown _ _ x.functions.items (more_put _ _ _ c.add.result c.add.ensures.ok c.add.ensures.err) x.closed;
       valued = x.valued;
+      shallow = x.shallow;
       nothing = x.nothing;
       none = x.none;
     }
 
 pub returns-in-Ok-clause-ok : goal.returns-in-Ok-clause-ok
-returns-in-Ok-clause-ok c = adds_added c.args.self.now _ _ _ _ _ c.in-Ok.ensures.ok refl refl refl
+returns-in-Ok-clause-ok c = adds_added c.args.self.now _ _ _ _ _ c.in-Ok.ensures.ok refl refl refl refl
 
 pub returns-in-Ok-clause-many : goal.returns-in-Ok-clause-many
 unfolding count_of
@@ -37,4 +38,4 @@ returns-in-Err-clause-deep c =
     (λ e. let h = deep.0 e in (h.0, omega (arith, h.1, c.depth_with-depth.ensures.value)), λ h. deep.1 (h.0, omega (arith, h.1, c.depth_with-depth.ensures.value)))
 
 pub returns-in-Err-clause-err : goal.returns-in-Err-clause-err
-returns-in-Err-clause-err c = unchanged c.args.self.now _ c.in-Err.ensures.err refl refl refl
+returns-in-Err-clause-err c = unchanged c.args.self.now _ c.in-Err.ensures.err refl refl refl refl

@@ -1,6 +1,7 @@
 use Rattle.std.proofs.Common.{◌∙◌, List, ap, subst, sym}
 use Rattle.sf_expr.specs.Expressions.{Literal, none_literal}
-use Rattle.sf_expr.specs.Entries.{AreValued}
+use Rattle.sf_expr.specs.Entries.{AreValued, AreShallowPatterns}
+use Rattle.sf_expr.specs.Patterns.{PlacedPattern}
 use Rattle.sf_expr.proofs.Entered.{unchanged, arena_same, same_sides}
 use Rattle.sf_expr.proofs.exprs.Exprs.clone_in.Goals as goal
 
@@ -9,14 +10,16 @@ invariant_of-result c =
     let x = c.args.self.now in
     let names = c.in_ok-names.ensures ∙ c.deref.ensures.value in
     let constants = c.in_ok-constants.ensures ∙ c.deref-2.ensures.value in
-    let same = arena_same x _ _ _ (same_sides _ _ _ _ names constants) c.in_ok-arena.ensures (c.in_ok-functions.ensures ∙ c.deref-3.ensures.value) in
+    let patterns = c.in_ok-patterns.ensures ∙ c.deref-3.ensures.value in
+    let same = arena_same x _ _ _ (same_sides _ _ _ _ _ _ names constants patterns) c.in_ok-arena.ensures (c.in_ok-functions.ensures ∙ c.deref-4.ensures.value) in
     record {
       ordered = same.0;
       valued = subst (λ (ls : List Literal). AreValued ls) (sym constants) x.valued;
+      shallow = subst (λ (ps : List PlacedPattern). AreShallowPatterns ps) (sym patterns) x.shallow;
       closed = same.1;
       nothing = c.unnamed.ensures;
       none = c.no_event.ensures ∙ ap none_literal c.unit.ensures;
     }
 
 pub returns : goal.returns
-returns c = unchanged _ _ c.in_ok-arena.ensures (c.in_ok-names.ensures ∙ c.deref.ensures.value) (c.in_ok-constants.ensures ∙ c.deref-2.ensures.value) (c.in_ok-functions.ensures ∙ c.deref-3.ensures.value)
+returns c = unchanged _ _ c.in_ok-arena.ensures (c.in_ok-names.ensures ∙ c.deref.ensures.value) (c.in_ok-constants.ensures ∙ c.deref-2.ensures.value) (c.in_ok-patterns.ensures ∙ c.deref-3.ensures.value) (c.in_ok-functions.ensures ∙ c.deref-4.ensures.value)

@@ -11,12 +11,13 @@ invariant_of-self c =
       ordered = x.ordered;
       closed = functions_put _ x.functions.items c.push.new.self.items (record { pattern = c.args.pattern; body = c.args.body }) _ c.push.ensures.items x.closed c.requires (omega (arith, c.depth.ensures));
       valued = x.valued;
+      shallow = x.shallow;
       nothing = x.nothing;
       none = x.none;
     }
 
 pub returns-in_err-push-clause-err : goal.returns-in_err-push-clause-err
-returns-in_err-push-clause-err c = on_any_err _ (unchanged c.args.self.now _ refl refl refl c.in_err-push.ensures.items)
+returns-in_err-push-clause-err c = on_any_err _ (unchanged c.args.self.now _ refl refl refl refl c.in_err-push.ensures.items)
 
 pub returns-clause-ok : goal.returns-clause-ok
-returns-clause-ok c = adds_function_put c.args.self.now _ (record { pattern = c.args.pattern; body = c.args.body }) _ (record { next = omega (arith, c.args.self.now.functions.ok.0); grown = c.in_ok-push.ensures.items }) refl refl refl
+returns-clause-ok c = adds_function_put c.args.self.now _ (record { pattern = c.args.pattern; body = c.args.body }) _ (record { next = omega (arith, c.args.self.now.functions.ok.0); grown = c.in_ok-push.ensures.items }) refl refl refl refl

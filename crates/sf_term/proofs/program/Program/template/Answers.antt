@@ -1,4 +1,4 @@
-use Rattle.std.proofs.Common.{◌∙◌, ◌++◌, ◌∷◌, [], ap, refl, arith, string_bytes}
+use Rattle.std.proofs.Common.{List, ◌∙◌, ◌++◌, ◌∷◌, [], ap, refl, arith, string_bytes}
 use Rattle.sf_term.specs.Headers.{Header}
 use Rattle.sf_term.specs.Arena.{headers_of, HoldsTerm}
 use Rattle.sf_term.proofs.Kept.{bodies_put, adds_template, unchanged, same_expressions, on_any_err}
@@ -25,4 +25,4 @@ unfolding headers_of
 returns-clause-ok c =
     let p = c.args.self.now in
     let h : Header = record { name = string_bytes c.args.name; spot = c.args.spot; input = c.args.input; output = c.args.output; body = c.args.body } in
-    adds_template p _ h refl refl (c.in_ok-push.ensures.items ∙ ap (λ (t : Header). p.templates.items ++ t ∷ []) c.new.ensures) c.requires
+    adds_template p _ h refl refl (◌∙◌ {A = List Header} c.in_ok-push.ensures.items (ap (λ (t : Header). p.templates.items ++ t ∷ []) c.new.ensures)) c.requires

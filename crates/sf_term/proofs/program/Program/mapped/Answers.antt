@@ -1,0 +1,24 @@
+use Rattle.std.proofs.Common.{refl}
+use Rattle.sf_expr.specs.declared.exprs.PatternId.{PatternId}
+use Rattle.sf_expr.specs.declared.exprs.ExprNode.TheVariants as expressions
+use Rattle.sf_term.specs.Arena.{expressions_of, expression_under, HoldsExpression}
+use Rattle.sf_term.proofs.Kept.{adds_with_pattern, pattern_there, unchanged_keeps}
+use Rattle.sf_term.proofs.program.Program.mapped.Goals as goal
+
+pub add_expression-requires : goal.add_expression-requires
+unfolding expressions_of HoldsExpression
+add_expression-requires c =
+    let kept = (unchanged_keeps _ _ c.in-Ok.ensures.same).trees in
+    (kept.expressions c.args.part c.requires.part_held, c.in-Ok.ensures.ok.within, kept.expressions c.args.body c.requires.body_held)
+
+pub returns-in-Ok-clause-ok : goal.returns-in-Ok-clause-ok
+unfolding expressions_of expression_under
+returns-in-Ok-clause-ok c =
+    let same = c.in-Ok.ensures.same in
+    adds_with_pattern c.args.self.now c.place.new.self _ c.add_expression.result c.in-Ok.id c.args.pattern (λ (q : PatternId). expressions.Mapped c.args.part c.args.mapping q c.args.body) _ c.args.spot c.in-Ok.ensures.ok same
+    (rw (same.values c.args.part, same.values c.args.body, c.in-Ok.ensures.ok.is) refl)
+    c.add_expression.ensures.ok
+
+pub returns-in-Ok-clause-placed : goal.returns-in-Ok-clause-placed
+unfolding expressions_of
+returns-in-Ok-clause-placed c = pattern_there c.args.self.now c.place.new.self _ c.add_expression.result _ _ _ _ _ c.in-Ok.ensures.ok c.add_expression.ensures.ok
