@@ -1,5 +1,5 @@
-"""Plays three networks, a delay of numbers, a loop over pairs and one of texts, events and tables with functions inside, on three
-lines with each growth of memory refused in turn.
+"""Plays four networks, a delay of numbers, a loop over pairs, one of texts, events and tables with functions inside and one that
+calls stored functions, on three lines with each growth of memory refused in turn.
 
     python3 rows/refuse_growths.py --exe PATH
 
@@ -25,6 +25,9 @@ RUNS = [
      ' ((size(t) == 2) and (fold(t, match(e, "", s => s), (most, (j, _)) => if (j > most) then j else most) == k)))',
      ['(({"a":"b","c":""},"c"),event "x")', '(({},""),event "d\\"")', '(({"c":"","a":"e"},"c"),none)'],
      ['(({"a":"b","c":""},event "x"),false)', '(({},event "d\\""),false)', '(({"c":"","a":"e"},event ""),true)']),
+    ("(Int, Event Int) ~> (Int, Int) = loopPre(call abs(-3), arr ((x, e), most) =>"
+     " let high = call max((most, call abs(fromEvent(e, x)))) in ((high, call sign(x)), high))",
+     ["(1,none)", "(2,event -7)", "(-5,none)"], ["(3,1)", "(7,1)", "(7,-1)"]),
 ]
 TIMES = [0, 16, 32]
 

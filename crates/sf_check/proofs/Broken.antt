@@ -2,6 +2,7 @@
 use Rattle.std.proofs.Common.{◌≡◌, refl, subst, ap, arith}
 use mathlib.Core.Path.{ap₂}
 use Rattle.sf_value.specs.Values.{Kind, pair_kind, nodes as nodes_of}
+use Rattle.sf_func.specs.Registries.{TypesByName}
 use Rattle.sf_expr.specs.Typing.{Fits}
 use Rattle.sf_expr.specs.declared.exprs.Exprs.{Exprs}
 use Rattle.sf_refusal.specs.declared.spot.Spot.{Spot}
@@ -68,6 +69,6 @@ module _ {p : Program} {Γ : Context} where
   breaks_untyped {i} (itself broken) h = itself_untyped broken (form_made p i h) (output_fits h)
   breaks_untyped {i} (within reached broken) h = breaks_untyped broken (reached_takes reached (form_made p i h)).1
 
-pub template_untyped : {p : Program} {h : Header} {e : Breach} → TemplateBreaks p h e → IsTyped (templates_of p) (template_in p h) → ⊥
+pub template_untyped : {fs : TypesByName} {p : Program} {h : Header} {e : Breach} → TemplateBreaks fs p h e → IsTyped fs (templates_of p) (template_in p h) → ⊥
 template_untyped (breaks_within broken) k = breaks_untyped broken k
 template_untyped (breaks_header h other) k = other (takes_one h k)

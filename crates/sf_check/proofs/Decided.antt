@@ -8,6 +8,7 @@ use Rattle.std.proofs.lemmas.Option.{slice_get-map, slice_get_within, same_Some,
 use Rattle.sf_refusal.specs.declared.spot.Spot.{Spot}
 use Rattle.sf_refusal.specs.declared.refusal.Breach.{Breach}
 use Rattle.sf_value.specs.Values.{Name}
+use Rattle.sf_func.specs.Registries.{TypesByName}
 use Rattle.sf_expr.specs.Typing.{Fits}
 use Rattle.sf_term.specs.declared.program.Program.{Program}
 use Rattle.sf_term.specs.Headers.{Header}
@@ -96,44 +97,45 @@ module _ (p : Program) where
     | inr none ↦ inl (λ place r. none place (repeats_within (templates_of p) place r) r)
   ]
 
-  template_decided : (h : Header) → Fits h.input → IsTyped (templates_of p) (template_in p h) ⊎ ((b : Breach) × TemplateBreaks p h b)
-  template_decided h fits = elim (term_answered p (context_of (templates_of p)) (λ y t e. absurd (none-some t e)) h.body h.input fits) [
-    | inr r ↦ inr (r.0, breaks_within r.1)
-    | inl t ↦ elim (kinds_or t.0 h.output) [
-      | inl e ↦ inl (subst (Takes (context_of (templates_of p)) (tree p h.body) h.input) e t.1)
-      | inr other ↦ inr (_, breaks_header t.1 other)
-    ]
-  ]
-
-  module _ (fit : HeadersFit p) where
-    abbrev AreTypedTo : ℕ → Type 0
-    AreTypedTo n = (i : ℕ) (t : Template) → i < n → slice_get (templates_of p) i ≡ Some t → IsTyped (templates_of p) t
-
-    next_typed : (n : ℕ) → AreTypedTo n → (o : Option Header) → slice_get (headers_of p) n ≡ o → ((b : Breach) × IsFirstBreak p b) ⊎ AreTypedTo (suc n)
-    next_typed n typed None e = inr (λ i t k q. elim (lt_or_eq i n (omega arith)) [ inl below ↦ typed i t below q | inr same ↦ absurd (none-some t (sym (no_header n e) ∙ ap (slice_get (templates_of p)) (sym same) ∙ q)) ])
-    next_typed n typed (Some h) e = elim (template_decided h (fit n (template_in p h) (template_at p n h e))) [
-      | inl is ↦ inr (λ i t k q. one_more_typed p n typed h e is i t (omega arith) q)
-      | inr r ↦ inl (r.0, record { place = n; header = h; at = e; typed = typed; broken = r.1 })
-    ]
-
-    typed_or : (n : ℕ) → ((b : Breach) × IsFirstBreak p b) ⊎ AreTypedTo n
-    typed_or zero = inr (λ i t k e. absurd (omega arith))
-    typed_or (suc n) = elim (typed_or n) [ inl h ↦ inl h | inr typed ↦ next_typed n typed (slice_get (headers_of p) n) refl ]
-
-    -- ## Networks
-
-    abbrev IsDecided : Type 0
-    IsDecided = Accepted (templates_of p) ⊎ ((b : Breach) × RefusesNetwork p b)
-
-    main_decided : HasDifferentNames p → AreTyped p → (o : Option Template) → main_of (templates_of p) ≡ o → IsDecided
-    main_decided different typed None e = inr (_, main_missing different typed e)
-    main_decided different typed (Some t) e = inl (accepted_by p t different typed e)
-
-    pub network_decided : IsDecided
-    network_decided = elim names_decided [
-      | inr h ↦ inr (_, name_refused h.1)
-      | inl different ↦ elim (typed_or (length (headers_of p))) [
-        | inl h ↦ inr (h.0, type_refused different h.1)
-        | inr typed ↦ main_decided different (all_typed p (length (headers_of p)) typed (omega arith)) (main_of (templates_of p)) refl
+  module _ (fs : TypesByName) where
+    template_decided : (h : Header) → Fits h.input → IsTyped fs (templates_of p) (template_in p h) ⊎ ((b : Breach) × TemplateBreaks fs p h b)
+    template_decided h fits = elim (term_answered p (context_of fs (templates_of p)) (λ y t e. absurd (none-some t e)) h.body h.input fits) [
+      | inr r ↦ inr (r.0, breaks_within r.1)
+      | inl t ↦ elim (kinds_or t.0 h.output) [
+        | inl e ↦ inl (subst (Takes (context_of fs (templates_of p)) (tree p h.body) h.input) e t.1)
+        | inr other ↦ inr (_, breaks_header t.1 other)
       ]
     ]
+
+    module _ (fit : HeadersFit p) where
+      abbrev AreTypedTo : ℕ → Type 0
+      AreTypedTo n = (i : ℕ) (t : Template) → i < n → slice_get (templates_of p) i ≡ Some t → IsTyped fs (templates_of p) t
+
+      next_typed : (n : ℕ) → AreTypedTo n → (o : Option Header) → slice_get (headers_of p) n ≡ o → ((b : Breach) × IsFirstBreak fs p b) ⊎ AreTypedTo (suc n)
+      next_typed n typed None e = inr (λ i t k q. elim (lt_or_eq i n (omega arith)) [ inl below ↦ typed i t below q | inr same ↦ absurd (none-some t (sym (no_header n e) ∙ ap (slice_get (templates_of p)) (sym same) ∙ q)) ])
+      next_typed n typed (Some h) e = elim (template_decided h (fit n (template_in p h) (template_at p n h e))) [
+        | inl is ↦ inr (λ i t k q. one_more_typed fs p n typed h e is i t (omega arith) q)
+        | inr r ↦ inl (r.0, record { place = n; header = h; at = e; typed = typed; broken = r.1 })
+      ]
+
+      typed_or : (n : ℕ) → ((b : Breach) × IsFirstBreak fs p b) ⊎ AreTypedTo n
+      typed_or zero = inr (λ i t k e. absurd (omega arith))
+      typed_or (suc n) = elim (typed_or n) [ inl h ↦ inl h | inr typed ↦ next_typed n typed (slice_get (headers_of p) n) refl ]
+
+      -- ## Networks
+
+      abbrev IsDecided : Type 0
+      IsDecided = Accepted fs (templates_of p) ⊎ ((b : Breach) × RefusesNetwork fs p b)
+
+      main_decided : HasDifferentNames p → AreTyped fs p → (o : Option Template) → main_of (templates_of p) ≡ o → IsDecided
+      main_decided different typed None e = inr (_, main_missing different typed e)
+      main_decided different typed (Some t) e = inl (accepted_by fs p t different typed e)
+
+      pub network_decided : IsDecided
+      network_decided = elim names_decided [
+        | inr h ↦ inr (_, name_refused h.1)
+        | inl different ↦ elim (typed_or (length (headers_of p))) [
+          | inl h ↦ inr (h.0, type_refused different h.1)
+          | inr typed ↦ main_decided different (all_typed fs p (length (headers_of p)) typed (omega arith)) (main_of (templates_of p)) refl
+        ]
+      ]

@@ -16,7 +16,7 @@ use Rattle.sf_term.specs.declared.program.Program.{Program}
 use Rattle.sf_term.specs.Headers.{Header}
 use Rattle.sf_term.specs.Arena.{headers_of, template_in, templates_of}
 use Rattle.sf_check.specs.declared.checked.Checked.{Checked}
-use Rattle.sf_check.specs.Accepting.{program_of, checked_main, no_main}
+use Rattle.sf_check.specs.Accepting.{program_of, types_checked, checked_main, no_main}
 use Rattle.sf_check.specs.Names.{names, names_of_set, program_names, IsHeaderNamed}
 use Rattle.sf_check.proofs.Templates.{template_at}
 use Rattle.sf_check.proofs.Accepted.{settled_accepted}
@@ -111,11 +111,11 @@ module _ (c : Checked) where
   pub main_is : (h : Header) → slice_get (headers_of (program_of c)) c.main ≡ Some h → template_in (program_of c) h ≡ checked_main c
   main_is h at = sym (main_there (template_in (program_of c) h) (sym (named_is (program_of c) (codes "main") c.main c.main_found h at)))
 
-  pub now_accepted : Accepted (templates_of (program_of c))
-  now_accepted = settled_accepted (templates_of (program_of c)) (checked_main c) main_named c.accepted
+  pub now_accepted : Accepted (types_checked c) (templates_of (program_of c))
+  now_accepted = settled_accepted (types_checked c) (templates_of (program_of c)) (checked_main c) main_named c.accepted
 
   -- the template that is run is typed
-  pub main_typed : IsTyped (templates_of (program_of c)) (checked_main c)
+  pub main_typed : IsTyped (types_checked c) (templates_of (program_of c)) (checked_main c)
   main_typed =
       let there = named_at (codes "main") (templates_of (program_of c)) c.main c.main_found in
-      subst (IsTyped (templates_of (program_of c))) (sym (main_there there.template there.named)) (now_accepted.typed c.main there.template there.at)
+      subst (IsTyped (types_checked c) (templates_of (program_of c))) (sym (main_there there.template there.named)) (now_accepted.typed c.main there.template there.at)

@@ -10,3 +10,4 @@ pub mod Once
 pub mod Finding
 pub mod Answered
 pub mod Decided
+pub mod Alike

@@ -2,6 +2,7 @@
 use Rattle.std.proofs.Common.{◌≡◌, ◌<◌, ℕ, slice_get, refl, sym, ◌∙◌, ap, subst, arith}
 use Rattle.std.proofs.lemmas.Option.{same_Some}
 use Rattle.sf_value.specs.Values.{Kind, pair_kind}
+use Rattle.sf_func.specs.Registries.{TypesByName}
 use Rattle.sf_expr.specs.declared.exprs.Exprs.{Exprs}
 use Rattle.sf_refusal.specs.declared.spot.Spot.{Spot}
 use Rattle.sf_refusal.specs.declared.rule.Rule.TheVariants.{DuplicateName}
@@ -108,27 +109,6 @@ module _ {p : Program} {Γ : Context} where
   breaks_once (within reached h) (within more k) = parts_once reached more h (λ g l. breaks_once h l) k
 
 module _ {p : Program} where
-  template_once : {h : Header} {e f : Breach} → TemplateBreaks p h e → TemplateBreaks p h f → e ≡ f
-  template_once (breaks_within h) (breaks_within k) = breaks_once h k
-  template_once (breaks_within h) (breaks_header k other) = absurd (breaks_untyped h k)
-  template_once (breaks_header k other) (breaks_within h) = absurd (breaks_untyped h k)
-  template_once (breaks_header h other) (breaks_header k more) = refl
-
-  -- a template that stands before the first break is typed
-  before_first : {e f : Breach} (h : IsFirstBreak p e) (k : IsFirstBreak p f) → h.place < k.place → ⊥
-  before_first h k before = template_untyped h.broken (k.typed h.place (template_in p h.header) before (template_at p h.place h.header h.at))
-
-  first_once : {e f : Breach} → IsFirstBreak p e → IsFirstBreak p f → e ≡ f
-  first_once {e} {f} h k =
-      let below : h.place < k.place → ⊥ = before_first h k in
-      let above : k.place < h.place → ⊥ = before_first k h in
-      let place : k.place ≡ h.place = no_order k.place h.place above below in
-      let same : k.header ≡ h.header = same_Some _ _ (sym k.at ∙ ap (slice_get (headers_of p)) place ∙ h.at) in
-      template_once h.broken (subst (λ g. TemplateBreaks p g f) same k.broken)
-    where
-      no_order : (m n : ℕ) → (m < n → ⊥) → (n < m → ⊥) → m ≡ n
-      no_order m n below above = grind arith
-
   repeat_once : {s t : Spot} → IsFirstRepeat p s → IsFirstRepeat p t → s ≡ t
   repeat_once h k =
       let below = h.first k.place k.repeats in
@@ -136,7 +116,29 @@ module _ {p : Program} where
       let place : h.place ≡ k.place = omega arith in
       same_Some _ _ (sym h.stands ∙ ap (slice_get (spots_of p)) place ∙ k.stands)
 
-  pub refuses_once : {e f : Breach} → RefusesNetwork p e → RefusesNetwork p f → e ≡ f
+module _ {fs : TypesByName} {p : Program} where
+  template_once : {h : Header} {e f : Breach} → TemplateBreaks fs p h e → TemplateBreaks fs p h f → e ≡ f
+  template_once (breaks_within h) (breaks_within k) = breaks_once h k
+  template_once (breaks_within h) (breaks_header k other) = absurd (breaks_untyped h k)
+  template_once (breaks_header k other) (breaks_within h) = absurd (breaks_untyped h k)
+  template_once (breaks_header h other) (breaks_header k more) = refl
+
+  -- a template that stands before the first break is typed
+  before_first : {e f : Breach} (h : IsFirstBreak fs p e) (k : IsFirstBreak fs p f) → h.place < k.place → ⊥
+  before_first h k before = template_untyped h.broken (k.typed h.place (template_in p h.header) before (template_at p h.place h.header h.at))
+
+  first_once : {e f : Breach} → IsFirstBreak fs p e → IsFirstBreak fs p f → e ≡ f
+  first_once {e} {f} h k =
+      let below : h.place < k.place → ⊥ = before_first h k in
+      let above : k.place < h.place → ⊥ = before_first k h in
+      let place : k.place ≡ h.place = no_order k.place h.place above below in
+      let same : k.header ≡ h.header = same_Some _ _ (sym k.at ∙ ap (slice_get (headers_of p)) place ∙ h.at) in
+      template_once h.broken (subst (λ g. TemplateBreaks fs p g f) same k.broken)
+    where
+      no_order : (m n : ℕ) → (m < n → ⊥) → (n < m → ⊥) → m ≡ n
+      no_order m n below above = grind arith
+
+  pub refuses_once : {e f : Breach} → RefusesNetwork fs p e → RefusesNetwork fs p f → e ≡ f
   refuses_once (name_refused h) (name_refused k) = ap (breach_of DuplicateName) (repeat_once h k)
   refuses_once (name_refused h) (type_refused different k) = absurd (different h.place h.repeats)
   refuses_once (name_refused h) (main_missing different typed none) = absurd (different h.place h.repeats)

@@ -6,6 +6,7 @@ use Rattle.std.specs.Option.{option_map}
 use Rattle.sf_refusal.specs.declared.refusal.Refusal.{Refusal}
 use Rattle.sf_refusal.specs.Refusals.{broken, OrMemory}
 use Rattle.sf_refusal.proofs.Explained.{or_memory}
+use Rattle.sf_func.specs.Registries.{TypesByName}
 use Rattle.sf_term.specs.declared.program.Program.{Program}
 use Rattle.sf_term.specs.Headers.{Header}
 use Rattle.sf_term.specs.Trees.{Template}
@@ -31,19 +32,19 @@ module _ (p : Program) (i : ℕ) (h : Header) (at : slice_get (headers_of p) i �
 pub header_at : (p : Program) (hs : List Header) (i : ℕ) (h : Header) → hs ≡ headers_of p → i < length hs → h ≡ get_or hs i h → slice_get (headers_of p) i ≡ Some h
 header_at p hs i h e within is = ap (λ l. slice_get l i) (sym e) ∙ slice_get_read hs (length hs) i h refl within is
 
-module _ (p : Program) (n : ℕ) (typed : (i : ℕ) (t : Template) → i < n → slice_get (templates_of p) i ≡ Some t → IsTyped (templates_of p) t) where
-  pub one_more_typed : (h : Header) → slice_get (headers_of p) n ≡ Some h → IsTyped (templates_of p) (template_in p h) → (i : ℕ) (t : Template) → i < n + 1 → slice_get (templates_of p) i ≡ Some t → IsTyped (templates_of p) t
+module _ (fs : TypesByName) (p : Program) (n : ℕ) (typed : (i : ℕ) (t : Template) → i < n → slice_get (templates_of p) i ≡ Some t → IsTyped fs (templates_of p) t) where
+  pub one_more_typed : (h : Header) → slice_get (headers_of p) n ≡ Some h → IsTyped fs (templates_of p) (template_in p h) → (i : ℕ) (t : Template) → i < n + 1 → slice_get (templates_of p) i ≡ Some t → IsTyped fs (templates_of p) t
   one_more_typed h here is i t below at =
       elim (lt_or_eq i n below) [
         | inl before ↦ typed i t before at
-        | inr same ↦ subst (IsTyped (templates_of p)) (same_Some _ _ (sym (template_at p n h here) ∙ ap (slice_get (templates_of p)) (sym same) ∙ at)) is
+        | inr same ↦ subst (IsTyped fs (templates_of p)) (same_Some _ _ (sym (template_at p n h here) ∙ ap (slice_get (templates_of p)) (sym same) ∙ at)) is
       ]
 
-  pub all_typed : length (headers_of p) ≤ n → AreTyped p
+  pub all_typed : length (headers_of p) ≤ n → AreTyped fs p
   all_typed most i t at =
       let within = slice_get_within (templates_of p) i t at in
       let count = length-map (headers_of p) (template_in p) in
       typed i t (omega arith) at
 
-  pub template_breaks : (h : Header) → slice_get (headers_of p) n ≡ Some h → (e : Refusal) → OrMemory (TemplateBreaks p h) e → OrMemory (IsFirstBreak p) e
+  pub template_breaks : (h : Header) → slice_get (headers_of p) n ≡ Some h → (e : Refusal) → OrMemory (TemplateBreaks fs p h) e → OrMemory (IsFirstBreak fs p) e
   template_breaks h here e broken = or_memory (λ b k. record { place = n; header = h; at = here; typed = typed; broken = k }) broken

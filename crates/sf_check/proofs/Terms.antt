@@ -1,6 +1,7 @@
 -- What is answered for terms, by their forms.
 use Rattle.std.proofs.Common.{◌≡◌, refl, sym, subst, ap, ◌∙◌, Result, Ok, Err, IfOk, IfErr, arith, IsErrAnd}
 use Rattle.sf_value.specs.Values.{Kind, pair_kind}
+use Rattle.sf_func.specs.Registries.{TypesByName}
 use Rattle.sf_expr.specs.declared.exprs.ExprId.{ExprId}
 use Rattle.sf_expr.specs.declared.exprs.Exprs.{Exprs}
 use Rattle.sf_expr.specs.declared.exprs.FunctionId.{FunctionId}
@@ -155,12 +156,12 @@ module _ (p : Program) (Γ : Context) (t : TermId) (a : Kind) (s : Spot) (at : s
 
 -- ## A template
 
-pub template_refused : (p : Program) (h : Header) (t : TermId) (a : Kind) (e : Refusal) → t ≡ h.body → a ≡ h.input → OrMemory (TermBreaks p (context_of (templates_of p)) t a) e → OrMemory (TemplateBreaks p h) e
-template_refused p h t a e is from broken = or_memory (λ f k. breaks_within (subst (λ a. TermBreaks p (context_of (templates_of p)) h.body a f) from (subst (λ t. TermBreaks p (context_of (templates_of p)) t a f) is k))) broken
+pub template_refused : (fs : TypesByName) (p : Program) (h : Header) (t : TermId) (a : Kind) (e : Refusal) → t ≡ h.body → a ≡ h.input → OrMemory (TermBreaks p (context_of fs (templates_of p)) t a) e → OrMemory (TemplateBreaks fs p h) e
+template_refused fs p h t a e is from broken = or_memory (λ f k. breaks_within (subst (λ a. TermBreaks p (context_of fs (templates_of p)) h.body a f) from (subst (λ t. TermBreaks p (context_of fs (templates_of p)) t a f) is k))) broken
 
-pub header_refused : (p : Program) (h : Header) (t : TermId) (s : Spot) (a b c : Kind) (e : Refusal) → t ≡ h.body → s ≡ term_spot_at p t → a ≡ h.input → c ≡ h.output → Takes (context_of (templates_of p)) (tree p t) a b → (b ≡ c → ⊥) → e ≡ broken Mismatch s → OrMemory (TemplateBreaks p h) e
-header_refused p h t s a b c e is at from to k other eq =
-    let takes' : Takes (context_of (templates_of p)) (tree p h.body) h.input b = subst (λ a. Takes (context_of (templates_of p)) (tree p h.body) a b) from (subst (λ t. Takes (context_of (templates_of p)) (tree p t) a b) is k) in
+pub header_refused : (fs : TypesByName) (p : Program) (h : Header) (t : TermId) (s : Spot) (a b c : Kind) (e : Refusal) → t ≡ h.body → s ≡ term_spot_at p t → a ≡ h.input → c ≡ h.output → Takes (context_of fs (templates_of p)) (tree p t) a b → (b ≡ c → ⊥) → e ≡ broken Mismatch s → OrMemory (TemplateBreaks fs p h) e
+header_refused fs p h t s a b c e is at from to k other eq =
+    let takes' : Takes (context_of fs (templates_of p)) (tree p h.body) h.input b = subst (λ a. Takes (context_of fs (templates_of p)) (tree p h.body) a b) from (subst (λ t. Takes (context_of fs (templates_of p)) (tree p t) a b) is k) in
     breaks_at Mismatch eq (at ∙ ap (term_spot_at p) is) (breaks_header takes' (λ e. other (e ∙ sym to)))
 
 -- ## A primitive

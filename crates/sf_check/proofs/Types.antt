@@ -1,8 +1,9 @@
 -- The one type that expressions and terms can have, and its bound.
-use Rattle.std.proofs.Common.{◌≡◌, ◌≢◌, [], ◌∷◌, refl, ap}
+use Rattle.std.proofs.Common.{◌≡◌, ◌≢◌, refl, ap}
 use Rattle.sf_value.specs.Values.{Kind, pair_kind}
+use Rattle.sf_func.specs.Registries.{TypesByName}
 use Rattle.sf_expr.specs.Expressions.{Expression, Function}
-use Rattle.sf_expr.specs.Typing.{Names, Fits, HasType, variable_has, literal_has, pair_has, applied_has, operation_has, conditional_has, mapped_has, folded_has, FunctionTakes, function_takes}
+use Rattle.sf_expr.specs.Typing.{Names, only_functions, typed_name, with_types, Fits, HasType, variable_has, literal_has, pair_has, applied_has, operation_has, conditional_has, mapped_has, folded_has, called_has, FunctionTakes, function_takes}
 pub use Rattle.sf_expr.proofs.Judged.{one_type as expression_one}
 use Rattle.sf_term.specs.Trees.{Primitive}
 use Rattle.sf_mean.specs.Contexts.{Context, values_in}
@@ -20,6 +21,7 @@ expression_fits (operation_has h i e f) = f
 expression_fits (conditional_has h i j e f) = f
 expression_fits (mapped_has h a f b i e g) = g
 expression_fits (folded_has h i a f b j e g) = g
+expression_fits (called_has h e f) = f
 
 function_fits : {R : Names} {f : Function} {t u : Kind} → FunctionTakes R f t u → Fits u
 function_fits (function_takes fits binds h) = expression_fits h
@@ -31,10 +33,10 @@ primitive_fits f (initial_pre_takes h) = f
 primitive_fits f (arrow_takes h) = function_fits h
 primitive_fits f (fused_takes h g) = g
 
--- expressions are typed under the names that a context has
-pub names_seen_through : (R : Names) → values_in (bindings_of R) ≡ R
-names_seen_through [] = refl
-names_seen_through (n ∷ ns) = ap (λ (R : Names). n ∷ R) (names_seen_through ns)
+-- expressions are typed under the names and the functions that a context has
+pub names_seen_through : (fs : TypesByName) (R : Names) → values_in fs (bindings_of R) ≡ with_types fs R
+names_seen_through fs (only_functions gs) = refl
+names_seen_through fs (typed_name x t R) = ap (typed_name x t) (names_seen_through fs R)
 
 -- the second part is another than that
 pub other_second : {a t u v : Kind} → a ≡ pair_kind t u → u ≢ v → IsNoPairWith v a

@@ -1,6 +1,8 @@
 -- What was accepted.
 use Rattle.std.specs.Prelude.{[], unwrap_or}
 use Rattle.sf_value.specs.Values.{int_kind}
+use Rattle.sf_func.specs.Registries.{TypesByName}
+use Rattle.sf_func.specs.Signatures.{signatures_in}
 use Rattle.sf_term.specs.declared.form.Bare.TheVariants.{Identity}
 use Rattle.sf_term.specs.declared.program.Program.{Program}
 use Rattle.sf_term.specs.Trees.{Template, primitive, bare}
@@ -11,6 +13,10 @@ use Rattle.sf_check.specs.declared.checked.Checked.{Checked}
 -- the program that was accepted
 abbrev pub program_of : Checked → Program
 program_of c = c.program
+
+-- the types of the stored functions with which it was accepted
+abbrev pub types_checked : Checked → TypesByName
+types_checked c = signatures_in c.functions
 
 -- what stands for `main` where there is none
 abbrev pub no_main : Template

@@ -5,6 +5,7 @@ use Rattle.sf_refusal.specs.declared.spot.Spot.{Spot}
 use Rattle.sf_refusal.specs.declared.rule.Rule.TheVariants.{Mismatch, TypeTooLarge}
 use Rattle.sf_refusal.specs.declared.refusal.Breach.{Breach}
 use Rattle.sf_refusal.specs.Refusals.{breach_of}
+use Rattle.sf_func.specs.Registries.{TypesByName}
 use Rattle.sf_expr.specs.declared.exprs.ExprId.{ExprId}
 use Rattle.sf_expr.specs.declared.exprs.FunctionId.{FunctionId}
 use Rattle.sf_expr.specs.declared.exprs.Exprs.{Exprs}
@@ -76,19 +77,20 @@ pub data TermBreaks (p : Program) (Γ : Context) : TermId → Kind → Breach �
   itself : {i : TermId} {a : Kind} {e : Breach} → FormBreaks p Γ (term_spot_at p i) (term_node_at p i) a e → TermBreaks p Γ i a e
   within : {i j : TermId} {a b : Kind} {e : Breach} → Reaches p Γ (term_node_at p i) a j b → TermBreaks p Γ j b e → TermBreaks p Γ i a e
 
--- In a template, this is the first rule that is broken, or that the whole term doesn't give its header's output.
-pub data TemplateBreaks (p : Program) (h : Header) : Breach → Type 0 where
-  breaks_within : {e : Breach} → TermBreaks p (context_of (templates_of p)) h.body h.input e → TemplateBreaks p h e
-  breaks_header : {b : Kind} → Takes (context_of (templates_of p)) (tree p h.body) h.input b → b ≢ h.output → TemplateBreaks p h (breach_of Mismatch (term_spot_at p h.body))
+-- With functions of these types, this is the first rule that is broken in a template, or that the whole term doesn't give its
+-- header's output.
+pub data TemplateBreaks (fs : TypesByName) (p : Program) (h : Header) : Breach → Type 0 where
+  breaks_within : {e : Breach} → TermBreaks p (context_of fs (templates_of p)) h.body h.input e → TemplateBreaks fs p h e
+  breaks_header : {b : Kind} → Takes (context_of fs (templates_of p)) (tree p h.body) h.input b → b ≢ h.output → TemplateBreaks fs p h (breach_of Mismatch (term_spot_at p h.body))
 
 -- each template's term takes its header's input to its header's output
-abbrev pub AreTyped : Program → Type 0
-AreTyped p = (i : ℕ) (t : Template) → slice_get (templates_of p) i ≡ Some t → IsTyped (templates_of p) t
+abbrev pub AreTyped : TypesByName → Program → Type 0
+AreTyped fs p = (i : ℕ) (t : Template) → slice_get (templates_of p) i ≡ Some t → IsTyped fs (templates_of p) t
 
 -- In the first template that isn't typed, this is the first rule that is broken.
-pub record IsFirstBreak (p : Program) (e : Breach) : Type 0 where
+pub record IsFirstBreak (fs : TypesByName) (p : Program) (e : Breach) : Type 0 where
   pub place : ℕ
   pub header : Header
   pub at : slice_get (headers_of p) place ≡ Some header
-  pub typed : (i : ℕ) (t : Template) → i < place → slice_get (templates_of p) i ≡ Some t → IsTyped (templates_of p) t
-  pub broken : TemplateBreaks p header e
+  pub typed : (i : ℕ) (t : Template) → i < place → slice_get (templates_of p) i ≡ Some t → IsTyped fs (templates_of p) t
+  pub broken : TemplateBreaks fs p header e

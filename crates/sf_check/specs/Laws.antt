@@ -2,6 +2,7 @@
 use Rattle.std.specs.Prelude.{◌≡◌, ◌⊎◌, ℕ, Some, slice_get}
 use Rattle.sf_refusal.specs.declared.refusal.Breach.{Breach}
 use Rattle.sf_value.specs.Values.{Kind}
+use Rattle.sf_func.specs.Registries.{TypesByName}
 use Rattle.sf_expr.specs.Typing.{Fits}
 use Rattle.sf_expr.specs.Inference.{NamesFit}
 use Rattle.sf_term.specs.declared.node.TermId.{TermId}
@@ -13,9 +14,9 @@ use Rattle.sf_mean.specs.Typing.{Takes, Accepted}
 use Rattle.sf_check.specs.Breaking.{TermBreaks}
 use Rattle.sf_check.specs.Refusing.{RefusesNetwork}
 
--- A network breaks one rule at most first, at one place.
+-- With stored functions of any types, a network breaks one rule at most first, at one place.
 abbrev pub EachNetworkRefusedOnce : Type 0
-EachNetworkRefusedOnce = (p : Program) (b c : Breach) → RefusesNetwork p b → RefusesNetwork p c → b ≡ c
+EachNetworkRefusedOnce = (fs : TypesByName) (p : Program) (b c : Breach) → RefusesNetwork fs p b → RefusesNetwork fs p c → b ≡ c
 
 -- the types of the inputs of headers have at most 256 nodes, as those of a network that was read
 abbrev pub HeadersFit : Program → Type 0
@@ -23,11 +24,11 @@ HeadersFit p = (i : ℕ) (t : Template) → slice_get (templates_of p) i ≡ Som
 
 -- A network is accepted, or breaks a rule.
 abbrev pub EachNetworkAnswered : Type 0
-EachNetworkAnswered = (p : Program) → HeadersFit p → Accepted (templates_of p) ⊎ ((b : Breach) × RefusesNetwork p b)
+EachNetworkAnswered = (fs : TypesByName) (p : Program) → HeadersFit p → Accepted fs (templates_of p) ⊎ ((b : Breach) × RefusesNetwork fs p b)
 
 -- A network that breaks a rule is not accepted.
 abbrev pub RefusedOrAccepted : Type 0
-RefusedOrAccepted = (p : Program) (b : Breach) → RefusesNetwork p b → Accepted (templates_of p) → ⊥
+RefusedOrAccepted = (fs : TypesByName) (p : Program) (b : Breach) → RefusesNetwork fs p b → Accepted fs (templates_of p) → ⊥
 
 -- Under a context whose names have types of at most 256 nodes, a term takes inputs of a type to outputs of another, or breaks
 -- a rule on them.

@@ -1,4 +1,5 @@
 pub mod Accepting
+pub mod Calling
 pub mod Names
 pub mod Contexts
 pub mod Breaking

@@ -1,14 +1,18 @@
 //! Accepted networks.
-ghost use Rattle.std.specs.Prelude.{◌≡◌, Some, position, bytes_eq, codes, option_map, IfSome};
-ghost use Rattle.sf_term.specs.Arena.{tree, template_in, templates_of};
+ghost use Rattle.std.specs.Prelude.{◌≡◌, ◌↔◌, IsTrue, Some, position, bytes_eq, codes, option_map, IfSome};
+ghost use Rattle.sf_func.specs.Signatures.{signatures_in};
+ghost use Rattle.sf_term.specs.Arena.{tree, template_in, templates_of, expressions_of};
 ghost use Rattle.sf_term.specs.Headers.{Header};
 ghost use Rattle.sf_mean.specs.Networks.{main_of, template_named};
 ghost use Rattle.sf_mean.specs.Contexts.{context_of};
 ghost use Rattle.sf_mean.specs.Typing.{Takes, Accepted};
 ghost use Rattle.sf_expr.specs.Typing.{Fits};
+ghost use Rattle.sf_check.specs.Calling.{AreCalledAlike};
 ghost use Rattle.sf_check.specs.Names.{names_of_set, program_names, IsHeaderNamed};
 
+use crate::calling::are_called_alike;
 use indexmap::IndexSet;
+use sf_func::{Holds, Signatures};
 use sf_term::{Program, Template, TermId};
 use sf_value::Ty;
 
@@ -16,20 +20,21 @@ use sf_value::Ty;
 #[derive(Drop)]
 pub struct Checked {
     pub(crate) program: Program,
+    pub(crate) functions: Signatures,
     pub(crate) names: IndexSet<String>,
     pub(crate) main: usize,
-    ghost accepted: { ∥ Accepted (templates_of program) ∥₁ },
+    ghost accepted: { ∥ Accepted (signatures_in functions) (templates_of program) ∥₁ },
     ghost named: { names_of_set names ≡ program_names program },
     ghost main_found: { position (bytes_eq (codes "main")) (program_names program) ≡ Some main },
 }
 
 impl Checked {
-    ghost use Rattle.sf_check.specs.Accepting.{program_of, checked_main};
+    ghost use Rattle.sf_check.specs.Accepting.{program_of, types_checked, checked_main};
 
     /// The program that was accepted. It has a template `main`.
     pub fn program(&self) -> &Program
         ensures program { result.now ≡ program_of self.now }
-        ensures accepted { Accepted (templates_of (program_of self.now)) }
+        ensures accepted { Accepted (types_checked self.now) (templates_of (program_of self.now)) }
         ensures main { main_of (templates_of (program_of self.now)) ≡ Some (checked_main self.now) }
     {
         &self.program
@@ -56,7 +61,7 @@ impl Checked {
     pub fn main(&self) -> TermId
         ensures stands { (main : Header) × IsHeaderNamed (program_of self.now) (codes "main") main × (result ≡ main.body) }
         ensures term { tree (program_of self.now) result ≡ (checked_main self.now).body }
-        ensures typed { Takes (context_of (templates_of (program_of self.now))) (checked_main self.now).body (checked_main self.now).input (checked_main self.now).output }
+        ensures typed { Takes (context_of (types_checked self.now) (templates_of (program_of self.now))) (checked_main self.now).body (checked_main self.now).input (checked_main self.now).output }
         ensures fits { Fits (checked_main self.now).input }
     {
         self.main_template().body()
@@ -67,5 +72,14 @@ impl Checked {
         ensures { result.now ≡ (checked_main self.now).input }
     {
         self.main_template().input()
+    }
+
+    /// Whether each function that the network calls is there with the same types. If so, it is accepted with these
+    /// functions too.
+    pub fn fits<R: Holds>(&self, functions: &R) -> bool
+        ensures same { IsTrue result ↔ AreCalledAlike (expressions_of (program_of self.now)) (types_checked self.now) (R.types functions.now) }
+        ensures accepted { IsTrue result → Accepted (R.types functions.now) (templates_of (program_of self.now)) }
+    {
+        are_called_alike(self.program.expressions(), &self.functions, functions)
     }
 }

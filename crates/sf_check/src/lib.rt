@@ -1,6 +1,7 @@
 //! Which networks are accepted.
 #![tactic(auto)]
 
+mod calling;
 mod checked;
 mod checker;
 mod context;

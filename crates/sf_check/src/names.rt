@@ -2,6 +2,7 @@
 ghost use Rattle.std.specs.Prelude.{◌≡◌, IfOk, IfErr, OnOk};
 ghost use Rattle.sf_check.specs.Names.{names_of_set, program_names, HasDifferentNames};
 ghost use Rattle.sf_check.specs.Refusing.{RefusesNetwork};
+ghost use Rattle.sf_func.specs.Registries.{TypesByName};
 ghost use Rattle.sf_refusal.specs.Refusals.{OrMemory};
 
 use indexmap::IndexSet;
@@ -13,7 +14,7 @@ use std::alloc::Global;
 pub(crate) fn template_names(alloc: Global, program: &Program) -> Result<IndexSet<String>, Refusal>
     ensures names { IfOk result (λ names. names_of_set names ≡ program_names program.now) }
     ensures different { OnOk result (HasDifferentNames program.now) }
-    ensures refused { IfErr result (OrMemory (RefusesNetwork program.now)) }
+    ensures refused { (fs : TypesByName) → IfErr result (OrMemory (RefusesNetwork fs program.now)) }
 {
     let mut names = IndexSet::new(alloc);
     for template in program.templates() {

@@ -3,6 +3,7 @@ ghost use Rattle.std.specs.Prelude.{◌≡◌, ◌<◌, IfOk, IfErr, OnOk};
 ghost use Rattle.sf_value.specs.Values.{pair_kind, IsNoPair};
 ghost use Rattle.sf_refusal.specs.Refusals.{breach_of, OrMemory};
 ghost use Rattle.sf_refusal.specs.declared.rule.Rule.TheVariants.{Mismatch};
+ghost use Rattle.sf_func.specs.Signatures.{signatures_in};
 ghost use Rattle.sf_expr.specs.Refusals.{Judges};
 ghost use Rattle.sf_expr.specs.Typing.{Fits};
 ghost use Rattle.sf_term.specs.Arena.{term_number, term_node_at, expressions_of, template_in, templates_of};
@@ -14,6 +15,7 @@ ghost use Rattle.sf_check.specs.Breaking.{IsNoPairWith, TemplateBreaks, AreTyped
 
 use crate::context::TypingContext;
 use sf_expr::{ExprId, function_type, pair_type, type_of};
+use sf_func::Signatures;
 use sf_refusal::{Refusal, Rule, Spot};
 use sf_term::{Bare, Heading, Join, Node, Primitive, Program, Side, Template, TermId, WithValue};
 use sf_value::{Ty, same_type};
@@ -35,7 +37,13 @@ fn parts(alloc: Global, ty: &Ty, spot: Spot) -> Result<(Ty, Ty), Refusal>
 fn constant_type(alloc: Global, context: &TypingContext, value: ExprId) -> Result<Ty, Refusal>
     ensures { Judges (expressions_of (program_in context.now)) (names_of_values (context_in context.now)) value result }
 {
-    type_of(alloc, context.program.expressions(), value, &context.names)
+    type_of(
+        alloc,
+        context.program.expressions(),
+        value,
+        &context.names,
+        context.functions,
+    )
 }
 
 /// The type of the outputs of a primitive with a value on inputs of a type.
@@ -79,7 +87,15 @@ fn primitive_output(
         }
         Primitive::Arrow(function) => {
             let exprs = context.program.expressions();
-            Ok(function_type(alloc, exprs, function, &input, &context.names, spot)?)
+            Ok(function_type(
+                alloc,
+                exprs,
+                function,
+                &input,
+                &context.names,
+                context.functions,
+                spot,
+            )?)
         }
     }
 }
@@ -206,11 +222,16 @@ fn output_of(alloc: Global, context: &TypingContext, term: TermId, input: Ty) ->
 }
 
 /// Whether a template's term takes its header's input to its header's output.
-fn check_template(alloc: Global, program: &Program, template: &Template) -> Result<(), Refusal>
-    ensures ok { OnOk result (IsTyped (templates_of program.now) (template_in program.now template.now)) }
-    ensures err { IfErr result (OrMemory (TemplateBreaks program.now template.now)) }
+fn check_template(
+    alloc: Global,
+    program: &Program,
+    functions: &Signatures,
+    template: &Template,
+) -> Result<(), Refusal>
+    ensures ok { OnOk result (IsTyped (signatures_in functions.now) (templates_of program.now) (template_in program.now template.now)) }
+    ensures err { IfErr result (OrMemory (TemplateBreaks (signatures_in functions.now) program.now template.now)) }
 {
-    let context = TypingContext::of_body(alloc, program);
+    let context = TypingContext::of_body(alloc, program, functions);
     let input = template.input().clone_in(alloc)?;
     let output = output_of(alloc, &context, template.body(), input)?;
     if same_type(&output, template.output()) {
@@ -221,12 +242,16 @@ fn check_template(alloc: Global, program: &Program, template: &Template) -> Resu
 }
 
 /// Whether each template's term takes its header's input to its header's output.
-pub(crate) fn check_templates(alloc: Global, program: &Program) -> Result<(), Refusal>
-    ensures ok { OnOk result (AreTyped program.now) }
-    ensures err { IfErr result (OrMemory (IsFirstBreak program.now)) }
+pub(crate) fn check_templates(
+    alloc: Global,
+    program: &Program,
+    functions: &Signatures,
+) -> Result<(), Refusal>
+    ensures ok { OnOk result (AreTyped (signatures_in functions.now) program.now) }
+    ensures err { IfErr result (OrMemory (IsFirstBreak (signatures_in functions.now) program.now)) }
 {
     for template in program.templates() {
-        check_template(alloc, program, template)?;
+        check_template(alloc, program, functions, template)?;
     }
     Ok(())
 }

@@ -3,6 +3,7 @@ use Rattle.std.proofs.Common.{◌≡◌, ◌≢◌, ℕ, ◌+◌, Bool, true, fa
 use Rattle.std.proofs.lemmas.List.Elements.{All-nil, All-cons, All-head}
 use Rattle.sf_value.specs.Values.{Kind, Data, HasKind, number}
 use Rattle.sf_value.specs.declared.fault.Fault.{Fault}
+use Rattle.sf_func.specs.Registries.{AnswersByName}
 use Rattle.sf_law.specs.declared.plan.Plan.{Plan}
 use Rattle.sf_term.specs.Trees.{Template}
 use Rattle.sf_law.specs.Arena.{plan_tree}
@@ -27,25 +28,27 @@ time-step d x [] h = sym h ∙ sym (zero-add d)
 time-step d x (r ∷ L) h = refl
 
 -- an engine goes on to the end of a longer history
-pub goes_to : {o e : Engine} {n : Network} {m : Template} {L : Life} {d : ℕ} {x : Data} → Runs o n m L → IsHistory m.input (step d x ∷ L)
-    → e.plan ≡ o.plan → e.input ≡ o.input → e.stopped ≡ o.stopped → e.time ≡ o.time + d → e.last ≡ Some x
-    → Stands o.plan e.state (closure m.body empty) (step d x ∷ L)
+pub goes_to : {F : Type 0} {h : _} {o e : Engine F h} {n : Network} {m : Template} {L : Life} {d : ℕ} {x : Data} → Runs o n m L → IsHistory m.input (step d x ∷ L)
+    → e.plan ≡ o.plan → e.functions ≡ o.functions → e.input ≡ o.input → e.stopped ≡ o.stopped → e.time ≡ o.time + d → e.last ≡ Some x
+    → Stands (h.answers o.functions) o.plan e.state (closure m.body empty) (step d x ∷ L)
     → Runs e n m (step d x ∷ L)
-goes_to {o = o} {e = e} {n = n} {m = m} {L = L} {d = d} {x = x} R H plan input stopped later last S = record {
+goes_to {h = h} {o = o} {e = e} {n = n} {m = m} {L = L} {d = d} {x = x} R H plan functions input stopped later last S = record {
   goes_on = stopped ∙ R.goes_on;
-  network = ap (λ p. network_of_plan p) plan ∙ R.network;
+  network = ap (λ p. network_of_plan (h.answers e.functions) p) plan ∙ ap (λ f. network_of_plan (h.answers f) o.plan) functions ∙ R.network;
   main = ap (λ p. plan_tree p (plan_main p)) plan ∙ R.main;
   input = input ∙ R.input;
-  state = subst (λ p. Stands p e.state (closure m.body empty) (step d x ∷ L)) (sym plan) S;
+  state =
+      subst (λ f. Stands (h.answers f) e.plan e.state (closure m.body empty) (step d x ∷ L)) (sym functions)
+      (subst (λ p. Stands (h.answers o.functions) p e.state (closure m.body empty) (step d x ∷ L)) (sym plan) S);
   time = later ∙ ap (λ t. t + d) R.time ∙ sym (time-step d x L H.begins);
   last = last;
   history = H;
 }
 
 -- a value is the sample's
-pub sampled_value : {p : Plan} {n : Network} {m : Template} {L : Life} {y : Data} {s : State} {t : Meter} {e : Engine} {z : Sample}
-    → network_of_plan p ≡ n → Steps p (closure m.body empty) L (Ok y) s t
-    → (Stands p s (closure m.body empty) L → Runs e n m L)
+pub sampled_value : {F : Type 0} {h : _} {φ : AnswersByName} {p : Plan} {n : Network} {m : Template} {L : Life} {y : Data} {s : State} {t : Meter} {e : Engine F h} {z : Sample}
+    → network_of_plan φ p ≡ n → Steps φ p (closure m.body empty) L (Ok y) s t
+    → (Stands φ p s (closure m.body empty) L → Runs e n m L)
     → z.time ≡ e.time → z.value ≡ y → Sampled n m L (Ok z) e
 sampled_value {n = n} {m = m} {L = L} {y = y} q (stepped {k = k} G entered high S) f at value =
     gave_value
@@ -54,8 +57,8 @@ sampled_value {n = n} {m = m} {L = L} {y = y} q (stepped {k = k} G entered high 
     (f S)
 
 -- a fault stops the engine
-pub sampled_fault : {p : Plan} {n : Network} {m : Template} {L : Life} {f : Fault} {s : State} {t : Meter} {e : Engine}
-    → network_of_plan p ≡ n → Steps p (closure m.body empty) L (Err f) s t → IsStopped e f → Sampled n m L (Err f) e
+pub sampled_fault : {F : Type 0} {h : _} {φ : AnswersByName} {p : Plan} {n : Network} {m : Template} {L : Life} {f : Fault} {s : State} {t : Meter} {e : Engine F h}
+    → network_of_plan φ p ≡ n → Steps φ p (closure m.body empty) L (Err f) s t → IsStopped e f → Sampled n m L (Err f) e
 sampled_fault {m = m} {L = L} q (faulted_so {x = x} {k = k} G entered high) stopped =
     had_fault (subst (λ n. Gives n (closure m.body empty) L (faulted x) k) q G) stopped
 sampled_fault {m = m} {L = L} q (too_large none within) stopped =
@@ -66,6 +69,29 @@ sampled_fault q (no_memory within) stopped = had_no_memory stopped
 pub no_history : (b : Bool) (L : Life) → b ≡ false → (IsTrue b ↔ (L ≢ [])) → L ≡ []
 no_history b [] h started = refl
 no_history b (s ∷ L) h started = absurd (let t : b ≡ true = started.1 (λ q. cc) in cc)
+
+-- the history before a start
+IsHistory-none : (k : Kind) → IsHistory k []
+IsHistory-none k = record {
+  life = record { waits = tt; lasts = omega arith };
+  begins = tt;
+  inputs = All-nil (λ (s : Step). HasKind (input_of s) k);
+}
+
+-- an engine before its start
+pub goes_first : {F : Type 0} {h : _} {e : Engine F h} {n : Network} {m : Template} → e.stopped ≡ None → network_of_plan (h.answers e.functions) e.plan ≡ n → plan_tree e.plan (plan_main e.plan) ≡ m.body → e.input ≡ m.input
+    → Stands (h.answers e.functions) e.plan e.state (closure (plan_tree e.plan (plan_main e.plan)) empty) [] → e.time ≡ 0 → e.last ≡ None
+    → Runs e n m []
+goes_first {h = h} {e = e} {m = m} going network main input S at last = record {
+  goes_on = going;
+  network = network;
+  main = main;
+  input = input;
+  state = subst (λ t. Stands (h.answers e.functions) e.plan e.state (closure t empty) []) main S;
+  time = at;
+  last = last;
+  history = IsHistory-none m.input;
+}
 
 -- the history after a start
 pub IsHistory-start : (k : Kind) (x : Data) → HasKind x k → IsHistory k (after_start x)
@@ -109,20 +135,20 @@ pub takes_none : (v : Option Data) {a k : Kind} (b : Bool) → a ≡ k → b ≡
 takes_none v b same h tested typed = absurd (let t : b ≡ true = tested.1 (subst (λ k. IfSome v (λ y. HasKind y k)) (sym same) typed) in cc)
 
 -- the time that an engine may wait at is its history's
-pub wait_at : {e : Engine} {n : Network} {m : Template} {L : Life} {d : ℕ} → Runs e n m L → CanWait (time_of e) d → CanWait (time L) d
+pub wait_at : {F : Type 0} {h : _} {e : Engine F h} {n : Network} {m : Template} {L : Life} {d : ℕ} → Runs e n m L → CanWait (time_of e) d → CanWait (time L) d
 wait_at {d = d} R wait = subst (λ t. CanWait t d) R.time wait
 
 -- a test of a wait, failed
-pub no_wait_at : {e : Engine} {n : Network} {m : Template} {L : Life} {d : ℕ} (b : Bool) → Runs e n m L → b ≡ false → (IsTrue b ↔ CanWait (time_of e) d) → ¬ CanWait (time L) d
+pub no_wait_at : {F : Type 0} {h : _} {e : Engine F h} {n : Network} {m : Template} {L : Life} {d : ℕ} (b : Bool) → Runs e n m L → b ≡ false → (IsTrue b ↔ CanWait (time_of e) d) → ¬ CanWait (time L) d
 no_wait_at {d = d} b R h tested wait = absurd (let t : b ≡ true = tested.1 (subst (λ t. CanWait t d) (sym R.time) wait) in cc)
 
 -- an engine that may step has a history
-some_lived : {o : Engine} {n : Network} {m : Template} {L : Life} {d : ℕ} {v : Option Data} → Runs o n m L → MayStep o d v → L ≢ []
+some_lived : {F : Type 0} {h : _} {o : Engine F h} {n : Network} {m : Template} {L : Life} {d : ℕ} {v : Option Data} → Runs o n m L → MayStep o d v → L ≢ []
 some_lived {L = []} R may none = may.begun R.last
 some_lived {L = s ∷ L} R may none = cc
 
 -- the history after a step with a new input
-pub next_given : {o : Engine} {n : Network} {m : Template} {L : Life} {d : ℕ} {v : Option Data} {x y : Data} {r : Result Sample Fault} {e : Engine} → Runs o n m L → MayStep o d v
+pub next_given : {F : Type 0} {h : _} {o : Engine F h} {n : Network} {m : Template} {L : Life} {d : ℕ} {v : Option Data} {x y : Data} {r : Result Sample Fault} {e : Engine F h} → Runs o n m L → MayStep o d v
     → v ≡ Some y → x ≡ y
     → (IsHistory m.input (step d x ∷ L) → Sampled n m (step d x ∷ L) r e)
     → Sampled n m (after_step L d v) r e
@@ -133,7 +159,7 @@ next_given {o = o} {n = n} {m = m} {L = L} {d = d} {v = v} {x = x} {y = y} {r = 
     (f (IsHistory-step m.input d x L (some_lived R may) (wait_at R may.wait) (subst (λ z. HasKind z m.input) (sym same) typed) R.history))
 
 -- the history after a step with an unchanged input
-pub next_unchanged : {o : Engine} {n : Network} {m : Template} {L : Life} {d : ℕ} {v : Option Data} {x : Data} {r : Result Sample Fault} {e : Engine} → Runs o n m L → MayStep o d v
+pub next_unchanged : {F : Type 0} {h : _} {o : Engine F h} {n : Network} {m : Template} {L : Life} {d : ℕ} {v : Option Data} {x : Data} {r : Result Sample Fault} {e : Engine F h} → Runs o n m L → MayStep o d v
     → v ≡ None → last_of o ≡ Some x
     → (IsHistory m.input (step d x ∷ L) → Sampled n m (step d x ∷ L) r e)
     → Sampled n m (after_step L d v) r e

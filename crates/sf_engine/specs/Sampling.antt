@@ -22,49 +22,51 @@ GivesOutcome n m L o k = Gives n (closure m.body empty) L o k
 abbrev pub IsTooLarge : Network → Template → Life → Type 0
 IsTooLarge n m L = (o : Outcome) (k : Cost) → GivesOutcome n m L o k → count k ≤ 100000 → height k ≤ 800 → ⊥
 
--- The sample at the end of a history, with the engine after it.
-pub data Sampled (n : Network) (m : Template) (L : Life) : Result Sample Fault → Engine → Type 0 where
-  gave_value : {s : Sample} {k : Cost} {e : Engine}
-      → GivesOutcome n m L (gave s.value []) k → s.time ≡ time L → Runs e n m L
-      → Sampled n m L (Ok s) e
-  had_fault : {x : ValueFault} {k : Cost} {e : Engine}
-      → GivesOutcome n m L (faulted x) k → IsStopped e (Value x)
-      → Sampled n m L (Err (Value x)) e
-  was_large : {e : Engine}
-      → IsTooLarge n m L → IsStopped e Large
-      → Sampled n m L (Err Large) e
-  had_no_memory : {e : Engine}
-      → IsStopped e Memory
-      → Sampled n m L (Err Memory) e
-
 -- a sample or its fault, as an engine answers it
 abbrev pub answer_of : Result Sample Fault → Result Sample EngineError
 answer_of (Ok s) = Ok s
 answer_of (Err f) = Err (Faulted f)
 
--- A start at a history: its refusals in their order, which leave the engine at that history, or the first sample.
-pub data Starts (n : Network) (m : Template) (L : Life) (x : Data) : Result Sample EngineError → Engine → Type 0 where
-  was_started : {e : Engine}
-      → L ≢ [] → Runs e n m L
-      → Starts n m L x (Err Started) e
-  has_wrong_type : {e : Engine}
-      → L ≡ [] → ¬ HasKind x m.input → Runs e n m L
-      → Starts n m L x (Err WrongType) e
-  starts : {r : Result Sample Fault} {e : Engine}
-      → L ≡ [] → HasKind x m.input → Sampled n m (after_start x) r e
-      → Starts n m L x (answer_of r) e
+-- Engines over functions that are held by name.
+module _ {F : Type 0} {h : _} where
+  -- The sample at the end of a history, with the engine after it.
+  pub data Sampled (n : Network) (m : Template) (L : Life) : Result Sample Fault → Engine F h → Type 0 where
+    gave_value : {s : Sample} {k : Cost} {e : Engine F h}
+        → GivesOutcome n m L (gave s.value []) k → s.time ≡ time L → Runs e n m L
+        → Sampled n m L (Ok s) e
+    had_fault : {x : ValueFault} {k : Cost} {e : Engine F h}
+        → GivesOutcome n m L (faulted x) k → IsStopped e (Value x)
+        → Sampled n m L (Err (Value x)) e
+    was_large : {e : Engine F h}
+        → IsTooLarge n m L → IsStopped e Large
+        → Sampled n m L (Err Large) e
+    had_no_memory : {e : Engine F h}
+        → IsStopped e Memory
+        → Sampled n m L (Err Memory) e
 
--- A step at a history: its refusals in their order, which leave the engine at that history, or the next sample.
-pub data Advances (n : Network) (m : Template) (L : Life) (d : ℕ) (x : Option Data) : Result Sample EngineError → Engine → Type 0 where
-  was_not_started : {e : Engine}
-      → L ≡ [] → Runs e n m L
-      → Advances n m L d x (Err NotStarted) e
-  has_bad_wait : {e : Engine}
-      → L ≢ [] → ¬ CanWait (time L) d → Runs e n m L
-      → Advances n m L d x (Err BadStep) e
-  has_wrong_type : {e : Engine}
-      → L ≢ [] → CanWait (time L) d → ¬ IfSome x (λ v. HasKind v m.input) → Runs e n m L
-      → Advances n m L d x (Err WrongType) e
-  advances : {r : Result Sample Fault} {e : Engine}
-      → L ≢ [] → CanWait (time L) d → IfSome x (λ v. HasKind v m.input) → Sampled n m (after_step L d x) r e
-      → Advances n m L d x (answer_of r) e
+  -- A start at a history: its refusals in their order, which leave the engine at that history, or the first sample.
+  pub data Starts (n : Network) (m : Template) (L : Life) (x : Data) : Result Sample EngineError → Engine F h → Type 0 where
+    was_started : {e : Engine F h}
+        → L ≢ [] → Runs e n m L
+        → Starts n m L x (Err Started) e
+    has_wrong_type : {e : Engine F h}
+        → L ≡ [] → ¬ HasKind x m.input → Runs e n m L
+        → Starts n m L x (Err WrongType) e
+    starts : {r : Result Sample Fault} {e : Engine F h}
+        → L ≡ [] → HasKind x m.input → Sampled n m (after_start x) r e
+        → Starts n m L x (answer_of r) e
+
+  -- A step at a history: its refusals in their order, which leave the engine at that history, or the next sample.
+  pub data Advances (n : Network) (m : Template) (L : Life) (d : ℕ) (x : Option Data) : Result Sample EngineError → Engine F h → Type 0 where
+    was_not_started : {e : Engine F h}
+        → L ≡ [] → Runs e n m L
+        → Advances n m L d x (Err NotStarted) e
+    has_bad_wait : {e : Engine F h}
+        → L ≢ [] → ¬ CanWait (time L) d → Runs e n m L
+        → Advances n m L d x (Err BadStep) e
+    has_wrong_type : {e : Engine F h}
+        → L ≢ [] → CanWait (time L) d → ¬ IfSome x (λ v. HasKind v m.input) → Runs e n m L
+        → Advances n m L d x (Err WrongType) e
+    advances : {r : Result Sample Fault} {e : Engine F h}
+        → L ≢ [] → CanWait (time L) d → IfSome x (λ v. HasKind v m.input) → Sampled n m (after_step L d x) r e
+        → Advances n m L d x (answer_of r) e

@@ -4,6 +4,7 @@ ghost use Rattle.sf_law.specs.Plans.{IsPlainPlan};
 ghost use Rattle.sf_engine.specs.Keeping.{IsReady};
 
 use sf_check::Checked;
+use sf_func::Holds;
 use sf_law::{Plan, plain};
 use sf_state::State;
 use sf_step::{Meter, step};
@@ -52,54 +53,67 @@ pub enum EngineError {
     Fault(Fault),
 }
 
-/// A network that is run sample by sample, up to the first fault.
+/// A network that is run sample by sample, up to the first fault, with the stored functions that it calls.
 ///
 /// It keeps the allocator that it was made with.
 #[derive(Drop)]
-pub struct Engine {
+pub struct Engine<F: Holds> {
     alloc: Global,
     plan: Plan,
+    functions: F,
     input: Ty,
     state: State,
     time: u64,
     last: Option<Value>,
     stopped: Option<Fault>,
     ghost within: { time ≤ 4000000000000000 },
-    ghost ready: { stopped ≡ None → ∥ IsReady plan state input last ∥₁ },
+    ghost ready: { stopped ≡ None → ∥ IsReady (F.answers functions) plan state input last ∥₁ },
 }
 
 const LONGEST_STEP: u64 = 3_600_000;
 
 const LAST_TIME: u64 = 4_000_000_000_000_000;
 
-impl Engine {
+impl<F: Holds> Engine<F> {
     ghost use Rattle.std.specs.Prelude.{◌≡◌, ◌≢◌, ◌+◌, ◌≤◌, ◌↔◌, ℕ, [], ◌∷◌, Some, None, IfOk, IfErr, IfSome, IsTrue};
     ghost use Rattle.sf_value.specs.Values.{HasKind};
     ghost use Rattle.sf_value.specs.declared.fault.Fault.{Fault};
+    ghost use Rattle.sf_func.specs.Registries.{KeepTheirTypes};
     ghost use Rattle.sf_term.specs.Trees.{Template};
+    ghost use Rattle.sf_term.specs.Arena.{templates_of};
     ghost use Rattle.sf_mean.specs.Lives.{Life, step, time};
     ghost use Rattle.sf_mean.specs.Meaning.{Network};
     ghost use Rattle.sf_mean.specs.Networks.{network_of};
+    ghost use Rattle.sf_mean.specs.Typing.{Accepted};
     ghost use Rattle.sf_check.specs.Accepting.{program_of, checked_main};
     ghost use Rattle.sf_engine.specs.Histories.{IsHistory, CanWait, after_start, after_step};
     ghost use Rattle.sf_engine.specs.Running.{Runs, IsStopped, StopsWith, time_of, input_kind, last_of, MayStart, MayStep};
     ghost use Rattle.sf_engine.specs.Sampling.{Sampled, Starts, Advances};
 
-    /// An engine before its start. For want of memory it hands the network back.
-    pub fn new(alloc: Global, checked: Checked, mode: Mode) -> Result<Engine, Checked>
-        ensures runs { IfOk result (λ e. Runs e (network_of (program_of checked)) (checked_main checked) []) }
-        ensures handed_back { IfErr result (λ c. c ≡ checked) }
+    /// An engine before its start, of a network that is accepted with these functions (`Checked::fits` tells): what they
+    /// answer has their types. For want of memory it hands both back.
+    pub fn new(
+        alloc: Global,
+        checked: Checked,
+        functions: F,
+        mode: Mode,
+    ) -> Result<Engine<F>, (Checked, F)>
+        requires fits { Accepted (F.types functions) (templates_of (program_of checked)) }
+        requires typed { KeepTheirTypes (F.types functions) (F.answers functions) }
+        ensures runs { IfOk result (λ e. Runs e (network_of (F.answers functions) (program_of checked)) (checked_main checked) []) }
+        ensures handed_back { IfErr result (λ back. (back.0 ≡ checked) × (back.1 ≡ functions)) }
     {
         let Ok(plan) = planned(alloc, &checked, mode) else {
-            return Err(checked);
+            return Err((checked, functions));
         };
         let Ok(input) = checked.input().clone_in(alloc) else {
-            return Err(checked);
+            return Err((checked, functions));
         };
         let state = State::unborn(plan.main());
         Ok(Engine {
             alloc,
             plan,
+            functions,
             input,
             state,
             time: 0,
@@ -240,6 +254,7 @@ impl Engine {
             self.alloc,
             &mut self.state,
             &self.plan,
+            &self.functions,
             dt,
             input,
             &mut meter,

@@ -10,6 +10,7 @@ use Rattle.sf_refusal.specs.declared.spot.Spot.{Spot}
 use Rattle.sf_operator.specs.Kinds.{unary_kind, binary_kind, conditional_kind, mapped_argument, mapped_kind, folded_argument, folded_kind}
 use Rattle.sf_expr.specs.declared.exprs.ExprId.{ExprId}
 use Rattle.sf_expr.specs.declared.exprs.FunctionId.{FunctionId}
+use Rattle.sf_expr.specs.declared.exprs.NameId.{NameId}
 use Rattle.sf_expr.specs.declared.exprs.ConstantId.{ConstantId}
 use Rattle.sf_expr.specs.declared.exprs.PatternId.{PatternId}
 use Rattle.sf_expr.specs.declared.exprs.ExprNode.{ExprNode}
@@ -24,13 +25,15 @@ use Rattle.sf_expr.specs.Expressions.{Pattern, names_in}
 use Rattle.sf_expr.specs.Patterns.{PlacedPattern, placed_unnamed, placed_name, placed_both, pattern_of}
 use Rattle.sf_expr.specs.Entries.{has_narrow}
 use Rattle.sf_expr.specs.Arena.{id_number, expression, node_at, name_at, literal_at, spot_at, entry_of, pattern_at, body_at, function_at, placed_at, PartsBelow}
-use Rattle.sf_expr.specs.Typing.{Names, Fits, type_of_name, literal_kind, AllDifferent, AddsNames, adds_nothing, adds_name, adds_both, Binds, HasType, mapped_has, folded_has, FunctionTakes, function_takes}
+use Rattle.sf_func.specs.Registries.{types_named}
+use Rattle.sf_expr.specs.Typing.{Names, typed_name, Fits, type_of_name, functions_of, literal_kind, AllDifferent, AddsNames, adds_nothing, adds_name, adds_both, Binds, HasType, mapped_has, folded_has, called_has, FunctionTakes, function_takes}
 use Rattle.sf_expr.specs.Inference.{is_valued, is_among, names_with, NamesFit}
-use Rattle.sf_expr.specs.Refusals.{Refused, unknown_name, literal_too_large, first_part, second_part, pair_too_large, left_operand, right_operand, no_operation, operand, no_application, condition, then_branch, else_branch, no_choice, PatternRefused, repeats, fits_not, of_mapped, no_argument, mapped_part, no_mapping, first_folded, second_folded, no_folded_argument, folded_part, no_folding, IsRepeated, FunctionRefused, by_pattern, by_body}
+use Rattle.sf_expr.specs.Refusals.{Refused, unknown_name, literal_too_large, first_part, second_part, pair_too_large, left_operand, right_operand, no_operation, operand, no_application, condition, then_branch, else_branch, no_choice, PatternRefused, repeats, fits_not, of_mapped, no_argument, mapped_part, no_mapping, first_folded, second_folded, no_folded_argument, folded_part, no_folding, called_part, no_call, IsRepeated, FunctionRefused, by_pattern, by_body}
 use Rattle.sf_expr.proofs.Entered.{node_builds, parts_below, narrow_node, literal_valued}
-use Rattle.sf_expr.proofs.Typed.{is_constant, is_mapped, is_folded}
+use Rattle.sf_expr.proofs.Typed.{is_constant, is_mapped, is_folded, is_called}
 use Rattle.sf_expr.proofs.Judged.{literal_has_type, unit_typed, truth_typed, int_typed, name_typed, pair_has_type, operation_has_type, applied_has_type, conditional_has_type}
 use Rattle.sf_operator.proofs.Refusing.{kind_answered}
+use Rattle.sf_expr.proofs.Called.{call_answered}
 use Rattle.sf_expr.proofs.Apart.{apart_push, name_repeated, repeated_first, repeated_second}
 use Rattle.sf_expr.proofs.Inferred.{not_among, with_adds, adds_with}
 
@@ -64,7 +67,7 @@ apart_or seen (placed_both p q) h = elim (apart_or seen p h) [
 ]
 
 -- the names that are added fit
-named_fit : (n : Name) (t : Kind) (R : Names) → Fits t → NamesFit R → NamesFit ((n, t) ∷ R)
+named_fit : (n : Name) (t : Kind) (R : Names) → Fits t → NamesFit R → NamesFit (typed_name n t R)
 named_fit n t R f fit y u = each (bytes_eq y n)
   where
     each : (b : Bool) → cond b (Some t) (type_of_name y R) ≡ Some u → Fits u
@@ -79,7 +82,7 @@ adds_fit (adds_both a b) f fit = adds_fit b (omega arith) (adds_fit a (omega ari
 -- a pattern that fits a type adds names to any others
 adds_any : {p : Pattern} {t : Kind} {R S : Names} → AddsNames p t R S → (T : Names) → (U : Names) × AddsNames p t T U
 adds_any adds_nothing T = (T, adds_nothing)
-adds_any (adds_name {x = n} {t = t}) T = ((n, t) ∷ T, adds_name)
+adds_any (adds_name {x = n} {t = t}) T = (typed_name n t T, adds_name)
 adds_any (adds_both a b) T =
     let first = adds_any a T in
     let second = adds_any b first.0 in
@@ -195,6 +198,13 @@ module _ (x : Exprs) (R : Names) (fit : NamesFit R) where
     ]
   ]
 
+  of_call : (i a : ExprId) (g : NameId) (s : Spot) → node_at x i ≡ nodes.Called g s a → IsAnswered x R a → IsAnswered x R i
+  of_call i a g s e (inr r) = inr (r.0, called_part e r.1)
+  of_call i a g s e (inl t) = elim (call_answered (types_named (name_at x g) (functions_of R)) t.0 s (spot_at x i)) [
+    | inl k ↦ inl (k.0, subst (λ e. HasType R e k.0) (sym (is_called (node_builds x i _ e))) (called_has t.1 k.1 k.2))
+    | inr k ↦ inr (k.0, no_call e t.1 k.1)
+  ]
+
 answered_within : (x : Exprs) (fuel : ℕ) (R : Names) → NamesFit R → (i : ExprId) → id_number i < fuel → IsAnswered x R i
 answered_within x zero R fit i h = absurd (omega arith)
 answered_within x (suc fuel) R fit i h = by_node (node_at x i) refl (node_parts x i) (node_narrow x i) (λ S f a k. answered_within x fuel S f a (omega arith))
@@ -211,6 +221,7 @@ answered_within x (suc fuel) R fit i h = by_node (node_at x i) refl (node_parts 
     by_node (nodes.Conditional a b c) e p w parts = of_conditional x R fit i a b c e (parts R fit a p.0) (parts R fit b p.1) (parts R fit c p.2)
     by_node (nodes.Mapped a m q b) e p w parts = of_mapped_node x R fit i a b m q e (parts R fit a p.0) (λ S f. parts S f b p.1)
     by_node (nodes.Folded a o b q c) e p w parts = of_folded_node x R fit i a b c o q e (parts R fit a p.0) (parts R fit b p.1) (λ S f. parts S f c p.2)
+    by_node (nodes.Called g s a) e p w parts = of_call x R fit i a g s e (parts R fit a p)
 
 pub answered : (x : Exprs) (R : Names) (fit : NamesFit R) (i : ExprId) → IsAnswered x R i
 answered x R fit i = answered_within x (suc (id_number i)) R fit i (omega arith)

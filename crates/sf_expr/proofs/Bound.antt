@@ -1,46 +1,77 @@
--- Scopes, to which a name is put behind the others.
-use Rattle.std.proofs.Common.{◌≡◌, [], ◌∷◌, ◌++◌, Option, ◌∙◌, ap, sym, subst, fold, Result, Ok, Err, OnOk, IfErr, refl}
+-- Scopes, and names to which one is put behind the others.
+use Rattle.std.proofs.Common.{◌≡◌, Bool, true, cond, [], ◌∷◌, ◌++◌, Option, Some, ◌∙◌, ap, sym, subst, fold, Result, Ok, Err, OnOk, IfErr, refl}
 use Rattle.sf_value.specs.Values.{Kind, pair_kind, IsNoPair}
 use Rattle.sf_refusal.specs.declared.spot.Spot.{Spot}
 use Rattle.sf_refusal.specs.declared.refusal.Refusal.{Refusal}
 use Rattle.sf_refusal.specs.Refusals.{OrMemory}
 use Rattle.sf_refusal.proofs.Explained.{or_memory}
-use Rattle.sf_expr.specs.Expressions.{Pattern, both}
+use Rattle.sf_expr.specs.Expressions.{Pattern, unnamed, named, both, Expression, called}
 use Rattle.sf_expr.specs.Refusals.{BindRefused}
 use Rattle.sf_expr.specs.Patterns.{PlacedPattern, placed_both, pattern_of}
-use Rattle.sf_expr.specs.Typing.{Names, AddsNames, adds_both}
+use Rattle.sf_func.specs.Registries.{TypesByName, AnswersByName}
+use Rattle.sf_expr.specs.Typing.{Names, only_functions, typed_name, type_of_name, functions_of, with_types, AddsNames, adds_nothing, adds_name, adds_both, Binds}
 use Rattle.std.proofs.lemmas.List.Sums.{fold-append}
-use Rattle.sf_expr.specs.Evaluation.{no_names}
-use Rattle.sf_expr.specs.Scopes.{scope_of, with_binding, names_of, with_name}
-use Rattle.sf_expr.specs.declared.scope.Binding.{Binding}
-use Rattle.sf_expr.specs.declared.scope.Scope as declared
+use Rattle.std.specs.Prelude.{bytes_eq}
+use Rattle.sf_value.specs.Values.{Name, Data, first_of, second_of}
+use Rattle.sf_expr.specs.Evaluation.{Evaluated, answer, ◌>>=◌, Scope, no_names, value_name, functions_in, granted, eval, with_functions, value_of, is_bound, bound_in}
+use Rattle.sf_expr.specs.Scopes.{names_of, with_name}
 use Rattle.sf_expr.specs.declared.typed_name.TypedName.{TypedName}
 use Rattle.sf_expr.specs.declared.typing.TypeScope as types
 
--- a name put behind the others is the innermost
-pub scope_pushed : (old new : declared.Scope) (b : Option Binding) → new.bindings.items ≡ old.bindings.items ++ b ∷ [] → scope_of new ≡ with_binding (scope_of old) b
-unfolding scope_of
-scope_pushed old new b e = ap (λ bs. fold with_binding no_names bs) e ∙ fold-append with_binding no_names old.bindings.items (b ∷ [])
-
-pub scope_empty : (s : declared.Scope) → s.bindings.items ≡ [] → scope_of s ≡ no_names
-unfolding scope_of
-scope_empty s e = ap (λ bs. fold with_binding no_names bs) e
-
-pub scope_same : (s t : declared.Scope) → s.bindings.items ≡ t.bindings.items → scope_of s ≡ scope_of t
-unfolding scope_of
-scope_same s t e = ap (λ bs. fold with_binding no_names bs) e
-
-pub names_empty : (s : types.TypeScope) → s.names.items ≡ [] → names_of s ≡ []
+pub names_empty : (s : types.TypeScope) → s.names.items ≡ [] → names_of s ≡ only_functions []
 unfolding names_of
-names_empty s e = ap (λ ns. fold with_name [] ns) e
+names_empty s e = ap (λ ns. fold with_name (only_functions []) ns) e
 
 pub names_same : (s t : types.TypeScope) → s.names.items ≡ t.names.items → names_of s ≡ names_of t
 unfolding names_of
-names_same s t e = ap (λ ns. fold with_name [] ns) e
+names_same s t e = ap (λ ns. fold with_name (only_functions []) ns) e
 
 pub names_pushed : (old new : types.TypeScope) (n : Option TypedName) → new.names.items ≡ old.names.items ++ n ∷ [] → names_of new ≡ with_name (names_of old) n
 unfolding names_of
-names_pushed old new n e = ap (λ ns. fold with_name [] ns) e ∙ fold-append with_name [] old.names.items (n ∷ [])
+names_pushed old new n e = ap (λ ns. fold with_name (only_functions []) ns) e ∙ fold-append with_name (only_functions []) old.names.items (n ∷ [])
+
+-- a pattern binds the same names where there are functions
+pub bound_with : (f : AnswersByName) (p : Pattern) (d : Data) (s : Scope) → with_functions f (bound_in p d s) ≡ bound_in p d (with_functions f s)
+bound_with f unnamed d s = refl
+bound_with f (named x) d s = refl
+bound_with f (both p q) d s = bound_with f q (second_of d) (bound_in p (first_of d) s) ∙ ap (λ (s : Scope). bound_in q (second_of d) s) (bound_with f p (first_of d) s)
+
+functions_given : (f : AnswersByName) (s : Scope) → functions_in (with_functions f s) ≡ f
+functions_given f (no_names g) = refl
+functions_given f (value_name x d s) = functions_given f s
+
+-- a call is worth what its function answers
+pub called_worth : (s : Scope) (f : AnswersByName) (g n : Name) (i : Expression) (a : Data) (o : Option Data) → eval i (with_functions f s) ≡ answer a → n ≡ g → f n a ≡ o → eval (called g i) (with_functions f s) ≡ granted o
+called_worth s f g n i a o e m q =
+    ap (λ (w : Evaluated Data). w >>= λ a. granted (functions_in (with_functions f s) g a)) e
+    ∙ ap (λ (h : AnswersByName). granted (h g a)) (functions_given f s)
+    ∙ ap granted (ap (λ (n : Name). f n a) (sym m) ∙ q)
+
+-- a name is worth the same where there are functions
+pub value_with : (f : AnswersByName) (x : Name) (s : Scope) → value_of x (with_functions f s) ≡ value_of x s
+value_with f x (no_names g) = refl
+value_with f x (value_name y d s) = ap (λ (r : Data). cond (bytes_eq x y) d r) (value_with f x s)
+
+pub is_bound_with : (f : AnswersByName) (x : Name) (s : Scope) → is_bound x (with_functions f s) ≡ is_bound x s
+is_bound_with f x (no_names g) = refl
+is_bound_with f x (value_name y d s) = ap (λ (b : Bool). cond (bytes_eq x y) true b) (is_bound_with f x s)
+
+pub functions_with : (fs : TypesByName) (R : Names) → functions_of (with_types fs R) ≡ fs
+functions_with fs (only_functions gs) = refl
+functions_with fs (typed_name y t R) = functions_with fs R
+
+-- and has the same type
+pub type_with : (fs : TypesByName) (x : Name) (R : Names) → type_of_name x (with_types fs R) ≡ type_of_name x R
+type_with fs x (only_functions gs) = refl
+type_with fs x (typed_name y t R) = ap (λ (o : Option Kind). cond (bytes_eq x y) (Some t) o) (type_with fs x R)
+
+pub adds_with_types : (fs : TypesByName) {p : Pattern} {t : Kind} {R S : Names} → AddsNames p t R S → AddsNames p t (with_types fs R) (with_types fs S)
+adds_with_types fs adds_nothing = adds_nothing
+adds_with_types fs adds_name = adds_name
+adds_with_types fs (adds_both a b) = adds_both (adds_with_types fs a) (adds_with_types fs b)
+
+pub binds_with : (fs : TypesByName) {p : Pattern} {t : Kind} {R S : Names} → Binds p t R S → Binds p t (with_types fs R) (with_types fs S)
+binds_with fs b = record { adds = adds_with_types fs b.adds; apart = b.apart }
 
 -- both parts of a pattern add their names
 pub both_adds : (p p1 p2 q1 q2 : PlacedPattern) (t t1 t2 u1 u2 : Kind) {R S T : Names} → p ≡ placed_both p1 p2 → q1 ≡ p1 → q2 ≡ p2 → t ≡ pair_kind t1 t2 → u1 ≡ t1 → u2 ≡ t2 → AddsNames (pattern_of q1) u1 R S → AddsNames (pattern_of q2) u2 S T → AddsNames (pattern_of p) t R T

@@ -22,11 +22,11 @@ use Rattle.sf_expr.specs.declared.exprs.PatternId.{PatternId}
 use Rattle.sf_expr.specs.declared.exprs.FunctionId.{FunctionId}
 use Rattle.sf_expr.specs.declared.exprs.Exprs.{Exprs}
 use Rattle.sf_expr.specs.declared.stored.StoredFunction.{StoredFunction}
-use Rattle.sf_expr.specs.Expressions.{Literal, Expression, variable, literal, paired, applied, operation, conditional, mapped, folded, function, depth, pattern_depth, function_depth}
+use Rattle.sf_expr.specs.Expressions.{Literal, Expression, variable, literal, paired, applied, operation, conditional, mapped, folded, called, function, depth, pattern_depth, function_depth}
 use Rattle.sf_expr.specs.Patterns.{PlacedPattern, placed_unnamed, pattern_of}
 use Rattle.sf_expr.specs.Inference.{is_valued}
 use Rattle.sf_expr.specs.Entries.{Beside, IsArena, AreValued, IsShallow, AreShallowPatterns, IsClosed, AreFunctions, zero_expression, among, name_among, none_of_unit, literal_among, placed_among, made_over, entry_made, needs, needs_names, needs_constants, needs_patterns, has_narrow, zero_entry, entry_at, expressions, expression_at, no_function, function_entry}
-use Rattle.sf_expr.specs.Arena.{count_of, function_count, name_count, constant_count, pattern_count, next_name, next_constant, next_pattern, Holds, HoldsFunction, HoldsName, HoldsConstant, HoldsPattern, beside, expression, entry_of, node_at, name_at, literal_at, placed_at, spot_at, pattern_at, body_at, function_at, expression_of, Builds, builds_unit, builds_truth, builds_constant, builds_int, builds_name, builds_pair, builds_applied, builds_operation, builds_conditional, builds_mapped, builds_folded, PartsBelow, HoldsParts, Keeps, Adds, AddsName, AddsConstant, AddsPattern, AddsFunction, IsUnchanged, id_number}
+use Rattle.sf_expr.specs.Arena.{count_of, function_count, name_count, constant_count, pattern_count, next_name, next_constant, next_pattern, Holds, HoldsFunction, HoldsName, HoldsConstant, HoldsPattern, beside, expression, entry_of, node_at, name_at, literal_at, placed_at, spot_at, pattern_at, body_at, function_at, expression_of, Builds, builds_unit, builds_truth, builds_constant, builds_int, builds_name, builds_pair, builds_applied, builds_operation, builds_conditional, builds_mapped, builds_folded, builds_called, PartsBelow, HoldsParts, Keeps, Adds, AddsName, AddsConstant, AddsPattern, AddsFunction, IsUnchanged, id_number}
 
 -- what an expression is made over are its parts alone
 local : (b : Beside) (es more : List Expression) (entry : Entry ExprNode) → needs entry.node ≤ length es → entry_made b (es ++ more) entry ≡ entry_made b es entry
@@ -47,6 +47,7 @@ local b es more entry h = at_node entry.node h
     at_node (nodes.Conditional a c d) h = ap₂ (λ (i : Expression) (p : Expression × Expression). conditional i p.0 p.1) (part a.0 (omega arith)) (ap₂ (λ (j k : Expression). (j, k)) (part c.0 (omega arith)) (part d.0 (omega arith)))
     at_node (nodes.Mapped a m p c) h = ap₂ (λ i j. mapped i m (pattern_of (placed_among b.patterns p.0)) j) (part a.0 (omega arith)) (part c.0 (omega arith))
     at_node (nodes.Folded a o c p d) h = ap₂ (λ (i : Expression) (q : Expression × Expression). folded i o q.0 (pattern_of (placed_among b.patterns p.0)) q.1) (part a.0 (omega arith)) (ap₂ (λ (j k : Expression). (j, k)) (part c.0 (omega arith)) (part d.0 (omega arith)))
+    at_node (nodes.Called g s a) h = ap (λ i. called (name_among b.names g.0) i) (part a.0 (omega arith))
 
 -- Names, literals and patterns of which there are more.
 pub record IsMore (b c : Beside) : Type 0 where
@@ -67,6 +68,7 @@ same_beside b c es (nodes.Operation i op j) m h k l = refl
 same_beside b c es (nodes.Conditional i j d) m h k l = refl
 same_beside b c es (nodes.Mapped i f p j) m h k l = ap (λ q. mapped (among es i.0) f (pattern_of q) (among es j.0)) (m.patterns.same p.0 placed_unnamed (omega arith))
 same_beside b c es (nodes.Folded i f j p d) m h k l = ap (λ q. folded (among es i.0) f (among es j.0) (pattern_of q) (among es d.0)) (m.patterns.same p.0 placed_unnamed (omega arith))
+same_beside b c es (nodes.Called g s i) m h k l = ap (λ n. called n (among es i.0)) (m.names.same g.0 [] (omega arith))
 
 expressions_beside : (b c : Beside) (entries : List (Entry ExprNode)) → IsMore b c → IsArena b entries → (i : ℕ) → expression_at c entries i ≡ expression_at b entries i
 unfolding tree_at
@@ -151,6 +153,7 @@ made_expression x (nodes.Operation a op b) = refl
 made_expression x (nodes.Conditional a b c) = refl
 made_expression x (nodes.Mapped a m p b) = refl
 made_expression x (nodes.Folded a o b p c) = refl
+made_expression x (nodes.Called g s a) = refl
 
 -- What a node needs of an arena.
 record HasNeeded (x : Exprs) (n : ExprNode) : Type 0 where
@@ -173,6 +176,7 @@ needed x (nodes.Operation a op b) h = record { parts = omega (arith, h.0, h.1); 
 needed x (nodes.Conditional a b c) h = record { parts = omega (arith, h.0, h.1, h.2); names = omega arith; constants = omega arith; patterns = omega arith }
 needed x (nodes.Mapped a m p b) h = record { parts = omega (arith, h.0, h.2); names = omega arith; constants = omega arith; patterns = h.1 }
 needed x (nodes.Folded a o b p c) h = record { parts = omega (arith, h.0, h.1, h.3); names = omega arith; constants = omega arith; patterns = h.2 }
+needed x (nodes.Called g s a) h = record { parts = omega (arith, h.1); names = h.0; constants = omega arith; patterns = omega arith }
 
 -- the entries after a call that adds, whatever it answers
 pub arena_put : (x : Exprs) (new : List (Entry ExprNode)) (n : ExprNode) (d : ℕ) (s : Spot) (r : Result ℕ ArenaRefusal) → IfOk r (Added (entries_of x.arena) new (record { node = n; depth = d; spot = s })) → OnErr r (new ≡ entries_of x.arena) → HoldsParts x n → d ≡ depth (expression_of x n) → IsTrue (has_narrow n) → IsArena (beside x) new
@@ -390,6 +394,7 @@ builds x id = subst (λ e. Builds x (entry_of x id).node e) (sym (expression_nod
     of_node (nodes.Conditional a b c) = builds_conditional
     of_node (nodes.Mapped a m p b) = builds_mapped
     of_node (nodes.Folded a o b p c) = builds_folded
+    of_node (nodes.Called g s a) = builds_called
 
 -- what a node stands for
 pub node_builds : (x : Exprs) (id : ExprId) (n : ExprNode) → node_at x id ≡ n → Builds x n (expression x id)
@@ -425,6 +430,7 @@ parts_below x id = of_node (entry_at (entries_of x.arena) id.0).node (x.ordered.
     of_node (nodes.Conditional a b c) h = (omega arith, omega arith, omega arith)
     of_node (nodes.Mapped a m p b) h = (omega arith, omega arith)
     of_node (nodes.Folded a o b p c) h = (omega arith, omega arith, omega arith)
+    of_node (nodes.Called g s a) h = omega arith
 
 -- the parts of a node are held
 pub parts_held : (x : Exprs) (id : ExprId) → HoldsParts x (entry_of x id).node
@@ -452,6 +458,8 @@ parts_held x id = of_node (entry_at (entries_of x.arena) id.0).node (x.ordered.i
     of_node (nodes.Mapped a m p c) b k l q (inr h) = (omega arith, q, omega arith)
     of_node (nodes.Folded a o c p d) b k l q (inl z) = absurd (omega arith)
     of_node (nodes.Folded a o c p d) b k l q (inr h) = (omega arith, omega arith, q, omega arith)
+    of_node (nodes.Called g s a) b k l q (inl z) = absurd (omega arith)
+    of_node (nodes.Called g s a) b k l q (inr h) = (k, omega arith)
 
 -- the literal of a constant stands for a value
 pub literal_valued : (x : Exprs) (n : ConstantId) → IsTrue (is_valued (literal_at x n))

@@ -24,17 +24,16 @@ use Rattle.sf_operator.specs.FunctionForms.{value_of_key, folded_rows}
 use Rattle.sf_operator.proofs.SameKinds.{only_is, found_is, payload_is, columns_is}
 use Rattle.sf_operator.proofs.Yielding.{as_kind}
 use Rattle.sf_operator.proofs.Forming.{key_has}
-use Rattle.sf_expr.specs.Expressions.{Pattern, Expression, paired, applied, operation, conditional, mapped, folded, Function, function}
-use Rattle.sf_expr.specs.Evaluation.{Evaluated, answer, ◌>>=◌, Scope, no_names, value_of, pattern_fits, bound_in, eval, apply}
-use Rattle.sf_expr.specs.Typing.{Names, type_of_name, AddsNames, adds_nothing, adds_name, adds_both, HasType, variable_has, pair_has, applied_has, operation_has, conditional_has, mapped_has, folded_has, FunctionTakes, function_takes}
+use Rattle.sf_expr.specs.Expressions.{Pattern, Expression, paired, applied, operation, conditional, mapped, folded, called, Function, function}
+use Rattle.sf_expr.specs.Evaluation.{Evaluated, answer, ◌>>=◌, Scope, value_of, pattern_fits, bound_in, eval, apply, is_bound}
+use Rattle.sf_expr.specs.Typing.{Names, type_of_name, AddsNames, adds_nothing, adds_name, adds_both, HasType, variable_has, pair_has, applied_has, operation_has, conditional_has, mapped_has, folded_has, called_has, FunctionTakes, function_takes}
 use Rattle.sf_expr.specs.Soundness.{Yields, yields, fails, ScopeHas, has_no_names, has_name, IsTypedIn, typed_in, TakesValue, takes_value}
-use Rattle.sf_expr.specs.Scopes.{is_bound}
 use Rattle.sf_expr.specs.Arena.{name_at, Builds, builds_name}
 use Rattle.sf_expr.proofs.Sound.{bound_has, expression_yields, function_yields}
 
 -- a name with a type is bound
 bound : {s : Scope} {R : Names} (x : Name) {t : Kind} → ScopeHas s R → type_of_name x R ≡ Some t → IsTrue (is_bound x s)
-bound x has_no_names e = absurd cc
+bound x (has_no_names k) e = absurd cc
 bound x {t} (has_name {x = y} {v = v} {t = u} {s = s} {R = R} p q) e = by_test (bytes_eq x y) e (bound x q)
   where
     by_test : (c : Bool) → cond c (Some u) (type_of_name x R) ≡ Some t → (type_of_name x R ≡ Some t → IsTrue (is_bound x s)) → IsTrue (cond c true (is_bound x s))
@@ -108,6 +107,10 @@ folded_first (typed_in k (folded_has h l e f b q g n)) = typed_in k h
 
 pub folded_second : {s : Scope} {i j k : Expression} {o : Folding} {p : Pattern} → IsTypedIn s (folded i o j p k) → IsTypedIn s j
 folded_second (typed_in k (folded_has h l e f b q g n)) = typed_in k l
+
+-- so is the argument of a call
+pub argument_typed : {s : Scope} {g : Name} {i : Expression} → IsTypedIn s (called g i) → IsTypedIn s i
+argument_typed (typed_in k (called_has h e f)) = typed_in k h
 
 -- what a typed expression answers has its type
 answer_has : {t : Kind} {o : Evaluated Data} {d : Data} → Yields t o → o ≡ answer d → HasKind d t
@@ -223,7 +226,3 @@ argument_fits h = ∥∥₁_elim h (hlevel props) takes_fits
 -- the body of a function that takes a value is typed
 pub body_typed : {p : Pattern} {i : Expression} {x : Data} {outer s : Scope} → s ≡ bound_in p x outer → TakesValue outer (function p i) x → IsTypedIn s i
 body_typed {i = i} e (takes_value k (function_takes fits binds h) v) = subst (λ (s : Scope). IsTypedIn s i) (sym e) (typed_in (bound_has binds.adds v k) h)
-
--- what has a type without names is typed where there are none
-pub typed_closed : (s : Scope) (R : Names) (e : Expression) (t : Kind) → s ≡ no_names → R ≡ [] → HasType R e t → IsTypedIn s e
-typed_closed s R e t p q h = subst (λ (s : Scope). IsTypedIn s e) (sym p) (typed_in has_no_names (subst (λ (R : Names). HasType R e t) q h))

@@ -7,11 +7,12 @@ use Rattle.std.proofs.lemmas.List.Elements.{All-nil, All-cons, All-head, All-tai
 use Rattle.std.proofs.lemmas.Bool.Decides.{nat_tests}
 use Rattle.sf_value.specs.Values.{Name, Kind, unit_kind, bool_kind, int_kind, text_kind, pair_kind, event_kind, table_kind, nodes}
 use Rattle.sf_operator.specs.Kinds.{unary_kind, binary_kind, conditional_kind, mapped_argument, mapped_kind, folded_argument, folded_kind}
-use Rattle.sf_expr.specs.Expressions.{Pattern, unnamed, named, both, names_in, Literal, Expression, variable, literal, paired, applied, operation, conditional, mapped, folded, Function, function}
+use Rattle.sf_func.specs.Registries.{types_named}
+use Rattle.sf_expr.specs.Expressions.{Pattern, unnamed, named, both, names_in, Literal, Expression, variable, literal, paired, applied, operation, conditional, mapped, folded, called, Function, function}
 use Rattle.sf_operator.specs.declared.operator.Operator.{Operator}
 use Rattle.sf_operator.specs.declared.operator.Unary.{Unary}
 use Rattle.sf_operator.proofs.SameKinds.{found_is}
-use Rattle.sf_expr.specs.Typing.{Names, type_of_name, literal_kind, Fits, AllDifferent, AddsNames, adds_nothing, adds_name, adds_both, Binds, HasType, variable_has, literal_has, pair_has, applied_has, operation_has, conditional_has, mapped_has, folded_has, FunctionTakes, function_takes}
+use Rattle.sf_expr.specs.Typing.{Names, typed_name, type_of_name, functions_of, call_kind, literal_kind, Fits, AllDifferent, AddsNames, adds_nothing, adds_name, adds_both, Binds, HasType, variable_has, literal_has, pair_has, applied_has, operation_has, conditional_has, mapped_has, folded_has, called_has, FunctionTakes, function_takes}
 use Rattle.sf_expr.specs.Inference.{found_then, fitting, is_valued, literal_type, pair_type, applied_type, operation_type, conditional_type, expression_type, names_with, names_bound, is_among, are_different, function_output}
 use Rattle.sf_expr.proofs.Literals.{valued_has, has_valued}
 
@@ -42,7 +43,7 @@ fitting_found t u = each (nat_le (nodes t) 256) refl
 
 pub with_adds : (p : Pattern) (t : Kind) (R S : Names) → names_with p t R ≡ Some S → AddsNames p t R S
 with_adds unnamed t R S h = let is : R ≡ S = cc in subst (λ (S : Names). AddsNames unnamed t R S) is adds_nothing
-with_adds (named x) t R S h = let is : (x, t) ∷ R ≡ S = cc in subst (λ (S : Names). AddsNames (named x) t R S) is adds_name
+with_adds (named x) t R S h = let is : typed_name x t R ≡ S = cc in subst (λ (S : Names). AddsNames (named x) t R S) is adds_name
 with_adds (both p q) unit_kind R S h = absurd cc
 with_adds (both p q) bool_kind R S h = absurd cc
 with_adds (both p q) int_kind R S h = absurd cc
@@ -188,6 +189,11 @@ found_typed R (folded i o j p k) w h =
     let small = fitting_found made.0 w made.2 in
     let bound = bound_found p takes.0 R names.0 names.1 in
     subst (λ (t : Kind). HasType R (folded i o j p k) t) {x = made.0} {y = w} small.is (folded_has {S = names.0} {a = takes.0} {v = body.0} {w = made.0} (found_typed R i first.0 first.1) (found_typed R j second.0 second.1) takes.1 bound.fits bound.binds (found_typed names.0 k body.0 body.1) made.1 small.fits)
+found_typed R (called g i) w h =
+    let part = found_is (expression_type R i) (λ t. found_then (call_kind (types_named g (functions_of R)) t) fitting) h in
+    let made = found_is (call_kind (types_named g (functions_of R)) part.0) fitting part.2 in
+    let small = fitting_found made.0 w made.2 in
+    subst (λ (t : Kind). HasType R (called g i) t) small.is (called_has (found_typed R i part.0 part.1) made.1 small.fits)
 
 literal_typed : (l : Literal) → IsTrue (is_valued l) → Fits (literal_kind l) → literal_type l ≡ Some (literal_kind l)
 literal_typed l h f = ap (λ b. cond b (fitting (literal_kind l)) None) h ∙ fitting_is (literal_kind l) f
@@ -201,6 +207,7 @@ typed_found (operation_has {v = v} h k e f) = rw (typed_found h, typed_found k) 
 typed_found (conditional_has {v = v} h k l e f) = rw (typed_found h, typed_found k, typed_found l) (ap (λ o. found_then o fitting) e ∙ fitting_is v f)
 typed_found (mapped_has {v = v} h e f b k g l) = rw (typed_found h, e, found_bound f b, typed_found k, g) (fitting_is v l)
 typed_found (folded_has {w = w} h i e f b k g l) = rw (typed_found h, typed_found i, e, found_bound f b, typed_found k, g) (fitting_is w l)
+typed_found (called_has {u = u} h e f) = rw (typed_found h) (ap (λ o. found_then o fitting) e ∙ fitting_is u f)
 
 -- ## Functions
 

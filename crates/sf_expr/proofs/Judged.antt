@@ -4,6 +4,7 @@ use Rattle.std.specs.Prelude.{ℤ}
 use mathlib.Core.Path.{ap₂}
 use Rattle.sf_value.specs.Values.{Name, Kind, unit_kind, bool_kind, int_kind, pair_kind, is_narrow, nodes as nodes_of}
 use Rattle.sf_operator.specs.Kinds.{unary_kind, binary_kind, conditional_kind, mapped_argument, mapped_kind, folded_argument, folded_kind}
+use Rattle.sf_func.specs.Registries.{types_named}
 use Rattle.sf_operator.specs.Breaches.{KindRefused, AnswersKind}
 use Rattle.sf_expr.specs.declared.exprs.ExprId.{ExprId}
 use Rattle.sf_expr.specs.declared.exprs.NameId.{NameId}
@@ -22,18 +23,19 @@ use Rattle.sf_refusal.specs.declared.refusal.Refusal.{Refusal}
 use Rattle.sf_refusal.specs.declared.refusal.Refusal.TheVariants.{Memory}
 use Rattle.sf_refusal.specs.Refusals.{breach_of, OrMemory, no_memory}
 use Rattle.sf_refusal.proofs.Explained.{or_memory}
-use Rattle.sf_expr.specs.Expressions.{Pattern, names_in, Literal, unit_literal, truth_literal, int_literal, Expression, variable, literal, paired, applied, operation, conditional, mapped, folded, function}
+use Rattle.sf_expr.specs.Expressions.{Pattern, names_in, Literal, unit_literal, truth_literal, int_literal, Expression, variable, literal, paired, applied, operation, conditional, mapped, folded, called, function}
 use Rattle.sf_expr.specs.Patterns.{PlacedPattern, pattern_of}
 use Rattle.sf_expr.specs.Arena.{expression, node_at, name_at, literal_at, spot_at, placed_at, Builds}
 use Rattle.sf_expr.specs.Inference.{is_valued}
-use Rattle.sf_expr.specs.Typing.{Names, Fits, type_of_name, literal_kind, AllDifferent, AddsNames, adds_nothing, adds_name, adds_both, Binds, HasType, variable_has, literal_has, pair_has, applied_has, operation_has, conditional_has, mapped_has, folded_has, FunctionTakes, function_takes}
-use Rattle.sf_expr.specs.Refusals.{Types, TypesFunction, Refused, unknown_name, literal_too_large, first_part, second_part, pair_too_large, left_operand, right_operand, no_operation, operand, no_application, condition, then_branch, else_branch, no_choice, PatternRefused, repeats, fits_not, of_mapped, no_argument, mapped_part, no_mapping, first_folded, second_folded, no_folded_argument, folded_part, no_folding, PartRefused, by_pattern, by_body, JudgesPart, Judges, RepeatRefused, BindRefused, AnswersPair}
+use Rattle.sf_expr.specs.Typing.{Names, Fits, type_of_name, functions_of, call_kind, literal_kind, AllDifferent, AddsNames, adds_nothing, adds_name, adds_both, Binds, HasType, variable_has, literal_has, pair_has, applied_has, operation_has, conditional_has, mapped_has, folded_has, called_has, FunctionTakes, function_takes}
+use Rattle.sf_expr.specs.Refusals.{Types, TypesFunction, Refused, unknown_name, literal_too_large, first_part, second_part, pair_too_large, left_operand, right_operand, no_operation, operand, no_application, condition, then_branch, else_branch, no_choice, PatternRefused, repeats, fits_not, of_mapped, no_argument, mapped_part, no_mapping, first_folded, second_folded, no_folded_argument, folded_part, no_folding, called_part, no_call, CallRefused, AnswersCall, PartRefused, by_pattern, by_body, JudgesPart, Judges, RepeatRefused, BindRefused, AnswersPair}
 use Rattle.sf_expr.proofs.Apart.{repeated_apart}
 use Rattle.sf_expr.proofs.Entered.{node_builds}
 use Rattle.sf_expr.proofs.Literals.{valued_has}
 use Rattle.sf_operator.proofs.Refusing.{kind_refused}
 use Rattle.std.proofs.lemmas.Option.{same_Some}
-use Rattle.sf_expr.proofs.Typed.{is_unit, is_truth, is_constant, is_int, is_name, is_pair, is_applied, is_operation, is_conditional, is_mapped, is_folded}
+use Rattle.sf_expr.proofs.Typed.{is_unit, is_truth, is_constant, is_int, is_name, is_pair, is_applied, is_operation, is_conditional, is_mapped, is_folded, is_called}
+use Rattle.sf_expr.proofs.Called.{call_refused}
 
 -- one of two by a truth, over types that are the same
 pub same_choice : {c d t v u w : Kind} → c ≡ d → t ≡ v → u ≡ w → conditional_kind c t u ≡ conditional_kind d v w
@@ -76,6 +78,7 @@ one_type (folded_has {k = j} {o = o} h i e f b k g l) (folded_has {v = v} h2 i2 
     let argument = same_Some _ _ (sym e ∙ same_argument o first second ∙ e2) in
     let made = one_type k (subst (λ (S : Names). HasType S j v) (sym (bound_once argument b b2)) k2) in
     same_Some _ _ (sym g ∙ same_folded o first second made ∙ g2)
+one_type (called_has h e f) (called_has k g l) = same_Some _ _ (sym e ∙ ap (call_kind _) (one_type h k) ∙ g)
 
 variable_typed : {R : Names} (e : Expression) (y : Name) {t : Kind} → e ≡ variable y → HasType R e t → type_of_name y R ≡ Some t
 variable_typed {R} e y {t} q h = inverted y (subst (λ (e : Expression). HasType R e t) q h)
@@ -179,6 +182,18 @@ folded_typed {R} e a b c o p {t} q h = inverted t (subst (λ (e : Expression). H
     inverted : (t : Kind) → HasType R (folded a o b p c) t → MadeOfTwo R a b o p c t
     inverted t (folded_has {S = S} {t = d} {u = u} {a = n} {v = v} h i e f b k g l) = record { first = d; second = u; argument = n; made = v; inner = S; left = h; right = i; takes = e; small = f; binds = b; body = k; table = g; fits = l }
 
+record MadeByCall (R : Names) (g : Name) (a : Expression) (v : Kind) : Type 0 where
+  of : Kind
+  part : HasType R a of
+  table : call_kind (types_named g (functions_of R)) of ≡ Some v
+  fits : Fits v
+
+called_typed : {R : Names} (e a : Expression) (g : Name) {t : Kind} → e ≡ called g a → HasType R e t → MadeByCall R g a t
+called_typed {R} e a g {t} q h = inverted t (subst (λ (e : Expression). HasType R e t) q h)
+  where
+    inverted : (t : Kind) → HasType R (called g a) t → MadeByCall R g a t
+    inverted t (called_has {t = u} h k f) = record { of = u; part = h; table = k; fits = f }
+
 -- a pattern that is refused is not bound
 pub pattern_unbound : {p : PlacedPattern} {t : Kind} {at : Spot} {r : Breach} {R S : Names} → PatternRefused p t at r → Binds (pattern_of p) t R S → ⊥
 pattern_unbound (repeats q) b = repeated_apart q.before q.name q.after (subst (λ ns. AllDifferent ns) q.names b.apart) q.stood
@@ -251,6 +266,11 @@ mutual
       let argument : parts.argument ≡ d = same_Some _ _ (sym parts.takes ∙ same_argument o (sym (one_type k parts.left)) (sym (one_type l parts.right)) ∙ g) in
       let made = one_type j (subst (λ (S : Names). HasType S (expression x c) parts.made) (bound_once argument parts.binds n) parts.body) in
       kind_refused (folded_kind o t u v) _ _ q (same_folded o (one_type k parts.left) (one_type l parts.right) made ∙ parts.table) parts.fits
+  refused_untyped {x} {R} {i} (called_part {a = a} {g = g} e q) h =
+      let parts = called_typed (expression x i) (expression x a) (name_at x g) (is_called (node_builds x i _ e)) h in refused_untyped q parts.part
+  refused_untyped {x} {R} {i} (no_call {a = a} {g = g} {t = t} e k q) h =
+      let parts = called_typed (expression x i) (expression x a) (name_at x g) (is_called (node_builds x i _ e)) h in
+      call_refused (types_named (name_at x g) (functions_of R)) t _ _ _ q (ap (call_kind _) (one_type k parts.part) ∙ parts.table) parts.fits
 
   -- a function that is refused takes no value
   pub refused_takes_none : {x : Exprs} {R : Names} {p : PlacedPattern} {i : ExprId} {a : Kind} {at : Spot} {r : Breach} {b : Kind} → PartRefused x R p i a at r → FunctionTakes R (function (pattern_of p) (expression x i)) a b → ⊥
@@ -350,6 +370,16 @@ applied_judged x R i a o t s (Err r) e h at answer = or_memory (λ c q. no_appli
 
 pub part_judged : (x : Exprs) (R : Names) (i a : ExprId) (o : Unary) (answer : Result Kind Refusal) (r : Refusal) → node_at x i ≡ nodes.Applied o a → IsErrAnd answer (λ e. e ≡ r) → Judges x R a (Err r) → Judges x R i answer
 part_judged x R i a o answer r e q h = on x R i answer r q (or_memory (λ s k. operand e k) h)
+
+-- ## Calls
+
+module _ (x : Exprs) (R : Names) (i a : ExprId) (g : NameId) (s : Spot) (e : node_at x i ≡ nodes.Called g s a) where
+  pub called_part_judged : (answer : Result Kind Refusal) (r : Refusal) → IsErrAnd answer (λ e. e ≡ r) → Judges x R a (Err r) → Judges x R i answer
+  called_part_judged answer r q h = on x R i answer r q (or_memory (λ s k. called_part e k) h)
+
+  pub called_judged : {t : Kind} (at : Spot) (r : Result Kind Refusal) → HasType R (expression x a) t → at ≡ spot_at x i → AnswersCall (types_named (name_at x g) (functions_of R)) t s at r → Judges x R i r
+  called_judged at (Ok v) typed is answer = subst (λ (e : Expression). HasType R e v) (sym (is_called (node_builds x i _ e))) (called_has typed answer.0 answer.1)
+  called_judged {t} at (Err r) typed is answer = or_memory (λ d q. no_call e typed (subst (λ (at : Spot). CallRefused (types_named (name_at x g) (functions_of R)) t s at d) is q)) answer
 
 -- ## Forms with a function
 

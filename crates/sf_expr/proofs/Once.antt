@@ -9,6 +9,7 @@ use Rattle.sf_operator.specs.declared.operator.Unary.{Unary}
 use Rattle.sf_operator.specs.declared.operator.Mapping.{Mapping}
 use Rattle.sf_operator.specs.declared.operator.Folding.{Folding}
 use Rattle.sf_operator.specs.Kinds.{unary_kind, binary_kind, conditional_kind, mapped_argument, mapped_kind, folded_argument, folded_kind}
+use Rattle.sf_func.specs.Registries.{types_named}
 use Rattle.sf_operator.specs.Breaches.{KindRefused}
 use Rattle.sf_expr.specs.declared.exprs.ExprId.{ExprId}
 use Rattle.sf_expr.specs.declared.exprs.NameId.{NameId}
@@ -22,12 +23,13 @@ use Rattle.sf_refusal.specs.declared.refusal.Breach.{Breach}
 use Rattle.sf_refusal.specs.Refusals.{breach_of}
 use Rattle.sf_expr.specs.Expressions.{Expression, names_in}
 use Rattle.sf_expr.specs.Patterns.{PlacedPattern, pattern_of, spots_in}
-use Rattle.sf_expr.specs.Arena.{expression, node_at, spot_at, placed_at}
-use Rattle.sf_expr.specs.Typing.{Names, Fits, AllDifferent, Binds, HasType, function_takes}
-use Rattle.sf_expr.specs.Refusals.{Refused, unknown_name, literal_too_large, first_part, second_part, pair_too_large, left_operand, right_operand, no_operation, operand, no_application, condition, then_branch, else_branch, no_choice, PatternRefused, repeats, fits_not, of_mapped, no_argument, mapped_part, no_mapping, first_folded, second_folded, no_folded_argument, folded_part, no_folding, IsRepeated, PartRefused, by_pattern, by_body}
+use Rattle.sf_expr.specs.Arena.{expression, node_at, name_at, spot_at, placed_at}
+use Rattle.sf_expr.specs.Typing.{Names, functions_of, Fits, AllDifferent, Binds, HasType, function_takes}
+use Rattle.sf_expr.specs.Refusals.{Refused, unknown_name, literal_too_large, first_part, second_part, pair_too_large, left_operand, right_operand, no_operation, operand, no_application, condition, then_branch, else_branch, no_choice, PatternRefused, repeats, fits_not, of_mapped, no_argument, mapped_part, no_mapping, first_folded, second_folded, no_folded_argument, folded_part, no_folding, called_part, no_call, CallRefused, IsRepeated, PartRefused, by_pattern, by_body}
 use Rattle.sf_operator.proofs.Refusing.{kind_refused, kind_once}
 use mathlib.Core.Path.{ap₂}
 use Rattle.sf_expr.proofs.Apart.{repeated_apart}
+use Rattle.sf_expr.proofs.Called.{call_refused_once}
 use Rattle.sf_expr.proofs.Judged.{same_choice, same_argument, same_folded, one_type, one_scope, bound_once, pattern_unbound, refused_untyped, refused_takes_none}
 
 -- ## Patterns
@@ -98,6 +100,8 @@ data RefusedAt (x : Exprs) (R : Names) (s : Spot) : ExprNode → Breach → Type
   at_folded_argument : {a b c : ExprId} {o : Folding} {p : PatternId} {t u : Kind} {r : Breach} → HasType R (expression x a) t → HasType R (expression x b) u → KindRefused (folded_argument o t u) s r → RefusedAt x R s (nodes.Folded a o b p c) r
   at_folded_part : {a b c : ExprId} {o : Folding} {p : PatternId} {t u d : Kind} {r : Breach} → HasType R (expression x a) t → HasType R (expression x b) u → folded_argument o t u ≡ Some d → Fits d → PartRefused x R (placed_at x p) c d s r → RefusedAt x R s (nodes.Folded a o b p c) r
   at_folding : {S : Names} {a b c : ExprId} {o : Folding} {p : PatternId} {t u d v : Kind} {r : Breach} → HasType R (expression x a) t → HasType R (expression x b) u → folded_argument o t u ≡ Some d → Fits d → Binds (pattern_of (placed_at x p)) d R S → HasType S (expression x c) v → KindRefused (folded_kind o t u v) s r → RefusedAt x R s (nodes.Folded a o b p c) r
+  at_call : {a : ExprId} {g : NameId} {n : Spot} {r : Breach} → Refused x R a r → RefusedAt x R s (nodes.Called g n a) r
+  at_called : {a : ExprId} {g : NameId} {n : Spot} {t : Kind} {r : Breach} → HasType R (expression x a) t → CallRefused (types_named (name_at x g) (functions_of R)) t n s r → RefusedAt x R s (nodes.Called g n a) r
 
 module _ {x : Exprs} {R : Names} where
   by_node : {i : ExprId} {r : Breach} → Refused x R i r → RefusedAt x R (spot_at x i) (node_at x i) r
@@ -124,6 +128,8 @@ module _ {x : Exprs} {R : Names} where
   by_node {i} {r} (no_folded_argument e t u h) = subst (λ n. RefusedAt x R (spot_at x i) n r) (sym e) (at_folded_argument t u h)
   by_node {i} {r} (folded_part e t u g f h) = subst (λ n. RefusedAt x R (spot_at x i) n r) (sym e) (at_folded_part t u g f h)
   by_node {i} {r} (no_folding e t u g f n v h) = subst (λ n. RefusedAt x R (spot_at x i) n r) (sym e) (at_folding t u g f n v h)
+  by_node {i} {r} (called_part e h) = subst (λ n. RefusedAt x R (spot_at x i) n r) (sym e) (at_call h)
+  by_node {i} {r} (no_call e t h) = subst (λ n. RefusedAt x R (spot_at x i) n r) (sym e) (at_called t h)
 
   here : {i : ExprId} {n : ExprNode} {r : Breach} → node_at x i ≡ n → Refused x R i r → RefusedAt x R (spot_at x i) n r
   here {i} {r = r} e h = subst (λ n. RefusedAt x R (spot_at x i) n r) e (by_node h)
@@ -273,6 +279,17 @@ module _ {x : Exprs} {R : Names} where
           folding_once {z} l h (at_folding {v = y} v w g f n j k) =
               kind_once (folded_kind o t u z) s h (subst (λ o. KindRefused o s q) (same_folded o (one_type v left) (one_type w right) (one_type (subst (λ S. HasType S (expression x c) y) (bound_once (same_Some _ _ (sym (same_folded_takes o left right v w g) ∙ argument)) n binds) j) l)) k)
 
+  module _ {a : ExprId} {s n : Spot} {g : NameId} {r q : Breach} where
+    call_once : Refused x R a r → (Refused x R a q → r ≡ q) → RefusedAt x R s (nodes.Called g n a) q → r ≡ q
+    call_once h once (at_call k) = once k
+    call_once h once (at_called t k) = absurd (refused_untyped h t)
+
+    called_once : {t : Kind} → HasType R (expression x a) t → CallRefused (types_named (name_at x g) (functions_of R)) t n s r → RefusedAt x R s (nodes.Called g n a) q → r ≡ q
+    called_once t h (at_call k) = absurd (refused_untyped k t)
+    called_once {t = t} p h (at_called v k) =
+        let o = types_named (name_at x g) (functions_of R) in
+        call_refused_once o t n s h (subst (λ t. CallRefused o t n s q) (one_type v p) k)
+
 mutual
   pub refused_once : {x : Exprs} {R : Names} {i : ExprId} {r q : Breach} → Refused x R i r → Refused x R i q → r ≡ q
   refused_once (unknown_name e h) k = name_once (here e k)
@@ -298,6 +315,8 @@ mutual
   refused_once (no_folded_argument e t u h) k = folded_argument_once t u h (here e k)
   refused_once (folded_part e t u g f h) k = folded_part_once t u g f h (λ l. function_refused_once h l) (here e k)
   refused_once (no_folding e t u g f n v h) k = folding_once t u g f n v h (here e k)
+  refused_once (called_part e h) k = call_once h (λ l. refused_once h l) (here e k)
+  refused_once (no_call e t h) k = called_once t h (here e k)
 
   -- a function, or an expression under a pattern
   pub function_refused_once : {x : Exprs} {R : Names} {p : PlacedPattern} {i : ExprId} {a : Kind} {at : Spot} {r q : Breach} → PartRefused x R p i a at r → PartRefused x R p i a at q → r ≡ q

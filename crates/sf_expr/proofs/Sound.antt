@@ -1,15 +1,18 @@
 -- A typed expression has an answer of its type, or a fault.
 use Rattle.std.proofs.Common.{◌≡◌, Some, None, Bool, true, false, cond, refl, subst}
 use Rattle.std.specs.Prelude.{Option, bytes_eq}
+use Rattle.std.proofs.lemmas.Option.{same_Some}
 use Rattle.sf_value.specs.Values.{Name, Kind, bool_kind, Data, HasKind, has_bool, has_pair}
+use Rattle.sf_func.specs.Registries.{FunctionTypes, types_named}
 use Rattle.sf_operator.specs.Operations.{truth_in, decided}
-use Rattle.sf_operator.proofs.SameKinds.{conditional_is}
+use Rattle.sf_operator.specs.Kinds.{called_kind}
+use Rattle.sf_operator.proofs.SameKinds.{only_is, found_is, conditional_is}
 use Rattle.sf_operator.proofs.Yielding.{unary_yields, operator_yields, decision_yields}
 use Rattle.sf_operator.proofs.Forming.{and_yields, mapping_yields, folding_yields}
 use Rattle.sf_expr.specs.Expressions.{Pattern, Expression, Function}
-use Rattle.sf_expr.specs.Evaluation.{Evaluated, known, Scope, value_of, bound_in, unless_decided, eval, apply}
-use Rattle.sf_expr.specs.Typing.{Names, type_of_name, AddsNames, adds_nothing, adds_name, adds_both, HasType, variable_has, literal_has, pair_has, applied_has, operation_has, conditional_has, mapped_has, folded_has, FunctionTakes, function_takes}
-use Rattle.sf_expr.specs.Soundness.{Yields, yields, ScopeHas, has_no_names, has_name}
+use Rattle.sf_expr.specs.Evaluation.{Evaluated, known, Scope, functions_in, value_of, bound_in, unless_decided, granted, eval, apply}
+use Rattle.sf_expr.specs.Typing.{Names, type_of_name, functions_of, AddsNames, adds_nothing, adds_name, adds_both, HasType, variable_has, literal_has, pair_has, applied_has, operation_has, conditional_has, mapped_has, folded_has, called_has, FunctionTakes, function_takes}
+use Rattle.sf_expr.specs.Soundness.{Yields, yields, fails, ScopeHas, has_no_names, has_name}
 
 -- what is decided, and what is answered where nothing is
 unless_yields : {t : Kind} (o : Option Data) {q : Evaluated Data} → ((d : Data) → o ≡ Some d → HasKind d t) → Yields t q → Yields t (unless_decided o q)
@@ -23,7 +26,7 @@ chosen_yields (has_bool {b = false}) h k = k
 
 -- the value of a name has its type
 pub value_has : {s : Scope} {R : Names} (x : Name) {t : Kind} → ScopeHas s R → type_of_name x R ≡ Some t → HasKind (value_of x s) t
-value_has x has_no_names e = absurd cc
+value_has x (has_no_names k) e = absurd cc
 value_has x {t} (has_name {x = y} {v = v} {t = u} {s = s} {R = R} p q) e = by_test (bytes_eq x y) e (value_has x q)
   where
     by_test : (c : Bool) → cond c (Some u) (type_of_name x R) ≡ Some t → (type_of_name x R ≡ Some t → HasKind (value_of x s) t) → HasKind (cond c v (value_of x s)) t
@@ -35,6 +38,15 @@ pub bound_has : {p : Pattern} {t : Kind} {R S : Names} {d : Data} {s : Scope} �
 bound_has adds_nothing h k = k
 bound_has adds_name h k = has_name h k
 bound_has (adds_both a b) (has_pair h i) k = bound_has b i (bound_has a h k)
+
+-- what a function answers has the type that it makes
+granted_yields : {t : Kind} (o : Option Data) → ((d : Data) → o ≡ Some d → HasKind d t) → Yields t (granted o)
+granted_yields (Some d) h = yields (h d refl)
+granted_yields None h = fails
+
+call_yields : {s : Scope} {R : Names} (g : Name) {fs : FunctionTypes} {d : Data} → ScopeHas s R → types_named g (functions_of R) ≡ Some fs → HasKind d fs.from → Yields fs.to (granted (functions_in s g d))
+call_yields g {fs} {d} (has_no_names {f = f} keeps) e h = granted_yields (f g d) (λ a q. keeps g fs e d a h q)
+call_yields g (has_name p k) e h = call_yields g k e h
 
 -- a typed expression yields its type
 pub expression_yields : {R : Names} {s : Scope} {e : Expression} {t : Kind} → HasType R e t → ScopeHas s R → Yields t (eval e s)
@@ -56,6 +68,11 @@ expression_yields {s = s} (mapped_has {j = j} {m = m} {p = p} {t = t} {a = a} {u
     and_yields (expression_yields h k) (λ d q. mapping_yields m t a u v d (λ x. eval j (bound_in p x s)) q e g (λ x r. expression_yields l (bound_has b.adds r k)))
 expression_yields {s = s} (folded_has {j = j} {k = c} {o = o} {p = p} {t = t} {u = u} {a = a} {v = v} {w = w} h l e f b q g n) k =
     and_yields (expression_yields h k) (λ d r. folding_yields o t u a v w d (eval j s) (λ x. eval c (bound_in p x s)) r (expression_yields l k) e g (λ x y. expression_yields q (bound_has b.adds y k)))
+expression_yields {R = R} {s = s} (called_has {g = g} {t = t} {u = u} h e f) k =
+    let found = found_is (types_named g (functions_of R)) (λ fs. called_kind fs.from fs.to t) e in
+    let same = only_is t found.0.from (Some found.0.to) found.2 in
+    let made : found.0.to ≡ u = same_Some _ _ same.1 in
+    and_yields (expression_yields h k) (λ d q. subst (λ (u : Kind). Yields u (granted (functions_in s g d))) made (call_yields g k found.1 (subst (λ (t : Kind). HasKind d t) same.0 q)))
 
 -- a function yields the type that it takes its argument's to
 pub function_yields : {R : Names} {s : Scope} {f : Function} {a b : Kind} {d : Data} → FunctionTakes R f a b → ScopeHas s R → HasKind d a → Yields b (apply f d s)

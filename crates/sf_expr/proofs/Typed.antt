@@ -6,12 +6,13 @@ use Rattle.sf_expr.specs.declared.exprs.ConstantId.{ConstantId}
 use Rattle.sf_expr.specs.declared.exprs.PatternId.{PatternId}
 use Rattle.sf_expr.specs.declared.exprs.ExprNode.TheVariants as nodes
 use Rattle.sf_expr.specs.declared.exprs.Exprs.{Exprs}
+use Rattle.sf_refusal.specs.declared.spot.Spot.{Spot}
 use Rattle.sf_operator.specs.declared.operator.Operator.{Operator}
 use Rattle.sf_operator.specs.declared.operator.Unary.{Unary}
 use Rattle.sf_operator.specs.declared.operator.Mapping.{Mapping}
 use Rattle.sf_operator.specs.declared.operator.Folding.{Folding}
-use Rattle.sf_expr.specs.Expressions.{Expression, variable, literal, unit_literal, truth_literal, int_literal, paired, applied, operation, conditional, mapped, folded}
-use Rattle.sf_expr.specs.Arena.{expression, name_at, literal_at, placed_at, Builds, builds_unit, builds_truth, builds_constant, builds_int, builds_name, builds_pair, builds_applied, builds_operation, builds_conditional, builds_mapped, builds_folded}
+use Rattle.sf_expr.specs.Expressions.{Expression, variable, literal, unit_literal, truth_literal, int_literal, paired, applied, operation, conditional, mapped, folded, called}
+use Rattle.sf_expr.specs.Arena.{expression, name_at, literal_at, placed_at, Builds, builds_unit, builds_truth, builds_constant, builds_int, builds_name, builds_pair, builds_applied, builds_operation, builds_conditional, builds_mapped, builds_folded, builds_called}
 use Rattle.sf_expr.specs.Patterns.{pattern_of}
 
 pub is_int : {x : Exprs} {z : _} {e : Expression} → Builds x (nodes.Int z) e → e ≡ literal (int_literal z)
@@ -46,3 +47,6 @@ is_mapped builds_mapped = refl
 
 pub is_folded : {x : Exprs} {a b c : ExprId} {o : Folding} {p : PatternId} {e : Expression} → Builds x (nodes.Folded a o b p c) e → e ≡ folded (expression x a) o (expression x b) (pattern_of (placed_at x p)) (expression x c)
 is_folded builds_folded = refl
+
+pub is_called : {x : Exprs} {g : NameId} {s : Spot} {a : ExprId} {e : Expression} → Builds x (nodes.Called g s a) e → e ≡ called (name_at x g) (expression x a)
+is_called builds_called = refl

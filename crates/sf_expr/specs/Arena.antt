@@ -16,7 +16,7 @@ use Rattle.sf_expr.specs.declared.exprs.FunctionId.{FunctionId}
 use Rattle.sf_expr.specs.declared.exprs.ExprNode.{ExprNode}
 use Rattle.sf_expr.specs.declared.exprs.ExprNode.TheVariants as nodes
 use Rattle.sf_expr.specs.declared.exprs.Exprs.{Exprs}
-use Rattle.sf_expr.specs.Expressions.{Literal, unit_literal, truth_literal, int_literal, Expression, variable, literal, paired, applied, operation, conditional, mapped, folded, Function, function}
+use Rattle.sf_expr.specs.Expressions.{Literal, unit_literal, truth_literal, int_literal, Expression, variable, literal, paired, applied, operation, conditional, mapped, folded, called, Function, function}
 use Rattle.sf_expr.specs.Patterns.{PlacedPattern, pattern_of}
 use Rattle.sf_expr.specs.Entries.{name_among, literal_among, placed_among, Beside, entry_at, expression_at, function_entry}
 
@@ -137,6 +137,7 @@ expression_of x (nodes.Operation a op b) = operation (expression x a) op (expres
 expression_of x (nodes.Conditional a b c) = conditional (expression x a) (expression x b) (expression x c)
 expression_of x (nodes.Mapped a m p b) = mapped (expression x a) m (pattern_of (placed_at x p)) (expression x b)
 expression_of x (nodes.Folded a o b p c) = folded (expression x a) o (expression x b) (pattern_of (placed_at x p)) (expression x c)
+expression_of x (nodes.Called g s a) = called (name_at x g) (expression x a)
 
 -- A node with the ids of its parts stands for an expression with their trees.
 pub data Builds (x : Exprs) : ExprNode → Expression → Type 0 where
@@ -151,6 +152,7 @@ pub data Builds (x : Exprs) : ExprNode → Expression → Type 0 where
   builds_conditional : {a b c : ExprId} → Builds x (nodes.Conditional a b c) (conditional (expression x a) (expression x b) (expression x c))
   builds_mapped : {a b : ExprId} {m : Mapping} {p : PatternId} → Builds x (nodes.Mapped a m p b) (mapped (expression x a) m (pattern_of (placed_at x p)) (expression x b))
   builds_folded : {a b c : ExprId} {o : Folding} {p : PatternId} → Builds x (nodes.Folded a o b p c) (folded (expression x a) o (expression x b) (pattern_of (placed_at x p)) (expression x c))
+  builds_called : {g : NameId} {s : Spot} {a : ExprId} → Builds x (nodes.Called g s a) (called (name_at x g) (expression x a))
 
 -- the ids of a node's parts, as numbers, are below a number
 abbrev pub PartsBelow : ExprNode → ℕ → Type 0
@@ -160,6 +162,7 @@ PartsBelow (nodes.Operation a op b) n = (id_number a < n) × (id_number b < n)
 PartsBelow (nodes.Conditional a b c) n = (id_number a < n) × (id_number b < n) × (id_number c < n)
 PartsBelow (nodes.Mapped a m p b) n = (id_number a < n) × (id_number b < n)
 PartsBelow (nodes.Folded a o b p c) n = (id_number a < n) × (id_number b < n) × (id_number c < n)
+PartsBelow (nodes.Called g s a) n = id_number a < n
 PartsBelow k n = Unit {0}
 
 -- the parts of a node are held
@@ -172,6 +175,7 @@ HoldsParts x (nodes.Operation a op b) = Holds x a × Holds x b
 HoldsParts x (nodes.Conditional a b c) = Holds x a × Holds x b × Holds x c
 HoldsParts x (nodes.Mapped a m p b) = Holds x a × HoldsPattern x p × Holds x b
 HoldsParts x (nodes.Folded a o b p c) = Holds x a × Holds x b × HoldsPattern x p × Holds x c
+HoldsParts x (nodes.Called g s a) = HoldsName x g × Holds x a
 HoldsParts x n = Unit {0}
 
 -- What an arena held is there as it was.

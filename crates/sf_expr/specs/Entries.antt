@@ -6,7 +6,7 @@ use Rattle.sf_arena.specs.Folded.{trees, tree_at}
 use Rattle.sf_expr.specs.declared.exprs.ExprNode.{ExprNode}
 use Rattle.sf_expr.specs.declared.exprs.ExprNode.TheVariants as nodes
 use Rattle.sf_expr.specs.declared.stored.StoredFunction.{StoredFunction}
-use Rattle.sf_expr.specs.Expressions.{Literal, unit_literal, truth_literal, int_literal, none_literal, Expression, variable, literal, paired, applied, operation, conditional, mapped, folded, depth, pattern_depth}
+use Rattle.sf_expr.specs.Expressions.{Literal, unit_literal, truth_literal, int_literal, none_literal, Expression, variable, literal, paired, applied, operation, conditional, mapped, folded, called, depth, pattern_depth}
 use Rattle.sf_expr.specs.Patterns.{PlacedPattern, placed_unnamed, pattern_of}
 use Rattle.sf_expr.specs.Inference.{is_valued}
 
@@ -53,6 +53,7 @@ made_over b es (nodes.Operation i op j) = operation (among es i.0) op (among es 
 made_over b es (nodes.Conditional i j k) = conditional (among es i.0) (among es j.0) (among es k.0)
 made_over b es (nodes.Mapped i m p j) = mapped (among es i.0) m (pattern_of (placed_among b.patterns p.0)) (among es j.0)
 made_over b es (nodes.Folded i o j p k) = folded (among es i.0) o (among es j.0) (pattern_of (placed_among b.patterns p.0)) (among es k.0)
+made_over b es (nodes.Called g s i) = called (name_among b.names g.0) (among es i.0)
 
 -- how many expressions have to stand before a node
 abbrev pub needs : ExprNode → ℕ
@@ -67,10 +68,12 @@ needs (nodes.Operation a op b) = suc (max a.0 b.0)
 needs (nodes.Conditional a b c) = suc (max a.0 (max b.0 c.0))
 needs (nodes.Mapped a m p b) = suc (max a.0 b.0)
 needs (nodes.Folded a o b p c) = suc (max a.0 (max b.0 c.0))
+needs (nodes.Called g s a) = suc a.0
 
 -- how many names have to be there for a node
 abbrev pub needs_names : ExprNode → ℕ
 needs_names (nodes.Name n) = suc n.0
+needs_names (nodes.Called g s a) = suc g.0
 needs_names n = 0
 
 -- how many literals have to be there for a node

@@ -1,20 +1,37 @@
 -- What expressions are worth.
 use Rattle.std.specs.Prelude.{Bool, true, false, cond, Option, Some, None, bytes_eq}
 use Rattle.sf_value.specs.Values.{Name, Data, unit, truth, number, text, pair, no_event, first_of, second_of}
+use Rattle.sf_value.specs.declared.fault.ValueFault.TheVariants as faults
+use Rattle.sf_func.specs.Registries.{AnswersByName}
 pub use Rattle.sf_operator.specs.Outcomes.{Evaluated, answer, failed, ◌>>=◌, nonsense, known}
 use Rattle.sf_operator.specs.Operations.{truth_in, unary_value, decided, operated}
 use Rattle.sf_operator.specs.FunctionForms.{mapped_value, folded_value}
-use Rattle.sf_expr.specs.Expressions.{Pattern, unnamed, named, both, Literal, unit_literal, truth_literal, int_literal, text_literal, none_literal, Expression, variable, literal, paired, applied, operation, conditional, mapped, folded, Function, function}
+use Rattle.sf_expr.specs.Expressions.{Pattern, unnamed, named, both, Literal, unit_literal, truth_literal, int_literal, text_literal, none_literal, Expression, variable, literal, paired, applied, operation, conditional, mapped, folded, called, Function, function}
 
--- The names that an expression may use with their values, the innermost first.
+-- The names that an expression may use with their values, the innermost first, and last the functions that it may call.
 pub data Scope : Type 0 where
-  no_names : Scope
+  no_names : AnswersByName → Scope
   value_name : Name → Data → Scope → Scope
+
+-- the functions of a scope
+abbrev pub functions_in : Scope → AnswersByName
+functions_in (no_names f) = f
+functions_in (value_name x d scope) = functions_in scope
+
+-- the names of a scope, with these functions
+abbrev pub with_functions : AnswersByName → Scope → Scope
+with_functions f (no_names g) = no_names f
+with_functions f (value_name x d scope) = value_name x d (with_functions f scope)
 
 -- the value of a name
 abbrev pub value_of : Name → Scope → Data
-value_of x no_names = nonsense
+value_of x (no_names f) = nonsense
 value_of x (value_name y d scope) = cond (bytes_eq x y) d (value_of x scope)
+
+-- whether a name is bound
+abbrev pub is_bound : Name → Scope → Bool
+is_bound x (no_names f) = false
+is_bound x (value_name y d scope) = cond (bytes_eq x y) true (is_bound x scope)
 
 -- the scope inside a pattern that a value was bound to
 abbrev pub bound_in : Pattern → Data → Scope → Scope
@@ -42,6 +59,11 @@ abbrev pub unless_decided : Option Data → Evaluated Data → Evaluated Data
 unless_decided (Some d) else = answer d
 unless_decided None else = else
 
+-- what a function answers, or that it refuses
+abbrev pub granted : Option Data → Evaluated Data
+granted (Some d) = answer d
+granted None = failed faults.Function
+
 -- what an expression is worth: operands stand from left to right, and the first fault is the answer; the second operand of `and` and `or` is
 -- looked at only where the first doesn't decide, and of an `if` only the chosen branch; a function binds the names of its pattern to its argument
 abbrev pub eval : Expression → Scope → Evaluated Data
@@ -53,6 +75,7 @@ eval (operation i op j) scope = eval i scope >>= λ a. unless_decided (decided o
 eval (conditional i j k) scope = eval i scope >>= λ c. known (truth_in c) (λ b. cond b (eval j scope) (eval k scope))
 eval (mapped i m p j) scope = eval i scope >>= λ a. mapped_value m a (λ x. eval j (bound_in p x scope))
 eval (folded i o j p k) scope = eval i scope >>= λ a. folded_value o a (eval j scope) (λ x. eval k (bound_in p x scope))
+eval (called g i) scope = eval i scope >>= λ a. granted (functions_in scope g a)
 
 -- what a function answers to a value
 abbrev pub apply : Function → Data → Scope → Evaluated Data

@@ -20,8 +20,8 @@ pub data Literal : Type 0 where
   text_literal : List ℕ → Literal
   none_literal : Kind → Literal
 
--- expressions: names, literals, pairs, operators on their operands, one of two by a truth, and forms with a function, whose pattern and
--- expression stand last
+-- expressions: names, literals, pairs, operators on their operands, one of two by a truth, forms with a function, whose pattern and
+-- expression stand last, and calls of stored functions by their names
 pub data Expression : Type 0 where
   variable : Name → Expression
   literal : Literal → Expression
@@ -31,6 +31,7 @@ pub data Expression : Type 0 where
   conditional : Expression → Expression → Expression → Expression
   mapped : Expression → Mapping → Pattern → Expression → Expression
   folded : Expression → Folding → Expression → Pattern → Expression → Expression
+  called : Name → Expression → Expression
 
 -- A function `p => e`.
 pub data Function : Type 0 where
@@ -52,6 +53,7 @@ depth (operation i o j) = suc (max (depth i) (depth j))
 depth (conditional i j k) = suc (max (depth i) (max (depth j) (depth k)))
 depth (mapped i m p j) = suc (max (depth i) (max (pattern_depth p) (depth j)))
 depth (folded i o j p k) = suc (max (depth i) (max (depth j) (max (pattern_depth p) (depth k))))
+depth (called g i) = suc (depth i)
 
 -- how deep the pattern and the expression of a function are
 abbrev pub function_depth : Function → ℕ
@@ -67,6 +69,7 @@ size (operation i o j) = suc (size i + size j)
 size (conditional i j k) = suc (size i + (size j + size k))
 size (mapped i m p j) = suc (size i + size j)
 size (folded i o j p k) = suc (size i + (size j + size k))
+size (called g i) = suc (size i)
 
 -- how many expressions stand in a function
 abbrev pub function_size : Function → ℕ

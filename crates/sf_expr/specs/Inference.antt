@@ -4,10 +4,11 @@ use Rattle.std.specs.Str.{is_utf8}
 use Rattle.sf_value.specs.Values.{Name, Kind, pair_kind, nodes, is_narrow}
 use Rattle.sf_operator.specs.declared.operator.Operator.{Operator}
 use Rattle.sf_operator.specs.declared.operator.Unary.{Unary}
+use Rattle.sf_func.specs.Registries.{types_named}
 pub use Rattle.sf_operator.specs.Kinds.{found_then}
 use Rattle.sf_operator.specs.Kinds.{unary_kind, binary_kind, conditional_kind, mapped_argument, mapped_kind, folded_argument, folded_kind}
-use Rattle.sf_expr.specs.Expressions.{Pattern, unnamed, named, both, names_in, Literal, int_literal, text_literal, Expression, variable, literal, paired, applied, operation, conditional, mapped, folded, Function, function}
-use Rattle.sf_expr.specs.Typing.{Names, type_of_name, literal_kind}
+use Rattle.sf_expr.specs.Expressions.{Pattern, unnamed, named, both, names_in, Literal, int_literal, text_literal, Expression, variable, literal, paired, applied, operation, conditional, mapped, folded, called, Function, function}
+use Rattle.sf_expr.specs.Typing.{Names, typed_name, type_of_name, functions_of, call_kind, literal_kind}
 
 -- a type, if it has at most 256 nodes
 abbrev pub fitting : Kind → Option Kind
@@ -50,7 +51,7 @@ conditional_type None t u = None
 -- the names with a pattern's names before them, if the pattern fits the type
 abbrev pub names_with : Pattern → Kind → Names → Option Names
 names_with unnamed t R = Some R
-names_with (named x) t R = Some ((x, t) ∷ R)
+names_with (named x) t R = Some (typed_name x t R)
 names_with (both p q) (pair_kind t u) R = found_then (names_with p t R) (names_with q u)
 names_with (both p q) t R = None
 
@@ -82,6 +83,8 @@ expression_type R (mapped i m p j) =
 expression_type R (folded i o j p k) =
     found_then (expression_type R i) (λ t. found_then (expression_type R j) (λ u. found_then (folded_argument o t u) (λ a. found_then (names_bound p a R) (λ S.
     found_then (expression_type S k) (λ v. found_then (folded_kind o t u v) fitting)))))
+expression_type R (called g i) =
+    found_then (expression_type R i) (λ t. found_then (call_kind (types_named g (functions_of R)) t) fitting)
 
 -- the type that a function takes values of a type to, if it takes them
 abbrev pub function_output : Names → Function → Kind → Option Kind

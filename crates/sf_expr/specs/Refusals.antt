@@ -1,5 +1,5 @@
 -- Why expressions and functions have no type.
-use Rattle.std.specs.Prelude.{◌≡◌, ◌<◌, List, [], ◌∷◌, ◌++◌, length, slice_get, Some, None, Result, Ok, Err, Contains}
+use Rattle.std.specs.Prelude.{◌≡◌, ◌<◌, List, [], ◌∷◌, ◌++◌, length, slice_get, Option, Some, None, Result, Ok, Err, Contains}
 use Rattle.sf_value.specs.Values.{Name, Kind, pair_kind, nodes as nodes_of}
 use Rattle.sf_refusal.specs.declared.spot.Spot.{Spot}
 use Rattle.sf_refusal.specs.declared.rule.Rule.TheVariants.{UnknownName, DuplicateName, Mismatch, TypeTooLarge}
@@ -17,12 +17,13 @@ use Rattle.sf_operator.specs.declared.operator.Operator.{Operator}
 use Rattle.sf_operator.specs.declared.operator.Unary.{Unary}
 use Rattle.sf_operator.specs.declared.operator.Mapping.{Mapping}
 use Rattle.sf_operator.specs.declared.operator.Folding.{Folding}
-use Rattle.sf_operator.specs.Kinds.{unary_kind, binary_kind, conditional_kind, mapped_argument, mapped_kind, folded_argument, folded_kind}
+use Rattle.sf_operator.specs.Kinds.{unary_kind, binary_kind, conditional_kind, mapped_argument, mapped_kind, called_kind, folded_argument, folded_kind}
+use Rattle.sf_func.specs.Registries.{FunctionTypes, types_named}
 use Rattle.sf_operator.specs.Breaches.{KindRefused}
 use Rattle.sf_expr.specs.Expressions.{Pattern, names_in, Expression, Function, function}
 use Rattle.sf_expr.specs.Patterns.{PlacedPattern, pattern_of, spots_in}
 use Rattle.sf_expr.specs.Arena.{expression, node_at, name_at, literal_at, spot_at, placed_at, pattern_at, body_at}
-use Rattle.sf_expr.specs.Typing.{Names, Fits, type_of_name, literal_kind, AllDifferent, AddsNames, Binds, HasType, FunctionTakes}
+use Rattle.sf_expr.specs.Typing.{Names, Fits, type_of_name, functions_of, call_kind, literal_kind, AllDifferent, AddsNames, Binds, HasType, FunctionTakes}
 
 -- The answer for an expression: its type, or a refusal, where it has none. Want of memory says nothing of it.
 abbrev pub Types : Names → Expression → Result Kind Refusal → Type 0
@@ -56,6 +57,16 @@ BindRefused p t at b = (b ≡ breach_of Mismatch at) × ((R S : Names) → AddsN
 pub data PatternRefused (p : PlacedPattern) (t : Kind) (at : Spot) : Breach → Type 0 where
   repeats : {s : Spot} → IsRepeated [] p s → PatternRefused p t at (breach_of DuplicateName s)
   fits_not : AllDifferent (names_in (pattern_of p)) → ((R S : Names) → AddsNames (pattern_of p) t R S → ⊥) → PatternRefused p t at (breach_of Mismatch at)
+
+-- why there is no type of a call, at the places of its name and of its first token: there is no such function, or it is none on such values
+abbrev pub CallRefused : Option FunctionTypes → Kind → Spot → Spot → Breach → Type 0
+CallRefused None t name at b = b ≡ breach_of UnknownName name
+CallRefused (Some fs) t name at b = KindRefused (called_kind fs.from fs.to t) at b
+
+-- the answer for the type of a call
+abbrev pub AnswersCall : Option FunctionTypes → Kind → Spot → Spot → Result Kind Refusal → Type 0
+AnswersCall o t name at (Ok u) = (call_kind o t ≡ Some u) × Fits u
+AnswersCall o t name at (Err r) = OrMemory (CallRefused o t name at) r
 
 mutual
   -- The first rule that an expression breaks, and where: parts are looked at from left to right, and then the form itself.
@@ -100,6 +111,9 @@ mutual
     no_folding : {R S : Names} {i a b c : ExprId} {o : Folding} {p : PatternId} {t u d v : Kind} {r : Breach}
         → node_at x i ≡ nodes.Folded a o b p c → HasType R (expression x a) t → HasType R (expression x b) u → folded_argument o t u ≡ Some d → Fits d
         → Binds (pattern_of (placed_at x p)) d R S → HasType S (expression x c) v → KindRefused (folded_kind o t u v) (spot_at x i) r → Refused x R i r
+    called_part : {R : Names} {i a : ExprId} {g : NameId} {s : Spot} {r : Breach} → node_at x i ≡ nodes.Called g s a → Refused x R a r → Refused x R i r
+    no_call : {R : Names} {i a : ExprId} {g : NameId} {s : Spot} {t : Kind} {r : Breach}
+        → node_at x i ≡ nodes.Called g s a → HasType R (expression x a) t → CallRefused (types_named (name_at x g) (functions_of R)) t s (spot_at x i) r → Refused x R i r
 
   -- The first rule that a pattern for a type breaks with the expression that it binds names for.
   pub data PartRefused (x : Exprs) : Names → PlacedPattern → ExprId → Kind → Spot → Breach → Type 0 where

@@ -1,15 +1,15 @@
 -- Typed values in typed places.
-use Rattle.std.specs.Prelude.{[], ◌∷◌}
 use Rattle.sf_value.specs.Values.{Name, Data, Kind, HasKind}
+use Rattle.sf_func.specs.Registries.{TypesByName, AnswersByName, KeepTheirTypes}
 pub use Rattle.sf_operator.specs.Answers.{Yields, yields, fails}
 use Rattle.sf_expr.specs.Expressions.{Expression, Function}
 use Rattle.sf_expr.specs.Evaluation.{Scope, no_names, value_name}
-use Rattle.sf_expr.specs.Typing.{Names, HasType, FunctionTakes}
+use Rattle.sf_expr.specs.Typing.{Names, only_functions, typed_name, HasType, FunctionTakes}
 
--- Values have the types of their names.
+-- Values have the types of their names, and functions keep theirs.
 pub data ScopeHas : Scope → Names → Type 0 where
-  has_no_names : ScopeHas no_names []
-  has_name : {x : Name} {v : Data} {t : Kind} {s : Scope} {R : Names} → HasKind v t → ScopeHas s R → ScopeHas (value_name x v s) ((x, t) ∷ R)
+  has_no_names : {f : AnswersByName} {fs : TypesByName} → KeepTheirTypes fs f → ScopeHas (no_names f) (only_functions fs)
+  has_name : {x : Name} {v : Data} {t : Kind} {s : Scope} {R : Names} → HasKind v t → ScopeHas s R → ScopeHas (value_name x v s) (typed_name x t R)
 
 -- An expression has a type where the names have these values.
 pub data IsTypedIn (s : Scope) (e : Expression) : Type 0 where

@@ -5,19 +5,35 @@ use Rattle.sf_operator.specs.declared.operator.Operator.{Operator}
 use Rattle.sf_operator.specs.declared.operator.Unary.{Unary}
 use Rattle.sf_operator.specs.declared.operator.Mapping.{Mapping}
 use Rattle.sf_operator.specs.declared.operator.Folding.{Folding}
+use Rattle.sf_func.specs.Registries.{FunctionTypes, TypesByName, types_named}
 pub use Rattle.sf_operator.specs.Kinds.{Fits}
-use Rattle.sf_operator.specs.Kinds.{unary_kind, binary_kind, conditional_kind, mapped_argument, mapped_kind, folded_argument, folded_kind}
-use Rattle.sf_expr.specs.Expressions.{Pattern, unnamed, named, both, names_in, Literal, unit_literal, truth_literal, int_literal, text_literal, none_literal, Expression, variable, literal, paired, applied, operation, conditional, mapped, folded, Function, function}
+use Rattle.sf_operator.specs.Kinds.{found_then, unary_kind, binary_kind, conditional_kind, mapped_argument, mapped_kind, called_kind, folded_argument, folded_kind}
+use Rattle.sf_expr.specs.Expressions.{Pattern, unnamed, named, both, names_in, Literal, unit_literal, truth_literal, int_literal, text_literal, none_literal, Expression, variable, literal, paired, applied, operation, conditional, mapped, folded, called, Function, function}
 use Rattle.sf_expr.specs.Evaluation.{literal_value}
 
--- The names that an expression may use with their types, the innermost first.
-abbrev pub Names : Type 0
-Names = List (Name × Kind)
+-- The names that an expression may use with their types, the innermost first, and last the types of the functions that it may call.
+pub data Names : Type 0 where
+  only_functions : TypesByName → Names
+  typed_name : Name → Kind → Names → Names
 
 -- the type of a name
 abbrev pub type_of_name : Name → Names → Option Kind
-type_of_name x [] = None
-type_of_name x (r ∷ rs) = cond (bytes_eq x r.0) (Some r.1) (type_of_name x rs)
+type_of_name x (only_functions fs) = None
+type_of_name x (typed_name y t R) = cond (bytes_eq x y) (Some t) (type_of_name x R)
+
+-- the types of the functions
+abbrev pub functions_of : Names → TypesByName
+functions_of (only_functions fs) = fs
+functions_of (typed_name x t R) = functions_of R
+
+-- the names with their types, with functions of these types
+abbrev pub with_types : TypesByName → Names → Names
+with_types fs (only_functions gs) = only_functions fs
+with_types fs (typed_name x t R) = typed_name x t (with_types fs R)
+
+-- the type of what a function makes of a value of a type, if it is there and takes such values
+abbrev pub call_kind : Option FunctionTypes → Kind → Option Kind
+call_kind o t = found_then o (λ fs. called_kind fs.from fs.to t)
 
 -- a literal's type
 abbrev pub literal_kind : Literal → Kind
@@ -35,7 +51,7 @@ AllDifferent (x ∷ xs) = All (λ y. x ≢ y) xs × AllDifferent xs
 -- A pattern for a type adds names to those around it.
 pub data AddsNames : Pattern → Kind → Names → Names → Type 0 where
   adds_nothing : {t : Kind} {R : Names} → AddsNames unnamed t R R
-  adds_name : {x : Name} {t : Kind} {R : Names} → AddsNames (named x) t R ((x, t) ∷ R)
+  adds_name : {x : Name} {t : Kind} {R : Names} → AddsNames (named x) t R (typed_name x t R)
   adds_both : {p q : Pattern} {t u : Kind} {R S T : Names} → AddsNames p t R S → AddsNames q u S T → AddsNames (both p q) (pair_kind t u) R T
 
 -- A pattern is bound: it adds its names, which are different.
@@ -55,6 +71,7 @@ pub data HasType : Names → Expression → Kind → Type 0 where
       → HasType R i t → mapped_argument m t ≡ Some a → Fits a → Binds p a R S → HasType S j u → mapped_kind m t u ≡ Some v → Fits v → HasType R (mapped i m p j) v
   folded_has : {R S : Names} {i j k : Expression} {o : Folding} {p : Pattern} {t u a v w : Kind}
       → HasType R i t → HasType R j u → folded_argument o t u ≡ Some a → Fits a → Binds p a R S → HasType S k v → folded_kind o t u v ≡ Some w → Fits w → HasType R (folded i o j p k) w
+  called_has : {R : Names} {g : Name} {i : Expression} {t u : Kind} → HasType R i t → call_kind (types_named g (functions_of R)) t ≡ Some u → Fits u → HasType R (called g i) u
 
 -- A function takes one type to another.
 pub data FunctionTakes (R : Names) : Function → Kind → Kind → Type 0 where

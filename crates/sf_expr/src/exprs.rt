@@ -62,6 +62,8 @@ pub enum ExprNode {
     Mapped(ExprId, Mapping, PatternId, ExprId),
     /// A form on two values with a function, whose pattern and expression stand last.
     Folded(ExprId, Folding, ExprId, PatternId, ExprId),
+    /// A call of a stored function by its name, which stands there, on its argument.
+    Called(NameId, Spot, ExprId),
 }
 
 /// Expressions, of at most 100,000 nodes, of which at most 64 stand one inside another, with their names,
@@ -116,6 +118,15 @@ impl Exprs {
         self.arena.len()
     }
 
+    /// The id of the expression of a number.
+    #[tactic(auto, using(crate::proofs::Entered::few_expressions))]
+    pub fn at(&self, number: usize) -> ExprId
+        requires { number < count_of self.now }
+        ensures { id_number result ≡ number }
+    {
+        ExprId(number as u32)
+    }
+
     /// How many expressions stand one inside another in the one at an id.
     #[tactic(auto, using(crate::proofs::Entered::expression_shallow), unfolding(crate::specs::Arena::expression))]
     pub fn depth(&self, id: ExprId) -> u32
@@ -156,7 +167,7 @@ impl Exprs {
         match node {
             ExprNode::Unit | ExprNode::Truth(_) | ExprNode::Int(_) => 1,
             ExprNode::Constant(_) | ExprNode::Name(_) => 1,
-            ExprNode::Applied(_, part) => 1 + self.depth(part),
+            ExprNode::Applied(_, part) | ExprNode::Called(_, _, part) => 1 + self.depth(part),
             ExprNode::Pair(first, second) | ExprNode::Operation(first, _, second) => {
                 1 + self.depth(first).max(self.depth(second))
             }

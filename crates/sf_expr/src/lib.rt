@@ -1,9 +1,11 @@
 //! Expressions: their trees, in an arena, with their types and values.
 #![tactic(auto)]
 
+mod binding;
 mod constant;
 mod evaluate;
 mod exprs;
+mod fitting;
 mod laws;
 mod pat;
 mod scope;
@@ -14,6 +16,7 @@ mod typing;
 pub use constant::{Constant, ConstantForm};
 pub use evaluate::{apply, eval};
 pub use exprs::{ConstantId, ExprId, ExprNode, Exprs, FunctionId, NameId, PatternId};
+pub use fitting::Fitting;
 pub use laws::{found_type, one_refusal, some_type, typed_expression};
 pub use pat::{Pat, PatForm};
 pub use scope::Scope;

@@ -1,21 +1,24 @@
 //! The types of expressions.
 ghost use Rattle.std.specs.Prelude.{◌≡◌, ◌++◌, [], ◌↔◌, IsTrue, Some, OnOk, IfOk, IfSome, IfNone, IfErr, Contains};
-ghost use Rattle.sf_expr.specs.Typing.{Fits, AddsNames, Binds, AllDifferent, type_of_name, literal_kind};
+ghost use Rattle.sf_expr.specs.Typing.{Fits, AddsNames, Binds, AllDifferent, only_functions, type_of_name, with_types, literal_kind};
 ghost use Rattle.sf_expr.specs.Expressions.{names_in};
 ghost use Rattle.sf_expr.specs.Inference.{is_valued};
 ghost use Rattle.sf_expr.specs.Arena.{expression, function_at};
 ghost use Rattle.sf_expr.specs.Patterns.{pattern_of};
 ghost use Rattle.sf_expr.specs.Scopes.{names_of, names_seen};
-ghost use Rattle.sf_expr.specs.Refusals.{Types, TypesFunction, Judges, JudgesFunction, AnswersPair, BindRefused, RepeatRefused, PatternRefused, JudgesPart};
+ghost use Rattle.sf_expr.specs.Refusals.{Types, TypesFunction, Judges, JudgesFunction, AnswersPair, AnswersCall, BindRefused, RepeatRefused, PatternRefused, JudgesPart};
 ghost use Rattle.sf_operator.specs.Breaches.{AnswersKind};
 ghost use Rattle.sf_refusal.specs.Refusals.{OrMemory};
+ghost use Rattle.sf_func.specs.Registries.{types_named};
+ghost use Rattle.sf_func.specs.Signatures.{signatures_in};
 
 use crate::constant::{Constant, ConstantForm};
 use crate::exprs::{ExprId, ExprNode, Exprs, FunctionId};
 use crate::pat::{Pat, PatForm};
 use crate::typed_name::TypedName;
+use sf_func::Signatures;
 use sf_operator::{
-    binary_type, conditional_type, event_type, folded_argument_type, folded_type,
+    binary_type, called_type, conditional_type, event_type, folded_argument_type, folded_type,
     mapped_argument_type, mapped_type, unary_type,
 };
 use sf_refusal::{Refusal, Rule, Spot};
@@ -33,7 +36,7 @@ impl<'a> TypeScope<'a> {
     /// No name.
     #[tactic(auto, using(crate::proofs::Bound::names_empty))]
     pub fn new(alloc: Global) -> TypeScope<'a>
-        ensures { names_of result ≡ [] }
+        ensures { names_of result ≡ only_functions [] }
     {
         TypeScope {
             names: SmallVec::new(alloc),
@@ -143,10 +146,34 @@ fn constant_type(alloc: Global, constant: &Constant, at: Spot) -> Result<Ty, Ref
     }
 }
 
+/// The type of what the function of a name makes of a value of a type. Refused with `UnknownName` at `place` where there
+/// is none of that name, then at `at` with `Mismatch` where it is none on such values, and with `Memory`.
+fn call_type(
+    alloc: Global,
+    functions: &Signatures,
+    name: &str,
+    part: &Ty,
+    place: Spot,
+    at: Spot,
+) -> Result<Ty, Refusal>
+    ensures { AnswersCall (types_named name.now (signatures_in functions.now)) part.now place at result }
+{
+    match functions.find(name) {
+        Some(types) => called_type(alloc, types.from(), types.to(), part, at),
+        None => Err(Refusal::broken(Rule::UnknownName, place)),
+    }
+}
+
 /// The type of an expression, or the first refusal, parts first.
 #[cycle(judge)]
-fn judge(alloc: Global, exprs: &Exprs, id: ExprId, names: &TypeScope) -> Result<Ty, Refusal>
-    ensures { Judges exprs.now (names_of names.now) id result }
+fn judge(
+    alloc: Global,
+    exprs: &Exprs,
+    id: ExprId,
+    names: &TypeScope,
+    functions: &Signatures,
+) -> Result<Ty, Refusal>
+    ensures { Judges exprs.now (with_types (signatures_in functions.now) (names_of names.now)) id result }
 {
     match exprs.node(id) {
         ExprNode::Unit => Ok(Ty::unit()),
@@ -160,27 +187,27 @@ fn judge(alloc: Global, exprs: &Exprs, id: ExprId, names: &TypeScope) -> Result<
             None => Err(Refusal::broken(Rule::UnknownName, exprs.spot(id))),
         },
         ExprNode::Pair(first, second) => {
-            let first = judge(alloc, exprs, first, names)?;
-            let second = judge(alloc, exprs, second, names)?;
+            let first = judge(alloc, exprs, first, names, functions)?;
+            let second = judge(alloc, exprs, second, names, functions)?;
             pair_type(alloc, first, second, exprs.spot(id))
         }
         ExprNode::Applied(operator, part) => {
-            let part = judge(alloc, exprs, part, names)?;
+            let part = judge(alloc, exprs, part, names, functions)?;
             unary_type(alloc, operator, &part, exprs.spot(id))
         }
         ExprNode::Operation(left, operator, right) => {
-            let left = judge(alloc, exprs, left, names)?;
-            let right = judge(alloc, exprs, right, names)?;
+            let left = judge(alloc, exprs, left, names, functions)?;
+            let right = judge(alloc, exprs, right, names, functions)?;
             binary_type(alloc, operator, &left, &right, exprs.spot(id))
         }
         ExprNode::Conditional(condition, first, second) => {
-            let condition = judge(alloc, exprs, condition, names)?;
-            let first = judge(alloc, exprs, first, names)?;
-            let second = judge(alloc, exprs, second, names)?;
+            let condition = judge(alloc, exprs, condition, names, functions)?;
+            let first = judge(alloc, exprs, first, names, functions)?;
+            let second = judge(alloc, exprs, second, names, functions)?;
             conditional_type(alloc, &condition, &first, &second, exprs.spot(id))
         }
         ExprNode::Mapped(part, mapping, pattern, body) => {
-            let part = judge(alloc, exprs, part, names)?;
+            let part = judge(alloc, exprs, part, names, functions)?;
             let argument = mapped_argument_type(alloc, mapping, &part, exprs.spot(id))?;
             let made = judge_part(
                 alloc,
@@ -189,13 +216,14 @@ fn judge(alloc: Global, exprs: &Exprs, id: ExprId, names: &TypeScope) -> Result<
                 body,
                 &argument,
                 names,
+                functions,
                 exprs.spot(id),
             )?;
             mapped_type(alloc, mapping, &part, &made, exprs.spot(id))
         }
         ExprNode::Folded(first, folding, second, pattern, body) => {
-            let first = judge(alloc, exprs, first, names)?;
-            let second = judge(alloc, exprs, second, names)?;
+            let first = judge(alloc, exprs, first, names, functions)?;
+            let second = judge(alloc, exprs, second, names, functions)?;
             let argument = folded_argument_type(alloc, folding, &first, &second, exprs.spot(id))?;
             let made = judge_part(
                 alloc,
@@ -204,9 +232,15 @@ fn judge(alloc: Global, exprs: &Exprs, id: ExprId, names: &TypeScope) -> Result<
                 body,
                 &argument,
                 names,
+                functions,
                 exprs.spot(id),
             )?;
             folded_type(alloc, folding, &first, &second, &made, exprs.spot(id))
+        }
+        ExprNode::Called(function, place, part) => {
+            let part = judge(alloc, exprs, part, names, functions)?;
+            let name = exprs.name_of(function);
+            call_type(alloc, functions, name, &part, place, exprs.spot(id))
         }
     }
 }
@@ -240,27 +274,35 @@ fn judge_part(
     body: ExprId,
     from: &Ty,
     around: &TypeScope,
+    functions: &Signatures,
     at: Spot,
 ) -> Result<Ty, Refusal>
-    ensures { JudgesPart exprs.now (names_of around.now) pattern.now body from.now at result }
+    ensures { JudgesPart exprs.now (with_types (signatures_in functions.now) (names_of around.now)) pattern.now body from.now at result }
 {
     let names = names_with(alloc, &*pattern, &*from, &*around, at)?;
-    judge(alloc, &*exprs, body, &names)
+    judge(alloc, &*exprs, body, &names, &*functions)
 }
 
-/// The type of an expression, where names have these types, or why it has none.
+/// The type of an expression, where names and functions have these types, or why it has none.
 ///
-/// Both operands are typed before a mismatch in either is answered. The place is that of an unknown name, else that of
-/// the first token of the form whose rule is broken.
+/// Both operands are typed before a mismatch in either is answered, and the argument of a call before its function is
+/// looked for. The place is that of an unknown name, else that of the first token of the form whose rule is broken.
 #[tactic(auto, using(crate::proofs::Judged::judged_types))]
-pub fn type_of(alloc: Global, exprs: &Exprs, id: ExprId, names: &TypeScope) -> Result<Ty, Refusal>
-    ensures typed { Types (names_of names.now) (expression exprs.now id) result }
-    ensures first { Judges exprs.now (names_of names.now) id result }
+pub fn type_of(
+    alloc: Global,
+    exprs: &Exprs,
+    id: ExprId,
+    names: &TypeScope,
+    functions: &Signatures,
+) -> Result<Ty, Refusal>
+    ensures typed { Types (with_types (signatures_in functions.now) (names_of names.now)) (expression exprs.now id) result }
+    ensures first { Judges exprs.now (with_types (signatures_in functions.now) (names_of names.now)) id result }
 {
-    judge(alloc, exprs, id, names)
+    judge(alloc, exprs, id, names, functions)
 }
 
-/// The type that a function takes values of a type to, where the names around it have these types, or why there is none.
+/// The type that a function takes values of a type to, where the names around it and stored functions have these types, or
+/// why there is none.
 ///
 /// `DuplicateName` where two names of its pattern are the same, with the place of the later one, then `Mismatch` at `at`
 /// where the pattern does not fit the type, then what its body is refused for.
@@ -270,10 +312,11 @@ pub fn function_type<'a>(
     function: FunctionId,
     from: &'a Ty,
     names: &TypeScope<'a>,
+    functions: &Signatures,
     at: Spot,
 ) -> Result<Ty, Refusal>
-    ensures typed { TypesFunction (names_of names.now) (function_at exprs.now function) from.now result }
-    ensures first { JudgesFunction exprs.now (names_of names.now) function from.now at result }
+    ensures typed { TypesFunction (with_types (signatures_in functions.now) (names_of names.now)) (function_at exprs.now function) from.now result }
+    ensures first { JudgesFunction exprs.now (with_types (signatures_in functions.now) (names_of names.now)) function from.now at result }
 {
     judge_part(
         alloc,
@@ -282,6 +325,7 @@ pub fn function_type<'a>(
         exprs.body(function),
         from,
         names,
+        functions,
         at,
     )
 }

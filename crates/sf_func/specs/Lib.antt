@@ -1,4 +1,5 @@
 pub mod Meaning
 pub mod Numbers
 pub mod Registries
+pub mod Signatures
 pub mod Arithmetic

@@ -1,14 +1,16 @@
 //! Functions by name.
-ghost use Rattle.std.specs.Prelude.{◌≡◌, ◌≢◌, Option, OnOk, IfErr, [], ◌∷◌, ◌++◌};
+ghost use Rattle.std.specs.Prelude.{◌≡◌, ◌≢◌, Option, OnOk, IfOk, IfErr, [], ◌∷◌, ◌++◌};
+ghost use Rattle.sf_func.specs.Signatures.{signatures_in};
 ghost use Rattle.std.specs.Option.{option_map, option_and_then};
 ghost use Rattle.sf_value.specs.Values.{Name, Data};
 ghost use Rattle.sf_func.specs.Meaning.{Applied};
 ghost use Rattle.sf_func.specs.Registries.{FunctionTypes, TypesByName, AnswersByName, KeepsTypes, KeepTheirTypes, types_shown, types_of, types_in, answers_in, types_named, HasRoomFor, IsCause};
 
 use crate::function::{Function, FunctionFault};
+use crate::signatures::{Signature, Signatures};
 use indexmap::IndexMap;
 use sf_value::{Ty, Value};
-use std::alloc::Global;
+use std::alloc::{AllocError, Global};
 use thiserror::Error;
 
 /// A function with its types.
@@ -140,6 +142,21 @@ impl Registry {
         ensures answers { (d : Data) → option_and_then (λ e. ⟦<Entry as Answers>⟧.answers e.now d) result ≡ ⟦<Registry as Holds>⟧.answers self.now name.now d }
     {
         self.entries.get(name)
+    }
+
+    /// The types of its functions by name.
+    pub fn signatures(&self, alloc: Global) -> Result<Signatures, AllocError>
+        ensures { IfOk result (λ s. signatures_in s ≡ ⟦<Registry as Holds>⟧.types self.now) }
+    {
+        let mut entries = Vec::new(alloc);
+        for (name, entry) in &self.entries {
+            entries.push(Signature {
+                name: String::from_str(alloc, name.as_str())?,
+                from: entry.from.clone_in(alloc)?,
+                to: entry.to.clone_in(alloc)?,
+            })?;
+        }
+        Ok(Signatures { entries })
     }
 
     /// Adds a function that takes values of one type to values of another, or refuses them. A refused call hands it

@@ -1,7 +1,7 @@
 -- What is spelled within the limits is read again, whatever follows.
 use Rattle.std.proofs.Common.{◌≡◌, ℕ, zero, suc, ◌+◌, ◌≤◌, Bool, true, false, Option, Some, List, [], ◌∷◌, ◌++◌, refl, ◌∙◌, ap, append_assoc, arith}
-use Rattle.sf_value.specs.Values.{KeyKind, Kind, unit_kind, bool_kind, int_kind, text_kind, pair_kind, event_kind, table_kind, nodes}
-use Rattle.sf_expr.specs.Expressions.{Pattern, unnamed, named, both, pattern_depth, Literal, unit_literal, truth_literal, int_literal, text_literal, none_literal, Expression, variable, literal, paired, applied, operation, conditional, mapped, folded, depth as expression_depth, size, Function, function, function_depth, function_size}
+use Rattle.sf_value.specs.Values.{Name, KeyKind, Kind, unit_kind, bool_kind, int_kind, text_kind, pair_kind, event_kind, table_kind, nodes}
+use Rattle.sf_expr.specs.Expressions.{Pattern, unnamed, named, both, pattern_depth, Literal, unit_literal, truth_literal, int_literal, text_literal, none_literal, Expression, variable, literal, paired, applied, operation, conditional, mapped, folded, called, depth as expression_depth, size, Function, function, function_depth, function_size}
 use Rattle.sf_operator.specs.declared.operator.Unary.{Unary}
 use Rattle.sf_operator.specs.declared.operator.Operator.{Operator}
 use Rattle.sf_operator.specs.declared.operator.Mapping.{Mapping}
@@ -16,8 +16,8 @@ use Rattle.sf_grammar.specs.declared.head.Head.TheVariants as heads
 use Rattle.sf_grammar.specs.declared.head.ExpressionHead.TheVariants as expression_heads
 use Rattle.sf_grammar.specs.declared.head.Link.{Link}
 use Rattle.sf_grammar.specs.declared.head.Link.TheVariants as links
-use Rattle.sf_grammar.specs.Spelling.{unary_word, takes_brackets, operator_token, stands_between, mapping_word, maps_in_brackets, folding_word, spell_operand, spell_operands, spell_choice, spell_mapped, spell_folded, spell_keys, spell_type, spell_pattern, spell_literal, spell_expression, spell_function, spell_term, spell_signature, spell_template, bare_word, value_word, side_word, heading_word, join_symbol, in_brackets, type_depth, WritesType, WritesExpression, WritesFunction, WritesTerm, HasWrittenTypes}
-use Rattle.sf_grammar.specs.Reading.{Read, got, ◌and_then◌, Counts, counts_with, counts_with_expression, parse_symbol, parse_keys, parse_outer_type, parse_inner_type, parse_pair_type, parse_pattern, parse_pattern_pair, parse_link, linked, parse_linked, bracketed_from, parse_none, parse_prefixed, parse_one_in_brackets, parse_two_in_brackets, parse_conditional, parse_mapping, parse_let, parse_one_and_function, parse_two_and_function, expression_head, parse_expression, expression_read, parse_function, parse_join, parse_term, term_read, parse_joined, parse_value, parse_arrow, parse_sided, parse_headed, parse_heading, parse_signature, parse_template}
+use Rattle.sf_grammar.specs.Spelling.{unary_word, takes_brackets, operator_token, stands_between, mapping_word, maps_in_brackets, folding_word, spell_operand, spell_operands, spell_choice, spell_mapped, spell_folded, spell_called, spell_keys, spell_type, spell_pattern, spell_literal, spell_expression, spell_function, spell_term, spell_signature, spell_template, bare_word, value_word, side_word, heading_word, join_symbol, in_brackets, type_depth, WritesType, WritesExpression, WritesFunction, WritesTerm, HasWrittenTypes}
+use Rattle.sf_grammar.specs.Reading.{Read, got, ◌and_then◌, Counts, counts_with, counts_with_expression, parse_symbol, parse_keys, parse_outer_type, parse_inner_type, parse_pair_type, parse_pattern, parse_pattern_pair, parse_link, linked, parse_linked, bracketed_from, parse_none, parse_prefixed, parse_one_in_brackets, parse_two_in_brackets, parse_conditional, parse_mapping, parse_let, parse_one_and_function, parse_two_and_function, parse_called, expression_head, parse_expression, expression_read, parse_function, parse_join, parse_term, term_read, parse_joined, parse_value, parse_arrow, parse_sided, parse_headed, parse_heading, parse_signature, parse_template}
 use Rattle.sf_grammar.proofs.Words.{head_again, join_again, link_again, link_token, LinksBetween, unary_again, IsInFront, operator_again, folding_again, keys_again, no_close}
 use Rattle.sf_grammar.proofs.Parts.{within, type_within, brackets_behind, three_behind, parts_again}
 
@@ -197,6 +197,16 @@ folded_again v o e f p g d c rest deep one two three few =
       mapping_again v p g d (counts_with_expression (counts_with_expression c e) f) closing deep three,
     ) (within (c.expressions + size (folded e o f p g)) (folded e o f p g) (keyword (folding_word o) ∷ symbol symbols.Open ∷ (spell_expression v e ++ first)) rest few)
 
+-- a call of a stored function
+called_again : (v : Version) (g : Name) (e : Expression) (d : ℕ) (c : Counts) (rest : List Tok)
+    → ((rest : List Tok) → parse_expression d v c (spell_expression v e ++ rest) ≡ got e rest) → c.expressions + size (called g e) ≤ 100000
+    → parse_expression (suc d) v c (spell_called g (spell_expression v e) ++ rest) ≡ got (called g e) rest
+unfolding parse_expression parse_called
+called_again v g e d c rest part few =
+    let tokens : List Tok = symbol symbols.Open ∷ (spell_expression v e ++ (symbol symbols.Close ∷ rest)) in
+    rw (append_assoc (spell_expression v e) (symbol symbols.Close ∷ []) rest, part (symbol symbols.Close ∷ rest))
+    (within (c.expressions + size (called g e)) (called g e) (keyword words.Call ∷ name g ∷ tokens) rest few)
+
 -- a literal
 literal_again : (v : Version) (l : Literal) (d : ℕ) (c : Counts) (rest : List Tok) → c.expressions + 1 ≤ 100000 → WritesExpression v (suc d) (literal l)
     → parse_expression (suc d) v c (spell_literal v l ++ rest) ≡ got (literal l) rest
@@ -221,6 +231,7 @@ expression_again v (operation e o f) zero c rest deep few known = absurd (omega 
 expression_again v (conditional e f g) zero c rest deep few known = absurd (omega arith)
 expression_again v (mapped e m p f) zero c rest deep few known = absurd (omega arith)
 expression_again v (folded e o f p g) zero c rest deep few known = absurd (omega arith)
+expression_again v (called g e) zero c rest deep few known = absurd (omega arith)
 expression_again v (variable n) (suc d) c rest deep few known = within (c.expressions + 1) (variable n) (name n ∷ rest) rest few
 expression_again v (literal l) (suc d) c rest deep few known = literal_again v l d c rest few known
 expression_again v (paired e f) (suc d) c rest deep few known =
@@ -242,6 +253,7 @@ expression_again v (folded e o f p g) (suc d) c rest deep few known =
     folded_again v o e f p g d c rest (omega arith) (λ rest. expression_again v e d c rest (omega arith) (omega arith) known.0)
     (λ rest. expression_again v f d (counts_with_expression c e) rest (omega arith) (omega arith) known.1)
     (λ rest. expression_again v g d (counts_with_expression (counts_with_expression c e) f) rest (omega arith) (omega arith) known.2) few
+expression_again v (called g e) (suc d) c rest deep few known = called_again v g e d c rest (λ rest. expression_again v e d c rest (omega arith) (omega arith) known) few
 
 pub function_again : (v : Version) (f : Function) (d : ℕ) (c : Counts) (rest : List Tok) → function_depth f ≤ d → c.expressions + function_size f ≤ 100000 → WritesFunction v d f
     → parse_function d v c (spell_function v f ++ rest) ≡ got f rest

@@ -12,10 +12,10 @@ use Rattle.sf_expr.specs.declared.exprs.FunctionId.{FunctionId}
 use Rattle.sf_expr.specs.declared.exprs.PatternId.{PatternId}
 use Rattle.sf_expr.specs.declared.exprs.ExprNode.TheVariants as expressions
 use Rattle.sf_expr.specs.Patterns.{PlacedPattern, pattern_of}
-use Rattle.sf_expr.specs.Expressions.{variable, literal, unit_literal, truth_literal, int_literal, paired, applied, operation, conditional, mapped, folded}
+use Rattle.sf_expr.specs.Expressions.{variable, literal, unit_literal, truth_literal, int_literal, paired, applied, operation, conditional, mapped, folded, called}
 use Rattle.sf_expr.specs.Arena.{name_at}
 use Rattle.sf_expr.proofs.Entered.{node_builds as expression_builds}
-use Rattle.sf_expr.proofs.Typed.{is_unit, is_truth, is_int, is_name, is_pair, is_applied, is_operation, is_conditional, is_mapped, is_folded}
+use Rattle.sf_expr.proofs.Typed.{is_unit, is_truth, is_int, is_name, is_pair, is_applied, is_operation, is_conditional, is_mapped, is_folded, is_called}
 use Rattle.sf_term.specs.declared.node.TermId.{TermId}
 use Rattle.sf_term.specs.declared.program.Program.{Program}
 use Rattle.sf_term.specs.Headers.{Header}
@@ -27,7 +27,7 @@ use Rattle.sf_refusal.specs.declared.spot.Spot.{Spot}
 use Rattle.sf_lex.specs.Tokens.{Tok, keyword, symbol}
 use Rattle.sf_grammar.specs.declared.ty.Version.{Version}
 use Rattle.sf_grammar.specs.Spelling.{in_brackets, operator_token, join_symbol, spell_mapping, spell_pattern, spell_expression, spell_function, spell_term, spell_heading, spell_signature, spell_template}
-use Rattle.sf_grammar.specs.Placing.{around, PatternPlaced, unnamed_placed, name_placed, both_placed, ExpressionPlaced, unit_placed, truth_placed, number_placed, constant_placed, variable_placed, pair_placed, prefixed_placed, one_in_brackets_placed, operation_placed, two_in_brackets_placed, conditional_placed, let_placed, one_and_function_placed, two_and_function_placed, FunctionPlaced, function_placed, TermPlaced, bare_placed, with_value_placed, arrow_placed, joined_placed, sided_placed, headed_placed, TemplatePlaced}
+use Rattle.sf_grammar.specs.Placing.{around, PatternPlaced, unnamed_placed, name_placed, both_placed, ExpressionPlaced, unit_placed, truth_placed, number_placed, constant_placed, variable_placed, pair_placed, prefixed_placed, one_in_brackets_placed, operation_placed, two_in_brackets_placed, conditional_placed, let_placed, one_and_function_placed, two_and_function_placed, called_placed, FunctionPlaced, function_placed, TermPlaced, bare_placed, with_value_placed, arrow_placed, joined_placed, sided_placed, headed_placed, TemplatePlaced}
 
 around_counted : (xs ys : List Spot) (us vs : List Tok) (opening between closing : Spot) (t : Tok) → length xs ≡ length us → length ys ≡ length vs → length (around opening xs between ys closing) ≡ length (in_brackets us t vs)
 around_counted xs ys us vs opening between closing t one two =
@@ -81,6 +81,10 @@ folded_is : (p : Program) (e a b c : ExprId) (o : Folding) (q : PatternId) → e
 unfolding expressions_of expression_under expression_node_at pattern_under
 folded_is p e a b c o q is = is_folded (expression_builds (expressions_of p) e _ is)
 
+called_is : (p : Program) (e a : ExprId) (g : NameId) (s : Spot) → expression_node_at p e ≡ expressions.Called g s a → expression_under p e ≡ called (name_at (expressions_of p) g) (expression_under p a)
+unfolding expressions_of expression_under expression_node_at
+called_is p e a g s is = is_called (expression_builds (expressions_of p) e _ is)
+
 -- a part with a place or a token in front of each other
 between_counted : (xs ys : List Spot) (us vs : List Tok) (between : Spot) (t : Tok) → length xs ≡ length us → length ys ≡ length vs → length (xs ++ (between ∷ ys)) ≡ length (us ++ (t ∷ vs))
 between_counted xs ys us vs between t one two = omega (arith, length-append xs (between ∷ ys), length-append us (t ∷ vs))
@@ -128,6 +132,9 @@ expression_counted v p e xs (two_and_function_placed {a = a} {b = b} {c = c} {o 
     (ap suc (around_counted us (vs ++ (second ∷ (ps ++ (leads ∷ ws)))) (spell_expression v (expression_under p a)) (value ++ (symbol symbols.Comma ∷ spell_mapping names body)) opening comma closing (symbol symbols.Comma)
     (expression_counted v p a us one) (between_counted vs (ps ++ (leads ∷ ws)) value (spell_mapping names body) second (symbol symbols.Comma) (expression_counted v p b vs two)
     (between_counted ps ws names body leads (symbol symbols.MapsTo) (pattern_counted (pattern_under p q) ps pattern.placed) (expression_counted v p c ws three)))))
+expression_counted v p e xs (called_placed {a = a} {g = g} {xs = us} {place = place} opening closing s part) =
+    rw (called_is p e a g place s.node)
+    (ap (λ n. suc (suc (suc n))) (between_counted us [] (spell_expression v (expression_under p a)) [] closing (symbol symbols.Close) (expression_counted v p a us part) refl))
 
 function_counted : (v : Version) (p : Program) (f : FunctionId) (xs : List Spot) → FunctionPlaced v p f xs → length xs ≡ length (spell_function v (function_in p f))
 function_counted v p f xs (function_placed {xs = us} {ys = vs} leads held pattern body) =

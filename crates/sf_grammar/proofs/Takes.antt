@@ -1,7 +1,7 @@
 -- What is read is spelled so, within the limits.
 use Rattle.std.proofs.Common.{◌≡◌, ℕ, zero, suc, ◌+◌, ◌<◌, ◌≤◌, true, false, pos, List, [], ◌∷◌, ◌++◌, Option, Some, None, refl, sym, ◌∙◌, ap, subst, append_assoc, arith}
 use Rattle.sf_value.specs.Values.{Name, Kind, pair_kind, event_kind, table_kind, nodes}
-use Rattle.sf_expr.specs.Expressions.{Pattern, unnamed, named, both, pattern_depth, unit_literal, truth_literal, int_literal, text_literal, none_literal, Expression, variable, literal, applied, operation, conditional, mapped, depth as expression_depth, size, Function, function, function_depth, function_size}
+use Rattle.sf_expr.specs.Expressions.{Pattern, unnamed, named, both, pattern_depth, unit_literal, truth_literal, int_literal, text_literal, none_literal, Expression, variable, literal, applied, operation, conditional, mapped, called, depth as expression_depth, size, Function, function, function_depth, function_size}
 use Rattle.sf_operator.specs.declared.operator.Unary.{Unary}
 use Rattle.sf_operator.specs.declared.operator.Operator.{Operator}
 use Rattle.sf_operator.specs.declared.operator.Mapping.{Mapping}
@@ -27,7 +27,7 @@ use Rattle.sf_grammar.specs.declared.head.ExpressionHead.TheVariants as expressi
 use Rattle.sf_grammar.specs.declared.head.Link.{Link}
 use Rattle.sf_grammar.specs.declared.head.Link.TheVariants as links
 use Rattle.sf_grammar.specs.Spelling.{version_number, mapping_word, folding_word, spell_keys, spell_type, spell_pattern, spell_expression, spell_function, spell_term, spell_signature, spell_template, bare_word, value_word, side_word, heading_word, join_symbol, type_depth, WritesType, IsWrittenType, WritesExpression, WritesFunction, WritesTerm, HasWrittenTypes}
-use Rattle.sf_grammar.specs.Reading.{Read, got, ◌and_then◌, Counts, counts_with, counts_with_expression, begins_type, begins_pattern, begins_expression, begins_term, type_head, word_kind, parse_keys, parse_outer_type, parse_headed_type, type_from, parse_inner_type, parse_pair_type, parse_pattern, parse_pattern_pair, link_of, link_from, parse_link, linked, parse_linked, behind_close, bracketed_from, parse_none, expression_head, parse_prefixed, parse_one_in_brackets, parse_two_in_brackets, parse_conditional, parse_mapping, parse_let, mapped_by, folded_by, parse_one_and_function, parse_two_and_function, parse_worded_expression, parse_expression, expression_read, parse_function, parse_term, parse_joined, parse_value, parse_arrow, parse_sided, parse_headed, parse_worded, head_of, join_of, parse_join, join_from, term_read, parse_parts, parse_opening, parse_heading, parse_signature, parse_template, template_of, parse_symbol, parse_name, parse_type, parse_keyword, parse_version}
+use Rattle.sf_grammar.specs.Reading.{Read, got, ◌and_then◌, Counts, counts_with, counts_with_expression, begins_type, begins_pattern, begins_expression, begins_term, type_head, word_kind, parse_keys, parse_outer_type, parse_headed_type, type_from, parse_inner_type, parse_pair_type, parse_pattern, parse_pattern_pair, link_of, link_from, parse_link, linked, parse_linked, behind_close, bracketed_from, parse_none, expression_head, parse_prefixed, parse_one_in_brackets, parse_two_in_brackets, parse_conditional, parse_mapping, parse_let, mapped_by, folded_by, parse_one_and_function, parse_two_and_function, parse_called, parse_worded_expression, parse_expression, expression_read, parse_function, parse_term, parse_joined, parse_value, parse_arrow, parse_sided, parse_headed, parse_worded, head_of, join_of, parse_join, join_from, term_read, parse_parts, parse_opening, parse_heading, parse_signature, parse_template, template_of, parse_symbol, parse_name, parse_type, parse_keyword, parse_version}
 use Rattle.sf_grammar.proofs.Words.{head_takes, join_takes, link_token, LinksBetween, IsLinkToken, link_takes, BeginsWith, expression_head_takes, type_word, type_token, type_head_takes, IsWordKind, word_kind_is, close_takes}
 use Rattle.sf_grammar.proofs.Parts.{Same, bind_got, got_same, within_takes, deep_takes, met_takes, parts_takes, brackets_took, three_behind, symbol_takes, keyword_takes, name_takes, version_takes, TookKeys, keys_takes}
 
@@ -422,6 +422,33 @@ two_and_function_takes v d c o k tokens e rest part word is =
     (folded_took v o f g h d c k tokens r0 r1 r2 r3 r4 r5 r6 word (symbol_takes symbols.Open tokens u r0 opened) (part c r0 f r1 at_f) (symbol_takes symbols.Comma r1 w r2 at_w)
     (part (counts_with_expression c f) r2 g r3 at_g) (symbol_takes symbols.Comma r3 x r4 at_x) (mapping_takes v d (counts_with_expression (counts_with_expression c f) g) r4 h r5 part at_h) closed few))))))
 
+-- a name and an argument in brackets
+called_takes : (v : Version) (d : ℕ) (c : Counts) (k : Keyword) (tokens : List Tok) (e : Expression) (rest : List Tok) → TakesExpressions v d → k ≡ words.Call
+    → parse_called (parse_expression d v) c (keyword k ∷ tokens) tokens ≡ got e rest → TookExpression v (suc d) c (keyword k ∷ tokens) e rest
+unfolding parse_called
+called_takes v d c k tokens e rest part word is =
+    let start : List Tok = keyword k ∷ tokens in
+    let argument : Name → List Tok → Read Expression = λ g r. parse_expression d v c r and_then λ f r. parse_symbol symbols.Close r and_then λ _ r. expression_read c (called g f) start r in
+    bind_got (λ g r. parse_symbol symbols.Open r and_then λ _ r. argument g r) (parse_name tokens) e rest is (λ g r0 at_g is_g.
+    bind_got (λ _ r. argument g r) (parse_symbol symbols.Open r0) e rest is_g (λ u r1 opened is_u.
+    bind_got (λ f r. parse_symbol symbols.Close r and_then λ _ r. expression_read c (called g f) start r) (parse_expression d v c r1) e rest is_u (λ f r2 at_f is_f.
+    bind_got (λ _ r. expression_read c (called g f) start r) (parse_symbol symbols.Close r2) e rest is_f (λ w r3 closed is_w.
+    within_takes (c.expressions + size (called g f)) (called g f) e start r3 rest is_w (λ few same.
+    let one : TookExpression v d c r1 f r2 = part c r1 f r2 at_f in
+    took_expression_as v (suc d) c start (called g f) e r3 rest same (record {
+      spelled = rw (
+        word,
+        name_takes tokens g r0 at_g,
+        symbol_takes symbols.Open r0 u r1 opened,
+        one.spelled,
+        symbol_takes symbols.Close r2 w r3 closed,
+        append_assoc (spell_expression v f) (symbol symbols.Close ∷ []) r3,
+      ) refl;
+      shallow = omega (arith, one.shallow);
+      few = few;
+      known = one.known;
+    }))))))
+
 -- a form that is a token alone
 alone_takes : (v : Version) (d : ℕ) (c : Counts) (t : Tok) (f : Expression) (tokens : List Tok) (e : Expression) (rest : List Tok) → t ∷ [] ≡ spell_expression v f → expression_depth f ≡ 1 → size f ≡ 1 → WritesExpression v (suc d) f
     → expression_read c f (t ∷ tokens) tokens ≡ got e rest → TookExpression v (suc d) c (t ∷ tokens) e rest
@@ -447,6 +474,8 @@ worded_expression_takes v d c (Some expression_heads.Let) k tokens e rest part f
     let_takes v d c k tokens e rest part (expression_head_takes k expression_heads.Let found) is
 worded_expression_takes v d c (Some (expression_heads.OneAndFunction m)) k tokens e rest part found is = one_and_function_takes v d c m k tokens e rest part (expression_head_takes k (expression_heads.OneAndFunction m) found) is
 worded_expression_takes v d c (Some (expression_heads.TwoAndFunction o)) k tokens e rest part found is = two_and_function_takes v d c o k tokens e rest part (expression_head_takes k (expression_heads.TwoAndFunction o) found) is
+worded_expression_takes v d c (Some expression_heads.Called) k tokens e rest part found is =
+    called_takes v d c k tokens e rest part (expression_head_takes k expression_heads.Called found) is
 worded_expression_takes v d c None k tokens e rest part found is = cc
 
 pub expression_takes : (v : Version) (d : ℕ) → TakesExpressions v d

@@ -18,7 +18,7 @@ use Rattle.sf_operator.specs.declared.operator.Merge.TheVariants as merges
 use Rattle.sf_operator.specs.declared.operator.Mapping.TheVariants as mappings
 use Rattle.sf_operator.specs.declared.operator.Folding.{Folding}
 use Rattle.sf_operator.specs.declared.operator.Folding.TheVariants as foldings
-use Rattle.sf_expr.specs.Expressions.{unit_literal, truth_literal, int_literal, text_literal, none_literal, Expression, variable, literal, paired, applied, operation, conditional, mapped, folded}
+use Rattle.sf_expr.specs.Expressions.{unit_literal, truth_literal, int_literal, text_literal, none_literal, Expression, variable, literal, paired, applied, operation, conditional, mapped, folded, called}
 use Rattle.sf_lex.specs.declared.word.Keyword.{Keyword}
 use Rattle.sf_lex.specs.declared.word.Keyword.TheVariants as words
 use Rattle.sf_lex.specs.declared.symbol.Symbol.{Symbol}
@@ -149,6 +149,7 @@ BeginsWith expression_heads.Conditional k = k ≡ words.If
 BeginsWith expression_heads.Let k = k ≡ words.Let
 BeginsWith (expression_heads.OneAndFunction m) k = (k ≡ mapping_word m) × (maps_in_brackets m ≡ true)
 BeginsWith (expression_heads.TwoAndFunction o) k = k ≡ folding_word o
+BeginsWith expression_heads.Called k = k ≡ words.Call
 
 begins_as : (k : Keyword) (g h : ExpressionHead) → Some g ≡ Some h → BeginsWith g k → BeginsWith h k
 begins_as k g h same begins = let p : g ≡ h = cc in subst (λ (h : ExpressionHead). BeginsWith h k) p begins
@@ -178,6 +179,7 @@ expression_head_takes words.MapE h e = begins_as words.MapE (expression_heads.On
 expression_head_takes words.Match h e = begins_as words.Match (expression_heads.TwoAndFunction foldings.Match) h e refl
 expression_head_takes words.MergeBy h e = begins_as words.MergeBy (expression_heads.TwoAndFunction foldings.Merge) h e refl
 expression_head_takes words.Fold h e = begins_as words.Fold (expression_heads.TwoAndFunction foldings.Fold) h e refl
+expression_head_takes words.Call h e = begins_as words.Call expression_heads.Called h e refl
 expression_head_takes _ h e = cc
 
 -- what the word of an operator on one value begins, by how its operand stands
@@ -281,3 +283,4 @@ no_close v (operation e o f) rest = operands_open (stands_between o) o (spell_ex
 no_close v (conditional e f g) rest = refl
 no_close v (mapped e m p f) rest = refl
 no_close v (folded e o f p g) rest = refl
+no_close v (called g e) rest = refl

@@ -78,6 +78,8 @@ pub data ExpressionPlaced (v : Version) (p : Program) : ExprId → List Spot →
       → ExpressionPlaced v p a xs → PatternStands p q ps → ExpressionPlaced v p b ys → ExpressionPlaced v p id (at ∷ around opening xs comma (ps ++ (leads ∷ ys)) closing)
   two_and_function_placed : {id a b c : ExprId} {o : Folding} {q : PatternId} {xs ys ps zs : List Spot} {at : Spot} (opening comma second leads closing : Spot) → ExpressionStands p id (expressions.Folded a o b q c) at
       → ExpressionPlaced v p a xs → ExpressionPlaced v p b ys → PatternStands p q ps → ExpressionPlaced v p c zs → ExpressionPlaced v p id (at ∷ around opening xs comma (ys ++ (second ∷ (ps ++ (leads ∷ zs)))) closing)
+  called_placed : {id a : ExprId} {g : NameId} {xs : List Spot} {at place : Spot} (opening closing : Spot) → ExpressionStands p id (expressions.Called g place a) at
+      → ExpressionPlaced v p a xs → ExpressionPlaced v p id (at ∷ place ∷ opening ∷ (xs ++ (closing ∷ [])))
 
 -- the function at an id, whose tokens have these places
 pub data FunctionPlaced (v : Version) (p : Program) : FunctionId → List Spot → Type 0 where

@@ -16,7 +16,7 @@ use Rattle.sf_operator.specs.declared.operator.Mapping.{Mapping}
 use Rattle.sf_operator.specs.declared.operator.Mapping.TheVariants as mappings
 use Rattle.sf_operator.specs.declared.operator.Folding.{Folding}
 use Rattle.sf_operator.specs.declared.operator.Folding.TheVariants as foldings
-use Rattle.sf_expr.specs.Expressions.{Pattern, unnamed, named, both, unit_literal, truth_literal, int_literal, text_literal, none_literal, Expression, variable, literal, paired, applied, operation, conditional, mapped, folded, size, Function, function}
+use Rattle.sf_expr.specs.Expressions.{Pattern, unnamed, named, both, unit_literal, truth_literal, int_literal, text_literal, none_literal, Expression, variable, literal, paired, applied, operation, conditional, mapped, folded, called, size, Function, function}
 use Rattle.sf_term.specs.declared.form.Bare.TheVariants as bares
 use Rattle.sf_term.specs.declared.form.WithValue.{WithValue}
 use Rattle.sf_term.specs.declared.form.WithValue.TheVariants as values
@@ -284,6 +284,7 @@ expression_head words.MapE = Some (expression_heads.OneAndFunction mappings.Map)
 expression_head words.Match = Some (expression_heads.TwoAndFunction foldings.Match)
 expression_head words.MergeBy = Some (expression_heads.TwoAndFunction foldings.Merge)
 expression_head words.Fold = Some (expression_heads.TwoAndFunction foldings.Fold)
+expression_head words.Call = Some expression_heads.Called
 expression_head _ = None
 
 -- behind the word of an operator, with which `start` begins: the operand, where it is read so
@@ -354,6 +355,15 @@ parse_two_and_function left part c o start tokens =
     parse_symbol symbols.Comma rest and_then λ _ rest.
     parse_parts (part (counts_with_expression c e)) (parse_symbol symbols.Comma) (λ f. parse_mapping left part (counts_with_expression (counts_with_expression c e) f)) (λ f _ g rest. expression_read c (folded_by e o f g) start rest) rest
 
+-- behind `call`, with which `start` begins: a name and the argument in brackets
+unfoldable pub parse_called : (Counts → List Tok → Read Expression) → Counts → List Tok → List Tok → Read Expression
+parse_called part c start tokens =
+    parse_name tokens and_then λ g rest.
+    parse_symbol symbols.Open rest and_then λ _ rest.
+    part c rest and_then λ e rest.
+    parse_symbol symbols.Close rest and_then λ _ rest.
+    expression_read c (called g e) start rest
+
 -- behind the word of an expression, with which `start` begins
 abbrev pub parse_worded_expression : ℕ → Version → (Counts → List Tok → Read Expression) → Counts → Option ExpressionHead → List Tok → List Tok → Read Expression
 parse_worded_expression left v part c (Some (expression_heads.Truth b)) start tokens = expression_read c (literal (truth_literal b)) start tokens
@@ -365,6 +375,7 @@ parse_worded_expression left v part c (Some expression_heads.Conditional) start 
 parse_worded_expression left v part c (Some expression_heads.Let) start tokens = parse_let left part c start tokens
 parse_worded_expression left v part c (Some (expression_heads.OneAndFunction m)) start tokens = parse_one_and_function left part c m start tokens
 parse_worded_expression left v part c (Some (expression_heads.TwoAndFunction o)) start tokens = parse_two_and_function left part c o start tokens
+parse_worded_expression left v part c (Some expression_heads.Called) start tokens = parse_called part c start tokens
 parse_worded_expression left v part c None start tokens = stop Unexpected start
 
 -- an expression by its first token

@@ -1,7 +1,7 @@
 -- Networks, and the tokens that spell them.
 use Rattle.std.specs.Prelude.{◌≡◌, ℕ, suc, max, Bool, true, false, ◌≤◌, pos, List, [], ◌∷◌, ◌++◌, map, ⊤}
 use Rattle.std.specs.List.{All, flat_map, sum_by}
-use Rattle.sf_value.specs.Values.{KeyKind, int_keys, text_keys, Kind, unit_kind, bool_kind, int_kind, text_kind, pair_kind, event_kind, table_kind, nodes}
+use Rattle.sf_value.specs.Values.{Name, KeyKind, int_keys, text_keys, Kind, unit_kind, bool_kind, int_kind, text_kind, pair_kind, event_kind, table_kind, nodes}
 use Rattle.sf_operator.specs.declared.operator.Unary.{Unary}
 use Rattle.sf_operator.specs.declared.operator.Unary.TheVariants as unaries
 use Rattle.sf_operator.specs.declared.operator.Operator.{Operator}
@@ -15,7 +15,7 @@ use Rattle.sf_operator.specs.declared.operator.Mapping.{Mapping}
 use Rattle.sf_operator.specs.declared.operator.Mapping.TheVariants as mappings
 use Rattle.sf_operator.specs.declared.operator.Folding.{Folding}
 use Rattle.sf_operator.specs.declared.operator.Folding.TheVariants as foldings
-use Rattle.sf_expr.specs.Expressions.{Pattern, unnamed, named, both, Literal, unit_literal, truth_literal, int_literal, text_literal, none_literal, Expression, variable, literal, paired, applied, operation, conditional, mapped, folded, Function, function}
+use Rattle.sf_expr.specs.Expressions.{Pattern, unnamed, named, both, Literal, unit_literal, truth_literal, int_literal, text_literal, none_literal, Expression, variable, literal, paired, applied, operation, conditional, mapped, folded, called, Function, function}
 use Rattle.sf_term.specs.declared.form.Bare.{Bare}
 use Rattle.sf_term.specs.declared.form.Bare.TheVariants as bares
 use Rattle.sf_term.specs.declared.form.WithValue.{WithValue}
@@ -168,6 +168,10 @@ spell_mapped m value pattern body = keyword (mapping_word m) ∷ spell_mapped_so
 abbrev pub spell_folded : Folding → List Tok → List Tok → List Tok → List Tok → List Tok
 spell_folded o first second pattern body = keyword (folding_word o) ∷ in_brackets first (symbol symbols.Comma) (second ++ (symbol symbols.Comma ∷ spell_mapping pattern body))
 
+-- a call of a stored function by its name, and its argument
+abbrev pub spell_called : Name → List Tok → List Tok
+spell_called g argument = keyword words.Call ∷ name g ∷ spell_operand true argument
+
 -- only version 2 writes the type of the keys of a table
 abbrev pub spell_keys : Version → KeyKind → List Tok
 spell_keys versions.One k = []
@@ -206,6 +210,7 @@ spell_expression v (operation e o f) = spell_operands (stands_between o) (operat
 spell_expression v (conditional e f g) = spell_choice (spell_expression v e) (spell_expression v f) (spell_expression v g)
 spell_expression v (mapped e m p f) = spell_mapped m (spell_expression v e) (spell_pattern p) (spell_expression v f)
 spell_expression v (folded e o f p g) = spell_folded o (spell_expression v e) (spell_expression v f) (spell_pattern p) (spell_expression v g)
+spell_expression v (called g e) = spell_called g (spell_expression v e)
 
 abbrev pub spell_function : Version → Function → List Tok
 spell_function v (function p e) = spell_mapping (spell_pattern p) (spell_expression v e)
@@ -285,6 +290,7 @@ WritesExpression v (suc d) (operation e o f) = WritesExpression v d e × WritesE
 WritesExpression v (suc d) (conditional e f g) = WritesExpression v d e × WritesExpression v d f × WritesExpression v d g
 WritesExpression v (suc d) (mapped e m p f) = WritesExpression v d e × WritesExpression v d f
 WritesExpression v (suc d) (folded e o f p g) = WritesExpression v d e × WritesExpression v d f × WritesExpression v d g
+WritesExpression v (suc d) (called g e) = WritesExpression v d e
 WritesExpression v d e = ⊤
 
 abbrev pub WritesFunction : Version → ℕ → Function → Type 0

@@ -43,6 +43,8 @@ pub enum ExpressionHead {
     OneAndFunction(Mapping),
     /// A word, and two expressions and a function in brackets behind it.
     TwoAndFunction(Folding),
+    /// A word, and behind it a name and an expression in brackets.
+    Called,
 }
 
 /// What makes one expression of two in brackets.
@@ -111,6 +113,7 @@ pub fn expression_head(word: Keyword) -> Option<ExpressionHead>
         Keyword::Match => Some(ExpressionHead::TwoAndFunction(Folding::Match)),
         Keyword::MergeBy => Some(ExpressionHead::TwoAndFunction(Folding::Merge)),
         Keyword::Fold => Some(ExpressionHead::TwoAndFunction(Folding::Fold)),
+        Keyword::Call => Some(ExpressionHead::Called),
         _ => None,
     }
 }

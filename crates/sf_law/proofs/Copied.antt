@@ -2,6 +2,7 @@
 use Rattle.std.proofs.Common.{◌≡◌, ℕ, ◌+◌, ◌<◌, ◌≤◌, List, [], ◌∷◌, map, IsTrue, refl, sym, ◌∙◌, ap, arith, ⊎_elim}
 use mathlib.Core.Path.{ap₂}
 use Rattle.std.proofs.lemmas.Bool.{cases_lt}
+use Rattle.sf_func.specs.Registries.{AnswersByName}
 use Rattle.sf_expr.specs.declared.exprs.ExprId.{ExprId}
 use Rattle.sf_expr.specs.declared.exprs.FunctionId.{FunctionId}
 use Rattle.sf_expr.specs.Expressions.{function}
@@ -12,7 +13,7 @@ use Rattle.sf_term.specs.declared.node.Node.{Node}
 use Rattle.sf_term.specs.declared.node.Node.TheVariants as ast
 use Rattle.sf_term.specs.declared.node.Primitive.TheVariants as primitives
 use Rattle.sf_term.specs.declared.program.Program.{Program}
-use Rattle.sf_term.specs.Trees.{Term, Template, primitive, joined, sided, headed, with_value, arrow}
+use Rattle.sf_term.specs.Trees.{Term, Template, Templates, primitive, joined, sided, headed, with_value, arrow}
 use Rattle.sf_term.specs.Headers.{Header as TermHeader}
 use Rattle.sf_term.specs.Arena.{term_count, tree as term, expression_under, function_in, expressions_of as program_expressions, term_of, TermPartsBelow, headers_of as program_headers, template_in as term_template}
 use Rattle.sf_mean.specs.Networks.{network_of}
@@ -87,5 +88,5 @@ same_templates p q (h ∷ hs) shows =
     ap₂ (λ (b : Term) (us : List Template). record { name = h.name; input = h.input; output = h.output; body = b } ∷ us) (shows h.body) (same_templates p q hs shows)
 
 -- a plan that shows the terms and has the templates has the network
-pub same_network : (p : Program) (q : Plan) → ShowsTerms p q → plan_headers q ≡ map plan_header (program_headers p) → network_of_plan q ≡ network_of p
-same_network p q shows headers = ap (λ ts. record { templates = ts }) (ap (λ hs. map (plan_template q) hs) headers ∙ same_templates p q (program_headers p) shows)
+pub same_network : (f : AnswersByName) (p : Program) (q : Plan) → ShowsTerms p q → plan_headers q ≡ map plan_header (program_headers p) → network_of_plan f q ≡ network_of f p
+same_network f p q shows headers = ap (λ (ts : Templates). record { templates = ts; functions = f }) (ap (λ hs. map (plan_template q) hs) headers ∙ same_templates p q (program_headers p) shows)

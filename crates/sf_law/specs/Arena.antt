@@ -1,6 +1,7 @@
 -- Plans, seen by their trees.
 use Rattle.std.specs.Prelude.{◌≡◌, ℕ, ◌+◌, ◌<◌, ◌≤◌, List, length, map, nat_le, IsTrue, Vec}
 use Rattle.std.specs.declared.alloc.Global.{Global}
+use Rattle.sf_func.specs.Registries.{AnswersByName}
 use Rattle.sf_expr.specs.declared.exprs.ExprId.{ExprId}
 use Rattle.sf_expr.specs.declared.exprs.FunctionId.{FunctionId}
 use Rattle.sf_expr.specs.declared.exprs.Exprs.{Exprs}
@@ -65,9 +66,9 @@ plan_template p h = record { name = h.name; input = h.input; output = h.output; 
 abbrev pub plan_templates : Plan → Templates
 plan_templates p = map (plan_template p) (plan_headers p)
 
--- the network of a plan
-abbrev pub network_of_plan : Plan → Network
-network_of_plan p = record { templates = plan_templates p }
+-- the network of a plan, where stored functions answer this
+abbrev pub network_of_plan : AnswersByName → Plan → Network
+network_of_plan f p = record { templates = plan_templates p; functions = f }
 
 -- the term that is run
 abbrev pub plan_main : Plan → PlanId

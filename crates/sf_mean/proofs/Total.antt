@@ -132,15 +132,15 @@ module _ (n : Network) where
   made_of (answer m) d = m
   made_of (failed x) d = d
 
-  loop_at : {i : Expression} {t : Term} {e : Environment} {v : Data} {s : Step} {L : Life} {q : Outcome} {c : Cost} → eval i (scope_around e) ≡ answer v → Sample n (closure (headed LoopPre i t) e) s L q c → IsGave q → Looped v (closure t e) (s ∷ L)
+  loop_at : {i : Expression} {t : Term} {e : Environment} {v : Data} {s : Step} {L : Life} {q : Outcome} {c : Cost} → eval i (scope_around n.functions e) ≡ answer v → Sample n (closure (headed LoopPre i t) e) s L q c → IsGave q → Looped v (closure t e) (s ∷ L)
   loop_at k (of_constants h) z = absurd z
   loop_at {v = v} k (of_form {m = m} h F) z = from_loop (ap (λ q. made_of q m) (sym h ∙ ap opened k)) F z
 
-  loop_lived : {i : Expression} {t : Term} {e : Environment} {v : Data} {L : Life} {ws : List Data} → eval i (scope_around e) ≡ answer v → Outputs n (closure (headed LoopPre i t) e) L ws → Looped v (closure t e) L
+  loop_lived : {i : Expression} {t : Term} {e : Environment} {v : Data} {L : Life} {ws : List Data} → eval i (scope_around n.functions e) ≡ answer v → Outputs n (closure (headed LoopPre i t) e) L ws → Looped v (closure t e) L
   loop_lived k not_begun = looped no_loop (lived not_begun)
   loop_lived k (and_gave A B) = loop_at k B tt
 
-  no_fault : {i : Expression} {t : Term} {e : Environment} {x : ValueFault} {s : Step} {L : Life} {q : Outcome} {c : Cost} → eval i (scope_around e) ≡ failed x → Sample n (closure (headed LoopPre i t) e) s L q c → IsGave q → ⊥
+  no_fault : {i : Expression} {t : Term} {e : Environment} {x : ValueFault} {s : Step} {L : Life} {q : Outcome} {c : Cost} → eval i (scope_around n.functions e) ≡ failed x → Sample n (closure (headed LoopPre i t) e) s L q c → IsGave q → ⊥
   no_fault k (of_constants h) z = z
   no_fault k (of_form h F) z = absurd (let e = sym (ap opened k) ∙ h in cc)
 
@@ -160,11 +160,11 @@ module _ (n : Network) where
   with_part A (has S) = has (of_form refl (of_side (gives A S)))
 
   with_loop : {i : Expression} {t : Term} {e : Environment} {v : Data} {s : Step} {L : Life} {zs us : List Data}
-      → eval i (scope_around e) ≡ answer v → Loops n v (closure t e) L zs → Outputs n (closure t e) (fed v L (older zs)) us
+      → eval i (scope_around n.functions e) ≡ answer v → Loops n v (closure t e) L zs → Outputs n (closure t e) (fed v L (older zs)) us
       → Has (closure t e) (step (wait_of s) (pair (input_of s) (fed_back v zs))) (fed v L (older zs)) → Has (closure (headed LoopPre i t) e) s L
   with_loop k A B (has S) = has (of_form (ap opened k) (of_loop A (gives B S)))
 
-  constants_fail : {i : Expression} {t : Term} {e : Environment} {x : ValueFault} (s : Step) {L : Life} {ws : List Data} → eval i (scope_around e) ≡ failed x → Outputs n (closure (headed LoopPre i t) e) L ws → Has (closure (headed LoopPre i t) e) s L
+  constants_fail : {i : Expression} {t : Term} {e : Environment} {x : ValueFault} (s : Step) {L : Life} {ws : List Data} → eval i (scope_around n.functions e) ≡ failed x → Outputs n (closure (headed LoopPre i t) e) L ws → Has (closure (headed LoopPre i t) e) s L
   constants_fail s k not_begun = has (of_constants (ap opened k))
   constants_fail s k (and_gave A B) = absurd (no_fault k B tt)
 
@@ -175,7 +175,7 @@ module _ (n : Network) where
   total (sided d t) e s L O =
       elim (side_lived O) [ lived A ↦ with_part A (total t e _ _ A) ]
   total (headed LoopPre i t) e s L O =
-      elim (known (eval i (scope_around e))) [
+      elim (known (eval i (scope_around n.functions e))) [
         | refused x k ↦ constants_fail s k O
         | answered v k ↦ elim (loop_lived k O) [ looped A R ↦ elim R [ lived B ↦ with_loop k A B (total t e _ _ B) ] ]
       ]

@@ -1,6 +1,7 @@
 -- A typed process gives values of its output type.
 use Rattle.std.proofs.Common.{◌≡◌, List, [], ◌∷◌, ap, subst}
 use Rattle.sf_value.specs.Values.{Kind, pair_kind, Data, pair, HasKind, has_pair, first_of, second_of}
+use Rattle.sf_func.specs.Registries.{TypesByName, AnswersByName, KeepTheirTypes}
 use Rattle.sf_expr.specs.Expressions.{Expression, Function}
 use Rattle.sf_expr.specs.Evaluation.{Evaluated, answer, failed, ◌>>=◌, Scope, eval, apply}
 use Rattle.sf_expr.specs.Typing.{Names, HasType, FunctionTakes}
@@ -46,9 +47,9 @@ made_has : {t : Kind} {q : Evaluated Data} {v : Data} → Yields t q → (q >>= 
 made_has {t = t} {v = v} (yields {d = d} h) e = subst (λ w. HasKind w t) (ap (made_in d) e) h
 made_has fails e = absurd cc
 
--- the values of an environment have the types of their names
-pub environment_scope : {e : Environment} {bs : Bindings} → EnvironmentHas e bs → ScopeHas (scope_around e) (values_in bs)
-environment_scope has_nothing = has_no_names
+-- the values of an environment have the types of their names, and functions keep theirs
+pub environment_scope : (φ : AnswersByName) (fs : TypesByName) {e : Environment} {bs : Bindings} → KeepTheirTypes fs φ → EnvironmentHas e bs → ScopeHas (scope_around φ e) (values_in fs bs)
+environment_scope φ fs K has_nothing = has_no_names K
 
 module _ (n : Network) (eval_is : EvalsTyped) (apply_is : AppliesTyped) where
   module _ {Γ : Context} (scope : Scope) (in_scope : ScopeHas scope (names_of_values Γ)) where
@@ -79,40 +80,40 @@ module _ (n : Network) (eval_is : EvalsTyped) (apply_is : AppliesTyped) where
 
     sample_has : {P : Process} {s : Step} {L : Life} {o : Outcome} {c : Cost} {a b : Kind} → Sample n P s L o c → ProcessTakes n P a b → LifeHas (s ∷ L) a → OutcomeHas o b
     sample_has (of_constants h) p l = tt
-    sample_has (of_form h F) (closure_takes E (takes x y T)) l = form_has F h E T l
+    sample_has (of_form h F) (closure_takes K E (takes x y T)) l = form_has F h K E T l
 
-    form_has : {t : Term} {e : Environment} {bs : Bindings} {m : Made} {s : Step} {L : Life} {o : Outcome} {c : Cost} {a b : Kind} → Form n t e m s L o c → make n t e (input_at_first s L) ≡ answer m → EnvironmentHas e bs → FormTakes (context_with bs n.templates) t a b → LifeHas (s ∷ L) a → OutcomeHas o b
-    form_has (of_primitive {s = s} h) q E (primitive_takes T) (more_steps i l) = outcome_is [] (formula_is _ (environment_scope E) s T i l) h
-    form_has (of_join {o = o} {o' = o'} A B C) q E (sequence_takes {b = b} {c = d} F H) (more_steps {s = s} i l) =
-        let h : OutcomeHas o b = gives_has B (closure_takes E F) (more_steps {s = s} i l) in
-        let j : OutcomeHas o' d = next_has C E H (relay_if o h (more_steps {s = s} i l) (outputs_have A (closure_takes E F) l)) in
+    form_has : {t : Term} {e : Environment} {fs : TypesByName} {bs : Bindings} {m : Made} {s : Step} {L : Life} {o : Outcome} {c : Cost} {a b : Kind} → Form n t e m s L o c → make n t e (input_at_first s L) ≡ answer m → KeepTheirTypes fs n.functions → EnvironmentHas e bs → FormTakes (context_with fs bs n.templates) t a b → LifeHas (s ∷ L) a → OutcomeHas o b
+    form_has {fs = fs} (of_primitive {s = s} h) q K E (primitive_takes T) (more_steps i l) = outcome_is [] (formula_is _ (environment_scope n.functions fs K E) s T i l) h
+    form_has (of_join {o = o} {o' = o'} A B C) q K E (sequence_takes {b = b} {c = d} F H) (more_steps {s = s} i l) =
+        let h : OutcomeHas o b = gives_has B (closure_takes K E F) (more_steps {s = s} i l) in
+        let j : OutcomeHas o' d = next_has C K E H (relay_if o h (more_steps {s = s} i l) (outputs_have A (closure_takes K E F) l)) in
         combined_has o o' (λ v w x y. y) h j
-    form_has (of_join {o = o} {o' = o'} A B C) q E (parallel_takes {b = b} {d = d} F H) l =
-        let h : OutcomeHas o b = gives_has B (closure_takes E F) (with_inputs_has first_of (λ v. first_is) l) in
-        let j : OutcomeHas o' d = next_has C E H (life_if o (with_inputs_has second_of (λ v. second_is) l)) in
+    form_has (of_join {o = o} {o' = o'} A B C) q K E (parallel_takes {b = b} {d = d} F H) l =
+        let h : OutcomeHas o b = gives_has B (closure_takes K E F) (with_inputs_has first_of (λ v. first_is) l) in
+        let j : OutcomeHas o' d = next_has C K E H (life_if o (with_inputs_has second_of (λ v. second_is) l)) in
         combined_has o o' (λ v w x y. has_pair x y) h j
-    form_has (of_join {o = o} {o' = o'} A B C) q E (fan_takes {b = b} {c = d} F H) l =
-        let h : OutcomeHas o b = gives_has B (closure_takes E F) l in
-        let j : OutcomeHas o' d = next_has C E H (life_if o l) in
+    form_has (of_join {o = o} {o' = o'} A B C) q K E (fan_takes {b = b} {c = d} F H) l =
+        let h : OutcomeHas o b = gives_has B (closure_takes K E F) l in
+        let j : OutcomeHas o' d = next_has C K E H (life_if o l) in
         combined_has o o' (λ v w x y. has_pair x y) h j
-    form_has (of_side {s = s} {o = o} A) q E (first_takes {b = b} T) (more_steps i l) =
-        let h : OutcomeHas o b = gives_has A (closure_takes E T) (with_inputs_has first_of (λ v. first_is) (more_steps {s = s} i l)) in
+    form_has (of_side {s = s} {o = o} A) q K E (first_takes {b = b} T) (more_steps i l) =
+        let h : OutcomeHas o b = gives_has A (closure_takes K E T) (with_inputs_has first_of (λ v. first_is) (more_steps {s = s} i l)) in
         changed_has o (λ v j. has_pair j (second_is i)) h
-    form_has (of_side {s = s} {o = o} A) q E (second_takes {b = b} T) (more_steps i l) =
-        let h : OutcomeHas o b = gives_has A (closure_takes E T) (with_inputs_has second_of (λ v. second_is) (more_steps {s = s} i l)) in
+    form_has (of_side {s = s} {o = o} A) q K E (second_takes {b = b} T) (more_steps i l) =
+        let h : OutcomeHas o b = gives_has A (closure_takes K E T) (with_inputs_has second_of (λ v. second_is) (more_steps {s = s} i l)) in
         changed_has o (λ v j. has_pair (first_is i) j) h
-    form_has (of_loop {o = o} A B) q E (loop_takes {b = b} {c = d} I T) (more_steps {s = s} i l) =
-        let v = made_has (eval_is _ _ _ _ I (environment_scope E)) q in
-        let h : OutcomeHas o (pair_kind b d) = gives_has B (closure_takes E T) (fed_has b v (more_steps {s = s} i l) (loops_have A (closure_takes E T) v l)) in
+    form_has {fs = fs} (of_loop {o = o} A B) q K E (loop_takes {b = b} {c = d} I T) (more_steps {s = s} i l) =
+        let v = made_has (eval_is _ _ _ _ I (environment_scope n.functions fs K E)) q in
+        let h : OutcomeHas o (pair_kind b d) = gives_has B (closure_takes K E T) (fed_has b v (more_steps {s = s} i l) (loops_have A (closure_takes K E T) v l)) in
         changed_has o (λ v. first_is) h
-    form_has (of_stages {o = o} {o' = o'} A B C) q E (stages_take {b = b} {c = d} F H) (more_steps {s = s} i l) =
-        let h : OutcomeHas o b = gives_has B (closure_takes E F) (more_steps {s = s} i l) in
-        let j : OutcomeHas o' d = next_has C E H (relay_if o h (more_steps {s = s} i l) (outputs_have A (closure_takes E F) l)) in
+    form_has (of_stages {o = o} {o' = o'} A B C) q K E (stages_take {b = b} {c = d} F H) (more_steps {s = s} i l) =
+        let h : OutcomeHas o b = gives_has B (closure_takes K E F) (more_steps {s = s} i l) in
+        let j : OutcomeHas o' d = next_has C K E H (relay_if o h (more_steps {s = s} i l) (outputs_have A (closure_takes K E F) l)) in
         combined_has o o' (λ v w x y. y) h j
 
-    next_has : {q : Outcome} {t : Term} {e : Environment} {bs : Bindings} {L : Life} {o : Outcome} {c : Cost} {a b : Kind} → Next n q t e L o c → EnvironmentHas e bs → Takes (context_with bs n.templates) t a b → LifeIf q L a → OutcomeHas o b
-    next_has (goes_on A) E T l = gives_has A (closure_takes E T) l
-    next_has stops E T l = tt
+    next_has : {q : Outcome} {t : Term} {e : Environment} {fs : TypesByName} {bs : Bindings} {L : Life} {o : Outcome} {c : Cost} {a b : Kind} → Next n q t e L o c → KeepTheirTypes fs n.functions → EnvironmentHas e bs → Takes (context_with fs bs n.templates) t a b → LifeIf q L a → OutcomeHas o b
+    next_has (goes_on A) K E T l = gives_has A (closure_takes K E T) l
+    next_has stops K E T l = tt
 
     pub loops_have : {v : Data} {P : Process} {L : Life} {zs : List Data} {a b c : Kind} → Loops n v P L zs → ProcessTakes n P (pair_kind a c) (pair_kind b c) → HasKind v c → LifeHas L a → Have zs (pair_kind b c)
     loops_have no_loop p h l = have_nothing

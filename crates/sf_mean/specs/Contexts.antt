@@ -1,7 +1,8 @@
 -- What terms are typed under.
 use Rattle.std.specs.Prelude.{List, [], ◌∷◌, map}
 use Rattle.sf_value.specs.Values.{Name, Kind}
-use Rattle.sf_expr.specs.Typing.{Names}
+use Rattle.sf_func.specs.Registries.{TypesByName}
+use Rattle.sf_expr.specs.Typing.{Names, only_functions, typed_name}
 use Rattle.sf_term.specs.Trees.{Template, Templates}
 
 -- What a name stands for: a value of a type. Processes from a type to a type and keyed collections of a type will be
@@ -23,28 +24,30 @@ pub record Signature : Type 0 where
 abbrev pub signature_of : Template → Signature
 signature_of t = record { name = t.name; input = t.input; output = t.output }
 
--- What a term is typed under: the names that are bound around it, and the signatures of the templates.
+-- What a term is typed under: the names that are bound around it, the signatures of the templates, and the types of the
+-- stored functions.
 pub record Context : Type 0 where
   pub bindings : Bindings
   pub signatures : List Signature
+  pub functions : TypesByName
 
--- the names that are bound, over the signatures of templates
-abbrev pub context_with : Bindings → Templates → Context
-context_with bs ts = record { bindings = bs; signatures = map signature_of ts }
+-- the names that are bound, over the signatures of templates and functions of these types
+abbrev pub context_with : TypesByName → Bindings → Templates → Context
+context_with fs bs ts = record { bindings = bs; signatures = map signature_of ts; functions = fs }
 
 -- what the body of a template is typed under: no names
-abbrev pub context_of : Templates → Context
-context_of ts = context_with [] ts
+abbrev pub context_of : TypesByName → Templates → Context
+context_of fs ts = context_with fs [] ts
 
 -- names with one more, if it stands for a value
 abbrev pub with_value_of : Name → NameKind → Names → Names
-with_value_of x (value t) R = (x, t) ∷ R
+with_value_of x (value t) R = typed_name x t R
 
--- the names that stand for values, with their types
-abbrev pub values_in : Bindings → Names
-values_in [] = []
-values_in (b ∷ bs) = with_value_of b.0 b.1 (values_in bs)
+-- the names that stand for values, with their types, and functions of these types
+abbrev pub values_in : TypesByName → Bindings → Names
+values_in fs [] = only_functions fs
+values_in fs (b ∷ bs) = with_value_of b.0 b.1 (values_in fs bs)
 
 -- what expressions are typed under
 abbrev pub names_of_values : Context → Names
-names_of_values Γ = values_in Γ.bindings
+names_of_values Γ = values_in Γ.functions Γ.bindings

@@ -1,6 +1,7 @@
 -- Lives and processes.
 use Rattle.std.specs.Prelude.{ℕ, ◌+◌, ◌≤◌, List, [], ◌∷◌, ⊤}
 use Rattle.sf_value.specs.Values.{Data, pair, second_of}
+use Rattle.sf_func.specs.Registries.{AnswersByName}
 use Rattle.sf_term.specs.Trees.{Term}
 use Rattle.sf_expr.specs.Evaluation.{Scope, no_names}
 
@@ -45,9 +46,9 @@ pub data Environment : Type 0 where
 pub data Process : Type 0 where
   closure : Term → Environment → Process
 
--- the scope of expressions
-abbrev pub scope_around : Environment → Scope
-scope_around empty = no_names
+-- the scope of expressions, where functions answer this
+abbrev pub scope_around : AnswersByName → Environment → Scope
+scope_around f empty = no_names f
 
 -- the same times, with another input made of each
 abbrev pub with_inputs : (Data → Data) → Life → Life

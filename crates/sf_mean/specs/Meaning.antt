@@ -2,6 +2,7 @@
 use Rattle.std.specs.Prelude.{◌≡◌, ℕ, suc, ◌+◌, max, List, [], ◌∷◌, ◌++◌, pos}
 use Rattle.sf_value.specs.Values.{Name, Data, number, pair, first_of, second_of}
 use Rattle.sf_value.specs.declared.fault.ValueFault.{ValueFault}
+use Rattle.sf_func.specs.Registries.{AnswersByName}
 use Rattle.sf_expr.specs.Expressions.{Expression}
 use Rattle.sf_expr.specs.Evaluation.{Evaluated, answer, failed, ◌>>=◌, eval}
 use Rattle.sf_term.specs.declared.form.Join.{Join}
@@ -12,9 +13,10 @@ use Rattle.sf_term.specs.Trees.{Primitive, Extent, whole, rest, Term, primitive,
 use Rattle.sf_mean.specs.Lives.{Step, input_of, Life, Process, closure, Environment, scope_around, with_inputs, relay, fed, first_input as input_at_first}
 use Rattle.sf_mean.specs.Formulas.{side_of, with_side, formula}
 
--- A network: its templates. What its stored functions answer will stand beside them.
+-- A network: its templates, and what its stored functions answer.
 pub record Network : Type 0 where
   pub templates : Templates
+  pub functions : AnswersByName
 
 -- ## Outcomes and costs
 
@@ -97,7 +99,7 @@ abbrev pub make : Network → Term → Environment → Data → Evaluated Made
 make n (primitive p) e x = answer nothing_made
 make n (joined j f g) e x = answer nothing_made
 make n (sided d t) e x = answer nothing_made
-make n (headed h i t) e x = eval i (scope_around e) >>= λ v. answer (value_made v)
+make n (headed h i t) e x = eval i (scope_around n.functions e) >>= λ v. answer (value_made v)
 make n (staged x f g) e y = answer nothing_made
 
 -- what the left part of a join lives
@@ -146,7 +148,7 @@ mutual
   pub data Form (n : Network) : Term → Environment → Made → Step → Life → Outcome → Cost → Type 0 where
     -- a primitive gives its formula
     of_primitive : {p : Primitive} {e : Environment} {m : Made} {s : Step} {L : Life} {o : Outcome}
-        → as_outcome (formula p (scope_around e) s L) [] ≡ o
+        → as_outcome (formula p (scope_around n.functions e) s L) [] ≡ o
         → Form n (primitive p) e m s L o one_term
     -- left before right, each on its own life
     of_join : {j : Join} {f g : Term} {e : Environment} {m : Made} {s : Step} {L : Life} {ys : List Data} {o o' : Outcome} {c c' : Cost}

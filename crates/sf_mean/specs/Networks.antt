@@ -1,14 +1,15 @@
 -- Networks by their templates.
 use Rattle.std.specs.Prelude.{cond, [], ◌∷◌, Option, Some, None, bytes_eq, codes}
 use Rattle.sf_value.specs.Values.{Name}
+use Rattle.sf_func.specs.Registries.{AnswersByName}
 use Rattle.sf_term.specs.declared.program.Program.{Program}
 use Rattle.sf_term.specs.Trees.{Template, Templates}
 use Rattle.sf_term.specs.Arena.{templates_of}
 use Rattle.sf_mean.specs.Meaning.{Network}
 
--- the network of a program
-abbrev pub network_of : Program → Network
-network_of p = record { templates = templates_of p }
+-- the network of a program, where stored functions answer this
+abbrev pub network_of : AnswersByName → Program → Network
+network_of f p = record { templates = templates_of p; functions = f }
 
 -- the first template of a name
 abbrev pub template_named : Name → Templates → Option Template

@@ -1,6 +1,7 @@
 -- Typed lives and processes.
 use Rattle.std.specs.Prelude.{List, [], ◌∷◌, ⊤}
 use Rattle.sf_value.specs.Values.{Kind, Data, HasKind}
+use Rattle.sf_func.specs.Registries.{TypesByName, KeepTheirTypes}
 use Rattle.sf_term.specs.Trees.{Term}
 use Rattle.sf_mean.specs.Lives.{Step, input_of, Life, Environment, empty, Process, closure}
 use Rattle.sf_mean.specs.Meaning.{Network, Outcome, gave, faulted}
@@ -21,11 +22,11 @@ pub data LifeHas : Life → Kind → Type 0 where
 pub data EnvironmentHas : Environment → Bindings → Type 0 where
   has_nothing : EnvironmentHas empty []
 
--- In a network, a process takes inputs of one type to outputs of another: its environment has names under which, and under
--- the headers of the network, its term takes them.
+-- In a network, a process takes inputs of one type to outputs of another: the network's functions keep types and its
+-- environment has names under which, and under the headers of the network, its term takes them.
 pub data ProcessTakes (n : Network) : Process → Kind → Kind → Type 0 where
-  closure_takes : {t : Term} {e : Environment} {bs : Bindings} {a b : Kind}
-      → EnvironmentHas e bs → Takes (context_with bs n.templates) t a b → ProcessTakes n (closure t e) a b
+  closure_takes : {t : Term} {e : Environment} {fs : TypesByName} {bs : Bindings} {a b : Kind}
+      → KeepTheirTypes fs n.functions → EnvironmentHas e bs → Takes (context_with fs bs n.templates) t a b → ProcessTakes n (closure t e) a b
 
 -- the value of an outcome has a type
 abbrev pub OutcomeHas : Outcome → Kind → Type 0

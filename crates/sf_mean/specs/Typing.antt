@@ -1,6 +1,7 @@
 -- The types of terms under a context, and the networks that are accepted.
 use Rattle.std.specs.Prelude.{◌≡◌, ◌≢◌, ℕ, ◌<◌, Some, slice_get}
 use Rattle.sf_value.specs.Values.{Kind, pair_kind}
+use Rattle.sf_func.specs.Registries.{TypesByName}
 use Rattle.sf_expr.specs.Expressions.{Expression, Function}
 use Rattle.sf_expr.specs.Typing.{Fits, HasType, FunctionTakes}
 use Rattle.sf_term.specs.declared.form.Bare.TheVariants.{Identity}
@@ -45,12 +46,14 @@ mutual
     loop_takes : {e : Expression} {t : Term} {a b c : Kind} → HasType (names_of_values Γ) e c → Takes Γ t (pair_kind a c) (pair_kind b c) → FormTakes Γ (headed LoopPre e t) a b
     stages_take : {x : Extent} {f g : Term} {a b c : Kind} → Takes Γ f a b → Takes Γ g b c → FormTakes Γ (staged x f g) a c
 
--- a template's term takes its header's input to its header's output, under the headers of all templates
-abbrev pub IsTyped : Templates → Template → Type 0
-IsTyped ts t = Takes (context_of ts) t.body t.input t.output
+-- a template's term takes its header's input to its header's output, under the headers of all templates, with functions of
+-- these types
+abbrev pub IsTyped : TypesByName → Templates → Template → Type 0
+IsTyped fs ts t = Takes (context_of fs ts) t.body t.input t.output
 
--- A network is accepted where its templates have different names and terms of their headers' types, and one is `main`.
-pub record Accepted (ts : Templates) : Type 0 where
+-- With stored functions of these types, a network is accepted where its templates have different names and terms of their
+-- headers' types, and one is `main`.
+pub record Accepted (fs : TypesByName) (ts : Templates) : Type 0 where
   pub different : (i j : ℕ) (s t : Template) → i < j → slice_get ts i ≡ Some s → slice_get ts j ≡ Some t → s.name ≢ t.name
-  pub typed : (i : ℕ) (t : Template) → slice_get ts i ≡ Some t → IsTyped ts t
+  pub typed : (i : ℕ) (t : Template) → slice_get ts i ≡ Some t → IsTyped fs ts t
   pub has_main : (t : Template) × (main_of ts ≡ Some t)

@@ -104,6 +104,10 @@ mapped_kind mapping.Let t u = Some u
 mapped_kind mapping.Filter t u = only u bool_kind (Some t)
 mapped_kind mapping.Map t u = Some (event_kind u)
 
+-- the type of what a function from one type to another makes of a value of a type, if it is one on such values
+abbrev pub called_kind : Kind → Kind → Kind → Option Kind
+called_kind from to t = only t from (Some to)
+
 -- the type of what the function of a form on values of two types takes, if the form is one on such a first value
 abbrev pub folded_argument : Folding → Kind → Kind → Option Kind
 folded_argument folding.Match t u = payload_of t

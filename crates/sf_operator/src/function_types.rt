@@ -1,7 +1,7 @@
 //! The types of forms with a function.
 ghost use Rattle.std.specs.Prelude.{Some};
 ghost use Rattle.sf_operator.specs.declared.operator.Folding.TheVariants.{Fold, Merge};
-ghost use Rattle.sf_operator.specs.Kinds.{payload_of, mapped_argument, mapped_kind, folded_argument, folded_kind};
+ghost use Rattle.sf_operator.specs.Kinds.{payload_of, mapped_argument, mapped_kind, called_kind, folded_argument, folded_kind};
 ghost use Rattle.sf_operator.specs.Breaches.{AnswersKind};
 
 use crate::kinds::{columns, event_type, pair_type, payload, same, type_of_keys};
@@ -53,6 +53,15 @@ pub fn mapped_type(
         }
         Mapping::Map => event_type(alloc, made, at),
     }
+}
+
+/// The type of what a function from one type to another makes of a value of a type. Refused at `at` with `Mismatch` where
+/// the function is none on such values, and with `Memory`.
+pub fn called_type(alloc: Global, from: &Ty, to: &Ty, part: &Ty, at: Spot) -> Result<Ty, Refusal>
+    ensures { AnswersKind (called_kind from.now to.now part.now) at result }
+{
+    same(part, from, at)?;
+    Ok(to.clone_in(alloc)?)
 }
 
 /// The type of a value beside a key and a value of a table. Refused at `at` with `Mismatch` where the first type is none

@@ -12,7 +12,9 @@ mod values;
 
 pub use arithmetic::calculate;
 pub use fault::EvalFault;
-pub use function_types::{folded_argument_type, folded_type, mapped_argument_type, mapped_type};
+pub use function_types::{
+    called_type, folded_argument_type, folded_type, mapped_argument_type, mapped_type,
+};
 pub use kinds::{binary_type, conditional_type, event_type, pair_type, unary_type};
 pub use laws::{floor_division, typed_functions, typed_operators};
 pub use operator::{

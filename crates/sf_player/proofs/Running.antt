@@ -21,7 +21,7 @@ use Rattle.sf_player.specs.declared.player.Stop.{Stop}
 use Rattle.sf_player.proofs.Known.{Consumes-none, Consumes-more, Consumes-kept, Appends-none, Appends-more, nothing_left}
 
 -- What was read and written so far, and what the player has played. Nothing is gathered.
-pub record Running (n : Network) (m : Template) (before after held holds : Option (List ℕ)) (p : Player) : Type 0 where
+pub record Running {F : Type 0} {H : _} (n : Network) (m : Template) (before after held holds : Option (List ℕ)) (p : Player F H) : Type 0 where
   pub read : List ℕ
   pub written : List ℕ
   pub consumed : Consumes before after read
@@ -29,10 +29,10 @@ pub record Running (n : Network) (m : Template) (before after held holds : Optio
   pub played : Played n m read written p
   pub empty : p.out.items ≡ []
 
-pub starts_running : {n : Network} {m : Template} {p : Player} (before held : Option (List ℕ)) → Played n m [] [] p → p.out.items ≡ [] → Running n m before before held held p
+pub starts_running : {F : Type 0} {H : _} {n : Network} {m : Template} {p : Player F H} (before held : Option (List ℕ)) → Played n m [] [] p → p.out.items ≡ [] → Running n m before before held held p
 starts_running before held P empty = record { read = []; written = []; consumed = Consumes-none before; appended = Appends-none held; played = P; empty = empty }
 
-cleared_at : {n : Network} {m : Template} {read written : List ℕ} {mid new : Player} → Played n m read written mid → IsCleared mid new → Played n m read (written ++ mid.out.items) new
+cleared_at : {F : Type 0} {H : _} {n : Network} {m : Template} {read written : List ℕ} {mid new : Player F H} → Played n m read written mid → IsCleared mid new → Played n m read (written ++ mid.out.items) new
 cleared_at {n = n} {m = m} {read = read} {written = written} {mid = mid} {new = new} P C = record {
   lines = P.lines;
   now = P.now;
@@ -48,7 +48,7 @@ cleared_at {n = n} {m = m} {read = read} {written = written} {mid = mid} {new = 
 }
 
 -- a piece was played and written
-pub runs_further : {n : Network} {m : Template} {before mid_read after held mid_held holds : Option (List ℕ)} {p mid new : Player} {r : Option PlayEnd} (piece : List ℕ) (stop : Option Stop) (R : Running n m before mid_read held mid_held p) → Consumes mid_read after piece
+pub runs_further : {F : Type 0} {H : _} {n : Network} {m : Template} {before mid_read after held mid_held holds : Option (List ℕ)} {p mid new : Player F H} {r : Option PlayEnd} (piece : List ℕ) (stop : Option Stop) (R : Running n m before mid_read held mid_held p) → Consumes mid_read after piece
     → Feeds n m R.read R.written p piece stop mid → WritesOut mid mid_held holds stop r new → r ≡ None → Running n m before after held holds new
 runs_further {before = before} {mid_read = b} {after = after} {held = held} {mid_held = i} {holds = holds} {mid = mid} piece None R took P (runs_on wrote clear) e = record {
   read = R.read ++ piece;
@@ -62,20 +62,20 @@ runs_further piece stop R took F (failed w) e = cc
 runs_further piece (Some s) R took F (ended w) e = cc
 
 -- how far it came
-pub comes_further : (n : Network) (m : Template) (read written : List ℕ) {h i : Option (List ℕ)} (p : Player) {mid new : Player} (piece : List ℕ) {r : Option PlayEnd} (stop : Option Stop) → Feeds n m read written p piece stop mid → WritesOut mid h i stop r new → r ≡ None → weight p.cutter + length piece ≤ weight new.cutter
+pub comes_further : {F : Type 0} {H : _} (n : Network) (m : Template) (read written : List ℕ) {h i : Option (List ℕ)} (p : Player F H) {mid new : Player F H} (piece : List ℕ) {r : Option PlayEnd} (stop : Option Stop) → Feeds n m read written p piece stop mid → WritesOut mid h i stop r new → r ≡ None → weight p.cutter + length piece ≤ weight new.cutter
 comes_further n m read written p piece None P (runs_on wrote clear) e = rw clear.cutter P.further
 comes_further n m read written p piece stop F (failed w) e = cc
 comes_further n m read written p piece (Some s) F (ended w) e = cc
 
 -- what was to be written, where a piece was played
-feeds_give : (n : Network) (m : Template) (written : List ℕ) (p mid : Player) (read piece : List ℕ) (stop : Option Stop) → Feeds n m read written p piece stop mid → (left : List ℕ) → CanBeGiven n m (lines_of ((read ++ piece) ++ left)) (written ++ (mid.out.items ++ line_in stop))
+feeds_give : {F : Type 0} {H : _} (n : Network) (m : Template) (written : List ℕ) (p mid : Player F H) (read piece : List ℕ) (stop : Option Stop) → Feeds n m read written p piece stop mid → (left : List ℕ) → CanBeGiven n m (lines_of ((read ++ piece) ++ left)) (written ++ (mid.out.items ++ line_in stop))
 feeds_give n m written p mid read piece None P left =
     subst (λ (x : List ℕ). CanBeGiven n m (lines_of ((read ++ piece) ++ left)) (written ++ x)) (sym (append-nil mid.out.items))
     (so_far (lines_of (pending mid.cutter ++ left)) P.played.reaches (lines_of-splits (read ++ piece) P.played.lines (pending mid.cutter) left P.played.stands.splits))
 feeds_give n m written p mid read piece (Some s) halted left =
     subst (λ (x : List ℕ). CanBeGiven n m (lines_of ((read ++ piece) ++ left)) x) (append_assoc written mid.out.items s.line) (in_all (halted left))
 
-finish_gives : (n : Network) (m : Template) (read written : List ℕ) (mid : Player) (stop : Option Stop) → EndsInput n m read written stop mid → CanBeGiven n m (lines_of read) (written ++ (mid.out.items ++ line_in stop))
+finish_gives : {F : Type 0} {H : _} (n : Network) (m : Template) (read written : List ℕ) (mid : Player F H) (stop : Option Stop) → EndsInput n m read written stop mid → CanBeGiven n m (lines_of read) (written ++ (mid.out.items ++ line_in stop))
 finish_gives n m read written mid None S =
     subst (λ (x : List ℕ). CanBeGiven n m (lines_of read) (written ++ x)) (sym (append-nil mid.out.items)) (in_all S)
 finish_gives n m read written mid (Some s) S =
@@ -86,7 +86,7 @@ front_gives : {n : Network} {m : Template} {lines : List (List ℕ)} {text : Lis
 front_gives {n = n} {m = m} {lines = lines} written front more G e = subst (λ (x : List ℕ). CanBeGiven n m lines x) (ap (λ x. written ++ x) e ∙ sym (append_assoc written front more)) G
 
 -- a piece ends the run
-pub told_midway : {n : Network} {m : Template} {before mid_read after held mid_held holds : Option (List ℕ)} {p mid new : Player} {r : Option PlayEnd} (piece : List ℕ) (stop : Option Stop) (e : PlayEnd) (R : Running n m before mid_read held mid_held p) → Consumes mid_read after piece
+pub told_midway : {F : Type 0} {H : _} {n : Network} {m : Template} {before mid_read after held mid_held holds : Option (List ℕ)} {p mid new : Player F H} {r : Option PlayEnd} (piece : List ℕ) (stop : Option Stop) (e : PlayEnd) (R : Running n m before mid_read held mid_held p) → Consumes mid_read after piece
     → Feeds n m R.read R.written p piece stop mid → WritesOut mid mid_held holds stop r new → r ≡ Some e → Told n m before after held holds e
 told_midway piece None e R took F (runs_on wrote clear) q = cc
 told_midway {n = n} {m = m} {before = before} {mid_read = b} {after = after} {held = held} {mid_held = i} {holds = holds} {p = p} {mid = mid} piece stop e R took F (failed w) q =
@@ -118,7 +118,7 @@ at_end {n = n} {m = m} {c = c} {said = said} {left = left} {e = e} read ends h S
     subst (λ (x : List ℕ). RunGives n m (lines_of x) said e) (sym (ap (λ x. read ++ x) (nothing_left c left h ends) ∙ append-nil read)) S
 
 -- the input ends the run
-pub told_at_end : {n : Network} {m : Template} {before mid_read after held mid_held holds : Option (List ℕ)} {p mid new : Player} {r : Option PlayEnd} (stop : Option Stop) (R : Running n m before mid_read held mid_held p) → Consumes mid_read after [] → IsAtEnd after
+pub told_at_end : {F : Type 0} {H : _} {n : Network} {m : Template} {before mid_read after held mid_held holds : Option (List ℕ)} {p mid new : Player F H} {r : Option PlayEnd} (stop : Option Stop) (R : Running n m before mid_read held mid_held p) → Consumes mid_read after [] → IsAtEnd after
     → EndsInput n m R.read R.written stop mid → WritesOut mid mid_held holds stop r new → Told n m before after held holds (end_by r)
 told_at_end {before = before} {mid_read = b} {after = after} {held = held} {mid_held = i} {holds = holds} {mid = mid} None R took ends F (runs_on wrote clear) = record {
   read = R.read;
@@ -143,12 +143,12 @@ told_at_end {n = n} {m = m} {before = before} {mid_read = b} {after = after} {he
   tells = λ left h. by_its_end (at_end R.read ends h (subst (λ (x : List ℕ). RunGives n m (lines_of R.read) x s.end) (append_assoc R.written mid.out.items s.line) F));
 }
 
-pub told_at_end_by : {n : Network} {m : Template} {before mid_read after held mid_held holds : Option (List ℕ)} {p mid new : Player} {r : Option PlayEnd} (stop : Option Stop) (e : PlayEnd) (R : Running n m before mid_read held mid_held p) → Consumes mid_read after [] → IsAtEnd after
+pub told_at_end_by : {F : Type 0} {H : _} {n : Network} {m : Template} {before mid_read after held mid_held holds : Option (List ℕ)} {p mid new : Player F H} {r : Option PlayEnd} (stop : Option Stop) (e : PlayEnd) (R : Running n m before mid_read held mid_held p) → Consumes mid_read after [] → IsAtEnd after
     → EndsInput n m R.read R.written stop mid → WritesOut mid mid_held holds stop r new → end_by r ≡ e → Told n m before after held holds e
 told_at_end_by {n = n} {m = m} {before = before} {after = after} {held = held} {holds = holds} stop e R took ends F W same = subst (λ x. Told n m before after held holds x) same (told_at_end stop R took ends F W)
 
 -- a read fault ends the run
-pub told_read_fault : {n : Network} {m : Template} {before mid_read after held holds : Option (List ℕ)} {p : Player} → Running n m before mid_read held holds p → Keeps mid_read after → Told n m before after held holds ReadFault
+pub told_read_fault : {F : Type 0} {H : _} {n : Network} {m : Template} {before mid_read after held holds : Option (List ℕ)} {p : Player F H} → Running n m before mid_read held holds p → Keeps mid_read after → Told n m before after held holds ReadFault
 told_read_fault {n = n} {m = m} {before = before} {mid_read = b} {after = after} R kept = record {
   read = R.read;
   said = R.written;
@@ -191,7 +191,7 @@ ends_said (Refused r) h = absurd cc
 ends_said ReadFault h = absurd cc
 ends_said WriteFault h = absurd cc
 
-pub ends_ahead : {old new : Player} {a b : Option (List ℕ)} {stop : Option Stop} {r : Option PlayEnd} {e : PlayEnd} → WritesOut old a b stop r new → r ≡ Some e → EndsAhead e
+pub ends_ahead : {F : Type 0} {H : _} {old new : Player F H} {a b : Option (List ℕ)} {stop : Option Stop} {r : Option PlayEnd} {e : PlayEnd} → WritesOut old a b stop r new → r ≡ Some e → EndsAhead e
 ends_ahead (runs_on wrote clear) q = absurd cc
 ends_ahead {e = e} (ended {s = s} wrote) q = let same : s.end ≡ e = cc in subst EndsAhead same (ends_said s.end s.said)
 ends_ahead {e = e} (failed w) q = let same : WriteFault ≡ e = cc in subst EndsAhead same by_the_writer

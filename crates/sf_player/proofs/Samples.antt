@@ -37,7 +37,7 @@ some_input [] last some = absurd (some refl)
 some_input (s ∷ L) last some = λ none. let e : Some (input_of s) ≡ None = sym last ∙ none in cc
 
 -- a value was gathered
-pub value_said : {n : Network} {m : Template} {now : Moment} {line : List ℕ} {a : Asked} {s : Sample} {o e : Player} (t : ℕ) → Asks n m now line a → IsSample a
+pub value_said : {F : Type 0} {H : _} {n : Network} {m : Template} {now : Moment} {line : List ℕ} {a : Asked} {s : Sample} {o e : Player F H} (t : ℕ) → Asks n m now line a → IsSample a
     → Sampled n m (life_after a now.lived) (Ok s) o.engine → t ≡ time (life_after a now.lived) → t ≤ 3600000 * (now.taken + 1) → o.taken ≡ now.taken
     → e.engine ≡ o.engine → e.cutter ≡ o.cutter → e.taken ≡ o.taken + 1
     → e.out.items ≡ o.out.items ++ sample_line s.time s.value
@@ -58,7 +58,7 @@ value_said {n = n} {m = m} {now = now} {a = a} {s = s} {o = o} t asked sample (g
     }
 
 -- a fault ends the run
-pub fault_halts : {n : Network} {m : Template} {now : Moment} {line : List ℕ} {a : Asked} {f : Fault} {e : Engine} → Asks n m now line a → IsSample a
+pub fault_halts : {F : Type 0} {H : _} {n : Network} {m : Template} {now : Moment} {line : List ℕ} {a : Asked} {f : Fault} {e : Engine F H} → Asks n m now line a → IsSample a
     → Sampled n m (life_after a now.lived) (Err f) e
     → Halts n m now line (fault_line (time (life_after a now.lived)) f) PlayFault
 fault_halts asked sample (had_fault G s) = faults (gives_fault asked sample refl G)
@@ -66,7 +66,7 @@ fault_halts asked sample (was_large none s) = is_too_large asked sample none
 fault_halts asked sample (had_no_memory s) = lacks_memory asked sample
 
 -- a stop at a fault, by its end and its line
-pub stop_halts : {n : Network} {m : Template} {now : Moment} {line text : List ℕ} {a : Asked} {f : Fault} {e : Engine} {end : PlayEnd} (t : ℕ) → Asks n m now line a → IsSample a
+pub stop_halts : {F : Type 0} {H : _} {n : Network} {m : Template} {now : Moment} {line text : List ℕ} {a : Asked} {f : Fault} {e : Engine F H} {end : PlayEnd} (t : ℕ) → Asks n m now line a → IsSample a
     → Sampled n m (life_after a now.lived) (Err f) e → t ≡ time (life_after a now.lived) → end ≡ PlayFault → text ≡ fault_line t f
     → Halts n m now line text end
 stop_halts {n = n} {m = m} {now = now} {line = line} {f = f} t asked sample S at ended written =
@@ -88,7 +88,7 @@ pub slow_step : (t d taken : ℕ) → d ≤ 3600000 → t ≤ 3600000 * taken �
 slow_step t d taken short slow = omega arith
 
 -- What a line asks of an engine may be done, and leads to the sample of its life.
-module _ {e : Engine} {n : Network} {m : Template} {L : Life} {b : Bool} {k : Kind} {line : List ℕ} where
+module _ {F : Type 0} {H : _} {e : Engine F H} {n : Network} {m : Template} {L : Life} {b : Bool} {k : Kind} {line : List ℕ} where
   -- a start
   pub may_start : {x : Data} → Runs e n m L → b ≡ has_begun L → k ≡ m.input → Says b k line (Ok (start x)) → MayStart e x
   may_start {x = x} R same input says =
@@ -99,7 +99,7 @@ module _ {e : Engine} {n : Network} {m : Template} {L : Life} {b : Bool} {k : Ki
         typed = subst (λ k. HasKind x k) (input ∙ sym R.input) asked.1;
       }
 
-  pub starts_at : {x : Data} {r : Result Sample Fault} {f : Engine} → Runs e n m L → b ≡ has_begun L → Says b k line (Ok (start x))
+  pub starts_at : {x : Data} {r : Result Sample Fault} {f : Engine F H} → Runs e n m L → b ≡ has_begun L → Says b k line (Ok (start x))
       → (Runs e n m [] → Sampled n m (after_start x) r f) → Sampled n m (after_start x) r f
   starts_at R same says sampled = sampled (subst (λ l. Runs e n m l) (not_begun b L same (start_asked says refl).0) R)
 
@@ -121,7 +121,7 @@ time_at {b = b} {d = d} {x = x} L same at says =
     ap (λ t. t + d) at ∙ sym (time-after_step L d x (begun b L same asked.started))
 
 -- a line that asks for nothing
-pub nothing_said : {n : Network} {m : Template} {now : Moment} {line : List ℕ} {o e : Player} → Asks n m now line nothing → IsAt n m o now
+pub nothing_said : {F : Type 0} {H : _} {n : Network} {m : Template} {now : Moment} {line : List ℕ} {o e : Player F H} → Asks n m now line nothing → IsAt n m o now
     → e.engine ≡ o.engine → e.cutter ≡ o.cutter → e.taken ≡ o.taken + 1 → e.out.items ≡ o.out.items
     → PlaysOn n m now line o e
 nothing_said {n = n} {m = m} {now = now} {o = o} asked at engine cutter count out = record {
@@ -138,7 +138,7 @@ nothing_said {n = n} {m = m} {now = now} {o = o} asked at engine cutter count ou
 }
 
 -- a line that is refused
-pub refusal_said : {n : Network} {m : Template} {now : Moment} {text : List ℕ} {end : PlayEnd} (line : List ℕ) (b : Bool) (k : Kind) (p : Player) (r : LineRefusal) → k ≡ m.input → p.taken ≡ now.taken → limit_refusal now.taken line ≡ None → b ≡ has_begun now.lived
+pub refusal_said : {F : Type 0} {H : _} {n : Network} {m : Template} {now : Moment} {text : List ℕ} {end : PlayEnd} (line : List ℕ) (b : Bool) (k : Kind) (p : Player F H) (r : LineRefusal) → k ≡ m.input → p.taken ≡ now.taken → limit_refusal now.taken line ≡ None → b ≡ has_begun now.lived
     → (r ≢ MemoryRefusal → Says b k line (Err r)) → (r ≡ MemoryRefusal → HasTimelyValue b line) → end ≡ BadLine → text ≡ refusal_line (p.taken + 1) r
     → Halts n m now line text end
 refusal_said {n = n} {m = m} {now = now} line b k p r input taken within begun says lacks ended written = rw ended (rw (written ∙ ap (λ k. refusal_line (k + 1) r) taken) (halts r says lacks))
@@ -151,6 +151,6 @@ refusal_said {n = n} {m = m} {now = now} line b k p r input taken within begun s
     halts r says lacks = refused_so r (says (λ q. cc))
 
 -- what was said of a line by a player with the same output and cutter
-pub same_answers : (n : Network) (m : Template) (now : Moment) (line : List ℕ) (mid old : Player) (r : Option Stop) (new : Player) → mid.out.items ≡ old.out.items → mid.cutter ≡ old.cutter → PlaysLine n m now line mid r new → PlaysLine n m now line old r new
+pub same_answers : {F : Type 0} {H : _} (n : Network) (m : Template) (now : Moment) (line : List ℕ) (mid old : Player F H) (r : Option Stop) (new : Player F H) → mid.out.items ≡ old.out.items → mid.cutter ≡ old.cutter → PlaysLine n m now line mid r new → PlaysLine n m now line old r new
 same_answers n m now line mid old None new out cut G = record { text = G.text; later = G.later; replies = G.replies; at = G.at; said = G.said ∙ ap (λ x. x ++ G.text) out; cutter = G.cutter ∙ cut }
 same_answers n m now line mid old (Some s) new out cut E = record { halts = E.halts; said = E.said ∙ out }

@@ -2,13 +2,9 @@
 use Rattle.std.specs.Prelude.{◌≡◌, ℕ, ◌+◌, ◌*◌, ◌≤◌, List, [], ◌++◌, length, take, Option, Some, None, Result, Ok, Err}
 use Rattle.sf_value.specs.declared.fault.Fault.TheVariants.{Large, Memory as NoMemory}
 use Rattle.std.specs.Io.KnownBytes.{Appends}
-use Rattle.sf_term.specs.Trees.{Template, Templates}
+use Rattle.sf_term.specs.Trees.{Template}
 use Rattle.sf_mean.specs.Lives.{time}
 use Rattle.sf_mean.specs.Meaning.{Network}
-use Rattle.sf_mean.specs.Networks.{main_of}
-use Rattle.sf_mean.specs.Typing.{Accepted}
-use Rattle.sf_text.specs.Spelling.{IsNetworkText}
-use Rattle.sf_engine.specs.declared.engine.Engine.{Engine}
 use Rattle.sf_engine.specs.Running.{Runs}
 use Rattle.sf_engine.specs.Sampling.{IsTooLarge}
 use Rattle.sf_lines.specs.Lines.{lines_of}
@@ -32,12 +28,6 @@ abbrev pub weight : Cutter → ℕ
 weight c = 65537 * lines_taken c + length (pending c)
 
 module _ (n : Network) (m : Template) where
-  -- A player is at a moment of a run.
-  pub record IsAt (p : Player) (now : Moment) : Type 0 where
-    pub runs : Runs p.engine n m now.lived
-    pub slow : time now.lived ≤ 3600000 * now.taken
-    pub taken : p.taken ≡ now.taken
-
   -- What a line that ends a run writes, and how the run ends.
   pub data Halts (now : Moment) (line : List ℕ) : List ℕ → PlayEnd → Type 0 where
     faults : {text : List ℕ} → Replies n m now line text (ends sample_faulted) → Halts now line text PlayFault
@@ -49,8 +39,25 @@ module _ (n : Network) (m : Template) where
     lacks_memory_for_its_value : limit_refusal now.taken line ≡ None → HasTimelyValue (has_begun now.lived) line
         → Halts now line (refusal_line (now.taken + 1) MemoryRefusal) BadLine
 
+  -- So much was read and said, but for a last line. Whatever follows, the run ends with it.
+  abbrev pub Halted : List ℕ → List ℕ → Stop → Type 0
+  Halted read said s = (left : List ℕ) → RunGives n m (lines_of (read ++ left)) (said ++ s.line) s.end
+
+-- the line of a stop
+abbrev pub line_in : Option Stop → List ℕ
+line_in None = []
+line_in (Some s) = s.line
+
+-- Players of engines over functions that are held by name.
+module _ {F : Type 0} {H : _} (n : Network) (m : Template) where
+  -- A player is at a moment of a run.
+  pub record IsAt (p : Player F H) (now : Moment) : Type 0 where
+    pub runs : Runs p.engine n m now.lived
+    pub slow : time now.lived ≤ 3600000 * now.taken
+    pub taken : p.taken ≡ now.taken
+
   -- A line was played: its text was gathered, and the player is at the moment behind it.
-  pub record PlaysOn (now : Moment) (line : List ℕ) (old new : Player) : Type 0 where
+  pub record PlaysOn (now : Moment) (line : List ℕ) (old new : Player F H) : Type 0 where
     pub text : List ℕ
     pub later : Moment
     pub replies : Replies n m now line text (goes_on later)
@@ -59,93 +66,77 @@ module _ (n : Network) (m : Template) where
     pub cutter : new.cutter ≡ old.cutter
 
   -- A line ends the run: nothing was gathered.
-  pub record EndsRun (now : Moment) (line : List ℕ) (old : Player) (s : Stop) (new : Player) : Type 0 where
-    pub halts : Halts now line s.line s.end
+  pub record EndsRun (now : Moment) (line : List ℕ) (old : Player F H) (s : Stop) (new : Player F H) : Type 0 where
+    pub halts : Halts n m now line s.line s.end
     pub said : new.out.items ≡ old.out.items
 
   -- What comes of a line.
-  abbrev pub PlaysLine : Moment → List ℕ → Player → Option Stop → Player → Type 0
+  abbrev pub PlaysLine : Moment → List ℕ → Player F H → Option Stop → Player F H → Type 0
   PlaysLine now line old None new = PlaysOn now line old new
   PlaysLine now line old (Some s) new = EndsRun now line old s new
 
   -- So much was read, and so much written but for what is gathered.
-  pub record Played (read written : List ℕ) (p : Player) : Type 0 where
+  pub record Played (read written : List ℕ) (p : Player F H) : Type 0 where
     pub lines : List (List ℕ)
     pub now : Moment
     pub stands : CutterStands p.cutter read lines
     pub reaches : LeadsTo n m at_start lines (written ++ p.out.items) now
     pub at : IsAt p now
 
-  -- So much was read and said, but for a last line. Whatever follows, the run ends with it.
-  abbrev pub Halted : List ℕ → List ℕ → Stop → Type 0
-  Halted read said s = (left : List ℕ) → RunGives n m (lines_of (read ++ left)) (said ++ s.line) s.end
-
   -- Bytes were played.
-  pub record PlayedMore (read written : List ℕ) (old : Player) (bytes : List ℕ) (new : Player) : Type 0 where
+  pub record PlayedMore (read written : List ℕ) (old : Player F H) (bytes : List ℕ) (new : Player F H) : Type 0 where
     pub played : Played (read ++ bytes) written new
     pub further : weight old.cutter + length bytes ≤ weight new.cutter
 
   -- What comes of a part of a piece.
-  abbrev pub PlaysPart : List ℕ → List ℕ → Player → List ℕ → Result ℕ Stop → Player → Type 0
+  abbrev pub PlaysPart : List ℕ → List ℕ → Player F H → List ℕ → Result ℕ Stop → Player F H → Type 0
   PlaysPart read written old piece (Ok used) new = PlayedMore read written old (take used piece) new
-  PlaysPart read written old piece (Err s) new = Halted (read ++ piece) (written ++ new.out.items) s
+  PlaysPart read written old piece (Err s) new = Halted n m (read ++ piece) (written ++ new.out.items) s
 
   -- What comes of a piece.
-  abbrev pub Feeds : List ℕ → List ℕ → Player → List ℕ → Option Stop → Player → Type 0
+  abbrev pub Feeds : List ℕ → List ℕ → Player F H → List ℕ → Option Stop → Player F H → Type 0
   Feeds read written old piece None new = PlayedMore read written old piece new
-  Feeds read written old piece (Some s) new = Halted (read ++ piece) (written ++ new.out.items) s
+  Feeds read written old piece (Some s) new = Halted n m (read ++ piece) (written ++ new.out.items) s
 
   -- What comes of the end of the input.
-  abbrev pub EndsInput : List ℕ → List ℕ → Option Stop → Player → Type 0
+  abbrev pub EndsInput : List ℕ → List ℕ → Option Stop → Player F H → Type 0
   EndsInput read written None new = RunGives n m (lines_of read) (written ++ new.out.items) Done
   EndsInput read written (Some s) new = RunGives n m (lines_of read) ((written ++ new.out.items) ++ s.line) s.end
 
--- A player has played something.
-pub record IsPlaying (p : Player) : Type 0 where
-  pub n : Network
-  pub m : Template
-  pub read : List ℕ
-  pub written : List ℕ
-  pub played : Played n m read written p
+-- The same of some network.
+module _ {F : Type 0} {H : _} where
+  -- A player has played something.
+  pub record IsPlaying (p : Player F H) : Type 0 where
+    pub n : Network
+    pub m : Template
+    pub read : List ℕ
+    pub written : List ℕ
+    pub played : Played n m read written p
 
--- A player is at a moment, and its cutter has a line within the limits.
-pub record AwaitsLine (p : Player) : Type 0 where
-  pub n : Network
-  pub m : Template
-  pub now : Moment
-  pub at : IsAt n m p now
-  pub within : limit_refusal now.taken (line_of p.cutter) ≡ None
+  -- A player is at a moment, and its cutter has a line within the limits.
+  pub record AwaitsLine (p : Player F H) : Type 0 where
+    pub n : Network
+    pub m : Template
+    pub now : Moment
+    pub at : IsAt n m p now
+    pub within : limit_refusal now.taken (line_of p.cutter) ≡ None
 
--- the line of a stop
-abbrev pub line_in : Option Stop → List ℕ
-line_in None = []
-line_in (Some s) = s.line
+  -- Nothing is gathered any more, and all else is as it was.
+  pub record IsCleared (old new : Player F H) : Type 0 where
+    pub empty : new.out.items ≡ []
+    pub cutter : new.cutter ≡ old.cutter
+    pub engine : new.engine ≡ old.engine
+    pub taken : new.taken ≡ old.taken
 
--- Nothing is gathered any more, and all else is as it was.
-pub record IsCleared (old new : Player) : Type 0 where
-  pub empty : new.out.items ≡ []
-  pub cutter : new.cutter ≡ old.cutter
-  pub engine : new.engine ≡ old.engine
-  pub taken : new.taken ≡ old.taken
+  -- What comes of writing what is gathered and the line of a stop, and how the run ends by it.
+  pub data WritesOut (old : Player F H) (before after : Option (List ℕ)) : Option Stop → Option PlayEnd → Player F H → Type 0 where
+    runs_on : {new : Player F H} → Appends before after old.out.items → IsCleared old new → WritesOut old before after None None new
+    ended : {s : Stop} {new : Player F H} → Appends before after (old.out.items ++ s.line) → WritesOut old before after (Some s) (Some s.end) new
+    failed : {o : Option Stop} {new : Player F H} → WritesFront before after (old.out.items ++ line_in o) → WritesOut old before after o (Some WriteFault) new
 
--- What comes of writing what is gathered and the line of a stop, and how the run ends by it.
-pub data WritesOut (old : Player) (before after : Option (List ℕ)) : Option Stop → Option PlayEnd → Player → Type 0 where
-  runs_on : {new : Player} → Appends before after old.out.items → IsCleared old new → WritesOut old before after None None new
-  ended : {s : Stop} {new : Player} → Appends before after (old.out.items ++ s.line) → WritesOut old before after (Some s) (Some s.end) new
-  failed : {o : Option Stop} {new : Player} → WritesFront before after (old.out.items ++ line_in o) → WritesOut old before after o (Some WriteFault) new
-
--- A player has played nothing.
-pub record IsFresh (p : Player) : Type 0 where
-  pub n : Network
-  pub m : Template
-  pub played : Played n m [] [] p
-  pub empty : p.out.items ≡ []
-
--- An engine at the start of the accepted network that a text is.
-pub record IsPrepared (net : List ℕ) (e : Engine) : Type 0 where
-  pub templates : Templates
-  pub main : Template
-  pub text : IsNetworkText net templates
-  pub accepted : Accepted templates
-  pub runs_main : main_of templates ≡ Some main
-  pub runs : Runs e (record { templates = templates }) main []
+  -- A player has played nothing.
+  pub record IsFresh (p : Player F H) : Type 0 where
+    pub n : Network
+    pub m : Template
+    pub played : Played n m [] [] p
+    pub empty : p.out.items ≡ []

@@ -4,6 +4,7 @@ use Rattle.std.specs.Io.KnownBytes.{Keeps, Consumes, Appends}
 use Rattle.sf_value.specs.declared.fault.Fault.TheVariants.{Large, Memory as NoMemory}
 use Rattle.sf_refusal.specs.declared.refusal.Refusal.{Refusal}
 use Rattle.sf_refusal.specs.Refusals.{OrMemory}
+use Rattle.sf_func.specs.Registries.{TypesByName, AnswersByName}
 use Rattle.sf_term.specs.Trees.{Template, Templates}
 use Rattle.sf_mean.specs.Lives.{time}
 use Rattle.sf_mean.specs.Meaning.{Network}
@@ -64,10 +65,11 @@ module _ (n : Network) (m : Template) where
     pub written : Appends held holds said
     pub tells : (left : List ℕ) → after ≡ Some left → Tells read left said e
 
--- What `play` does with a network text, a reader and a writer: it refuses the network and touches neither,
--- or the text is an accepted network, and what was written is told by its meaning.
-pub data Plays (net : List ℕ) (before after held holds : Option (List ℕ)) : PlayEnd → Type 0 where
-  refuses : {r : Refusal} → OrMemory (IsRefusedFor net) r → Keeps before after → Keeps held holds → Plays net before after held holds (NetworkRefused r)
+-- What `play` does with a network text, a reader and a writer, and stored functions of these types that answer this: it
+-- refuses the network and touches neither, or the text is a network that is accepted with these types, and what was written
+-- is told by its meaning, with these answers.
+pub data Plays (types : TypesByName) (answers : AnswersByName) (net : List ℕ) (before after held holds : Option (List ℕ)) : PlayEnd → Type 0 where
+  refuses : {r : Refusal} → OrMemory (IsRefusedFor types net) r → Keeps before after → Keeps held holds → Plays types answers net before after held holds (NetworkRefused r)
   plays : {p : Templates} {m : Template} {e : PlayEnd}
-      → IsNetworkText net p → Accepted p → main_of p ≡ Some m
-      → Told (record { templates = p }) m before after held holds e → Plays net before after held holds e
+      → IsNetworkText net p → Accepted types p → main_of p ≡ Some m
+      → Told (record { templates = p; functions = answers }) m before after held holds e → Plays types answers net before after held holds e

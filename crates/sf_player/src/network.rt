@@ -1,33 +1,26 @@
-//! Networks from their texts to their engines.
+//! Networks from their texts.
 ghost use Rattle.std.specs.Prelude.{IfOk, IfErr};
 ghost use Rattle.sf_refusal.specs.Refusals.{OrMemory};
-ghost use Rattle.sf_player.specs.Refusals.{IsRefusedFor};
-ghost use Rattle.sf_player.specs.Playing.{IsPrepared};
+ghost use Rattle.sf_player.specs.Refusals.{IsAcceptedText, IsRefusedFor};
 
-use crate::options::Options;
-use sf_check::check;
-use sf_engine::{Engine, Mode};
+use sf_check::{Checked, check};
+use sf_func::{Holds, Registry};
 use sf_refusal::Refusal;
 use sf_text::read_network;
 use std::alloc::Global;
 
-/// An engine of the network that a text is, or the first rule that its bytes break.
-pub(crate) fn prepare(alloc: Global, net: &[u8], options: Options) -> Result<Engine, Refusal>
-    ensures prepared { IfOk result (λ engine. IsPrepared net.now engine) }
-    ensures refused { IfErr result (OrMemory (IsRefusedFor net.now)) }
+/// The network that a text is, where it is accepted with these functions, or the first rule that its bytes break.
+pub(crate) fn read_accepted(
+    alloc: Global,
+    net: &[u8],
+    functions: &Registry,
+) -> Result<Checked, Refusal>
+    ensures accepted { IfOk result (IsAcceptedText (⟦<Registry as Holds>⟧.types functions.now) net.now) }
+    ensures refused { IfErr result (OrMemory (IsRefusedFor (⟦<Registry as Holds>⟧.types functions.now) net.now)) }
 {
     let program = read_network(alloc, net)?;
-    let checked = match check(alloc, program) {
-        Ok(checked) => checked,
-        Err((refusal, _)) => return Err(refusal),
-    };
-    let mode = if options.plain {
-        Mode::Plain
-    } else {
-        Mode::Optimised
-    };
-    match Engine::new(alloc, checked, mode) {
-        Ok(engine) => Ok(engine),
-        Err(_) => Err(Refusal::Memory),
+    match check(alloc, program, functions) {
+        Ok(checked) => Ok(checked),
+        Err((refusal, _)) => Err(refusal),
     }
 }

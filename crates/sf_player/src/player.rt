@@ -8,6 +8,7 @@ ghost use Rattle.sf_player.specs.Statuses.{is_said};
 use crate::counted::Counted;
 use crate::end::PlayEnd;
 use sf_engine::{Engine, Sample};
+use sf_func::Holds;
 use sf_lines::{
     Command, Cut, Cutter, LineRefusal, ShortLine, read_line, write_fault, write_refusal,
     write_sample,
@@ -26,16 +27,16 @@ pub(crate) struct Stop {
 
 /// A run of a network over an input. What is to be written is gathered.
 #[derive(Drop)]
-pub(crate) struct Player {
+pub(crate) struct Player<F: Holds> {
     alloc: Global,
     cutter: Cutter,
-    engine: Engine,
+    engine: Engine<F>,
     taken: u32,
     out: Vec<u8>,
     ghost few: { taken ≤ 1000000 },
 }
 
-impl Player {
+impl<F: Holds + Drop> Player<F> {
     ghost use Rattle.sf_term.specs.Trees.{Template};
     ghost use Rattle.sf_mean.specs.Lives.{time};
     ghost use Rattle.sf_mean.specs.Meaning.{Network};
@@ -48,7 +49,7 @@ impl Player {
     ghost use Rattle.sf_player.specs.Playing.{IsAt, AwaitsLine, PlaysLine, Played, IsPlaying, PlaysPart, Feeds, EndsInput, WritesOut};
 
     /// A run at its start.
-    pub(crate) fn new(alloc: Global, engine: Engine) -> Result<Player, AllocError>
+    pub(crate) fn new(alloc: Global, engine: Engine<F>) -> Result<Player<F>, AllocError>
         ensures { IfOk result (λ p. (n : Network) (m : Template) → Runs engine n m []
             → Played n m [] [] p × (p.out.items ≡ [])) }
     {

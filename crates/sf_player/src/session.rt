@@ -1,46 +1,90 @@
 //! Runs from a network's text and an input to an output.
 ghost use Rattle.std.specs.Prelude.{◌≡◌, ℕ, ◌-◌, ◌<◌, ◌^◌, List, [], Option, ◌≢◌};
 ghost use Rattle.std.specs.Io.KnownBytes.{IsAtEnd};
+ghost use Rattle.sf_func.specs.Registries.{KeepTheirTypes};
 ghost use Rattle.sf_term.specs.Trees.{Template};
+ghost use Rattle.sf_term.specs.Arena.{templates_of};
 ghost use Rattle.sf_mean.specs.Meaning.{Network};
+ghost use Rattle.sf_mean.specs.Typing.{Accepted};
+ghost use Rattle.sf_text.specs.Spelling.{IsNetworkText};
+ghost use Rattle.sf_check.specs.Accepting.{program_of};
 ghost use Rattle.sf_player.specs.Counting.{inner_of, failures_of, CountsReads, CountsWrites};
 ghost use Rattle.sf_player.specs.Telling.{Told, Plays};
 ghost use Rattle.sf_player.specs.Playing.{Played, IsFresh};
 
 use crate::counted::Counted;
 use crate::end::PlayEnd;
-use crate::network::prepare;
+use crate::network::read_accepted;
 use crate::options::Options;
 use crate::player::Player;
+use sf_check::Checked;
+use sf_engine::{Engine, Mode};
+use sf_func::{Holds, Registry};
 use sf_lines::{LineRefusal, write_refusal};
+use sf_refusal::Refusal;
 use std::alloc::Global;
 use std::io::{Read, Write};
 
 /// Plays the lines of an input through the network that a text is, and writes what its meaning gives for them.
 ///
-/// The network is read and accepted first; where it is refused, nothing is read or written, and the end names the first
-/// rule that it breaks and the place where it breaks it. Each sample gives `> T VALUE`; the first fault or refused line,
-/// `! T FAULT` or `! line N REFUSAL`, ends the run. `Memory` is such a refusal only of a line whose value is read, or of
-/// line 1 before any is read. All output of a line is written and flushed before more is read.
+/// The network calls the functions of the registry, each of which answers values of its type. It is read and accepted first;
+/// where it is refused, nothing is read or written, and the end names the first rule that it breaks and the place where it
+/// breaks it. Each sample gives `> T VALUE`; the first fault or refused line, `! T FAULT` or `! line N REFUSAL`, ends the
+/// run. `Memory` is such a refusal only of a line whose value is read, or of line 1 before any is read. All output of a line
+/// is written and flushed before more is read.
 pub fn play<R: Read, W: Write>(
     alloc: Global,
     net: &[u8],
     reader: &mut Counted<R>,
     writer: &mut Counted<W>,
+    functions: Registry,
     options: Options,
 ) -> PlayEnd
+    requires typed { KeepTheirTypes (⟦<Registry as Holds>⟧.types functions) (⟦<Registry as Holds>⟧.answers functions) }
     requires reads { failures_of reader.old < 2 ^ 64 - 1 }
     requires writes { failures_of writer.old < 2 ^ 64 - 1 }
     // What was read and written, by the meaning of the network.
-    ensures told { Plays net.now (R.remaining (inner_of reader.old))
-        (R.remaining (inner_of reader.new)) (W.contents (inner_of writer.old))
-        (W.contents (inner_of writer.new)) result }
+    ensures told { Plays (⟦<Registry as Holds>⟧.types functions) (⟦<Registry as Holds>⟧.answers functions) net.now
+        (R.remaining (inner_of reader.old)) (R.remaining (inner_of reader.new))
+        (W.contents (inner_of writer.old)) (W.contents (inner_of writer.new)) result }
     ensures end { result ≡ PlayEnd.Done → IsAtEnd (R.remaining (inner_of reader.new)) }
     ensures reader { CountsReads result (failures_of reader.old) (failures_of reader.new) }
     ensures writer { CountsWrites result (failures_of writer.old) (failures_of writer.new) }
 {
-    match prepare(alloc, net, options) {
+    match read_accepted(alloc, net, &functions) {
         Err(refusal) => PlayEnd::Network(refusal),
+        Ok(checked) => play_accepted(alloc, checked, reader, writer, functions, options),
+    }
+}
+
+/// Plays an input through an accepted network.
+fn play_accepted<F: Holds + Drop, R: Read, W: Write>(
+    alloc: Global,
+    checked: Checked,
+    reader: &mut Counted<R>,
+    writer: &mut Counted<W>,
+    functions: F,
+    options: Options,
+) -> PlayEnd
+    requires fits { Accepted (F.types functions) (templates_of (program_of checked)) }
+    requires typed { KeepTheirTypes (F.types functions) (F.answers functions) }
+    requires reads { failures_of reader.old < 2 ^ 64 - 1 }
+    requires writes { failures_of writer.old < 2 ^ 64 - 1 }
+    ensures told { (net : List ℕ) → IsNetworkText net (templates_of (program_of checked)) →
+        Plays (F.types functions) (F.answers functions) net
+        (R.remaining (inner_of reader.old)) (R.remaining (inner_of reader.new))
+        (W.contents (inner_of writer.old)) (W.contents (inner_of writer.new)) result }
+    ensures end { result ≡ PlayEnd.Done → IsAtEnd (R.remaining (inner_of reader.new)) }
+    ensures reader { CountsReads result (failures_of reader.old) (failures_of reader.new) }
+    ensures writer { CountsWrites result (failures_of writer.old) (failures_of writer.new) }
+{
+    let mode = if options.plain {
+        Mode::Plain
+    } else {
+        Mode::Optimised
+    };
+    match Engine::new(alloc, checked, functions, mode) {
+        Err(_) => PlayEnd::Network(Refusal::Memory),
         Ok(engine) => match Player::new(alloc, engine) {
             Ok(player) => run(player, reader, writer),
             Err(_) => refuse_lines(writer),
@@ -49,8 +93,8 @@ pub fn play<R: Read, W: Write>(
 }
 
 /// Plays an input from its start.
-fn run<R: Read, W: Write>(
-    player: Player,
+fn run<F: Holds + Drop, R: Read, W: Write>(
+    player: Player<F>,
     reader: &mut Counted<R>,
     writer: &mut Counted<W>,
 ) -> PlayEnd

@@ -2,8 +2,9 @@
 use Rattle.std.proofs.Common.{◌≡◌, [], Result, Ok, Err, refl, sym, ap, ◌∙◌, subst}
 use Rattle.std.specs.Prelude.{IsErrAnd, OnOk, IfErr}
 use Rattle.sf_value.specs.Values.{Data}
+use Rattle.sf_func.specs.Registries.{AnswersByName}
 use Rattle.sf_expr.specs.Expressions.{Expression}
-use Rattle.sf_expr.specs.Evaluation.{Scope, no_names, answer, ◌>>=◌, eval, apply}
+use Rattle.sf_expr.specs.Evaluation.{Scope, no_names, functions_in, answer, ◌>>=◌, eval, apply}
 use Rattle.sf_expr.specs.Soundness.{has_no_names, IsTypedIn, typed_in, TakesValue, takes_value}
 use Rattle.sf_expr.specs.Answers.{Evaluates}
 use Rattle.sf_operator.specs.declared.fault.EvalFault.{EvalFault}
@@ -30,20 +31,20 @@ value_gives : (k : WithValue) (e : Expression) (scope : Scope) (v : Data) (s : S
 value_gives k e scope v s L h = ap (λ r. r >>= λ v. answer (value_formula k v s L)) h
 
 -- a typed primitive's constant is typed
-pub constant_is_typed : (k : WithValue) (e : Expression) → PrimitiveIsTyped (with_value k e) → IsTypedIn no_names e
-constant_is_typed k e (is_typed (constant_takes h)) = typed_in has_no_names h
-constant_is_typed k e (is_typed (initial_pre_takes h)) = typed_in has_no_names h
+pub constant_is_typed : (φ : AnswersByName) (k : WithValue) (e : Expression) → PrimitiveIsTyped φ (with_value k e) → IsTypedIn (no_names φ) e
+constant_is_typed φ k e (is_typed K (constant_takes h)) = typed_in (has_no_names K) h
+constant_is_typed φ k e (is_typed K (initial_pre_takes h)) = typed_in (has_no_names K) h
 
 module _ (xs : Exprs) where
   -- a constant's fault is that of the first sample
-  value_fails : (k : WithValue) (e : Expression) (f : EvalFault) → Evaluates (Err f) (eval e no_names) → Begins xs (with_value k e) (Err f)
-  value_fails k e (Value x) h = begins_with_fault (λ s. ap (λ r. r >>= λ v. answer (value_formula k v s [])) h)
-  value_fails k e Memory h = begins_without_memory
+  value_fails : (φ : AnswersByName) (k : WithValue) (e : Expression) (f : EvalFault) → Evaluates (Err f) (eval e (no_names φ)) → Begins xs φ (with_value k e) (Err f)
+  value_fails φ k e (Value x) h = begins_with_fault (λ s. ap (λ r. r >>= λ v. answer (value_formula k v s [])) h)
+  value_fails φ k e Memory h = begins_without_memory
 
-  pub begins_exit : (k : WithValue) (e : Expression) (f : EvalFault) (r : Result PrimState EvalFault)
-      → IsErrAnd r (λ e. e ≡ f) → Evaluates (Err f) (eval e no_names) → Begins xs (with_value k e) r
-  begins_exit k e f (Ok i) h g = absurd h
-  begins_exit k e f (Err q) h g = subst (λ (q : EvalFault). Begins xs (with_value k e) (Err q)) (sym h) (value_fails k e f g)
+  pub begins_exit : (φ : AnswersByName) (k : WithValue) (e : Expression) (f : EvalFault) (r : Result PrimState EvalFault)
+      → IsErrAnd r (λ e. e ≡ f) → Evaluates (Err f) (eval e (no_names φ)) → Begins xs φ (with_value k e) r
+  begins_exit φ k e f (Ok i) h g = absurd h
+  begins_exit φ k e f (Err q) h g = subst (λ (q : EvalFault). Begins xs φ (with_value k e) (Err q)) (sym h) (value_fails φ k e f g)
 
   pub identity_goes_on : (q : Primitive) (scope : Scope) (d : _) (x : Data) (L : Life)
       → Remembers xs Identity q scope L → GoesOn xs q scope (step d x) L Identity (Ok x)
@@ -60,15 +61,15 @@ module _ (xs : Exprs) where
       goes_on (value_gives InitialPre e scope v (step d x) L h ∙ ap answer (sym g)) (keeps_previous h refl)
 
   -- a function takes what its state is fed with
-  pub function_is_fed : (f : FunctionId) (x : Data) → PrimitiveIsFed xs (Arrow f) x → TakesValue no_names (function_at xs f) x
-  function_is_fed f x (is_fed keeps_function (arrow_takes h) i) = takes_value has_no_names h i
+  pub function_is_fed : (φ : AnswersByName) (f : FunctionId) (x : Data) → PrimitiveIsFed xs φ (Arrow f) x → TakesValue (no_names φ) (function_at xs f) x
+  function_is_fed φ f x (is_fed keeps_function K (arrow_takes h) i) = takes_value (has_no_names K) h i
 
   -- a primitive without constants keeps nothing of the empty life
-  pub bare_keeps : (k : Bare) → Remembers xs Identity (bare k) no_names []
-  bare_keeps BIdentity = keeps_nothing
+  pub bare_keeps : (φ : AnswersByName) (k : Bare) → Remembers xs Identity (bare k) (no_names φ) []
+  bare_keeps φ BIdentity = keeps_nothing
 
-  pub arrow_goes_on : (f : FunctionId) (d : _) (x : Data) (r : Result Data EvalFault) → Evaluates r (apply (function_at xs f) x no_names)
-      → (q : Primitive) (scope : Scope) (L : Life) → Remembers xs (Arrow f) q scope L → GoesOn xs q scope (step d x) L (Arrow f) r
-  arrow_goes_on f d x (Ok v) h q scope L keeps_function = goes_on h keeps_function
-  arrow_goes_on f d x (Err (Value y)) h q scope L keeps_function = goes_on_with_fault h
-  arrow_goes_on f d x (Err Memory) h q scope L K = goes_on_without_memory
+  pub arrow_goes_on : (φ : AnswersByName) (f : FunctionId) (d : _) (x : Data) (r : Result Data EvalFault) → Evaluates r (apply (function_at xs f) x (no_names φ))
+      → (q : Primitive) (scope : Scope) (L : Life) → functions_in scope ≡ φ → Remembers xs (Arrow f) q scope L → GoesOn xs q scope (step d x) L (Arrow f) r
+  arrow_goes_on φ f d x (Ok v) h q scope L same keeps_function = goes_on (ap (λ (ψ : AnswersByName). apply (function_at xs f) x (no_names ψ)) same ∙ h) keeps_function
+  arrow_goes_on φ f d x (Err (Value y)) h q scope L same keeps_function = goes_on_with_fault (ap (λ (ψ : AnswersByName). apply (function_at xs f) x (no_names ψ)) same ∙ h)
+  arrow_goes_on φ f d x (Err Memory) h q scope L same K = goes_on_without_memory

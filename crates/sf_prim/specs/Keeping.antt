@@ -2,6 +2,7 @@
 use Rattle.std.specs.Prelude.{◌≡◌, List, [], ◌∷◌, Result, Ok, Err}
 use Rattle.sf_value.specs.Values.{Kind, Data, HasKind}
 use Rattle.sf_value.specs.declared.fault.ValueFault.{ValueFault}
+use Rattle.sf_func.specs.Registries.{TypesByName, AnswersByName, KeepTheirTypes}
 use Rattle.sf_expr.specs.Expressions.{Expression}
 use Rattle.sf_expr.specs.Evaluation.{Scope, no_names, answer, failed, eval}
 use Rattle.sf_expr.specs.declared.exprs.FunctionId.{FunctionId}
@@ -34,26 +35,27 @@ pub data Remembers (xs : Exprs) : PrimState → Primitive → Scope → Life →
       → eval e scope ≡ answer v → Remembers xs (Constant v) (with_value VConstant e) scope L
   keeps_previous : {e : Expression} {scope : Scope} {v w : Data} {L : Life}
       → eval e scope ≡ answer v → w ≡ before v L → Remembers xs (Previous w) (with_value InitialPre e) scope L
-  keeps_function : {f : FunctionId} {L : Life} → Remembers xs (Arrow f) (arrow (function_at xs f)) no_names L
+  keeps_function : {f : FunctionId} {g : AnswersByName} {L : Life} → Remembers xs (Arrow f) (arrow (function_at xs f)) (no_names g) L
 
--- no names, over the signatures of templates
-abbrev pub without_names : List Signature → Context
-without_names ss = record { bindings = []; signatures = ss }
+-- no names, over the signatures of templates and functions of these types
+abbrev pub without_names : TypesByName → List Signature → Context
+without_names fs ss = record { bindings = []; signatures = ss; functions = fs }
 
--- A primitive has types, where no names are bound.
-pub data PrimitiveIsTyped (q : Primitive) : Type 0 where
-  is_typed : {ss : List Signature} {a b : Kind} → PrimitiveTakes (without_names ss) q a b → PrimitiveIsTyped q
+-- A primitive has types, where no names are bound and functions that answer this keep theirs.
+pub data PrimitiveIsTyped (f : AnswersByName) (q : Primitive) : Type 0 where
+  is_typed : {fs : TypesByName} {ss : List Signature} {a b : Kind} → KeepTheirTypes fs f → PrimitiveTakes (without_names fs ss) q a b → PrimitiveIsTyped f q
 
--- The input has the type of a primitive that the state keeps.
-pub data PrimitiveIsFed (xs : Exprs) (i : PrimState) (x : Data) : Type 0 where
-  is_fed : {q : Primitive} {scope : Scope} {L : Life} {ss : List Signature} {a b : Kind}
-      → Remembers xs i q scope L → PrimitiveTakes (without_names ss) q a b → HasKind x a → PrimitiveIsFed xs i x
+-- The input has the type of a primitive that the state keeps, where functions that answer this keep their types.
+pub data PrimitiveIsFed (xs : Exprs) (f : AnswersByName) (i : PrimState) (x : Data) : Type 0 where
+  is_fed : {q : Primitive} {scope : Scope} {L : Life} {fs : TypesByName} {ss : List Signature} {a b : Kind}
+      → Remembers xs i q scope L → KeepTheirTypes fs f → PrimitiveTakes (without_names fs ss) q a b → HasKind x a → PrimitiveIsFed xs f i x
 
--- A primitive before its first sample, or the fault of its constants, which is that of the first sample.
-pub data Begins (xs : Exprs) (q : Primitive) : Result PrimState EvalFault → Type 0 where
-  begins : {i : PrimState} → Remembers xs i q no_names [] → Begins xs q (Ok i)
-  begins_with_fault : {x : ValueFault} → ((s : Step) → formula q no_names s [] ≡ failed x) → Begins xs q (Err (Value x))
-  begins_without_memory : Begins xs q (Err Memory)
+-- A primitive before its first sample, or the fault of its constants, which is that of the first sample, where functions
+-- answer this.
+pub data Begins (xs : Exprs) (f : AnswersByName) (q : Primitive) : Result PrimState EvalFault → Type 0 where
+  begins : {i : PrimState} → Remembers xs i q (no_names f) [] → Begins xs f q (Ok i)
+  begins_with_fault : {x : ValueFault} → ((s : Step) → formula q (no_names f) s [] ≡ failed x) → Begins xs f q (Err (Value x))
+  begins_without_memory : Begins xs f q (Err Memory)
 
 -- A primitive's next sample gives its formula, and its state keeps the longer life.
 pub data GoesOn (xs : Exprs) (q : Primitive) (scope : Scope) (s : Step) (L : Life) : PrimState → Result Data EvalFault → Type 0 where

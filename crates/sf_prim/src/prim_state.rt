@@ -8,6 +8,7 @@ ghost use Rattle.sf_operator.specs.declared.fault.EvalFault.TheVariants.{Memory}
 ghost use Rattle.sf_prim.specs.Gifts.{gift};
 
 use sf_expr::{EvalFault, Exprs, FunctionId, Scope, apply, eval};
+use sf_func::Holds;
 use sf_term::{Bare, Primitive, WithValue};
 use sf_value::Value;
 use std::alloc::{AllocError, Global};
@@ -29,27 +30,29 @@ pub enum PrimState {
 impl PrimState {
     ghost use Rattle.std.specs.Prelude.{◌≡◌, [], ◌∷◌, IfOk};
     ghost use Rattle.sf_expr.specs.Expressions.{Expression};
-    ghost use Rattle.sf_expr.specs.Evaluation.{Scope as Names, no_names, answer, eval as worth};
+    ghost use Rattle.sf_func.specs.Registries.{AnswersByName};
+    ghost use Rattle.sf_expr.specs.Evaluation.{Scope as Names, no_names, functions_in, answer, eval as worth};
     ghost use Rattle.sf_expr.specs.declared.exprs.Exprs.{Exprs as ExprsOf};
     ghost use Rattle.sf_term.specs.Trees.{Primitive as Form, bare as bare_form, with_value as form_with_value};
     ghost use Rattle.sf_mean.specs.Lives.{step, Life};
     ghost use Rattle.sf_prim.specs.Keeping.{primitive_over, Remembers, PrimitiveIsTyped, PrimitiveIsFed, Begins, GoesOn};
 
     /// A primitive before its first sample. Its constants are evaluated here; the error is their
-    /// first fault, or `Memory`. The primitive has types.
-    pub fn born(
+    /// first fault, or `Memory`. The primitive has types, and the functions keep theirs.
+    pub fn born<R: Holds>(
         alloc: Global,
         expressions: &Exprs,
+        functions: &R,
         primitive: Primitive,
     ) -> Result<PrimState, EvalFault>
-        requires { ∥ PrimitiveIsTyped (primitive_over expressions.now primitive) ∥₁ }
-        ensures { Begins expressions.now (primitive_over expressions.now primitive) result }
+        requires { ∥ PrimitiveIsTyped (R.answers functions.now) (primitive_over expressions.now primitive) ∥₁ }
+        ensures { Begins expressions.now (R.answers functions.now) (primitive_over expressions.now primitive) result }
     {
         match primitive {
             Primitive::Bare(form) => Ok(PrimState::bare(form)),
             Primitive::WithValue(form, expression) => {
-                let names = Scope::new(alloc);
-                let value = eval(alloc, expressions, expression, &names)?;
+                let names = Scope::new();
+                let value = eval(alloc, expressions, expression, &names, functions)?;
                 Ok(PrimState::with_value(form, value))
             }
             Primitive::Arrow(function) => Ok(PrimState::Arrow(function)),
@@ -58,7 +61,7 @@ impl PrimState {
 
     // A primitive without constants, before its first sample.
     fn bare(form: Bare) -> PrimState
-        ensures { (xs : ExprsOf) → Remembers xs result (bare_form form) no_names [] }
+        ensures { (xs : ExprsOf) (f : AnswersByName) → Remembers xs result (bare_form form) (no_names f) [] }
     {
         match form {
             Bare::Identity => PrimState::Identity,
@@ -67,8 +70,8 @@ impl PrimState {
 
     // A primitive with its value, before its first sample.
     fn with_value(form: WithValue, value: Value) -> PrimState
-        ensures { (xs : ExprsOf) (e : Expression) → worth e no_names ≡ answer value →
-            Remembers xs result (form_with_value form e) no_names [] }
+        ensures { (xs : ExprsOf) (f : AnswersByName) (e : Expression) → worth e (no_names f) ≡ answer value →
+            Remembers xs result (form_with_value form e) (no_names f) [] }
     {
         match form {
             WithValue::Constant => PrimState::Constant(value),
@@ -80,16 +83,17 @@ impl PrimState {
     /// the type that the primitive takes. The error is the fault of the primitive's formula, or `Memory`; after it the
     /// state stands for nothing, and the value may be any.
     #[inline(always)]
-    pub fn step(
+    pub fn step<R: Holds>(
         &mut self,
         alloc: Global,
         expressions: &Exprs,
+        functions: &R,
         dt: u64,
         value: &mut Value,
     ) -> Result<(), EvalFault>
-        requires { ∥ PrimitiveIsFed expressions.now self.old value.old ∥₁ }
-        ensures { (q : Form) (scope : Names) (L : Life) → Remembers expressions.now self.old q scope L →
-            GoesOn expressions.now q scope (step dt value.old) L self.new (gift result value.new) }
+        requires { ∥ PrimitiveIsFed expressions.now (R.answers functions.now) self.old value.old ∥₁ }
+        ensures { (q : Form) (scope : Names) (L : Life) → functions_in scope ≡ R.answers functions.now →
+            Remembers expressions.now self.old q scope L → GoesOn expressions.now q scope (step dt value.old) L self.new (gift result value.new) }
     {
         match self {
             PrimState::Identity => Ok(()),
@@ -98,7 +102,9 @@ impl PrimState {
                 mem::swap(next, value);
                 Ok(())
             }
-            PrimState::Arrow(function) => replace(alloc, expressions, *function, value),
+            PrimState::Arrow(function) => {
+                replace(alloc, expressions, functions, *function, value)
+            }
         }
     }
 
@@ -128,16 +134,17 @@ fn copy(alloc: Global, constant: &Value, value: &mut Value) -> Result<(), EvalFa
 
 // What a function makes of the input, in its place.
 #[inline(never)]
-fn replace(
+fn replace<R: Holds>(
     alloc: Global,
     expressions: &Exprs,
+    functions: &R,
     function: FunctionId,
     value: &mut Value,
 ) -> Result<(), EvalFault>
-    requires { ∥ TakesValue no_names (function_at expressions.now function) value.old ∥₁ }
+    requires { ∥ TakesValue (no_names (R.answers functions.now)) (function_at expressions.now function) value.old ∥₁ }
     ensures { Evaluates (gift result value.new)
-        (applied (function_at expressions.now function) value.old no_names) }
+        (applied (function_at expressions.now function) value.old (no_names (R.answers functions.now))) }
 {
-    *value = apply(alloc, expressions, function, value)?;
+    *value = apply(alloc, expressions, function, value, functions)?;
     Ok(())
 }

@@ -41,4 +41,4 @@ module _ (Q : Leaves) (one : OneLeaf Q) where
       go e s L ys zs o c A B P F =
           let k = quiet_steps Q one f h e s L ys A in
           let M : Outcome → Type 0 = λ o. Chained Q x f (constant i) e s L zs o (over_stages x (both_costs (text_cost f) one_term)) in
-          lowered (subst M (after_value k.0 (as_outcome (formula (with_value Constant i) (scope_around e) s L) []) ∙ sym (once_at Q one F at_primitive).0) (chained A B k.1 (goes at_primitive))) (below_any _ _)
+          lowered (subst M (after_value k.0 (as_outcome (formula (with_value Constant i) (scope_around Q.functions e) s L) []) ∙ sym (once_at Q one F at_primitive).0) (chained A B k.1 (goes at_primitive))) (below_any _ _)

@@ -47,8 +47,8 @@ module _ (Q : Leaves) (one : OneLeaf Q) where
   -- ## One after another
 
   chained_along : {g : Chain} {e : Environment} (s : Step) {M : Life} {q : Outcome} {b : Cost} (v : Evaluated Data) → Along Q (as_outcome v []) (arr g) e (with_input s (value_in (as_outcome v []))) M q b
-      → combined later (as_outcome v []) q ≡ as_outcome (v >>= λ y. apply_chain g y (scope_around e)) []
-  chained_along {g} {e} s (answer y) (goes D) = ap (combined later (gave y [])) (once_at Q one D at_primitive).0 ∙ after_value y (as_outcome (apply_chain g y (scope_around e)) [])
+      → combined later (as_outcome v []) q ≡ as_outcome (v >>= λ y. apply_chain g y (scope_around Q.functions e)) []
+  chained_along {g} {e} s (answer y) (goes D) = ap (combined later (gave y [])) (once_at Q one D at_primitive).0 ∙ after_value y (as_outcome (apply_chain g y (scope_around Q.functions e)) [])
   chained_along s (failed x) stays = refl
 
   pub sound_arr_composed : {x : Extent} {f g : Chain} → Sound Q one true (staged x (arr f) (arr g)) (arr (chained_functions f g))
@@ -57,28 +57,28 @@ module _ (Q : Leaves) (one : OneLeaf Q) where
       go : {o : Outcome} {c : Cost} → Chained Q x (arr f) (arr g) e s L zs o c → Lowered true (At Q (arr (chained_functions f g)) e s L o) c
       go (chained {ys = ys} {p = p} {q = q} {c = a} {d = b} A B C D) =
           let r = once_at Q one C at_primitive in
-          let v = apply_chain f (input_of s) (scope_around e) in
+          let v = apply_chain f (input_of s) (scope_around Q.functions e) in
           let N : Outcome → Type 0 = λ p. Along Q p (arr g) e (with_input s (value_in p)) (relay L ys) q b in
           let M : Outcome → Type 0 = λ o. At Q (arr (chained_functions f g)) e s L o one_term in
-          let h : combined later p q ≡ as_outcome (v >>= λ y. apply_chain g y (scope_around e)) [] = ap (λ p. combined later p q) r.0 ∙ chained_along s v (subst N r.0 D) in
+          let h : combined later p q ≡ as_outcome (v >>= λ y. apply_chain g y (scope_around Q.functions e)) [] = ap (λ p. combined later p q) r.0 ∙ chained_along s v (subst N r.0 D) in
           lowered (subst M (sym h) at_primitive) (below_one x a b r.1)
 
   pub back_arr_composed : {x : Extent} {f g : Chain} → Sound Q one false (arr (chained_functions f g)) (staged x (arr f) (arr g))
   back_arr_composed {x} {f} {g} = rebuilt_stages Q one go
     where
       go : RebuildsStages Q one false x (arr (chained_functions f g)) (arr f) (arr g)
-      go e s L ys zs o c A B P F = made (apply_chain f (input_of s) (scope_around e)) refl
+      go e s L ys zs o c A B P F = made (apply_chain f (input_of s) (scope_around Q.functions e)) refl
         where
-          made : (v : Evaluated Data) → apply_chain f (input_of s) (scope_around e) ≡ v → Lowered false (Chained Q x (arr f) (arr g) e s L zs o) c
+          made : (v : Evaluated Data) → apply_chain f (input_of s) (scope_around Q.functions e) ≡ v → Lowered false (Chained Q x (arr f) (arr g) e s L zs o) c
           made (answer y) h =
               let N : Evaluated Data → Type 0 = λ v. At Q (arr f) e s L (as_outcome v []) one_term in
               let M : Outcome → Type 0 = λ o. Chained Q x (arr f) (arr g) e s L zs o (over_stages x (both_costs one_term one_term)) in
-              let k = after_value y (as_outcome (apply_chain g y (scope_around e)) []) ∙ ap (λ v. as_outcome (v >>= λ y. apply_chain g y (scope_around e)) []) (sym h) ∙ sym (once_at Q one F at_primitive).0 in
+              let k = after_value y (as_outcome (apply_chain g y (scope_around Q.functions e)) []) ∙ ap (λ v. as_outcome (v >>= λ y. apply_chain g y (scope_around Q.functions e)) []) (sym h) ∙ sym (once_at Q one F at_primitive).0 in
               lowered (subst M k (chained A B (subst N h at_primitive) (goes at_primitive))) (below_any _ _)
           made (failed z) h =
               let N : Evaluated Data → Type 0 = λ v. At Q (arr f) e s L (as_outcome v []) one_term in
               let M : Outcome → Type 0 = λ o. Chained Q x (arr f) (arr g) e s L zs o (over_stages x (both_costs one_term one_term)) in
-              let k = ap (λ v. as_outcome (v >>= λ y. apply_chain g y (scope_around e)) []) (sym h) ∙ sym (once_at Q one F at_primitive).0 in
+              let k = ap (λ v. as_outcome (v >>= λ y. apply_chain g y (scope_around Q.functions e)) []) (sym h) ∙ sym (once_at Q one F at_primitive).0 in
               lowered (subst M k (chained A B (subst N h at_primitive) stays)) (below_any _ _)
 
   -- ## On one part of a pair
@@ -89,7 +89,7 @@ module _ (Q : Leaves) (one : OneLeaf Q) where
       go : {o : Outcome} {c : Cost} → Sided Q a (arr f) e s L o c → Lowered true (At Q (arr (on_side a f)) e s L o) c
       go (seen_side {o = p} {c = b} A C) =
           let r = once_at Q one C at_primitive in
-          let v = apply_chain f (side_of a (input_of s)) (scope_around e) in
+          let v = apply_chain f (side_of a (input_of s)) (scope_around Q.functions e) in
           let M : Outcome → Type 0 = λ o. At Q (arr (on_side a f)) e s L o one_term in
           let h = ap (changed (with_side a (input_of s))) r.0 ∙ changed_answer (with_side a (input_of s)) v in
           let x : count b ≡ 1 = ap count r.1 in
@@ -101,7 +101,7 @@ module _ (Q : Leaves) (one : OneLeaf Q) where
     where
       go : RebuildsSide Q one false a (arr (on_side a f)) (arr f)
       go e s L us o c A F =
-          let v = apply_chain f (side_of a (input_of s)) (scope_around e) in
+          let v = apply_chain f (side_of a (input_of s)) (scope_around Q.functions e) in
           let M : Outcome → Type 0 = λ o. Sided Q a (arr f) e s L o (over one_term) in
           lowered (subst M (changed_answer (with_side a (input_of s)) v ∙ sym (once_at Q one F at_primitive).0) (seen_side A at_primitive)) (below_any _ _)
 
@@ -109,15 +109,15 @@ module _ (Q : Leaves) (one : OneLeaf Q) where
 
   -- the second function stands after the first
   paired_along : {g : Chain} {e : Environment} {s : Step} {M : Life} {q : Outcome} {b : Cost} (v : Evaluated Data) → Along Q (as_outcome v []) (arr g) e s M q b
-      → combined pair (as_outcome v []) q ≡ as_outcome (v >>= λ y. apply_chain g (input_of s) (scope_around e) >>= λ z. answer (pair y z)) []
-  paired_along {g} {e} {s} (answer y) (goes D) = ap (combined pair (gave y [])) (once_at Q one D at_primitive).0 ∙ paired_value y (apply_chain g (input_of s) (scope_around e))
+      → combined pair (as_outcome v []) q ≡ as_outcome (v >>= λ y. apply_chain g (input_of s) (scope_around Q.functions e) >>= λ z. answer (pair y z)) []
+  paired_along {g} {e} {s} (answer y) (goes D) = ap (combined pair (gave y [])) (once_at Q one D at_primitive).0 ∙ paired_value y (apply_chain g (input_of s) (scope_around Q.functions e))
   paired_along (failed x) stays = refl
 
   data Both (g : Chain) (e : Environment) (s : Step) (M : Life) (v : Evaluated Data) (o : Outcome) : Type 0 where
     both_made : {q : Outcome} → Along Q (as_outcome v []) (arr g) e s M q one_term → combined pair (as_outcome v []) q ≡ o → Both g e s M v o
 
-  both_of : (g : Chain) (e : Environment) (s : Step) (M : Life) (v : Evaluated Data) → Both g e s M v (as_outcome (v >>= λ y. apply_chain g (input_of s) (scope_around e) >>= λ z. answer (pair y z)) [])
-  both_of g e s M (answer y) = both_made (goes at_primitive) (paired_value y (apply_chain g (input_of s) (scope_around e)))
+  both_of : (g : Chain) (e : Environment) (s : Step) (M : Life) (v : Evaluated Data) → Both g e s M v (as_outcome (v >>= λ y. apply_chain g (input_of s) (scope_around Q.functions e) >>= λ z. answer (pair y z)) [])
+  both_of g e s M (answer y) = both_made (goes at_primitive) (paired_value y (apply_chain g (input_of s) (scope_around Q.functions e)))
   both_of g e s M (failed x) = both_made stays refl
 
   pub sound_arr_in_parallel : {f g : Chain} → Sound Q one true (joined InParallel (arr f) (arr g)) (arr (on_both f g))
@@ -126,7 +126,7 @@ module _ (Q : Leaves) (one : OneLeaf Q) where
       go : {zs : List Data} {o : Outcome} {c : Cost} → Paired Q (arr f) (arr g) e s L zs o c → Lowered true (At Q (arr (on_both f g)) e s L o) c
       go (paired {p = p} {q = q} {c = a} {d = b} A B C D) =
           let r = once_at Q one C at_primitive in
-          let v = apply_chain f (first_of (input_of s)) (scope_around e) in
+          let v = apply_chain f (first_of (input_of s)) (scope_around Q.functions e) in
           let N : Outcome → Type 0 = λ p. Along Q p (arr g) e (with_input s (second_of (input_of s))) (with_inputs second_of L) q b in
           let M : Outcome → Type 0 = λ o. At Q (arr (on_both f g)) e s L o one_term in
           let h = ap (λ p. combined pair p q) r.0 ∙ paired_along v (subst N r.0 D) in
@@ -137,7 +137,7 @@ module _ (Q : Leaves) (one : OneLeaf Q) where
     where
       go : RebuildsParallel Q one false (arr (on_both f g)) (arr f) (arr g)
       go e s L ys zs o c A B F =
-          elim (both_of g e (with_input s (second_of (input_of s))) (with_inputs second_of L) (apply_chain f (first_of (input_of s)) (scope_around e))) [
+          elim (both_of g e (with_input s (second_of (input_of s))) (with_inputs second_of L) (apply_chain f (first_of (input_of s)) (scope_around Q.functions e))) [
             | both_made D h ↦
                 let M : Outcome → Type 0 = λ o. Paired Q (arr f) (arr g) e s L (pairs ys zs) o (over (both_costs one_term one_term)) in
                 lowered (subst M (h ∙ sym (once_at Q one F at_primitive).0) (paired A B at_primitive D)) (below_any _ _)
@@ -149,7 +149,7 @@ module _ (Q : Leaves) (one : OneLeaf Q) where
       go : {o : Outcome} {c : Cost} → Fanned Q (arr f) (arr g) e s L o c → Lowered true (At Q (arr (fanned_functions f g)) e s L o) c
       go (fanned {p = p} {q = q} {c = a} {d = b} A B C D) =
           let r = once_at Q one C at_primitive in
-          let v = apply_chain f (input_of s) (scope_around e) in
+          let v = apply_chain f (input_of s) (scope_around Q.functions e) in
           let N : Outcome → Type 0 = λ p. Along Q p (arr g) e s L q b in
           let M : Outcome → Type 0 = λ o. At Q (arr (fanned_functions f g)) e s L o one_term in
           let h = ap (λ p. combined pair p q) r.0 ∙ paired_along v (subst N r.0 D) in
@@ -160,7 +160,7 @@ module _ (Q : Leaves) (one : OneLeaf Q) where
     where
       go : RebuildsFan Q one false (arr (fanned_functions f g)) (arr f) (arr g)
       go e s L ys zs o c A B F =
-          elim (both_of g e s L (apply_chain f (input_of s) (scope_around e))) [
+          elim (both_of g e s L (apply_chain f (input_of s) (scope_around Q.functions e))) [
             | both_made D h ↦
                 let M : Outcome → Type 0 = λ o. Fanned Q (arr f) (arr g) e s L o (over (both_costs one_term one_term)) in
                 lowered (subst M (h ∙ sym (once_at Q one F at_primitive).0) (fanned A B at_primitive D)) (below_any _ _)

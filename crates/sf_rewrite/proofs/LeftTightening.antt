@@ -121,7 +121,7 @@ module _ (Q : Leaves) (one : OneLeaf Q) where
     rounds_join (then_gave {s = s} {r = q} F C) (one_round {z = z} {r = r} R G) =
         elim (step_join {s = s} F R (rounds_join F R) (goes_before z C G)) [ lowered B k ↦ one_round (rounds_join F R) B ]
 
-  made_before : {i : Expression} {f g : Term} {e : Environment} {v : Data} {s : Step} {L : Life} {us zs : List Data} {o : Outcome} {c : Cost} → eval i (scope_around e) ≡ answer v → Parts Q f e L us → Rounds Q v g e (relay L us) zs → Before f g e v s L us zs o c
+  made_before : {i : Expression} {f g : Term} {e : Environment} {v : Data} {s : Step} {L : Life} {us zs : List Data} {o : Outcome} {c : Cost} → eval i (scope_around Q.functions e) ≡ answer v → Parts Q f e L us → Rounds Q v g e (relay L us) zs → Before f g e v s L us zs o c
       → Lowered true (At Q (staged whole f (loop_pre i g)) e s L (changed first_of o)) (over c)
   made_before {i} {f} {g} {e} {s = s} {L = L} k F R (goes_before y {u = u} {r = r} {o = o} {c = c} {d = d} C G) =
       let M : Outcome → Type 0 = λ o. At Q (staged whole f (loop_pre i g)) e s L o (over (both_costs c (over d))) in
@@ -133,13 +133,13 @@ module _ (Q : Leaves) (one : OneLeaf Q) where
   sound_left_tightened {f = f} {g = g} q e s L ys o c P (at_loop {v = v} k A (part B C)) =
       elim (rounds_split f g e v A) [ split F R ↦ made_before k F R (step_before f g e v F R (view_stages Q one (rounds_parts Q one A) C)) ]
   sound_left_tightened {i} {f} {g} q e s L ys o c P (at_constant k) = elim q [
-    | inl h ↦ absurd (no_fault (sym (quiet_eval i h (scope_around e)).1 ∙ k))
+    | inl h ↦ absurd (no_fault (sym (quiet_eval i h (scope_around Q.functions e)).1 ∙ k))
     | inr h ↦
         let r = quiet_steps Q one f h e s [] [] begins in
         lowered (make_stages Q one (chained begins begins r.1 (goes (at_constant k)))) (below (omega arith) (omega arith))
   ]
 
-  last_loop : {i : Expression} {g : Term} {e : Environment} {v : Data} {s : Step} {M : Life} {o : Outcome} {c : Cost} → eval i (scope_around e) ≡ answer v → At Q (loop_pre i g) e s M o c → (y : Data) (r : Readings) → o ≡ gave y r → (zs : List Data) × Rounds Q v g e (s ∷ M) zs
+  last_loop : {i : Expression} {g : Term} {e : Environment} {v : Data} {s : Step} {M : Life} {o : Outcome} {c : Cost} → eval i (scope_around Q.functions e) ≡ answer v → At Q (loop_pre i g) e s M o c → (y : Data) (r : Readings) → o ≡ gave y r → (zs : List Data) × Rounds Q v g e (s ∷ M) zs
   last_loop k (at_leaf h A) y r e = absurd (no_truth h)
   last_loop {g = g} {e = e} {v = v} {s = s} {M = M} k (at_loop {v = w} {zs = zs} {o = gave z q} {c = c} k' R G) y r h =
       let identity : w ≡ v = ap the_answer (sym k' ∙ k) in
@@ -149,7 +149,7 @@ module _ (Q : Leaves) (one : OneLeaf Q) where
   last_loop k (at_loop {o = faulted x} k' R G) y r h = absurd cc
   last_loop k (at_constant k') y r h = absurd (no_fault (sym k ∙ k'))
 
-  loop_rounds : {i : Expression} {g : Term} {e : Environment} {v : Data} {M : Life} {ys : List Data} → eval i (scope_around e) ≡ answer v → Parts Q (loop_pre i g) e M ys → (zs : List Data) × Rounds Q v g e M zs
+  loop_rounds : {i : Expression} {g : Term} {e : Environment} {v : Data} {M : Life} {ys : List Data} → eval i (scope_around Q.functions e) ≡ answer v → Parts Q (loop_pre i g) e M ys → (zs : List Data) × Rounds Q v g e M zs
   loop_rounds k begins = ([], no_round)
   loop_rounds k (then_gave {y = y} {r = r} A B) = last_loop k B y r refl
 
@@ -177,7 +177,7 @@ module _ (Q : Leaves) (one : OneLeaf Q) where
       outer (chained {p = gave u r} A B C (goes D)) = value _ refl A C D
       outer (chained {ys = us} {p = faulted x} {c = c} A B C stays) = elim still [
         | inl h ↦
-            let k = quiet_eval i h (scope_around e) in
+            let k = quiet_eval i h (scope_around Q.functions e) in
             let R = loop_rounds k.1 B in
             let S = rounds_join f g e k.0 A R.1 in
             elim (step_join f g e k.0 {s = s} A R.1 S (stays_before C)) [ lowered B l ↦ lowered (at_loop k.1 S B) (below_any _ _) ]

@@ -1,9 +1,10 @@
 -- Plans keep outcomes.
-use Rattle.std.proofs.Common.{◌≡◌, Bool, true, false, IsTrue, List, [], ◌∷◌, refl, sym, ap, ◌∙◌, subst}
+use Rattle.std.proofs.Common.{◌≡◌, Bool, true, false, IsTrue, List, [], ◌∷◌, sym, ap, ◌∙◌, subst}
 use Rattle.sf_value.specs.Values.{Data}
 use Rattle.sf_value.specs.declared.fault.ValueFault.{ValueFault}
+use Rattle.sf_func.specs.Registries.{AnswersByName}
 use Rattle.sf_expr.specs.Expressions.{Expression}
-use Rattle.sf_expr.specs.Evaluation.{answer, failed, Scope, eval}
+use Rattle.sf_expr.specs.Evaluation.{answer, failed, Scope, no_names, eval}
 use Rattle.sf_term.specs.declared.form.Join.{Join}
 use Rattle.sf_term.specs.declared.form.Side.{Side}
 use Rattle.sf_term.specs.declared.form.Heading.{Heading}
@@ -50,8 +51,8 @@ pub data AlikeAll (d : Bool) : Templates → Templates → Type 0 where
   none_alike : AlikeAll d [] []
   more_alike : {s t : Template} {ss ts : Templates} → AlikeTemplate d s t → AlikeAll d ss ts → AlikeAll d (s ∷ ss) (t ∷ ts)
 
-scopes : {d : Bool} {e e' : Environment} → AlikeNames d e e' → scope_around e ≡ scope_around e'
-scopes alike_empty = refl
+scopes : {d : Bool} {φ ψ : AnswersByName} {e e' : Environment} → ψ ≡ φ → AlikeNames d e e' → scope_around φ e ≡ scope_around ψ e'
+scopes same alike_empty = ap no_names (sym same)
 
 -- the texts' costs
 law_texts : {d : Bool} {t u : Term} → Law d t u → Below d (text_cost t) (text_cost u)
@@ -72,10 +73,13 @@ mutual
   formed_texts (same_side A) = below_over _ _ (alike_texts A)
   formed_texts (same_heading A) = below_over _ _ (alike_texts A)
 
-module _ (d : Bool) (n n' : Network) (all : AlikeAll d n.templates n'.templates) (one : OneLeaf (Leaf n)) (one' : OneLeaf (Leaf n')) where
+module _ (d : Bool) (n n' : Network) (all : AlikeAll d n.templates n'.templates) (same : n'.functions ≡ n.functions) (one : OneLeaf (Leaf n)) (one' : OneLeaf (Leaf n')) where
   -- what a form that no law looks into gives: a step of the network, and for each form like it a step there
+  abbrev BothStep : Term → Environment → Step → Life → Outcome → Cost → Type 0
+  BothStep t e s L o c = (Leaf n).leaf t e s L o c × ((u : Term) (e' : Environment) → Formed d t u → AlikeNames d e e' → Lowered d ((Leaf n').leaf u e' s L o) c)
+
   abbrev Q : Leaves
-  Q t e s L o c = Leaf n t e s L o c × ((u : Term) (e' : Environment) → Formed d t u → AlikeNames d e e' → Lowered d (Leaf n' u e' s L o) c)
+  Q = record { functions = n.functions; leaf = BothStep }
 
   one_Q : OneLeaf Q
   one_Q t e s L a b c k A B = one t e s L a b c k A.0 B.0
@@ -101,14 +105,14 @@ module _ (d : Bool) (n n' : Network) (all : AlikeAll d n.templates n'.templates)
     goes_rounds (one_round A B) = elim (goes_part B) [ lowered B' h ↦ one_round (goes_rounds A) B' ]
 
   -- a form that no law looks into
-  go_leaf : {t u : Term} → IsTrue (is_leaf t) → IsTrue (is_leaf u) → Formed d t u → {e e' : Environment} → AlikeNames d e e' → {s : Step} {L : Life} {o : Outcome} {c : Cost} → Q t e s L o c → Lowered d (At (Leaf n') u e' s L o) c
+  go_leaf : {t u : Term} → IsTrue (is_leaf t) → IsTrue (is_leaf u) → Formed d t u → {e e' : Environment} → AlikeNames d e e' → {s : Step} {L : Life} {o : Outcome} {c : Cost} → BothStep t e s L o c → Lowered d (At (Leaf n') u e' s L o) c
   go_leaf h k F {e' = e'} E A = elim (A.1 _ e' F E) [ lowered B l ↦ lowered (at_leaf k B) l ]
 
   go_primitive : {p : Primitive} → Goes (primitive p) (primitive p)
   go_primitive e e' E s L ys o c P (at_leaf h A) = go_leaf h h same_primitive E A
   go_primitive {p} e e' E s L ys o c P at_primitive =
       let N : Scope → Type 0 = λ sc. At (Leaf n') (primitive p) e' s L (as_outcome (formula p sc s L) []) one_term in
-      lowered (subst N (sym (scopes E)) at_primitive) (below_same d one_term)
+      lowered (subst N (sym (scopes same E)) at_primitive) (below_same d one_term)
 
   go_join : {j : Join} {f f' g g' : Term} → Goes f f' → Goes g g' → Below d (text_cost g) (text_cost g') → Goes (joined j f g) (joined j f' g')
   go_join S T b e e' E s L ys o c P (at_leaf h B) = absurd (no_truth h)
@@ -126,8 +130,8 @@ module _ (d : Bool) (n n' : Network) (all : AlikeAll d n.templates n'.templates)
 
   go_heading : {h : Heading} {i : Expression} {t t' : Term} → Goes t t' → Below d (text_cost t) (text_cost t') → Goes (headed h i t) (headed h i t')
   go_heading S b e e' E s L ys o c P (at_leaf h B) = absurd (no_truth h)
-  go_heading {i = i} S b e e' E s L ys o c P (at_loop h A B) = elim (goes_part S e e' E B) [ lowered B' k ↦ lowered (at_loop (ap (eval i) (sym (scopes E)) ∙ h) (goes_rounds S e e' E A) B') (below_over _ _ k) ]
-  go_heading {i = i} S b e e' E s L ys o c P (at_constant h) = lowered (at_constant (ap (eval i) (sym (scopes E)) ∙ h)) (below_over _ _ b)
+  go_heading {i = i} S b e e' E s L ys o c P (at_loop h A B) = elim (goes_part S e e' E B) [ lowered B' k ↦ lowered (at_loop (ap (eval i) (sym (scopes same E)) ∙ h) (goes_rounds S e e' E A) B') (below_over _ _ k) ]
+  go_heading {i = i} S b e e' E s L ys o c P (at_constant h) = lowered (at_constant (ap (eval i) (sym (scopes same E)) ∙ h)) (below_over _ _ b)
 
   go_turn : {t u v w : Term} → Law d t u → Goes u v → Law d v w → Goes t w
   go_turn A S C e e' E s L ys o c P F =
@@ -179,7 +183,7 @@ module _ (d : Bool) (n n' : Network) (all : AlikeAll d n.templates n'.templates)
   failing (primitive p) h = absurd cc
   failing (joined j f g) h = absurd cc
   failing (sided a t) h = absurd cc
-  failing (headed k i t) {e} h = at_constant (made_fault (eval i (scope_around e)) h)
+  failing (headed k i t) {e} h = at_constant (made_fault (eval i (scope_around n.functions e)) h)
   failing (staged x f g) h = absurd cc
 
   mutual
@@ -191,7 +195,7 @@ module _ (d : Bool) (n n' : Network) (all : AlikeAll d n.templates n'.templates)
     ready_form (of_primitive {p = p} {e = e} {s = s} {L = L} h) k = let N : Outcome → Type 0 = λ o. At Q (primitive p) e s L o one_term in subst N h at_primitive
     ready_form (of_join A B C) k = at_join (opened_all (ready_all A)) (opened_part (ready_gives B)) (ready_next C)
     ready_form (of_side A) k = at_side (opened_part (ready_gives A))
-    ready_form (of_loop {i = i} {e = e} A B) k = at_loop (made_answer (eval i (scope_around e)) k) (ready_loops A) (opened_part (ready_gives B))
+    ready_form (of_loop {i = i} {e = e} A B) k = at_loop (made_answer (eval i (scope_around n.functions e)) k) (ready_loops A) (opened_part (ready_gives B))
     ready_form (of_stages A B C) k = at_stages (opened_all (ready_all A)) (opened_part (ready_gives B)) (ready_next C)
 
     ready_gives : {P : Process} {L : Life} {o : Outcome} {c : Cost} → Gives n P L o c → ReadyNow P L o c

@@ -25,7 +25,7 @@ made_fault (failed y) h = ap (λ m. failed (fault_of m)) h
 -- back to processes
 module _ (n : Network) where
   abbrev pub Leaf : Leaves
-  Leaf t e s L o c = Sample n (closure t e) s L o c
+  Leaf = record { functions = n.functions; leaf = λ t e s L o c. Sample n (closure t e) s L o c }
 
   mutual
     pub closed : {t : Term} {e : Environment} {s : Step} {L : Life} {o : Outcome} {c : Cost} → At Leaf t e s L o c → Sample n (closure t e) s L o c

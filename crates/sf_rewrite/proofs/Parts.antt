@@ -4,6 +4,7 @@ use mathlib.Core.Path.{ap₂, subst₂}
 use Rattle.sf_value.specs.Values.{Data, number, first_of}
 use Rattle.std.specs.Prelude.{pos}
 use Rattle.sf_value.specs.declared.fault.ValueFault.{ValueFault}
+use Rattle.sf_func.specs.Registries.{AnswersByName}
 use Rattle.sf_expr.specs.Expressions.{Expression}
 use Rattle.sf_expr.specs.Evaluation.{Evaluated, answer, failed, eval}
 use Rattle.sf_term.specs.declared.form.Join.{Join}
@@ -16,9 +17,10 @@ use Rattle.sf_mean.specs.Lives.{Step, input_of, Life, Environment, scope_around,
 use Rattle.sf_mean.specs.Formulas.{side_of, with_side, formula}
 use Rattle.sf_mean.specs.Meaning.{Readings, Outcome, gave, faulted, changed, combined, value_in, as_outcome, Cost, both_costs, over, over_stages, one_term, text_cost, left_life, right_life, join_value}
 
--- what a form that no law looks into gives at a step
-abbrev pub Leaves : Type 1
-Leaves = Term → Environment → Step → Life → Outcome → Cost → Type 0
+-- what stored functions answer, and what a form that no law looks into gives at a step
+pub record Leaves : Type 1 where
+  pub functions : AnswersByName
+  pub leaf : Term → Environment → Step → Life → Outcome → Cost → Type 0
 
 -- the forms that no law looks into
 abbrev pub is_leaf : Term → Bool
@@ -39,9 +41,9 @@ mutual
         → Parts Q t e L ys → At Q t e s L (gave y r) c → Parts Q t e (s ∷ L) (y ∷ ys)
 
   pub data At (Q : Leaves) : Term → Environment → Step → Life → Outcome → Cost → Type 0 where
-    at_leaf : {t : Term} {e : Environment} {s : Step} {L : Life} {o : Outcome} {c : Cost} → IsTrue (is_leaf t) → Q t e s L o c → At Q t e s L o c
+    at_leaf : {t : Term} {e : Environment} {s : Step} {L : Life} {o : Outcome} {c : Cost} → IsTrue (is_leaf t) → Q.leaf t e s L o c → At Q t e s L o c
     at_primitive : {p : Primitive} {e : Environment} {s : Step} {L : Life}
-        → At Q (primitive p) e s L (as_outcome (formula p (scope_around e) s L) []) one_term
+        → At Q (primitive p) e s L (as_outcome (formula p (scope_around Q.functions e) s L) []) one_term
     at_join : {j : Join} {f g : Term} {e : Environment} {s : Step} {L : Life} {ys : List Data} {o o' : Outcome} {c c' : Cost}
         → Parts Q f e (left_life j L) ys
         → Part Q f e (left_life j (s ∷ L)) o c
@@ -56,12 +58,12 @@ mutual
         → Part Q t e (with_inputs (side_of d) (s ∷ L)) o c
         → At Q (sided d t) e s L (changed (with_side d (input_of s)) o) (over c)
     at_loop : {i : Expression} {t : Term} {e : Environment} {v : Data} {s : Step} {L : Life} {zs : List Data} {o : Outcome} {c : Cost}
-        → eval i (scope_around e) ≡ answer v
+        → eval i (scope_around Q.functions e) ≡ answer v
         → Rounds Q v t e L zs
         → Part Q t e (fed v (s ∷ L) zs) o c
         → At Q (headed LoopPre i t) e s L (changed first_of o) (over c)
     at_constant : {h : Heading} {i : Expression} {t : Term} {e : Environment} {x : ValueFault} {s : Step}
-        → eval i (scope_around e) ≡ failed x
+        → eval i (scope_around Q.functions e) ≡ failed x
         → At Q (headed h i t) e s [] (faulted x) (over (text_cost t))
 
   pub data Then (Q : Leaves) : Outcome → Term → Environment → Life → Outcome → Cost → Type 0 where
@@ -95,7 +97,7 @@ no_fault e = cc
 
 -- leaves give one outcome at most
 abbrev pub OneLeaf : Leaves → Type 0
-OneLeaf Q = (t : Term) (e : Environment) (s : Step) (L : Life) (a b : Outcome) (c d : Cost) → Q t e s L a c → Q t e s L b d → Same a b c d
+OneLeaf Q = (t : Term) (e : Environment) (s : Step) (L : Life) (a b : Outcome) (c d : Cost) → Q.leaf t e s L a c → Q.leaf t e s L b d → Same a b c d
 
 module _ (Q : Leaves) (one : OneLeaf Q) where
   mutual

@@ -2,7 +2,7 @@
 use Rattle.std.proofs.Common.{◌≡◌, IsTrue, Bool, true, false, ◌&&◌, cond, List, [], ◌∷◌, Some, None, refl, ap, ◌∙◌, subst}
 use Rattle.std.specs.Prelude.{Option}
 use Rattle.sf_value.specs.Values.{Data, pair, Rows, no_rows, row, first_of, second_of}
-use Rattle.sf_expr.specs.Expressions.{Expression, variable, literal, paired as paired_expression, applied, operation, conditional, mapped, folded, Function, function}
+use Rattle.sf_expr.specs.Expressions.{Expression, variable, literal, paired as paired_expression, applied, operation, conditional, mapped, folded, called, Function, function}
 use Rattle.sf_operator.specs.declared.operator.Unary.{Unary}
 use Rattle.sf_operator.specs.declared.operator.Unary.TheVariants.{Not, Event, First as FirstOf, Second as SecondOf, IsEvent, Size}
 use Rattle.sf_operator.specs.declared.operator.Operator.{Operator}
@@ -141,6 +141,7 @@ quiet_eval (folded a o b p c) h sc =
     let l = both_true (is_quiet_expression b) (is_quiet_expression c) k.1 in
     next (eval a sc) (λ x. folded_value o x (eval b sc) (λ y. eval c (bound_in p y sc))) (quiet_eval a k.0 sc)
     (λ x. quiet_folded (λ y. eval c (bound_in p y sc)) (λ y. quiet_eval c l.1 (bound_in p y sc)) o x (eval b sc) (quiet_eval b l.0 sc))
+quiet_eval (called g i) h sc = absurd (no_truth h)
 
 quiet_apply : (f : Function) → IsTrue (is_quiet_function f) → (x : Data) (sc : Scope) → Answers (apply f x sc)
 quiet_apply (function p i) h x sc = quiet_eval i h (bound_in p x sc)
@@ -221,14 +222,14 @@ module _ (Q : Leaves) (one : OneLeaf Q) where
 
   steps_loop : (i : Expression) {t : Term} → IsTrue (is_quiet_expression i) → Steps t → Steps (headed LoopPre i t)
   steps_loop i h S e s L zs P =
-      let v = quiet_eval i h (scope_around e) in
+      let v = quiet_eval i h (scope_around Q.functions e) in
       let k = all_rounds S e v.0 L in
       let r = fed_step S e v.0 s L k.0 in
       (first_of r.0, at_loop v.1 k.1 r.1)
 
   pub quiet_steps : (t : Term) → IsTrue (is_quiet t) → Steps t
   quiet_steps (primitive p) h = λ e s L ys P.
-      let r = quiet_formula p h (scope_around e) s L in
+      let r = quiet_formula p h (scope_around Q.functions e) s L in
       let N : Evaluated Data → Type 0 = λ v. At Q (primitive p) e s L (as_outcome v []) one_term in
       (r.0, subst N r.1 at_primitive)
   quiet_steps (joined j f g) h = let k = both_true (is_quiet f) (is_quiet g) h in steps_join j (quiet_steps f k.0) (quiet_steps g k.1)

@@ -46,7 +46,7 @@ module _ (Q : Leaves) (one : OneLeaf Q) where
   rounds_parts no_round = begins
   rounds_parts (one_round A (part P B)) = then_gave (rounds_parts A) B
 
-  pub loop_parts : {i : Expression} {v : Data} {t : Term} {e : Environment} {L : Life} {zs : List Data} → eval i (scope_around e) ≡ answer v → Rounds Q v t e L zs → Parts Q (loop_pre i t) e L (firsts zs)
+  pub loop_parts : {i : Expression} {v : Data} {t : Term} {e : Environment} {L : Life} {zs : List Data} → eval i (scope_around Q.functions e) ≡ answer v → Rounds Q v t e L zs → Parts Q (loop_pre i t) e L (firsts zs)
   loop_parts h no_round = begins
   loop_parts h (one_round A B) = then_gave (loop_parts h A) (at_loop h A B)
 
@@ -93,7 +93,7 @@ module _ (Q : Leaves) (one : OneLeaf Q) where
     lived_rounds (one_round {z = z} {r = r} A (part P B)) =
         elim (lived_rounds A) [ lived R H E ↦ last_after R H E (step_after R E (view_stages Q one (rounds_parts A) B)) z r refl ]
 
-  made_after : {i : Expression} {g h : Term} {e : Environment} {v : Data} {s : Step} {L : Life} {ys us : List Data} {o : Outcome} {c : Cost} → eval i (scope_around e) ≡ answer v → Rounds Q v g e L ys → Parts Q h e (relay L (firsts ys)) us → Lives g h e v s L ys o c
+  made_after : {i : Expression} {g h : Term} {e : Environment} {v : Data} {s : Step} {L : Life} {ys us : List Data} {o : Outcome} {c : Cost} → eval i (scope_around Q.functions e) ≡ answer v → Rounds Q v g e L ys → Parts Q h e (relay L (firsts ys)) us → Lives g h e v s L ys o c
       → Lowered true (At Q (staged whole (loop_pre i g) h) e s L (changed first_of o)) (over c)
   made_after k R H (goes_after {y = y} {r = r} {o = gave u q} G F) = lowered (make_stages Q one (chained (loop_parts k R) H (at_loop k R G) (goes F))) (below (omega arith) (omega arith))
   made_after k R H (goes_after {y = y} {r = r} {o = faulted x} G F) = lowered (make_stages Q one (chained (loop_parts k R) H (at_loop k R G) (goes F))) (below (omega arith) (omega arith))
@@ -161,7 +161,7 @@ module _ (Q : Leaves) (one : OneLeaf Q) where
       → At Q (staged whole (loop_pre i g) h) e s L o c → Lowered false (At Q (loop_pre i (staged whole g (sided First h))) e s L o) c
   back_right_tightened {i} {g} {h} e s L zs o c P F = outer (view_stages Q one P F)
     where
-      value : {L : Life} {v : Data} {ys us : List Data} {p q : Outcome} {c d b : Cost} → eval i (scope_around e) ≡ answer v → Rounds Q v g e L ys → Parts Q h e (relay L (firsts ys)) us → Part Q g e (fed v (s ∷ L) ys) p c
+      value : {L : Life} {v : Data} {ys us : List Data} {p q : Outcome} {c d b : Cost} → eval i (scope_around Q.functions e) ≡ answer v → Rounds Q v g e L ys → Parts Q h e (relay L (firsts ys)) us → Part Q g e (fed v (s ∷ L) ys) p c
           → Along Q (changed first_of p) h e (with_input s (value_in (changed first_of p))) (relay L (firsts ys)) q d → Lowered false (At Q (loop_pre i (staged whole g (sided First h))) e s L (combined later (changed first_of p) q)) b
       value {L = L} {v = v} {p = gave y r} {q = q} k R H G (goes F) =
           elim (back_rounds g h e v R H) [
@@ -174,7 +174,7 @@ module _ (Q : Leaves) (one : OneLeaf Q) where
       value {v = v} {p = faulted x} k R H G stays =
           elim (back_rounds g h e v R H) [ rebuilt_rounds S E ↦ elim (step_back g h e v {s = s} R H S E (stays_after G)) [ lowered B l ↦ lowered (at_loop k S B) (below_any _ _) ] ]
 
-      moved : {L : Life} {v : Data} {ys fs us : List Data} {p q : Outcome} {c d b : Cost} → fs ≡ firsts ys → eval i (scope_around e) ≡ answer v → Rounds Q v g e L ys → Parts Q h e (relay L fs) us → Part Q g e (fed v (s ∷ L) ys) p c
+      moved : {L : Life} {v : Data} {ys fs us : List Data} {p q : Outcome} {c d b : Cost} → fs ≡ firsts ys → eval i (scope_around Q.functions e) ≡ answer v → Rounds Q v g e L ys → Parts Q h e (relay L fs) us → Part Q g e (fed v (s ∷ L) ys) p c
           → Along Q (changed first_of p) h e (with_input s (value_in (changed first_of p))) (relay L fs) q d → Lowered false (At Q (loop_pre i (staged whole g (sided First h))) e s L (combined later (changed first_of p) q)) b
       moved {L = L} {us = us} {p = p} {q = q} {d = d} x k R H G D =
           let N : List Data → Type 0 = λ l. Parts Q h e (relay L l) us in

@@ -7,7 +7,7 @@ use Rattle.sf_mean.specs.Meaning.{Network, Outcome, gave, Cost, count, height, t
 use Rattle.sf_mean.proofs.Once.{once_sample}
 use Rattle.sf_rewrite.specs.Quiet.{is_quiet}
 use Rattle.sf_rewrite.specs.Laws.{unchanged}
-use Rattle.sf_rewrite.specs.Plans.{Plans, plans, PlansParts, PlansAll, no_templates, one_more}
+use Rattle.sf_rewrite.specs.Plans.{Plans, plans, PlansParts, PlansAll, no_templates, one_more, PlansNetwork}
 use Rattle.sf_rewrite.specs.Plans.{of_primitive, of_join, of_side, of_heading}
 use Rattle.sf_rewrite.proofs.Parts.{OneLeaf}
 use Rattle.sf_rewrite.proofs.Quiet.{last_step, quiet_steps}
@@ -46,14 +46,14 @@ from_all (one_more A B) = more_alike (record { name = sym A.name; body = from A.
 one_leaf : (n : Network) → OneLeaf (Leaf n)
 one_leaf n t e s L a b c d A B = once_sample n A B
 
-pub plan_gives : (n m : Network) (t u : Term) (L : Life) (o : Outcome) (c : Cost) → PlansAll n.templates m.templates → Plans t u → Gives n (closure t empty) L o c
+pub plan_gives : (n m : Network) (t u : Term) (L : Life) (o : Outcome) (c : Cost) → PlansNetwork n m → Plans t u → Gives n (closure t empty) L o c
     → (d : Cost) × Gives m (closure u empty) L o d × (count d ≤ count c) × (height d ≤ height c)
 plan_gives n m t u L o c N T G =
-    elim (keeps true n m (onto_all N) (one_leaf n) (one_leaf m) (alike_closure (onto T) alike_empty) G) [ lowered A h ↦ (_, A, h.counts refl, h.heights refl) ]
+    elim (keeps true n m (onto_all N.templates) N.functions (one_leaf n) (one_leaf m) (alike_closure (onto T) alike_empty) G) [ lowered A h ↦ (_, A, h.counts refl, h.heights refl) ]
 
-pub plan_no_more : (n m : Network) (t u : Term) (L : Life) (o : Outcome) (d : Cost) → PlansAll n.templates m.templates → Plans t u → Gives m (closure u empty) L o d → (c : Cost) × Gives n (closure t empty) L o c
+pub plan_no_more : (n m : Network) (t u : Term) (L : Life) (o : Outcome) (d : Cost) → PlansNetwork n m → Plans t u → Gives m (closure u empty) L o d → (c : Cost) × Gives n (closure t empty) L o c
 plan_no_more n m t u L o d N T G =
-    elim (keeps false m n (from_all N) (one_leaf m) (one_leaf n) (alike_closure (from T) alike_empty) G) [ lowered A h ↦ (_, A) ]
+    elim (keeps false m n (from_all N.templates) (sym N.functions) (one_leaf m) (one_leaf n) (alike_closure (from T) alike_empty) G) [ lowered A h ↦ (_, A) ]
 
 pub quiet_gives : (n : Network) (t : Term) (e : Environment) (s : Step) (L : Life) → IsTrue (is_quiet t) → (y : Data) × Gives n (closure t e) (s ∷ L) (gave y []) (text_cost t)
 quiet_gives n t e s L h = let r = last_step (Leaf n) (one_leaf n) (quiet_steps (Leaf n) (one_leaf n) t h) e s L in (r.0, closed_part n r.1)

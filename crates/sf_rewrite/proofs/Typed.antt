@@ -2,6 +2,7 @@
 use Rattle.std.proofs.Common.{◌≡◌, List, ◌∷◌, map, refl, sym, ap}
 use mathlib.Core.Path.{ap₂}
 use Rattle.sf_value.specs.Values.{Kind}
+use Rattle.sf_func.specs.Registries.{TypesByName}
 use Rattle.sf_expr.specs.Expressions.{Expression}
 use Rattle.sf_term.specs.declared.form.Join.{Join}
 use Rattle.sf_term.specs.declared.form.Side.{Side}
@@ -83,5 +84,5 @@ signatures_are (one_more A B) = ap₂ (λ (s : Signature) (l : List Signature). 
     same_signature : {s t : Template} → PlansTemplate s t → signature_of t ≡ signature_of s
     same_signature A = (λ x. record { name = A.name x; input = A.input x; output = A.output x })
 
-pub same_context : {ss ts : Templates} (bs : Bindings) → PlansAll ss ts → context_with bs ss ≡ context_with bs ts
-same_context bs P = ap (λ (l : List Signature). record { bindings = bs; signatures = l }) (signatures_are P)
+pub same_context : {ss ts : Templates} (fs : TypesByName) (bs : Bindings) → PlansAll ss ts → context_with fs bs ss ≡ context_with fs bs ts
+same_context fs bs P = ap (λ (l : List Signature). record { bindings = bs; signatures = l; functions = fs }) (signatures_are P)

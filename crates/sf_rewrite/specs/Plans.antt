@@ -5,6 +5,7 @@ use Rattle.sf_term.specs.declared.form.Join.{Join}
 use Rattle.sf_term.specs.declared.form.Side.{Side}
 use Rattle.sf_term.specs.declared.form.Heading.{Heading}
 use Rattle.sf_term.specs.Trees.{Primitive, Term, primitive, joined, sided, headed, Template, Templates}
+use Rattle.sf_mean.specs.Meaning.{Network}
 use Rattle.sf_rewrite.specs.Laws.{Laws}
 
 mutual
@@ -29,3 +30,8 @@ pub record PlansTemplate (s t : Template) : Type 0 where
 pub data PlansAll : Templates → Templates → Type 0 where
   no_templates : PlansAll [] []
   one_more : {s t : Template} {ss ts : Templates} → PlansTemplate s t → PlansAll ss ts → PlansAll (s ∷ ss) (t ∷ ts)
+
+-- each template's term has its plan, and stored functions answer the same
+pub record PlansNetwork (n m : Network) : Type 0 where
+  pub templates : PlansAll n.templates m.templates
+  pub functions : m.functions ≡ n.functions

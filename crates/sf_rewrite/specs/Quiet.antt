@@ -6,7 +6,7 @@ use Rattle.sf_operator.specs.declared.operator.Unary.TheVariants.{Size}
 use Rattle.sf_operator.specs.declared.operator.Operator.{Operator}
 use Rattle.sf_operator.specs.declared.operator.Operator.TheVariants.{Arithmetic, Merge}
 use Rattle.sf_operator.specs.declared.operator.Merge.TheVariants.{Exclusive}
-use Rattle.sf_expr.specs.Expressions.{Expression, variable, literal, paired, applied, operation, conditional, mapped, folded, Function, function}
+use Rattle.sf_expr.specs.Expressions.{Expression, variable, literal, paired, applied, operation, conditional, mapped, folded, called, Function, function}
 use Rattle.sf_term.specs.Trees.{Chain, lone, chained, on_side, on_both, fanned, Primitive, bare, with_value, arrow, fused, Term, primitive, joined, sided, headed, staged}
 
 -- an operator on a value that always makes one; a table may have more keys than there are numbers
@@ -20,7 +20,7 @@ is_quiet_operator (Arithmetic o) = false
 is_quiet_operator (Merge Exclusive) = false
 is_quiet_operator op = true
 
--- an expression of quiet operators has a value; forms with a function make one of what it answers
+-- an expression of quiet operators has a value; forms with a function make one of what it answers; a stored function may refuse
 abbrev pub is_quiet_expression : Expression → Bool
 is_quiet_expression (variable x) = true
 is_quiet_expression (literal l) = true
@@ -30,6 +30,7 @@ is_quiet_expression (operation i op j) = is_quiet_operator op && (is_quiet_expre
 is_quiet_expression (conditional i j k) = is_quiet_expression i && (is_quiet_expression j && is_quiet_expression k)
 is_quiet_expression (mapped i m p j) = is_quiet_expression i && is_quiet_expression j
 is_quiet_expression (folded i o j p k) = is_quiet_expression i && (is_quiet_expression j && is_quiet_expression k)
+is_quiet_expression (called g i) = false
 
 -- so has a function with such a body
 abbrev pub is_quiet_function : Function → Bool

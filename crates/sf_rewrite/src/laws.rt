@@ -2,24 +2,25 @@
 //! and in the terms of its templates.
 ghost use Rattle.std.specs.Prelude.{◌≡◌, ◌≤◌, [], ◌∷◌, IsTrue};
 ghost use Rattle.sf_value.specs.Values.{Data, Kind};
+ghost use Rattle.sf_func.specs.Registries.{TypesByName};
 ghost use Rattle.sf_term.specs.Trees.{Term, Templates};
 ghost use Rattle.sf_mean.specs.Lives.{Step, Life, closure, Environment, empty};
 ghost use Rattle.sf_mean.specs.Meaning.{Network, Outcome, gave, Cost, count, height, text_cost, Gives};
 ghost use Rattle.sf_mean.specs.Contexts.{Context, context_with, Bindings};
 ghost use Rattle.sf_mean.specs.Typing.{Takes};
 ghost use Rattle.sf_rewrite.specs.Quiet.{is_quiet};
-ghost use Rattle.sf_rewrite.specs.Plans.{Plans, PlansAll};
+ghost use Rattle.sf_rewrite.specs.Plans.{Plans, PlansAll, PlansNetwork};
 ghost use Rattle.sf_rewrite.specs.Normal.{IsPlan, is_written};
 
-/// On every life, the plan of a network gives the outcome that the network gives: the same value with the same readings,
-/// or the same fault. It steps no more terms and stands no higher than the network. Where the network gives no outcome, so
+/// On every life, the plan of a network, with the same stored functions, gives the outcome that the network gives: the same
+/// value with the same readings, or the same fault. It steps no more terms and stands no higher than the network. Where the network gives no outcome, so
 /// does the plan.
 pub fn plan_law()
     ensures gives { (n m : Network) (t u : Term) (L : Life) (o : Outcome) (c : Cost) →
-        PlansAll n.templates m.templates → Plans t u → Gives n (closure t empty) L o c →
+        PlansNetwork n m → Plans t u → Gives n (closure t empty) L o c →
         (d : Cost) × Gives m (closure u empty) L o d × (count d ≤ count c) × (height d ≤ height c) }
     ensures no_more { (n m : Network) (t u : Term) (L : Life) (o : Outcome) (d : Cost) →
-        PlansAll n.templates m.templates → Plans t u → Gives m (closure u empty) L o d →
+        PlansNetwork n m → Plans t u → Gives m (closure u empty) L o d →
         (c : Cost) × Gives n (closure t empty) L o c }
 {}
 
@@ -27,7 +28,7 @@ pub fn plan_law()
 /// a plan make the contexts that those of its network make.
 pub fn plan_types()
     ensures terms { (Γ : Context) (t u : Term) (a b : Kind) → Plans t u → Takes Γ t a b → Takes Γ u a b }
-    ensures contexts { (bs : Bindings) (ss ts : Templates) → PlansAll ss ts → context_with bs ss ≡ context_with bs ts }
+    ensures contexts { (fs : TypesByName) (bs : Bindings) (ss ts : Templates) → PlansAll ss ts → context_with fs bs ss ≡ context_with fs bs ts }
 {}
 
 /// A quiet term gives a value without readings at each step of every life, never a fault, and steps each term of its text.

@@ -3,6 +3,7 @@ use Rattle.std.proofs.Common.{◌≡◌, ℕ, suc, ◌+◌, ◌<◌, List, [], �
 use Rattle.std.proofs.Math.Seq.{take-suc}
 use Rattle.std.specs.declared.alloc.Global.{Global}
 use Rattle.sf_term.specs.declared.form.Join.{Join}
+use Rattle.sf_func.specs.Registries.{AnswersByName}
 use Rattle.sf_law.specs.declared.plan.Plan.{Plan}
 use Rattle.sf_law.specs.Arena.{plan_expressions}
 use Rattle.sf_term.specs.Trees.{Term, Primitive}
@@ -21,17 +22,17 @@ use Rattle.sf_state.specs.declared.state.Process.{Process as SProcess}
 use Rattle.sf_state.specs.declared.state.Env.{Env}
 use Rattle.sf_state.specs.Standing.{Wraps, Stands, unborn, alive, Settles, settles, ready, Lives, lives_primitive, lives_join, lives_pipeline, lives_wrap, IsPipeline, StagesStand, last_stands, stage_stands, IsProcess, IsNames, AllFollow, none_follow, more_follow}
 
-module _ (p : Plan) where
+module _ (φ : AnswersByName) (p : Plan) where
   -- b stands for all that a stands for
   abbrev pub Follows : State → State → Type 0
-  Follows a b = (P : Process) (L : Life) → Stands p a P L → Stands p b P L
+  Follows a b = (P : Process) (L : Life) → Stands φ p a P L → Stands φ p b P L
 
   -- the same of nodes
   abbrev pub NodeFollows : Live → Live → Type 0
-  NodeFollows l m = (P : Process) (L : Life) → Settles p l P L → Settles p m P L
+  NodeFollows l m = (P : Process) (L : Life) → Settles φ p l P L → Settles φ p m P L
 
   pub same_follows : (l m : Live) → m ≡ l → NodeFollows l m
-  same_follows l m e P L S = subst (λ (l : Live). Settles p l P L) (sym e) S
+  same_follows l m e P L S = subst (λ (l : Live). Settles φ p l P L) (sym e) S
 
   pub unborn_follows : (q r : SProcess) → ((P : Process) → IsProcess p q P → IsProcess p r P) → Follows (Unborn q) (Unborn r)
   unborn_follows q r h P L (unborn Q) = unborn (h P Q)
@@ -50,24 +51,24 @@ module _ (p : Plan) where
   wrap_follows w w' a a' f g P L (settles (ready h O (lives_wrap W A))) = settles (ready h O (lives_wrap (f _ _ _ _ _ _ _ W) (g _ _ A)))
 
   -- a pipeline lives where its stages stand
-  pub pipeline_lives : (v : Vec State Global) {t u : Term} {e : Environment} {m : Made} {L : Life} → IsPipeline t u → StagesStand p v.items u e L → Lives p (LPipeline v) t e m L
-  pipeline_lives v {u = u} {e = e} {L = L} Q S = lives_pipeline Q (subst (λ (bs : List State). StagesStand p bs u e L) (sym (items_hidden-the_row-State-0 v)) S)
+  pub pipeline_lives : (v : Vec State Global) {t u : Term} {e : Environment} {m : Made} {L : Life} → IsPipeline t u → StagesStand φ p v.items u e L → Lives φ p (LPipeline v) t e m L
+  pipeline_lives v {u = u} {e = e} {L = L} Q S = lives_pipeline Q (subst (λ (bs : List State). StagesStand φ p bs u e L) (sym (items_hidden-the_row-State-0 v)) S)
 
-  stages_follow : {bs cs : List State} {u : Term} {e : Environment} {L : Life} → AllFollow p bs cs → StagesStand p bs u e L → StagesStand p cs u e L
+  stages_follow : {bs cs : List State} {u : Term} {e : Environment} {L : Life} → AllFollow φ p bs cs → StagesStand φ p bs u e L → StagesStand φ p cs u e L
   stages_follow none_follow S = elim S [ ]
   stages_follow (more_follow f none_follow) (last_stands A) = last_stands (f _ _ A)
   stages_follow (more_follow f fs) (stage_stands O A S) = stage_stands O (f _ _ A) (stages_follow fs S)
 
-  pub pipeline_follows : (v w : Vec State Global) → AllFollow p v.items w.items → NodeFollows (LPipeline v) (LPipeline w)
+  pub pipeline_follows : (v w : Vec State Global) → AllFollow φ p v.items w.items → NodeFollows (LPipeline v) (LPipeline w)
   pipeline_follows v w fs P L (settles (ready h O (lives_pipeline {u = u} {e = e} {L = K} Q S))) =
-      settles (ready h O (pipeline_lives w Q (stages_follow fs (subst (λ (bs : List State). StagesStand p bs u e K) (items_hidden-the_row-State-0 v) S))))
+      settles (ready h O (pipeline_lives w Q (stages_follow fs (subst (λ (bs : List State). StagesStand φ p bs u e K) (items_hidden-the_row-State-0 v) S))))
 
-  follow_push : {bs cs : List State} (a b : State) → AllFollow p bs cs → Follows a b → AllFollow p (bs ++ a ∷ []) (cs ++ b ∷ [])
+  follow_push : {bs cs : List State} (a b : State) → AllFollow φ p bs cs → Follows a b → AllFollow φ p (bs ++ a ∷ []) (cs ++ b ∷ [])
   follow_push a b none_follow f = more_follow f none_follow
   follow_push a b (more_follow g fs) f = more_follow g (follow_push a b fs f)
 
   -- one more state follows
-  pub follow_next : (bs cs ds : List State) (i : ℕ) (a b : State) → AllFollow p (take i bs) cs → i < length bs → a ≡ get_or bs i a → Follows a b → ds ≡ cs ++ b ∷ [] → AllFollow p (take (i + 1) bs) ds
+  pub follow_next : (bs cs ds : List State) (i : ℕ) (a b : State) → AllFollow φ p (take i bs) cs → i < length bs → a ≡ get_or bs i a → Follows a b → ds ≡ cs ++ b ∷ [] → AllFollow φ p (take (i + 1) bs) ds
   follow_next bs cs ds i a b fs h e f ed =
       let n : take (i + 1) bs ≡ take i bs ++ a ∷ [] = let more : i + 1 ≡ suc i = omega arith in ap (λ k. take k bs) more ∙ take-suc bs i a h ∙ ap (λ x. take i bs ++ x ∷ []) (sym e) in
       rw (n, ed) (follow_push a b fs f)

@@ -1,6 +1,7 @@
 -- What states stand for.
 use Rattle.std.specs.Prelude.{◌≡◌, ◌≢◌, List, [], ◌∷◌}
 use Rattle.sf_value.specs.Values.{Data}
+use Rattle.sf_func.specs.Registries.{AnswersByName}
 use Rattle.sf_expr.specs.Expressions.{Expression}
 use Rattle.sf_expr.specs.Evaluation.{answer}
 use Rattle.sf_term.specs.declared.form.Join.{Join}
@@ -44,62 +45,63 @@ pub data IsPipeline : Term → Term → Type 0 where
   is_stages : {f g : Term} → IsPipeline (staged whole f g) (staged rest f g)
   is_sequence : {f g : Term} → IsPipeline (joined InSequence f g) (staged rest f g)
 
+-- what names stand for
+pub data IsNames (p : Plan) : Env → Environment → Type 0 where
+  is_empty : IsNames p SEmpty empty
+
+-- what can be run
+pub data IsProcess (p : Plan) : SProcess → Process → Type 0 where
+  is_closure : {t : PlanId} {names : Env} {e : Environment} → IsNames p names e → IsProcess p (SClosure t names) (closure (plan_tree p t) e)
+
 mutual
-  -- A part of a network stands for a process and the life that it has led. No state stores the life.
-  pub data Stands (p : Plan) : State → Process → Life → Type 0 where
-    unborn : {q : SProcess} {P : Process} → IsProcess p q P → Stands p (Unborn q) P []
+  -- Where functions answer this, a part of a network stands for a process and the life that it has led. No state stores
+  -- the life.
+  pub data Stands (φ : AnswersByName) (p : Plan) : State → Process → Life → Type 0 where
+    unborn : {q : SProcess} {P : Process} → IsProcess p q P → Stands φ p (Unborn q) P []
     -- with the names that are around its term
     alive : {at : _} {names : Env} {l : Live} {t : Term} {e : Environment} {L : Life}
-        → IsNames p names e → Settles p l (closure t e) L → Stands p (Alive' names at l) (closure t e) L
+        → IsNames p names e → Settles φ p l (closure t e) L → Stands φ p (Alive' names at l) (closure t e) L
 
   -- a live part stands for a process and a life that has begun
-  pub data Settles (p : Plan) : Live → Process → Life → Type 0 where
-    settles : {l : Live} {P : Process} {s : Step} {L : Life} → Ready p l P (first_input s L) (s ∷ L) → Settles p l P (s ∷ L)
+  pub data Settles (φ : AnswersByName) (p : Plan) : Live → Process → Life → Type 0 where
+    settles : {l : Live} {P : Process} {s : Step} {L : Life} → Ready φ p l P (first_input s L) (s ∷ L) → Settles φ p l P (s ∷ L)
 
   -- A live part, with what its form was made with; x is the input of its first step, past or to come.
-  pub data Ready (p : Plan) : Live → Process → Data → Life → Type 0 where
+  pub data Ready (φ : AnswersByName) (p : Plan) : Live → Process → Data → Life → Type 0 where
     ready : {l : Live} {t : Term} {e : Environment} {m : Made} {x : Data} {L : Life} {ys : List Data}
-        → make (network_of_plan p) t e x ≡ answer m → Outputs (network_of_plan p) (closure t e) L ys → Lives p l t e m L
-        → Ready p l (closure t e) x L
+        → make (network_of_plan φ p) t e x ≡ answer m → Outputs (network_of_plan φ p) (closure t e) L ys → Lives φ p l t e m L
+        → Ready φ p l (closure t e) x L
 
   -- The same by the forms.
-  pub data Lives (p : Plan) : Live → Term → Environment → Made → Life → Type 0 where
+  pub data Lives (φ : AnswersByName) (p : Plan) : Live → Term → Environment → Made → Life → Type 0 where
     lives_primitive : {i : PrimState} {q : Primitive} {e : Environment} {m : Made} {L : Life}
-        → Remembers (plan_expressions p) i q (scope_around e) L
-        → Lives p (LPrim i) (primitive q) e m L
+        → Remembers (plan_expressions p) i q (scope_around φ e) L
+        → Lives φ p (LPrim i) (primitive q) e m L
     -- each part on its own life, both fed at once
     lives_join : {j : Join} {a b : State} {f g : Term} {e : Environment} {m : Made} {L : Life} {ys : List Data}
-        → j ≢ InSequence → Outputs (network_of_plan p) (closure f e) (left_life j L) ys
-        → Stands p a (closure f e) (left_life j L)
-        → Stands p b (closure g e) (right_life j L ys)
-        → Lives p (LJoin j a b) (joined j f g) e m L
+        → j ≢ InSequence → Outputs (network_of_plan φ p) (closure f e) (left_life j L) ys
+        → Stands φ p a (closure f e) (left_life j L)
+        → Stands φ p b (closure g e) (right_life j L ys)
+        → Lives φ p (LJoin j a b) (joined j f g) e m L
     lives_pipeline : {shape row : _} {t u : Term} {e : Environment} {m : Made} {L : Life}
-        → IsPipeline t u → StagesStand p (items-the_row-State _ row) u e L
-        → Lives p (LPipeline' shape row) t e m L
+        → IsPipeline t u → StagesStand φ p (items-the_row-State _ row) u e L
+        → Lives φ p (LPipeline' shape row) t e m L
     -- one part on its own life
     lives_wrap : {w : Wrap} {a : State} {t u : Term} {e : Environment} {m : Made} {L K : Life}
-        → Wraps (network_of_plan p) w t e m L u K
-        → Stands p a (closure u e) K
-        → Lives p (LWrap w a) t e m L
+        → Wraps (network_of_plan φ p) w t e m L u K
+        → Stands φ p a (closure u e) K
+        → Lives φ p (LWrap w a) t e m L
 
   -- Stages, each on the values of the one before it: two or more, or the last one alone.
-  pub data StagesStand (p : Plan) : List State → Term → Environment → Life → Type 0 where
+  pub data StagesStand (φ : AnswersByName) (p : Plan) : List State → Term → Environment → Life → Type 0 where
     last_stands : {a : State} {t : Term} {e : Environment} {L : Life}
-        → Stands p a (closure t e) L → StagesStand p (a ∷ []) t e L
+        → Stands φ p a (closure t e) L → StagesStand φ p (a ∷ []) t e L
     stage_stands : {a : State} {bs : List State} {f g : Term} {e : Environment} {L : Life} {ys : List Data}
-        → Outputs (network_of_plan p) (closure f e) L ys → Stands p a (closure f e) L → StagesStand p bs g e (relay L ys)
-        → StagesStand p (a ∷ bs) (staged rest f g) e L
-
-  -- what can be run
-  pub data IsProcess (p : Plan) : SProcess → Process → Type 0 where
-    is_closure : {t : PlanId} {names : Env} {e : Environment} → IsNames p names e → IsProcess p (SClosure t names) (closure (plan_tree p t) e)
-
-  -- what names stand for
-  pub data IsNames (p : Plan) : Env → Environment → Type 0 where
-    is_empty : IsNames p SEmpty empty
+        → Outputs (network_of_plan φ p) (closure f e) L ys → Stands φ p a (closure f e) L → StagesStand φ p bs g e (relay L ys)
+        → StagesStand φ p (a ∷ bs) (staged rest f g) e L
 
 -- Each state stands for all that the one at its place stands for.
-pub data AllFollow (p : Plan) : List State → List State → Type 0 where
-  none_follow : AllFollow p [] []
+pub data AllFollow (φ : AnswersByName) (p : Plan) : List State → List State → Type 0 where
+  none_follow : AllFollow φ p [] []
   more_follow : {a b : State} {cs bs : List State}
-      → ((P : Process) (L : Life) → Stands p a P L → Stands p b P L) → AllFollow p cs bs → AllFollow p (a ∷ cs) (b ∷ bs)
+      → ((P : Process) (L : Life) → Stands φ p a P L → Stands φ p b P L) → AllFollow φ p cs bs → AllFollow φ p (a ∷ cs) (b ∷ bs)

@@ -1,5 +1,6 @@
 //! The states of networks.
 ghost use Rattle.std.specs.Prelude.{[], IfOk};
+ghost use Rattle.sf_func.specs.Registries.{AnswersByName};
 ghost use Rattle.sf_law.specs.declared.plan.Plan.{Plan};
 ghost use Rattle.sf_law.specs.Arena.{plan_tree};
 ghost use Rattle.sf_mean.specs.Lives.{closure, empty, Environment, Life, Process as ProcessOf};
@@ -64,7 +65,7 @@ pub enum Env {
 impl State {
     /// A term without names, before its first sample.
     pub fn unborn(term: PlanId) -> State
-        ensures { (p : Plan) → Stands p result (closure (plan_tree p term) empty) [] }
+        ensures { (φ : AnswersByName) (p : Plan) → Stands φ p result (closure (plan_tree p term) empty) [] }
     {
         State::Unborn(Process::Closure(term, Env::Empty))
     }
@@ -72,7 +73,7 @@ impl State {
     /// The same state, over the same node: it needs no memory, and no step of one of the two changes the other. The
     /// error is too many owners of one node.
     pub fn freeze(&self) -> Result<State, AllocError>
-        ensures { IfOk result (λ frozen. (p : Plan) (P : ProcessOf) (L : Life) → Stands p self.now P L → Stands p frozen P L) }
+        ensures { IfOk result (λ frozen. (φ : AnswersByName) (p : Plan) (P : ProcessOf) (L : Life) → Stands φ p self.now P L → Stands φ p frozen P L) }
     {
         match self {
             State::Unborn(process) => {
@@ -91,7 +92,7 @@ impl State {
 impl Live {
     /// A copy of the node over the same parts, which are shared.
     pub fn clone_in(&self, alloc: Global) -> Result<Live, AllocError>
-        ensures { IfOk result (λ copy. (p : Plan) (P : ProcessOf) (L : Life) → Settles p self.now P L → Settles p copy P L) }
+        ensures { IfOk result (λ copy. (φ : AnswersByName) (p : Plan) (P : ProcessOf) (L : Life) → Settles φ p self.now P L → Settles φ p copy P L) }
     {
         match self {
             Live::Prim(prim) => {
@@ -118,7 +119,7 @@ impl Live {
 
 // The same states, each over its node.
 fn freeze_all(alloc: Global, states: &[State]) -> Result<Vec<State>, AllocError>
-    ensures { IfOk result (λ frozen. (p : Plan) → AllFollow p states.now frozen.items) }
+    ensures { IfOk result (λ frozen. (φ : AnswersByName) (p : Plan) → AllFollow φ p states.now frozen.items) }
 {
     let mut frozen = Vec::with_capacity(alloc, states.len())?;
     for state in states {
@@ -131,7 +132,7 @@ fn freeze_all(alloc: Global, states: &[State]) -> Result<Vec<State>, AllocError>
 /// an error, which is a want of memory, it is shared as before.
 #[inline(always)]
 pub fn unshare(alloc: Global, node: &mut Rc<Live>) -> Result<(), AllocError>
-    ensures { (p : Plan) (P : ProcessOf) (L : Life) → Settles p node.old.value P L → Settles p node.new.value P L }
+    ensures { (φ : AnswersByName) (p : Plan) (P : ProcessOf) (L : Life) → Settles φ p node.old.value P L → Settles φ p node.new.value P L }
 {
     if Rc::strong_count(node) == 1 {
         return Ok(());
@@ -143,7 +144,7 @@ pub fn unshare(alloc: Global, node: &mut Rc<Live>) -> Result<(), AllocError>
 #[cold]
 #[inline(never)]
 fn put_copy(alloc: Global, node: &mut Rc<Live>) -> Result<(), AllocError>
-    ensures { (p : Plan) (P : ProcessOf) (L : Life) → Settles p node.old.value P L → Settles p node.new.value P L }
+    ensures { (φ : AnswersByName) (p : Plan) (P : ProcessOf) (L : Life) → Settles φ p node.old.value P L → Settles φ p node.new.value P L }
 {
     let copy = node.clone_in(alloc)?;
     *node = Rc::new(alloc, copy)?;

@@ -6,7 +6,7 @@ use Rattle.sf_value.specs.declared.fault.ValueFault.{ValueFault}
 use Rattle.sf_value.specs.declared.fault.Fault.{Fault}
 use Rattle.sf_value.specs.declared.fault.Fault.TheVariants.{Memory}
 use Rattle.sf_expr.specs.Expressions.{Expression}
-use Rattle.sf_expr.specs.Evaluation.{Scope, answer, failed as no_answer, ◌>>=◌, no_names, eval}
+use Rattle.sf_expr.specs.Evaluation.{Scope, functions_in, answer, failed as no_answer, ◌>>=◌, no_names, eval}
 use Rattle.sf_expr.specs.Answers.{Evaluates}
 use Rattle.sf_expr.specs.declared.exprs.ExprId.{ExprId}
 use Rattle.sf_operator.specs.declared.fault.EvalFault.{EvalFault}
@@ -18,6 +18,7 @@ use Rattle.sf_term.specs.declared.form.Heading.{Heading}
 use Rattle.sf_law.specs.declared.node.PlanId.{PlanId}
 use Rattle.sf_law.specs.declared.node.PlanNode.TheVariants.{Primitive as NPrimitive, Joined as NJoined, Sided as NSided, Headed as NHeaded}
 use Rattle.sf_term.specs.declared.node.Primitive.{Primitive as SPrimitive}
+use Rattle.sf_func.specs.Registries.{AnswersByName}
 use Rattle.sf_law.specs.declared.plan.Plan.{Plan}
 use Rattle.sf_term.specs.Trees.{Primitive, Term, primitive, joined, sided, headed}
 use Rattle.sf_law.specs.Arena.{plan_expressions, plan_tree, plan_expression_at, BuildsPlan, builds_joined, builds_sided, builds_headed}
@@ -58,9 +59,9 @@ pub record IsClosure (q : SProcess) : Type 0 where
 pub closure_of : (q : SProcess) → IsClosure q
 closure_of (SClosure t names) = record { term = t; names = names; is = refl }
 
-module _ (p : Plan) where
+module _ (φ : AnswersByName) (p : Plan) where
   abbrev net : Network
-  net = network_of_plan p
+  net = network_of_plan φ p
 
   -- ## Ticks
 
@@ -79,7 +80,7 @@ module _ (p : Plan) where
       go o k G a b = let c = counts net G in omega (arith, c.0, c.1, h, a, b)
 
   -- memory runs out before a node is counted
-  pub first_memory : {a : State} {s : Step} {m n : Meter} {depth : ℕ} {f : Fault} → entered_of n ≡ entered_of m → height_of n ≡ height_of m → f ≡ Memory → StateSteps p a s (Err f) m n depth
+  pub first_memory : {a : State} {s : Step} {m n : Meter} {depth : ℕ} {f : Fault} → entered_of n ≡ entered_of m → height_of n ≡ height_of m → f ≡ Memory → StateSteps φ p a s (Err f) m n depth
   first_memory en hn e P L A = memory_exit e (record { most = λ o k G. record { entered = omega (arith, en); high = omega (arith, hn) } })
 
   -- memory runs out before a part is stepped
@@ -88,8 +89,8 @@ module _ (p : Plan) where
   early_memory t en hn e = memory_exit e (ticked_within t en hn)
 
   -- memory runs out after the parts have been stepped
-  pub late_memory : {l l' : Live} {s : Step} {v : Data} {n n' n'' : Meter} {inside : ℕ} {f : Fault} → LiveSteps p l s (Ok (l', v)) n n' inside → entered_of n'' ≡ entered_of n' → height_of n'' ≡ height_of n' → f ≡ Memory
-      → LiveSteps p l s (Err f) n n'' inside
+  pub late_memory : {l l' : Live} {s : Step} {v : Data} {n n' n'' : Meter} {inside : ℕ} {f : Fault} → LiveSteps φ p l s (Ok (l', v)) n n' inside → entered_of n'' ≡ entered_of n' → height_of n'' ≡ height_of n' → f ≡ Memory
+      → LiveSteps φ p l s (Err f) n n'' inside
   late_memory hs en hn e m depth t P L R = let w = answered (hs m depth t P L R) in memory_exit e (spent_within (single_gives net P _) w.given w.spent en hn)
 
   -- ## Joins
@@ -98,19 +99,19 @@ module _ (p : Plan) where
     left_at : (L : Life) → step d u ∷ left_life j L ≡ left_life j (step d x ∷ L)
     left_at L = ap (λ (u : Data). step d u ∷ left_life j L) eu ∙ left_and j d x L
 
-    pub join_left_fails : (f : Fault) → StateSteps p a (step d u) (Err f) n n' inside
-        → (m : Meter) (depth : ℕ) → Ticks m n depth inside → (P : Process) (L : Life) → Ready p (LJoin j a b) P (first_input (step d x) L) L
+    pub join_left_fails : (f : Fault) → StateSteps φ p a (step d u) (Err f) n n' inside
+        → (m : Meter) (depth : ℕ) → Ticks m n depth inside → (P : Process) (L : Life) → Ready φ p (LJoin j a b) P (first_input (step d x) L) L
         → StopsFor (Gives net P (step d x ∷ L)) f m n' depth
     join_left_fails q hs m depth t P L (ready {m = made} h O (lives_join {f = f} {g = g} {e = e} {ys = ys} N OL A B)) =
         fails_alike (form_alike net (step d x) L h O) (fails_alike (join_alike net j f g e made (step d x) L ys OL)
         (over_fails t (then_fails (subst (λ (K : Life). StopsFor (Gives net (closure f e) K) q n n' inside) (left_at L) (failed (hs _ _ A))))))
 
-    module _ (a' : State) (y w : Data) (ew : w ≡ right_input j x y) (hs : StateSteps p a (step d u) (Ok (a', y)) n n' inside) where
+    module _ (a' : State) (y w : Data) (ew : w ≡ right_input j x y) (hs : StateSteps φ p a (step d u) (Ok (a', y)) n n' inside) where
       right_at : (L : Life) (ys : List Data) → step d w ∷ right_life j L ys ≡ right_life j (step d x ∷ L) (y ∷ ys)
       right_at L ys = ap (λ (w : Data). step d w ∷ right_life j L ys) ew ∙ right_and j d x y L ys
 
-      pub join_right_fails : (n'' : Meter) (f : Fault) → StateSteps p b (step d w) (Err f) n' n'' inside
-          → (m : Meter) (depth : ℕ) → Ticks m n depth inside → (P : Process) (L : Life) → Ready p (LJoin j a b) P (first_input (step d x) L) L
+      pub join_right_fails : (n'' : Meter) (f : Fault) → StateSteps φ p b (step d w) (Err f) n' n'' inside
+          → (m : Meter) (depth : ℕ) → Ticks m n depth inside → (P : Process) (L : Life) → Ready φ p (LJoin j a b) P (first_input (step d x) L) L
           → StopsFor (Gives net P (step d x ∷ L)) f m n'' depth
       join_right_fails n'' q hs2 m depth t P L (ready {m = made} h O (lives_join {f = f} {g = g} {e = e} {ys = ys} N OL A B)) =
           let one = answered (hs _ _ A) in
@@ -119,23 +120,23 @@ module _ (p : Plan) where
           fails_alike (form_alike net (step d x) L h O) (fails_alike (join_alike net j f g e made (step d x) L ys OL)
           (over_fails t (rest_fails (λ z. Gives net (closure g e) (right_life j (step d x ∷ L) (z ∷ ys))) (single_gives net _ _) G one.spent H)))
 
-      pub join_steps : (n'' : Meter) (b' : State) (z v : Data) → v ≡ join_value j y z → StateSteps p b (step d w) (Ok (b', z)) n' n'' inside
-          → LiveSteps p (LJoin j a b) (step d x) (Ok (LJoin j a' b', v)) n n'' inside
+      pub join_steps : (n'' : Meter) (b' : State) (z v : Data) → v ≡ join_value j y z → StateSteps φ p b (step d w) (Ok (b', z)) n' n'' inside
+          → LiveSteps φ p (LJoin j a b) (step d x) (Ok (LJoin j a' b', v)) n n'' inside
       join_steps n'' b' z v ev hs2 m depth t P L (ready {m = made} h O (lives_join {f = f} {g = g} {e = e} {ys = ys} N OL A B)) =
           let one = answered (hs _ _ A) in
           let G = subst (λ (K : Life). Gives net (closure f e) K (gave y one.r) one.k) (left_at L) one.given in
           let OL' = subst (λ (K : Life). Outputs net (closure f e) K (y ∷ ys)) (left_at L) (gave_outputs net OL one.given) in
-          let A' = subst (λ (K : Life). Stands p a' (closure f e) K) (left_at L) one.holds in
+          let A' = subst (λ (K : Life). Stands φ p a' (closure f e) K) (left_at L) one.holds in
           let two = answered (hs2 _ _ B) in
           let H = subst (λ (K : Life). Gives net (closure g e) K (gave z two.r) two.k) (right_at L ys) two.given in
-          let B' = subst (λ (K : Life). Stands p b' (closure g e) K) (right_at L ys) two.holds in
+          let B' = subst (λ (K : Life). Stands φ p b' (closure g e) K) (right_at L ys) two.holds in
           let F : Form net (joined j f g) e made (step d x) L (gave (join_value j y z) (one.r ++ two.r)) (over (both_costs one.k two.k)) = of_join OL G (goes_on H) in
           let F' = subst (λ (v : Data). Form net (joined j f g) e made (step d x) L (gave v (one.r ++ two.r)) (over (both_costs one.k two.k))) (sym ev) F in
           answers (gives O (of_form h F')) (over_spent t (both_spent one.spent two.spent)) (settles (ready h (and_gave O (of_form h F')) (lives_join N OL' A' B')))
 
       -- the second part's result is the join's
-      pub join_last : {A E : Type 0} (n'' : Meter) (b' : State) (z v : Data) (r : Result A E) (f : Fault) → v ≡ join_value j y z → StateSteps p b (step d w) (left_or r (b', z) f) n' n'' inside
-          → LiveSteps p (LJoin j a b) (step d x) (left_or r (LJoin j a' b', v) f) n n'' inside
+      pub join_last : {A E : Type 0} (n'' : Meter) (b' : State) (z v : Data) (r : Result A E) (f : Fault) → v ≡ join_value j y z → StateSteps φ p b (step d w) (left_or r (b', z) f) n' n'' inside
+          → LiveSteps φ p (LJoin j a b) (step d x) (left_or r (LJoin j a' b', v) f) n n'' inside
       join_last n'' b' z v (Ok u) f ev hs2 = join_steps n'' b' z v ev hs2
       join_last n'' b' z v (Err e) f ev hs2 = λ m depth t P L R. fails (join_right_fails n'' f hs2 m depth t P L R)
 
@@ -145,19 +146,19 @@ module _ (p : Plan) where
     part_at : (K : Life) → step d u ∷ K ≡ step d (part_input w x) ∷ K
     part_at K = ap (λ (u : Data). step d u ∷ K) eu
 
-    pub wrap_fails : (f : Fault) → StateSteps p a (step d u) (Err f) n n' inside
-        → (m : Meter) (depth : ℕ) → Ticks m n depth inside → (P : Process) (L : Life) → Ready p (LWrap w a) P (first_input (step d x) L) L
+    pub wrap_fails : (f : Fault) → StateSteps φ p a (step d u) (Err f) n n' inside
+        → (m : Meter) (depth : ℕ) → Ticks m n depth inside → (P : Process) (L : Life) → Ready φ p (LWrap w a) P (first_input (step d x) L) L
         → StopsFor (Gives net P (step d x ∷ L)) f m n' depth
     wrap_fails q hs m depth t P L (ready h O (lives_wrap {u = v} {e = e} {K = K} W A)) =
         fails_alike (form_alike net (step d x) L h O) (fails_alike (wrap_alike net d x W)
         (over_fails t (change_fails (subst (λ (K : Life). StopsFor (Gives net (closure v e) K) q n n' inside) (part_at K) (failed (hs _ _ A))))))
 
-    pub wrap_steps : (a' : State) (w' : Wrap) (y v : Data) → w' ≡ kept_after w y → v ≡ wrap_value w x y → StateSteps p a (step d u) (Ok (a', y)) n n' inside
-        → LiveSteps p (LWrap w a) (step d x) (Ok (LWrap w' a', v)) n n' inside
+    pub wrap_steps : (a' : State) (w' : Wrap) (y v : Data) → w' ≡ kept_after w y → v ≡ wrap_value w x y → StateSteps φ p a (step d u) (Ok (a', y)) n n' inside
+        → LiveSteps φ p (LWrap w a) (step d x) (Ok (LWrap w' a', v)) n n' inside
     wrap_steps a' w' y v ew ev hs m depth t P L (ready {m = made} h O (lives_wrap {t = form} {u = part} {e = e} {K = K} W A)) =
         let one = answered (hs _ _ A) in
         let G = subst (λ (K : Life). Gives net (closure part e) K (gave y one.r) one.k) (part_at K) one.given in
-        let A' = subst (λ (K : Life). Stands p a' (closure part e) K) (part_at K) one.holds in
+        let A' = subst (λ (K : Life). Stands φ p a' (closure part e) K) (part_at K) one.holds in
         let F = (wrap_alike net d x W).to (gave (wrap_value w x y) one.r) (over one.k) (counted (with_change G)) in
         let F' = subst (λ (v : Data). Form net form e made (step d x) L (gave v one.r) (over one.k)) (sym ev) F in
         answers (gives O (of_form h F')) (over_spent t one.spent) (settles (ready h (and_gave O (of_form h F')) (lives_wrap (rw ew (wraps_on net d x W G)) A')))
@@ -170,17 +171,20 @@ module _ (p : Plan) where
   goes_on_fault : {q : Primitive} {scope : Scope} {s : Step} {L : Life} {i : PrimState} {x : ValueFault} → GoesOn (plan_expressions p) q scope s L i (Err (EValue x)) → formula q scope s L ≡ no_answer x
   goes_on_fault (goes_on_with_fault h) = h
 
+  functions_around : (e : Environment) → functions_in (scope_around φ e) ≡ φ
+  functions_around empty = refl
+
   module _ (i i' : PrimState) (s : Step) (n : Meter) (inside : ℕ) where
-    pub prim_steps : (v : Data) → ((q : Primitive) (scope : Scope) (L : Life) → Remembers (plan_expressions p) i q scope L → GoesOn (plan_expressions p) q scope s L i' (Ok v)) → LiveSteps p (LPrim i) s (Ok (LPrim i', v)) n n inside
+    pub prim_steps : (v : Data) → ((q : Primitive) (scope : Scope) (L : Life) → functions_in scope ≡ φ → Remembers (plan_expressions p) i q scope L → GoesOn (plan_expressions p) q scope s L i' (Ok v)) → LiveSteps φ p (LPrim i) s (Ok (LPrim i', v)) n n inside
     prim_steps v hs m depth t P L (ready {m = made} h O (lives_primitive {q = q} {e = e} K)) =
-        let w = goes_on_parts (hs q (scope_around e) L K) in
+        let w = goes_on_parts (hs q (scope_around φ e) L (functions_around e) K) in
         let F : Form net (primitive q) e made s L (gave v []) one_term = of_primitive (ap (λ o. as_outcome o []) w.0) in
         answers (gives O (of_form h F)) (one_spent t) (settles (ready h (and_gave O (of_form h F)) (lives_primitive w.1)))
 
-    pub prim_fails : (n' : Meter) (g : Fault) (f : EvalFault) → g ≡ fault_from f → entered_of n' ≡ entered_of n → height_of n' ≡ height_of n → ((q : Primitive) (scope : Scope) (L : Life) → Remembers (plan_expressions p) i q scope L → GoesOn (plan_expressions p) q scope s L i' (Err f))
-        → LiveSteps p (LPrim i) s (Err g) n n' inside
+    pub prim_fails : (n' : Meter) (g : Fault) (f : EvalFault) → g ≡ fault_from f → entered_of n' ≡ entered_of n → height_of n' ≡ height_of n → ((q : Primitive) (scope : Scope) (L : Life) → functions_in scope ≡ φ → Remembers (plan_expressions p) i q scope L → GoesOn (plan_expressions p) q scope s L i' (Err f))
+        → LiveSteps φ p (LPrim i) s (Err g) n n' inside
     prim_fails n' g (EValue x) e en hn hs m depth t P L (ready {t = u} {e = names} h O (lives_primitive {q = q} {e = e'} K)) =
-        let w = goes_on_fault (hs q (scope_around e') L K) in
+        let w = goes_on_fault (hs q (scope_around φ e') L (functions_around e') K) in
         let G : Gives net (closure (primitive q) e') (s ∷ L) (faulted x) one_term = gives O (of_form h (of_primitive (ap (λ o. as_outcome o []) w))) in
         fails (subst (λ (g : Fault). StopsFor (Gives net (closure (primitive q) e') (s ∷ L)) g m n' depth) (sym e) (faults G ((ticked_within t en hn).most _ _ G)))
     prim_fails n' g EMemory e en hn hs m depth t P L R = early_memory t en hn e
@@ -189,96 +193,96 @@ module _ (p : Plan) where
 
   -- a live part's answer is its state's
   held : {A E : Type 0} {t : Term} {e : Environment} {s : Step} {L : Life} {R : Rel} {m n : Meter} {depth : ℕ} (at : _) (names : Env) (l : Live) (v : Data) (r : Result A E) (f : Fault) → IsNames p names e
-      → Answers {A = Live × Data} (λ y. y.1) (λ y. Settles p y.0 (closure t e) (s ∷ L)) R (left_or r (l, v) f) m n depth
-      → Answers {A = State × Data} (λ y. y.1) (λ y. Stands p y.0 (closure t e) (s ∷ L)) R (left_or r (Alive' names at l, v) f) m n depth
+      → Answers {A = Live × Data} (λ y. y.1) (λ y. Settles φ p y.0 (closure t e) (s ∷ L)) R (left_or r (l, v) f) m n depth
+      → Answers {A = State × Data} (λ y. y.1) (λ y. Stands φ p y.0 (closure t e) (s ∷ L)) R (left_or r (Alive' names at l, v) f) m n depth
   held at names l v (Ok u) f N h = let w = answered h in answers w.given w.spent (alive N w.holds)
   held at names l v (Err e) f N h = fails (failed h)
 
   -- the node that is stepped stands for all that the shared one stands for
-  module _ (l own : Live) (follows : (P : Process) (L : Life) → Settles p l P L → Settles p own P L) where
-    own_steps : {m n n' : Meter} {depth inside : ℕ} {s : Step} {r : Result (Live × Data) Fault} → Ticks m n depth inside → LiveSteps p own s r n n' inside → (P : Process) (L : Life) → Settles p own P L
-        → Answers (λ y. y.1) (λ y. Settles p y.0 P (s ∷ L)) (Gives net P (s ∷ L)) r m n' depth
+  module _ (l own : Live) (follows : (P : Process) (L : Life) → Settles φ p l P L → Settles φ p own P L) where
+    own_steps : {m n n' : Meter} {depth inside : ℕ} {s : Step} {r : Result (Live × Data) Fault} → Ticks m n depth inside → LiveSteps φ p own s r n n' inside → (P : Process) (L : Life) → Settles φ p own P L
+        → Answers (λ y. y.1) (λ y. Settles φ p y.0 P (s ∷ L)) (Gives net P (s ∷ L)) r m n' depth
     own_steps {m = m} {depth = depth} t h P L (settles R) = h m depth t P _ R
 
-    pub state_steps : {A E : Type 0} {at : _} (at' : _) {m n n' : Meter} {depth inside : ℕ} (names : Env) (l' : Live) (s : Step) (v : Data) (r : Result A E) (f : Fault) → Ticks m n depth inside → LiveSteps p own s (left_or r (l', v) f) n n' inside
-        → StateSteps p (Alive' names at l) s (left_or r (Alive' names at' l', v) f) m n' depth
+    pub state_steps : {A E : Type 0} {at : _} (at' : _) {m n n' : Meter} {depth inside : ℕ} (names : Env) (l' : Live) (s : Step) (v : Data) (r : Result A E) (f : Fault) → Ticks m n depth inside → LiveSteps φ p own s (left_or r (l', v) f) n n' inside
+        → StateSteps φ p (Alive' names at l) s (left_or r (Alive' names at' l', v) f) m n' depth
     state_steps at' names l' s v r f t h P L (alive N S) = held at' names l' v r f N (own_steps t h _ L (follows _ _ S))
 
   -- ## The first sample
 
-  opened : {l : Live} {t : Term} {e : Environment} → Opens p t e (Ok l) → (x : Data) → Ready p l (closure t e) x []
+  opened : {l : Live} {t : Term} {e : Environment} → Opens φ p t e (Ok l) → (x : Data) → Ready φ p l (closure t e) x []
   opened (opens h) = h
 
   module _ {m n : Meter} {depth inside : ℕ} (term : PlanId) (names : Env) (d : ℕ) (x : Data) (t : Ticks m n depth inside) where
-    module _ {n' : Meter} (l : Live) (ho : (e : Environment) → IsNames p names e → Opens p (plan_tree p term) e (Ok l)) where
-      pub start_steps : {at : _} (around : Env) (l' kept : Live) (v : Data) → around ≡ names → kept ≡ l' → LiveSteps p l (step d x) (Ok (l', v)) n n' inside
-          → StateSteps p (Unborn (SClosure term names)) (step d x) (Ok (Alive' around at kept, v)) m n' depth
+    module _ {n' : Meter} (l : Live) (ho : (e : Environment) → IsNames p names e → Opens φ p (plan_tree p term) e (Ok l)) where
+      pub start_steps : {at : _} (around : Env) (l' kept : Live) (v : Data) → around ≡ names → kept ≡ l' → LiveSteps φ p l (step d x) (Ok (l', v)) n n' inside
+          → StateSteps φ p (Unborn (SClosure term names)) (step d x) (Ok (Alive' around at kept, v)) m n' depth
       start_steps around l' kept v ea ek hs P L (unborn (is_closure {e = e} N)) =
           let w = answered (hs m depth t _ [] (opened (ho e N) x)) in
-          answers w.given w.spent (alive (subst (λ (names : Env). IsNames p names e) (sym ea) N) (subst (λ (l : Live). Settles p l (closure (plan_tree p term) e) (step d x ∷ [])) (sym ek) w.holds))
+          answers w.given w.spent (alive (subst (λ (names : Env). IsNames p names e) (sym ea) N) (subst (λ (l : Live). Settles φ p l (closure (plan_tree p term) e) (step d x ∷ [])) (sym ek) w.holds))
 
-      pub start_fails : (f : Fault) → LiveSteps p l (step d x) (Err f) n n' inside → (P : Process) (L : Life) → Stands p (Unborn (SClosure term names)) P L → StopsFor (Gives net P (step d x ∷ L)) f m n' depth
+      pub start_fails : (f : Fault) → LiveSteps φ p l (step d x) (Err f) n n' inside → (P : Process) (L : Life) → Stands φ p (Unborn (SClosure term names)) P L → StopsFor (Gives net P (step d x ∷ L)) f m n' depth
       start_fails f hs P L (unborn (is_closure {e = e} N)) = failed (hs m depth t _ [] (opened (ho e N) x))
 
     module _ {n' : Meter} (en : entered_of n' ≡ entered_of n) (hn : height_of n' ≡ height_of n) where
-      open_fails : (u : Term) (e : Environment) (f : Fault) → Opens p u e (Err f) → StopsFor (Gives net (closure u e) (step d x ∷ [])) f m n' depth
+      open_fails : (u : Term) (e : Environment) (f : Fault) → Opens φ p u e (Err f) → StopsFor (Gives net (closure u e) (step d x ∷ [])) f m n' depth
       open_fails u e f (opens_with_fault h) = faults (h (step d x)) ((ticked_within t en hn).most _ _ (h (step d x)))
       open_fails u e f opens_without_memory = memory (ticked_within t en hn)
 
-      pub start_open_fails : (f g : Fault) → g ≡ f → ((e : Environment) → IsNames p names e → Opens p (plan_tree p term) e (Err f)) → StateSteps p (Unborn (SClosure term names)) (step d x) (Err g) m n' depth
+      pub start_open_fails : (f g : Fault) → g ≡ f → ((e : Environment) → IsNames p names e → Opens φ p (plan_tree p term) e (Err f)) → StateSteps φ p (Unborn (SClosure term names)) (step d x) (Err g) m n' depth
       start_open_fails f g eg ho P L (unborn (is_closure {e = e} N)) = fails (subst (λ (g : Fault). StopsFor (Gives net (closure (plan_tree p term) e) (step d x ∷ [])) g m n' depth) (sym eg) (open_fails _ e f (ho e N)))
 
   -- ## Before the first sample
 
-  prim_opens : (q : Primitive) (e : Environment) (names : Env) (i : PrimState) → IsNames p names e → Begins (plan_expressions p) q (Ok i) → Opens p (primitive q) e (Ok (LPrim i))
+  prim_opens : (q : Primitive) (e : Environment) (names : Env) (i : PrimState) → IsNames p names e → Begins (plan_expressions p) φ q (Ok i) → Opens φ p (primitive q) e (Ok (LPrim i))
   prim_opens q e names i is_empty (begins K) = opens (λ x. ready refl not_begun (lives_primitive K))
 
-  prim_opens_with_fault : (q : Primitive) (e : Environment) (names : Env) (f : EvalFault) → IsNames p names e → Begins (plan_expressions p) q (Err f) → Opens p (primitive q) e (Err (fault_from f))
+  prim_opens_with_fault : (q : Primitive) (e : Environment) (names : Env) (f : EvalFault) → IsNames p names e → Begins (plan_expressions p) φ q (Err f) → Opens φ p (primitive q) e (Err (fault_from f))
   prim_opens_with_fault q e names (EValue x) is_empty (begins_with_fault h) = opens_with_fault (λ s. gives not_begun (of_form refl (of_primitive (ap (λ o. as_outcome o []) (h s)))))
   prim_opens_with_fault q e names EMemory N h = opens_without_memory
 
-  pub open_exit : (t : Term) (e : Environment) (r : Result Live Fault) → IsErrAnd r (λ e. e ≡ Memory) → Opens p t e r
+  pub open_exit : (t : Term) (e : Environment) (r : Result Live Fault) → IsErrAnd r (λ e. e ≡ Memory) → Opens φ p t e r
   open_exit t e (Ok l) h = absurd h
-  open_exit t e (Err f) h = subst (λ (f : Fault). Opens p t e (Err f)) (sym h) opens_without_memory
+  open_exit t e (Err f) h = subst (λ (f : Fault). Opens φ p t e (Err f)) (sym h) opens_without_memory
 
-  pub open_prim : (q : SPrimitive) (t : Term) (names : Env) (i : PrimState) → BuildsPlan p (NPrimitive q) t → Begins (plan_expressions p) (primitive_over (plan_expressions p) q) (Ok i) → (e : Environment) → IsNames p names e → Opens p t e (Ok (LPrim i))
-  open_prim q t names i B h e N = subst (λ (t : Term). Opens p t e (Ok (LPrim i))) (sym (builds_primitive p B)) (prim_opens _ e names i N h)
+  pub open_prim : (q : SPrimitive) (t : Term) (names : Env) (i : PrimState) → BuildsPlan p (NPrimitive q) t → Begins (plan_expressions p) φ (primitive_over (plan_expressions p) q) (Ok i) → (e : Environment) → IsNames p names e → Opens φ p t e (Ok (LPrim i))
+  open_prim q t names i B h e N = subst (λ (t : Term). Opens φ p t e (Ok (LPrim i))) (sym (builds_primitive φ p B)) (prim_opens _ e names i N h)
 
-  pub open_prim_fails : (q : SPrimitive) (t : Term) (names : Env) (f : EvalFault) → BuildsPlan p (NPrimitive q) t → Begins (plan_expressions p) (primitive_over (plan_expressions p) q) (Err f) → (e : Environment) → IsNames p names e → Opens p t e (Err (fault_from f))
-  open_prim_fails q t names f B h e N = subst (λ (t : Term). Opens p t e (Err (fault_from f))) (sym (builds_primitive p B)) (prim_opens_with_fault _ e names f N h)
+  pub open_prim_fails : (q : SPrimitive) (t : Term) (names : Env) (f : EvalFault) → BuildsPlan p (NPrimitive q) t → Begins (plan_expressions p) φ (primitive_over (plan_expressions p) q) (Err f) → (e : Environment) → IsNames p names e → Opens φ p t e (Err (fault_from f))
+  open_prim_fails q t names f B h e N = subst (λ (t : Term). Opens φ p t e (Err (fault_from f))) (sym (builds_primitive φ p B)) (prim_opens_with_fault _ e names f N h)
 
   pub open_join : (j : Join) (a b : PlanId) (names one two : Env) → j ≢ InSequence
-      → ((e : Environment) → IsNames p names e → IsNames p one e) → ((e : Environment) → IsNames p names e → IsNames p two e) → (e : Environment) → IsNames p names e → Opens p (joined j (plan_tree p a) (plan_tree p b)) e (Ok (LJoin j (Unborn (SClosure a one)) (Unborn (SClosure b two))))
+      → ((e : Environment) → IsNames p names e → IsNames p one e) → ((e : Environment) → IsNames p names e → IsNames p two e) → (e : Environment) → IsNames p names e → Opens φ p (joined j (plan_tree p a) (plan_tree p b)) e (Ok (LJoin j (Unborn (SClosure a one)) (Unborn (SClosure b two))))
   open_join j a b names one two side h g e N =
-      let A = subst (λ (K : Life). Stands p (Unborn (SClosure a one)) (closure (plan_tree p a) e) K) (sym (left_none j)) (unborn (is_closure (h e N))) in
-      let B = subst (λ (K : Life). Stands p (Unborn (SClosure b two)) (closure (plan_tree p b) e) K) (sym (right_none j)) (unborn (is_closure (g e N))) in
+      let A = subst (λ (K : Life). Stands φ p (Unborn (SClosure a one)) (closure (plan_tree p a) e) K) (sym (left_none j)) (unborn (is_closure (h e N))) in
+      let B = subst (λ (K : Life). Stands φ p (Unborn (SClosure b two)) (closure (plan_tree p b) e) K) (sym (right_none j)) (unborn (is_closure (g e N))) in
       let O = subst (λ (K : Life). Outputs net (closure (plan_tree p a) e) K []) (sym (left_none j)) not_begun in
       opens (λ x. ready refl not_begun (lives_join side O A B))
 
   -- a node of two parts opens as they do
-  pub open_joined : (j : Join) (a b : PlanId) (t : Term) (names : Env) (l : Live) → BuildsPlan p (NJoined j a b) t → ((e : Environment) → IsNames p names e → Opens p (joined j (plan_tree p a) (plan_tree p b)) e (Ok l))
-      → (e : Environment) → IsNames p names e → Opens p t e (Ok l)
+  pub open_joined : (j : Join) (a b : PlanId) (t : Term) (names : Env) (l : Live) → BuildsPlan p (NJoined j a b) t → ((e : Environment) → IsNames p names e → Opens φ p (joined j (plan_tree p a) (plan_tree p b)) e (Ok l))
+      → (e : Environment) → IsNames p names e → Opens φ p t e (Ok l)
   open_joined j a b t names l builds_joined h = h
 
   pub open_wrap : (w : Wrap) (a : PlanId) (names inner : Env) → ((e : Environment) → IsNames p names e → IsNames p inner e)
-      → (t : Term) (e : Environment) (m : Made) → IsNames p names e → ((x : Data) → make net t e x ≡ answer m) → Wraps net w t e m [] (plan_tree p a) [] → Opens p t e (Ok (LWrap w (Unborn (SClosure a inner))))
+      → (t : Term) (e : Environment) (m : Made) → IsNames p names e → ((x : Data) → make net t e x ≡ answer m) → Wraps net w t e m [] (plan_tree p a) [] → Opens φ p t e (Ok (LWrap w (Unborn (SClosure a inner))))
   open_wrap w a names inner g t e m N h W = opens (λ x. ready (h x) not_begun (lives_wrap W (unborn (is_closure (g e N)))))
 
   pub open_sided : (d : Side) (a : PlanId) (t : Term) (names : Env) (w : Wrap) (r : Result Live Fault) → BuildsPlan p (NSided d a) t
       → ((n : Network) (t : Term) (e : Environment) (m : Made) → Wraps n w (sided d t) e m [] t [])
-      → ((p : Plan) (t : Term) (e : Environment) (m : Made) → IsNames p names e → ((x : Data) → make (network_of_plan p) t e x ≡ answer m) → Wraps (network_of_plan p) w t e m [] (plan_tree p a) [] → Opens p t e r)
-      → (e : Environment) → IsNames p names e → Opens p t e r
-  open_sided d a t names w r builds_sided W h e N = h p _ e nothing_made N (λ x. refl) (W _ _ _ _)
+      → ((φ : AnswersByName) (p : Plan) (t : Term) (e : Environment) (m : Made) → IsNames p names e → ((x : Data) → make (network_of_plan φ p) t e x ≡ answer m) → Wraps (network_of_plan φ p) w t e m [] (plan_tree p a) [] → Opens φ p t e r)
+      → (e : Environment) → IsNames p names e → Opens φ p t e r
+  open_sided d a t names w r builds_sided W h e N = h φ p _ e nothing_made N (λ x. refl) (W _ _ _ _)
 
   pub open_headed : (i : Heading) (j : ExprId) (a : PlanId) (t : Term) (names : Env) (v : Data) (w : Wrap) (r : Result Live Fault) → BuildsPlan p (NHeaded i j a) t
-      → eval (plan_expression_at p j) no_names ≡ answer v
+      → eval (plan_expression_at p j) (no_names φ) ≡ answer v
       → ((n : Network) (j : Expression) (t : Term) (e : Environment) → Wraps n w (headed i j t) e (value_made v) [] t [])
-      → ((p : Plan) (t : Term) (e : Environment) (m : Made) → IsNames p names e → ((x : Data) → make (network_of_plan p) t e x ≡ answer m) → Wraps (network_of_plan p) w t e m [] (plan_tree p a) [] → Opens p t e r)
-      → (e : Environment) → IsNames p names e → Opens p t e r
-  open_headed i j a t names v w r builds_headed g W h e is_empty = h p _ empty (value_made v) is_empty (λ x. ap (λ o. o >>= λ v. answer (value_made v)) g) (W _ _ _ _)
+      → ((φ : AnswersByName) (p : Plan) (t : Term) (e : Environment) (m : Made) → IsNames p names e → ((x : Data) → make (network_of_plan φ p) t e x ≡ answer m) → Wraps (network_of_plan φ p) w t e m [] (plan_tree p a) [] → Opens φ p t e r)
+      → (e : Environment) → IsNames p names e → Opens φ p t e r
+  open_headed i j a t names v w r builds_headed g W h e is_empty = h φ p _ empty (value_made v) is_empty (λ x. ap (λ o. o >>= λ v. answer (value_made v)) g) (W _ _ _ _)
 
   pub open_headed_fails : (i : Heading) (j : ExprId) (a : PlanId) (t : Term) (names : Env) (f : EvalFault) → BuildsPlan p (NHeaded i j a) t
-      → Evaluates (Err f) (eval (plan_expression_at p j) no_names) → (e : Environment) → IsNames p names e → Opens p t e (Err (fault_from f))
+      → Evaluates (Err f) (eval (plan_expression_at p j) (no_names φ)) → (e : Environment) → IsNames p names e → Opens φ p t e (Err (fault_from f))
   open_headed_fails i j a t names (EValue x) builds_headed g e is_empty = opens_with_fault (λ s. gives not_begun (of_constants (ap (λ o. o >>= λ v. answer (value_made v)) g)))
   open_headed_fails i j a t names EMemory B g e N = opens_without_memory
 
@@ -288,21 +292,21 @@ module _ (p : Plan) where
   unfolding readings
   begun s = sym s.recorded
 
-  pub sample_steps : {m n : Meter} (a a' : State) (s : Step) (v : Data) → entered_of m ≡ 0 → height_of m ≡ 0 → StateSteps p a s (Ok (a', v)) m n 0
-      → (P : Process) (L : Life) → Stands p a P L → Steps p P (s ∷ L) (Ok v) a' n
+  pub sample_steps : {m n : Meter} (a a' : State) (s : Step) (v : Data) → entered_of m ≡ 0 → height_of m ≡ 0 → StateSteps φ p a s (Ok (a', v)) m n 0
+      → (P : Process) (L : Life) → Stands φ p a P L → Steps φ p P (s ∷ L) (Ok v) a' n
   sample_steps a a' s v em hm hs P L A =
       let w = answered (hs P L A) in
       let G = subst (λ (r : Readings). Gives net P (s ∷ L) (gave v r) w.k) (begun w.spent) w.given in
       stepped G (let c = w.spent.entered in omega arith) (let c = w.spent.high in omega arith) w.holds
 
-  each_costs : {m n : Meter} {P : Process} {L : Life} → entered_of m ≡ 0 → height_of m ≡ 0 → Within (Gives net P L) m n 0 → EachCostsAtLeast p P L n
+  each_costs : {m n : Meter} {P : Process} {L : Life} → entered_of m ≡ 0 → height_of m ≡ 0 → Within (Gives net P L) m n 0 → EachCostsAtLeast φ p P L n
   each_costs em hm w = record { few = λ o k G. let a = (w.most o k G).entered in omega arith; low = λ o k G. let a = (w.most o k G).high in omega arith }
 
-  fails_so : {m n : Meter} {P : Process} {L : Life} (a : State) (f : Fault) → entered_of m ≡ 0 → height_of m ≡ 0 → StopsFor (Gives net P L) f m n 0 → Steps p P L (Err f) a n
+  fails_so : {m n : Meter} {P : Process} {L : Life} (a : State) (f : Fault) → entered_of m ≡ 0 → height_of m ≡ 0 → StopsFor (Gives net P L) f m n 0 → Steps φ p P L (Err f) a n
   fails_so a f em hm (faults G s) = faulted_so G (let a = s.entered in omega arith) (let a = s.high in omega arith)
   fails_so a f em hm (large h w) = too_large (λ o k G c d. h o k G (omega arith) (omega arith)) (each_costs em hm w)
   fails_so a f em hm (memory w) = no_memory (each_costs em hm w)
 
-  pub sample_fails : {m n : Meter} (a a' : State) (s : Step) (f g : Fault) → g ≡ f → entered_of m ≡ 0 → height_of m ≡ 0 → StateSteps p a s (Err f) m n 0
-      → (P : Process) (L : Life) → Stands p a P L → Steps p P (s ∷ L) (Err g) a' n
-  sample_fails {n = n} a a' s f g e em hm hs P L A = subst (λ (f : Fault). Steps p P (s ∷ L) (Err f) a' n) (sym e) (fails_so a' f em hm (failed (hs P L A)))
+  pub sample_fails : {m n : Meter} (a a' : State) (s : Step) (f g : Fault) → g ≡ f → entered_of m ≡ 0 → height_of m ≡ 0 → StateSteps φ p a s (Err f) m n 0
+      → (P : Process) (L : Life) → Stands φ p a P L → Steps φ p P (s ∷ L) (Err g) a' n
+  sample_fails {n = n} a a' s f g e em hm hs P L A = subst (λ (f : Fault). Steps φ p P (s ∷ L) (Err f) a' n) (sym e) (fails_so a' f em hm (failed (hs P L A)))

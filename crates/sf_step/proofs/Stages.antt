@@ -15,6 +15,7 @@ use Rattle.sf_mean.specs.Typing.{takes, sequence_takes, stages_take}
 use Rattle.sf_mean.specs.Soundness.{LifeHas, more_steps, ProcessTakes, closure_takes}
 use Rattle.sf_mean.proofs.TypedLives.{relay_has}
 use Rattle.sf_mean.proofs.Once.{onces}
+use Rattle.sf_func.specs.Registries.{AnswersByName}
 use Rattle.sf_law.specs.declared.plan.Plan.{Plan}
 use Rattle.sf_law.specs.declared.node.PlanId.{PlanId}
 use Rattle.sf_law.specs.declared.node.PlanNode.TheVariants.{Pipeline as NPipeline}
@@ -91,19 +92,19 @@ module _ (n : Network) where
   staged_outputs not_begun not_begun = not_begun
   staged_outputs (and_gave O S) (and_gave O' S') = and_gave (staged_outputs O O') (of_form {m = nothing_made} refl (of_stages O (gives O S) (goes_on (gives O' S'))))
 
-module _ (p : Plan) where
+module _ (φ : AnswersByName) (p : Plan) where
   abbrev net : Network
-  net = network_of_plan p
+  net = network_of_plan φ p
 
   -- what a process gave so far
   abbrev Gave : Process → Life → Type 0
   Gave P L = (ys : List Data) × Outputs net P L ys
 
-  state_gave : {a : State} {P : Process} {L : Life} → Stands p a P L → Gave P L
+  state_gave : {a : State} {P : Process} {L : Life} → Stands φ p a P L → Gave P L
   state_gave (unborn Q) = ([], not_begun)
   state_gave (alive N (settles (ready h O K))) = (_, O)
 
-  stages_gave : {bs : List State} {u : Term} {e : Environment} {L : Life} → StagesStand p bs u e L → Gave (closure u e) L
+  stages_gave : {bs : List State} {u : Term} {e : Environment} {L : Life} → StagesStand φ p bs u e L → Gave (closure u e) L
   stages_gave (last_stands A) = state_gave A
   stages_gave (stage_stands O A S) = let r = stages_gave S in (r.0, staged_outputs net O r.1)
 
@@ -112,25 +113,25 @@ module _ (p : Plan) where
   -- Stages step to the outcome of the rest of a pipeline; without stages the value stays.
   abbrev pub StagesStep : List State → ℕ → Data → Result (List State × Data) Fault → Meter → Meter → ℕ → Type 0
   StagesStep [] d x r m n inside = (r ≡ Ok ([], x)) × (n ≡ m)
-  StagesStep (a ∷ bs) d x r m n inside = (u : Term) (e : Environment) (L : Life) → StagesStand p (a ∷ bs) u e L
-      → Answers (λ y. y.1) (λ y. StagesStand p y.0 u e (step d x ∷ L)) (Gives net (closure u e) (step d x ∷ L)) r m n inside
+  StagesStep (a ∷ bs) d x r m n inside = (u : Term) (e : Environment) (L : Life) → StagesStand φ p (a ∷ bs) u e L
+      → Answers (λ y. y.1) (λ y. StagesStand φ p y.0 u e (step d x ∷ L)) (Gives net (closure u e) (step d x ∷ L)) r m n inside
 
   module _ (a : State) (d : ℕ) (x : Data) (m n : Meter) (inside : ℕ) where
     -- a stage fails
-    pub stage_fails : (bs : List State) (f : Fault) → StateSteps p a (step d x) (Err f) m n inside → StagesStep (a ∷ bs) d x (Err f) m n inside
+    pub stage_fails : (bs : List State) (f : Fault) → StateSteps φ p a (step d x) (Err f) m n inside → StagesStep (a ∷ bs) d x (Err f) m n inside
     stage_fails bs f hs u e L (last_stands A) = fails (failed (hs _ _ A))
     stage_fails bs f hs u e L (stage_stands {f = t} {g = g} {ys = ys} O A S) =
         let Z = staged_outputs net O (stages_gave S).1 in
         fails (fails_alike (rest_alike net t g e (step d x) L ys _ O Z) (then_fails (failed (hs _ _ A))))
 
-    module _ (a' : State) (y : Data) (hs : StateSteps p a (step d x) (Ok (a', y)) m n inside) where
-      last_steps : (u : Term) (e : Environment) (L : Life) → StagesStand p (a ∷ []) u e L
-          → Answers {A = List State × Data} (λ y. y.1) (λ y. StagesStand p y.0 u e (step d x ∷ L)) (Gives net (closure u e) (step d x ∷ L)) (Ok (a' ∷ [], y)) m n inside
+    module _ (a' : State) (y : Data) (hs : StateSteps φ p a (step d x) (Ok (a', y)) m n inside) where
+      last_steps : (u : Term) (e : Environment) (L : Life) → StagesStand φ p (a ∷ []) u e L
+          → Answers {A = List State × Data} (λ y. y.1) (λ y. StagesStand φ p y.0 u e (step d x ∷ L)) (Gives net (closure u e) (step d x ∷ L)) (Ok (a' ∷ [], y)) m n inside
       last_steps u e L (last_stands A) = let w = answered (hs _ _ A) in answers w.given w.spent (last_stands w.holds)
       last_steps u e L (stage_stands O A S) = elim S [ ]
 
-      stage_and : (n' : Meter) (b : State) (bs : List State) (r : Result (List State × Data) Fault) (u : Term) (e : Environment) (L : Life) → StagesStep (b ∷ bs) d y r n n' inside → StagesStand p (a ∷ b ∷ bs) u e L
-          → Answers {A = List State × Data} (λ y. y.1) (λ y. StagesStand p y.0 u e (step d x ∷ L)) (Gives net (closure u e) (step d x ∷ L)) (behind (a' ∷ []) r) m n' inside
+      stage_and : (n' : Meter) (b : State) (bs : List State) (r : Result (List State × Data) Fault) (u : Term) (e : Environment) (L : Life) → StagesStep (b ∷ bs) d y r n n' inside → StagesStand φ p (a ∷ b ∷ bs) u e L
+          → Answers {A = List State × Data} (λ y. y.1) (λ y. StagesStand φ p y.0 u e (step d x ∷ L)) (Gives net (closure u e) (step d x ∷ L)) (behind (a' ∷ []) r) m n' inside
       stage_and n' b bs (Ok z) u e L h (stage_stands {f = t} {g = g} {ys = ys} O A S) =
           let one = answered (hs _ _ A) in
           let two = answered (h g e (relay L ys) S) in
@@ -145,30 +146,30 @@ module _ (p : Plan) where
       -- a stage steps, and the others on its value
       pub stage_steps : (n' : Meter) (bs : List State) (r : Result (List State × Data) Fault) → StagesStep bs d y r n n' inside → StagesStep (a ∷ bs) d x (behind (a' ∷ []) r) m n' inside
       stage_steps n' [] r h u e L S =
-          subst (λ (k : Meter). Answers (λ y. y.1) (λ y. StagesStand p y.0 u e (step d x ∷ L)) (Gives net (closure u e) (step d x ∷ L)) (behind (a' ∷ []) r) m k inside) (sym h.1)
-          (subst (λ r. Answers (λ y. y.1) (λ y. StagesStand p y.0 u e (step d x ∷ L)) (Gives net (closure u e) (step d x ∷ L)) (behind (a' ∷ []) r) m n inside) (sym h.0) (last_steps u e L S))
+          subst (λ (k : Meter). Answers (λ y. y.1) (λ y. StagesStand φ p y.0 u e (step d x ∷ L)) (Gives net (closure u e) (step d x ∷ L)) (behind (a' ∷ []) r) m k inside) (sym h.1)
+          (subst (λ r. Answers (λ y. y.1) (λ y. StagesStand φ p y.0 u e (step d x ∷ L)) (Gives net (closure u e) (step d x ∷ L)) (behind (a' ∷ []) r) m n inside) (sym h.0) (last_steps u e L S))
       stage_steps n' (b ∷ bs) r h u e L S = stage_and n' b bs r u e L h S
 
   -- the answer of stages that stand
-  stages_answer : (bs : List State) (d : ℕ) (x : Data) (r : Result (List State × Data) Fault) (m n : Meter) (inside : ℕ) (u : Term) (e : Environment) (L : Life) → StagesStep bs d x r m n inside → StagesStand p bs u e L
-      → Answers (λ y. y.1) (λ y. StagesStand p y.0 u e (step d x ∷ L)) (Gives net (closure u e) (step d x ∷ L)) r m n inside
+  stages_answer : (bs : List State) (d : ℕ) (x : Data) (r : Result (List State × Data) Fault) (m n : Meter) (inside : ℕ) (u : Term) (e : Environment) (L : Life) → StagesStep bs d x r m n inside → StagesStand φ p bs u e L
+      → Answers (λ y. y.1) (λ y. StagesStand φ p y.0 u e (step d x ∷ L)) (Gives net (closure u e) (step d x ∷ L)) r m n inside
   stages_answer [] d x r m n inside u e L h S = elim S [ ]
   stages_answer (a ∷ bs) d x r m n inside u e L h S = h u e L S
 
-  stands_at : (v : Vec State Global) {u : Term} {e : Environment} {L : Life} {bs : List State} → bs ≡ v.items → StagesStand p bs u e L → StagesStand p v.items u e L
-  stands_at v {u = u} {e = e} {L = L} h S = subst (λ (bs : List State). StagesStand p bs u e L) h S
+  stands_at : (v : Vec State Global) {u : Term} {e : Environment} {L : Life} {bs : List State} → bs ≡ v.items → StagesStand φ p bs u e L → StagesStand φ p v.items u e L
+  stands_at v {u = u} {e = e} {L = L} h S = subst (λ (bs : List State). StagesStand φ p bs u e L) h S
 
   module _ (v : Vec State Global) (d : ℕ) (x : Data) (n n' : Meter) (inside : ℕ) where
     -- a pipeline steps as its stages do
-    pub pipeline_steps : (w : Vec State Global) (y : Data) → StagesStep v.items d x (Ok (w.items, y)) n n' inside → LiveSteps p (LPipeline v) (step d x) (Ok (LPipeline w, y)) n n' inside
+    pub pipeline_steps : (w : Vec State Global) (y : Data) → StagesStep v.items d x (Ok (w.items, y)) n n' inside → LiveSteps φ p (LPipeline v) (step d x) (Ok (LPipeline w, y)) n n' inside
     pipeline_steps w y hs m depth t P L (ready {m = made} h O (lives_pipeline {u = u} {e = e} Q S)) =
         let T = stands_at v (items_hidden-the_row-State-0 v) S in
         let one = answered (stages_answer v.items d x _ n n' inside u e L hs T) in
         let F = (pipeline_alike net {m = made} (step d x) L Q (stages_gave T).1).to _ _ (counted one.given) in
-        answers (gives O (of_form h F)) (over_spent t one.spent) (settles (ready h (and_gave O (of_form h F)) (pipeline_lives p w Q one.holds)))
+        answers (gives O (of_form h F)) (over_spent t one.spent) (settles (ready h (and_gave O (of_form h F)) (pipeline_lives φ p w Q one.holds)))
 
     pub pipeline_fails : (f : Fault) → StagesStep v.items d x (Err f) n n' inside
-        → (m : Meter) (depth : ℕ) → Ticks m n depth inside → (P : Process) (L : Life) → Ready p (LPipeline v) P (first_input (step d x) L) L → StopsFor (Gives net P (step d x ∷ L)) f m n' depth
+        → (m : Meter) (depth : ℕ) → Ticks m n depth inside → (P : Process) (L : Life) → Ready φ p (LPipeline v) P (first_input (step d x) L) L → StopsFor (Gives net P (step d x ∷ L)) f m n' depth
     pipeline_fails f hs m depth t P L (ready {m = made} h O (lives_pipeline {u = u} {e = e} Q S)) =
         let T = stands_at v (items_hidden-the_row-State-0 v) S in
         fails_alike (form_alike net (step d x) L h O) (fails_alike (pipeline_alike net {m = made} (step d x) L Q (stages_gave T).1)
@@ -199,7 +200,7 @@ module _ (p : Plan) where
     left_is : drop i now ≡ a ∷ drop (i + 1) now
     left_is = left_from now i any short
 
-    pub continues_next : (a' : State) (z : Data) (n' : Meter) → StateSteps p a (step d y) (Ok (a', z)) n n' inside
+    pub continues_next : (a' : State) (z : Data) (n' : Meter) → StateSteps φ p a (step d y) (Ok (a', z)) n n' inside
         → Continues all d x m (take (i + 1) (set now i a')) (drop (i + 1) (set now i a')) z n' inside
     continues_next a' z n' hs r k h =
         let rest_same = drop-set-lt (i + 1) now i a' (omega arith) in
@@ -207,7 +208,7 @@ module _ (p : Plan) where
         let two = c (behind (a' ∷ []) r) k (subst (λ (bs : List State). StagesStep bs d y (behind (a' ∷ []) r) n k inside) (sym left_is) one) in
         subst (λ r. StagesStep all d x r m k inside) (behind_one (take i now) a' r ∙ ap (λ (bs : List State). behind bs r) (sym (take_more_set now i a' short))) two
 
-    pub continues_fails : (f : Fault) (n' : Meter) → StateSteps p a (step d y) (Err f) n n' inside → StagesStep all d x (Err f) m n' inside
+    pub continues_fails : (f : Fault) (n' : Meter) → StateSteps φ p a (step d y) (Err f) n n' inside → StagesStep all d x (Err f) m n' inside
     continues_fails f n' hs = c (Err f) n' (subst (λ (bs : List State). StagesStep bs d y (Err f) n n' inside) (sym left_is) (stage_fails a d y n n' inside (drop (i + 1) now) f hs))
 
   -- all stages are done
@@ -222,37 +223,37 @@ module _ (p : Plan) where
 
   -- the input has the type of the stages that it is fed to
   pub data AreFed (bs : List State) (x : Data) : Type 0 where
-    are_fed : {u : Term} {e : Environment} {L : Life} {b c : Kind} → StagesStand p bs u e L → ProcessTakes (network_of_plan p) (closure u e) b c → LifeHas L b → HasKind x b → AreFed bs x
+    are_fed : {u : Term} {e : Environment} {L : Life} {b c : Kind} → StagesStand φ p bs u e L → ProcessTakes (network_of_plan φ p) (closure u e) b c → LifeHas L b → HasKind x b → AreFed bs x
 
   abbrev pub RestFed : List State → Data → Type 0
   RestFed [] x = Unit {0}
   RestFed (a ∷ bs) x = AreFed (a ∷ bs) x
 
-  pub stages_fed : (v : Vec State Global) (d : ℕ) (x : Data) → IsLiveFed p (LPipeline v) (step d x) → AreFed v.items x
-  stages_fed v d x (is_live_fed (ready h O (lives_pipeline is_stages S)) (closure_takes E (takes a b (stages_take F G))) l k) =
-      are_fed (stands_at v (items_hidden-the_row-State-0 v) S) (closure_takes E (takes a b (stages_take F G))) l k
-  stages_fed v d x (is_live_fed (ready h O (lives_pipeline is_sequence S)) (closure_takes E (takes a b (sequence_takes F G))) l k) =
-      are_fed (stands_at v (items_hidden-the_row-State-0 v) S) (closure_takes E (takes a b (stages_take F G))) l k
+  pub stages_fed : (v : Vec State Global) (d : ℕ) (x : Data) → IsLiveFed φ p (LPipeline v) (step d x) → AreFed v.items x
+  stages_fed v d x (is_live_fed (ready h O (lives_pipeline is_stages S)) (closure_takes K E (takes a b (stages_take F G))) l k) =
+      are_fed (stands_at v (items_hidden-the_row-State-0 v) S) (closure_takes K E (takes a b (stages_take F G))) l k
+  stages_fed v d x (is_live_fed (ready h O (lives_pipeline is_sequence S)) (closure_takes K E (takes a b (sequence_takes F G))) l k) =
+      are_fed (stands_at v (items_hidden-the_row-State-0 v) S) (closure_takes K E (takes a b (stages_take F G))) l k
 
   pub rest_fed : (bs : List State) (x : Data) → AreFed bs x → RestFed bs x
   rest_fed [] x h = tt
   rest_fed (a ∷ bs) x h = h
 
-  first_stage_fed : (a : State) (bs : List State) (x : Data) → AreFed (a ∷ bs) x → IsFed p a x
+  first_stage_fed : (a : State) (bs : List State) (x : Data) → AreFed (a ∷ bs) x → IsFed φ p a x
   first_stage_fed a bs x (are_fed (last_stands A) T l k) = is_fed A T l k
-  first_stage_fed a bs x (are_fed (stage_stands O A S) (closure_takes E (takes _ _ (stages_take F G))) l k) = is_fed A (closure_takes E F) l k
+  first_stage_fed a bs x (are_fed (stage_stands O A S) (closure_takes K E (takes _ _ (stages_take F G))) l k) = is_fed A (closure_takes K E F) l k
 
-  others_fed : (a a' : State) (bs : List State) (d : ℕ) (x y : Data) (m n : Meter) (inside : ℕ) → StateSteps p a (step d x) (Ok (a', y)) m n inside → AreFed (a ∷ bs) x → RestFed bs y
+  others_fed : (a a' : State) (bs : List State) (d : ℕ) (x y : Data) (m n : Meter) (inside : ℕ) → StateSteps φ p a (step d x) (Ok (a', y)) m n inside → AreFed (a ∷ bs) x → RestFed bs y
   others_fed a a' [] d x y m n inside hs h = tt
-  others_fed a a' (b ∷ bs) d x y m n inside hs (are_fed (stage_stands O A S) (closure_takes E (takes _ _ (stages_take F G))) l k) =
+  others_fed a a' (b ∷ bs) d x y m n inside hs (are_fed (stage_stands O A S) (closure_takes K E (takes _ _ (stages_take F G))) l k) =
       let one = answered (hs _ _ A) in
-      are_fed S (closure_takes E G) (relay_has l (outputs_typed net O (closure_takes E F) l)) (gives_typed net one.given (closure_takes E F) (more_steps {s = step d x} k l))
+      are_fed S (closure_takes K E G) (relay_has l (outputs_typed net O (closure_takes K E F) l)) (gives_typed net one.given (closure_takes K E F) (more_steps {s = step d x} k l))
 
   -- what the stage at an index is fed with
-  pub item_fed : (now : List State) (i : ℕ) (any : State) (y : Data) → i < length now → RestFed (drop i now) y → IsFed p (get_or now i any) y
+  pub item_fed : (now : List State) (i : ℕ) (any : State) (y : Data) → i < length now → RestFed (drop i now) y → IsFed φ p (get_or now i any) y
   item_fed now i any y short h = first_stage_fed _ _ y (subst (λ (bs : List State). RestFed bs y) (left_from now i any short) h)
 
-  pub next_fed : (now : List State) (i : ℕ) (any a' : State) (d : ℕ) (y z : Data) (m n : Meter) (inside : ℕ) → i < length now → StateSteps p (get_or now i any) (step d y) (Ok (a', z)) m n inside
+  pub next_fed : (now : List State) (i : ℕ) (any a' : State) (d : ℕ) (y z : Data) (m n : Meter) (inside : ℕ) → i < length now → StateSteps φ p (get_or now i any) (step d y) (Ok (a', z)) m n inside
       → RestFed (drop i now) y → RestFed (drop (i + 1) (set now i a')) z
   next_fed now i any a' d y z m n inside short hs h =
       subst (λ (bs : List State). RestFed bs z) (sym (drop-set-lt (i + 1) now i a' (omega arith)))
@@ -260,28 +261,28 @@ module _ (p : Plan) where
 
   -- ## Before the first sample
 
-  begin_stand : (i : PlanId) (ids : List PlanId) (bs : List State) (e : Environment) → AllBegin p e (i ∷ ids) bs → StagesStand p bs (stages rest (plan_tree p i) (map (λ j. plan_tree p j) ids)) e []
+  begin_stand : (i : PlanId) (ids : List PlanId) (bs : List State) (e : Environment) → AllBegin φ p e (i ∷ ids) bs → StagesStand φ p bs (stages rest (plan_tree p i) (map (λ j. plan_tree p j) ids)) e []
   begin_stand i [] bs e (more_begin A none_begin) = last_stands A
   begin_stand i (j ∷ ids) bs e (more_begin A B) = stage_stands not_begun A (begin_stand j ids _ e B)
 
-  open_pipeline : (ids : List PlanId) (w : Vec State Global) (e : Environment) → IsTrue (nat_le 2 (length ids)) → AllBegin p e ids w.items → Opens p (pipeline (map (λ j. plan_tree p j) ids)) e (Ok (LPipeline w))
+  open_pipeline : (ids : List PlanId) (w : Vec State Global) (e : Environment) → IsTrue (nat_le 2 (length ids)) → AllBegin φ p e ids w.items → Opens φ p (pipeline (map (λ j. plan_tree p j) ids)) e (Ok (LPipeline w))
   open_pipeline [] w e two B = absurd cc
   open_pipeline (i ∷ []) w e two B = absurd cc
-  open_pipeline (i ∷ j ∷ ids) w e two B = opens (λ x. ready refl not_begun (pipeline_lives p w is_stages (begin_stand i (j ∷ ids) w.items e B)))
+  open_pipeline (i ∷ j ∷ ids) w e two B = opens (λ x. ready refl not_begun (pipeline_lives φ p w is_stages (begin_stand i (j ∷ ids) w.items e B)))
 
-  pub open_staged : (v : Vec PlanId Global) (t : Term) (w : Vec State Global) (e : Environment) → BuildsPlan p (NPipeline v) t → AllBegin p e v.items w.items → Opens p t e (Ok (LPipeline w))
+  pub open_staged : (v : Vec PlanId Global) (t : Term) (w : Vec State Global) (e : Environment) → BuildsPlan p (NPipeline v) t → AllBegin φ p e v.items w.items → Opens φ p t e (Ok (LPipeline w))
   open_staged v t w e (builds_pipeline two) B = open_pipeline v.items w e two B
 
   -- a sequence is a pipeline of two stages
-  pub open_sequence : (a b : PlanId) (w : Vec State Global) (e : Environment) → AllBegin p e (a ∷ b ∷ []) w.items → Opens p (joined InSequence (plan_tree p a) (plan_tree p b)) e (Ok (LPipeline w))
-  open_sequence a b w e B = opens (λ x. ready refl not_begun (pipeline_lives p w is_sequence (begin_stand a (b ∷ []) w.items e B)))
+  pub open_sequence : (a b : PlanId) (w : Vec State Global) (e : Environment) → AllBegin φ p e (a ∷ b ∷ []) w.items → Opens φ p (joined InSequence (plan_tree p a) (plan_tree p b)) e (Ok (LPipeline w))
+  open_sequence a b w e B = opens (λ x. ready refl not_begun (pipeline_lives φ p w is_sequence (begin_stand a (b ∷ []) w.items e B)))
 
   -- one more stage begins
-  begin_push : (i : PlanId) (ids : List PlanId) (a : State) (bs : List State) (e : Environment) → AllBegin p e ids bs → Stands p a (closure (plan_tree p i) e) [] → AllBegin p e (ids ++ i ∷ []) (bs ++ a ∷ [])
+  begin_push : (i : PlanId) (ids : List PlanId) (a : State) (bs : List State) (e : Environment) → AllBegin φ p e ids bs → Stands φ p a (closure (plan_tree p i) e) [] → AllBegin φ p e (ids ++ i ∷ []) (bs ++ a ∷ [])
   begin_push i [] a bs e none_begin A = more_begin A none_begin
   begin_push i (j ∷ ids) a bs e (more_begin B C) A = more_begin B (begin_push i ids a _ e C A)
 
-  pub begin_next : (ids : List PlanId) (k : ℕ) (names : Env) (bs cs : List State) (e : Environment) (d : PlanId) → AllBegin p e (take k ids) bs → k < length ids → IsNames p names e → cs ≡ bs ++ Unborn (SClosure (get_or ids k d) names) ∷ [] → AllBegin p e (take (k + 1) ids) cs
+  pub begin_next : (ids : List PlanId) (k : ℕ) (names : Env) (bs cs : List State) (e : Environment) (d : PlanId) → AllBegin φ p e (take k ids) bs → k < length ids → IsNames p names e → cs ≡ bs ++ Unborn (SClosure (get_or ids k d) names) ∷ [] → AllBegin φ p e (take (k + 1) ids) cs
   begin_next ids k names bs cs e d B short N same =
       let more : k + 1 ≡ suc k = omega arith in
       rw (ap (λ j. take j ids) more ∙ take-suc ids k d short, same) (begin_push _ _ _ _ e B (unborn (is_closure N)))

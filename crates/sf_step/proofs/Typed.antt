@@ -13,6 +13,7 @@ use Rattle.sf_term.specs.declared.form.Heading.{Heading}
 use Rattle.sf_law.specs.declared.node.PlanId.{PlanId}
 use Rattle.sf_law.specs.declared.node.PlanNode.TheVariants.{Primitive as NPrimitive, Headed as NHeaded}
 use Rattle.sf_term.specs.declared.node.Primitive.{Primitive as SPrimitive}
+use Rattle.sf_func.specs.Registries.{TypesByName, AnswersByName, KeepTheirTypes}
 use Rattle.sf_law.specs.declared.plan.Plan.{Plan}
 use Rattle.sf_term.specs.Trees.{Term, primitive, joined}
 use Rattle.sf_law.specs.Arena.{plan_expressions, plan_tree, plan_expression_at, BuildsPlan, builds_bare, builds_with_value, builds_arrow, builds_headed}
@@ -145,8 +146,8 @@ record WrapTypes (Γ : Context) (w : Wrap) (u : Term) (K : Life) (a : Kind) : Ty
   part_lived : LifeHas K part_in
 
 module _ (n : Network) where
-  wrap_types : {w : Wrap} {t u : Term} {e : Environment} {bs : Bindings} {m : Made} {L K : Life} {a b : Kind} (x : Data) → Wraps n w t e m L u K → make n t e x ≡ answer m → EnvironmentHas e bs → FormTakes (context_with bs n.templates) t a b → LifeHas L a → WrapTypes (context_with bs n.templates) w u K a
-  wrap_types x wraps_first h E (first_takes T) l = record {
+  wrap_types : {w : Wrap} {t u : Term} {e : Environment} {fs : TypesByName} {bs : Bindings} {m : Made} {L K : Life} {a b : Kind} (x : Data) → Wraps n w t e m L u K → make n t e x ≡ answer m → KeepTheirTypes fs n.functions → EnvironmentHas e bs → FormTakes (context_with fs bs n.templates) t a b → LifeHas L a → WrapTypes (context_with fs bs n.templates) w u K a
+  wrap_types x wraps_first h k E (first_takes T) l = record {
     part_in = _;
     part_out = _;
     part_takes = T;
@@ -155,7 +156,7 @@ module _ (n : Network) where
     part_has = λ x. first_is;
     part_lived = with_inputs_has first_of (λ v. first_is) l;
   }
-  wrap_types x wraps_second h E (second_takes T) l = record {
+  wrap_types x wraps_second h k E (second_takes T) l = record {
     part_in = _;
     part_out = _;
     part_takes = T;
@@ -164,9 +165,9 @@ module _ (n : Network) where
     part_has = λ x. second_is;
     part_lived = with_inputs_has second_of (λ v. second_is) l;
   }
-  wrap_types x (wraps_loop {v = v} {zs = zs} O) h E (loop_takes {b = b} {c = c} I T) l =
-      let i : HasKind v c = made_has (expression_yields I (environment_scope E)) h in
-      let z : Have zs (pair_kind b c) = loops_have n evals applies O (closure_takes E T) i l in
+  wrap_types x (wraps_loop {v = v} {zs = zs} O) h K E (loop_takes {b = b} {c = c} I T) l =
+      let i : HasKind v c = made_has (expression_yields I (environment_scope n.functions _ K E)) h in
+      let z : Have zs (pair_kind b c) = loops_have n evals applies O (closure_takes K E T) i l in
       record {
         part_in = _;
         part_out = _;
@@ -179,88 +180,88 @@ module _ (n : Network) where
 
 -- ## What the parts are fed with
 
-module _ (p : Plan) where
+module _ (φ : AnswersByName) (p : Plan) where
   abbrev net : Network
-  net = network_of_plan p
+  net = network_of_plan φ p
 
-  pub first_fed : (q : SProcess) (x : Data) → IsFed p (Unborn q) x → IsFirstFed p q x
+  pub first_fed : (q : SProcess) (x : Data) → IsFed φ p (Unborn q) x → IsFirstFed φ p q x
   first_fed q x (is_fed (unborn Q) T l h) = is_first_fed Q T h
 
-  settled_fed : {P : Process} {L : Life} {a b : Kind} (l : Live) (d : ℕ) (x : Data) → Settles p l P L → ProcessTakes net P a b → LifeHas L a → HasKind x a → IsLiveFed p l (step d x)
+  settled_fed : {P : Process} {L : Life} {a b : Kind} (l : Live) (d : ℕ) (x : Data) → Settles φ p l P L → ProcessTakes net P a b → LifeHas L a → HasKind x a → IsLiveFed φ p l (step d x)
   settled_fed l d x (settles R) T k h = is_live_fed R T k h
 
-  pub live_fed : {at : _} (names : Env) (l own : Live) (d : ℕ) (x : Data) → ((P : Process) (L : Life) → Settles p l P L → Settles p own P L) → IsFed p (Alive' names at l) x → IsLiveFed p own (step d x)
+  pub live_fed : {at : _} (names : Env) (l own : Live) (d : ℕ) (x : Data) → ((P : Process) (L : Life) → Settles φ p l P L → Settles φ p own P L) → IsFed φ p (Alive' names at l) x → IsLiveFed φ p own (step d x)
   live_fed names l own d x f (is_fed (alive N S) T k h) = settled_fed own d x (f _ _ S) T k h
 
-  pub left_fed : (j : Join) (a b : State) (d : ℕ) (x u : Data) → u ≡ left_input j x → IsLiveFed p (LJoin j a b) (step d x) → IsFed p a u
-  left_fed j a b d x u eu (is_live_fed (ready h O (lives_join N OL A B)) (closure_takes E (takes _ _ T)) l k) =
+  pub left_fed : (j : Join) (a b : State) (d : ℕ) (x u : Data) → u ≡ left_input j x → IsLiveFed φ p (LJoin j a b) (step d x) → IsFed φ p a u
+  left_fed j a b d x u eu (is_live_fed (ready h O (lives_join N OL A B)) (closure_takes K E (takes _ _ T)) l k) =
       let t = join_types j T in
-      is_fed A (closure_takes E t.left_takes) (t.left_lived _ l) (rw eu (t.left_has x k))
+      is_fed A (closure_takes K E t.left_takes) (t.left_lived _ l) (rw eu (t.left_has x k))
 
   pub right_fed : (j : Join) (a a' b : State) (m n : Meter) (inside d : ℕ) (x u y w : Data) → u ≡ left_input j x → w ≡ right_input j x y
-      → StateSteps p a (step d u) (Ok (a', y)) m n inside → IsLiveFed p (LJoin j a b) (step d x) → IsFed p b w
-  right_fed j a a' b m n inside d x u y w eu ew hs (is_live_fed (ready h O (lives_join {ys = ys} N OL A B)) (closure_takes E (takes _ _ T)) l k) =
+      → StateSteps φ p a (step d u) (Ok (a', y)) m n inside → IsLiveFed φ p (LJoin j a b) (step d x) → IsFed φ p b w
+  right_fed j a a' b m n inside d x u y w eu ew hs (is_live_fed (ready h O (lives_join {ys = ys} N OL A B)) (closure_takes K E (takes _ _ T)) l k) =
       let t = join_types j T in
       let L = t.left_lived _ l in
-      let i = gives_typed net (answered (hs _ _ A)).given (closure_takes E t.left_takes) (more_steps {s = step d u} (rw eu (t.left_has x k)) L) in
-      is_fed B (closure_takes E t.right_takes) (t.right_lived _ _ l (outputs_typed net OL (closure_takes E t.left_takes) L)) (rw ew (t.right_has x y k i))
+      let i = gives_typed net (answered (hs _ _ A)).given (closure_takes K E t.left_takes) (more_steps {s = step d u} (rw eu (t.left_has x k)) L) in
+      is_fed B (closure_takes K E t.right_takes) (t.right_lived _ _ l (outputs_typed net OL (closure_takes K E t.left_takes) L)) (rw ew (t.right_has x y k i))
 
-  pub part_fed : (w : Wrap) (a : State) (d : ℕ) (x u : Data) → u ≡ part_input w x → IsLiveFed p (LWrap w a) (step d x) → IsFed p a u
-  part_fed w a d x u eu (is_live_fed (ready h O (lives_wrap W A)) (closure_takes E (takes _ _ T)) l k) =
-      let t = wrap_types net _ W h E T l in
-      is_fed A (closure_takes E t.part_takes) t.part_lived (rw eu (t.part_has x k))
+  pub part_fed : (w : Wrap) (a : State) (d : ℕ) (x u : Data) → u ≡ part_input w x → IsLiveFed φ p (LWrap w a) (step d x) → IsFed φ p a u
+  part_fed w a d x u eu (is_live_fed (ready h O (lives_wrap W A)) (closure_takes K E (takes _ _ T)) l k) =
+      let t = wrap_types net _ W h K E T l in
+      is_fed A (closure_takes K E t.part_takes) t.part_lived (rw eu (t.part_has x k))
 
-  join_split : (j : Join) (a b : State) (d : ℕ) (x : Data) → IsLiveFed p (LJoin j a b) (step d x) → IsTrue (join_fits j x)
-  join_split j a b d x (is_live_fed (ready h O (lives_join N OL A B)) (closure_takes E (takes _ _ T)) l k) = (join_types j T).splits x k
+  join_split : (j : Join) (a b : State) (d : ℕ) (x : Data) → IsLiveFed φ p (LJoin j a b) (step d x) → IsTrue (join_fits j x)
+  join_split j a b d x (is_live_fed (ready h O (lives_join N OL A B)) (closure_takes K E (takes _ _ T)) l k) = (join_types j T).splits x k
 
-  wrap_splits : (w : Wrap) (a : State) (d : ℕ) (x : Data) → IsLiveFed p (LWrap w a) (step d x) → IsTrue (input_fits w x)
-  wrap_splits w a d x (is_live_fed (ready h O (lives_wrap W A)) (closure_takes E (takes _ _ T)) l k) = (wrap_types net _ W h E T l).splits x k
+  wrap_splits : (w : Wrap) (a : State) (d : ℕ) (x : Data) → IsLiveFed φ p (LWrap w a) (step d x) → IsTrue (input_fits w x)
+  wrap_splits w a d x (is_live_fed (ready h O (lives_wrap W A)) (closure_takes K E (takes _ _ T)) l k) = (wrap_types net _ W h K E T l).splits x k
 
   output_splits : (w : Wrap) (a a' : State) (m n : Meter) (inside d : ℕ) (x u y : Data) → u ≡ part_input w x
-      → StateSteps p a (step d u) (Ok (a', y)) m n inside → IsLiveFed p (LWrap w a) (step d x) → IsTrue (output_fits w y)
-  output_splits w a a' m n inside d x u y eu hs (is_live_fed (ready h O (lives_wrap W A)) (closure_takes E (takes _ _ T)) l k) =
-      let t = wrap_types net _ W h E T l in
-      t.splits_output y (gives_typed net (answered (hs _ _ A)).given (closure_takes E t.part_takes) (more_steps {s = step d u} (rw eu (t.part_has x k)) t.part_lived))
+      → StateSteps φ p a (step d u) (Ok (a', y)) m n inside → IsLiveFed φ p (LWrap w a) (step d x) → IsTrue (output_fits w y)
+  output_splits w a a' m n inside d x u y eu hs (is_live_fed (ready h O (lives_wrap W A)) (closure_takes K E (takes _ _ T)) l k) =
+      let t = wrap_types net _ W h K E T l in
+      t.splits_output y (gives_typed net (answered (hs _ _ A)).given (closure_takes K E t.part_takes) (more_steps {s = step d u} (rw eu (t.part_has x k)) t.part_lived))
 
   -- only parts side by side are joined
-  pub join_is_side : (j : Join) (a b : State) (s : Step) → IsLiveFed p (LJoin j a b) s → j ≢ InSequence
+  pub join_is_side : (j : Join) (a b : State) (s : Step) → IsLiveFed φ p (LJoin j a b) s → j ≢ InSequence
   join_is_side j a b s (is_live_fed (ready h O (lives_join N OL A B)) T l k) = N
 
   -- what is taken apart is a pair
-  pub join_is_split : (j : Join) (a b : State) (d : ℕ) (x : Data) → ∥ IsLiveFed p (LJoin j a b) (step d x) ∥₁ → IsTrue (join_fits j x)
+  pub join_is_split : (j : Join) (a b : State) (d : ℕ) (x : Data) → ∥ IsLiveFed φ p (LJoin j a b) (step d x) ∥₁ → IsTrue (join_fits j x)
   join_is_split j a b d x h = ∥∥₁_elim h (hlevel props) (join_split j a b d x)
 
-  pub wrap_is_split : (w : Wrap) (a : State) (d : ℕ) (x : Data) → ∥ IsLiveFed p (LWrap w a) (step d x) ∥₁ → IsTrue (input_fits w x)
+  pub wrap_is_split : (w : Wrap) (a : State) (d : ℕ) (x : Data) → ∥ IsLiveFed φ p (LWrap w a) (step d x) ∥₁ → IsTrue (input_fits w x)
   wrap_is_split w a d x h = ∥∥₁_elim h (hlevel props) (wrap_splits w a d x)
 
   pub output_is_split : (w : Wrap) (a a' : State) (m n : Meter) (inside d : ℕ) (x u y : Data) → u ≡ part_input w x
-      → StateSteps p a (step d u) (Ok (a', y)) m n inside → ∥ IsLiveFed p (LWrap w a) (step d x) ∥₁ → IsTrue (output_fits w y)
+      → StateSteps φ p a (step d u) (Ok (a', y)) m n inside → ∥ IsLiveFed φ p (LWrap w a) (step d x) ∥₁ → IsTrue (output_fits w y)
   output_is_split w a a' m n inside d x u y eu hs h = ∥∥₁_elim h (hlevel props) (output_splits w a a' m n inside d x u y eu hs)
 
-  pub prim_fed : (i : PrimState) (s : Step) → IsLiveFed p (LPrim i) s → PrimitiveIsFed (plan_expressions p) i (input_of s)
-  prim_fed i s (is_live_fed (ready h O (lives_primitive K)) (closure_takes has_nothing (takes _ _ (primitive_takes T))) l k) = is_prim_fed K T k
+  pub prim_fed : (i : PrimState) (s : Step) → IsLiveFed φ p (LPrim i) s → PrimitiveIsFed (plan_expressions p) φ i (input_of s)
+  prim_fed i s (is_live_fed (ready h O (lives_primitive R)) (closure_takes K has_nothing (takes _ _ (primitive_takes T))) l k) = is_prim_fed R K T k
 
   -- ## Before the first sample
 
-  pub term_typed : (term : PlanId) (names : Env) (x : Data) → IsFirstFed p (SClosure term names) x → HasTypes (plan_tree p term)
-  term_typed term names x (is_first_fed (is_closure N) (closure_takes has_nothing T) h) = has_types T
+  pub term_typed : (term : PlanId) (names : Env) (x : Data) → IsFirstFed φ p (SClosure term names) x → HasTypes φ (plan_tree p term)
+  term_typed term names x (is_first_fed (is_closure N) (closure_takes K has_nothing T) h) = has_types K T
 
-  opened : {l : Live} {t : Term} {e : _} → Opens p t e (Ok l) → (x : Data) → Ready p l (closure t e) x []
+  opened : {l : Live} {t : Term} {e : _} → Opens φ p t e (Ok l) → (x : Data) → Ready φ p l (closure t e) x []
   opened (opens h) = h
 
-  pub opened_fed : (term : PlanId) (names : Env) (l : Live) (d : ℕ) (x : Data) → ((e : _) → IsNames p names e → Opens p (plan_tree p term) e (Ok l)) → IsFirstFed p (SClosure term names) x → IsLiveFed p l (step d x)
-  opened_fed term names l d x ho (is_first_fed (is_closure {e = e} N) (closure_takes E T) h) = is_live_fed (opened (ho e N) x) (closure_takes E T) no_steps h
+  pub opened_fed : (term : PlanId) (names : Env) (l : Live) (d : ℕ) (x : Data) → ((e : _) → IsNames p names e → Opens φ p (plan_tree p term) e (Ok l)) → IsFirstFed φ p (SClosure term names) x → IsLiveFed φ p l (step d x)
+  opened_fed term names l d x ho (is_first_fed (is_closure {e = e} N) (closure_takes K E T) h) = is_live_fed (opened (ho e N) x) (closure_takes K E T) no_steps h
 
   pub builds_primitive : {q : SPrimitive} {t : Term} → BuildsPlan p (NPrimitive q) t → t ≡ primitive (primitive_over (plan_expressions p) q)
   builds_primitive builds_bare = refl
   builds_primitive builds_with_value = refl
   builds_primitive builds_arrow = refl
 
-  pub primitive_typed : (q : SPrimitive) (t : Term) → BuildsPlan p (NPrimitive q) t → HasTypes t → PrimitiveIsTyped (primitive_over (plan_expressions p) q)
-  primitive_typed q t B h = types_of (subst HasTypes (builds_primitive B) h)
+  pub primitive_typed : (q : SPrimitive) (t : Term) → BuildsPlan p (NPrimitive q) t → HasTypes φ t → PrimitiveIsTyped φ (primitive_over (plan_expressions p) q)
+  primitive_typed q t B h = types_of (subst (HasTypes φ) (builds_primitive B) h)
     where
-      types_of : {q : _} → HasTypes (primitive q) → PrimitiveIsTyped q
-      types_of (has_types (takes _ _ (primitive_takes T))) = is_typed T
+      types_of : {q : _} → HasTypes φ (primitive q) → PrimitiveIsTyped φ q
+      types_of (has_types K (takes _ _ (primitive_takes T))) = is_typed K T
 
-  pub head_typed : (h : Heading) (i : ExprId) (a : PlanId) (t : Term) → BuildsPlan p (NHeaded h i a) t → HasTypes t → IsTypedIn no_names (plan_expression_at p i)
-  head_typed h i a t builds_headed (has_types (takes _ _ (loop_takes I T))) = typed_in has_no_names I
+  pub head_typed : (h : Heading) (i : ExprId) (a : PlanId) (t : Term) → BuildsPlan p (NHeaded h i a) t → HasTypes φ t → IsTypedIn (no_names φ) (plan_expression_at p i)
+  head_typed h i a t builds_headed (has_types K (takes _ _ (loop_takes I T))) = typed_in (has_no_names K) I

@@ -4,9 +4,9 @@ use Rattle.sf_law.specs.declared.plan.Plan.{Plan}
 use Rattle.sf_step.specs.declared.context.SampleContext.{SampleContext}
 
 -- the plan of the terms that are stepped
-abbrev pub plan_in : SampleContext → Plan
+abbrev pub plan_in : {R : Type 0} → SampleContext R → Plan
 plan_in c = c.plan.now
 
 -- how long the step is
-abbrev pub dt_in : SampleContext → ℕ
+abbrev pub dt_in : {R : Type 0} → SampleContext R → ℕ
 dt_in c = c.dt

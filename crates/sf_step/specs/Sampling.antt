@@ -4,6 +4,7 @@ use Rattle.sf_value.specs.Values.{Kind, Data, HasKind}
 use Rattle.sf_value.specs.declared.fault.ValueFault.{ValueFault}
 use Rattle.sf_value.specs.declared.fault.Fault.{Fault}
 use Rattle.sf_value.specs.declared.fault.Fault.TheVariants.{Value, Large, Memory}
+use Rattle.sf_func.specs.Registries.{TypesByName, AnswersByName, KeepTheirTypes}
 use Rattle.sf_operator.specs.declared.fault.EvalFault.{EvalFault}
 use Rattle.sf_operator.specs.declared.fault.EvalFault.TheVariants.{Value as EValue, Memory as EMemory}
 use Rattle.sf_law.specs.declared.plan.Plan.{Plan}
@@ -84,26 +85,26 @@ pub data Answers {A : Type 0} (view : A → Data) (after : A → Type 0) (R : Re
   fails : {f : Fault} {m n : Meter} {depth : ℕ} → StopsFor R f m n depth → Answers view after R (Err f) m n depth
 
 -- a part steps to the outcome of its process on the longer life
-abbrev pub StateSteps : Plan → State → Step → Result (State × Data) Fault → Meter → Meter → ℕ → Type 0
-StateSteps p a s result m n depth = (P : Process) (L : Life) → Stands p a P L
-    → Answers (λ y. y.1) (λ y. Stands p y.0 P (s ∷ L)) (Gives (network_of_plan p) P (s ∷ L)) result m n depth
+abbrev pub StateSteps : AnswersByName → Plan → State → Step → Result (State × Data) Fault → Meter → Meter → ℕ → Type 0
+StateSteps φ p a s result m n depth = (P : Process) (L : Life) → Stands φ p a P L
+    → Answers (λ y. y.1) (λ y. Stands φ p y.0 P (s ∷ L)) (Gives (network_of_plan φ p) P (s ∷ L)) result m n depth
 
 -- a live part that counted between m and n steps likewise, where its parts stand inside so many nodes
-abbrev pub LiveSteps : Plan → Live → Step → Result (Live × Data) Fault → Meter → Meter → ℕ → Type 0
-LiveSteps p l s result n n' inside = (m : Meter) (depth : ℕ) → Ticks m n depth inside → (P : Process) (L : Life) → Ready p l P (first_input s L) L
-    → Answers (λ y. y.1) (λ y. Settles p y.0 P (s ∷ L)) (Gives (network_of_plan p) P (s ∷ L)) result m n' depth
+abbrev pub LiveSteps : AnswersByName → Plan → Live → Step → Result (Live × Data) Fault → Meter → Meter → ℕ → Type 0
+LiveSteps φ p l s result n n' inside = (m : Meter) (depth : ℕ) → Ticks m n depth inside → (P : Process) (L : Life) → Ready φ p l P (first_input s L) L
+    → Answers (λ y. y.1) (λ y. Settles φ p y.0 P (s ∷ L)) (Gives (network_of_plan φ p) P (s ∷ L)) result m n' depth
 
 -- a live part before its first sample, or the fault of its constants
-pub data Opens (p : Plan) (t : Term) (e : Environment) : Result Live Fault → Type 0 where
-  opens : {l : Live} → ((x : Data) → Ready p l (closure t e) x []) → Opens p t e (Ok l)
-  opens_with_fault : {x : ValueFault} → ((s : Step) → Gives (network_of_plan p) (closure t e) (s ∷ []) (faulted x) (text_cost t)) → Opens p t e (Err (Value x))
-  opens_without_memory : Opens p t e (Err Memory)
+pub data Opens (φ : AnswersByName) (p : Plan) (t : Term) (e : Environment) : Result Live Fault → Type 0 where
+  opens : {l : Live} → ((x : Data) → Ready φ p l (closure t e) x []) → Opens φ p t e (Ok l)
+  opens_with_fault : {x : ValueFault} → ((s : Step) → Gives (network_of_plan φ p) (closure t e) (s ∷ []) (faulted x) (text_cost t)) → Opens φ p t e (Err (Value x))
+  opens_without_memory : Opens φ p t e (Err Memory)
 
 -- States of terms before their first sample.
-pub data AllBegin (p : Plan) (e : Environment) : List PlanId → List State → Type 0 where
-  none_begin : AllBegin p e [] []
+pub data AllBegin (φ : AnswersByName) (p : Plan) (e : Environment) : List PlanId → List State → Type 0 where
+  none_begin : AllBegin φ p e [] []
   more_begin : {i : PlanId} {ids : List PlanId} {a : State} {bs : List State}
-      → Stands p a (closure (plan_tree p i) e) [] → AllBegin p e ids bs → AllBegin p e (i ∷ ids) (a ∷ bs)
+      → Stands φ p a (closure (plan_tree p i) e) [] → AllBegin φ p e ids bs → AllBegin φ p e (i ∷ ids) (a ∷ bs)
 
 -- whether a part was not stepped yet
 abbrev pub is_unborn : State → Bool
@@ -117,16 +118,16 @@ left_or (Err e) b f = Err f
 
 -- ## Types
 
--- A term has types, where no names are bound.
-pub data HasTypes (t : Term) : Type 0 where
-  has_types : {ss : List Signature} {a b : Kind} → Takes (without_names ss) t a b → HasTypes t
+-- A term has types, where no names are bound and functions that answer this keep theirs.
+pub data HasTypes (φ : AnswersByName) (t : Term) : Type 0 where
+  has_types : {fs : TypesByName} {ss : List Signature} {a b : Kind} → KeepTheirTypes fs φ → Takes (without_names fs ss) t a b → HasTypes φ t
 
 -- An input has the type of a process's inputs.
-pub data IsFirstFed (p : Plan) (q : SProcess) (x : Data) : Type 0 where
+pub data IsFirstFed (φ : AnswersByName) (p : Plan) (q : SProcess) (x : Data) : Type 0 where
   is_first_fed : {P : Process} {a b : Kind}
-      → IsProcess p q P → ProcessTakes (network_of_plan p) P a b → HasKind x a → IsFirstFed p q x
+      → IsProcess p q P → ProcessTakes (network_of_plan φ p) P a b → HasKind x a → IsFirstFed φ p q x
 
 -- A step's input has the type of the inputs before it.
-pub data IsLiveFed (p : Plan) (l : Live) (s : Step) : Type 0 where
+pub data IsLiveFed (φ : AnswersByName) (p : Plan) (l : Live) (s : Step) : Type 0 where
   is_live_fed : {P : Process} {L : Life} {a b : Kind}
-      → Ready p l P (first_input s L) L → ProcessTakes (network_of_plan p) P a b → LifeHas L a → HasKind (input_of s) a → IsLiveFed p l s
+      → Ready φ p l P (first_input s L) L → ProcessTakes (network_of_plan φ p) P a b → LifeHas L a → HasKind (input_of s) a → IsLiveFed φ p l s

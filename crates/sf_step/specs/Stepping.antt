@@ -4,6 +4,7 @@ use Rattle.sf_value.specs.Values.{Kind, Data, HasKind}
 use Rattle.sf_value.specs.declared.fault.ValueFault.{ValueFault}
 use Rattle.sf_value.specs.declared.fault.Fault.{Fault}
 use Rattle.sf_value.specs.declared.fault.Fault.TheVariants.{Value, Large, Memory}
+use Rattle.sf_func.specs.Registries.{AnswersByName}
 use Rattle.sf_law.specs.declared.plan.Plan.{Plan}
 use Rattle.sf_mean.specs.Lives.{Life, Process}
 use Rattle.sf_mean.specs.Meaning.{Outcome, gave, faulted, Cost, count, height, Gives}
@@ -14,27 +15,27 @@ use Rattle.sf_state.specs.Standing.{Stands}
 use Rattle.sf_step.specs.declared.meter.Meter.{Meter}
 use Rattle.sf_step.specs.Meters.{entered_of, height_of}
 
--- An input has the type of the inputs before it: the state stands for a process that takes them.
-pub data IsFed (p : Plan) (a : State) (x : Data) : Type 0 where
+-- An input has the type of the inputs before it: where functions answer this, the state stands for a process that takes them.
+pub data IsFed (φ : AnswersByName) (p : Plan) (a : State) (x : Data) : Type 0 where
   is_fed : {P : Process} {L : Life} {t u : Kind}
-      → Stands p a P L → ProcessTakes (network_of_plan p) P t u → LifeHas L t → HasKind x t → IsFed p a x
+      → Stands φ p a P L → ProcessTakes (network_of_plan φ p) P t u → LifeHas L t → HasKind x t → IsFed φ p a x
 
 -- each outcome of P on L costs what the meter counted, or more
-pub record EachCostsAtLeast (p : Plan) (P : Process) (L : Life) (m : Meter) : Type 0 where
-  pub few : (o : Outcome) (k : Cost) → Gives (network_of_plan p) P L o k → entered_of m ≤ count k
-  pub low : (o : Outcome) (k : Cost) → Gives (network_of_plan p) P L o k → height_of m ≤ height k
+pub record EachCostsAtLeast (φ : AnswersByName) (p : Plan) (P : Process) (L : Life) (m : Meter) : Type 0 where
+  pub few : (o : Outcome) (k : Cost) → Gives (network_of_plan φ p) P L o k → entered_of m ≤ count k
+  pub low : (o : Outcome) (k : Cost) → Gives (network_of_plan φ p) P L o k → height_of m ≤ height k
 
 -- A sample answers what P gives on L. The new state stands for P on L, and the meter counted exactly the meaning's terms;
 -- without a value it counted no more. Large is answered only where P gives nothing within the numbers of nodes that are allowed.
-pub data Steps (p : Plan) (P : Process) (L : Life) : Result Data Fault → State → Meter → Type 0 where
+pub data Steps (φ : AnswersByName) (p : Plan) (P : Process) (L : Life) : Result Data Fault → State → Meter → Type 0 where
   stepped : {v : Data} {k : Cost} {s : State} {m : Meter}
-      → Gives (network_of_plan p) P L (gave v []) k → entered_of m ≡ count k → height_of m ≡ height k → Stands p s P L
-      → Steps p P L (Ok v) s m
+      → Gives (network_of_plan φ p) P L (gave v []) k → entered_of m ≡ count k → height_of m ≡ height k → Stands φ p s P L
+      → Steps φ p P L (Ok v) s m
   faulted_so : {x : ValueFault} {k : Cost} {s : State} {m : Meter}
-      → Gives (network_of_plan p) P L (faulted x) k → entered_of m ≤ count k → height_of m ≤ height k
-      → Steps p P L (Err (Value x)) s m
+      → Gives (network_of_plan φ p) P L (faulted x) k → entered_of m ≤ count k → height_of m ≤ height k
+      → Steps φ p P L (Err (Value x)) s m
   too_large : {s : State} {m : Meter}
-      → ((o : Outcome) (k : Cost) → Gives (network_of_plan p) P L o k → count k ≤ 100000 → height k ≤ 800 → ⊥)
-      → EachCostsAtLeast p P L m
-      → Steps p P L (Err Large) s m
-  no_memory : {s : State} {m : Meter} → EachCostsAtLeast p P L m → Steps p P L (Err Memory) s m
+      → ((o : Outcome) (k : Cost) → Gives (network_of_plan φ p) P L o k → count k ≤ 100000 → height k ≤ 800 → ⊥)
+      → EachCostsAtLeast φ p P L m
+      → Steps φ p P L (Err Large) s m
+  no_memory : {s : State} {m : Meter} → EachCostsAtLeast φ p P L m → Steps φ p P L (Err Memory) s m

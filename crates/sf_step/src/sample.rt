@@ -1,6 +1,7 @@
 //! One sample.
 ghost use Rattle.std.specs.Prelude.{◌≡◌, ◌≤◌, ℕ, [], ◌∷◌, IsTrue, IfOk, Ok};
 ghost use Rattle.sf_value.specs.Values.{Data};
+ghost use Rattle.sf_func.specs.Registries.{AnswersByName};
 ghost use Rattle.sf_expr.specs.Evaluation.{answer};
 ghost use Rattle.sf_law.specs.declared.plan.Plan.{Plan as PlanOf};
 ghost use Rattle.sf_term.specs.Trees.{Term, joined as joined_term};
@@ -18,6 +19,7 @@ use crate::context::SampleContext;
 use crate::meter::{Meter, Stop};
 use crate::routing::{halves, on_side, parts, unshare_half, with_head};
 use sf_expr::{EvalFault, Scope, eval};
+use sf_func::Holds;
 use sf_law::{Plan, PlanId, PlanNode};
 use sf_prim::PrimState;
 use sf_state::{Env, Live, Process, State, Wrap, unshare};
@@ -28,27 +30,34 @@ use std::mem;
 use std::rc::Rc;
 
 /// The value at the next sample of a network, `dt` milliseconds after the one before; at the first
-/// sample `dt` isn't looked at. The input has the type of the inputs before it. The meter counts the
-/// nodes that this sample enters, and none of the samples before. The error is the first fault of
-/// the network's values, `Large` at the 100,001st node or at more than 800 one inside another, or
-/// `Memory`; the meter then counts no more nodes than the sample would have entered. After an error
-/// the state stands for nothing. No state that was frozen from it changes.
-pub fn step(
+/// sample `dt` isn't looked at. The functions that are called keep their types, and the input has
+/// the type of the inputs before it. The meter counts the nodes that this sample enters, and none of
+/// the samples before. The error is the first fault of the network's values, `Large` at the 100,001st
+/// node or at more than 800 one inside another, or `Memory`; the meter then counts no more nodes than
+/// the sample would have entered. After an error the state stands for nothing. No state that was
+/// frozen from it changes.
+pub fn step<R: Holds>(
     alloc: Global,
     state: &mut State,
     plan: &Plan,
+    functions: &R,
     dt: u64,
     input: Value,
     meter: &mut Meter,
 ) -> Result<Value, Fault>
-    requires { ∥ IsFed plan.now state.old input ∥₁ }
+    requires { ∥ IsFed (R.answers functions.now) plan.now state.old input ∥₁ }
     // a state of (P, L) steps to the outcome of P on the longer life
-    ensures answers { (P : ProcessOf) (L : Life) → Stands plan.now state.old P L →
-        Steps plan.now P (step dt input ∷ L) result state.new meter.new }
+    ensures answers { (P : ProcessOf) (L : Life) → Stands (R.answers functions.now) plan.now state.old P L →
+        Steps (R.answers functions.now) plan.now P (step dt input ∷ L) result state.new meter.new }
     ensures bounded { (entered_of meter.new ≤ 100000) × (height_of meter.new ≤ 800) }
 {
     *meter = Meter::new();
-    let context = SampleContext { alloc, plan, dt };
+    let context = SampleContext {
+        alloc,
+        plan,
+        functions,
+        dt,
+    };
     let mut value = input;
     match step_state(&context, state, 0, &mut value, meter) {
         Ok(()) => Ok(value),
@@ -60,16 +69,16 @@ pub fn step(
 // state stands for nothing, and the value may be any; so below.
 #[cycle(step)]
 #[inline(always)]
-fn step_state(
-    context: &SampleContext,
+fn step_state<R: Holds>(
+    context: &SampleContext<R>,
     state: &mut State,
     depth: u64,
     value: &mut Value,
     meter: &mut Meter,
 ) -> Result<(), Stop>
-    requires { ∥ IsFed (plan_in context.now) state.old value.old ∥₁ }
+    requires { ∥ IsFed (R.answers context.now.functions.now) (plan_in context.now) state.old value.old ∥₁ }
     ensures grows { entered_of meter.old ≤ entered_of meter.new }
-    ensures answers { StateSteps (plan_in context.now) state.old (step (dt_in context.now) value.old)
+    ensures answers { StateSteps (R.answers context.now.functions.now) (plan_in context.now) state.old (step (dt_in context.now) value.old)
         (left_or result (state.new, value.new) (fault_in meter.new)) meter.old meter.new depth }
 {
     match state {
@@ -92,17 +101,17 @@ fn step_state(
 #[cycle(step)]
 #[cold]
 #[inline(never)]
-fn start(
-    context: &SampleContext,
+fn start<R: Holds>(
+    context: &SampleContext<R>,
     state: &mut State,
     depth: u64,
     value: &mut Value,
     meter: &mut Meter,
 ) -> Result<(), Stop>
     requires unborn { IsTrue (is_unborn state.old) }
-    requires fed { ∥ IsFed (plan_in context.now) state.old value.old ∥₁ }
+    requires fed { ∥ IsFed (R.answers context.now.functions.now) (plan_in context.now) state.old value.old ∥₁ }
     ensures grows { entered_of meter.old ≤ entered_of meter.new }
-    ensures answers { StateSteps (plan_in context.now) state.old (step (dt_in context.now) value.old)
+    ensures answers { StateSteps (R.answers context.now.functions.now) (plan_in context.now) state.old (step (dt_in context.now) value.old)
         (left_or result (state.new, value.new) (fault_in meter.new)) meter.old meter.new depth }
 {
     match state {
@@ -131,16 +140,16 @@ fn start(
 // The next sample of a part on a half of a pair, likewise.
 #[cycle(step)]
 #[inline(always)]
-fn step_half(
-    context: &SampleContext,
+fn step_half<R: Holds>(
+    context: &SampleContext<R>,
     state: &mut State,
     depth: u64,
     half: &mut Rc<Value>,
     meter: &mut Meter,
 ) -> Result<(), Stop>
-    requires { ∥ IsFed (plan_in context.now) state.old half.old.value ∥₁ }
+    requires { ∥ IsFed (R.answers context.now.functions.now) (plan_in context.now) state.old half.old.value ∥₁ }
     ensures grows { entered_of meter.old ≤ entered_of meter.new }
-    ensures answers { StateSteps (plan_in context.now) state.old (step (dt_in context.now) half.old.value)
+    ensures answers { StateSteps (R.answers context.now.functions.now) (plan_in context.now) state.old (step (dt_in context.now) half.old.value)
         (left_or result (state.new, half.new.value) (fault_in meter.new)) meter.old meter.new depth }
 {
     let Ok(()) = unshare_half(context.alloc, half) else {
@@ -155,16 +164,16 @@ fn step_half(
 // The next sample of a live part, which has been counted and whose parts stand inside `inside` nodes.
 #[cycle(step)]
 #[inline(always)]
-fn step_live(
-    context: &SampleContext,
+fn step_live<R: Holds>(
+    context: &SampleContext<R>,
     live: &mut Live,
     inside: u64,
     value: &mut Value,
     meter: &mut Meter,
 ) -> Result<(), Stop>
-    requires { ∥ IsLiveFed (plan_in context.now) live.old (step (dt_in context.now) value.old) ∥₁ }
+    requires { ∥ IsLiveFed (R.answers context.now.functions.now) (plan_in context.now) live.old (step (dt_in context.now) value.old) ∥₁ }
     ensures grows { entered_of meter.old ≤ entered_of meter.new }
-    ensures answers { LiveSteps (plan_in context.now) live.old (step (dt_in context.now) value.old)
+    ensures answers { LiveSteps (R.answers context.now.functions.now) (plan_in context.now) live.old (step (dt_in context.now) value.old)
         (left_or result (live.new, value.new) (fault_in meter.new)) meter.old meter.new inside }
 {
     match live {
@@ -182,17 +191,17 @@ fn step_live(
 // The next sample of two parts side by side, likewise.
 #[cycle(step)]
 #[inline(never)]
-fn step_parallel(
-    context: &SampleContext,
+fn step_parallel<R: Holds>(
+    context: &SampleContext<R>,
     left: &mut State,
     right: &mut State,
     inside: u64,
     value: &mut Value,
     meter: &mut Meter,
 ) -> Result<(), Stop>
-    requires { ∥ IsLiveFed (plan_in context.now) (Live.Join Join.InParallel left.old right.old) (step (dt_in context.now) value.old) ∥₁ }
+    requires { ∥ IsLiveFed (R.answers context.now.functions.now) (plan_in context.now) (Live.Join Join.InParallel left.old right.old) (step (dt_in context.now) value.old) ∥₁ }
     ensures grows { entered_of meter.old ≤ entered_of meter.new }
-    ensures answers { LiveSteps (plan_in context.now) (Live.Join Join.InParallel left.old right.old) (step (dt_in context.now) value.old)
+    ensures answers { LiveSteps (R.answers context.now.functions.now) (plan_in context.now) (Live.Join Join.InParallel left.old right.old) (step (dt_in context.now) value.old)
         (left_or result (Live.Join Join.InParallel left.new right.new, value.new) (fault_in meter.new)) meter.old meter.new inside }
 {
     let (mut first, mut second) = halves(value);
@@ -205,17 +214,17 @@ fn step_parallel(
 // The next sample of two parts that share their input, likewise.
 #[cycle(step)]
 #[inline(never)]
-fn step_fan(
-    context: &SampleContext,
+fn step_fan<R: Holds>(
+    context: &SampleContext<R>,
     left: &mut State,
     right: &mut State,
     inside: u64,
     value: &mut Value,
     meter: &mut Meter,
 ) -> Result<(), Stop>
-    requires { ∥ IsLiveFed (plan_in context.now) (Live.Join Join.FannedOut left.old right.old) (step (dt_in context.now) value.old) ∥₁ }
+    requires { ∥ IsLiveFed (R.answers context.now.functions.now) (plan_in context.now) (Live.Join Join.FannedOut left.old right.old) (step (dt_in context.now) value.old) ∥₁ }
     ensures grows { entered_of meter.old ≤ entered_of meter.new }
-    ensures answers { LiveSteps (plan_in context.now) (Live.Join Join.FannedOut left.old right.old) (step (dt_in context.now) value.old)
+    ensures answers { LiveSteps (R.answers context.now.functions.now) (plan_in context.now) (Live.Join Join.FannedOut left.old right.old) (step (dt_in context.now) value.old)
         (left_or result (Live.Join Join.FannedOut left.new right.new, value.new) (fault_in meter.new)) meter.old meter.new inside }
 {
     let Ok(mut first) = value.clone_in(context.alloc) else {
@@ -234,16 +243,16 @@ fn step_fan(
 // The next sample of stages, each on the value of the one before it, likewise.
 #[cycle(step)]
 #[inline(never)]
-fn step_pipeline(
-    context: &SampleContext,
+fn step_pipeline<R: Holds>(
+    context: &SampleContext<R>,
     stages: &mut Vec<State>,
     inside: u64,
     value: &mut Value,
     meter: &mut Meter,
 ) -> Result<(), Stop>
-    requires { ∥ IsLiveFed (plan_in context.now) (Live.Pipeline stages.old) (step (dt_in context.now) value.old) ∥₁ }
+    requires { ∥ IsLiveFed (R.answers context.now.functions.now) (plan_in context.now) (Live.Pipeline stages.old) (step (dt_in context.now) value.old) ∥₁ }
     ensures grows { entered_of meter.old ≤ entered_of meter.new }
-    ensures answers { LiveSteps (plan_in context.now) (Live.Pipeline stages.old) (step (dt_in context.now) value.old)
+    ensures answers { LiveSteps (R.answers context.now.functions.now) (plan_in context.now) (Live.Pipeline stages.old) (step (dt_in context.now) value.old)
         (left_or result (Live.Pipeline stages.new, value.new) (fault_in meter.new)) meter.old meter.new inside }
 {
     for stage in stages.iter_mut() {
@@ -255,17 +264,17 @@ fn step_pipeline(
 // The next sample of a form with one part, likewise.
 #[cycle(step)]
 #[inline(never)]
-fn step_wrap(
-    context: &SampleContext,
+fn step_wrap<R: Holds>(
+    context: &SampleContext<R>,
     wrap: &mut Wrap,
     part: &mut State,
     inside: u64,
     value: &mut Value,
     meter: &mut Meter,
 ) -> Result<(), Stop>
-    requires { ∥ IsLiveFed (plan_in context.now) (Live.Wrap wrap.old part.old) (step (dt_in context.now) value.old) ∥₁ }
+    requires { ∥ IsLiveFed (R.answers context.now.functions.now) (plan_in context.now) (Live.Wrap wrap.old part.old) (step (dt_in context.now) value.old) ∥₁ }
     ensures grows { entered_of meter.old ≤ entered_of meter.new }
-    ensures answers { LiveSteps (plan_in context.now) (Live.Wrap wrap.old part.old) (step (dt_in context.now) value.old)
+    ensures answers { LiveSteps (R.answers context.now.functions.now) (plan_in context.now) (Live.Wrap wrap.old part.old) (step (dt_in context.now) value.old)
         (left_or result (Live.Wrap wrap.new part.new, value.new) (fault_in meter.new)) meter.old meter.new inside }
 {
     match wrap {
@@ -300,33 +309,40 @@ fn step_wrap(
 
 // The next sample of a primitive, likewise.
 #[inline(always)]
-fn step_prim(
-    context: &SampleContext,
+fn step_prim<R: Holds>(
+    context: &SampleContext<R>,
     prim: &mut PrimState,
     value: &mut Value,
     meter: &mut Meter,
 ) -> Result<(), Stop>
-    requires { ∥ IsLiveFed (plan_in context.now) (Live.Prim prim.old) (step (dt_in context.now) value.old) ∥₁ }
+    requires { ∥ IsLiveFed (R.answers context.now.functions.now) (plan_in context.now) (Live.Prim prim.old) (step (dt_in context.now) value.old) ∥₁ }
     ensures entered { entered_of meter.new ≡ entered_of meter.old }
-    ensures answers { (inside : ℕ) → LiveSteps (plan_in context.now) (Live.Prim prim.old) (step (dt_in context.now) value.old)
+    ensures answers { (inside : ℕ) → LiveSteps (R.answers context.now.functions.now) (plan_in context.now) (Live.Prim prim.old) (step (dt_in context.now) value.old)
         (left_or result (Live.Prim prim.new, value.new) (fault_in meter.new)) meter.old meter.new inside }
 {
-    match prim.step(context.alloc, context.plan.expressions(), context.dt, value) {
+    match prim.step(
+        context.alloc,
+        context.plan.expressions(),
+        context.functions,
+        context.dt,
+        value,
+    ) {
         Ok(()) => Ok(()),
         Err(fault) => Err(meter.stop(fault_of(fault))),
     }
 }
 
 // A term before its first sample, with the names around it.
-fn open(context: &SampleContext, term: PlanId, names: &Env) -> Result<Live, Fault>
-    requires { ∥ HasTypes (plan_tree (plan_in context.now) term) ∥₁ }
+fn open<R: Holds>(context: &SampleContext<R>, term: PlanId, names: &Env) -> Result<Live, Fault>
+    requires { ∥ HasTypes (R.answers context.now.functions.now) (plan_tree (plan_in context.now) term) ∥₁ }
     ensures { (e : Environment) → IsNames (plan_in context.now) names.now e →
-        Opens (plan_in context.now) (plan_tree (plan_in context.now) term) e result }
+        Opens (R.answers context.now.functions.now) (plan_in context.now) (plan_tree (plan_in context.now) term) e result }
 {
     match context.plan.node(term) {
         PlanNode::Primitive(primitive) => match PrimState::born(
             context.alloc,
             context.plan.expressions(),
+            context.functions,
             *primitive,
         ) {
             Ok(prim) => Ok(Live::Prim(prim)),
@@ -341,12 +357,13 @@ fn open(context: &SampleContext, term: PlanId, names: &Env) -> Result<Live, Faul
         )?),
         PlanNode::Sided(side, part) => around(on_side(*side), *part, names),
         PlanNode::Headed(heading, expression, part) => {
-            let scope = Scope::new(context.alloc);
+            let scope = Scope::new();
             match eval(
                 context.alloc,
                 context.plan.expressions(),
                 *expression,
                 &scope,
+                context.functions,
             ) {
                 Ok(head) => around(with_head(*heading, head), *part, names),
                 Err(fault) => Err(fault_of(fault)),
@@ -364,8 +381,8 @@ fn joined(
     right: PlanId,
     names: &Env,
 ) -> Result<Live, AllocError>
-    ensures { IfOk result (λ live. (p : PlanOf) (e : Environment) → IsNames p names.now e →
-        Opens p (joined_term join (plan_tree p left) (plan_tree p right)) e (Ok live)) }
+    ensures { IfOk result (λ live. (φ : AnswersByName) (p : PlanOf) (e : Environment) → IsNames p names.now e →
+        Opens φ p (joined_term join (plan_tree p left) (plan_tree p right)) e (Ok live)) }
 {
     match join {
         Join::InSequence => Ok(Live::Pipeline(begin_all(alloc, &[left, right], names)?)),
@@ -381,7 +398,7 @@ fn joined(
 
 // Stages before their first sample, with the names around them.
 fn begin_all(alloc: Global, stages: &[PlanId], names: &Env) -> Result<Vec<State>, AllocError>
-    ensures { IfOk result (λ begun. (p : PlanOf) (e : Environment) → IsNames p names.now e → AllBegin p e stages.now begun.items) }
+    ensures { IfOk result (λ begun. (φ : AnswersByName) (p : PlanOf) (e : Environment) → IsNames p names.now e → AllBegin φ p e stages.now begun.items) }
 {
     let mut begun = Vec::with_capacity(alloc, stages.len())?;
     for stage in stages {
@@ -393,9 +410,9 @@ fn begin_all(alloc: Global, stages: &[PlanId], names: &Env) -> Result<Vec<State>
 
 // A form with one part, before its first sample.
 fn around(wrap: Wrap, part: PlanId, names: &Env) -> Result<Live, Fault>
-    ensures { (p : PlanOf) (t : Term) (e : Environment) (m : Made) → IsNames p names.now e →
-        ((x : Data) → make (network_of_plan p) t e x ≡ answer m) → Wraps (network_of_plan p) wrap t e m [] (plan_tree p part) [] →
-        Opens p t e result }
+    ensures { (φ : AnswersByName) (p : PlanOf) (t : Term) (e : Environment) (m : Made) → IsNames p names.now e →
+        ((x : Data) → make (network_of_plan φ p) t e x ≡ answer m) → Wraps (network_of_plan φ p) wrap t e m [] (plan_tree p part) [] →
+        Opens φ p t e result }
 {
     let inner = names.share()?;
     Ok(Live::Wrap(wrap, State::Unborn(Process::Closure(part, inner))))

@@ -14,13 +14,12 @@ use Rattle.sf_expr.specs.declared.exprs.FunctionId.{FunctionId}
 use Rattle.sf_expr.specs.declared.exprs.PatternId.{PatternId}
 use Rattle.sf_expr.specs.declared.exprs.NameId.{NameId}
 use Rattle.sf_expr.specs.declared.exprs.ConstantId.{ConstantId}
-use Rattle.sf_expr.specs.declared.exprs.ExprNode.TheVariants as expressions
 use Rattle.sf_value.specs.Values.{Name}
 use Rattle.sf_expr.specs.declared.exprs.ExprNode.{ExprNode}
 use Rattle.sf_expr.specs.declared.exprs.Exprs.{Exprs}
 use Rattle.sf_expr.specs.Patterns.{PlacedPattern}
-use Rattle.sf_expr.specs.Expressions.{Literal, Expression, variable, literal}
-use Rattle.sf_expr.specs.Arena.{expression, count_of, function_count, Holds, HoldsFunction as HoldsFunctionIn, function_at, pattern_at as pattern_at_in, body_at as body_at_in, node_at as value_node_at, spot_at as value_spot_at, Keeps as KeepsExpressions, Adds as AddsToExpressions, AddsName, name_at, next_name, AddsConstant, literal_at, next_constant, HoldsPattern, placed_at, next_pattern, AddsPattern, expression_of, AddsFunction as AddsFunctionIn, IsUnchanged as ExpressionsUnchanged}
+use Rattle.sf_expr.specs.Expressions.{Literal, Expression}
+use Rattle.sf_expr.specs.Arena.{expression, count_of, function_count, Holds, HoldsFunction as HoldsFunctionIn, function_at, pattern_at as pattern_at_in, body_at as body_at_in, node_at as value_node_at, spot_at as value_spot_at, Keeps as KeepsExpressions, Adds as AddsToExpressions, AddsName, AddsConstant, HoldsPattern, placed_at, next_pattern, AddsPattern, expression_of, AddsFunction as AddsFunctionIn, IsUnchanged as ExpressionsUnchanged}
 use Rattle.sf_expr.proofs.Entered.{below_holds, holds_below, below_function, function_below, pattern_below, below_pattern, few_expressions, adds_keeps as expressions_kept, unchanged_keeps as unchanged_expressions_kept}
 use Rattle.sf_term.specs.declared.refusal.BuildRefusal.{BuildRefusal}
 use Rattle.sf_term.specs.declared.node.TermId.{TermId}
@@ -466,26 +465,12 @@ adds_after a b c id n e s u adds = record {
   expression_counted = omega (arith, adds.expression_counted, u.expression_counted);
 }
 
--- a name that is added, and then its expression
-pub adds_named : (a b c : Program) (m : NameId) (y : Name) (s : Spot) (r : Result ExprId BuildRefusal) → AddsName a.expressions b.expressions m y → IsSameProgram a b → IfOk r (λ id. AddsExpression b c id (expressions.Name m) (variable (name_at b.expressions m)) s) → IfOk r (λ id. AddsExpression a c id (expressions.Name (next_name a.expressions)) (variable y) s)
-adds_named a b c m y s (Ok id) named u adds =
-    subst (λ (k : NameId). AddsExpression a c id (expressions.Name k) (variable y) s) named.next
-    (subst (λ (z : Name). AddsExpression a c id (expressions.Name m) (variable z) s) named.is (adds_after a b c id _ _ s u adds))
-adds_named a b c m y s (Err f) named u adds = tt
-
--- a constant that is added, and then its expression
-pub adds_with_constant : (a b c : Program) (m : ConstantId) (l : Literal) (s : Spot) (r : Result ExprId BuildRefusal) → AddsConstant a.expressions b.expressions m l → IsSameProgram a b → IfOk r (λ id. AddsExpression b c id (expressions.Constant m) (literal (literal_at b.expressions m)) s) → IfOk r (λ id. AddsExpression a c id (expressions.Constant (next_constant a.expressions)) (literal l) s)
-adds_with_constant a b c m l s (Ok id) added u adds =
-    subst (λ (k : ConstantId). AddsExpression a c id (expressions.Constant k) (literal l) s) added.next
-    (subst (λ (k : Literal). AddsExpression a c id (expressions.Constant m) (literal k) s) added.is (adds_after a b c id _ _ s u adds))
-adds_with_constant a b c m l s (Err f) added u adds = tt
-
--- a pattern that is put beside the functions, and then the expression of a node that names it
-pub adds_with_pattern : (a b c : Program) (r : Result ExprId BuildRefusal) (q : PatternId) (p : PlacedPattern) (n : PatternId → ExprNode) (e : Expression) (s : Spot) → AddsPattern a.expressions b.expressions q p → IsSameProgram a b → expression_of b.expressions (n q) ≡ e → IfOk r (λ id. AddsExpression b c id (n q) (expression_of b.expressions (n q)) s) → IfOk r (λ id. AddsExpression a c id (n (next_pattern a.expressions)) e s)
-adds_with_pattern a b c (Ok id) q p n e s put u is adds =
-    subst (λ (k : PatternId). AddsExpression a c id (n k) e s) put.next
-    (subst (λ (w : Expression). AddsExpression a c id (n q) w s) is (adds_after a b c id _ _ s u adds))
-adds_with_pattern a b c (Err f) q p n e s put u is adds = tt
+-- something that is put beside the expressions, and then the expression of a node that names it
+pub adds_with : {I : Type 0} (a b c : Program) (r : Result ExprId BuildRefusal) (m next : I) (n : I → ExprNode) (e : Expression) (s : Spot) → m ≡ next → IsSameProgram a b → expression_of b.expressions (n m) ≡ e → IfOk r (λ id. AddsExpression b c id (n m) (expression_of b.expressions (n m)) s) → IfOk r (λ id. AddsExpression a c id (n next) e s)
+adds_with {I} a b c (Ok id) m next n e s there u is adds =
+    subst (λ (k : I). AddsExpression a c id (n k) e s) there
+    (subst (λ (w : Expression). AddsExpression a c id (n m) w s) is (adds_after a b c id _ _ s u adds))
+adds_with {I} a b c (Err f) m next n e s there u is adds = tt
 
 -- and the pattern is there
 pub pattern_there : (a b c : Program) (r : Result ExprId BuildRefusal) (q : PatternId) (p : PlacedPattern) (n : ExprNode) (e : Expression) (s : Spot) → AddsPattern a.expressions b.expressions q p → IfOk r (λ id. AddsExpression b c id n e s) → OnOk r (HoldsPatternIn c (next_pattern a.expressions) × (pattern_under c (next_pattern a.expressions) ≡ p))

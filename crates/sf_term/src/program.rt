@@ -2,7 +2,7 @@
 ghost use Rattle.std.specs.Prelude.{◌≡◌, ◌<◌, ◌≤◌, ◌↔◌, max, IfOk, OnOk, OnErr, [], length, string_bytes, All};
 ghost use Rattle.sf_lex.specs.Words.{IsName};
 ghost use Rattle.sf_expr.specs.Expressions.{variable, literal, int_literal, paired, applied as applied_of, operation as operation_of, conditional as conditional_of};
-ghost use Rattle.sf_expr.specs.Expressions.{mapped as mapped_of, folded as folded_of, pattern_depth};
+ghost use Rattle.sf_expr.specs.Expressions.{mapped as mapped_of, folded as folded_of, called as called_of, pattern_depth};
 ghost use Rattle.sf_expr.specs.Expressions.{function as function_of, depth as expression_depth_of, function_depth as function_depth_of};
 ghost use Rattle.sf_expr.specs.Patterns.{pattern_of};
 ghost use Rattle.sf_expr.specs.Arena.{next_name, next_constant, next_pattern, AddsPattern, expression_of, HoldsParts as HoldsExpressionParts};
@@ -374,6 +374,45 @@ impl Program {
         match self.place(pattern, parts) {
             Ok(id) => self.add_expression(ExprNode::Folded(first, folding, second, id, body), spot),
             Err(refusal) => Err(refusal),
+        }
+    }
+
+    /// Adds a call of a stored function, whose name stands at `place`, on its argument to the expressions. Refused with
+    /// `TooMany` where 100,000 expressions are there, then with `TooDeep` where more than 64 would stand one inside
+    /// another, then with `BadName` where the function's name is no name of the language, and with `Memory`. A refused
+    /// call changes nothing.
+    #[tactic(auto, unfolding(crate::specs::Arena::expression_count, crate::specs::Arena::expressions_of, crate::specs::Arena::expression_under, crate::specs::Arena::HoldsExpression))]
+    pub fn called(
+        &mut self,
+        function: String,
+        place: Spot,
+        part: ExprId,
+        spot: Spot,
+    ) -> Result<ExprId, BuildRefusal>
+        requires { HoldsExpression self.old part }
+        ensures ok { let next = next_name (expressions_of self.old) in
+            let whole = called_of (string_bytes function) (expression_under self.old part) in
+            IfOk result (λ id. AddsExpression self.old self.new id (expressions.Called next place part) whole spot) }
+        ensures named { OnOk result (IsName (string_bytes function)) }
+        ensures many { result ≡ Err BuildRefusal.TooMany ↔ 100000 ≤ expression_count self.old }
+        ensures deep { let whole = called_of (string_bytes function) (expression_under self.old part) in
+            result ≡ Err BuildRefusal.TooDeep ↔ (expression_count self.old < 100000) × (64 < expression_depth_of whole) }
+        ensures bad_name { let whole = called_of (string_bytes function) (expression_under self.old part) in
+            result ≡ Err BuildRefusal.BadName ↔ (expression_count self.old < 100000) × (expression_depth_of whole ≤ 64) × ¬ IsName (string_bytes function) }
+        ensures err { OnErr result (IsSameProgram self.old self.new) }
+    {
+        if 100_000 <= self.expressions.len() {
+            return Err(BuildRefusal::TooMany);
+        }
+        if 64 <= self.expressions.depth(part) {
+            return Err(BuildRefusal::TooDeep);
+        }
+        if !is_name(function.as_bytes()) {
+            return Err(BuildRefusal::BadName);
+        }
+        match self.expressions.name(function) {
+            Ok(name) => self.add_expression(ExprNode::Called(name, place, part), spot),
+            Err(_) => Err(BuildRefusal::Memory),
         }
     }
 

@@ -1,19 +1,20 @@
-//! Stored functions, which no network calls yet.
+//! Stored functions by themselves, and functions of types of their own.
 ghost use Rattle.std.specs.Prelude.{◌≡◌, Some, None, cond};
 ghost use Rattle.std.specs.Int.Signed.{lt_z};
+ghost use Rattle.sf_tests.specs.Texts.{is_empty_text, unless_empty};
 
 use sf_func::{
     Absolute, AddRefusal, Function, FunctionFault, Greatest, Holds, Int1, Int2, Least, OnNumber,
     Registry, Sign,
 };
-use sf_value::{Ty, Value, same};
+use sf_value::{Form, Ty, Value, same};
 use std::alloc::Global;
 use std::test::Fail;
 
 /// Numbers below a bound, by themselves.
 #[derive(Drop)]
-struct Below {
-    bound: i64,
+pub(crate) struct Below {
+    pub(crate) bound: i64,
 }
 
 impl OnNumber for Below {
@@ -36,6 +37,34 @@ impl Function for Echo {
             Ok(copy) => Ok(copy),
             Err(_) => Err(FunctionFault::Memory),
         }
+    }
+}
+
+/// Texts by themselves, but for that without characters, which it refuses.
+#[derive(Drop)]
+pub(crate) struct Filled;
+
+impl Function for Filled {
+    ghost answers = { λ _ d. unless_empty d };
+
+    fn apply(&self, alloc: Global, value: &Value) -> Result<Value, FunctionFault> {
+        if is_empty_text(value) {
+            return Err(FunctionFault::Refused);
+        }
+        match value.clone_in(alloc) {
+            Ok(copy) => Ok(copy),
+            Err(_) => Err(FunctionFault::Memory),
+        }
+    }
+}
+
+/// Whether a value is the text without characters.
+fn is_empty_text(value: &Value) -> bool
+    ensures { result ≡ is_empty_text value.now }
+{
+    match value.form() {
+        Form::Text(text) => text.is_empty(),
+        _ => false,
     }
 }
 

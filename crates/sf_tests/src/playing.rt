@@ -1,5 +1,9 @@
 //! A read or a write that fails in mid-stream.
+ghost use Rattle.sf_func.specs.Registries.{KeepTheirTypes};
+
+use sf_func::{Holds, Registry};
 use sf_player::{Counted, Options, PlayEnd, play};
+use std::alloc::Global;
 use std::io::{self, Error, ErrorKind, Read, Write};
 use std::test::Fail;
 
@@ -66,32 +70,53 @@ impl Write for Slow {
 
 /// How a run ended, what it wrote, and how many reads and writes failed.
 #[derive(Drop)]
-struct Outcome {
-    end: PlayEnd,
-    text: Vec<u8>,
+pub(crate) struct Outcome {
+    pub(crate) end: PlayEnd,
+    pub(crate) text: Vec<u8>,
     reads: u64,
     writes: u64,
 }
 
-/// A run of a delay on two lines.
-fn run(rt: &HostRuntime, fails: bool, failure: Failure) -> Outcome {
-    let mut reader = Counted::new(Pieces {
-        rest: b"0 1\n16 2\n",
-        has_begun: false,
-        fails,
-    });
+/// A run of a network with these functions.
+fn ended(alloc: Global, net: &[u8], functions: Registry, input: Pieces, failure: Failure) -> Outcome
+    requires { KeepTheirTypes (⟦<Registry as Holds>⟧.types functions) (⟦<Registry as Holds>⟧.answers functions) }
+{
+    let mut reader = Counted::new(input);
     let mut writer = Counted::new(Slow {
-        held: Vec::new(rt.alloc()),
+        held: Vec::new(alloc),
         failure,
     });
     let options = Options { plain: true };
-    let end = play(rt.alloc(), DELAY, &mut reader, &mut writer, options);
+    let end = play(alloc, net, &mut reader, &mut writer, functions, options);
     Outcome {
         end,
         reads: reader.failures(),
         writes: writer.failures(),
         text: writer.into_inner().held,
     }
+}
+
+/// A run of a network with these functions on lines.
+pub(crate) fn played(alloc: Global, net: &[u8], functions: Registry, lines: &[u8]) -> Outcome
+    requires { KeepTheirTypes (⟦<Registry as Holds>⟧.types functions) (⟦<Registry as Holds>⟧.answers functions) }
+{
+    let input = Pieces {
+        rest: lines,
+        has_begun: false,
+        fails: false,
+    };
+    ended(alloc, net, functions, input, Failure::Never)
+}
+
+/// A run of a delay on two lines.
+fn run(rt: &HostRuntime, fails: bool, failure: Failure) -> Outcome {
+    let alloc = rt.alloc();
+    let input = Pieces {
+        rest: b"0 1\n16 2\n",
+        has_begun: false,
+        fails,
+    };
+    ended(alloc, DELAY, Registry::new(alloc), input, failure)
 }
 
 #[test]

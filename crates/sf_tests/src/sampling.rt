@@ -1,6 +1,9 @@
 //! The calls of an engine that look before they step, which the player doesn't make.
-use sf_check::check;
+ghost use Rattle.sf_func.specs.Registries.{KeepTheirTypes};
+
+use sf_check::{Checked, check};
 use sf_engine::{Engine, EngineError, Mode, Sample};
+use sf_func::{Holds, Registry};
 use sf_text::read_network;
 use sf_value::{Value, same};
 use std::alloc::Global;
@@ -8,15 +11,25 @@ use std::test::Fail;
 
 const DELAY: &[u8] = b"network 1;\ntemplate main(): Int ~> Int = iPre 7;\n";
 
-fn delay(alloc: Global) -> Result<Engine, Fail> {
-    let program = read_network(alloc, DELAY)?;
-    let Ok(checked) = check(alloc, program) else {
-        return Err(Fail::new("refused"));
-    };
-    match Engine::new(alloc, checked, Mode::Plain) {
-        Ok(engine) => Ok(engine),
-        Err(_) => Err(Fail::new("no memory")),
+/// What an engine of a network answers to a start with a truth, and its first three samples.
+fn sampled<F: Holds + Drop>(
+    alloc: Global,
+    checked: Checked,
+    functions: F,
+) -> Result<(Option<EngineError>, Sample, Sample, Sample), Fail>
+    requires { KeepTheirTypes (F.types functions) (F.answers functions) }
+{
+    if !checked.fits(&functions) {
+        return Err(Fail::new("other functions"));
     }
+    let Ok(mut engine) = Engine::new(alloc, checked, functions, Mode::Plain) else {
+        return Err(Fail::new("no memory"));
+    };
+    let refused = engine.start(Value::bool(true)).err();
+    let first = engine.start(Value::int(1))?;
+    let second = engine.step(16, Some(Value::int(2)))?;
+    let third = engine.step(16, None)?;
+    Ok((refused, first, second, third))
 }
 
 fn is_sample(sample: &Sample, time: u64, number: i64) -> bool {
@@ -25,13 +38,16 @@ fn is_sample(sample: &Sample, time: u64, number: i64) -> bool {
 
 #[test]
 fn an_engine_looks_before_it_steps(rt: HostRuntime) -> Result<(), Fail> {
-    let mut engine = delay(rt.alloc())?;
-    assert_eq!(rt;
-        engine.start(Value::bool(true)).err(),
-        Some(EngineError::WrongType)
-    );
-    assert!(rt; is_sample(&engine.start(Value::int(1))?, 0, 7));
-    assert!(rt; is_sample(&engine.step(16, Some(Value::int(2)))?, 16, 1));
-    assert!(rt; is_sample(&engine.step(16, None)?, 32, 2));
+    let alloc = rt.alloc();
+    let functions = Registry::new(alloc);
+    let program = read_network(alloc, DELAY)?;
+    let Ok(checked) = check(alloc, program, &functions) else {
+        return Err(Fail::new("refused"));
+    };
+    let (refused, first, second, third) = sampled(alloc, checked, functions)?;
+    assert_eq!(rt; refused, Some(EngineError::WrongType));
+    assert!(rt; is_sample(&first, 0, 7));
+    assert!(rt; is_sample(&second, 16, 1));
+    assert!(rt; is_sample(&third, 32, 2));
     Ok(())
 }

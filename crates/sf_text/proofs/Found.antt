@@ -2,7 +2,7 @@
 use Rattle.std.proofs.Common.{◌≡◌, ℕ, ◌+◌, ◌<◌, ◌≤◌, inl, inr, nat_le, Bool, List, length, if◌then◌else◌, refl, sym, ◌∙◌, ap, subst, arith}
 use Rattle.std.proofs.lemmas.Bool.Decides.{leb_tells}
 use Rattle.std.proofs.lemmas.List.{length-map}
-use Rattle.sf_value.specs.Values.{Kind, nodes}
+use Rattle.sf_value.specs.Values.{Name, Kind, nodes}
 use Rattle.sf_value.specs.declared.ty.TyRefusal.{TyRefusal}
 use Rattle.sf_value.specs.declared.ty.TyRefusal.TheVariants as type_refusals
 use Rattle.sf_operator.specs.declared.operator.Unary.{Unary}
@@ -12,7 +12,7 @@ use Rattle.sf_operator.specs.declared.operator.Mapping.TheVariants as mappings
 use Rattle.sf_operator.specs.declared.operator.Folding.{Folding}
 use Rattle.sf_expr.specs.declared.exprs.ExprId.{ExprId}
 use Rattle.sf_expr.specs.declared.exprs.FunctionId.{FunctionId}
-use Rattle.sf_expr.specs.Expressions.{Literal, Pattern, Expression, literal, paired, applied, operation, conditional, mapped, folded, depth as expression_depth, size, function, function_depth}
+use Rattle.sf_expr.specs.Expressions.{Literal, Pattern, Expression, literal, paired, applied, operation, conditional, mapped, folded, called, depth as expression_depth, size, function, function_depth}
 use Rattle.sf_term.specs.declared.form.WithValue.{WithValue}
 use Rattle.sf_term.specs.declared.form.Join.{Join}
 use Rattle.sf_term.specs.declared.form.Side.{Side}
@@ -34,7 +34,7 @@ use Rattle.sf_grammar.specs.declared.head.Link.{Link}
 use Rattle.sf_grammar.specs.declared.head.Link.TheVariants as links
 use Rattle.sf_refusal.specs.declared.rule.Rule.TheVariants.{TooMany}
 use Rattle.sf_text.specs.declared.stop.Stop.{Stop}
-use Rattle.sf_grammar.specs.Reading.{Read, got, stop, Counts, counts_with, counts_with_expression, parse_symbol, parse_keyword, parse_inner_type, parse_pattern, parse_link, linked, parse_linked, parse_prefixed, parse_one_in_brackets, parse_two_in_brackets, parse_conditional, parse_mapping, parse_let, parse_one_and_function, parse_two_and_function, parse_expression, expression_read, parse_function, parse_value, parse_arrow, parse_sided, parse_headed, term_read, parse_join, parse_joined, parse_term}
+use Rattle.sf_grammar.specs.Reading.{Read, got, stop, Counts, counts_with, counts_with_expression, parse_symbol, parse_keyword, parse_name, parse_inner_type, parse_pattern, parse_link, linked, parse_linked, parse_prefixed, parse_one_in_brackets, parse_two_in_brackets, parse_conditional, parse_mapping, parse_let, parse_one_and_function, parse_two_and_function, parse_called, parse_expression, expression_read, parse_function, parse_value, parse_arrow, parse_sided, parse_headed, term_read, parse_join, parse_joined, parse_term}
 use Rattle.sf_text.specs.Answers.{StopsReading, FoundExpression, FoundMapping, FoundFunction, FoundTerm, counts_of, stop_for, stop_for_type, toks}
 use Rattle.sf_grammar.proofs.Takes.{TookType, TookPattern, TookExpression, TookFunction, Took, inner_type_takes, pattern_takes, expression_takes, function_takes, term_takes}
 
@@ -289,6 +289,21 @@ two_and_function_ready v {old} {three = three} {r0 = r0} {r2 = r2} {r4 = r4} {a 
       same = rw (first_same, second_same, third.same) refl;
       shallow = omega (arith, parts.first_shallow, parts.second_shallow, third.shallow);
       expressions = omega (arith, third.expressions);
+    }
+
+-- a call of a stored function
+pub called_ready : (v : Version) {old mid : Program} {start r0 r1 r2 rest : List Tok} {a : ExprId} {g n : Name} (d : ℕ) (tokens : List Tok) → d ≤ 63 → parse_name tokens ≡ got g r0 → parse_symbol symbols.Open r0 ≡ got tt r1
+    → FoundExpression old mid a r2 (parse_expression d v (counts_of old) r1) → parse_symbol symbols.Close r2 ≡ got tt rest → n ≡ g
+    → ReadyExpression old mid (called n (expression_in mid a)) start rest (parse_called (parse_expression d v) (counts_of old) start tokens)
+unfolding parse_called
+called_ready v {old} {r1 = r1} {g = g} d tokens small named opening f closing bytes =
+    let one = part v d (counts_of old) r1 refl f in
+    record {
+      value = called g f.value;
+      is = rw (named, opening, f.is, closing) refl;
+      same = rw (bytes, one.same) refl;
+      shallow = omega (arith, one.shallow);
+      expressions = omega (arith, one.expressions);
     }
 
 -- a primitive with a value

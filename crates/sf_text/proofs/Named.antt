@@ -15,13 +15,19 @@ use Rattle.sf_lex.specs.declared.symbol.Symbol.TheVariants as symbols
 use Rattle.sf_lex.specs.Tokens.{Tok, symbol}
 use Rattle.sf_grammar.specs.declared.ty.Version.{Version}
 use Rattle.sf_grammar.specs.Spelling.{spell_type, spell_pattern, spell_expression, spell_term}
-use Rattle.sf_grammar.specs.Reading.{Read, got, parse_heading, parse_signature, parse_pattern, parse_expression, parse_term}
+use Rattle.sf_grammar.specs.Reading.{Read, got, parse_name, parse_heading, parse_signature, parse_pattern, parse_expression, parse_term}
 use Rattle.sf_text.specs.Answers.{AreNamed, StopsReading, stop_for, counts_of, FoundExpression, FoundTerm}
 use Rattle.sf_grammar.proofs.Takes.{heading_takes, signature_takes, pattern_takes, expression_takes, term_takes}
-use Rattle.sf_grammar.proofs.Parts.{brackets_behind}
+use Rattle.sf_grammar.proofs.Parts.{brackets_behind, name_takes}
 
 pub heading_named : (tokens : List Tok) (n : Name) (rest : List Tok) → parse_heading tokens ≡ got n rest → AreNamed tokens → IsName n
 heading_named tokens n rest is named = (subst AreNamed (heading_takes tokens n rest is) named).1.0
+
+pub name_named : (tokens : List Tok) (n : Name) (rest : List Tok) → parse_name tokens ≡ got n rest → AreNamed tokens → IsName n
+name_named tokens n rest is named = (subst AreNamed (name_takes tokens n rest is) named).0
+
+pub name_behind : (tokens : List Tok) (n : Name) (rest : List Tok) → parse_name tokens ≡ got n rest → AreNamed tokens → AreNamed rest
+name_behind tokens n rest is named = (subst AreNamed (name_takes tokens n rest is) named).1
 
 pub named_behind : (front rest : List Tok) → AreNamed (front ++ rest) → AreNamed rest
 named_behind [] rest named = named

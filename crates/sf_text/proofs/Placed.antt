@@ -45,10 +45,10 @@ use Rattle.sf_grammar.proofs.Takes.{TookLink, link_at_takes, TookType, inner_typ
 use Rattle.sf_lex.specs.declared.token.PlacedToken.{PlacedToken}
 use Rattle.sf_grammar.specs.declared.head.Link.{Link}
 use Rattle.sf_grammar.specs.declared.head.Link.TheVariants as links
-use Rattle.sf_grammar.specs.Placing.{around, PatternPlaced, PatternStands, ExpressionStands, ExpressionPlaced, unit_placed, truth_placed, number_placed, constant_placed, variable_placed, pair_placed, prefixed_placed, one_in_brackets_placed, operation_placed, two_in_brackets_placed, conditional_placed, let_placed, one_and_function_placed, two_and_function_placed, FunctionPlaced, function_placed, TermStands, TermPlaced, bare_placed, with_value_placed, arrow_placed, joined_placed, sided_placed, headed_placed, TemplatePlaced, TemplatesPlaced, none_placed, template_placed, NetworkPlaced, IsPlacedIn}
+use Rattle.sf_grammar.specs.Placing.{around, PatternPlaced, PatternStands, ExpressionStands, ExpressionPlaced, unit_placed, truth_placed, number_placed, constant_placed, variable_placed, pair_placed, prefixed_placed, one_in_brackets_placed, operation_placed, two_in_brackets_placed, conditional_placed, let_placed, one_and_function_placed, two_and_function_placed, called_placed, FunctionPlaced, function_placed, TermStands, TermPlaced, bare_placed, with_value_placed, arrow_placed, joined_placed, sided_placed, headed_placed, TemplatePlaced, TemplatesPlaced, none_placed, template_placed, NetworkPlaced, IsPlacedIn}
 use Rattle.sf_text.specs.Progress.{IsSpelled}
 use Rattle.sf_text.proofs.Whole.{toks_same}
-use Rattle.sf_text.specs.Consuming.{places, BehindOne, BehindSome, HeadingPlaced, OpeningPlaced, Parted, Consumes, ConsumesBehind, PlacesTemplate, linked_node}
+use Rattle.sf_text.specs.Consuming.{places, BehindOne, BehindSome, NamePlaced, HeadingPlaced, OpeningPlaced, Parted, Consumes, ConsumesBehind, PlacesTemplate, linked_node}
 
 expression_stays : (old new : Program) → KeepsTrees old new → (id : ExprId) (n : ExprNode) (at : Spot) → ExpressionStands old id n at → ExpressionStands new id n at
 expression_stays old new k id n at s = record { held = k.expressions id s.held; node = k.value_nodes id s.held ∙ s.node; spot = k.value_spots id s.held ∙ s.spot }
@@ -83,6 +83,7 @@ expression_keeps v old new k id xs (one_and_function_placed opening comma leads 
     one_and_function_placed opening comma leads closing brackets (expression_stays old new k _ _ _ s) (expression_keeps v old new k _ _ value) (pattern_stays old new k _ _ pattern) (expression_keeps v old new k _ _ body)
 expression_keeps v old new k id xs (two_and_function_placed opening comma second leads closing s one two pattern body) =
     two_and_function_placed opening comma second leads closing (expression_stays old new k _ _ _ s) (expression_keeps v old new k _ _ one) (expression_keeps v old new k _ _ two) (pattern_stays old new k _ _ pattern) (expression_keeps v old new k _ _ body)
+expression_keeps v old new k id xs (called_placed opening closing s part) = called_placed opening closing (expression_stays old new k _ _ _ s) (expression_keeps v old new k _ _ part)
 
 function_keeps : (v : Version) (old new : Program) → KeepsTrees old new → (f : FunctionId) (xs : List Spot) → FunctionPlaced v old f xs → FunctionPlaced v new f xs
 function_keeps v old new k f xs (function_placed {f = g} {xs = front} {ys = behind} leads held pattern body) =
@@ -275,6 +276,16 @@ two_and_function_read {v} {one} {two} {three} {new} {a} {b} {c} {id} {o} {p} {q}
     parted (λ ts. ExpressionPlaced v new id (spot ∷ around opening.at xs comma ts closing)) n (λ other ys ts y n.
     parted (λ ts. ExpressionPlaced v new id (spot ∷ around opening.at xs comma (ys ++ (other ∷ ts)) closing)) n (λ leads ps zs placed z.
     two_and_function_placed opening.at comma other leads closing (expression_stands three new id _ e spot added) x y (pattern_stands new q p ps there placed) (expression_keeps v three new added.kept.trees c zs z)))))
+
+-- a call of a stored function
+pub called_read : {v : Version} {mid new : Program} {a id : ExprId} {g : NameId} {e : Expression} {spot place : Spot} {r r0 r1 r2 rest : List Spot} → AddsExpression mid new id (expressions.Called g place a) e spot
+    → NamePlaced place r r0 → BehindOne r0 r1 → Consumes (ExpressionPlaced v mid a) r1 r2 → BehindOne r2 rest → Consumes (ExpressionPlaced v new id) (spot ∷ r) rest
+called_read {v} {mid} {new} {a} {id} {g} {e} {spot} {place} {r} {r0} {r1} {r2} {rest} added name opening part closing =
+    let inside : Consumes (ExpressionPlaced v new a) r1 r2 = stays_read added.kept.trees part in record {
+      front = spot ∷ place ∷ opening.at ∷ (part.front ++ (closing.at ∷ []));
+      split = rw (name.split, opening.split, part.split, closing.split, append_assoc part.front (closing.at ∷ []) rest) refl;
+      holds = called_placed opening.at closing.at (expression_stands mid new id _ e spot added) inside.holds;
+    }
 
 -- a pattern and an expression
 pub function_read : {v : Version} {mid new : Program} {f : FunctionId} {q : PlacedPattern} {b : ExprId} {r0 rest : List Spot} → AddsProgramFunction mid new f q b

@@ -8,9 +8,9 @@ ghost use Rattle.sf_text.specs.Answers.{toks, AreNamed, StopsReading, ReadsAs, R
 ghost use Rattle.sf_grammar.specs.Placing.{PatternPlaced, ExpressionPlaced, FunctionPlaced};
 ghost use Rattle.sf_grammar.specs.Spelling.{takes_brackets, stands_between, maps_in_brackets};
 ghost use Rattle.sf_text.specs.Consuming.{places, BehindOne, Consumes, Parted, linked_node, HasOperandsSo};
-ghost use Rattle.sf_grammar.specs.Reading.{begins_expression, too_deep, parse_link, linked, parse_linked, behind_close, bracketed_from, parse_none, parse_prefixed, parse_one_in_brackets, parse_two_in_brackets, parse_conditional, parse_mapping, parse_let, parse_one_and_function, parse_two_and_function, parse_worded_expression, expression_read, parse_expression_form, parse_expression, parse_function};
+ghost use Rattle.sf_grammar.specs.Reading.{begins_expression, too_deep, parse_link, linked, parse_linked, behind_close, bracketed_from, parse_none, parse_prefixed, parse_one_in_brackets, parse_two_in_brackets, parse_conditional, parse_mapping, parse_let, parse_one_and_function, parse_two_and_function, parse_called, parse_worded_expression, expression_read, parse_expression_form, parse_expression, parse_function};
 
-use crate::part::{keyword, stop_at, symbol};
+use crate::part::{keyword, name, stop_at, symbol};
 use crate::pattern::pattern;
 use crate::stop::Stop;
 use crate::ty::inner_type;
@@ -300,6 +300,7 @@ fn worded<'a>(
         ExpressionHead::TwoAndFunction(folding) => two_and_function(
             alloc, version, tokens, rest, program, folding, spot, left,
         ),
+        ExpressionHead::Called => called(alloc, version, tokens, rest, program, spot, left),
     }
 }
 
@@ -550,6 +551,34 @@ fn two_and_function<'a>(
     let (pattern, body, rest) = mapping_parts(alloc, version, rest, program, left)?;
     let rest = symbol(rest, Symbol::Close)?;
     match program.folded(one, folding, two, pattern, body, spot) {
+        Ok(id) => Ok((id, rest)),
+        Err(refusal) => Err(refused(refusal, tokens)),
+    }
+}
+
+/// A call of a stored function, whose word is the first of these tokens, and the tokens behind it.
+#[cycle(expression)]
+#[tactic(auto, using(crate::proofs::Named::name_behind), unfolding(sf_grammar::specs::Reading::parse_called))]
+fn called<'a>(
+    alloc: Global,
+    version: Version,
+    tokens: &'a [PlacedToken<'a>],
+    rest: &'a [PlacedToken<'a>],
+    program: &mut Program,
+    spot: Spot,
+    left: u32,
+) -> Result<(ExprId, &'a [PlacedToken<'a>]), Stop>
+    requires shallow { left ≤ 63 }
+    requires named { AreNamed (toks rest.now) }
+    ensures reads { ReadsExpression program.old program.new result (parse_called (parse_expression left version) (counts_of program.old) (toks tokens.now) (toks rest.now)) }
+    ensures placed { IfOk result (λ x. Consumes (ExpressionPlaced version program.new x.0) (spot ∷ places rest.now) (places x.1.now)) }
+{
+    let (function, rest) = name(rest)?;
+    let rest = symbol(rest, Symbol::Open)?;
+    let (part, rest) = expression(alloc, version, rest, program, left)?;
+    let rest = symbol(rest, Symbol::Close)?;
+    let name = String::from_str(alloc, function.name)?;
+    match program.called(name, function.spot, part, spot) {
         Ok(id) => Ok((id, rest)),
         Err(refusal) => Err(refused(refusal, tokens)),
     }

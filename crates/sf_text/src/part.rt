@@ -65,7 +65,9 @@ pub(crate) struct Named<'a> {
 }
 
 /// A name, and the tokens behind it.
-fn name<'a>(tokens: &'a [PlacedToken<'a>]) -> Result<(Named<'a>, &'a [PlacedToken<'a>]), Stop>
+pub(crate) fn name<'a>(
+    tokens: &'a [PlacedToken<'a>],
+) -> Result<(Named<'a>, &'a [PlacedToken<'a>]), Stop>
     ensures reads { ReadsAs name_bytes result (parse_name (toks tokens.now)) }
     ensures placed { IfOk result (λ x. NamePlaced x.0.spot (places tokens.now) (places x.1.now)) }
 {

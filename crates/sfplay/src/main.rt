@@ -1,11 +1,19 @@
 //! Plays the lines of standard input through a network.
 #![tactic(auto)]
 
+ghost use Rattle.std.specs.Prelude.{◌-◌, ◌<◌, ◌^◌, IfOk};
+ghost use Rattle.sf_func.specs.Registries.{AnswersByName};
+ghost use Rattle.sf_player.specs.Counting.{failures_of, inner_of};
+ghost use Rattle.sf_player.specs.Telling.{Plays};
+ghost use Rattle.sfplay.specs.Functions.{types_offered, AreOffered};
+
 use clap::{Arg, ArgAction, ArgMatches, Command, Error};
-use sf_player::{Counted, Options, PlayEnd, play};
+use sf_func::{Absolute, Function, Greatest, Int1, Int2, Least, Registry, Sign};
+use sf_player::{Counted, Options, PlayEnd, Refusal, play};
+use sf_value::Ty;
 use std::alloc::Global;
 use std::fs::File;
-use std::io::Read;
+use std::io::{Read, Write};
 use std::process::ExitCode;
 use std::rt::{Env, Files};
 use std::{env, io};
@@ -29,7 +37,10 @@ An input line is a time step in milliseconds and a value, as in `16 42`; the
 first step is 0. With `=` in place of the value the input is unchanged. An
 empty line, or one that begins with `#`, gives nothing. Each sample gives a
 line `> TIME VALUE`. The first fault or refused line ends the run, with a line
-that begins with `!`.";
+that begins with `!`.
+
+Networks may call the functions `abs` and `sign` of a number, and `max` and
+`min` of a pair of numbers.";
 
 const NET: &str = "The file that has the network's text";
 
@@ -83,6 +94,48 @@ fn network<R: Files + Alloc<A = Global>>(rt: &R, path: &str) -> io::Result<Vec<u
     Ok(text)
 }
 
+/// Plays the lines of an input through the network that a text is, which may call `abs`, `sign`, `max` and `min`. The
+/// refusal is want of memory for these functions.
+fn play_lines<R: Read, W: Write>(
+    alloc: Global,
+    net: &[u8],
+    reader: &mut Counted<R>,
+    writer: &mut Counted<W>,
+    options: Options,
+) -> Result<PlayEnd, Refusal>
+    requires reads { failures_of reader.old < 2 ^ 64 - 1 }
+    requires writes { failures_of writer.old < 2 ^ 64 - 1 }
+    // What was read and written, by the meaning of the network with these functions.
+    ensures { IfOk result (λ end. (answers : AnswersByName) × AreOffered answers × Plays types_offered answers net.now
+        (R.remaining (inner_of reader.old)) (R.remaining (inner_of reader.new))
+        (W.contents (inner_of writer.old)) (W.contents (inner_of writer.new)) end) }
+{
+    let mut functions = Registry::new(alloc);
+    let abs: Box<dyn Function> = Box::new(alloc, Int1::new(Absolute))?;
+    let Ok(()) = functions.add(alloc, "abs", Ty::int(), Ty::int(), abs) else {
+        return Err(Refusal::Memory);
+    };
+    let sign: Box<dyn Function> = Box::new(alloc, Int1::new(Sign))?;
+    let Ok(()) = functions.add(alloc, "sign", Ty::int(), Ty::int(), sign) else {
+        return Err(Refusal::Memory);
+    };
+    let Ok(from) = Ty::pair(alloc, Ty::int(), Ty::int()) else {
+        return Err(Refusal::Memory);
+    };
+    let max: Box<dyn Function> = Box::new(alloc, Int2::new(Greatest))?;
+    let Ok(()) = functions.add(alloc, "max", from, Ty::int(), max) else {
+        return Err(Refusal::Memory);
+    };
+    let Ok(from) = Ty::pair(alloc, Ty::int(), Ty::int()) else {
+        return Err(Refusal::Memory);
+    };
+    let min: Box<dyn Function> = Box::new(alloc, Int2::new(Least))?;
+    let Ok(()) = functions.add(alloc, "min", from, Ty::int(), min) else {
+        return Err(Refusal::Memory);
+    };
+    Ok(play(alloc, net, reader, writer, functions, options))
+}
+
 fn main(rt: HostRuntime) -> ExitCode {
     let alloc = rt.alloc();
     let Ok(words) = words(&rt) else {
@@ -107,7 +160,10 @@ fn main(rt: HostRuntime) -> ExitCode {
     };
     let mut reader = Counted::new(rt.reader());
     let mut writer = Counted::new(io::writer(&rt));
-    let end = play(alloc, net.as_slice(), &mut reader, &mut writer, options);
+    let end = match play_lines(alloc, net.as_slice(), &mut reader, &mut writer, options) {
+        Ok(end) => end,
+        Err(refusal) => PlayEnd::Network(refusal),
+    };
     report(&rt, end);
     ExitCode::from(end.status())
 }

@@ -1,5 +1,5 @@
-use Rattle.sf_check.proofs.Accepted.{refused_memory}
+use Rattle.sf_refusal.specs.Refusals.{no_memory}
 use Rattle.sf_check.proofs.checker.check.Goals as goal
 
-pub returns-in-Err-clause-only : goal.returns-in-Err-clause-only
-returns-in-Err-clause-only c = λ accepted. refused_memory c.args.program c.in-Err.refusal c.in-Err.ensures.refused accepted
+pub returns-in-Err-clause-refused : goal.returns-in-Err-clause-refused
+returns-in-Err-clause-refused g c = no_memory

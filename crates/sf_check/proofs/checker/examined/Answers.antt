@@ -1,4 +1,5 @@
 use Rattle.std.proofs.Common.{codes, ◌∙◌, refl, sym}
+use Rattle.sf_func.specs.Signatures.{signatures_in}
 use Rattle.sf_term.specs.Arena.{templates_of}
 use Rattle.sf_check.specs.Names.{program_names}
 use Rattle.sf_check.specs.Refusing.{main_missing}
@@ -18,7 +19,7 @@ returns-in-Some-clause-accepted c =
     let p = c.args.program.now in
     let there = sym (place_in c.in_ok-names.names (codes "main") (program_names p) c.in_ok-names.ensures.names) ∙ sym c.in-Some.ensures.index in
     let found = named_at (codes "main") (templates_of p) c.in-Some.main there in
-    accepted_by p found.template c.in_ok-names.ensures.different c.in_ok-check_templates.ensures.ok found.named
+    accepted_by (signatures_in c.args.functions.now) p found.template c.in_ok-names.ensures.different c.in_ok-check_templates.ensures.ok found.named
 
 pub returns-in-None-clause-refused : goal.returns-in-None-clause-refused
 returns-in-None-clause-refused c =
@@ -30,4 +31,9 @@ pub returns-in_err-check_templates-clause-refused : goal.returns-in_err-check_te
 returns-in_err-check_templates-clause-refused c =
     let left = c.from_residual-in_err-check_templates in
     let p = err_from_is_err_and left.result left.ensures.1 in
-    rw (p.1, p.2) (types_refuse c.args.program.now _ c.in_ok-names.ensures.different c.in_err-check_templates.ensures.err)
+    rw (p.1, p.2) (types_refuse (signatures_in c.args.functions.now) c.args.program.now _ c.in_ok-names.ensures.different c.in_err-check_templates.ensures.err)
+
+pub returns-in_err-names-clause-refused : goal.returns-in_err-names-clause-refused
+returns-in_err-names-clause-refused c =
+    let p = err_from_is_err_and c.from_residual.result c.from_residual.ensures.1 in
+    rw (p.1, p.2) (c.in_err-names.ensures.refused (signatures_in c.args.functions.now))

@@ -7,7 +7,7 @@ use Rattle.sf_check.proofs.Naming.{Named, one_more, repeated, all_named, present
 use Rattle.sf_check.proofs.names.template_names.Goals as goal
 
 pub returns-then-not-branch-clause-refused : goal.returns-then-not-branch-clause-refused
-returns-then-not-branch-clause-refused c =
+returns-then-not-branch-clause-refused c = λ fs.
     let p = c.args.program.now in
     let here = header_at p _ _ _ c.templates-template-items.ensures.templates (omega arith) c.template-item.is in
     let named = name_at p _ _ here ∙ ap Some (sym (c.in_ok-name.ensures.ok ∙ c.name.ensures)) in
@@ -15,10 +15,10 @@ returns-then-not-branch-clause-refused c =
     breaks_at DuplicateName c.broken.ensures refl (name_refused (repeated p _ _ _ c.loop-template.invariant named c.spot.result old (spot_stands p _ _ here ∙ ap Some (sym c.spot.ensures))))
 
 pub returns-in_err-name-clause-refused : goal.returns-in_err-name-clause-refused
-returns-in_err-name-clause-refused c = memory_on _ _ c.from_residual.ensures.1
+returns-in_err-name-clause-refused c = λ fs. memory_on _ _ c.from_residual.ensures.1
 
 pub returns-in_err-insert-clause-refused : goal.returns-in_err-insert-clause-refused
-returns-in_err-insert-clause-refused c = memory_on _ _ c.from_residual-in_err-insert.ensures.1
+returns-in_err-insert-clause-refused c = λ fs. memory_on _ _ c.from_residual-in_err-insert.ensures.1
 
 pub loop-template-preserved : goal.loop-template-preserved
 loop-template-preserved c =

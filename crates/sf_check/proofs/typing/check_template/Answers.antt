@@ -1,6 +1,7 @@
 use Rattle.std.proofs.Common.{Ok, Err, ap, sym, ◌∙◌, true≢false}
 use Rattle.std.proofs.lemmas.Result.{err_from_is_err_and}
 use Rattle.sf_refusal.specs.Refusals.{no_memory}
+use Rattle.sf_func.specs.Signatures.{signatures_in}
 use Rattle.sf_term.specs.Arena.{term_spot_at, templates_of}
 use Rattle.sf_mean.specs.Contexts.{context_of}
 use Rattle.sf_check.proofs.Terms.{answers_under, template_refused, header_refused}
@@ -15,9 +16,9 @@ pub returns-in_err-output-clause-err : goal.returns-in_err-output-clause-err
 returns-in_err-output-clause-err c =
     let p' = c.args.program.now in
     let p = err_from_is_err_and c.from_residual-in_err-output.result c.from_residual-in_err-output.ensures.1 in
-    rw (p.1, p.2) (template_refused c.args.program.now c.args.template.now c.body.result _ _ c.body.ensures (c.in_ok-input.ensures.same ∙ c.input.ensures) (answers_under _ p' _ (context_of (templates_of p')) _ _ (Err _) c.of_body-context.ensures.program c.of_body-context.ensures.context c.in_err-output.ensures))
+    rw (p.1, p.2) (template_refused (signatures_in c.args.functions.now) c.args.program.now c.args.template.now c.body.result _ _ c.body.ensures (c.in_ok-input.ensures.same ∙ c.input.ensures) (answers_under _ p' _ (context_of (signatures_in c.args.functions.now) (templates_of p')) _ _ (Err _) c.of_body-context.ensures.program c.of_body-context.ensures.context c.in_err-output.ensures))
 
 pub returns-clause-err : goal.returns-clause-err
 returns-clause-err c =
     let p = c.args.program.now in
-    header_refused c.args.program.now c.args.template.now c.body.result c.spot.result _ _ _ _ c.body.ensures (c.spot.ensures ∙ ap (term_spot_at c.args.program.now) (c.body-else-same_type.ensures ∙ sym c.body.ensures)) (c.in_ok-input.ensures.same ∙ c.input.ensures) c.output-2.ensures (answers_under _ p _ (context_of (templates_of p)) _ _ (Ok _) c.of_body-context.ensures.program c.of_body-context.ensures.context c.in_ok-output.ensures) (λ e. true≢false (sym (c.if-same_type.ensures.1 e))) c.broken.ensures
+    header_refused (signatures_in c.args.functions.now) c.args.program.now c.args.template.now c.body.result c.spot.result _ _ _ _ c.body.ensures (c.spot.ensures ∙ ap (term_spot_at c.args.program.now) (c.body-else-same_type.ensures ∙ sym c.body.ensures)) (c.in_ok-input.ensures.same ∙ c.input.ensures) c.output-2.ensures (answers_under _ p _ (context_of (signatures_in c.args.functions.now) (templates_of p)) _ _ (Ok _) c.of_body-context.ensures.program c.of_body-context.ensures.context c.in_ok-output.ensures) (λ e. true≢false (sym (c.if-same_type.ensures.1 e))) c.broken.ensures

@@ -3,6 +3,7 @@ use Rattle.sf_term.specs.declared.node.Primitive.TheVariants.{Arrow}
 use Rattle.sf_check.specs.Answering.{AnswersPrimitive}
 use Rattle.sf_term.specs.Arena.{expressions_of}
 use Rattle.sf_check.specs.Contexts.{context_in}
+use Rattle.sf_func.specs.Signatures.{signatures_in}
 use Rattle.sf_expr.specs.Scopes.{names_of}
 use Rattle.sf_mean.specs.Contexts.{names_of_values}
 use Rattle.sf_check.proofs.Types.{names_seen_through}
@@ -15,7 +16,7 @@ returns-in_err-function_type-in-Arrow c =
     let Γ = context_in c.args.context.now in
     let f = c.in-Arrow.function in
     let r = c.from_residual in
-    let judged = function_judged_under _ x _ (names_of_values Γ) f c.args.input c.args.spot (Err c.in_err-function_type-in-Arrow.field-0.0) c.expressions-exprs.ensures (sym (names_seen_through (names_of c.args.context.now.names))) c.in_err-function_type-in-Arrow.ensures.first in
+    let judged = function_judged_under _ x _ (names_of_values Γ) f c.args.input c.args.spot (Err c.in_err-function_type-in-Arrow.field-0.0) c.expressions-exprs.ensures (sym (names_seen_through (signatures_in c.args.context.now.functions.now) (names_of c.args.context.now.names))) c.in_err-function_type-in-Arrow.ensures.first in
     subst (λ q. AnswersPrimitive x Γ q c.args.input c.args.spot r.result) (sym c.in-Arrow.is) (err_primitive x Γ (Arrow f) _ _ _ _ r.ensures.1 (arrow_refused x Γ f _ _ _ judged))
 
 pub returns-in-Bare-Identity : goal.returns-in-Bare-Identity
@@ -25,5 +26,5 @@ pub returns-in_ok-function_type-in-Arrow : goal.returns-in_ok-function_type-in-A
 returns-in_ok-function_type-in-Arrow c =
     let x = expressions_of c.args.context.now.program.now in
     let Γ = context_in c.args.context.now in
-    let judged = function_judged_under _ x _ (names_of_values Γ) c.in-Arrow.function c.args.input c.args.spot (Ok c.in_ok-function_type-in-Arrow.field-0) c.expressions-exprs.ensures (sym (names_seen_through (names_of c.args.context.now.names))) c.in_ok-function_type-in-Arrow.ensures.first in
+    let judged = function_judged_under _ x _ (names_of_values Γ) c.in-Arrow.function c.args.input c.args.spot (Ok c.in_ok-function_type-in-Arrow.field-0) c.expressions-exprs.ensures (sym (names_seen_through (signatures_in c.args.context.now.functions.now) (names_of c.args.context.now.names))) c.in_ok-function_type-in-Arrow.ensures.first in
     arrow_output _ _ _ _ _ _ c.in-Arrow.is judged

@@ -1,142 +1,157 @@
-use Rattle.std.proofs.Common.{◌≡◌, ◌∙◌, sym, ap, subst, Some}
+use Rattle.std.proofs.Common.{◌≡◌, Option, ◌∙◌, sym, ap, subst, Some}
 use Rattle.sf_value.specs.Values.{Name, Kind}
 use Rattle.sf_refusal.specs.declared.rule.Rule.TheVariants.{UnknownName}
 use Rattle.sf_refusal.proofs.Explained.{breaks_at}
-use Rattle.sf_expr.specs.Arena.{expression}
-use Rattle.sf_expr.specs.Typing.{HasType, type_of_name}
+use Rattle.sf_expr.specs.Arena.{expression, name_at}
+use Rattle.sf_expr.specs.Typing.{HasType, type_of_name, with_types}
 use Rattle.sf_expr.specs.Scopes.{names_of}
 use Rattle.sf_expr.specs.Refusals.{unknown_name}
-use Rattle.sf_expr.proofs.Judged.{unit_typed, truth_typed, constant_judged, first_judged, second_judged, left_judged, right_judged, int_typed, name_typed, pair_judged, memory_judged, operation_judged, part_judged, applied_judged, condition_judged, then_judged, else_judged, conditional_judged, mapped_first_judged, mapped_argument_judged, mapped_part_judged, mapped_judged, folded_first_judged, folded_second_judged, folded_argument_judged, folded_part_judged, folded_judged, pattern_judged, part_body_judged}
+use Rattle.sf_expr.proofs.Judged.{unit_typed, truth_typed, constant_judged, first_judged, second_judged, left_judged, right_judged, int_typed, name_typed, pair_judged, memory_judged, operation_judged, part_judged, applied_judged, condition_judged, then_judged, else_judged, conditional_judged, mapped_first_judged, mapped_argument_judged, mapped_part_judged, mapped_judged, folded_first_judged, folded_second_judged, folded_argument_judged, folded_part_judged, folded_judged, pattern_judged, part_body_judged, called_part_judged, called_judged}
+use Rattle.sf_func.specs.Registries.{FunctionTypes, types_named}
+use Rattle.sf_func.specs.Signatures.{signatures_in}
+use Rattle.sf_expr.specs.Refusals.{AnswersCall}
+use Rattle.sf_expr.proofs.Bound.{type_with, functions_with, binds_with}
 use Rattle.sf_expr.proofs.typing.+judge.Goals as goal
 
 pub judge-returns-in-Int : goal.judge-returns-in-Int
 judge-returns-in-Int t c =
     let x = c.args.exprs.now in
-    let R = names_of c.args.names.now in
+    let R = with_types (signatures_in c.args.functions.now) (names_of c.args.names.now) in
     subst (λ (u : Kind). HasType R (expression x c.args.id) u) (sym c.int.ensures) (int_typed x R c.args.id c.in-Int.field-0 c.in-Int.ensures.builds c.in-Int.ensures.narrow)
 
 pub judge-returns-in-Unit : goal.judge-returns-in-Unit
 judge-returns-in-Unit t c =
     let x = c.args.exprs.now in
-    let R = names_of c.args.names.now in
+    let R = with_types (signatures_in c.args.functions.now) (names_of c.args.names.now) in
     subst (λ (u : Kind). HasType R (expression x c.args.id) u) (sym c.unit.ensures) (unit_typed x R c.args.id c.in-Unit.ensures.builds)
 
 pub judge-returns-in-Truth : goal.judge-returns-in-Truth
 judge-returns-in-Truth t c =
     let x = c.args.exprs.now in
-    let R = names_of c.args.names.now in
+    let R = with_types (signatures_in c.args.functions.now) (names_of c.args.names.now) in
     subst (λ (u : Kind). HasType R (expression x c.args.id) u) (sym c.bool.ensures) (truth_typed x R c.args.id c.in-Truth.field-0 c.in-Truth.ensures.builds)
 
 pub judge-returns-in-Constant : goal.judge-returns-in-Constant
 judge-returns-in-Constant t c =
-    constant_judged c.args.exprs.now (names_of c.args.names.now) c.args.id c.in-Constant.constant _ _ _ (sym c.in-Constant.ensures.value) c.constant_at.ensures c.constant_type.ensures.valued c.spot.ensures c.constant_type.ensures.answers
+    constant_judged c.args.exprs.now _ c.args.id c.in-Constant.constant _ _ _ (sym c.in-Constant.ensures.value) c.constant_at.ensures c.constant_type.ensures.valued c.spot.ensures c.constant_type.ensures.answers
 
 pub judge-returns-in_ok-clone_in-in-Some : goal.judge-returns-in_ok-clone_in-in-Some
 judge-returns-in_ok-clone_in-in-Some t c =
     let x = c.args.exprs.now in
-    let R = names_of c.args.names.now in
-    let found : type_of_name c.name_of.result.now R ≡ Some c.in-Some.ty.now = c.in-Some.ensures.found in
+    let R = with_types (signatures_in c.args.functions.now) (names_of c.args.names.now) in
+    let found : type_of_name c.name_of.result.now R ≡ Some c.in-Some.ty.now = type_with _ _ (names_of c.args.names.now) ∙ c.in-Some.ensures.found in
     subst (λ (u : Kind). HasType R (expression x c.args.id) u) (sym c.in_ok-clone_in-in-Some.ensures.same)
     (name_typed x R c.args.id c.in-Name.name c.in-Some.ty.now c.in-Name.ensures.builds (ap (λ (y : Name). type_of_name y R) (sym c.name_of.ensures) ∙ found) c.in-Some.ensures.fits)
 
 pub judge-returns-in-None : goal.judge-returns-in-None
 judge-returns-in-None t c =
     let x = c.args.exprs.now in
-    let R = names_of c.args.names.now in
+    let R = with_types (signatures_in c.args.functions.now) (names_of c.args.names.now) in
     breaks_at UnknownName c.broken.ensures c.spot-in-None.ensures
-    (unknown_name (sym c.in-Name.ensures.value) (ap (λ (y : Name). type_of_name y R) (sym c.name_of.ensures) ∙ c.in-None.ensures.absent))
+    (unknown_name (sym c.in-Name.ensures.value) (ap (λ (y : Name). type_of_name y R) (sym c.name_of.ensures) ∙ type_with _ _ (names_of c.args.names.now) ∙ c.in-None.ensures.absent))
 
 pub judge-returns-in_err-first-in-Pair : goal.judge-returns-in_err-first-in-Pair
 judge-returns-in_err-first-in-Pair t c =
-    first_judged c.args.exprs.now (names_of c.args.names.now) c.args.id c.in-Pair.first c.in-Pair.second _ c.in_err-first-in-Pair.field-0.0 (sym c.in-Pair.ensures.value) c.from_residual-in_err-first-in-Pair.ensures.1 c.in_err-first-in-Pair.ensures
+    first_judged c.args.exprs.now _ c.args.id c.in-Pair.first c.in-Pair.second _ c.in_err-first-in-Pair.field-0.0 (sym c.in-Pair.ensures.value) c.from_residual-in_err-first-in-Pair.ensures.1 c.in_err-first-in-Pair.ensures
 
 pub judge-returns-in_err-second-in-Pair : goal.judge-returns-in_err-second-in-Pair
 judge-returns-in_err-second-in-Pair t c =
-    second_judged c.args.exprs.now (names_of c.args.names.now) c.args.id c.in-Pair.first c.in-Pair.second c.in_ok-first-in-Pair.first _ c.in_err-second-in-Pair.field-0.0 (sym c.in-Pair.ensures.value) c.in_ok-first-in-Pair.ensures c.from_residual-in_err-second-in-Pair.ensures.1 c.in_err-second-in-Pair.ensures
+    second_judged c.args.exprs.now _ c.args.id c.in-Pair.first c.in-Pair.second c.in_ok-first-in-Pair.first _ c.in_err-second-in-Pair.field-0.0 (sym c.in-Pair.ensures.value) c.in_ok-first-in-Pair.ensures c.from_residual-in_err-second-in-Pair.ensures.1 c.in_err-second-in-Pair.ensures
 
 pub judge-returns-in_ok-second-in-Pair : goal.judge-returns-in_ok-second-in-Pair
 judge-returns-in_ok-second-in-Pair t c =
-    pair_judged c.args.exprs.now (names_of c.args.names.now) c.args.id c.in-Pair.first c.in-Pair.second _ _ _ _ (sym c.in-Pair.ensures.value) c.in_ok-first-in-Pair.ensures c.in_ok-second-in-Pair.ensures c.spot-in-Pair.ensures c.pair_type.ensures
+    pair_judged c.args.exprs.now _ c.args.id c.in-Pair.first c.in-Pair.second _ _ _ _ (sym c.in-Pair.ensures.value) c.in_ok-first-in-Pair.ensures c.in_ok-second-in-Pair.ensures c.spot-in-Pair.ensures c.pair_type.ensures
 
 pub judge-returns-in_err-left-in-Operation : goal.judge-returns-in_err-left-in-Operation
 judge-returns-in_err-left-in-Operation t c =
-    left_judged c.args.exprs.now (names_of c.args.names.now) c.args.id c.in-Operation.left c.in-Operation.right c.in-Operation.operator _ c.in_err-left-in-Operation.field-0.0 (sym c.in-Operation.ensures.value) c.from_residual-in_err-left-in-Operation.ensures.1 c.in_err-left-in-Operation.ensures
+    left_judged c.args.exprs.now _ c.args.id c.in-Operation.left c.in-Operation.right c.in-Operation.operator _ c.in_err-left-in-Operation.field-0.0 (sym c.in-Operation.ensures.value) c.from_residual-in_err-left-in-Operation.ensures.1 c.in_err-left-in-Operation.ensures
 
 pub judge-returns-in_err-right-in-Operation : goal.judge-returns-in_err-right-in-Operation
 judge-returns-in_err-right-in-Operation t c =
-    right_judged c.args.exprs.now (names_of c.args.names.now) c.args.id c.in-Operation.left c.in-Operation.right c.in-Operation.operator c.in_ok-left-in-Operation.left _ c.in_err-right-in-Operation.field-0.0 (sym c.in-Operation.ensures.value) c.in_ok-left-in-Operation.ensures c.from_residual-in_err-right-in-Operation.ensures.1 c.in_err-right-in-Operation.ensures
+    right_judged c.args.exprs.now _ c.args.id c.in-Operation.left c.in-Operation.right c.in-Operation.operator c.in_ok-left-in-Operation.left _ c.in_err-right-in-Operation.field-0.0 (sym c.in-Operation.ensures.value) c.in_ok-left-in-Operation.ensures c.from_residual-in_err-right-in-Operation.ensures.1 c.in_err-right-in-Operation.ensures
 
 pub judge-returns-in_ok-right-in-Operation : goal.judge-returns-in_ok-right-in-Operation
 judge-returns-in_ok-right-in-Operation t c =
-    operation_judged c.args.exprs.now (names_of c.args.names.now) c.args.id c.in-Operation.left c.in-Operation.right c.in-Operation.operator _ _ _ _ (sym c.in-Operation.ensures.value) c.in_ok-left-in-Operation.ensures c.in_ok-right-in-Operation.ensures c.spot-in-Operation.ensures c.binary_type.ensures
+    operation_judged c.args.exprs.now _ c.args.id c.in-Operation.left c.in-Operation.right c.in-Operation.operator _ _ _ _ (sym c.in-Operation.ensures.value) c.in_ok-left-in-Operation.ensures c.in_ok-right-in-Operation.ensures c.spot-in-Operation.ensures c.binary_type.ensures
 
 pub judge-returns-in_err-part-in-Applied : goal.judge-returns-in_err-part-in-Applied
 judge-returns-in_err-part-in-Applied t c =
-    part_judged c.args.exprs.now (names_of c.args.names.now) c.args.id c.in-Applied.part c.in-Applied.operator _ c.in_err-part-in-Applied.field-0.0 (sym c.in-Applied.ensures.value) c.from_residual-in_err-part-in-Applied.ensures.1 c.in_err-part-in-Applied.ensures
+    part_judged c.args.exprs.now _ c.args.id c.in-Applied.part c.in-Applied.operator _ c.in_err-part-in-Applied.field-0.0 (sym c.in-Applied.ensures.value) c.from_residual-in_err-part-in-Applied.ensures.1 c.in_err-part-in-Applied.ensures
 
 pub judge-returns-in_ok-part-in-Applied : goal.judge-returns-in_ok-part-in-Applied
 judge-returns-in_ok-part-in-Applied t c =
-    applied_judged c.args.exprs.now (names_of c.args.names.now) c.args.id c.in-Applied.part c.in-Applied.operator _ _ _ (sym c.in-Applied.ensures.value) c.in_ok-part-in-Applied.ensures c.spot-in-Applied.ensures c.unary_type.ensures
+    applied_judged c.args.exprs.now _ c.args.id c.in-Applied.part c.in-Applied.operator _ _ _ (sym c.in-Applied.ensures.value) c.in_ok-part-in-Applied.ensures c.spot-in-Applied.ensures c.unary_type.ensures
 
 pub judge-returns-in_err-condition-in-Conditional : goal.judge-returns-in_err-condition-in-Conditional
 judge-returns-in_err-condition-in-Conditional t c =
-    condition_judged c.args.exprs.now (names_of c.args.names.now) c.args.id c.in-Conditional.condition c.in-Conditional.first c.in-Conditional.second _ c.in_err-condition-in-Conditional.field-0.0 (sym c.in-Conditional.ensures.value) c.from_residual-in_err-condition-in-Conditional.ensures.1 c.in_err-condition-in-Conditional.ensures
+    condition_judged c.args.exprs.now _ c.args.id c.in-Conditional.condition c.in-Conditional.first c.in-Conditional.second _ c.in_err-condition-in-Conditional.field-0.0 (sym c.in-Conditional.ensures.value) c.from_residual-in_err-condition-in-Conditional.ensures.1 c.in_err-condition-in-Conditional.ensures
 
 pub judge-returns-in_err-first-in-Conditional : goal.judge-returns-in_err-first-in-Conditional
 judge-returns-in_err-first-in-Conditional t c =
-    then_judged c.args.exprs.now (names_of c.args.names.now) c.args.id c.in-Conditional.condition c.in-Conditional.first c.in-Conditional.second _ _ c.in_err-first-in-Conditional.field-0.0 (sym c.in-Conditional.ensures.value) c.in_ok-condition-in-Conditional.ensures c.from_residual-in_err-first-in-Conditional.ensures.1 c.in_err-first-in-Conditional.ensures
+    then_judged c.args.exprs.now _ c.args.id c.in-Conditional.condition c.in-Conditional.first c.in-Conditional.second _ _ c.in_err-first-in-Conditional.field-0.0 (sym c.in-Conditional.ensures.value) c.in_ok-condition-in-Conditional.ensures c.from_residual-in_err-first-in-Conditional.ensures.1 c.in_err-first-in-Conditional.ensures
 
 pub judge-returns-in_err-second-in-Conditional : goal.judge-returns-in_err-second-in-Conditional
 judge-returns-in_err-second-in-Conditional t c =
-    else_judged c.args.exprs.now (names_of c.args.names.now) c.args.id c.in-Conditional.condition c.in-Conditional.first c.in-Conditional.second _ _ _ c.in_err-second-in-Conditional.field-0.0 (sym c.in-Conditional.ensures.value) c.in_ok-condition-in-Conditional.ensures c.in_ok-first-in-Conditional.ensures c.from_residual-in_err-second-in-Conditional.ensures.1 c.in_err-second-in-Conditional.ensures
+    else_judged c.args.exprs.now _ c.args.id c.in-Conditional.condition c.in-Conditional.first c.in-Conditional.second _ _ _ c.in_err-second-in-Conditional.field-0.0 (sym c.in-Conditional.ensures.value) c.in_ok-condition-in-Conditional.ensures c.in_ok-first-in-Conditional.ensures c.from_residual-in_err-second-in-Conditional.ensures.1 c.in_err-second-in-Conditional.ensures
 
 pub judge-returns-in_ok-second-in-Conditional : goal.judge-returns-in_ok-second-in-Conditional
 judge-returns-in_ok-second-in-Conditional t c =
-    conditional_judged c.args.exprs.now (names_of c.args.names.now) c.args.id c.in-Conditional.condition c.in-Conditional.first c.in-Conditional.second _ _ _ _ _ (sym c.in-Conditional.ensures.value) c.in_ok-condition-in-Conditional.ensures c.in_ok-first-in-Conditional.ensures c.in_ok-second-in-Conditional.ensures c.spot-in-Conditional.ensures c.conditional_type.ensures
+    conditional_judged c.args.exprs.now _ c.args.id c.in-Conditional.condition c.in-Conditional.first c.in-Conditional.second _ _ _ _ _ (sym c.in-Conditional.ensures.value) c.in_ok-condition-in-Conditional.ensures c.in_ok-first-in-Conditional.ensures c.in_ok-second-in-Conditional.ensures c.spot-in-Conditional.ensures c.conditional_type.ensures
 
 pub judge-returns-in_err-clone_in-in-Some : goal.judge-returns-in_err-clone_in-in-Some
-judge-returns-in_err-clone_in-in-Some t c = memory_judged c.args.exprs.now (names_of c.args.names.now) c.args.id _ c.from_residual.ensures.1
+judge-returns-in_err-clone_in-in-Some t c = memory_judged c.args.exprs.now _ c.args.id _ c.from_residual.ensures.1
 
 pub judge-returns-in_err-part-in-Mapped : goal.judge-returns-in_err-part-in-Mapped
 judge-returns-in_err-part-in-Mapped t c =
-    mapped_first_judged c.args.exprs.now (names_of c.args.names.now) c.args.id c.in-Mapped.part c.in-Mapped.body c.in-Mapped.mapping c.in-Mapped.pattern (sym c.in-Mapped.ensures.value) _ c.in_err-part-in-Mapped.field-0.0 c.from_residual-in_err-part-in-Mapped.ensures.1 c.in_err-part-in-Mapped.ensures
+    mapped_first_judged c.args.exprs.now _ c.args.id c.in-Mapped.part c.in-Mapped.body c.in-Mapped.mapping c.in-Mapped.pattern (sym c.in-Mapped.ensures.value) _ c.in_err-part-in-Mapped.field-0.0 c.from_residual-in_err-part-in-Mapped.ensures.1 c.in_err-part-in-Mapped.ensures
 
 pub judge-returns-in_err-argument-in-Mapped : goal.judge-returns-in_err-argument-in-Mapped
 judge-returns-in_err-argument-in-Mapped t c =
-    mapped_argument_judged c.args.exprs.now (names_of c.args.names.now) c.args.id c.in-Mapped.part c.in-Mapped.body c.in-Mapped.mapping c.in-Mapped.pattern (sym c.in-Mapped.ensures.value) _ _ c.in_err-argument-in-Mapped.field-0.0 c.in_ok-part-in-Mapped.ensures c.spot-in-Mapped.ensures c.from_residual-in_err-argument-in-Mapped.ensures.1 c.in_err-argument-in-Mapped.ensures
+    mapped_argument_judged c.args.exprs.now _ c.args.id c.in-Mapped.part c.in-Mapped.body c.in-Mapped.mapping c.in-Mapped.pattern (sym c.in-Mapped.ensures.value) _ _ c.in_err-argument-in-Mapped.field-0.0 c.in_ok-part-in-Mapped.ensures c.spot-in-Mapped.ensures c.from_residual-in_err-argument-in-Mapped.ensures.1 c.in_err-argument-in-Mapped.ensures
 
 pub judge-returns-in_err-made-in-Mapped : goal.judge-returns-in_err-made-in-Mapped
 judge-returns-in_err-made-in-Mapped t c =
-    mapped_part_judged c.args.exprs.now (names_of c.args.names.now) c.args.id c.in-Mapped.part c.in-Mapped.body c.in-Mapped.mapping c.in-Mapped.pattern (sym c.in-Mapped.ensures.value) c.placed.ensures _ c.spot-in-Mapped-2.ensures c.in_ok-part-in-Mapped.ensures c.in_ok-argument-in-Mapped.ensures _ c.in_err-made-in-Mapped.field-0.0 c.from_residual-in_err-made-in-Mapped.ensures.1 c.in_err-made-in-Mapped.ensures
+    mapped_part_judged c.args.exprs.now _ c.args.id c.in-Mapped.part c.in-Mapped.body c.in-Mapped.mapping c.in-Mapped.pattern (sym c.in-Mapped.ensures.value) c.placed.ensures _ c.spot-in-Mapped-2.ensures c.in_ok-part-in-Mapped.ensures c.in_ok-argument-in-Mapped.ensures _ c.in_err-made-in-Mapped.field-0.0 c.from_residual-in_err-made-in-Mapped.ensures.1 c.in_err-made-in-Mapped.ensures
 
 pub judge-returns-in_ok-made-in-Mapped : goal.judge-returns-in_ok-made-in-Mapped
 judge-returns-in_ok-made-in-Mapped t c =
-    mapped_judged c.args.exprs.now (names_of c.args.names.now) c.args.id c.in-Mapped.part c.in-Mapped.body c.in-Mapped.mapping c.in-Mapped.pattern (sym c.in-Mapped.ensures.value) c.placed.ensures _ c.spot-in-Mapped-3.ensures c.in_ok-part-in-Mapped.ensures c.in_ok-argument-in-Mapped.ensures _ c.in_ok-made-in-Mapped.ensures c.mapped_type.ensures
+    mapped_judged c.args.exprs.now _ c.args.id c.in-Mapped.part c.in-Mapped.body c.in-Mapped.mapping c.in-Mapped.pattern (sym c.in-Mapped.ensures.value) c.placed.ensures _ c.spot-in-Mapped-3.ensures c.in_ok-part-in-Mapped.ensures c.in_ok-argument-in-Mapped.ensures _ c.in_ok-made-in-Mapped.ensures c.mapped_type.ensures
 
 pub judge-returns-in_err-first-in-Folded : goal.judge-returns-in_err-first-in-Folded
 judge-returns-in_err-first-in-Folded t c =
-    folded_first_judged c.args.exprs.now (names_of c.args.names.now) c.args.id c.in-Folded.first c.in-Folded.second c.in-Folded.body c.in-Folded.folding c.in-Folded.pattern (sym c.in-Folded.ensures.value) _ c.in_err-first-in-Folded.field-0.0 c.from_residual-in_err-first-in-Folded.ensures.1 c.in_err-first-in-Folded.ensures
+    folded_first_judged c.args.exprs.now _ c.args.id c.in-Folded.first c.in-Folded.second c.in-Folded.body c.in-Folded.folding c.in-Folded.pattern (sym c.in-Folded.ensures.value) _ c.in_err-first-in-Folded.field-0.0 c.from_residual-in_err-first-in-Folded.ensures.1 c.in_err-first-in-Folded.ensures
 
 pub judge-returns-in_err-second-in-Folded : goal.judge-returns-in_err-second-in-Folded
 judge-returns-in_err-second-in-Folded t c =
-    folded_second_judged c.args.exprs.now (names_of c.args.names.now) c.args.id c.in-Folded.first c.in-Folded.second c.in-Folded.body c.in-Folded.folding c.in-Folded.pattern (sym c.in-Folded.ensures.value) _ c.in_err-second-in-Folded.field-0.0 c.in_ok-first-in-Folded.ensures c.from_residual-in_err-second-in-Folded.ensures.1 c.in_err-second-in-Folded.ensures
+    folded_second_judged c.args.exprs.now _ c.args.id c.in-Folded.first c.in-Folded.second c.in-Folded.body c.in-Folded.folding c.in-Folded.pattern (sym c.in-Folded.ensures.value) _ c.in_err-second-in-Folded.field-0.0 c.in_ok-first-in-Folded.ensures c.from_residual-in_err-second-in-Folded.ensures.1 c.in_err-second-in-Folded.ensures
 
 pub judge-returns-in_err-argument-in-Folded : goal.judge-returns-in_err-argument-in-Folded
 judge-returns-in_err-argument-in-Folded t c =
-    folded_argument_judged c.args.exprs.now (names_of c.args.names.now) c.args.id c.in-Folded.first c.in-Folded.second c.in-Folded.body c.in-Folded.folding c.in-Folded.pattern (sym c.in-Folded.ensures.value) c.in_ok-first-in-Folded.ensures c.in_ok-second-in-Folded.ensures _ c.spot-in-Folded.ensures _ c.in_err-argument-in-Folded.field-0.0 c.from_residual-in_err-argument-in-Folded.ensures.1 c.in_err-argument-in-Folded.ensures
+    folded_argument_judged c.args.exprs.now _ c.args.id c.in-Folded.first c.in-Folded.second c.in-Folded.body c.in-Folded.folding c.in-Folded.pattern (sym c.in-Folded.ensures.value) c.in_ok-first-in-Folded.ensures c.in_ok-second-in-Folded.ensures _ c.spot-in-Folded.ensures _ c.in_err-argument-in-Folded.field-0.0 c.from_residual-in_err-argument-in-Folded.ensures.1 c.in_err-argument-in-Folded.ensures
 
 pub judge-returns-in_err-made-in-Folded : goal.judge-returns-in_err-made-in-Folded
 judge-returns-in_err-made-in-Folded t c =
-    folded_part_judged c.args.exprs.now (names_of c.args.names.now) c.args.id c.in-Folded.first c.in-Folded.second c.in-Folded.body c.in-Folded.folding c.in-Folded.pattern (sym c.in-Folded.ensures.value) c.in_ok-first-in-Folded.ensures c.in_ok-second-in-Folded.ensures _ c.spot-in-Folded-2.ensures c.placed-in-Folded.ensures c.in_ok-argument-in-Folded.ensures _ c.in_err-made-in-Folded.field-0.0 c.from_residual-in_err-made-in-Folded.ensures.1 c.in_err-made-in-Folded.ensures
+    folded_part_judged c.args.exprs.now _ c.args.id c.in-Folded.first c.in-Folded.second c.in-Folded.body c.in-Folded.folding c.in-Folded.pattern (sym c.in-Folded.ensures.value) c.in_ok-first-in-Folded.ensures c.in_ok-second-in-Folded.ensures _ c.spot-in-Folded-2.ensures c.placed-in-Folded.ensures c.in_ok-argument-in-Folded.ensures _ c.in_err-made-in-Folded.field-0.0 c.from_residual-in_err-made-in-Folded.ensures.1 c.in_err-made-in-Folded.ensures
 
 pub judge-returns-in_ok-made-in-Folded : goal.judge-returns-in_ok-made-in-Folded
 judge-returns-in_ok-made-in-Folded t c =
-    folded_judged c.args.exprs.now (names_of c.args.names.now) c.args.id c.in-Folded.first c.in-Folded.second c.in-Folded.body c.in-Folded.folding c.in-Folded.pattern (sym c.in-Folded.ensures.value) c.in_ok-first-in-Folded.ensures c.in_ok-second-in-Folded.ensures _ c.spot-in-Folded-3.ensures c.placed-in-Folded.ensures c.in_ok-argument-in-Folded.ensures _ c.in_ok-made-in-Folded.ensures c.folded_type.ensures
+    folded_judged c.args.exprs.now _ c.args.id c.in-Folded.first c.in-Folded.second c.in-Folded.body c.in-Folded.folding c.in-Folded.pattern (sym c.in-Folded.ensures.value) c.in_ok-first-in-Folded.ensures c.in_ok-second-in-Folded.ensures _ c.spot-in-Folded-3.ensures c.placed-in-Folded.ensures c.in_ok-argument-in-Folded.ensures _ c.in_ok-made-in-Folded.ensures c.folded_type.ensures
 
 pub judge_part-returns-in_err-names : goal.judge_part-returns-in_err-names
 judge_part-returns-in_err-names t c =
-    pattern_judged c.args.exprs.now (names_of c.args.around.now) c.args.pattern.now c.args.body c.args.from.now c.args.at _ c.in_err-names.field-0.0 c.from_residual.ensures.1 c.in_err-names.ensures.err
+    pattern_judged c.args.exprs.now _ c.args.pattern.now c.args.body c.args.from.now c.args.at _ c.in_err-names.field-0.0 c.from_residual.ensures.1 c.in_err-names.ensures.err
 
 pub judge_part-returns : goal.judge_part-returns
 judge_part-returns t c =
-    part_body_judged c.args.exprs.now (names_of c.args.around.now) c.args.pattern.now c.args.body c.args.from.now c.args.at (names_of c.in_ok-names.names) _ c.in_ok-names.ensures.bound c.in_ok-names.ensures.fits c.judge.ensures
+    part_body_judged c.args.exprs.now _ c.args.pattern.now c.args.body c.args.from.now c.args.at _ _ (binds_with _ c.in_ok-names.ensures.bound) c.in_ok-names.ensures.fits c.judge.ensures
+
+pub judge-returns-in_err-part-in-Called : goal.judge-returns-in_err-part-in-Called
+judge-returns-in_err-part-in-Called t c =
+    called_part_judged c.args.exprs.now _ c.args.id c.in-Called.part c.in-Called.function c.in-Called.place (sym c.in-Called.ensures.value) _ c.in_err-part-in-Called.field-0.0 c.from_residual-in_err-part-in-Called.ensures.1 c.in_err-part-in-Called.ensures
+
+pub judge-returns-in_ok-part-in-Called : goal.judge-returns-in_ok-part-in-Called
+judge-returns-in_ok-part-in-Called t c =
+    let fs = signatures_in c.args.functions.now in
+    let found = ap (λ (n : Name). types_named n fs) c.name_of-name.ensures ∙ ap (types_named (name_at c.args.exprs.now c.in-Called.function)) (sym (functions_with fs (names_of c.args.names.now))) in
+    called_judged c.args.exprs.now _ c.args.id c.in-Called.part c.in-Called.function c.in-Called.place (sym c.in-Called.ensures.value) _ _ c.in_ok-part-in-Called.ensures c.spot-in-Called.ensures
+    (subst (λ (o : Option FunctionTypes). AnswersCall o c.in_ok-part-in-Called.part c.in-Called.place c.spot-in-Called.result c.call_type.result) found c.call_type.ensures)

@@ -13,6 +13,6 @@ returns c =
     let program = c.program-program.ensures.program in
     let shows : ShowsTerms p q = λ t. c.with_main.ensures.trees (plan_id t) ∙ c.in_ok-copy_templates.ensures.trees (plan_id t) ∙ c.in_ok-copy_terms.ensures.terms t in
     record {
-      network = same_network p q shows (c.with_main.ensures.templates ∙ c.in_ok-copy_templates.ensures.templates) ∙ ap network_of program;
+      network = λ f. same_network f p q shows (c.with_main.ensures.templates ∙ c.in_ok-copy_templates.ensures.templates) ∙ ap (network_of f) program;
       main = ap (λ a. plan_tree q a) (c.with_main.ensures.main ∙ c.plan_id.ensures) ∙ shows c.main.result ∙ ap (λ p. term p c.main.result) program ∙ c.main.ensures.term;
     }

@@ -5,15 +5,15 @@ use Rattle.sf_state.proofs.Copies.{follow_next}
 use Rattle.sf_state.proofs.state.freeze_all.Goals as goal
 
 pub loop-state-init : goal.loop-state-init
-loop-state-init c = λ p. subst (λ bs. AllFollow p [] bs) (sym c.in_ok-frozen.ensures.items) none_follow
+loop-state-init c = λ φ p. subst (λ bs. AllFollow φ p [] bs) (sym c.in_ok-frozen.ensures.items) none_follow
 
 pub loop-state-preserved : goal.loop-state-preserved
-loop-state-preserved c = λ p.
-    follow_next p c.args.states.now c.loop-state.frozen.items c.push.new.self.items c.loop-state.state-index c.state-item.result c.in_ok-freeze.field-0
-    (c.loop-state.invariant p) c.loop-state-test.true c.state-item.is (c.in_ok-freeze.ensures p) c.in_ok-push.ensures.items
+loop-state-preserved c = λ φ p.
+    follow_next φ p c.args.states.now c.loop-state.frozen.items c.push.new.self.items c.loop-state.state-index c.state-item.result c.in_ok-freeze.field-0
+    (c.loop-state.invariant φ p) c.loop-state-test.true c.state-item.is (c.in_ok-freeze.ensures φ p) c.in_ok-push.ensures.items
 
 pub returns : goal.returns
-returns c = λ p.
+returns c = λ φ p.
     let states = c.args.states.now in
     let last : c.loop-state.state-index ≡ length states = omega (arith, c.loop-state.auto.state-index-end, c.loop-state-test.false) in
-    subst (λ bs. AllFollow p bs c.loop-state.frozen.items) (ap (λ k. take k states) last ∙ take-length states) (c.loop-state.invariant p)
+    subst (λ bs. AllFollow φ p bs c.loop-state.frozen.items) (ap (λ k. take k states) last ∙ take-length states) (c.loop-state.invariant φ p)

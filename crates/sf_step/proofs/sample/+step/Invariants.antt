@@ -5,32 +5,32 @@ use Rattle.sf_step.proofs.sample.+step.Given as goal
 
 -- the nodes that the meter has left, and which of the functions it is
 abbrev pub decreases-start : goal.decreases-start
-decreases-start l = 5 * (100000 - entered_of l.meter.now)
+decreases-start g l = 5 * (100000 - entered_of l.meter.now)
 
 abbrev pub decreases-step_state : goal.decreases-step_state
-decreases-step_state l = 5 * (100000 - entered_of l.meter.now) + 1
+decreases-step_state g l = 5 * (100000 - entered_of l.meter.now) + 1
 
 abbrev pub decreases-step_half : goal.decreases-step_half
-decreases-step_half l = 5 * (100000 - entered_of l.meter.now) + 2
+decreases-step_half g l = 5 * (100000 - entered_of l.meter.now) + 2
 
 abbrev pub decreases-step_parallel : goal.decreases-step_parallel
-decreases-step_parallel l = 5 * (100000 - entered_of l.meter.now) + 3
+decreases-step_parallel g l = 5 * (100000 - entered_of l.meter.now) + 3
 
 abbrev pub decreases-step_fan : goal.decreases-step_fan
-decreases-step_fan l = 5 * (100000 - entered_of l.meter.now) + 3
+decreases-step_fan g l = 5 * (100000 - entered_of l.meter.now) + 3
 
 abbrev pub decreases-step_wrap : goal.decreases-step_wrap
-decreases-step_wrap l = 5 * (100000 - entered_of l.meter.now) + 3
+decreases-step_wrap g l = 5 * (100000 - entered_of l.meter.now) + 3
 
 abbrev pub decreases-step_live : goal.decreases-step_live
-decreases-step_live l = 5 * (100000 - entered_of l.meter.now) + 4
+decreases-step_live g l = 5 * (100000 - entered_of l.meter.now) + 4
 
 abbrev pub decreases-step_pipeline : goal.decreases-step_pipeline
-decreases-step_pipeline l = 5 * (100000 - entered_of l.meter.now) + 3
+decreases-step_pipeline g l = 5 * (100000 - entered_of l.meter.now) + 3
 
 abbrev pub invariant-step_pipeline-loop-stage : goal.invariant-step_pipeline-loop-stage
-invariant-step_pipeline-loop-stage l = record {
+invariant-step_pipeline-loop-stage g l = record {
   grows : entered_of l.initial.meter ≤ entered_of l.meter;
-  fed : ∥ RestFed l.context.plan.now (drop l.stage-index l.stage-items) l.value ∥₁;
-  goes_on : Continues l.context.plan.now l.initial.stage-items l.context.dt l.initial.value l.initial.meter (take l.stage-index l.stage-items) (drop l.stage-index l.stage-items) l.value l.meter l.inside;
+  fed : ∥ RestFed (g.R.Holds.answers l.context.functions.now) l.context.plan.now (drop l.stage-index l.stage-items) l.value ∥₁;
+  goes_on : Continues (g.R.Holds.answers l.context.functions.now) l.context.plan.now l.initial.stage-items l.context.dt l.initial.value l.initial.meter (take l.stage-index l.stage-items) (drop l.stage-index l.stage-items) l.value l.meter l.inside;
 }

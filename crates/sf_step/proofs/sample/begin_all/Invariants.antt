@@ -1,4 +1,5 @@
 use Rattle.std.proofs.Common.{take}
+use Rattle.sf_func.specs.Registries.{AnswersByName}
 use Rattle.sf_mean.specs.Lives.{Environment}
 use Rattle.sf_law.specs.declared.plan.Plan.{Plan}
 use Rattle.sf_state.specs.Standing.{IsNames}
@@ -6,4 +7,4 @@ use Rattle.sf_step.specs.Sampling.{AllBegin}
 use Rattle.sf_step.proofs.sample.begin_all.Given as goal
 
 abbrev pub invariant-loop-stage : goal.invariant-loop-stage
-invariant-loop-stage l = (p : Plan) (e : Environment) → IsNames p l.names e → AllBegin p e (take l.stage-index l.stages) l.begun.items
+invariant-loop-stage l = (φ : AnswersByName) (p : Plan) (e : Environment) → IsNames p l.names e → AllBegin φ p e (take l.stage-index l.stages) l.begun.items

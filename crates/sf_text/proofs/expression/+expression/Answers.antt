@@ -1,9 +1,10 @@
-use Rattle.std.proofs.Common.{Err, ap}
+use Rattle.std.proofs.Common.{Err, ap, subst, sym}
+use Rattle.sf_lex.specs.Words.{IsName}
 use Rattle.sf_text.specs.Answers.{toks}
 use Rattle.sf_expr.specs.Patterns.{pattern_of}
-use Rattle.sf_text.proofs.Named.{pattern_named}
-use Rattle.sf_text.proofs.Found.{expression_refused, linked_ready, prefixed_ready, one_in_brackets_ready, two_in_brackets_ready, conditional_ready, let_ready, mapping_found, one_and_function_ready, two_and_function_ready}
-use Rattle.sf_text.proofs.Placed.{linked_read, prefixed_read, one_in_brackets_read, two_in_brackets_read, conditional_read, parted_read, let_read, one_and_function_read, two_and_function_read}
+use Rattle.sf_text.proofs.Named.{name_named, pattern_named}
+use Rattle.sf_text.proofs.Found.{expression_refused, linked_ready, prefixed_ready, one_in_brackets_ready, two_in_brackets_ready, conditional_ready, let_ready, mapping_found, one_and_function_ready, two_and_function_ready, called_ready}
+use Rattle.sf_text.proofs.Placed.{linked_read, prefixed_read, one_in_brackets_read, two_in_brackets_read, conditional_read, parted_read, let_read, one_and_function_read, two_and_function_read, called_read}
 use Rattle.sf_text.proofs.expression.+expression.Goals as goal
 
 pub linked-returns-in-Err-clause-reads : goal.linked-returns-in-Err-clause-reads
@@ -82,6 +83,17 @@ two_and_function-returns-in-Err-clause-reads t c =
 pub two_and_function-returns-in-Ok-clause-placed : goal.two_and_function-returns-in-Ok-clause-placed
 two_and_function-returns-in-Ok-clause-placed t c =
     two_and_function_read c.in_ok-two.ensures.reads.kept.trees c.in_ok-pattern.ensures.reads.kept.trees c.in-Ok.ensures.ok c.in-Ok.ensures.placed c.in_ok-rest.ensures.behind c.in_ok-one.ensures.placed c.in_ok-rest-2.ensures.behind c.in_ok-two.ensures.placed c.in_ok-rest-3.ensures.behind c.in_ok-pattern.ensures.placed c.in_ok-rest-4.ensures.behind
+
+pub called-returns-in-Err-clause-reads : goal.called-returns-in-Err-clause-reads
+called-returns-in-Err-clause-reads t c =
+    expression_refused c.args.tokens.now c.in-Err.refusal c.refused.result
+    (called_ready c.args.version c.args.left (toks c.args.rest.now) c.requires.shallow c.in_ok-function.ensures.reads c.in_ok-rest.ensures.reads c.in_ok-part.ensures.reads c.in_ok-rest-2.ensures.reads c.in_ok-name.ensures.ok) c.refused.ensures
+    (λ same. c.in-Err.ensures.many.0 (ap Err same)) (λ same. (c.in-Err.ensures.deep.0 (ap Err same)).1)
+    (λ same. (c.in-Err.ensures.bad_name.0 (ap Err same)).2
+    (subst IsName (sym c.in_ok-name.ensures.ok) (name_named (toks c.args.rest.now) c.in_ok-function.function.name.now (toks c.in_ok-function.rest.now) c.in_ok-function.ensures.reads c.requires.named)))
+
+pub called-returns-in-Ok-clause-placed : goal.called-returns-in-Ok-clause-placed
+called-returns-in-Ok-clause-placed t c = called_read c.in-Ok.ensures.ok c.in_ok-function.ensures.placed c.in_ok-rest.ensures.behind c.in_ok-part.ensures.placed c.in_ok-rest-2.ensures.behind
 
 pub mapping_parts-returns-clause-reads : goal.mapping_parts-returns-clause-reads
 mapping_parts-returns-clause-reads t c =

@@ -37,5 +37,8 @@ decreases-one_and_function l = 5 * l.left + 2
 abbrev pub decreases-two_and_function : goal.decreases-two_and_function
 decreases-two_and_function l = 5 * l.left + 2
 
+abbrev pub decreases-called : goal.decreases-called
+decreases-called l = 5 * l.left + 1
+
 abbrev pub decreases-mapping_parts : goal.decreases-mapping_parts
 decreases-mapping_parts l = 5 * l.left + 1

@@ -7,10 +7,10 @@ use Rattle.sf_engine.proofs.engine.Engine.next_sample.Goals.{in-Some, in-None+in
 use Rattle.sf_engine.proofs.engine.Engine.next_sample.Goals as goal
 
 pub returns-in-Err : goal.returns-in-Err
-returns-in-Err c = λ n m L R. rw c.stop.ensures.error (had_no_memory c.stop.ensures.stopped)
+returns-in-Err g c = λ n m L R. rw c.stop.ensures.error (had_no_memory c.stop.ensures.stopped)
 
 pub sample-requires-clause-typed : goal.sample-requires-clause-typed
-sample-requires-clause-typed c =
+sample-requires-clause-typed g c =
     elim c.match-value.branch [
       | in-Some w ↦
           ∣ rw w.input-is (subst (λ v. IfSome v (λ y. HasKind y c.args.self.now.input)) w.in-Some.is c.requires.typed) ∣₁
@@ -19,7 +19,7 @@ sample-requires-clause-typed c =
     ]
 
 pub returns : goal.returns
-returns c = λ n m L R.
+returns g c = λ n m L R.
     elim c.match-value.branch [
       | in-Some w ↦ next_given R c.requires w.in-Some.is w.input-is (c.sample.ensures n m L R)
       | in-None+in-Ok w ↦ next_unchanged R c.requires w.in-None.is (rw (sym w.input-is) at w.in-Ok.ensures) (c.sample.ensures n m L R)

@@ -6,23 +6,23 @@ use Rattle.sf_engine.proofs.Keeping.{ready_fed, ready_next}
 use Rattle.sf_engine.proofs.engine.Engine.sample.Goals as goal
 
 pub returns-in_default : goal.returns-in_default
-returns-in_default c = λ n m L R H. rw c.stop.ensures.error (had_no_memory c.stop.ensures.stopped)
+returns-in_default g c = λ n m L R H. rw c.stop.ensures.error (had_no_memory c.stop.ensures.stopped)
 
 pub step-requires : goal.step-requires
-step-requires c = ready_fed (c.args.self.now.ready c.requires.going) c.requires.typed
+step-requires g c = ready_fed (c.args.self.now.ready c.requires.going) c.requires.typed
 
 pub invariant_of-self-in-Ok-step-clause-ready : goal.invariant_of-self-in-Ok-step-clause-ready
-invariant_of-self-in-Ok-step-clause-ready c = λ q.
+invariant_of-self-in-Ok-step-clause-ready g c = λ q.
     rw c.in-Ok.ensures (ready_next (c.args.self.now.ready q) c.requires.typed c.in-Ok-step.ensures.answers)
 
 pub returns-in-Ok-step : goal.returns-in-Ok-step
-returns-in-Ok-step c = λ n m L R H.
+returns-in-Ok-step g c = λ n m L R H.
     sampled_value R.network (c.in-Ok-step.ensures.answers (closure m.body empty) L R.state)
-    (λ S. goes_to R H refl refl refl refl (ap (λ x. Some x) c.in-Ok.ensures) S)
+    (λ S. goes_to R H refl refl refl refl refl (ap (λ x. Some x) c.in-Ok.ensures) S)
     refl
     refl
 
 pub returns-in-Err : goal.returns-in-Err
-returns-in-Err c = λ n m L R H.
+returns-in-Err g c = λ n m L R H.
     rw c.stop-in-Err.ensures.error
     (sampled_fault R.network (c.in-Err.ensures.answers (closure m.body empty) L R.state) c.stop-in-Err.ensures.stopped)

@@ -1,10 +1,10 @@
-use Rattle.std.proofs.Common.{◌≡◌, ◌∙◌, ◌∷◌, ap, refl, sym, subst, string_bytes}
+use Rattle.std.proofs.Common.{◌≡◌, ◌∙◌, ap, refl, sym, subst, string_bytes}
 use Rattle.sf_value.specs.Values.{Name}
 use Rattle.sf_expr.specs.declared.typing.TypeScope as types
 use Rattle.sf_expr.specs.Expressions.{named}
 use Rattle.sf_expr.specs.Patterns.{PlacedPattern, placed_unnamed, placed_name, pattern_of}
 use Rattle.sf_expr.specs.PatternView.{placed_of}
-use Rattle.sf_expr.specs.Typing.{Names, AddsNames, adds_nothing, adds_name}
+use Rattle.sf_expr.specs.Typing.{Names, typed_name, AddsNames, adds_nothing, adds_name}
 use Rattle.sf_expr.specs.Scopes.{names_of}
 use Rattle.sf_refusal.specs.declared.rule.Rule.TheVariants.{Mismatch}
 use Rattle.sf_refusal.proofs.Explained.{breaks_at, refused_on, memory_on}
@@ -23,7 +23,7 @@ returns-in_ok-push-in-Name-default-clause-ok t c =
     let x = string_bytes c.in-Name-default.name in
     let grown : types.TypeScope = record { names = c.push.new.self } in
     let whole : c.args.pattern.now ≡ placed_name x c.in-Name-default.field-1-0 = sym c.form.ensures ∙ ap placed_of c.in-Name-default.is-0 in
-    let more : names_of grown ≡ (x, c.args.ty.now) ∷ R = names_pushed c.args.self.now grown _ c.in_ok-push-in-Name-default.ensures.ok ∙ ap (λ (y : Name). (y, c.args.ty.now) ∷ R) c.as_str-name.ensures.value in
+    let more : names_of grown ≡ typed_name x c.args.ty.now R = names_pushed c.args.self.now grown _ c.in_ok-push-in-Name-default.ensures.ok ∙ ap (λ (y : Name). typed_name y c.args.ty.now R) c.as_str-name.ensures.value in
     subst (λ (p : PlacedPattern). AddsNames (pattern_of p) c.args.ty.now R (names_of grown)) (sym whole) (subst (λ (S : Names). AddsNames (named x) c.args.ty.now R S) (sym more) adds_name)
 
 pub returns-in_ok-bind-in-Both-Some-clause-ok : goal.returns-in_ok-bind-in-Both-Some-clause-ok

@@ -4,7 +4,7 @@ use Rattle.sf_player.proofs.Steps.{line_within, plays_line, line_further, line_h
 use Rattle.sf_player.proofs.player.Player.advance.Goals as goal
 
 pub play_line-requires : goal.play_line-requires
-play_line-requires c =
+play_line-requires g c =
     let w = c.requires in
     let sizes = rw c.in-Ok-Line.field-0-is at c.in-Ok-Line.ensures.sizes in
     record {
@@ -16,7 +16,7 @@ play_line-requires c =
     }
 
 pub returns-in-None-clause-advances : goal.returns-in-None-clause-advances
-returns-in-None-clause-advances c = λ n m read written P.
+returns-in-None-clause-advances g c = λ n m read written P.
     let sizes = rw c.in-Ok-Line.field-0-is at c.in-Ok-Line.ensures.sizes in
     let stands = rw c.in-Ok-Line.field-0-is at (c.in-Ok-Line.ensures.cuts read P.lines P.stands) in
     let goes = c.in-None.ensures n m P.now (record { runs = P.at.runs; slow = P.at.slow; taken = P.at.taken }) in
@@ -26,13 +26,13 @@ returns-in-None-clause-advances c = λ n m read written P.
     }
 
 pub returns-in-Some-clause-advances : goal.returns-in-Some-clause-advances
-returns-in-Some-clause-advances c = λ n m read written P.
+returns-in-Some-clause-advances g c = λ n m read written P.
     let stands = rw c.in-Ok-Line.field-0-is at (c.in-Ok-Line.ensures.cuts read P.lines P.stands) in
     let ends = c.in-Some.ensures n m P.now (record { runs = P.at.runs; slow = P.at.slow; taken = P.at.taken }) in
     line_halts c.args.piece.now c.in-Ok-Line.used P stands ends refl
 
 pub returns-in-Ok-Part-clause-advances : goal.returns-in-Ok-Part-clause-advances
-returns-in-Ok-Part-clause-advances c = λ n m read written P.
+returns-in-Ok-Part-clause-advances g c = λ n m read written P.
     let piece = c.args.piece.now in
     let sizes = rw c.in-Ok-Part.field-0-is at c.in-Ok-Part.ensures.sizes in
     let stands = rw c.in-Ok-Part.field-0-is at (c.in-Ok-Part.ensures.cuts read P.lines P.stands) in
@@ -42,5 +42,5 @@ returns-in-Ok-Part-clause-advances c = λ n m read written P.
     })
 
 pub returns-in-Err-clause-advances : goal.returns-in-Err-clause-advances
-returns-in-Err-clause-advances c = λ n m read written P.
+returns-in-Err-clause-advances g c = λ n m read written P.
     refusal_halts c.refuse.result c.args.piece.now P (c.in-Err.ensures.cuts read P.lines P.stands) c.refuse.ensures.end c.refuse.ensures.line

@@ -5,10 +5,10 @@ use Rattle.sf_player.specs.Playing.{Played, PlayedMore}
 use Rattle.sf_player.proofs.player.Player.feed.Given as goal
 
 abbrev pub invariant-loop-at : goal.invariant-loop-at
-invariant-loop-at l = record {
+invariant-loop-at g l = record {
   within : l.at ≤ length l.piece;
   more : (n : Network) (m : Template) (read written : List ℕ) → Played n m read written l.fn.self → PlayedMore n m read written l.fn.self (take l.at l.piece) l.self;
 }
 
 abbrev pub decreases-loop-at : goal.decreases-loop-at
-decreases-loop-at l = length l.piece - l.at
+decreases-loop-at g l = length l.piece - l.at

@@ -3,7 +3,7 @@ use Rattle.sf_player.proofs.Steps.{line_within, last_line, ends_played}
 use Rattle.sf_player.proofs.player.Player.finish.Goals as goal
 
 pub play_line-requires : goal.play_line-requires
-play_line-requires c =
+play_line-requires g c =
     let w = c.requires in
     let sizes = rw c.in-Ok-Line.field-0-is at c.in-Ok-Line.ensures.sizes in
     record {
@@ -15,11 +15,11 @@ play_line-requires c =
     }
 
 pub returns-in-Ok-Line : goal.returns-in-Ok-Line
-returns-in-Ok-Line c = λ n m read written P.
+returns-in-Ok-Line g c = λ n m read written P.
     let all = rw c.in-Ok-Line.field-0-is at (c.in-Ok-Line.ensures.ends read P.lines P.stands) in
     last_line n m read written _ _ c.play_line.new.self c.play_line.result P all.0 refl (c.play_line.ensures n m P.now (record { runs = P.at.runs; slow = P.at.slow; taken = P.at.taken }))
 
 pub returns-in-Ok-Part : goal.returns-in-Ok-Part
-returns-in-Ok-Part c = λ n m read written P.
+returns-in-Ok-Part g c = λ n m read written P.
     let all = rw c.in-Ok-Part.field-0-is at (c.in-Ok-Part.ensures.ends read P.lines P.stands) in
     ends_played P all.0

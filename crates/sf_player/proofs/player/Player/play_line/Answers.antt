@@ -7,14 +7,14 @@ use Rattle.sf_player.proofs.Samples.{starts_at, may_start, may_step, time_at, sl
 use Rattle.sf_player.proofs.player.Player.play_line.Goals as goal
 
 pub first_sample-sampled-requires : goal.first_sample-sampled-requires
-first_sample-sampled-requires c =
+first_sample-sampled-requires g c =
     let w = c.requires in
     let started = has_begun-is _ _ (c.is_started-started.ensures.history w.n w.m w.now.lived w.at.runs) in
     let says = rw c.in-Ok-Start.field-0-is at c.in-Ok-Start.ensures.ok in
     may_start w.at.runs started (c.input.ensures w.n w.m w.now.lived w.at.runs) says
 
 pub overflow_add-time : goal.overflow_add-time
-overflow_add-time c =
+overflow_add-time g c =
     let w = c.requires in
     let says = rw c.in-Ok-Step.field-0-is at c.in-Ok-Step.ensures.ok in
     let asked = advance_asked says refl in
@@ -25,21 +25,21 @@ overflow_add-time c =
     omega arith
 
 pub next_sample-sampled-requires : goal.next_sample-sampled-requires
-next_sample-sampled-requires c =
+next_sample-sampled-requires g c =
     let w = c.requires in
     let started = has_begun-is _ _ (c.is_started-started.ensures.history w.n w.m w.now.lived w.at.runs) in
     let says = rw c.in-Ok-Step.field-0-is at c.in-Ok-Step.ensures.ok in
     may_step w.now.taken w.at.runs started (c.input.ensures w.n w.m w.now.lived w.at.runs) w.at.slow (few_lines w.now.taken _ w.within) says
 
 pub returns-in-Ok-Nothing : goal.returns-in-Ok-Nothing
-returns-in-Ok-Nothing c = λ n m now at.
+returns-in-Ok-Nothing g c = λ n m now at.
     let within : limit_refusal now.taken (line_of c.args.self.now.cutter) ≡ None = ap (λ k. limit_refusal k (line_of c.args.self.now.cutter)) (sym at.taken ∙ c.requires.at.taken) ∙ c.requires.within in
     let started = has_begun-is _ _ (c.is_started-started.ensures.history n m now.lived at.runs) in
     let says = rw c.line.ensures at (rw c.in-Ok-Nothing.field-0-is at c.in-Ok-Nothing.ensures.ok) in
     nothing_said (asks (line_of c.args.self.now.cutter) _ _ within started (c.input.ensures n m now.lived at.runs) says) at refl refl refl refl
 
 pub returns-in-Ok-Start : goal.returns-in-Ok-Start
-returns-in-Ok-Start c = λ n m now at.
+returns-in-Ok-Start g c = λ n m now at.
     let within : limit_refusal now.taken (line_of c.args.self.now.cutter) ≡ None = ap (λ k. limit_refusal k (line_of c.args.self.now.cutter)) (sym at.taken ∙ c.requires.at.taken) ∙ c.requires.within in
     let started = has_begun-is _ _ (c.is_started-started.ensures.history n m now.lived at.runs) in
     let says = rw c.line.ensures at (rw c.in-Ok-Start.field-0-is at c.in-Ok-Start.ensures.ok) in
@@ -48,7 +48,7 @@ returns-in-Ok-Start c = λ n m now at.
     (c.say.ensures n m now (line_of c.args.self.now.cutter) (start c.in-Ok-Start.value) (asks (line_of c.args.self.now.cutter) _ _ within started (c.input.ensures n m now.lived at.runs) says) (λ q. cc) sampled refl (omega arith) at.taken)
 
 pub returns-in-Ok-Step : goal.returns-in-Ok-Step
-returns-in-Ok-Step c = λ n m now at.
+returns-in-Ok-Step g c = λ n m now at.
     let within : limit_refusal now.taken (line_of c.args.self.now.cutter) ≡ None = ap (λ k. limit_refusal k (line_of c.args.self.now.cutter)) (sym at.taken ∙ c.requires.at.taken) ∙ c.requires.within in
     let started = has_begun-is _ _ (c.is_started-started.ensures.history n m now.lived at.runs) in
     let says = rw c.line.ensures at (rw c.in-Ok-Step.field-0-is at c.in-Ok-Step.ensures.ok) in
@@ -59,7 +59,7 @@ returns-in-Ok-Step c = λ n m now at.
     (c.say-in-Ok-Step.ensures n m now (line_of c.args.self.now.cutter) (advance c.in-Ok-Step.dt c.in-Ok-Step.input) (asks (line_of c.args.self.now.cutter) _ _ within started (c.input.ensures n m now.lived at.runs) says) (λ q. cc) (c.next_sample-sampled.ensures n m now.lived at.runs) (time_at now.lived started same says) slow at.taken)
 
 pub returns-in-Err : goal.returns-in-Err
-returns-in-Err c = λ n m now at.
+returns-in-Err g c = λ n m now at.
     let within : limit_refusal now.taken (line_of c.args.self.now.cutter) ≡ None = ap (λ k. limit_refusal k (line_of c.args.self.now.cutter)) (sym at.taken ∙ c.requires.at.taken) ∙ c.requires.within in
     let started = has_begun-is _ _ (c.is_started-started.ensures.history n m now.lived at.runs) in
     record {

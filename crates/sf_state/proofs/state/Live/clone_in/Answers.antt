@@ -5,19 +5,19 @@ use Rattle.sf_state.proofs.Copies.{prim_follows, join_follows, wrap_follows, pip
 use Rattle.sf_state.proofs.state.Live.clone_in.Goals as goal
 
 pub returns-in_ok-kept-in-Prim : goal.returns-in_ok-kept-in-Prim
-returns-in_ok-kept-in-Prim c = λ p P L S.
-    prim_follows p c.in-Prim.prim c.in_ok-kept-in-Prim.kept (c.in_ok-kept-in-Prim.ensures (plan_expressions p)) P L (rw c.in-Prim.is at S)
+returns-in_ok-kept-in-Prim c = λ φ p P L S.
+    prim_follows φ p c.in-Prim.prim c.in_ok-kept-in-Prim.kept (c.in_ok-kept-in-Prim.ensures (plan_expressions p)) P L (rw c.in-Prim.is at S)
 
 pub returns-in_ok-second-in-Join : goal.returns-in_ok-second-in-Join
-returns-in_ok-second-in-Join c = λ p P L S.
-    join_follows p c.in-Join.join c.in-Join.left c.in_ok-first-in-Join.first c.in-Join.right c.in_ok-second-in-Join.second
-    (c.in_ok-first-in-Join.ensures p) (c.in_ok-second-in-Join.ensures p) P L (rw c.in-Join.is at S)
+returns-in_ok-second-in-Join c = λ φ p P L S.
+    join_follows φ p c.in-Join.join c.in-Join.left c.in_ok-first-in-Join.first c.in-Join.right c.in_ok-second-in-Join.second
+    (c.in_ok-first-in-Join.ensures φ p) (c.in_ok-second-in-Join.ensures φ p) P L (rw c.in-Join.is at S)
 
 pub returns-in_ok-inner-in-Wrap : goal.returns-in_ok-inner-in-Wrap
-returns-in_ok-inner-in-Wrap c = λ p P L S.
-    wrap_follows p c.in-Wrap.wrap c.in_ok-kept-in-Wrap.kept c.in-Wrap.part c.in_ok-inner-in-Wrap.inner
-    c.in_ok-kept-in-Wrap.ensures (c.in_ok-inner-in-Wrap.ensures p) P L (rw c.in-Wrap.is at S)
+returns-in_ok-inner-in-Wrap c = λ φ p P L S.
+    wrap_follows φ p c.in-Wrap.wrap c.in_ok-kept-in-Wrap.kept c.in-Wrap.part c.in_ok-inner-in-Wrap.inner
+    c.in_ok-kept-in-Wrap.ensures (c.in_ok-inner-in-Wrap.ensures φ p) P L (rw c.in-Wrap.is at S)
 
 pub returns-in_ok-shared-in-Pipeline : goal.returns-in_ok-shared-in-Pipeline
-returns-in_ok-shared-in-Pipeline c = λ p P L S.
-    pipeline_follows p c.in-Pipeline.stages c.in_ok-shared-in-Pipeline.shared (subst (λ bs. AllFollow p bs c.in_ok-shared-in-Pipeline.shared.items) c.deref.ensures.value (c.in_ok-shared-in-Pipeline.ensures p)) P L (rw c.in-Pipeline.is at S)
+returns-in_ok-shared-in-Pipeline c = λ φ p P L S.
+    pipeline_follows φ p c.in-Pipeline.stages c.in_ok-shared-in-Pipeline.shared (subst (λ bs. AllFollow φ p bs c.in_ok-shared-in-Pipeline.shared.items) c.deref.ensures.value (c.in_ok-shared-in-Pipeline.ensures φ p)) P L (rw c.in-Pipeline.is at S)

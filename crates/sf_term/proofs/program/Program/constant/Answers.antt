@@ -1,8 +1,11 @@
-use Rattle.std.proofs.Common.{refl}
+use Rattle.std.proofs.Common.{refl, ap}
+use Rattle.sf_expr.specs.declared.exprs.ConstantId.{ConstantId}
+use Rattle.sf_expr.specs.declared.exprs.ExprNode.TheVariants as expressions
+use Rattle.sf_expr.specs.Expressions.{literal}
 use Rattle.sf_arena.specs.Arenas.{entries_of}
 use Rattle.sf_term.specs.Arena.{headers_of, expressions_of}
 use Rattle.sf_term.proofs.Entered.{arena_grown, constant_grown_by}
-use Rattle.sf_term.proofs.Kept.{adds_with_constant, constant_beside, put_beside, unchanged, unchanged_after}
+use Rattle.sf_term.proofs.Kept.{adds_with, constant_beside, put_beside, unchanged, unchanged_after}
 use Rattle.sf_term.proofs.program.Program.constant.Goals as goal
 
 pub invariant_of-self : goal.invariant_of-self
@@ -16,7 +19,9 @@ invariant_of-self c =
 
 pub returns-in-Ok-clause-ok : goal.returns-in-Ok-clause-ok
 unfolding headers_of expressions_of
-returns-in-Ok-clause-ok c = adds_with_constant c.args.self.now _ _ _ _ c.args.spot c.add_expression.result c.in-Ok.ensures.ok (put_beside c.args.self.now _ (constant_beside _ _ _ _ c.in-Ok.ensures.ok) refl refl) c.add_expression.ensures.ok
+returns-in-Ok-clause-ok c =
+    let added = c.in-Ok.ensures.ok in
+    adds_with c.args.self.now _ _ c.add_expression.result _ _ (λ (n : ConstantId). expressions.Constant n) _ c.args.spot added.next (put_beside c.args.self.now _ (constant_beside _ _ _ _ added) refl refl) (ap literal added.is) c.add_expression.ensures.ok
 
 pub returns-in-Ok-clause-err : goal.returns-in-Ok-clause-err
 unfolding headers_of

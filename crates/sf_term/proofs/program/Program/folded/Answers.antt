@@ -3,7 +3,7 @@ use Rattle.sf_expr.specs.declared.exprs.PatternId.{PatternId}
 use Rattle.sf_expr.specs.declared.exprs.ExprNode.TheVariants as expressions
 use Rattle.sf_term.specs.Arena.{expressions_of, expression_under, HoldsExpression}
 use Rattle.sf_term.proofs.Refused.{bad_name_as}
-use Rattle.sf_term.proofs.Kept.{adds_with_pattern, pattern_there, unchanged_keeps}
+use Rattle.sf_term.proofs.Kept.{adds_with, pattern_there, unchanged_keeps}
 use Rattle.sf_term.proofs.program.Program.folded.Goals as goal
 
 pub add_expression-requires : goal.add_expression-requires
@@ -16,7 +16,7 @@ pub returns-in-Ok-clause-ok : goal.returns-in-Ok-clause-ok
 unfolding expressions_of expression_under
 returns-in-Ok-clause-ok c =
     let same = c.in-Ok.ensures.same in
-    adds_with_pattern c.args.self.now c.place.new.self _ c.add_expression.result c.in-Ok.id c.args.pattern (λ (q : PatternId). expressions.Folded c.args.first c.args.folding c.args.second q c.args.body) _ c.args.spot c.in-Ok.ensures.ok same
+    adds_with c.args.self.now c.place.new.self _ c.add_expression.result c.in-Ok.id _ (λ (q : PatternId). expressions.Folded c.args.first c.args.folding c.args.second q c.args.body) _ c.args.spot c.in-Ok.ensures.ok.next same
     (rw (same.values c.args.first, same.values c.args.second, same.values c.args.body, c.in-Ok.ensures.ok.is) refl)
     c.add_expression.ensures.ok
 

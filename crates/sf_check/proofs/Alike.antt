@@ -1,0 +1,204 @@
+-- Where the functions that are called have the same types elsewhere, what was accepted is accepted there.
+use Rattle.std.proofs.Common.{◌≡◌, ℕ, zero, suc, ◌+◌, ◌<◌, ◌≤◌, Option, Some, None, slice_get, inl, inr, refl, sym, ap, ◌∙◌, subst, arith}
+use Rattle.std.specs.Prelude.{pos}
+use Rattle.std.specs.Option.{option_map}
+use Rattle.std.proofs.lemmas.Bool.{cases_lt}
+use Rattle.std.proofs.lemmas.List.{get_or_past}
+use Rattle.std.proofs.lemmas.Option.{slice_get-map, same_Some, none-some}
+use Rattle.sf_value.specs.Values.{Kind}
+use Rattle.sf_func.specs.Registries.{TypesByName, types_named}
+use Rattle.sf_expr.specs.declared.exprs.ExprId.{ExprId}
+use Rattle.sf_expr.specs.declared.exprs.ExprNode.{ExprNode}
+use Rattle.sf_expr.specs.declared.exprs.ExprNode.TheVariants as nodes
+use Rattle.sf_expr.specs.declared.exprs.Exprs.{Exprs}
+use Rattle.sf_arena.specs.declared.entry.Entry.{Entry}
+use Rattle.sf_arena.specs.Arenas.{entries_of}
+use Rattle.sf_expr.specs.Entries.{zero_entry}
+use Rattle.sf_expr.specs.Arena.{id_number, count_of, node_at, entry_of, expression, body_at, PartsBelow, Builds, builds_unit, builds_truth, builds_constant, builds_int, builds_name, builds_pair, builds_applied, builds_operation, builds_conditional, builds_mapped, builds_folded, builds_called}
+use Rattle.sf_expr.specs.Expressions.{Pattern, Expression, variable, literal, paired, applied, operation, conditional, mapped, folded, called, Function, function}
+use Rattle.sf_expr.specs.Typing.{Names, functions_of, with_types, call_kind, AddsNames, adds_nothing, adds_name, adds_both, HasType, variable_has, literal_has, pair_has, applied_has, operation_has, conditional_has, mapped_has, folded_has, called_has, FunctionTakes, function_takes}
+use Rattle.sf_expr.proofs.Bound.{type_with, functions_with, binds_with}
+use Rattle.sf_expr.proofs.Entered.{node_builds, parts_below}
+use Rattle.sf_term.proofs.Kept.{parts_below as term_parts_below}
+use Rattle.sf_term.specs.declared.node.TermId.{TermId}
+use Rattle.sf_term.specs.declared.node.Primitive.{Primitive as PrimitiveNode}
+use Rattle.sf_term.specs.declared.node.Primitive.TheVariants as primitives
+use Rattle.sf_term.specs.declared.node.Node.{Node}
+use Rattle.sf_term.specs.declared.node.Node.TheVariants as terms
+use Rattle.sf_term.specs.declared.program.Program.{Program}
+use Rattle.sf_term.specs.Headers.{Header}
+use Rattle.sf_term.specs.Trees.{Primitive, bare, with_value, arrow, fused, Term, primitive, joined, sided, headed, staged, Template, Templates}
+use Rattle.sf_term.specs.Arena.{term_number, tree, term_node_at, term_entry_of, expressions_of, headers_of, template_in, templates_of, TermPartsBelow}
+use Rattle.sf_mean.specs.Contexts.{context_of}
+use Rattle.sf_mean.specs.Typing.{PrimitiveTakes, identity_takes, constant_takes, initial_pre_takes, arrow_takes, fused_takes, Takes, takes, FormTakes, primitive_takes, sequence_takes, parallel_takes, fan_takes, first_takes, second_takes, loop_takes, stages_take, Accepted}
+use Rattle.sf_check.specs.Answering.{primitive_in}
+use Rattle.sf_check.specs.Calling.{IsCalledAlike, AreCalledAlike}
+use Rattle.sf_check.proofs.Made.{made, tree_made}
+use Rattle.sf_check.proofs.Templates.{lt_or_eq}
+
+-- ## Trees
+
+module _ (fs gs : TypesByName) where
+  -- each function that an expression calls has the same types in both
+  abbrev pub Alike : Expression → Type 0
+  Alike (variable x) = Unit {0}
+  Alike (literal l) = Unit {0}
+  Alike (paired i j) = Alike i × Alike j
+  Alike (applied o i) = Alike i
+  Alike (operation i op j) = Alike i × Alike j
+  Alike (conditional i j k) = Alike i × Alike j × Alike k
+  Alike (mapped i m p j) = Alike i × Alike j
+  Alike (folded i o j p k) = Alike i × Alike j × Alike k
+  Alike (called g i) = Alike i × (types_named g fs ≡ types_named g gs)
+
+  abbrev pub FunctionAlike : Function → Type 0
+  FunctionAlike (function p i) = Alike i
+
+  -- programs have no functions made into one, and no pipelines
+  abbrev pub PrimitiveAlike : Primitive → Type 0
+  PrimitiveAlike (bare k) = Unit {0}
+  PrimitiveAlike (with_value k e) = Alike e
+  PrimitiveAlike (arrow f) = FunctionAlike f
+  PrimitiveAlike (fused f) = ⊥
+
+  abbrev pub TermAlike : Term → Type 0
+  TermAlike (primitive p) = PrimitiveAlike p
+  TermAlike (joined j f g) = TermAlike f × TermAlike g
+  TermAlike (sided d t) = TermAlike t
+  TermAlike (headed h e t) = Alike e × TermAlike t
+  TermAlike (staged x f g) = ⊥
+
+  adds_functions : {p : Pattern} {t : Kind} {R S : Names} → AddsNames p t R S → functions_of S ≡ functions_of R
+  adds_functions adds_nothing = refl
+  adds_functions adds_name = refl
+  adds_functions (adds_both a b) = adds_functions b ∙ adds_functions a
+
+  typed_over : {R : Names} {e : Expression} {t : Kind} → functions_of R ≡ fs → Alike e → HasType R e t → HasType (with_types gs R) e t
+  typed_over {R = R} q k (variable_has {x = x} h f) = variable_has (type_with gs x R ∙ h) f
+  typed_over q k (literal_has h f) = literal_has h f
+  typed_over q k (pair_has a b f) = pair_has (typed_over q k.0 a) (typed_over q k.1 b) f
+  typed_over q k (applied_has a e f) = applied_has (typed_over q k a) e f
+  typed_over q k (operation_has a b e f) = operation_has (typed_over q k.0 a) (typed_over q k.1 b) e f
+  typed_over q k (conditional_has a b c e f) = conditional_has (typed_over q k.0 a) (typed_over q k.1 b) (typed_over q k.2 c) e f
+  typed_over q k (mapped_has a m f B b e g) = mapped_has (typed_over q k.0 a) m f (binds_with gs B) (typed_over (adds_functions B.adds ∙ q) k.1 b) e g
+  typed_over q k (folded_has a b m f B c e g) = folded_has (typed_over q k.0 a) (typed_over q k.1 b) m f (binds_with gs B) (typed_over (adds_functions B.adds ∙ q) k.2 c) e g
+  typed_over {R = R} q k (called_has {g = g} {t = t} a e f) =
+      let same : types_named g (functions_of (with_types gs R)) ≡ types_named g (functions_of R) =
+      ap (types_named g) (functions_with gs R) ∙ sym k.1 ∙ ap (types_named g) (sym q) in
+      called_has (typed_over q k.0 a) (ap (λ o. call_kind o t) same ∙ e) f
+
+  function_over : {R : Names} {f : Function} {a b : Kind} → functions_of R ≡ fs → FunctionAlike f → FunctionTakes R f a b → FunctionTakes (with_types gs R) f a b
+  function_over q k (function_takes fits B h) = function_takes fits (binds_with gs B) (typed_over (adds_functions B.adds ∙ q) k h)
+
+  module _ (ts : Templates) where
+    primitive_over : {p : Primitive} {a b : Kind} → PrimitiveAlike p → PrimitiveTakes (context_of fs ts) p a b → PrimitiveTakes (context_of gs ts) p a b
+    primitive_over k identity_takes = identity_takes
+    primitive_over k (constant_takes h) = constant_takes (typed_over refl k h)
+    primitive_over k (initial_pre_takes h) = initial_pre_takes (typed_over refl k h)
+    primitive_over k (arrow_takes h) = arrow_takes (function_over refl k h)
+    primitive_over k (fused_takes h f) = absurd k
+
+    mutual
+      pub takes_over : {t : Term} {a b : Kind} → TermAlike t → Takes (context_of fs ts) t a b → Takes (context_of gs ts) t a b
+      takes_over k (takes p q F) = takes p q (form_over k F)
+
+      form_over : {t : Term} {a b : Kind} → TermAlike t → FormTakes (context_of fs ts) t a b → FormTakes (context_of gs ts) t a b
+      form_over k (primitive_takes T) = primitive_takes (primitive_over k T)
+      form_over k (sequence_takes f g) = sequence_takes (takes_over k.0 f) (takes_over k.1 g)
+      form_over k (parallel_takes f g) = parallel_takes (takes_over k.0 f) (takes_over k.1 g)
+      form_over k (fan_takes f g) = fan_takes (takes_over k.0 f) (takes_over k.1 g)
+      form_over k (first_takes t) = first_takes (takes_over k t)
+      form_over k (second_takes t) = second_takes (takes_over k t)
+      form_over k (loop_takes e t) = loop_takes (typed_over refl k.0 e) (takes_over k.1 t)
+      form_over k (stages_take f g) = absurd k
+
+  -- ## Arenas of expressions
+
+  module _ (x : Exprs) (all : AreCalledAlike x fs gs) where
+    built : {n : ExprNode} {u : Expression} (k : ℕ) → Builds x n u → IsCalledAlike x fs gs n → PartsBelow n k → ((a : ExprId) → id_number a < k → Alike (expression x a)) → Alike u
+    built k builds_unit h b parts = tt
+    built k builds_truth h b parts = tt
+    built k builds_constant h b parts = tt
+    built k builds_int h b parts = tt
+    built k builds_name h b parts = tt
+    built k (builds_pair {a = a} {b = c}) h b parts = (parts a b.0, parts c b.1)
+    built k (builds_applied {a = a}) h b parts = parts a b
+    built k (builds_operation {a = a} {b = c}) h b parts = (parts a b.0, parts c b.1)
+    built k (builds_conditional {a = a} {b = c} {c = d}) h b parts = (parts a b.0, parts c b.1, parts d b.2)
+    built k (builds_mapped {a = a} {b = c}) h b parts = (parts a b.0, parts c b.1)
+    built k (builds_folded {a = a} {b = c} {c = d}) h b parts = (parts a b.0, parts c b.1, parts d b.2)
+    built k (builds_called {g = g} {s = s} {a = a}) h b parts = (parts a b, h g s a refl)
+
+    expression_parts : (i : ExprId) → PartsBelow (node_at x i) (id_number i)
+    unfolding node_at entry_of
+    expression_parts i = parts_below x i
+
+    alike_within : (fuel : ℕ) (i : ExprId) → id_number i < fuel → Alike (expression x i)
+    alike_within zero i h = absurd (omega arith)
+    alike_within (suc fuel) i h = built (id_number i) (node_builds x i _ refl) (all i) (expression_parts i) (λ a k. alike_within fuel a (omega arith))
+
+    expression_alike : (i : ExprId) → Alike (expression x i)
+    expression_alike i = alike_within (suc (id_number i)) i (omega arith)
+
+    pub node_alike : (q : PrimitiveNode) → PrimitiveAlike (primitive_in x q)
+    node_alike (primitives.Bare k) = tt
+    node_alike (primitives.WithValue k e) = expression_alike e
+    node_alike (primitives.Arrow f) = expression_alike (body_at x f)
+
+  -- ## Programs
+
+  module _ (p : Program) (all : AreCalledAlike (expressions_of p) fs gs) where
+    made_alike : (n : Node) (k : ℕ) → TermPartsBelow n k → ((j : TermId) → term_number j < k → TermAlike (tree p j)) → TermAlike (made p n)
+    made_alike (terms.Primitive q) k b parts = node_alike (expressions_of p) all q
+    made_alike (terms.Joined j f g) k b parts = (parts f b.0, parts g b.1)
+    made_alike (terms.Sided d f) k b parts = parts f b
+    made_alike (terms.Headed h v f) k b parts = (expression_alike (expressions_of p) all v, parts f b)
+
+    term_parts : (t : TermId) → TermPartsBelow (term_node_at p t) (term_number t)
+    unfolding term_node_at term_entry_of
+    term_parts t = term_parts_below p t
+
+    tree_within : (fuel : ℕ) (t : TermId) → term_number t < fuel → TermAlike (tree p t)
+    tree_within zero t h = absurd (omega arith)
+    tree_within (suc fuel) t h = subst TermAlike (sym (tree_made p t _ refl)) (made_alike (term_node_at p t) (term_number t) (term_parts t) (λ j k. tree_within fuel j (omega arith)))
+
+    tree_alike : (t : TermId) → TermAlike (tree p t)
+    tree_alike t = tree_within (suc (term_number t)) t (omega arith)
+
+    template_alike : (i : ℕ) (t : Template) → slice_get (templates_of p) i ≡ Some t → TermAlike t.body
+    template_alike i t at = each (slice_get (headers_of p) i) refl
+      where
+        each : (o : Option Header) → slice_get (headers_of p) i ≡ o → TermAlike t.body
+        each None e = absurd (none-some t (ap (option_map (template_in p)) (sym e) ∙ sym (slice_get-map (template_in p) (headers_of p) i) ∙ at))
+        each (Some h) e =
+            let same : template_in p h ≡ t = same_Some _ _ (ap (option_map (template_in p)) (sym e) ∙ sym (slice_get-map (template_in p) (headers_of p) i) ∙ at) in
+            subst (λ (t : Template). TermAlike t.body) same (tree_alike h.body)
+
+    pub accepted_over : Accepted fs (templates_of p) → Accepted gs (templates_of p)
+    accepted_over h = record {
+      different = h.different;
+      typed = λ i t at. takes_over (templates_of p) (template_alike i t at) (h.typed i t at);
+      has_main = h.has_main;
+    }
+
+-- ## The loop over an arena
+
+same_id : (i j : ExprId) → id_number i ≡ id_number j → i ≡ j
+same_id i j e = (λ k. record { 0 = e k })
+
+-- past the end nothing is called
+past_alike : (x : Exprs) (fs gs : TypesByName) (i : ExprId) → count_of x ≤ id_number i → IsCalledAlike x fs gs (node_at x i)
+unfolding count_of node_at
+past_alike x fs gs i h g s a e =
+    let zero : nodes.Int (pos 0) ≡ nodes.Called g s a = ap (λ (n : Entry ExprNode). n.node) (sym (get_or_past (entries_of x.arena) i.0 zero_entry h)) ∙ e in
+    absurd cc
+
+module _ (x : Exprs) (fs gs : TypesByName) (n : ℕ) (below : (i : ExprId) → id_number i < n → IsCalledAlike x fs gs (node_at x i)) where
+  pub one_more_alike : (j : ExprId) → id_number j ≡ n → IsCalledAlike x fs gs (node_at x j) → (i : ExprId) → id_number i < n + 1 → IsCalledAlike x fs gs (node_at x i)
+  one_more_alike j at h i k = elim (lt_or_eq (id_number i) n k) [
+    | inl before ↦ below i before
+    | inr here ↦ subst (λ (i : ExprId). IsCalledAlike x fs gs (node_at x i)) (sym (same_id i j (here ∙ sym at))) h
+  ]
+
+  pub all_alike : count_of x ≤ n → AreCalledAlike x fs gs
+  all_alike most i = elim (cases_lt (id_number i) n) [ inl k ↦ below i k | inr k ↦ past_alike x fs gs i (omega (arith, k, most)) ]

@@ -1,0 +1,7 @@
+use Rattle.sf_func.proofs.Typed.{boxed_keeps}
+use Rattle.sf_tests.proofs.Texts.{filled_keeps}
+use Rattle.sf_tests.proofs.calling.a_network_calls_a_function_of_texts.OwnLists.{own-1}
+use Rattle.sf_tests.proofs.calling.a_network_calls_a_function_of_texts.Goals as goal
+
+pub add-requires : goal.add-requires
+add-requires g c = boxed_keeps (λ v. (own-1.entry v).1.answers) c.into_dyn_box.ensures.0 _ c.text.ensures c.text-2.ensures (λ i. filled_keeps)
