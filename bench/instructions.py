@@ -30,16 +30,17 @@ def chain(term, count):
     return f"({chain(term, count // 2)} >>> {chain(term, count - count // 2)})"
 
 
-# Each with its type, its term, the nodes that a sample enters, and the most instructions a node and allocations a sample.
+# Each with its type, its term, the nodes that a sample enters, and the most instructions a node (of the last one, a sample)
+# and allocations a sample.
 PAIRED = "arr x => (x, x)"
 NETWORKS = {
     "identity": ("Int ~> Int", "identity", 1, None, None),
     "50 identity": ("Int ~> Int", chain("identity", 50), 99, 60, 0),
     "50 iPre 0": ("Int ~> Int", chain("iPre 0", 50), 99, 60, 0),
-    "50 arr x => (x + 1)": ("Int ~> Int", chain("arr x => (x + 1)", 50), 99, 270, 0),
-    "50 swaps of a pair": ("Int ~> (Int, Int)", f"({PAIRED} >>> {chain('arr (x, y) => (y, x)', 50)})", 101, 550, 102),
+    "50 arr x => (x + 1)": ("Int ~> Int", chain("arr x => (x + 1)", 50), 99, 120, 0),
+    "50 swaps of a pair": ("Int ~> (Int, Int)", f"({PAIRED} >>> {chain('arr (x, y) => (y, x)', 50)})", 101, 250, 2),
     "50 first iPre 0": ("Int ~> (Int, Int)", f"({PAIRED} >>> {chain('first iPre 0', 50)})", 151, 90, 3),
-    "running total": ("Int ~> Int", TIMED["total"], 2, None, None),
+    "running total": ("Int ~> Int", TIMED["total"], None, 2000, 4),
 }
 
 
@@ -84,7 +85,7 @@ def main():
             sample = a_sample(instructions, words)
             allocated = a_sample(allocations, words)
             line = line or sample
-            node = "" if most is None else f"{(sample - line) / (nodes - 1):.0f}"
+            node = "" if most is None or nodes is None else f"{(sample - line) / (nodes - 1):.0f}"
             print(row(name, f"{sample:.0f}", node, most or "", f"{allocated:.1f}", "" if most_allocated is None else most_allocated))
 
 

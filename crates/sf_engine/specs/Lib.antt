@@ -1,4 +1,3 @@
 pub mod Histories
-pub mod Keeping
 pub mod Running
 pub mod Sampling

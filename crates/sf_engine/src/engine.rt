@@ -1,7 +1,6 @@
 //! Engines.
 ghost use Rattle.std.specs.Prelude.{◌≡◌, ◌≤◌, IfOk, None, Some};
 ghost use Rattle.sf_law.specs.Plans.{IsPlainPlan};
-ghost use Rattle.sf_engine.specs.Keeping.{IsReady};
 
 use sf_check::Checked;
 use sf_func::Holds;
@@ -67,7 +66,6 @@ pub struct Engine<F: Holds> {
     last: Option<Value>,
     stopped: Option<Fault>,
     ghost within: { time ≤ 4000000000000000 },
-    ghost ready: { stopped ≡ None → ∥ IsReady (F.answers functions) plan state input last ∥₁ },
 }
 
 const LONGEST_STEP: u64 = 3_600_000;
@@ -78,28 +76,23 @@ impl<F: Holds> Engine<F> {
     ghost use Rattle.std.specs.Prelude.{◌≡◌, ◌≢◌, ◌+◌, ◌≤◌, ◌↔◌, ℕ, [], ◌∷◌, Some, None, IfOk, IfErr, IfSome, IsTrue};
     ghost use Rattle.sf_value.specs.Values.{HasKind};
     ghost use Rattle.sf_value.specs.declared.fault.Fault.{Fault};
-    ghost use Rattle.sf_func.specs.Registries.{KeepTheirTypes};
     ghost use Rattle.sf_term.specs.Trees.{Template};
-    ghost use Rattle.sf_term.specs.Arena.{templates_of};
     ghost use Rattle.sf_mean.specs.Lives.{Life, step, time};
     ghost use Rattle.sf_mean.specs.Meaning.{Network};
     ghost use Rattle.sf_mean.specs.Networks.{network_of};
-    ghost use Rattle.sf_mean.specs.Typing.{Accepted};
     ghost use Rattle.sf_check.specs.Accepting.{program_of, checked_main};
     ghost use Rattle.sf_engine.specs.Histories.{IsHistory, CanWait, after_start, after_step};
     ghost use Rattle.sf_engine.specs.Running.{Runs, IsStopped, StopsWith, time_of, input_kind, last_of, MayStart, MayStep};
     ghost use Rattle.sf_engine.specs.Sampling.{Sampled, Starts, Advances};
 
-    /// An engine before its start, of a network that is accepted with these functions (`Checked::fits` tells): what they
-    /// answer has their types. For want of memory it hands both back.
+    /// An engine before its start. Its network may have been accepted with other functions: each sample is what its meaning
+    /// with these gives. For want of memory it hands both back.
     pub fn new(
         alloc: Global,
         checked: Checked,
         functions: F,
         mode: Mode,
     ) -> Result<Engine<F>, (Checked, F)>
-        requires fits { Accepted (F.types functions) (templates_of (program_of checked)) }
-        requires typed { KeepTheirTypes (F.types functions) (F.answers functions) }
         ensures runs { IfOk result (λ e. Runs e (network_of (F.answers functions) (program_of checked)) (checked_main checked) []) }
         ensures handed_back { IfErr result (λ back. (back.0 ≡ checked) × (back.1 ≡ functions)) }
     {
@@ -240,9 +233,7 @@ impl<F: Holds> Engine<F> {
 
     /// The sample at the next step of the history.
     fn sample(&mut self, dt: u64, input: Value) -> Result<Sample, Fault>
-        requires time { time_of self.old + dt ≤ 4000000000000000 }
-        requires going { self.old.stopped ≡ None }
-        requires typed { ∥ HasKind input self.old.input ∥₁ }
+        requires { time_of self.old + dt ≤ 4000000000000000 }
         ensures { (n : Network) (m : Template) (L : Life) → Runs self.old n m L → IsHistory m.input (step dt input ∷ L) →
             Sampled n m (step dt input ∷ L) result self.new }
     {

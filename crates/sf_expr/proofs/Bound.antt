@@ -5,15 +5,14 @@ use Rattle.sf_refusal.specs.declared.spot.Spot.{Spot}
 use Rattle.sf_refusal.specs.declared.refusal.Refusal.{Refusal}
 use Rattle.sf_refusal.specs.Refusals.{OrMemory}
 use Rattle.sf_refusal.proofs.Explained.{or_memory}
-use Rattle.sf_expr.specs.Expressions.{Pattern, unnamed, named, both, Expression, called}
+use Rattle.sf_expr.specs.Expressions.{Pattern, unnamed, named, both}
 use Rattle.sf_expr.specs.Refusals.{BindRefused}
 use Rattle.sf_expr.specs.Patterns.{PlacedPattern, placed_both, pattern_of}
-use Rattle.sf_func.specs.Registries.{TypesByName, AnswersByName}
+use Rattle.sf_func.specs.Registries.{TypesByName}
 use Rattle.sf_expr.specs.Typing.{Names, only_functions, typed_name, type_of_name, functions_of, with_types, AddsNames, adds_nothing, adds_name, adds_both, Binds}
 use Rattle.std.proofs.lemmas.List.Sums.{fold-append}
 use Rattle.std.specs.Prelude.{bytes_eq}
-use Rattle.sf_value.specs.Values.{Name, Data, first_of, second_of}
-use Rattle.sf_expr.specs.Evaluation.{Evaluated, answer, ◌>>=◌, Scope, no_names, value_name, functions_in, granted, eval, with_functions, value_of, is_bound, bound_in}
+use Rattle.sf_value.specs.Values.{Name}
 use Rattle.sf_expr.specs.Scopes.{names_of, with_name}
 use Rattle.sf_expr.specs.declared.typed_name.TypedName.{TypedName}
 use Rattle.sf_expr.specs.declared.typing.TypeScope as types
@@ -30,32 +29,7 @@ pub names_pushed : (old new : types.TypeScope) (n : Option TypedName) → new.na
 unfolding names_of
 names_pushed old new n e = ap (λ ns. fold with_name (only_functions []) ns) e ∙ fold-append with_name (only_functions []) old.names.items (n ∷ [])
 
--- a pattern binds the same names where there are functions
-pub bound_with : (f : AnswersByName) (p : Pattern) (d : Data) (s : Scope) → with_functions f (bound_in p d s) ≡ bound_in p d (with_functions f s)
-bound_with f unnamed d s = refl
-bound_with f (named x) d s = refl
-bound_with f (both p q) d s = bound_with f q (second_of d) (bound_in p (first_of d) s) ∙ ap (λ (s : Scope). bound_in q (second_of d) s) (bound_with f p (first_of d) s)
-
-functions_given : (f : AnswersByName) (s : Scope) → functions_in (with_functions f s) ≡ f
-functions_given f (no_names g) = refl
-functions_given f (value_name x d s) = functions_given f s
-
--- a call is worth what its function answers
-pub called_worth : (s : Scope) (f : AnswersByName) (g n : Name) (i : Expression) (a : Data) (o : Option Data) → eval i (with_functions f s) ≡ answer a → n ≡ g → f n a ≡ o → eval (called g i) (with_functions f s) ≡ granted o
-called_worth s f g n i a o e m q =
-    ap (λ (w : Evaluated Data). w >>= λ a. granted (functions_in (with_functions f s) g a)) e
-    ∙ ap (λ (h : AnswersByName). granted (h g a)) (functions_given f s)
-    ∙ ap granted (ap (λ (n : Name). f n a) (sym m) ∙ q)
-
--- a name is worth the same where there are functions
-pub value_with : (f : AnswersByName) (x : Name) (s : Scope) → value_of x (with_functions f s) ≡ value_of x s
-value_with f x (no_names g) = refl
-value_with f x (value_name y d s) = ap (λ (r : Data). cond (bytes_eq x y) d r) (value_with f x s)
-
-pub is_bound_with : (f : AnswersByName) (x : Name) (s : Scope) → is_bound x (with_functions f s) ≡ is_bound x s
-is_bound_with f x (no_names g) = refl
-is_bound_with f x (value_name y d s) = ap (λ (b : Bool). cond (bytes_eq x y) true b) (is_bound_with f x s)
-
+-- the functions are those that were given
 pub functions_with : (fs : TypesByName) (R : Names) → functions_of (with_types fs R) ≡ fs
 functions_with fs (only_functions gs) = refl
 functions_with fs (typed_name y t R) = functions_with fs R

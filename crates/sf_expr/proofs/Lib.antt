@@ -3,7 +3,6 @@ pub mod Sound
 pub mod Bound
 pub mod Entered
 pub mod Typed
-pub mod Evaluating
 pub mod Apart
 pub mod Called
 pub mod Judged

@@ -1,5 +1,5 @@
 -- What expressions are worth.
-use Rattle.std.specs.Prelude.{Bool, true, false, cond, Option, Some, None, bytes_eq}
+use Rattle.std.specs.Prelude.{cond, Option, Some, None, bytes_eq}
 use Rattle.sf_value.specs.Values.{Name, Data, unit, truth, number, text, pair, no_event, first_of, second_of}
 use Rattle.sf_value.specs.declared.fault.ValueFault.TheVariants as faults
 use Rattle.sf_func.specs.Registries.{AnswersByName}
@@ -18,33 +18,16 @@ abbrev pub functions_in : Scope → AnswersByName
 functions_in (no_names f) = f
 functions_in (value_name x d scope) = functions_in scope
 
--- the names of a scope, with these functions
-abbrev pub with_functions : AnswersByName → Scope → Scope
-with_functions f (no_names g) = no_names f
-with_functions f (value_name x d scope) = value_name x d (with_functions f scope)
-
 -- the value of a name
 abbrev pub value_of : Name → Scope → Data
 value_of x (no_names f) = nonsense
 value_of x (value_name y d scope) = cond (bytes_eq x y) d (value_of x scope)
-
--- whether a name is bound
-abbrev pub is_bound : Name → Scope → Bool
-is_bound x (no_names f) = false
-is_bound x (value_name y d scope) = cond (bytes_eq x y) true (is_bound x scope)
 
 -- the scope inside a pattern that a value was bound to
 abbrev pub bound_in : Pattern → Data → Scope → Scope
 bound_in unnamed d scope = scope
 bound_in (named x) d scope = value_name x d scope
 bound_in (both p q) d scope = bound_in q (second_of d) (bound_in p (first_of d) scope)
-
--- whether a pattern fits a value: one of two parts fits a pair alone, whose parts its parts fit
-abbrev pub pattern_fits : Pattern → Data → Bool
-pattern_fits unnamed d = true
-pattern_fits (named x) d = true
-pattern_fits (both p q) (pair a b) = cond (pattern_fits p a) (pattern_fits q b) false
-pattern_fits (both p q) d = false
 
 -- a literal's value
 abbrev pub literal_value : Literal → Data

@@ -8,11 +8,9 @@ pub mod LiteralCodes
 pub mod Constants
 pub mod Typing
 pub mod Soundness
-pub mod Bindings
 pub mod Scopes
 pub mod Entries
 pub mod Arena
-pub mod Answers
 pub mod Refusals
 pub mod Laws
 pub mod Inference

@@ -10,11 +10,3 @@ use Rattle.sf_expr.specs.Typing.{Names, only_functions, typed_name, HasType, Fun
 pub data ScopeHas : Scope → Names → Type 0 where
   has_no_names : {f : AnswersByName} {fs : TypesByName} → KeepTheirTypes fs f → ScopeHas (no_names f) (only_functions fs)
   has_name : {x : Name} {v : Data} {t : Kind} {s : Scope} {R : Names} → HasKind v t → ScopeHas s R → ScopeHas (value_name x v s) (typed_name x t R)
-
--- An expression has a type where the names have these values.
-pub data IsTypedIn (s : Scope) (e : Expression) : Type 0 where
-  typed_in : {R : Names} {t : Kind} → ScopeHas s R → HasType R e t → IsTypedIn s e
-
--- A function takes a value, where the names have these values.
-pub data TakesValue (s : Scope) (f : Function) (x : Data) : Type 0 where
-  takes_value : {R : Names} {a b : Kind} → ScopeHas s R → FunctionTakes R f a b → HasKind x a → TakesValue s f x

@@ -11,7 +11,7 @@ use Rattle.sf_expr.specs.Arena.{expression, function_at, pattern_at, body_at, Is
 use Rattle.sf_term.specs.declared.node.TermId.{TermId}
 use Rattle.sf_term.specs.declared.node.Node.{Node}
 use Rattle.sf_term.specs.declared.node.Node.TheVariants as ast
-use Rattle.sf_term.specs.declared.node.Primitive.TheVariants as primitives
+use Rattle.sf_term.specs.declared.node.Primitive.{Primitive}
 use Rattle.sf_term.specs.declared.program.Program.{Program}
 use Rattle.sf_term.specs.Trees.{Term, Template, Templates, primitive, joined, sided, headed, with_value, arrow}
 use Rattle.sf_term.specs.Headers.{Header as TermHeader}
@@ -19,10 +19,12 @@ use Rattle.sf_term.specs.Arena.{term_count, tree as term, expression_under, func
 use Rattle.sf_mean.specs.Networks.{network_of}
 use Rattle.sf_term.proofs.Kept.{term_past, expression_in, function_at_in}
 use Rattle.sf_law.specs.declared.node.PlanId.{PlanId}
+use Rattle.sf_law.specs.declared.node.PlanNode.{PlanNode}
+use Rattle.sf_law.specs.declared.node.PlanPrimitive.{PlanPrimitive}
 use Rattle.sf_law.specs.declared.plan.Plan.{Plan}
-use Rattle.sf_law.specs.Entries.{parts_end, is_whole}
-use Rattle.sf_law.specs.Arena.{plan_expressions, node_count, plan_tree, plan_headers, plan_template, network_of_plan, BuildsPlan, builds_bare, builds_with_value, builds_arrow, builds_joined, builds_sided, builds_headed, KeepsPlan, AddsNode}
-use Rattle.sf_law.specs.Copies.{plan_id, plan_node, plan_header, ShowsTerms}
+use Rattle.sf_law.specs.Entries.{primitive_over, parts_end, is_whole}
+use Rattle.sf_law.specs.Arena.{plan_expressions, node_count, plan_tree, plan_headers, plan_template, network_of_plan, BuildsPlan, builds_primitive, builds_joined, builds_sided, builds_headed, KeepsPlan, AddsNode}
+use Rattle.sf_law.specs.Copies.{plan_id, CopiesPrimitive, copies_bare, copies_with_value, copies_arrow, CopiesNode, copies_primitive, copies_joined, copies_sided, copies_headed, plan_header, ShowsTerms}
 use Rattle.sf_law.proofs.Kept.{tree_past}
 
 -- a plan shows a program's terms below a number
@@ -30,18 +32,18 @@ abbrev pub ShowsBelow : Program → Plan → ℕ → Type 0
 ShowsBelow p q i = (t : TermId) → t.0 < i → plan_tree q (plan_id t) ≡ term p t
 
 -- a node's parts are below a number where the program's are
-pub parts_fit : (n : Node) (i : ℕ) → TermPartsBelow n i → parts_end (plan_node n) ≤ i
-parts_fit (ast.Primitive q) i h = omega arith
-parts_fit (ast.Joined j a b) i h = omega (arith, h.0, h.1)
-parts_fit (ast.Sided d a) i h = omega arith
-parts_fit (ast.Headed k e a) i h = omega arith
+pub parts_fit : (n : Node) (m : PlanNode) (i : ℕ) → CopiesNode n m → TermPartsBelow n i → parts_end m ≤ i
+parts_fit _ _ i (copies_primitive c) h = omega arith
+parts_fit _ _ i copies_joined h = omega (arith, h.0, h.1)
+parts_fit _ _ i copies_sided h = omega arith
+parts_fit _ _ i copies_headed h = omega arith
 
 -- no program has a pipeline
-pub no_pipeline : (n : Node) → IsTrue (is_whole (plan_node n))
-no_pipeline (ast.Primitive q) = refl
-no_pipeline (ast.Joined j a b) = refl
-no_pipeline (ast.Sided d a) = refl
-no_pipeline (ast.Headed k e a) = refl
+pub no_pipeline : (n : Node) (m : PlanNode) → CopiesNode n m → IsTrue (is_whole m)
+no_pipeline _ _ (copies_primitive c) = refl
+no_pipeline _ _ copies_joined = refl
+no_pipeline _ _ copies_sided = refl
+no_pipeline _ _ copies_headed = refl
 
 module _ (p : Program) (q : Plan) (copy : IsCopy (program_expressions p) (plan_expressions q)) where
   value_same : (e : ExprId) → expression (plan_expressions q) e ≡ expression_under p e
@@ -53,19 +55,22 @@ module _ (p : Program) (q : Plan) (copy : IsCopy (program_expressions p) (plan_e
       ap₂ (λ r b. function (pattern_of r) (expression (plan_expressions q) b)) (copy.patterns f) (copy.bodies f)
       ∙ ap (λ v. function (pattern_of (pattern_at x f)) v) (copy.trees (body_at x f)) ∙ function_at_in p f
 
+  same_primitive : (a : Primitive) (b : PlanPrimitive) → CopiesPrimitive a b → primitive (primitive_over (plan_expressions q) b) ≡ term_of p (ast.Primitive a)
+  same_primitive _ _ copies_bare = refl
+  same_primitive _ _ (copies_with_value {k} {e}) = ap (λ v. primitive (with_value k v)) (value_same e)
+  same_primitive _ _ (copies_arrow {f}) = ap (λ v. primitive (arrow v)) (function_same f)
+
   -- the same node stands for the same term
-  same_term : (n : Node) (u : Term) (i : ℕ) → TermPartsBelow n i → ShowsBelow p q i → BuildsPlan q (plan_node n) u → u ≡ term_of p n
-  same_term (ast.Primitive (primitives.Bare k)) u i below shows builds_bare = refl
-  same_term (ast.Primitive (primitives.WithValue k e)) u i below shows builds_with_value = ap (λ v. primitive (with_value k v)) (value_same e)
-  same_term (ast.Primitive (primitives.Arrow f)) u i below shows builds_arrow = ap (λ v. primitive (arrow v)) (function_same f)
-  same_term (ast.Joined j a b) u i below shows builds_joined = ap₂ (λ f g. joined j f g) (shows a below.0) (shows b below.1)
-  same_term (ast.Sided d a) u i below shows builds_sided = ap (λ f. sided d f) (shows a below)
-  same_term (ast.Headed k e a) u i below shows builds_headed = ap₂ (λ v f. headed k v f) (value_same e) (shows a below)
+  same_term : (n : Node) (m : PlanNode) (u : Term) (i : ℕ) → CopiesNode n m → TermPartsBelow n i → ShowsBelow p q i → BuildsPlan q m u → u ≡ term_of p n
+  same_term _ _ _ i (copies_primitive {q = a} {r = b} c) below shows (builds_primitive k) = same_primitive a b c
+  same_term _ _ _ i (copies_joined {j} {a} {b}) below shows builds_joined = ap₂ (λ f g. joined j f g) (shows a below.0) (shows b below.1)
+  same_term _ _ _ i (copies_sided {d} {a}) below shows builds_sided = ap (λ f. sided d f) (shows a below)
+  same_term _ _ _ i (copies_headed {h = k} {e} {c} {a}) below shows (builds_headed w) = ap₂ (λ v f. headed k v f) (value_same e) (shows a below)
 
 -- one more term is shown
-pub shows_next : (p : Program) (old new : Plan) (n : Node) (t : TermId) (a : PlanId) (i : ℕ) → IsCopy (program_expressions p) (plan_expressions old) → node_count old ≡ i → t.0 ≡ i → ShowsBelow p old i
-    → term p t ≡ term_of p n → TermPartsBelow n i → AddsNode old new a (plan_node n) → KeepsPlan old new → ShowsBelow p new (i + 1)
-shows_next p old new n t a i copy count at shows was below added kept u h = ⊎_elim before here (cases_lt u.0 i)
+pub shows_next : (p : Program) (old new : Plan) (n : Node) (m : PlanNode) (t : TermId) (a : PlanId) (i : ℕ) → IsCopy (program_expressions p) (plan_expressions old) → node_count old ≡ i → t.0 ≡ i → ShowsBelow p old i
+    → term p t ≡ term_of p n → TermPartsBelow n i → CopiesNode n m → AddsNode old new a m → KeepsPlan old new → ShowsBelow p new (i + 1)
+shows_next p old new n m t a i copy count at shows was below same_node added kept u h = ⊎_elim before here (cases_lt u.0 i)
   where
     before : u.0 < i → plan_tree new (plan_id u) ≡ term p u
     before b = kept.trees (plan_id u) (omega (arith, count)) ∙ shows u b
@@ -75,7 +80,7 @@ shows_next p old new n t a i copy count at shows was below added kept u h = ⊎_
         let same : u.0 ≡ i = omega arith in
         let id : plan_id u ≡ a = ap (λ k. record { 0 = k }) (same ∙ sym count ∙ sym added.next) in
         let term_id : t ≡ u = ap (λ k. record { 0 = k }) (at ∙ sym same) in
-        ap (λ a. plan_tree new a) id ∙ same_term p old copy n (plan_tree new a) i below shows added.builds ∙ sym was ∙ ap (λ t. term p t) term_id
+        ap (λ a. plan_tree new a) id ∙ same_term p old copy n m (plan_tree new a) i same_node below shows added.builds ∙ sym was ∙ ap (λ t. term p t) term_id
 
 -- all terms are shown
 pub shows_all : (p : Program) (q : Plan) (i : ℕ) → term_count p ≤ i → node_count q ≡ i → ShowsBelow p q i → ShowsTerms p q

@@ -6,31 +6,28 @@ use Rattle.std.proofs.lemmas.Bool.{cases_lt}
 use Rattle.sf_arena.specs.Folded.{tree_at}
 use Rattle.sf_arena.specs.Items.{Added}
 use Rattle.sf_arena.proofs.Grown.{trees-length, added_counted, added_item, item_kept, tree_kept, tree_added}
-use Rattle.sf_term.specs.declared.node.Primitive.TheVariants as primitives
 use Rattle.sf_term.specs.Entries.{identity_term}
 use Rattle.sf_law.specs.declared.node.PlanId.{PlanId}
 use Rattle.sf_law.specs.declared.node.PlanNode.{PlanNode}
 use Rattle.sf_law.specs.declared.node.PlanNode.TheVariants as nodes
 use Rattle.sf_law.specs.declared.plan.Plan.{Plan}
-use Rattle.sf_law.specs.Entries.{plan_over, parts_end, is_whole, identity_node, node_among, plan_terms, plan_term}
-use Rattle.sf_law.specs.Arena.{node_count, plan_node_at, plan_tree, BuildsPlan, builds_bare, builds_with_value, builds_arrow, builds_joined, builds_sided, builds_headed, builds_pipeline, KeepsPlan, AddsNode}
+use Rattle.sf_law.specs.Entries.{IsCoded, plan_over, parts_end, is_whole, identity_node, node_among, plan_terms, plan_term}
+use Rattle.sf_law.specs.Arena.{node_count, plan_node_at, plan_tree, BuildsPlan, builds_primitive, builds_joined, builds_sided, builds_headed, builds_pipeline, KeepsPlan, AddsNode}
 use Rattle.sf_law.proofs.Placed.{term-built}
 
 -- a node stands for the term that is made of it
-made : (p : Plan) (n : PlanNode) → IsTrue (is_whole n) → BuildsPlan p n (plan_over p.expressions (plan_terms p.expressions p.nodes.items) n)
+made : (p : Plan) (n : PlanNode) → IsTrue (is_whole n) → IsCoded p.expressions n → BuildsPlan p n (plan_over p.expressions (plan_terms p.expressions p.nodes.items) n)
 unfolding plan_tree tree_at
-made p (nodes.Primitive (primitives.Bare k)) w = builds_bare
-made p (nodes.Primitive (primitives.WithValue k e)) w = builds_with_value
-made p (nodes.Primitive (primitives.Arrow f)) w = builds_arrow
-made p (nodes.Joined j a b) w = builds_joined
-made p (nodes.Sided d a) w = builds_sided
-made p (nodes.Headed h e a) w = builds_headed
-made p (nodes.Pipeline v) w = builds_pipeline w
+made p (nodes.Primitive q) w k = builds_primitive k
+made p (nodes.Joined j a b) w k = builds_joined
+made p (nodes.Sided d a) w k = builds_sided
+made p (nodes.Headed h e c a) w k = builds_headed k
+made p (nodes.Pipeline v) w k = builds_pipeline w
 
 -- a node stands for the term at its id
 pub builds : (p : Plan) (a : PlanId) → BuildsPlan p (plan_node_at p a) (plan_tree p a)
 unfolding plan_node_at plan_tree
-builds p a = subst (λ t. BuildsPlan p (node_among p.nodes.items a.0) t) (sym (term-built p.expressions p.nodes.items a.0 p.arena)) (made p (node_among p.nodes.items a.0) (p.arena.wholes a.0))
+builds p a = subst (λ t. BuildsPlan p (node_among p.nodes.items a.0) t) (sym (term-built p.expressions p.nodes.items a.0 p.arena)) (made p (node_among p.nodes.items a.0) (p.arena.wholes a.0) (p.arena.coded a.0))
 
 -- the parts of a node stand before it
 pub parts_below : (p : Plan) (a : PlanId) → parts_end (plan_node_at p a) ≤ a.0
@@ -68,11 +65,11 @@ same_keeps old new same nodes = record {
 }
 
 -- a node that is added adds its term
-pub adds_added : (old new : Plan) (n : PlanNode) (a : PlanId) → new.expressions ≡ old.expressions → Added old.nodes.items new.nodes.items n a.0 → IsTrue (is_whole n) → AddsNode old new a n
+pub adds_added : (old new : Plan) (n : PlanNode) (a : PlanId) → new.expressions ≡ old.expressions → Added old.nodes.items new.nodes.items n a.0 → IsTrue (is_whole n) → IsCoded old.expressions n → AddsNode old new a n
 unfolding plan_node_at plan_tree
-adds_added old new n a same added whole = record {
+adds_added old new n a same added whole coded = record {
   next = added.next;
   counted = added_counted _ _ _ _ added;
   is = added_item _ _ _ _ added identity_node;
-  builds = subst (λ t. BuildsPlan old n t) (sym (ap (λ x. plan_term x new.nodes.items a.0) same ∙ tree_added _ _ _ _ added (plan_over old.expressions) identity_term)) (made old n whole);
+  builds = subst (λ t. BuildsPlan old n t) (sym (ap (λ x. plan_term x new.nodes.items a.0) same ∙ tree_added _ _ _ _ added (plan_over old.expressions) identity_term)) (made old n whole coded);
 }

@@ -6,13 +6,12 @@ use Rattle.sf_arena.specs.Items.{Added}
 use Rattle.sf_arena.proofs.Grown.{each_item, tree_made}
 use Rattle.sf_expr.specs.declared.exprs.Exprs.{Exprs}
 use Rattle.sf_expr.specs.Arena.{expression}
-use Rattle.sf_term.specs.declared.node.Primitive.TheVariants as primitives
 use Rattle.sf_term.specs.Trees.{Term, joined, sided, headed}
 use Rattle.sf_term.specs.Entries.{identity_term, term_among}
 use Rattle.sf_law.specs.declared.node.PlanId.{PlanId}
 use Rattle.sf_law.specs.declared.node.PlanNode.{PlanNode}
 use Rattle.sf_law.specs.declared.node.PlanNode.TheVariants as nodes
-use Rattle.sf_law.specs.Entries.{pipeline, plan_over, ids_end, parts_end, is_whole, identity_node, node_among, plan_terms, plan_term, ArePlanNodes}
+use Rattle.sf_law.specs.Entries.{pipeline, IsCoded, plan_over, ids_end, parts_end, is_whole, identity_node, node_among, plan_terms, plan_term, ArePlanNodes}
 
 part : (ts more : List Term) (i : ℕ) → suc i ≤ length ts → term_among (ts ++ more) i ≡ term_among ts i
 part ts more i h = get_or_append_left ts more identity_term i (omega arith)
@@ -23,28 +22,27 @@ all-parts ts more (a ∷ ids) h = ap₂ (λ t us. t ∷ us) (part ts more a.0 (o
 
 -- a node's term depends on its parts alone
 local : (x : Exprs) (ts more : List Term) (n : PlanNode) → parts_end n ≤ length ts → plan_over x (ts ++ more) n ≡ plan_over x ts n
-local x ts more (nodes.Primitive (primitives.Bare k)) h = refl
-local x ts more (nodes.Primitive (primitives.WithValue k e)) h = refl
-local x ts more (nodes.Primitive (primitives.Arrow f)) h = refl
+local x ts more (nodes.Primitive q) h = refl
 local x ts more (nodes.Joined j a b) h = ap₂ (λ s t. joined j s t) (part ts more a.0 (omega arith)) (part ts more b.0 (omega arith))
 local x ts more (nodes.Sided d a) h = ap (λ t. sided d t) (part ts more a.0 h)
-local x ts more (nodes.Headed k e a) h = ap (λ t. headed k (expression x e) t) (part ts more a.0 h)
+local x ts more (nodes.Headed k e c a) h = ap (λ t. headed k (expression x e) t) (part ts more a.0 h)
 local x ts more (nodes.Pipeline v) h = ap pipeline (all-parts ts more v.items h)
 
 -- nothing is an arena
-pub arena_empty : ArePlanNodes []
-arena_empty = record { in_order = λ i. omega arith; wholes = λ i. refl }
+pub arena_empty : (x : Exprs) → ArePlanNodes x []
+arena_empty x = record { in_order = λ i. omega arith; wholes = λ i. refl; coded = λ i. tt }
 
 -- the arena, where it may be that a node was put behind
-pub arena_put : (old new : List PlanNode) (n : PlanNode) (put : Bool) → new ≡ cond put (old ++ n ∷ []) old → ArePlanNodes old → parts_end n ≤ length old → IsTrue (is_whole n) → ArePlanNodes new
-arena_put old new n true e a below whole =
+pub arena_put : (x : Exprs) (old new : List PlanNode) (n : PlanNode) (put : Bool) → new ≡ cond put (old ++ n ∷ []) old → ArePlanNodes x old → parts_end n ≤ length old → IsTrue (is_whole n) → IsCoded x n → ArePlanNodes x new
+arena_put x old new n true e a below whole coded =
     let added : Added old new n (length old) = record { next = refl; grown = e } in
     record {
       in_order = each_item old new n _ added (λ i m. parts_end m ≤ i) identity_node a.in_order below;
       wholes = each_item old new n _ added (λ i m. IsTrue (is_whole m)) identity_node a.wholes whole;
+      coded = each_item old new n _ added (λ i m. IsCoded x m) identity_node a.coded coded;
     }
-arena_put old new n false e a below whole = subst (λ ns. ArePlanNodes ns) (sym e) a
+arena_put x old new n false e a below whole coded = subst (λ ns. ArePlanNodes x ns) (sym e) a
 
 -- the term at a place is made over all terms
-pub term-built : (x : Exprs) (ns : List PlanNode) (i : ℕ) → ArePlanNodes ns → plan_term x ns i ≡ plan_over x (plan_terms x ns) (node_among ns i)
+pub term-built : (x : Exprs) (ns : List PlanNode) (i : ℕ) → ArePlanNodes x ns → plan_term x ns i ≡ plan_over x (plan_terms x ns) (node_among ns i)
 term-built x ns i a = tree_made (plan_over x) parts_end identity_node (local x) ns identity_term (λ ts. refl) a.in_order i

@@ -3,24 +3,23 @@ use Rattle.std.specs.Prelude.{◌≡◌, ℕ, ◌+◌, ◌<◌, ◌≤◌, List,
 use Rattle.std.specs.declared.alloc.Global.{Global}
 use Rattle.sf_func.specs.Registries.{AnswersByName}
 use Rattle.sf_expr.specs.declared.exprs.ExprId.{ExprId}
-use Rattle.sf_expr.specs.declared.exprs.FunctionId.{FunctionId}
 use Rattle.sf_expr.specs.declared.exprs.Exprs.{Exprs}
-use Rattle.sf_expr.specs.Expressions.{Expression, Function}
-use Rattle.sf_expr.specs.Arena.{expression, function_at}
-use Rattle.sf_term.specs.declared.form.Bare.{Bare}
-use Rattle.sf_term.specs.declared.form.WithValue.{WithValue}
+use Rattle.sf_expr.specs.Expressions.{Expression}
+use Rattle.sf_expr.specs.Arena.{expression}
 use Rattle.sf_term.specs.declared.form.Join.{Join}
 use Rattle.sf_term.specs.declared.form.Side.{Side}
 use Rattle.sf_term.specs.declared.form.Heading.{Heading}
-use Rattle.sf_term.specs.declared.node.Primitive.TheVariants as primitives
-use Rattle.sf_term.specs.Trees.{Term, primitive, joined, sided, headed, bare, with_value, arrow, Template, Templates}
+use Rattle.sf_code.specs.declared.code.Code.{Code}
+use Rattle.sf_code.specs.Worth.{IsCodeOf}
+use Rattle.sf_term.specs.Trees.{Term, primitive, joined, sided, headed, Template, Templates}
 use Rattle.sf_mean.specs.Meaning.{Network}
 use Rattle.sf_law.specs.declared.node.PlanId.{PlanId}
 use Rattle.sf_law.specs.declared.node.PlanNode.{PlanNode}
+use Rattle.sf_law.specs.declared.node.PlanPrimitive.{PlanPrimitive}
 use Rattle.sf_law.specs.declared.node.PlanNode.TheVariants as nodes
 use Rattle.sf_law.specs.declared.plan.Plan.{Plan}
 use Rattle.sf_law.specs.Headers.{PlanHeader}
-use Rattle.sf_law.specs.Entries.{pipeline, node_among, plan_term}
+use Rattle.sf_law.specs.Entries.{primitive_over, IsCodedPrimitive, pipeline, node_among, plan_term}
 
 -- the number of an id
 abbrev pub plan_number : PlanId → ℕ
@@ -33,10 +32,6 @@ plan_expressions p = p.expressions
 -- the expression at an id; the number 0 where the plan holds none
 abbrev pub plan_expression_at : Plan → ExprId → Expression
 plan_expression_at p e = expression (plan_expressions p) e
-
--- the function at an id
-abbrev pub plan_function : Plan → FunctionId → Function
-plan_function p f = function_at (plan_expressions p) f
 
 -- how many terms a plan holds
 abbrev pub node_count : Plan → ℕ
@@ -74,14 +69,12 @@ network_of_plan f p = record { templates = plan_templates p; functions = f }
 abbrev pub plan_main : Plan → PlanId
 plan_main p = p.main
 
--- A node with the ids of its parts stands for a term with their trees.
+-- A node with the ids of its parts stands for a term with their trees; its code is that of its expression or its function.
 pub data BuildsPlan (p : Plan) : PlanNode → Term → Type 0 where
-  builds_bare : {k : Bare} → BuildsPlan p (nodes.Primitive (primitives.Bare k)) (primitive (bare k))
-  builds_with_value : {k : WithValue} {e : ExprId} → BuildsPlan p (nodes.Primitive (primitives.WithValue k e)) (primitive (with_value k (plan_expression_at p e)))
-  builds_arrow : {f : FunctionId} → BuildsPlan p (nodes.Primitive (primitives.Arrow f)) (primitive (arrow (plan_function p f)))
+  builds_primitive : {q : PlanPrimitive} → IsCodedPrimitive (plan_expressions p) q → BuildsPlan p (nodes.Primitive q) (primitive (primitive_over (plan_expressions p) q))
   builds_joined : {j : Join} {a b : PlanId} → BuildsPlan p (nodes.Joined j a b) (joined j (plan_tree p a) (plan_tree p b))
   builds_sided : {d : Side} {a : PlanId} → BuildsPlan p (nodes.Sided d a) (sided d (plan_tree p a))
-  builds_headed : {h : Heading} {e : ExprId} {a : PlanId} → BuildsPlan p (nodes.Headed h e a) (headed h (plan_expression_at p e) (plan_tree p a))
+  builds_headed : {h : Heading} {e : ExprId} {c : Code} {a : PlanId} → IsCodeOf (plan_expression_at p e) c → BuildsPlan p (nodes.Headed h e c a) (headed h (plan_expression_at p e) (plan_tree p a))
   builds_pipeline : {v : Vec PlanId Global} → IsTrue (nat_le 2 (length v.items)) → BuildsPlan p (nodes.Pipeline v) (pipeline (trees_at p v.items))
 
 -- Terms that a plan held are there as they were, over the same expressions.

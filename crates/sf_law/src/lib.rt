@@ -6,6 +6,6 @@ mod plain_plan;
 mod plan;
 mod template;
 
-pub use node::{PlanId, PlanNode};
+pub use node::{PlanId, PlanNode, PlanPrimitive};
 pub use plain_plan::plain;
 pub use plan::Plan;

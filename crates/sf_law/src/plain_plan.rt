@@ -3,15 +3,19 @@ ghost use Rattle.std.specs.Prelude.{◌≡◌, ◌<◌, [], map, IfOk, OnOk};
 ghost use Rattle.sf_expr.specs.Arena.{IsCopy};
 ghost use Rattle.sf_term.specs.Arena.{expressions_of as program_expressions, headers_of as program_headers};
 ghost use Rattle.sf_law.specs.declared.node.PlanId.{PlanId as PlanIdOf};
+ghost use Rattle.sf_law.specs.Entries.{IsCodedPrimitive, IsCoded};
 ghost use Rattle.sf_law.specs.Arena.{plan_expressions, node_count, plan_tree, plan_headers};
-ghost use Rattle.sf_law.specs.Copies.{plan_id as id_of, plan_node as node_of, plan_header, ShowsTerms};
+ghost use Rattle.sf_law.specs.Copies.{plan_id as id_of, CopiesPrimitive, CopiesNode, plan_header, ShowsTerms};
 ghost use Rattle.sf_law.specs.Plans.{IsPlainPlan};
 
-use crate::node::{PlanId, PlanNode};
+use crate::node::{PlanId, PlanNode, PlanPrimitive};
 use crate::plan::Plan;
 use sf_check::Checked;
-use sf_term::{Node, Program, TermId};
+use sf_code::{expression_code, function_code};
+use sf_expr::Exprs;
+use sf_term::{Node, Primitive, Program, TermId};
 use std::alloc::{AllocError, Global};
+use std::rc::Rc;
 
 /// The plan of an accepted network that is the network itself.
 pub fn plain(alloc: Global, checked: &Checked) -> Result<Plan, AllocError>
@@ -19,20 +23,22 @@ pub fn plain(alloc: Global, checked: &Checked) -> Result<Plan, AllocError>
 {
     let program = checked.program();
     let mut plan = Plan::new(alloc, program.expressions().clone_in(alloc)?);
-    copy_terms(&mut plan, program)?;
+    copy_terms(alloc, &mut plan, program)?;
     copy_templates(alloc, &mut plan, program)?;
     Ok(plan.with_main(plan_id(checked.main())))
 }
 
-// The terms of a program, under ids of the same numbers.
-fn copy_terms(plan: &mut Plan, program: &Program) -> Result<(), AllocError>
+// The terms of a program, under ids of the same numbers, each with its code.
+fn copy_terms(alloc: Global, plan: &mut Plan, program: &Program) -> Result<(), AllocError>
     requires empty { node_count plan.old ≡ 0 }
     requires same { IsCopy (program_expressions program.now) (plan_expressions plan.old) }
     ensures terms { OnOk result (ShowsTerms program.now plan.new) }
     ensures templates { plan_headers plan.new ≡ plan_headers plan.old }
 {
     for number in 0..program.len() {
-        plan.add(plan_node(program.node(program.term(number))))?;
+        let node = program.node(program.term(number));
+        let copy = plan_node(alloc, plan.expressions(), node)?;
+        plan.add(copy)?;
     }
     Ok(())
 }
@@ -52,17 +58,46 @@ fn copy_templates(alloc: Global, plan: &mut Plan, program: &Program) -> Result<(
     Ok(())
 }
 
-// A node with the ids of the same numbers.
-fn plan_node(node: Node) -> PlanNode
-    ensures { result ≡ node_of node }
+// A node with the ids of the same numbers, and with its code.
+fn plan_node(alloc: Global, exprs: &Exprs, node: Node) -> Result<PlanNode, AllocError>
+    ensures same { IfOk result (λ copy. CopiesNode node copy) }
+    ensures coded { IfOk result (λ copy. IsCoded exprs.now copy) }
 {
     match node {
-        Node::Primitive(primitive) => PlanNode::Primitive(primitive),
-        Node::Joined(join, first, second) => {
-            PlanNode::Joined(join, plan_id(first), plan_id(second))
+        Node::Primitive(primitive) => {
+            let primitive = plan_primitive(alloc, exprs, primitive)?;
+            Ok(PlanNode::Primitive(primitive))
         }
-        Node::Sided(side, part) => PlanNode::Sided(side, plan_id(part)),
-        Node::Headed(heading, value, part) => PlanNode::Headed(heading, value, plan_id(part)),
+        Node::Joined(join, first, second) => {
+            Ok(PlanNode::Joined(join, plan_id(first), plan_id(second)))
+        }
+        Node::Sided(side, part) => Ok(PlanNode::Sided(side, plan_id(part))),
+        Node::Headed(heading, value, part) => {
+            let code = expression_code(alloc, exprs, value)?;
+            Ok(PlanNode::Headed(heading, value, code, plan_id(part)))
+        }
+    }
+}
+
+// A primitive with its code.
+fn plan_primitive(
+    alloc: Global,
+    exprs: &Exprs,
+    primitive: Primitive,
+) -> Result<PlanPrimitive, AllocError>
+    ensures same { IfOk result (λ copy. CopiesPrimitive primitive copy) }
+    ensures coded { IfOk result (λ copy. IsCodedPrimitive exprs.now copy) }
+{
+    match primitive {
+        Primitive::Bare(form) => Ok(PlanPrimitive::Bare(form)),
+        Primitive::WithValue(form, value) => {
+            let code = expression_code(alloc, exprs, value)?;
+            Ok(PlanPrimitive::WithValue(form, value, code))
+        }
+        Primitive::Arrow(function) => {
+            let code = function_code(alloc, exprs, function)?;
+            Ok(PlanPrimitive::Arrow(function, Rc::new(alloc, code)?))
+        }
     }
 }
 

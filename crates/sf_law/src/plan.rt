@@ -1,15 +1,17 @@
 //! Plans.
 ghost use Rattle.std.specs.Prelude.{◌≡◌, [], ◌∷◌, ◌++◌, ◌≤◌, IsTrue, IfOk, OnOk, OnErr, string_bytes};
 ghost use Rattle.sf_term.specs.declared.form.Bare.TheVariants.{Identity as identity_form};
-ghost use Rattle.sf_term.specs.declared.node.Primitive.TheVariants.{Bare as bare_node};
+ghost use Rattle.sf_law.specs.declared.node.PlanPrimitive.TheVariants.{Bare as bare_node};
 ghost use Rattle.sf_law.specs.declared.node.PlanNode.TheVariants.{Primitive as primitive_node};
 ghost use Rattle.sf_law.specs.Headers.{PlanHeader};
-ghost use Rattle.sf_law.specs.Entries.{ArePlanNodes, is_whole, parts_end};
+ghost use Rattle.sf_law.specs.Entries.{ArePlanNodes, IsCoded, is_whole, parts_end};
+ghost use Rattle.sf_law.specs.Unique.{IsCoded-prop};
+ghost use Rattle.std.proofs.Props.{props};
 
-use crate::node::{PlanId, PlanNode};
+use crate::node::{PlanId, PlanNode, PlanPrimitive};
 use crate::template::PlanTemplate;
 use sf_expr::Exprs;
-use sf_term::{Bare, Primitive};
+use sf_term::Bare;
 use sf_value::Ty;
 use std::alloc::{AllocError, Global};
 
@@ -21,7 +23,7 @@ pub struct Plan {
     templates: Vec<PlanTemplate>,
     main: PlanId,
     identity: PlanNode,
-    ghost arena: { ArePlanNodes nodes.items },
+    ghost arena: { ArePlanNodes expressions nodes.items } by { Prim.hlevel (props, IsCoded-prop) },
     ghost same: { identity ≡ primitive_node (bare_node identity_form) },
 }
 
@@ -41,7 +43,7 @@ impl Plan {
             nodes: Vec::new(alloc),
             templates: Vec::new(alloc),
             main: PlanId(0),
-            identity: PlanNode::Primitive(Primitive::Bare(Bare::Identity)),
+            identity: PlanNode::Primitive(PlanPrimitive::Bare(Bare::Identity)),
         }
     }
 
@@ -49,6 +51,7 @@ impl Plan {
     pub(crate) fn add(&mut self, node: PlanNode) -> Result<PlanId, AllocError>
         requires held { parts_end node ≤ node_count self.old }
         requires whole { IsTrue (is_whole node) }
+        requires coded { IsCoded (plan_expressions self.old) node }
         ensures ok { IfOk result (λ id. AddsNode self.old self.new id node) }
         ensures err { OnErr result (node_count self.new ≡ node_count self.old) }
         ensures kept { KeepsPlan self.old self.new }

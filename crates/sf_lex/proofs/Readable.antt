@@ -6,7 +6,7 @@ use Rattle.std.proofs.lemmas.Bool.{and_parts}
 use Rattle.std.proofs.lemmas.Bool.Decides.{nat_tests}
 use Rattle.std.proofs.lemmas.List.{take_at, drop_at, get_or_at, take-take, take_all, take-append-drop}
 use Rattle.std.proofs.lemmas.Str.{IsUtf8-append, IsUtf8-take, IsUtf8-drop, IsUtf8-from_ascii, IsCharBoundary-before_ascii, IsCharBoundary-after_ascii}
-use Rattle.sf_lex.specs.Words.{is_letter, is_word_byte, is_word}
+use Rattle.sf_lex.specs.Words.{is_letter, is_word_byte, is_word, IsName}
 use Rattle.sf_lex.specs.Tokens.{Tok, keyword, name, number, text, symbol}
 use Rattle.sf_lex.specs.Cutting.{token, IsLongest, Quotes, quotes_end, quotes_plain, quotes_escaped, escape_of, IsValidLen, IsReadable}
 
@@ -53,6 +53,10 @@ name_small [] a i = omega arith
 name_small (b ∷ w) a zero = let h = and_parts (is_letter b) (list_all is_word_byte w) a in let e = h.0 in grind (arith, nat_tests)
 name_small (b ∷ w) a (suc i) = word_small w (and_parts (is_letter b) (list_all is_word_byte w) a).1 i
 
+-- a name is ASCII
+pub name_utf8 : (w : List ℕ) → IsName w → IsUtf8 w
+name_utf8 w named = IsUtf8-from_ascii w (name_small w named.word)
+
 valid_front : (bytes : List ℕ) (valid : ℕ) → IsValidLen bytes valid → IsUtf8 (take valid bytes)
 valid_front bytes valid (inl u) = subst (λ (x : List ℕ). IsUtf8 x) (sym (take_all valid bytes (omega (arith, u.1)))) u.0
 valid_front bytes valid (inr u) = u.front
@@ -75,7 +79,7 @@ text_utf8 bytes chars inner at valid n near v e q =
 
 pub readable : (bytes : List ℕ) (at valid n : ℕ) (t : Tok) → IsLongest (drop at bytes) (token t) n → at + n ≤ valid → IsValidLen bytes valid → IsReadable t
 readable bytes at valid n (keyword k) l near v = tt
-readable bytes at valid n (name x) l near v = IsUtf8-from_ascii x (name_small x l.is.1.word)
+readable bytes at valid n (name x) l near v = l.is.1
 readable bytes at valid n (number z) l near v = tt
 readable bytes at valid n (text chars) l near v = text_utf8 bytes chars l.is.0 at valid n near v l.is.1 l.is.2
 readable bytes at valid n (symbol s) l near v = tt

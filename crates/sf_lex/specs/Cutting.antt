@@ -154,10 +154,10 @@ pub record AreTokensTo (bytes : List ℕ) (at : ℕ) (found : List PlacedToken) 
   pub cut : IsCutTo bytes at
   pub shows : map seen found ≡ map (shown bytes) cut.found
 
--- the characters of a text are UTF-8, and a name is
+-- the characters of a text are UTF-8, and a name is one of the language
 abbrev pub IsReadable : Tok → Type 0
 IsReadable (text chars) = IsUtf8 chars
-IsReadable (name n) = IsUtf8 n
+IsReadable (name n) = IsName n
 IsReadable _ = Unit {0}
 
 -- a rule of the content of bytes, and not of their number

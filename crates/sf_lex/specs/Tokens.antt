@@ -4,6 +4,7 @@ use Rattle.std.specs.List.{suffix_len}
 use Rattle.std.specs.String.{string_bytes}
 use Rattle.sf_lex.specs.declared.word.Keyword.{Keyword}
 use Rattle.sf_lex.specs.declared.symbol.Symbol.{Symbol}
+use Rattle.sf_lex.specs.declared.name.Name.{Name}
 use Rattle.sf_lex.specs.declared.token.Token.{Token}
 use Rattle.sf_lex.specs.declared.token.Token.TheVariants as variants
 use Rattle.sf_refusal.specs.declared.spot.Spot.{Spot}
@@ -17,9 +18,13 @@ pub data Tok : Type 0 where
   text : List ℕ → Tok
   symbol : Symbol → Tok
 
+-- the bytes of a name
+abbrev pub name_bytes : Name → List ℕ
+name_bytes n = n.text.now
+
 abbrev pub token_of : Token → Tok
 token_of (variants.Keyword k) = keyword k
-token_of (variants.Name s) = name s.now
+token_of (variants.Name n) = name (name_bytes n)
 token_of (variants.Number z) = number z
 token_of (variants.Text s) = text (string_bytes s)
 token_of (variants.Symbol s) = symbol s

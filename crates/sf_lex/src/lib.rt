@@ -4,6 +4,7 @@
 mod byte;
 mod laws;
 mod lexer;
+mod name;
 mod piece;
 mod place;
 mod symbol;
@@ -13,6 +14,7 @@ mod word;
 
 pub use laws::tokens_or_a_breach;
 pub use lexer::tokens;
+pub use name::Name;
 pub use sf_refusal::{Refusal, Spot};
 pub use symbol::Symbol;
 pub use token::{PlacedToken, Token};

@@ -6,6 +6,7 @@ ghost use Rattle.sf_lex.specs.Cutting.{IsReadable};
 ghost use Rattle.sf_lex.specs.Scanning.{lexeme_of, start_of, next_of, next, in_range, within, word_next, digits_next, minus_next, text_next, symbol_next, symbol_of};
 
 use crate::byte::{begins_with_digit, is_blank, is_digit, is_letter, line_len, word_len};
+use crate::name::Name;
 use crate::symbol::{Symbol, symbol_of};
 use crate::text::{bad_escape, text_len, unescaped};
 use crate::token::Token;
@@ -13,7 +14,6 @@ use crate::word::{Keyword, keyword_of};
 use sf_decimal::{digits_at, signed};
 use sf_refusal::Rule;
 use std::alloc::{AllocError, Global};
-use std::str;
 
 /// What a first byte begins.
 #[derive(Clone, Copy)]
@@ -45,7 +45,7 @@ impl<'a> Lexeme<'a> {
     {
         match self {
             Lexeme::Keyword(keyword) => Ok(Token::Keyword(keyword)),
-            Lexeme::Name(name) => Ok(Token::Name(str::from_utf8(name).unwrap())),
+            Lexeme::Name(name) => Ok(Token::Name(Name::of_bytes(name))),
             Lexeme::Number(number) => Ok(Token::Number(number)),
             Lexeme::Text(body) => {
                 let chars = unescaped(alloc, body)?;

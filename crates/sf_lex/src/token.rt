@@ -1,12 +1,13 @@
+use crate::name::Name;
 use crate::symbol::Symbol;
 use crate::word::Keyword;
 use sf_refusal::Spot;
 
-/// A token. A name borrows the text that it stands in; a text holds its characters, without quotes and escapes.
+/// A token. A text holds its characters, without quotes and escapes.
 #[derive(Debug, Drop)]
 pub enum Token<'a> {
     Keyword(Keyword),
-    Name(&'a str),
+    Name(Name<'a>),
     Number(i64),
     Text(String),
     Symbol(Symbol),

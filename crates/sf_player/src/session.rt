@@ -1,7 +1,6 @@
 //! Runs from a network's text and an input to an output.
 ghost use Rattle.std.specs.Prelude.{◌≡◌, ℕ, ◌-◌, ◌<◌, ◌^◌, List, [], Option, ◌≢◌};
 ghost use Rattle.std.specs.Io.KnownBytes.{IsAtEnd};
-ghost use Rattle.sf_func.specs.Registries.{KeepTheirTypes};
 ghost use Rattle.sf_term.specs.Trees.{Template};
 ghost use Rattle.sf_term.specs.Arena.{templates_of};
 ghost use Rattle.sf_mean.specs.Meaning.{Network};
@@ -27,11 +26,11 @@ use std::io::{Read, Write};
 
 /// Plays the lines of an input through the network that a text is, and writes what its meaning gives for them.
 ///
-/// The network calls the functions of the registry, each of which answers values of its type. It is read and accepted first;
-/// where it is refused, nothing is read or written, and the end names the first rule that it breaks and the place where it
-/// breaks it. Each sample gives `> T VALUE`; the first fault or refused line, `! T FAULT` or `! line N REFUSAL`, ends the
-/// run. `Memory` is such a refusal only of a line whose value is read, or of line 1 before any is read. All output of a line
-/// is written and flushed before more is read.
+/// The network calls the functions of the registry. It is read and accepted first; where it is refused, nothing is read or
+/// written, and the end names the first rule that it breaks and the place where it breaks it. Each sample gives
+/// `> T VALUE`; the first fault or refused line, `! T FAULT` or `! line N REFUSAL`, ends the run. `Memory` is such a refusal
+/// only of a line whose value is read, or of line 1 before any is read. All output of a line is written and flushed before
+/// more is read.
 pub fn play<R: Read, W: Write>(
     alloc: Global,
     net: &[u8],
@@ -40,7 +39,6 @@ pub fn play<R: Read, W: Write>(
     functions: Registry,
     options: Options,
 ) -> PlayEnd
-    requires typed { KeepTheirTypes (⟦<Registry as Holds>⟧.types functions) (⟦<Registry as Holds>⟧.answers functions) }
     requires reads { failures_of reader.old < 2 ^ 64 - 1 }
     requires writes { failures_of writer.old < 2 ^ 64 - 1 }
     // What was read and written, by the meaning of the network.
@@ -67,7 +65,6 @@ fn play_accepted<F: Holds + Drop, R: Read, W: Write>(
     options: Options,
 ) -> PlayEnd
     requires fits { Accepted (F.types functions) (templates_of (program_of checked)) }
-    requires typed { KeepTheirTypes (F.types functions) (F.answers functions) }
     requires reads { failures_of reader.old < 2 ^ 64 - 1 }
     requires writes { failures_of writer.old < 2 ^ 64 - 1 }
     ensures told { (net : List ℕ) → IsNetworkText net (templates_of (program_of checked)) →

@@ -5,7 +5,6 @@ use Rattle.std.specs.declared.alloc.Global.{Global}
 use Rattle.sf_term.specs.declared.form.Join.{Join}
 use Rattle.sf_func.specs.Registries.{AnswersByName}
 use Rattle.sf_law.specs.declared.plan.Plan.{Plan}
-use Rattle.sf_law.specs.Arena.{plan_expressions}
 use Rattle.sf_term.specs.Trees.{Term, Primitive}
 use Rattle.sf_expr.specs.Evaluation.{Scope}
 use Rattle.sf_mean.specs.Lives.{Life, Process, Environment}
@@ -40,7 +39,7 @@ module _ (φ : AnswersByName) (p : Plan) where
   pub alive_follows : {at at' : _} (names around : Env) (l m : Live) → ((e : Environment) → IsNames p names e → IsNames p around e) → NodeFollows l m → Follows (Alive' names at l) (Alive' around at' m)
   alive_follows names around l m h f P L (alive N S) = alive (h _ N) (f _ _ S)
 
-  pub prim_follows : (i i' : PrimState) → ((q : Primitive) (scope : Scope) (L : Life) → Remembers (plan_expressions p) i q scope L → Remembers (plan_expressions p) i' q scope L) → NodeFollows (LPrim i) (LPrim i')
+  pub prim_follows : (i i' : PrimState) → ((q : Primitive) (scope : Scope) (L : Life) → Remembers i q scope L → Remembers i' q scope L) → NodeFollows (LPrim i) (LPrim i')
   prim_follows i i' f P L (settles (ready h O (lives_primitive K))) = settles (ready h O (lives_primitive (f _ _ _ K)))
 
   pub join_follows : (j : Join) (a a' b b' : State) → Follows a a' → Follows b b' → NodeFollows (LJoin j a b) (LJoin j a' b')

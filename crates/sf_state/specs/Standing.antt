@@ -14,7 +14,7 @@ use Rattle.sf_mean.specs.Formulas.{side_of}
 use Rattle.sf_mean.specs.Meaning.{Network, Made, value_made, make, left_life, right_life, Outputs, Loops}
 use Rattle.sf_law.specs.declared.node.PlanId.{PlanId}
 use Rattle.sf_law.specs.declared.plan.Plan.{Plan}
-use Rattle.sf_law.specs.Arena.{plan_expressions, plan_tree, network_of_plan}
+use Rattle.sf_law.specs.Arena.{plan_tree, network_of_plan}
 use Rattle.sf_prim.specs.declared.prim_state.PrimState.{PrimState}
 use Rattle.sf_prim.specs.Keeping.{Remembers}
 use Rattle.sf_state.specs.declared.state.State.{State}
@@ -75,7 +75,7 @@ mutual
   -- The same by the forms.
   pub data Lives (φ : AnswersByName) (p : Plan) : Live → Term → Environment → Made → Life → Type 0 where
     lives_primitive : {i : PrimState} {q : Primitive} {e : Environment} {m : Made} {L : Life}
-        → Remembers (plan_expressions p) i q (scope_around φ e) L
+        → Remembers i q (scope_around φ e) L
         → Lives φ p (LPrim i) (primitive q) e m L
     -- each part on its own life, both fed at once
     lives_join : {j : Join} {a b : State} {f g : Term} {e : Environment} {m : Made} {L : Life} {ys : List Data}

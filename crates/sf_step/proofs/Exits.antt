@@ -7,33 +7,36 @@ use Rattle.sf_value.specs.declared.fault.Fault.{Fault}
 use Rattle.sf_value.specs.declared.fault.Fault.TheVariants.{Memory}
 use Rattle.sf_expr.specs.Expressions.{Expression}
 use Rattle.sf_expr.specs.Evaluation.{Scope, functions_in, answer, failed as no_answer, ◌>>=◌, no_names, eval}
-use Rattle.sf_expr.specs.Answers.{Evaluates}
+use Rattle.sf_code.specs.declared.code.Code.{Code}
+use Rattle.sf_code.specs.Worth.{IsCodeOf}
+use Rattle.sf_operator.specs.Answers.{Evaluates}
 use Rattle.sf_expr.specs.declared.exprs.ExprId.{ExprId}
 use Rattle.sf_operator.specs.declared.fault.EvalFault.{EvalFault}
 use Rattle.sf_operator.specs.declared.fault.EvalFault.TheVariants.{Value as EValue, Memory as EMemory}
 use Rattle.sf_term.specs.declared.form.Join.{Join}
-use Rattle.sf_term.specs.declared.form.Join.TheVariants.{InSequence}
+use Rattle.sf_term.specs.declared.form.Join.TheVariants.{InSequence, InParallel, FannedOut}
 use Rattle.sf_term.specs.declared.form.Side.{Side}
 use Rattle.sf_term.specs.declared.form.Heading.{Heading}
 use Rattle.sf_law.specs.declared.node.PlanId.{PlanId}
 use Rattle.sf_law.specs.declared.node.PlanNode.TheVariants.{Primitive as NPrimitive, Joined as NJoined, Sided as NSided, Headed as NHeaded}
-use Rattle.sf_term.specs.declared.node.Primitive.{Primitive as SPrimitive}
+use Rattle.sf_expr.specs.declared.exprs.Exprs.{Exprs}
+use Rattle.sf_law.specs.declared.node.PlanPrimitive.{PlanPrimitive}
+use Rattle.sf_law.specs.Entries.{primitive_over, IsCodedPrimitive}
 use Rattle.sf_func.specs.Registries.{AnswersByName}
 use Rattle.sf_law.specs.declared.plan.Plan.{Plan}
 use Rattle.sf_term.specs.Trees.{Primitive, Term, primitive, joined, sided, headed}
-use Rattle.sf_law.specs.Arena.{plan_expressions, plan_tree, plan_expression_at, BuildsPlan, builds_joined, builds_sided, builds_headed}
+use Rattle.sf_law.specs.Arena.{plan_tree, BuildsPlan, builds_primitive, builds_joined, builds_sided, builds_headed}
 use Rattle.sf_mean.specs.Lives.{Step, step, Life, Process, closure, Environment, empty, scope_around, first_input}
 use Rattle.sf_mean.specs.Formulas.{formula}
 use Rattle.sf_mean.specs.Meaning.{Network, Readings, Outcome, gave, faulted, as_outcome, Cost, count, height, both_costs, over, one_term, Made, nothing_made, value_made, make, left_life, right_life, join_value, Gives, gives, Outputs, not_begun, and_gave, of_constants, of_form, Form, of_primitive, of_join, goes_on}
 use Rattle.sf_law.specs.Arena.{network_of_plan}
 use Rattle.sf_prim.specs.declared.prim_state.PrimState.{PrimState}
-use Rattle.sf_prim.specs.Keeping.{primitive_over, Remembers, Begins, begins, begins_with_fault, GoesOn, goes_on as goes_on_with, goes_on_with_fault}
+use Rattle.sf_prim.specs.Keeping.{Remembers, Begins, begins, begins_with_fault, GoesOn, goes_on as goes_on_with, goes_on_with_fault}
 use Rattle.sf_state.specs.declared.state.State.{State}
 use Rattle.sf_state.specs.declared.state.State.TheVariants.{Unborn, Live' as Alive'}
 use Rattle.sf_state.specs.declared.state.Live.{Live}
 use Rattle.sf_state.specs.declared.state.Live.TheVariants.{Prim as LPrim, Join as LJoin, Wrap as LWrap}
 use Rattle.sf_state.specs.declared.state.Wrap.{Wrap}
-use Rattle.sf_state.specs.declared.state.Process.{Process as SProcess}
 use Rattle.sf_state.specs.declared.state.Process.TheVariants.{Closure as SClosure}
 use Rattle.sf_state.specs.declared.state.Env.{Env}
 use Rattle.sf_state.specs.Standing.{Stands, unborn, alive, Settles, settles, Ready, ready, lives_primitive, lives_join, lives_wrap, Wraps, is_closure, IsNames, is_empty}
@@ -44,20 +47,10 @@ use Rattle.sf_step.specs.Sampling.{Rel, fault_from, Ticks, Ticked, ticked, refus
 use Rattle.sf_step.specs.Stepping.{EachCostsAtLeast, Steps, stepped, faulted_so, too_large, no_memory}
 use Rattle.sf_step.proofs.Parts.{counted, with_change, over_spent, one_spent, both_spent, fails_alike, over_fails, change_fails, then_fails, rest_fails, spent_within, answered, failed, memory_exit}
 use Rattle.sf_step.proofs.Forms.{left_and, right_and, left_none, right_none, single_gives, gave_outputs, form_alike, join_alike, wrap_alike, wraps_on, counts}
-use Rattle.sf_step.proofs.Typed.{builds_primitive}
 
 -- a tick that went well
 pub ticked_by : {m n : Meter} {depth inside : ℕ} → Ticked m n depth (Ok inside) → Ticks m n depth inside
 ticked_by (ticked t) = t
-
--- a process is a closure
-pub record IsClosure (q : SProcess) : Type 0 where
-  pub term : PlanId
-  pub names : Env
-  pub is : q ≡ SClosure term names
-
-pub closure_of : (q : SProcess) → IsClosure q
-closure_of (SClosure t names) = record { term = t; names = names; is = refl }
 
 module _ (φ : AnswersByName) (p : Plan) where
   abbrev net : Network
@@ -140,6 +133,14 @@ module _ (φ : AnswersByName) (p : Plan) where
       join_last n'' b' z v (Ok u) f ev hs2 = join_steps n'' b' z v ev hs2
       join_last n'' b' z v (Err e) f ev hs2 = λ m depth t P L R. fails (join_right_fails n'' f hs2 m depth t P L R)
 
+  -- a join of live parts that are not fed in parallel shares its input: none is in sequence
+  pub other_join : {A E : Type 0} (j : Join) (a a' b b' : State) (s : Step) (v : Data) (r : Result A E) (f : Fault) (n n' : Meter) (inside : ℕ) → j ≢ InParallel → LiveSteps φ p (LJoin FannedOut a b) s (left_or r (LJoin FannedOut a' b', v) f) n n' inside
+      → LiveSteps φ p (LJoin j a b) s (left_or r (LJoin j a' b', v) f) n n' inside
+  other_join InSequence a a' b b' s v r f n n' inside side hs m depth t P L (ready h O (lives_join N OL A B)) = absurd (N refl)
+  other_join InParallel a a' b b' s v r f n n' inside side hs m depth t P L R = absurd (side refl)
+  other_join FannedOut a a' b b' s v (Ok u) f n n' inside side hs m depth t P L R = hs m depth t P L R
+  other_join FannedOut a a' b b' s v (Err u) f n n' inside side hs m depth t P L R = hs m depth t P L R
+
   -- ## Forms with one part
 
   module _ (w : Wrap) (a : State) (n n' : Meter) (inside d : ℕ) (x u : Data) (eu : u ≡ part_input w x) where
@@ -165,23 +166,23 @@ module _ (φ : AnswersByName) (p : Plan) where
 
   -- ## Primitives
 
-  goes_on_parts : {q : Primitive} {scope : Scope} {s : Step} {L : Life} {i : PrimState} {v : Data} → GoesOn (plan_expressions p) q scope s L i (Ok v) → (formula q scope s L ≡ answer v) × Remembers (plan_expressions p) i q scope (s ∷ L)
+  goes_on_parts : {q : Primitive} {scope : Scope} {s : Step} {L : Life} {i : PrimState} {v : Data} → GoesOn q scope s L i (Ok v) → (formula q scope s L ≡ answer v) × Remembers i q scope (s ∷ L)
   goes_on_parts (goes_on_with h k) = (h, k)
 
-  goes_on_fault : {q : Primitive} {scope : Scope} {s : Step} {L : Life} {i : PrimState} {x : ValueFault} → GoesOn (plan_expressions p) q scope s L i (Err (EValue x)) → formula q scope s L ≡ no_answer x
+  goes_on_fault : {q : Primitive} {scope : Scope} {s : Step} {L : Life} {i : PrimState} {x : ValueFault} → GoesOn q scope s L i (Err (EValue x)) → formula q scope s L ≡ no_answer x
   goes_on_fault (goes_on_with_fault h) = h
 
   functions_around : (e : Environment) → functions_in (scope_around φ e) ≡ φ
   functions_around empty = refl
 
   module _ (i i' : PrimState) (s : Step) (n : Meter) (inside : ℕ) where
-    pub prim_steps : (v : Data) → ((q : Primitive) (scope : Scope) (L : Life) → functions_in scope ≡ φ → Remembers (plan_expressions p) i q scope L → GoesOn (plan_expressions p) q scope s L i' (Ok v)) → LiveSteps φ p (LPrim i) s (Ok (LPrim i', v)) n n inside
+    pub prim_steps : (v : Data) → ((q : Primitive) (scope : Scope) (L : Life) → functions_in scope ≡ φ → Remembers i q scope L → GoesOn q scope s L i' (Ok v)) → LiveSteps φ p (LPrim i) s (Ok (LPrim i', v)) n n inside
     prim_steps v hs m depth t P L (ready {m = made} h O (lives_primitive {q = q} {e = e} K)) =
         let w = goes_on_parts (hs q (scope_around φ e) L (functions_around e) K) in
         let F : Form net (primitive q) e made s L (gave v []) one_term = of_primitive (ap (λ o. as_outcome o []) w.0) in
         answers (gives O (of_form h F)) (one_spent t) (settles (ready h (and_gave O (of_form h F)) (lives_primitive w.1)))
 
-    pub prim_fails : (n' : Meter) (g : Fault) (f : EvalFault) → g ≡ fault_from f → entered_of n' ≡ entered_of n → height_of n' ≡ height_of n → ((q : Primitive) (scope : Scope) (L : Life) → functions_in scope ≡ φ → Remembers (plan_expressions p) i q scope L → GoesOn (plan_expressions p) q scope s L i' (Err f))
+    pub prim_fails : (n' : Meter) (g : Fault) (f : EvalFault) → g ≡ fault_from f → entered_of n' ≡ entered_of n → height_of n' ≡ height_of n → ((q : Primitive) (scope : Scope) (L : Life) → functions_in scope ≡ φ → Remembers i q scope L → GoesOn q scope s L i' (Err f))
         → LiveSteps φ p (LPrim i) s (Err g) n n' inside
     prim_fails n' g (EValue x) e en hn hs m depth t P L (ready {t = u} {e = names} h O (lives_primitive {q = q} {e = e'} K)) =
         let w = goes_on_fault (hs q (scope_around φ e') L (functions_around e') K) in
@@ -234,10 +235,10 @@ module _ (φ : AnswersByName) (p : Plan) where
 
   -- ## Before the first sample
 
-  prim_opens : (q : Primitive) (e : Environment) (names : Env) (i : PrimState) → IsNames p names e → Begins (plan_expressions p) φ q (Ok i) → Opens φ p (primitive q) e (Ok (LPrim i))
+  prim_opens : (q : Primitive) (e : Environment) (names : Env) (i : PrimState) → IsNames p names e → Begins φ q (Ok i) → Opens φ p (primitive q) e (Ok (LPrim i))
   prim_opens q e names i is_empty (begins K) = opens (λ x. ready refl not_begun (lives_primitive K))
 
-  prim_opens_with_fault : (q : Primitive) (e : Environment) (names : Env) (f : EvalFault) → IsNames p names e → Begins (plan_expressions p) φ q (Err f) → Opens φ p (primitive q) e (Err (fault_from f))
+  prim_opens_with_fault : (q : Primitive) (e : Environment) (names : Env) (f : EvalFault) → IsNames p names e → Begins φ q (Err f) → Opens φ p (primitive q) e (Err (fault_from f))
   prim_opens_with_fault q e names (EValue x) is_empty (begins_with_fault h) = opens_with_fault (λ s. gives not_begun (of_form refl (of_primitive (ap (λ o. as_outcome o []) (h s)))))
   prim_opens_with_fault q e names EMemory N h = opens_without_memory
 
@@ -245,11 +246,11 @@ module _ (φ : AnswersByName) (p : Plan) where
   open_exit t e (Ok l) h = absurd h
   open_exit t e (Err f) h = subst (λ (f : Fault). Opens φ p t e (Err f)) (sym h) opens_without_memory
 
-  pub open_prim : (q : SPrimitive) (t : Term) (names : Env) (i : PrimState) → BuildsPlan p (NPrimitive q) t → Begins (plan_expressions p) φ (primitive_over (plan_expressions p) q) (Ok i) → (e : Environment) → IsNames p names e → Opens φ p t e (Ok (LPrim i))
-  open_prim q t names i B h e N = subst (λ (t : Term). Opens φ p t e (Ok (LPrim i))) (sym (builds_primitive φ p B)) (prim_opens _ e names i N h)
+  pub open_prim : (q : PlanPrimitive) (t : Term) (names : Env) (i : PrimState) → BuildsPlan p (NPrimitive q) t → ((xs : Exprs) → IsCodedPrimitive xs q → Begins φ (primitive_over xs q) (Ok i)) → (e : Environment) → IsNames p names e → Opens φ p t e (Ok (LPrim i))
+  open_prim q t names i (builds_primitive C) h e N = prim_opens _ e names i N (h _ C)
 
-  pub open_prim_fails : (q : SPrimitive) (t : Term) (names : Env) (f : EvalFault) → BuildsPlan p (NPrimitive q) t → Begins (plan_expressions p) φ (primitive_over (plan_expressions p) q) (Err f) → (e : Environment) → IsNames p names e → Opens φ p t e (Err (fault_from f))
-  open_prim_fails q t names f B h e N = subst (λ (t : Term). Opens φ p t e (Err (fault_from f))) (sym (builds_primitive φ p B)) (prim_opens_with_fault _ e names f N h)
+  pub open_prim_fails : (q : PlanPrimitive) (t : Term) (names : Env) (f : EvalFault) → BuildsPlan p (NPrimitive q) t → ((xs : Exprs) → IsCodedPrimitive xs q → Begins φ (primitive_over xs q) (Err f)) → (e : Environment) → IsNames p names e → Opens φ p t e (Err (fault_from f))
+  open_prim_fails q t names f (builds_primitive C) h e N = prim_opens_with_fault _ e names f N (h _ C)
 
   pub open_join : (j : Join) (a b : PlanId) (names one two : Env) → j ≢ InSequence
       → ((e : Environment) → IsNames p names e → IsNames p one e) → ((e : Environment) → IsNames p names e → IsNames p two e) → (e : Environment) → IsNames p names e → Opens φ p (joined j (plan_tree p a) (plan_tree p b)) e (Ok (LJoin j (Unborn (SClosure a one)) (Unborn (SClosure b two))))
@@ -274,17 +275,17 @@ module _ (φ : AnswersByName) (p : Plan) where
       → (e : Environment) → IsNames p names e → Opens φ p t e r
   open_sided d a t names w r builds_sided W h e N = h φ p _ e nothing_made N (λ x. refl) (W _ _ _ _)
 
-  pub open_headed : (i : Heading) (j : ExprId) (a : PlanId) (t : Term) (names : Env) (v : Data) (w : Wrap) (r : Result Live Fault) → BuildsPlan p (NHeaded i j a) t
-      → eval (plan_expression_at p j) (no_names φ) ≡ answer v
+  pub open_headed : (i : Heading) (j : ExprId) (c : Code) (a : PlanId) (t : Term) (names : Env) (v : Data) (w : Wrap) (r : Result Live Fault) → BuildsPlan p (NHeaded i j c a) t
+      → ((j : Expression) → IsCodeOf j c → eval j (no_names φ) ≡ answer v)
       → ((n : Network) (j : Expression) (t : Term) (e : Environment) → Wraps n w (headed i j t) e (value_made v) [] t [])
       → ((φ : AnswersByName) (p : Plan) (t : Term) (e : Environment) (m : Made) → IsNames p names e → ((x : Data) → make (network_of_plan φ p) t e x ≡ answer m) → Wraps (network_of_plan φ p) w t e m [] (plan_tree p a) [] → Opens φ p t e r)
       → (e : Environment) → IsNames p names e → Opens φ p t e r
-  open_headed i j a t names v w r builds_headed g W h e is_empty = h φ p _ empty (value_made v) is_empty (λ x. ap (λ o. o >>= λ v. answer (value_made v)) g) (W _ _ _ _)
+  open_headed i j c a t names v w r (builds_headed C) g W h e is_empty = h φ p _ empty (value_made v) is_empty (λ x. ap (λ o. o >>= λ v. answer (value_made v)) (g _ C)) (W _ _ _ _)
 
-  pub open_headed_fails : (i : Heading) (j : ExprId) (a : PlanId) (t : Term) (names : Env) (f : EvalFault) → BuildsPlan p (NHeaded i j a) t
-      → Evaluates (Err f) (eval (plan_expression_at p j) (no_names φ)) → (e : Environment) → IsNames p names e → Opens φ p t e (Err (fault_from f))
-  open_headed_fails i j a t names (EValue x) builds_headed g e is_empty = opens_with_fault (λ s. gives not_begun (of_constants (ap (λ o. o >>= λ v. answer (value_made v)) g)))
-  open_headed_fails i j a t names EMemory B g e N = opens_without_memory
+  pub open_headed_fails : (i : Heading) (j : ExprId) (c : Code) (a : PlanId) (t : Term) (names : Env) (f : EvalFault) → BuildsPlan p (NHeaded i j c a) t
+      → ((j : Expression) → IsCodeOf j c → Evaluates (Err f) (eval j (no_names φ))) → (e : Environment) → IsNames p names e → Opens φ p t e (Err (fault_from f))
+  open_headed_fails i j c a t names (EValue x) (builds_headed C) g e is_empty = opens_with_fault (λ s. gives not_begun (of_constants (ap (λ o. o >>= λ v. answer (value_made v)) (g _ C))))
+  open_headed_fails i j c a t names EMemory B g e N = opens_without_memory
 
   -- ## A sample
 

@@ -1,6 +1,5 @@
 pub mod Parts
 pub mod Forms
 pub mod Exits
-pub mod Typed
 pub mod Stages
 pub mod Routes

@@ -5,15 +5,12 @@ use Rattle.std.specs.declared.alloc.Global.{Global}
 use Rattle.std.proofs.lemmas.List.{drop-set-lt, take_more_set}
 use Rattle.std.proofs.Math.Seq.{take-length, drop-length, take-suc}
 use Rattle.std.proofs.lemmas.List.{append-nil}
-use Rattle.sf_value.specs.Values.{Kind, Data, HasKind}
+use Rattle.sf_value.specs.Values.{Data}
 use Rattle.sf_value.specs.declared.fault.Fault.{Fault}
 use Rattle.sf_term.specs.declared.form.Join.TheVariants.{InSequence}
 use Rattle.sf_term.specs.Trees.{rest, Term, joined, staged}
 use Rattle.sf_mean.specs.Lives.{Step, step, Life, Process, closure, Environment, first_input, relay}
 use Rattle.sf_mean.specs.Meaning.{Network, Outcome, gave, faulted, combined, value_in, Cost, both_costs, over, text_cost, Made, nothing_made, join_value, Gives, gives, Outputs, not_begun, and_gave, of_form, Form, of_join, of_stages, Next, goes_on, stops}
-use Rattle.sf_mean.specs.Typing.{takes, sequence_takes, stages_take}
-use Rattle.sf_mean.specs.Soundness.{LifeHas, more_steps, ProcessTakes, closure_takes}
-use Rattle.sf_mean.proofs.TypedLives.{relay_has}
 use Rattle.sf_mean.proofs.Once.{onces}
 use Rattle.sf_func.specs.Registries.{AnswersByName}
 use Rattle.sf_law.specs.declared.plan.Plan.{Plan}
@@ -30,11 +27,9 @@ use Rattle.sf_state.specs.declared.state.Live.TheVariants.{Pipeline as LPipeline
 use Rattle.sf_state.specs.Standing.{is_closure, IsNames, Stands, unborn, alive, settles, Ready, ready, lives_pipeline, IsPipeline, is_stages, is_sequence, StagesStand, last_stands, stage_stands}
 use Rattle.sf_state.proofs.Copies.{pipeline_lives}
 use Rattle.sf_step.specs.declared.meter.Meter.{Meter}
-use Rattle.sf_step.specs.Sampling.{Rel, Ticks, StopsFor, Answers, answers, fails, StateSteps, LiveSteps, Opens, opens, AllBegin, none_begin, more_begin, IsLiveFed, is_live_fed}
-use Rattle.sf_step.specs.Stepping.{IsFed, is_fed}
+use Rattle.sf_step.specs.Sampling.{Rel, Ticks, StopsFor, Answers, answers, fails, StateSteps, LiveSteps, Opens, opens, AllBegin, none_begin, more_begin}
 use Rattle.sf_step.proofs.Parts.{Over, counted, Then, then_on, then_stop, Alike, over_spent, both_spent, fails_alike, over_fails, then_fails, rest_fails, answered, failed}
 use Rattle.sf_step.proofs.Forms.{single_gives, gave_outputs, form_alike, gives_form}
-use Rattle.sf_step.proofs.Typed.{gives_typed, outputs_typed}
 
 -- the answer of stages, behind those that have been stepped
 abbrev pub behind : List State → Result (List State × Data) Fault → Result (List State × Data) Fault
@@ -218,46 +213,6 @@ module _ (φ : AnswersByName) (p : Plan) where
       let done : take i now ≡ now = ap (λ k. take k now) e ∙ take-length now in
       let last = c (Ok ([], y)) n (subst (λ (bs : List State). StagesStep bs d y (Ok ([], y)) n n inside) (sym none) (refl, refl)) in
       subst (λ (bs : List State). StagesStep all d x (Ok (bs, y)) m n inside) (append-nil (take i now) ∙ done) last
-
-  -- ## Types
-
-  -- the input has the type of the stages that it is fed to
-  pub data AreFed (bs : List State) (x : Data) : Type 0 where
-    are_fed : {u : Term} {e : Environment} {L : Life} {b c : Kind} → StagesStand φ p bs u e L → ProcessTakes (network_of_plan φ p) (closure u e) b c → LifeHas L b → HasKind x b → AreFed bs x
-
-  abbrev pub RestFed : List State → Data → Type 0
-  RestFed [] x = Unit {0}
-  RestFed (a ∷ bs) x = AreFed (a ∷ bs) x
-
-  pub stages_fed : (v : Vec State Global) (d : ℕ) (x : Data) → IsLiveFed φ p (LPipeline v) (step d x) → AreFed v.items x
-  stages_fed v d x (is_live_fed (ready h O (lives_pipeline is_stages S)) (closure_takes K E (takes a b (stages_take F G))) l k) =
-      are_fed (stands_at v (items_hidden-the_row-State-0 v) S) (closure_takes K E (takes a b (stages_take F G))) l k
-  stages_fed v d x (is_live_fed (ready h O (lives_pipeline is_sequence S)) (closure_takes K E (takes a b (sequence_takes F G))) l k) =
-      are_fed (stands_at v (items_hidden-the_row-State-0 v) S) (closure_takes K E (takes a b (stages_take F G))) l k
-
-  pub rest_fed : (bs : List State) (x : Data) → AreFed bs x → RestFed bs x
-  rest_fed [] x h = tt
-  rest_fed (a ∷ bs) x h = h
-
-  first_stage_fed : (a : State) (bs : List State) (x : Data) → AreFed (a ∷ bs) x → IsFed φ p a x
-  first_stage_fed a bs x (are_fed (last_stands A) T l k) = is_fed A T l k
-  first_stage_fed a bs x (are_fed (stage_stands O A S) (closure_takes K E (takes _ _ (stages_take F G))) l k) = is_fed A (closure_takes K E F) l k
-
-  others_fed : (a a' : State) (bs : List State) (d : ℕ) (x y : Data) (m n : Meter) (inside : ℕ) → StateSteps φ p a (step d x) (Ok (a', y)) m n inside → AreFed (a ∷ bs) x → RestFed bs y
-  others_fed a a' [] d x y m n inside hs h = tt
-  others_fed a a' (b ∷ bs) d x y m n inside hs (are_fed (stage_stands O A S) (closure_takes K E (takes _ _ (stages_take F G))) l k) =
-      let one = answered (hs _ _ A) in
-      are_fed S (closure_takes K E G) (relay_has l (outputs_typed net O (closure_takes K E F) l)) (gives_typed net one.given (closure_takes K E F) (more_steps {s = step d x} k l))
-
-  -- what the stage at an index is fed with
-  pub item_fed : (now : List State) (i : ℕ) (any : State) (y : Data) → i < length now → RestFed (drop i now) y → IsFed φ p (get_or now i any) y
-  item_fed now i any y short h = first_stage_fed _ _ y (subst (λ (bs : List State). RestFed bs y) (left_from now i any short) h)
-
-  pub next_fed : (now : List State) (i : ℕ) (any a' : State) (d : ℕ) (y z : Data) (m n : Meter) (inside : ℕ) → i < length now → StateSteps φ p (get_or now i any) (step d y) (Ok (a', z)) m n inside
-      → RestFed (drop i now) y → RestFed (drop (i + 1) (set now i a')) z
-  next_fed now i any a' d y z m n inside short hs h =
-      subst (λ (bs : List State). RestFed bs z) (sym (drop-set-lt (i + 1) now i a' (omega arith)))
-      (others_fed _ a' (drop (i + 1) now) d y z m n inside hs (subst (λ (bs : List State). RestFed bs y) (left_from now i any short) h))
 
   -- ## Before the first sample
 

@@ -1,23 +1,11 @@
 -- What the parts of a form take at one step, and what its value is made of.
-use Rattle.std.specs.Prelude.{Bool, true, false}
 use Rattle.sf_value.specs.Values.{Data, pair, first_of, second_of}
 use Rattle.sf_term.specs.declared.form.Join.{Join}
 use Rattle.sf_term.specs.declared.form.Join.TheVariants.{InSequence, InParallel, FannedOut}
 use Rattle.sf_state.specs.declared.state.Wrap.{Wrap}
 use Rattle.sf_state.specs.declared.state.Wrap.TheVariants.{First, Second, Loop}
 
--- whether a value is a pair
-abbrev pub is_pair : Data → Bool
-is_pair (pair x y) = true
-is_pair d = false
-
 -- ## Joins
-
--- what a join takes apart is a pair
-abbrev pub join_fits : Join → Data → Bool
-join_fits InSequence x = true
-join_fits InParallel x = is_pair x
-join_fits FannedOut x = true
 
 -- the left part's input, from the join's
 abbrev pub left_input : Join → Data → Data
@@ -32,18 +20,6 @@ right_input InParallel x y = second_of x
 right_input FannedOut x y = x
 
 -- ## Forms with one part
-
--- what a form takes apart of its input is a pair
-abbrev pub input_fits : Wrap → Data → Bool
-input_fits First x = is_pair x
-input_fits Second x = is_pair x
-input_fits (Loop v) x = true
-
--- what a form takes apart of its part's output is a pair
-abbrev pub output_fits : Wrap → Data → Bool
-output_fits First y = true
-output_fits Second y = true
-output_fits (Loop v) y = is_pair y
 
 -- the part's input, from the form's
 abbrev pub part_input : Wrap → Data → Data

@@ -1,27 +1,21 @@
 -- What the parts of a sample answer.
-use Rattle.std.specs.Prelude.{◌≡◌, ℕ, ◌+◌, ◌≤◌, max, Bool, true, false, List, [], ◌∷◌, ◌++◌, ◌⊎◌, Result, Ok, Err}
-use Rattle.sf_value.specs.Values.{Kind, Data, HasKind}
+use Rattle.std.specs.Prelude.{◌≡◌, ℕ, ◌+◌, ◌≤◌, max, List, [], ◌∷◌, ◌++◌, ◌⊎◌, Result, Ok, Err}
+use Rattle.sf_value.specs.Values.{Data}
 use Rattle.sf_value.specs.declared.fault.ValueFault.{ValueFault}
 use Rattle.sf_value.specs.declared.fault.Fault.{Fault}
 use Rattle.sf_value.specs.declared.fault.Fault.TheVariants.{Value, Large, Memory}
-use Rattle.sf_func.specs.Registries.{TypesByName, AnswersByName, KeepTheirTypes}
+use Rattle.sf_func.specs.Registries.{AnswersByName}
 use Rattle.sf_operator.specs.declared.fault.EvalFault.{EvalFault}
 use Rattle.sf_operator.specs.declared.fault.EvalFault.TheVariants.{Value as EValue, Memory as EMemory}
 use Rattle.sf_law.specs.declared.plan.Plan.{Plan}
 use Rattle.sf_term.specs.Trees.{Term}
-use Rattle.sf_mean.specs.Lives.{Step, input_of, Life, Process, closure, Environment, first_input}
+use Rattle.sf_mean.specs.Lives.{Step, Life, Process, closure, Environment, first_input}
 use Rattle.sf_mean.specs.Meaning.{Readings, Outcome, gave, faulted, Cost, count, height, text_cost, Gives}
 use Rattle.sf_law.specs.declared.node.PlanId.{PlanId}
 use Rattle.sf_law.specs.Arena.{plan_tree, network_of_plan}
-use Rattle.sf_mean.specs.Contexts.{Signature}
-use Rattle.sf_mean.specs.Typing.{Takes}
-use Rattle.sf_prim.specs.Keeping.{without_names}
-use Rattle.sf_mean.specs.Soundness.{LifeHas, ProcessTakes}
 use Rattle.sf_state.specs.declared.state.State.{State}
-use Rattle.sf_state.specs.declared.state.State.TheVariants.{Unborn, Live' as Alive'}
 use Rattle.sf_state.specs.declared.state.Live.{Live}
-use Rattle.sf_state.specs.declared.state.Process.{Process as SProcess}
-use Rattle.sf_state.specs.Standing.{Stands, Settles, Ready, IsProcess}
+use Rattle.sf_state.specs.Standing.{Stands, Settles, Ready}
 use Rattle.sf_step.specs.declared.meter.Meter.{Meter}
 use Rattle.sf_step.specs.Meters.{entered_of, height_of}
 
@@ -106,28 +100,7 @@ pub data AllBegin (φ : AnswersByName) (p : Plan) (e : Environment) : List PlanI
   more_begin : {i : PlanId} {ids : List PlanId} {a : State} {bs : List State}
       → Stands φ p a (closure (plan_tree p i) e) [] → AllBegin φ p e ids bs → AllBegin φ p e (i ∷ ids) (a ∷ bs)
 
--- whether a part was not stepped yet
-abbrev pub is_unborn : State → Bool
-is_unborn (Unborn q) = true
-is_unborn (Alive' names at l) = false
-
 -- what a step left in place, or the fault that stands in the meter
 abbrev pub left_or : {A B E : Type 0} → Result A E → B → Fault → Result B Fault
 left_or (Ok a) b f = Ok b
 left_or (Err e) b f = Err f
-
--- ## Types
-
--- A term has types, where no names are bound and functions that answer this keep theirs.
-pub data HasTypes (φ : AnswersByName) (t : Term) : Type 0 where
-  has_types : {fs : TypesByName} {ss : List Signature} {a b : Kind} → KeepTheirTypes fs φ → Takes (without_names fs ss) t a b → HasTypes φ t
-
--- An input has the type of a process's inputs.
-pub data IsFirstFed (φ : AnswersByName) (p : Plan) (q : SProcess) (x : Data) : Type 0 where
-  is_first_fed : {P : Process} {a b : Kind}
-      → IsProcess p q P → ProcessTakes (network_of_plan φ p) P a b → HasKind x a → IsFirstFed φ p q x
-
--- A step's input has the type of the inputs before it.
-pub data IsLiveFed (φ : AnswersByName) (p : Plan) (l : Live) (s : Step) : Type 0 where
-  is_live_fed : {P : Process} {L : Life} {a b : Kind}
-      → Ready φ p l P (first_input s L) L → ProcessTakes (network_of_plan φ p) P a b → LifeHas L a → HasKind (input_of s) a → IsLiveFed φ p l s

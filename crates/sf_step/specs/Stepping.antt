@@ -1,6 +1,6 @@
 -- What one sample answers.
 use Rattle.std.specs.Prelude.{◌≡◌, ◌≤◌, [], Result, Ok, Err}
-use Rattle.sf_value.specs.Values.{Kind, Data, HasKind}
+use Rattle.sf_value.specs.Values.{Data}
 use Rattle.sf_value.specs.declared.fault.ValueFault.{ValueFault}
 use Rattle.sf_value.specs.declared.fault.Fault.{Fault}
 use Rattle.sf_value.specs.declared.fault.Fault.TheVariants.{Value, Large, Memory}
@@ -9,16 +9,10 @@ use Rattle.sf_law.specs.declared.plan.Plan.{Plan}
 use Rattle.sf_mean.specs.Lives.{Life, Process}
 use Rattle.sf_mean.specs.Meaning.{Outcome, gave, faulted, Cost, count, height, Gives}
 use Rattle.sf_law.specs.Arena.{network_of_plan}
-use Rattle.sf_mean.specs.Soundness.{LifeHas, ProcessTakes}
 use Rattle.sf_state.specs.declared.state.State.{State}
 use Rattle.sf_state.specs.Standing.{Stands}
 use Rattle.sf_step.specs.declared.meter.Meter.{Meter}
 use Rattle.sf_step.specs.Meters.{entered_of, height_of}
-
--- An input has the type of the inputs before it: where functions answer this, the state stands for a process that takes them.
-pub data IsFed (φ : AnswersByName) (p : Plan) (a : State) (x : Data) : Type 0 where
-  is_fed : {P : Process} {L : Life} {t u : Kind}
-      → Stands φ p a P L → ProcessTakes (network_of_plan φ p) P t u → LifeHas L t → HasKind x t → IsFed φ p a x
 
 -- each outcome of P on L costs what the meter counted, or more
 pub record EachCostsAtLeast (φ : AnswersByName) (p : Plan) (P : Process) (L : Life) (m : Meter) : Type 0 where

@@ -1,12 +1,11 @@
 //! What values are taken apart into, and what forms with one part keep at first.
-ghost use Rattle.std.specs.Prelude.{◌≡◌, [], IsTrue, IfOk};
+ghost use Rattle.std.specs.Prelude.{◌≡◌, [], IfOk};
 ghost use Rattle.sf_value.specs.Values.{first_of, second_of};
 ghost use Rattle.sf_expr.specs.Expressions.{Expression};
 ghost use Rattle.sf_term.specs.Trees.{Term, sided, headed};
 ghost use Rattle.sf_mean.specs.Lives.{Environment};
 ghost use Rattle.sf_mean.specs.Meaning.{Network, Made, value_made};
 ghost use Rattle.sf_state.specs.Standing.{Wraps};
-ghost use Rattle.sf_step.specs.Routing.{is_pair};
 
 use sf_state::Wrap;
 use sf_term::{Heading, Side};
@@ -15,26 +14,39 @@ use std::alloc::{AllocError, Global};
 use std::mem;
 use std::rc::Rc;
 
-/// The two parts of a pair, as they are shared. It leaves a number in its place.
+/// The two parts of a pair, as they are shared; a value that is no pair stands for both. It leaves a number in its place.
 #[inline(always)]
-pub(crate) fn halves(value: &mut Value) -> (Rc<Value>, Rc<Value>)
-    requires { IsTrue (is_pair value.old) }
-    ensures { (result.0.value ≡ first_of value.old) × (result.1.value ≡ second_of value.old) }
+pub(crate) fn halves(alloc: Global, value: &mut Value) -> Result<(Rc<Value>, Rc<Value>), AllocError>
+    ensures { IfOk result (λ halves. (halves.0.value ≡ first_of value.old) × (halves.1.value ≡ second_of value.old)) }
 {
-    match mem::replace(value, Value::int(0)).into_form() {
-        Form::Pair(first, second) => (first, second),
-        _ => unreachable!(),
+    match value.form() {
+        Form::Pair(_, _) => match mem::replace(value, Value::int(0)).into_form() {
+            Form::Pair(first, second) => Ok((first, second)),
+            _ => unreachable!(),
+        },
+        _ => doubled(alloc, value),
     }
 }
 
-/// The two parts of a pair, taken out of it.
+// The value, in place of two parts. It leaves a number in its place.
+#[cold]
+#[inline(never)]
+fn doubled(alloc: Global, value: &mut Value) -> Result<(Rc<Value>, Rc<Value>), AllocError>
+    ensures { IfOk result (λ halves. (halves.0.value ≡ value.old) × (halves.1.value ≡ value.old)) }
+{
+    let whole = mem::replace(value, Value::int(0));
+    let first = Rc::new(alloc, whole)?;
+    let second = first.clone()?;
+    Ok((first, second))
+}
+
+/// The two parts of a pair, taken out of it; a value that is no pair stands for both.
 #[inline(always)]
 pub(crate) fn parts(alloc: Global, pair: Value) -> Result<(Value, Value), AllocError>
-    requires { IsTrue (is_pair pair) }
     ensures { IfOk result (λ parts. (parts.0 ≡ first_of pair) × (parts.1 ≡ second_of pair)) }
 {
     let mut pair = pair;
-    let (first, second) = halves(&mut pair);
+    let (first, second) = halves(alloc, &mut pair)?;
     Ok((taken(alloc, first)?, taken(alloc, second)?))
 }
 

@@ -1,5 +1,5 @@
 //! One sample.
-ghost use Rattle.std.specs.Prelude.{◌≡◌, ◌≤◌, ℕ, [], ◌∷◌, IsTrue, IfOk, Ok};
+ghost use Rattle.std.specs.Prelude.{◌≡◌, ◌≤◌, ℕ, [], ◌∷◌, IfOk, Ok};
 ghost use Rattle.sf_value.specs.Values.{Data};
 ghost use Rattle.sf_func.specs.Registries.{AnswersByName};
 ghost use Rattle.sf_expr.specs.Evaluation.{answer};
@@ -11,16 +11,16 @@ ghost use Rattle.sf_mean.specs.Meaning.{Made, make};
 ghost use Rattle.sf_state.specs.Standing.{Stands, IsNames, Wraps};
 ghost use Rattle.sf_step.specs.Contexts.{plan_in, dt_in};
 ghost use Rattle.sf_step.specs.Meters.{entered_of, height_of, fault_of as fault_in};
-ghost use Rattle.sf_step.specs.Sampling.{fault_from, Opens, AllBegin, StateSteps, LiveSteps, is_unborn, left_or};
-ghost use Rattle.sf_step.specs.Sampling.{HasTypes, IsLiveFed};
-ghost use Rattle.sf_step.specs.Stepping.{Steps, IsFed};
+ghost use Rattle.sf_step.specs.Sampling.{fault_from, Opens, AllBegin, StateSteps, LiveSteps, left_or};
+ghost use Rattle.sf_step.specs.Stepping.{Steps};
 
 use crate::context::SampleContext;
 use crate::meter::{Meter, Stop};
 use crate::routing::{halves, on_side, parts, unshare_half, with_head};
-use sf_expr::{EvalFault, Scope, eval};
+use sf_code::evaluate;
 use sf_func::Holds;
 use sf_law::{Plan, PlanId, PlanNode};
+use sf_operator::EvalFault;
 use sf_prim::PrimState;
 use sf_state::{Env, Live, Process, State, Wrap, unshare};
 use sf_term::Join;
@@ -30,8 +30,8 @@ use std::mem;
 use std::rc::Rc;
 
 /// The value at the next sample of a network, `dt` milliseconds after the one before; at the first
-/// sample `dt` isn't looked at. The functions that are called keep their types, and the input has
-/// the type of the inputs before it. The meter counts the nodes that this sample enters, and none of
+/// sample `dt` isn't looked at. The input may be any value: what takes a pair apart takes a value
+/// that is none for both its parts. The meter counts the nodes that this sample enters, and none of
 /// the samples before. The error is the first fault of the network's values, `Large` at the 100,001st
 /// node or at more than 800 one inside another, or `Memory`; the meter then counts no more nodes than
 /// the sample would have entered. After an error the state stands for nothing. No state that was
@@ -45,7 +45,6 @@ pub fn step<R: Holds>(
     input: Value,
     meter: &mut Meter,
 ) -> Result<Value, Fault>
-    requires { ∥ IsFed (R.answers functions.now) plan.now state.old input ∥₁ }
     // a state of (P, L) steps to the outcome of P on the longer life
     ensures answers { (P : ProcessOf) (L : Life) → Stands (R.answers functions.now) plan.now state.old P L →
         Steps (R.answers functions.now) plan.now P (step dt input ∷ L) result state.new meter.new }
@@ -76,7 +75,6 @@ fn step_state<R: Holds>(
     value: &mut Value,
     meter: &mut Meter,
 ) -> Result<(), Stop>
-    requires { ∥ IsFed (R.answers context.now.functions.now) (plan_in context.now) state.old value.old ∥₁ }
     ensures grows { entered_of meter.old ≤ entered_of meter.new }
     ensures answers { StateSteps (R.answers context.now.functions.now) (plan_in context.now) state.old (step (dt_in context.now) value.old)
         (left_or result (state.new, value.new) (fault_in meter.new)) meter.old meter.new depth }
@@ -93,47 +91,45 @@ fn step_state<R: Holds>(
                 None => Err(meter.stop(Fault::Memory)),
             }
         }
-        State::Unborn(_) => start(context, state, depth, value, meter),
+        State::Unborn(process) => match process {
+            Process::Closure(term, names) => {
+                let term = *term;
+                let names = mem::replace(names, Env::Empty);
+                start(context, state, term, names, depth, value, meter)
+            }
+        },
     }
 }
 
-// The first sample of a part, likewise.
+// The first sample of a term with the names around it, likewise: what has become of it takes the place of the state.
 #[cycle(step)]
 #[cold]
 #[inline(never)]
 fn start<R: Holds>(
     context: &SampleContext<R>,
     state: &mut State,
+    term: PlanId,
+    names: Env,
     depth: u64,
     value: &mut Value,
     meter: &mut Meter,
 ) -> Result<(), Stop>
-    requires unborn { IsTrue (is_unborn state.old) }
-    requires fed { ∥ IsFed (R.answers context.now.functions.now) (plan_in context.now) state.old value.old ∥₁ }
     ensures grows { entered_of meter.old ≤ entered_of meter.new }
-    ensures answers { StateSteps (R.answers context.now.functions.now) (plan_in context.now) state.old (step (dt_in context.now) value.old)
+    ensures answers { StateSteps (R.answers context.now.functions.now) (plan_in context.now) (State.Unborn (Process.Closure term names)) (step (dt_in context.now) value.old)
         (left_or result (state.new, value.new) (fault_in meter.new)) meter.old meter.new depth }
 {
-    match state {
-        State::Live(_, _) => unreachable!(),
-        State::Unborn(process) => match process {
-            Process::Closure(term, names) => {
-                let inside = meter.tick(depth)?;
-                let names = mem::replace(names, Env::Empty);
-                match open(context, *term, &names) {
-                    Ok(live) => {
-                        let mut live = live;
-                        step_live(context, &mut live, inside, value, meter)?;
-                        let Ok(node) = Rc::new(context.alloc, live) else {
-                            return Err(meter.stop(Fault::Memory));
-                        };
-                        *state = State::Live(names, node);
-                        Ok(())
-                    }
-                    Err(fault) => Err(meter.stop(fault)),
-                }
-            }
-        },
+    let inside = meter.tick(depth)?;
+    match open(context, term, &names) {
+        Ok(live) => {
+            let mut live = live;
+            step_live(context, &mut live, inside, value, meter)?;
+            let Ok(node) = Rc::new(context.alloc, live) else {
+                return Err(meter.stop(Fault::Memory));
+            };
+            *state = State::Live(names, node);
+            Ok(())
+        }
+        Err(fault) => Err(meter.stop(fault)),
     }
 }
 
@@ -147,7 +143,6 @@ fn step_half<R: Holds>(
     half: &mut Rc<Value>,
     meter: &mut Meter,
 ) -> Result<(), Stop>
-    requires { ∥ IsFed (R.answers context.now.functions.now) (plan_in context.now) state.old half.old.value ∥₁ }
     ensures grows { entered_of meter.old ≤ entered_of meter.new }
     ensures answers { StateSteps (R.answers context.now.functions.now) (plan_in context.now) state.old (step (dt_in context.now) half.old.value)
         (left_or result (state.new, half.new.value) (fault_in meter.new)) meter.old meter.new depth }
@@ -171,7 +166,6 @@ fn step_live<R: Holds>(
     value: &mut Value,
     meter: &mut Meter,
 ) -> Result<(), Stop>
-    requires { ∥ IsLiveFed (R.answers context.now.functions.now) (plan_in context.now) live.old (step (dt_in context.now) value.old) ∥₁ }
     ensures grows { entered_of meter.old ≤ entered_of meter.new }
     ensures answers { LiveSteps (R.answers context.now.functions.now) (plan_in context.now) live.old (step (dt_in context.now) value.old)
         (left_or result (live.new, value.new) (fault_in meter.new)) meter.old meter.new inside }
@@ -179,9 +173,9 @@ fn step_live<R: Holds>(
     match live {
         Live::Prim(prim) => step_prim(context, prim, value, meter),
         Live::Join(join, left, right) => match join {
-            Join::InSequence => unreachable!(),
             Join::InParallel => step_parallel(context, left, right, inside, value, meter),
-            Join::FannedOut => step_fan(context, left, right, inside, value, meter),
+            // parts in sequence are stages, so this is a fan
+            _ => step_fan(context, left, right, inside, value, meter),
         },
         Live::Pipeline(stages) => step_pipeline(context, stages, inside, value, meter),
         Live::Wrap(wrap, part) => step_wrap(context, wrap, part, inside, value, meter),
@@ -199,12 +193,13 @@ fn step_parallel<R: Holds>(
     value: &mut Value,
     meter: &mut Meter,
 ) -> Result<(), Stop>
-    requires { ∥ IsLiveFed (R.answers context.now.functions.now) (plan_in context.now) (Live.Join Join.InParallel left.old right.old) (step (dt_in context.now) value.old) ∥₁ }
     ensures grows { entered_of meter.old ≤ entered_of meter.new }
     ensures answers { LiveSteps (R.answers context.now.functions.now) (plan_in context.now) (Live.Join Join.InParallel left.old right.old) (step (dt_in context.now) value.old)
         (left_or result (Live.Join Join.InParallel left.new right.new, value.new) (fault_in meter.new)) meter.old meter.new inside }
 {
-    let (mut first, mut second) = halves(value);
+    let Ok((mut first, mut second)) = halves(context.alloc, value) else {
+        return Err(meter.stop(Fault::Memory));
+    };
     step_half(context, left, inside, &mut first, meter)?;
     step_half(context, right, inside, &mut second, meter)?;
     *value = Value::of_halves(first, second);
@@ -222,7 +217,6 @@ fn step_fan<R: Holds>(
     value: &mut Value,
     meter: &mut Meter,
 ) -> Result<(), Stop>
-    requires { ∥ IsLiveFed (R.answers context.now.functions.now) (plan_in context.now) (Live.Join Join.FannedOut left.old right.old) (step (dt_in context.now) value.old) ∥₁ }
     ensures grows { entered_of meter.old ≤ entered_of meter.new }
     ensures answers { LiveSteps (R.answers context.now.functions.now) (plan_in context.now) (Live.Join Join.FannedOut left.old right.old) (step (dt_in context.now) value.old)
         (left_or result (Live.Join Join.FannedOut left.new right.new, value.new) (fault_in meter.new)) meter.old meter.new inside }
@@ -250,7 +244,6 @@ fn step_pipeline<R: Holds>(
     value: &mut Value,
     meter: &mut Meter,
 ) -> Result<(), Stop>
-    requires { ∥ IsLiveFed (R.answers context.now.functions.now) (plan_in context.now) (Live.Pipeline stages.old) (step (dt_in context.now) value.old) ∥₁ }
     ensures grows { entered_of meter.old ≤ entered_of meter.new }
     ensures answers { LiveSteps (R.answers context.now.functions.now) (plan_in context.now) (Live.Pipeline stages.old) (step (dt_in context.now) value.old)
         (left_or result (Live.Pipeline stages.new, value.new) (fault_in meter.new)) meter.old meter.new inside }
@@ -272,20 +265,23 @@ fn step_wrap<R: Holds>(
     value: &mut Value,
     meter: &mut Meter,
 ) -> Result<(), Stop>
-    requires { ∥ IsLiveFed (R.answers context.now.functions.now) (plan_in context.now) (Live.Wrap wrap.old part.old) (step (dt_in context.now) value.old) ∥₁ }
     ensures grows { entered_of meter.old ≤ entered_of meter.new }
     ensures answers { LiveSteps (R.answers context.now.functions.now) (plan_in context.now) (Live.Wrap wrap.old part.old) (step (dt_in context.now) value.old)
         (left_or result (Live.Wrap wrap.new part.new, value.new) (fault_in meter.new)) meter.old meter.new inside }
 {
     match wrap {
         Wrap::First => {
-            let (mut first, second) = halves(value);
+            let Ok((mut first, second)) = halves(context.alloc, value) else {
+                return Err(meter.stop(Fault::Memory));
+            };
             step_half(context, part, inside, &mut first, meter)?;
             *value = Value::of_halves(first, second);
             Ok(())
         }
         Wrap::Second => {
-            let (first, mut second) = halves(value);
+            let Ok((first, mut second)) = halves(context.alloc, value) else {
+                return Err(meter.stop(Fault::Memory));
+            };
             step_half(context, part, inside, &mut second, meter)?;
             *value = Value::of_halves(first, second);
             Ok(())
@@ -315,18 +311,11 @@ fn step_prim<R: Holds>(
     value: &mut Value,
     meter: &mut Meter,
 ) -> Result<(), Stop>
-    requires { ∥ IsLiveFed (R.answers context.now.functions.now) (plan_in context.now) (Live.Prim prim.old) (step (dt_in context.now) value.old) ∥₁ }
     ensures entered { entered_of meter.new ≡ entered_of meter.old }
     ensures answers { (inside : ℕ) → LiveSteps (R.answers context.now.functions.now) (plan_in context.now) (Live.Prim prim.old) (step (dt_in context.now) value.old)
         (left_or result (Live.Prim prim.new, value.new) (fault_in meter.new)) meter.old meter.new inside }
 {
-    match prim.step(
-        context.alloc,
-        context.plan.expressions(),
-        context.functions,
-        context.dt,
-        value,
-    ) {
+    match prim.step(context.alloc, context.functions, context.dt, value) {
         Ok(()) => Ok(()),
         Err(fault) => Err(meter.stop(fault_of(fault))),
     }
@@ -334,20 +323,16 @@ fn step_prim<R: Holds>(
 
 // A term before its first sample, with the names around it.
 fn open<R: Holds>(context: &SampleContext<R>, term: PlanId, names: &Env) -> Result<Live, Fault>
-    requires { ∥ HasTypes (R.answers context.now.functions.now) (plan_tree (plan_in context.now) term) ∥₁ }
     ensures { (e : Environment) → IsNames (plan_in context.now) names.now e →
         Opens (R.answers context.now.functions.now) (plan_in context.now) (plan_tree (plan_in context.now) term) e result }
 {
     match context.plan.node(term) {
-        PlanNode::Primitive(primitive) => match PrimState::born(
-            context.alloc,
-            context.plan.expressions(),
-            context.functions,
-            *primitive,
-        ) {
-            Ok(prim) => Ok(Live::Prim(prim)),
-            Err(fault) => Err(fault_of(fault)),
-        },
+        PlanNode::Primitive(primitive) => {
+            match PrimState::born(context.alloc, primitive, context.functions) {
+                Ok(prim) => Ok(Live::Prim(prim)),
+                Err(fault) => Err(fault_of(fault)),
+            }
+        }
         PlanNode::Joined(join, left, right) => Ok(joined(
             context.alloc,
             *join,
@@ -356,15 +341,8 @@ fn open<R: Holds>(context: &SampleContext<R>, term: PlanId, names: &Env) -> Resu
             names,
         )?),
         PlanNode::Sided(side, part) => around(on_side(*side), *part, names),
-        PlanNode::Headed(heading, expression, part) => {
-            let scope = Scope::new();
-            match eval(
-                context.alloc,
-                context.plan.expressions(),
-                *expression,
-                &scope,
-                context.functions,
-            ) {
+        PlanNode::Headed(heading, _, code, part) => {
+            match evaluate(context.alloc, code, context.functions) {
                 Ok(head) => around(with_head(*heading, head), *part, names),
                 Err(fault) => Err(fault_of(fault)),
             }

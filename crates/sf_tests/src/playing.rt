@@ -1,7 +1,5 @@
 //! A read or a write that fails in mid-stream.
-ghost use Rattle.sf_func.specs.Registries.{KeepTheirTypes};
-
-use sf_func::{Holds, Registry};
+use sf_func::Registry;
 use sf_player::{Counted, Options, PlayEnd, play};
 use std::alloc::Global;
 use std::io::{self, Error, ErrorKind, Read, Write};
@@ -78,9 +76,13 @@ pub(crate) struct Outcome {
 }
 
 /// A run of a network with these functions.
-fn ended(alloc: Global, net: &[u8], functions: Registry, input: Pieces, failure: Failure) -> Outcome
-    requires { KeepTheirTypes (⟦<Registry as Holds>⟧.types functions) (⟦<Registry as Holds>⟧.answers functions) }
-{
+fn ended(
+    alloc: Global,
+    net: &[u8],
+    functions: Registry,
+    input: Pieces,
+    failure: Failure,
+) -> Outcome {
     let mut reader = Counted::new(input);
     let mut writer = Counted::new(Slow {
         held: Vec::new(alloc),
@@ -97,9 +99,7 @@ fn ended(alloc: Global, net: &[u8], functions: Registry, input: Pieces, failure:
 }
 
 /// A run of a network with these functions on lines.
-pub(crate) fn played(alloc: Global, net: &[u8], functions: Registry, lines: &[u8]) -> Outcome
-    requires { KeepTheirTypes (⟦<Registry as Holds>⟧.types functions) (⟦<Registry as Holds>⟧.answers functions) }
-{
+pub(crate) fn played(alloc: Global, net: &[u8], functions: Registry, lines: &[u8]) -> Outcome {
     let input = Pieces {
         rest: lines,
         has_begun: false,
@@ -119,16 +119,6 @@ fn run(rt: &HostRuntime, fails: bool, failure: Failure) -> Outcome {
     ended(alloc, DELAY, Registry::new(alloc), input, failure)
 }
 
-#[test]
-fn a_read_fails(rt: HostRuntime) -> Result<(), Fail> {
-    let run = run(&rt, true, Failure::Never);
-    assert_eq!(rt; run.end, PlayEnd::ReadFault);
-    // All output of a line is written before more is read.
-    assert_eq!(rt; run.text.as_slice(), b"> 0 7\n".as_slice());
-    assert_eq!(rt; (run.reads, run.writes), (1, 0));
-    Ok(())
-}
-
 /// Whether a run with this failure of its writer ends by a write fault, counts it and leaves this text.
 fn leaves(rt: &HostRuntime, failure: Failure, text: &[u8]) -> bool {
     let run = run(rt, false, failure);
@@ -136,8 +126,14 @@ fn leaves(rt: &HostRuntime, failure: Failure, text: &[u8]) -> bool {
 }
 
 #[test]
-fn a_write_fails(rt: HostRuntime) {
+fn a_read_or_a_write_fails(rt: HostRuntime) -> Result<(), Fail> {
+    let run = run(&rt, true, Failure::Never);
+    assert_eq!(rt; run.end, PlayEnd::ReadFault);
+    // All output of a line is written before more is read.
+    assert_eq!(rt; run.text.as_slice(), b"> 0 7\n".as_slice());
+    assert_eq!(rt; (run.reads, run.writes), (1, 0));
     assert!(rt; leaves(&rt, Failure::ErrsAtItsSecondWrite, b"> 0"));
     assert!(rt; leaves(&rt, Failure::TakesNoneAtItsSecondWrite, b"> 0"));
     assert!(rt; leaves(&rt, Failure::ErrsAtFlush, b"> 0 7\n"));
+    Ok(())
 }

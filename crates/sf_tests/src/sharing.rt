@@ -1,43 +1,24 @@
-//! Sharing of states, which no clause speaks of. Each test holds whichever allocation fails.
-ghost use Rattle.std.specs.Prelude.{IfOk};
-ghost use Rattle.sf_func.specs.Registries.{KeepTheirTypes};
-ghost use Rattle.sf_mean.specs.Contexts.{context_of};
-ghost use Rattle.sf_mean.specs.Typing.{Takes};
-ghost use Rattle.sf_check.specs.Accepting.{checked_main, types_checked};
-ghost use Rattle.sf_law.specs.Arena.{plan_tree, plan_main, plan_templates};
-
+//! What states and values share, which no clause speaks of. The test holds whichever allocation fails.
 use sf_check::{Checked, check};
-use sf_func::{Holds, Registry};
-use sf_law::{Plan, plain};
+use sf_func::Registry;
+use sf_law::plain;
 use sf_state::State;
 use sf_step::{Meter, step};
 use sf_text::read_network;
-use sf_value::{Fault, Value, has_type, same};
+use sf_value::{Fault, Form, Key, Value, same};
 use std::alloc::Global;
 use std::rc::Rc;
 use std::test::Fail;
 
 const DELAYS: &[u8] = b"network 1;\ntemplate main(): Int ~> Int = (iPre 7 >>> iPre 8);\n";
 
-/// Two delays, accepted with these functions.
-fn delays(alloc: Global, functions: &Registry) -> Result<Checked, Fail>
-    requires { KeepTheirTypes (⟦<Registry as Holds>⟧.types functions.now) (⟦<Registry as Holds>⟧.answers functions.now) }
-    ensures { IfOk result (λ checked. KeepTheirTypes (types_checked checked) (⟦<Registry as Holds>⟧.answers functions.now)) }
-{
+/// Two delays.
+fn delays(alloc: Global, functions: &Registry) -> Result<Checked, Fail> {
     let program = read_network(alloc, DELAYS)?;
     match check(alloc, program, functions) {
         Ok(checked) => Ok(checked),
         Err(_) => Err(Fail::new("refused")),
     }
-}
-
-/// The plan of a network, whose term takes what its `main` does.
-fn plan_of(alloc: Global, checked: &Checked) -> Result<Plan, Fail>
-    ensures { IfOk result (λ plan. Takes (context_of (types_checked checked.now) (plan_templates plan)) (plan_tree plan (plan_main plan)) (checked_main checked.now).input (checked_main checked.now).output) }
-{
-    let plan = plain(alloc, checked)?;
-    let _main = checked.main();
-    Ok(plan)
 }
 
 /// How many owners a state's node has.
@@ -54,31 +35,41 @@ fn gives_again(
     alloc: Global,
     checked: &Checked,
     functions: &Registry,
-) -> Result<(Result<Value, Fault>, Result<Value, Fault>, (usize, usize)), Fail>
-    requires { KeepTheirTypes (types_checked checked.now) (⟦<Registry as Holds>⟧.answers functions.now) }
-{
-    let plan = plan_of(alloc, checked)?;
-    let input = Value::int(5);
-    if !has_type(&input, checked.input()) {
-        return Err(Fail::new("bad input"));
-    }
-    let second = input.clone_in(alloc)?;
-    let third = input.clone_in(alloc)?;
-    let again = input.clone_in(alloc)?;
+) -> Result<(Result<Value, Fault>, Result<Value, Fault>, (usize, usize)), Fail> {
+    let plan = plain(alloc, checked)?;
     let mut state = State::unborn(plan.main());
     let mut meter = Meter::new();
-    drop(step(alloc, &mut state, &plan, functions, 0, input, &mut meter)?);
+    drop(step(
+        alloc,
+        &mut state,
+        &plan,
+        functions,
+        0,
+        Value::int(5),
+        &mut meter,
+    )?);
     let mut frozen = state.freeze()?;
     let before = owners(&frozen);
-    let running = match step(
-        alloc, &mut state, &plan, functions, 1000, second, &mut meter,
-    ) {
-        Ok(value) => {
-            drop(step(alloc, &mut state, &plan, functions, 1000, third, &mut meter));
-            Ok(value)
-        }
-        Err(fault) => Err(fault),
-    };
+    let running = step(
+        alloc,
+        &mut state,
+        &plan,
+        functions,
+        1000,
+        Value::int(5),
+        &mut meter,
+    );
+    if running.is_ok() {
+        drop(step(
+            alloc,
+            &mut state,
+            &plan,
+            functions,
+            1000,
+            Value::int(5),
+            &mut meter,
+        ));
+    }
     let after = owners(&frozen);
     let resumed = step(
         alloc,
@@ -86,7 +77,7 @@ fn gives_again(
         &plan,
         functions,
         1000,
-        again,
+        Value::int(5),
         &mut meter,
     );
     Ok((running, resumed, (before, after)))
@@ -100,8 +91,24 @@ fn is_or_refused(sample: &Result<Value, Fault>, number: i64) -> bool {
     }
 }
 
+/// A table of events.
+fn table(alloc: Global) -> Result<Value, Fail> {
+    let mut rows = Vec::new(alloc);
+    rows.push((Key::Int(2), Value::event(alloc, Value::unit())?))?;
+    rows.push((Key::Int(1), Value::no_event()))?;
+    Ok(Value::table(alloc, rows)?)
+}
+
+/// How many owners a table has.
+fn table_owners(value: &Value) -> usize {
+    match value.form() {
+        Form::Table(table) => Rc::strong_count(table),
+        _ => 0,
+    }
+}
+
 #[test]
-fn a_frozen_state_goes_on_from_where_it_was_frozen(rt: HostRuntime) -> Result<(), Fail> {
+fn a_frozen_state_and_a_copy_share(rt: HostRuntime) -> Result<(), Fail> {
     let alloc = rt.alloc();
     let functions = Registry::new(alloc);
     let checked = delays(alloc, &functions)?;
@@ -110,5 +117,8 @@ fn a_frozen_state_goes_on_from_where_it_was_frozen(rt: HostRuntime) -> Result<()
     assert!(rt; is_or_refused(&running, 7) && is_or_refused(&resumed, 7));
     assert!(rt; running.is_ok() || resumed.is_ok());
     assert!(rt; running.is_err() || owners == (2, 1));
+    let table = table(alloc)?;
+    let copy = table.clone_in(alloc)?;
+    assert_eq!(rt; (table_owners(&table), table_owners(&copy)), (2, 2));
     Ok(())
 }

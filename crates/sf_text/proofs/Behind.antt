@@ -16,14 +16,13 @@ use Rattle.sf_text.specs.declared.stop.Stop.TheVariants.{At as At', Memory}
 use Rattle.sf_grammar.specs.declared.ty.Version.{Version}
 use Rattle.sf_grammar.specs.Spelling.{spell_template, spell_templates, term_total, expression_total, HasWrittenTypes}
 use Rattle.sf_grammar.specs.Reading.{Counts, parse_template}
-use Rattle.sf_text.specs.Answers.{StopsReading, toks, counts_of, FoundTemplate, AreNamed}
+use Rattle.sf_text.specs.Answers.{StopsReading, toks, counts_of, FoundTemplate}
 use Rattle.sf_grammar.specs.Stopping.{Stopped}
 use Rattle.sf_text.specs.Progress.{Behind, StopsAfter, IsBlankProgram}
 use Rattle.sf_grammar.specs.Placing.{TemplatesPlaced, none_placed}
 use Rattle.sf_text.specs.Consuming.{places, Consumes, PlacesTemplate}
 use Rattle.sf_text.proofs.Placed.{templates_keep, templates_more}
 use Rattle.sf_grammar.proofs.Takes.{TookTemplate, template_takes}
-use Rattle.sf_text.proofs.Named.{named_behind}
 
 took : (v : Version) (old new : Program) (rest behind : List Tok) (f : FoundTemplate old new behind (parse_template v (counts_of old) rest)) → TookTemplate v (counts_of old) rest f.template behind
 took v old new rest behind f = template_takes v (counts_of old) rest f.template behind (few_program_expressions old) f.is
@@ -52,7 +51,6 @@ behind_more v tokens rest behind old new b f =
         few_terms = omega (arith, few_terms new);
         few_expressions = omega (arith, few_program_expressions new);
       };
-      named = named_behind (spell_template v f.template) behind (subst AreNamed t.spelled b.named);
     }
 
 -- the templates in front of an index were read

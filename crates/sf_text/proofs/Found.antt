@@ -11,6 +11,7 @@ use Rattle.sf_operator.specs.declared.operator.Mapping.{Mapping}
 use Rattle.sf_operator.specs.declared.operator.Mapping.TheVariants as mappings
 use Rattle.sf_operator.specs.declared.operator.Folding.{Folding}
 use Rattle.sf_expr.specs.declared.exprs.ExprId.{ExprId}
+use Rattle.sf_expr.specs.declared.exprs.ExprNode.{ExprNode}
 use Rattle.sf_expr.specs.declared.exprs.FunctionId.{FunctionId}
 use Rattle.sf_expr.specs.Expressions.{Literal, Pattern, Expression, literal, paired, applied, operation, conditional, mapped, folded, called, depth as expression_depth, size, function, function_depth}
 use Rattle.sf_term.specs.declared.form.WithValue.{WithValue}
@@ -22,9 +23,11 @@ use Rattle.sf_term.specs.declared.program.Program.{Program}
 use Rattle.sf_term.specs.declared.refusal.BuildRefusal.{BuildRefusal}
 use Rattle.sf_term.specs.declared.refusal.BuildRefusal.TheVariants as refusals
 use Rattle.sf_term.specs.Names.{HasNames}
+use Rattle.sf_lex.specs.Words.{IsName}
 use Rattle.sf_term.specs.Trees.{Term, primitive, with_value, arrow, joined, sided, headed, term_depth, terms_in, expressions_in}
-use Rattle.sf_term.specs.Arena.{tree, expression_under as expression_in, function_in, term_count, expression_count}
-use Rattle.sf_term.proofs.Kept.{few_program_expressions}
+use Rattle.sf_term.specs.Arena.{tree, expression_under as expression_in, function_in, term_count, expression_count, KeepsProgram, AddsExpression}
+use Rattle.sf_term.proofs.Kept.{few_program_expressions, keeps_trans}
+use Rattle.sf_refusal.specs.declared.spot.Spot.{Spot}
 use Rattle.sf_lex.specs.declared.symbol.Symbol.TheVariants as symbols
 use Rattle.sf_lex.specs.declared.word.Keyword.TheVariants as words
 use Rattle.sf_lex.specs.declared.token.PlacedToken.{PlacedToken}
@@ -64,6 +67,22 @@ expression_refused {old} {mid} {built} {rest} {read} tokens refusal e ready is m
     subst (λ (e : Stop). StopsReading e read) (sym is) (refused_as_read (expression_count old + size ready.value) ready.value tokens rest read refusal ready.is
     (λ same. let full : 100000 ≤ expression_count mid = many same in omega (arith, ready.expressions))
     (λ same. let too : 64 < expression_depth built = deep same in let d : expression_depth built ≡ expression_depth ready.value = ap expression_depth ready.same in omega (arith, ready.shallow)) named)
+
+read_within : {A : Type 0} (n : ℕ) (a : A) (start rest : List Tok) → n ≤ 100000 → (if nat_le n 100000 then got a rest else stop TooMany start) ≡ got a rest
+read_within n a start rest h = elim (leb_tells n 100000) [ inl p ↦ ap (λ (b : Bool). if b then got a rest else stop TooMany start) p.0 | inr p ↦ absurd (omega arith) ]
+
+-- an expression whose parts were read was added to the program
+pub expression_found : {old mid new : Program} {id : ExprId} {node : ExprNode} {built : Expression} {spot : Spot} {start rest : List Tok} {read : Read Expression}
+    → ReadyExpression old mid built start rest read → KeepsProgram old mid → term_count mid ≡ term_count old → AddsExpression mid new id node built spot → FoundExpression old new id rest read
+expression_found {old} {mid} {new} {start = start} {rest = rest} ready kept terms added = record {
+  value = ready.value;
+  is = ready.is ∙ read_within (expression_count old + size ready.value) ready.value start rest (omega (arith, few_program_expressions new, ready.expressions, added.expression_counted));
+  held = added.within;
+  tree = added.is ∙ ready.same;
+  kept = keeps_trans old mid new kept added.kept;
+  terms = added.term_counted ∙ terms;
+  expressions = added.expression_counted ∙ ready.expressions;
+}
 
 pub literal_ready : {old : Program} (l : Literal) (start rest : List Tok) → ReadyExpression old old (literal l) start rest (expression_read (counts_of old) (literal l) start rest)
 literal_ready l start rest = record { value = literal l; is = refl; same = refl; shallow = omega arith; expressions = refl }
@@ -408,3 +427,11 @@ type_refused read type_refusals.Memory left count e is few large = subst (λ (e 
 
 pub few_first : (v : Version) {rest : List Tok} {t : Kind} (d : ℕ) (start : List Tok) (met : ℕ) (tokens : List Tok) → parse_inner_type d v start met tokens ≡ got t rest → met + nodes t ≤ 256
 few_first v {rest} {t} d start met tokens is = let took : TookType v d met tokens t rest = inner_type_takes v d start met tokens t rest is in took.few
+
+-- a program takes each template whose name is one
+pub template_refused : {A : Type 0} (refusal : BuildRefusal) (left : ℕ) (n : Name) (read : Read A) → IsName n
+    → (refusal ≡ refusals.BadName → ¬ IsName n) → (refusal ≡ refusals.TooMany → ⊥) → (refusal ≡ refusals.TooDeep → ⊥) → StopsReading (stop_for refusal left) read
+template_refused refusals.BadName left n read named bad many deep = absurd (bad refl named)
+template_refused refusals.TooMany left n read named bad many deep = absurd (many refl)
+template_refused refusals.TooDeep left n read named bad many deep = absurd (deep refl)
+template_refused refusals.Memory left n read named bad many deep = tt

@@ -1,7 +1,6 @@
 pub mod Placed
 pub mod Deeper
 pub mod Found
-pub mod Named
 pub mod Behind
 pub mod Whole
 pub mod Places

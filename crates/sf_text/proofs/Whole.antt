@@ -1,13 +1,13 @@
 -- Reading a network, and the texts that it is read from.
-use Rattle.std.proofs.Common.{◌≡◌, ℕ, ◌+◌, ◌-◌, List, [], ◌∷◌, ◌++◌, length, drop, map, refl, sym, ◌∙◌, ap, subst}
+use Rattle.std.proofs.Common.{◌≡◌, ℕ, ◌-◌, List, [], ◌∷◌, ◌++◌, length, drop, map, refl, sym, ◌∙◌, ap, subst}
 use mathlib.Core.Path.{ap₂}
 use Rattle.std.proofs.lemmas.List.{append-nil, length-map, drop-map}
 use Rattle.sf_term.specs.declared.program.Program.{Program}
 use Rattle.sf_term.specs.Arena.{templates_of}
 use Rattle.sf_refusal.specs.declared.spot.Spot.{Spot}
 use Rattle.sf_lex.specs.declared.token.PlacedToken.{PlacedToken}
-use Rattle.sf_lex.specs.Tokens.{Tok, keyword, name, number, text, symbol, Located, seen, shown, place_at}
-use Rattle.sf_lex.specs.Cutting.{IsCutInto, here, more, IsLongest, Piece, gap, token, located, AreTokensOf, BreaksLexis}
+use Rattle.sf_lex.specs.Tokens.{Tok, Located, seen, shown, place_at}
+use Rattle.sf_lex.specs.Cutting.{AreTokensOf, BreaksLexis}
 use Rattle.sf_refusal.specs.declared.rule.Rule.{Rule}
 use Rattle.sf_refusal.specs.declared.refusal.Refusal.{Refusal}
 use Rattle.sf_refusal.specs.Refusals.{OrMemory, because, no_memory}
@@ -17,7 +17,7 @@ use Rattle.sf_text.specs.declared.stop.Stop.TheVariants.{At, Memory}
 use Rattle.sf_grammar.specs.declared.ty.Version.{Version}
 use Rattle.sf_grammar.specs.Spelling.{spell, spell_templates, IsNetworkText}
 use Rattle.sf_grammar.specs.Reading.{got, parse_opening}
-use Rattle.sf_text.specs.Answers.{StopsReading, toks, AreNamed}
+use Rattle.sf_text.specs.Answers.{StopsReading, toks}
 use Rattle.sf_text.specs.Progress.{Behind, StopsAfter, StopsNetwork, IsSpelled, first_place, stop_refusal}
 use Rattle.sf_grammar.specs.Stopping.{StopsIn, in_opening, in_template, StopsAt, offset_of, place_before, BreaksText, no_tokens, no_network}
 use Rattle.sf_grammar.proofs.Takes.{opening_takes}
@@ -28,9 +28,6 @@ stops_opening Memory tokens stopped = tt
 
 opened : (tokens rest : List Tok) (v : Version) → parse_opening tokens ≡ got v rest → tokens ≡ spell v [] ++ rest
 opened tokens rest v is = opening_takes tokens v rest is
-
-pub opening_named : (tokens rest : List Tok) (v : Version) → parse_opening tokens ≡ got v rest → AreNamed tokens → AreNamed rest
-opening_named tokens rest v is named = (subst AreNamed (opened tokens rest v is) named).1.1.1
 
 pub network_spelled : (tokens rest : List Tok) (v : Version) (p : Program) → parse_opening tokens ≡ got v rest → Behind v rest p [] → IsSpelled v tokens p
 network_spelled tokens rest v p is behind = record {
@@ -66,23 +63,6 @@ toks_same bytes (p ∷ found) (l ∷ ls) same =
     let one : seen p ≡ shown bytes l = cc in
     let others : map seen found ≡ map (shown bytes) ls = cc in
     ap₂ (λ (t : Tok) (ts : List Tok). t ∷ ts) (ap (λ (x : Tok × Spot). x.0) one) (toks_same bytes found ls others)
-
--- the names that bytes are cut into are names
-piece_named : (at n : ℕ) (p : Piece) (bytes : List ℕ) (found : List Located) → IsLongest bytes p n → AreNamed (map (λ (l : Located). l.token) found) → AreNamed (map (λ (l : Located). l.token) (located at p found))
-piece_named at n gap bytes found longest named = named
-piece_named at n (token (keyword k)) bytes found longest named = (tt, named)
-piece_named at n (token (name m)) bytes found longest named = (longest.is.1, named)
-piece_named at n (token (number z)) bytes found longest named = (tt, named)
-piece_named at n (token (text s)) bytes found longest named = (tt, named)
-piece_named at n (token (symbol s)) bytes found longest named = (tt, named)
-
-cuts_named : (at end : ℕ) (bytes rest : List ℕ) (found : List Located) → IsCutInto at bytes found end rest → AreNamed (map (λ (l : Located). l.token) found)
-cuts_named at end bytes rest found here = tt
-cuts_named at end bytes rest found (more {n = n} {p = p} {found = others} longest fits cuts) =
-    piece_named at n p bytes others longest (cuts_named (at + n) end (drop n bytes) rest others cuts)
-
-pub tokens_named : (bytes : List ℕ) (found : List PlacedToken) → AreTokensOf bytes found → AreNamed (toks found)
-tokens_named bytes found a = subst AreNamed (sym (toks_same bytes found a.located a.shows)) (cuts_named 0 a.cut.end bytes [] a.located a.cut.cut)
 
 pub network_text : (bytes : List ℕ) (found : List PlacedToken) (v : Version) (p : Program) → AreTokensOf bytes found → IsSpelled v (toks found) p → IsNetworkText bytes (templates_of p)
 network_text bytes found v p a s = record {

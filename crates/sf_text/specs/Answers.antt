@@ -18,8 +18,7 @@ use Rattle.sf_term.specs.declared.program.Program.{Program}
 use Rattle.sf_term.specs.Trees.{Term, Template, terms_in, expressions_in}
 use Rattle.sf_term.specs.Arena.{HoldsTerm, HoldsExpression, ProgramHoldsFunction, tree, expression_under, function_in, term_count, expression_count, templates_of, KeepsProgram}
 use Rattle.sf_term.specs.Names.{HasNames}
-use Rattle.sf_lex.specs.Words.{IsName}
-use Rattle.sf_lex.specs.Tokens.{Tok, name, token_of}
+use Rattle.sf_lex.specs.Tokens.{Tok, name_bytes, token_of}
 use Rattle.sf_lex.specs.declared.token.PlacedToken.{PlacedToken}
 use Rattle.sf_term.specs.declared.refusal.BuildRefusal.{BuildRefusal}
 use Rattle.sf_term.specs.declared.refusal.BuildRefusal.TheVariants as refusals
@@ -43,8 +42,8 @@ abbrev pub ReadsAs : {X A : Type 0} → (X → A) → Result (X × Bor (List Pla
 ReadsAs view (Ok x) read = read ≡ got (view x.0) (toks x.1.now)
 ReadsAs view (Err e) read = StopsReading e read
 
-abbrev pub name_bytes : Named → Name
-name_bytes h = h.name.now
+abbrev pub named_bytes : Named → Name
+named_bytes n = name_bytes n.name
 
 abbrev pub kinds_in : Types → Kind × Kind
 kinds_in s = (s.input, s.output)
@@ -131,15 +130,6 @@ stop_for refusals.Memory left = Memory
 abbrev pub stop_for_type : TyRefusal → ℕ → Stop
 stop_for_type type_refusals.TypeTooLarge left = At WrittenTypeTooLarge left
 stop_for_type type_refusals.Memory left = Memory
-
--- a name among tokens is a name of the language
-abbrev pub IsNamed : Tok → Type 0
-IsNamed (name n) = IsName n
-IsNamed _ = Unit {0}
-
-abbrev pub AreNamed : List Tok → Type 0
-AreNamed [] = Unit {0}
-AreNamed (t ∷ tokens) = IsNamed t × AreNamed tokens
 
 -- a template was read into the program, behind the others
 pub record FoundTemplate (old new : Program) (rest : List Tok) (read : Read Template) : Type 0 where

@@ -13,14 +13,13 @@ use Rattle.sf_grammar.specs.Spelling.{spell, spell_templates, IsWithinLimits}
 use Rattle.sf_grammar.specs.Stopping.{counts_in, StopsBehind, StopsIn}
 use Rattle.sf_text.specs.declared.stop.Stop.{Stop}
 use Rattle.sf_text.specs.declared.stop.Stop.TheVariants as stops
-use Rattle.sf_text.specs.Answers.{counts_of, AreNamed}
+use Rattle.sf_text.specs.Answers.{counts_of}
 
 -- the templates of a program were read in front of these tokens, and nothing else was
 pub record Behind (v : Version) (tokens : List Tok) (p : Program) (rest : List Tok) : Type 0 where
   pub spelled : tokens ≡ spell_templates v (templates_of p) ++ rest
   pub counted : counts_of p ≡ counts_in (templates_of p)
   pub limited : IsWithinLimits v (templates_of p)
-  pub named : AreNamed rest
 
 -- nothing is in the program
 pub record IsBlankProgram (p : Program) : Type 0 where

@@ -1,10 +1,9 @@
 //! Expressions and functions.
 ghost use Rattle.std.specs.Prelude.{◌≡◌, ◌<◌, ◌≤◌, ◌↔◌, true, false, IfOk, length, ◌∷◌, string_bytes};
 ghost use Rattle.sf_expr.specs.Expressions.{Expression, variable as variable_form, literal as literal_form, unit_literal, truth_literal, int_literal, text_literal, depth};
-ghost use Rattle.sf_lex.specs.Tokens.{token_of};
-ghost use Rattle.sf_lex.specs.Words.{IsName};
+ghost use Rattle.sf_lex.specs.Tokens.{token_of, name_bytes};
 ghost use Rattle.sf_term.specs.Arena.{HoldsExpression, AddsExpression, expression_under as expression_in, expression_count};
-ghost use Rattle.sf_text.specs.Answers.{toks, AreNamed, StopsReading, ReadsAs, ReadsExpression, ReadsMapping, ReadsFunction, counts_of, stop_for};
+ghost use Rattle.sf_text.specs.Answers.{toks, StopsReading, ReadsAs, ReadsExpression, ReadsMapping, ReadsFunction, counts_of, stop_for};
 ghost use Rattle.sf_grammar.specs.Placing.{PatternPlaced, ExpressionPlaced, FunctionPlaced};
 ghost use Rattle.sf_grammar.specs.Spelling.{takes_brackets, stands_between, maps_in_brackets};
 ghost use Rattle.sf_text.specs.Consuming.{places, BehindOne, Consumes, Parted, linked_node, HasOperandsSo};
@@ -16,7 +15,7 @@ use crate::stop::Stop;
 use crate::ty::inner_type;
 use sf_expr::{Constant, ExprId, ExprNode, Folding, FunctionId, Mapping, Operator, Pat, Unary};
 use sf_grammar::{ExpressionHead, Link, Version, expression_head, link_of};
-use sf_lex::{Keyword, PlacedToken, Symbol, Token};
+use sf_lex::{Keyword, Name, PlacedToken, Symbol, Token};
 use sf_refusal::{Rule, Spot};
 use sf_term::{BuildRefusal, Program};
 use std::alloc::Global;
@@ -60,14 +59,13 @@ fn variable<'a>(
     tokens: &'a [PlacedToken<'a>],
     rest: &'a [PlacedToken<'a>],
     program: &mut Program,
-    name: &str,
+    name: Name<'a>,
     spot: Spot,
 ) -> Result<(ExprId, &'a [PlacedToken<'a>]), Stop>
-    requires { IsName name.now }
-    ensures reads { ReadsExpression program.old program.new result (expression_read (counts_of program.old) (variable_form name.now) (toks tokens.now) (toks rest.now)) }
+    ensures reads { ReadsExpression program.old program.new result (expression_read (counts_of program.old) (variable_form (name_bytes name.entry)) (toks tokens.now) (toks rest.now)) }
     ensures placed { IfOk result (λ x. Consumes (ExpressionPlaced version program.new x.0) (spot ∷ places rest.now) (places x.1.now)) }
 {
-    let name = String::from_str(alloc, name)?;
+    let name = String::from_str(alloc, name.as_str())?;
     match program.name(name, spot) {
         Ok(id) => Ok((id, rest)),
         Err(refusal) => Err(refused(refusal, tokens)),
@@ -174,7 +172,6 @@ fn no_event<'a>(
 fn link<'a>(tokens: &'a [PlacedToken<'a>]) -> Result<(Link, &'a [PlacedToken<'a>]), Stop>
     ensures reads { ReadsAs (λ l. l) result (parse_link (toks tokens.now)) }
     ensures behind { IfOk result (λ x. BehindOne (places tokens.now) (places x.1.now)) }
-    ensures named { IfOk result (λ x. AreNamed (toks tokens.now) → AreNamed (toks x.1.now)) }
 {
     if let [first, rest @ ..] = tokens {
         if let Some(link) = link_of(&first.token) {
@@ -218,7 +215,6 @@ pub(crate) fn expression<'a>(
     left: u32,
 ) -> Result<(ExprId, &'a [PlacedToken<'a>]), Stop>
     requires shallow { left ≤ 64 }
-    requires named { AreNamed (toks tokens.now) }
     ensures reads { ReadsExpression program.old program.new result (parse_expression left version (counts_of program.old) (toks tokens.now)) }
     ensures placed { IfOk result (λ x. Consumes (ExpressionPlaced version program.new x.0) (places tokens.now) (places x.1.now)) }
 {
@@ -237,7 +233,6 @@ fn expression_form<'a>(
     left: u32,
 ) -> Result<(ExprId, &'a [PlacedToken<'a>]), Stop>
     requires shallow { left ≤ 63 }
-    requires named { AreNamed (toks tokens.now) }
     ensures reads { ReadsExpression program.old program.new result (parse_expression_form left version (parse_expression left version) (counts_of program.old) (toks tokens.now)) }
     ensures placed { IfOk result (λ x. Consumes (ExpressionPlaced version program.new x.0) (places tokens.now) (places x.1.now)) }
 {
@@ -273,7 +268,6 @@ fn worded<'a>(
     left: u32,
 ) -> Result<(ExprId, &'a [PlacedToken<'a>]), Stop>
     requires shallow { left ≤ 63 }
-    requires named { AreNamed (toks rest.now) }
     requires stands { HasOperandsSo head }
     ensures reads { ReadsExpression program.old program.new result (parse_worded_expression left version (parse_expression left version) (counts_of program.old) (Some head) (toks tokens.now) (toks rest.now)) }
     ensures placed { IfOk result (λ x. Consumes (ExpressionPlaced version program.new x.0) (spot ∷ places rest.now) (places x.1.now)) }
@@ -316,7 +310,6 @@ fn bracketed<'a>(
     left: u32,
 ) -> Result<(ExprId, &'a [PlacedToken<'a>]), Stop>
     requires shallow { left ≤ 63 }
-    requires named { AreNamed (toks rest.now) }
     ensures reads { ReadsExpression program.old program.new result (bracketed_from (parse_expression left version) (counts_of program.old) (behind_close (toks rest.now)) (toks tokens.now) (toks rest.now)) }
     ensures placed { IfOk result (λ x. Consumes (ExpressionPlaced version program.new x.0) (spot ∷ places rest.now) (places x.1.now)) }
 {
@@ -330,7 +323,7 @@ fn bracketed<'a>(
 
 /// Two expressions in brackets, the opening one of which is the first of these tokens, and the tokens behind them.
 #[cycle(expression)]
-#[tactic(auto, using(crate::proofs::Named::expression_named), unfolding(sf_grammar::specs::Reading::parse_linked))]
+#[tactic(auto, unfolding(sf_grammar::specs::Reading::parse_linked))]
 fn linked<'a>(
     alloc: Global,
     version: Version,
@@ -341,7 +334,6 @@ fn linked<'a>(
     left: u32,
 ) -> Result<(ExprId, &'a [PlacedToken<'a>]), Stop>
     requires shallow { left ≤ 63 }
-    requires named { AreNamed (toks rest.now) }
     ensures reads { ReadsExpression program.old program.new result (parse_linked (parse_expression left version) (counts_of program.old) (toks tokens.now) (toks rest.now)) }
     ensures placed { IfOk result (λ x. Consumes (ExpressionPlaced version program.new x.0) (spot ∷ places rest.now) (places x.1.now)) }
 {
@@ -369,7 +361,6 @@ fn prefixed<'a>(
     left: u32,
 ) -> Result<(ExprId, &'a [PlacedToken<'a>]), Stop>
     requires shallow { left ≤ 63 }
-    requires named { AreNamed (toks rest.now) }
     requires stands { takes_brackets operator ≡ false }
     ensures reads { ReadsExpression program.old program.new result (parse_prefixed (parse_expression left version) (counts_of program.old) operator (toks tokens.now) (toks rest.now)) }
     ensures placed { IfOk result (λ x. Consumes (ExpressionPlaced version program.new x.0) (spot ∷ places rest.now) (places x.1.now)) }
@@ -395,7 +386,6 @@ fn one_in_brackets<'a>(
     left: u32,
 ) -> Result<(ExprId, &'a [PlacedToken<'a>]), Stop>
     requires shallow { left ≤ 63 }
-    requires named { AreNamed (toks rest.now) }
     requires stands { takes_brackets operator ≡ true }
     ensures reads { ReadsExpression program.old program.new result (parse_one_in_brackets (parse_expression left version) (counts_of program.old) operator (toks tokens.now) (toks rest.now)) }
     ensures placed { IfOk result (λ x. Consumes (ExpressionPlaced version program.new x.0) (spot ∷ places rest.now) (places x.1.now)) }
@@ -411,7 +401,7 @@ fn one_in_brackets<'a>(
 
 /// An operator on two expressions in brackets, whose word is the first of these tokens, and the tokens behind it.
 #[cycle(expression)]
-#[tactic(auto, using(crate::proofs::Named::expression_named), unfolding(sf_grammar::specs::Reading::parse_two_in_brackets))]
+#[tactic(auto, unfolding(sf_grammar::specs::Reading::parse_two_in_brackets))]
 fn two_in_brackets<'a>(
     alloc: Global,
     version: Version,
@@ -423,7 +413,6 @@ fn two_in_brackets<'a>(
     left: u32,
 ) -> Result<(ExprId, &'a [PlacedToken<'a>]), Stop>
     requires shallow { left ≤ 63 }
-    requires named { AreNamed (toks rest.now) }
     requires stands { stands_between operator ≡ false }
     ensures reads { ReadsExpression program.old program.new result (parse_two_in_brackets (parse_expression left version) (counts_of program.old) operator (toks tokens.now) (toks rest.now)) }
     ensures placed { IfOk result (λ x. Consumes (ExpressionPlaced version program.new x.0) (spot ∷ places rest.now) (places x.1.now)) }
@@ -441,7 +430,7 @@ fn two_in_brackets<'a>(
 
 /// One of two expressions by a condition, whose word is the first of these tokens, and the tokens behind it.
 #[cycle(expression)]
-#[tactic(auto, using(crate::proofs::Named::expression_named), unfolding(sf_grammar::specs::Reading::parse_conditional))]
+#[tactic(auto, unfolding(sf_grammar::specs::Reading::parse_conditional))]
 fn conditional<'a>(
     alloc: Global,
     version: Version,
@@ -452,7 +441,6 @@ fn conditional<'a>(
     left: u32,
 ) -> Result<(ExprId, &'a [PlacedToken<'a>]), Stop>
     requires shallow { left ≤ 63 }
-    requires named { AreNamed (toks rest.now) }
     ensures reads { ReadsExpression program.old program.new result (parse_conditional (parse_expression left version) (counts_of program.old) (toks tokens.now) (toks rest.now)) }
     ensures placed { IfOk result (λ x. Consumes (ExpressionPlaced version program.new x.0) (spot ∷ places rest.now) (places x.1.now)) }
 {
@@ -469,7 +457,7 @@ fn conditional<'a>(
 
 /// An expression with names for a value, whose word is the first of these tokens, and the tokens behind it.
 #[cycle(expression)]
-#[tactic(auto, using(crate::proofs::Named::expression_named, crate::proofs::Named::pattern_behind), unfolding(sf_grammar::specs::Reading::parse_let))]
+#[tactic(auto, unfolding(sf_grammar::specs::Reading::parse_let))]
 fn let_in<'a>(
     alloc: Global,
     version: Version,
@@ -480,7 +468,6 @@ fn let_in<'a>(
     left: u32,
 ) -> Result<(ExprId, &'a [PlacedToken<'a>]), Stop>
     requires shallow { left ≤ 63 }
-    requires named { AreNamed (toks rest.now) }
     ensures reads { ReadsExpression program.old program.new result (parse_let left (parse_expression left version) (counts_of program.old) (toks tokens.now) (toks rest.now)) }
     ensures placed { IfOk result (λ x. Consumes (ExpressionPlaced version program.new x.0) (spot ∷ places rest.now) (places x.1.now)) }
 {
@@ -497,7 +484,7 @@ fn let_in<'a>(
 
 /// A value and a function in brackets, whose word is the first of these tokens, and the tokens behind it.
 #[cycle(expression)]
-#[tactic(auto, using(crate::proofs::Named::expression_named), unfolding(sf_grammar::specs::Reading::parse_one_and_function))]
+#[tactic(auto, unfolding(sf_grammar::specs::Reading::parse_one_and_function))]
 fn one_and_function<'a>(
     alloc: Global,
     version: Version,
@@ -509,7 +496,6 @@ fn one_and_function<'a>(
     left: u32,
 ) -> Result<(ExprId, &'a [PlacedToken<'a>]), Stop>
     requires shallow { left ≤ 63 }
-    requires named { AreNamed (toks rest.now) }
     requires stands { maps_in_brackets mapping ≡ true }
     ensures reads { ReadsExpression program.old program.new result (parse_one_and_function left (parse_expression left version) (counts_of program.old) mapping (toks tokens.now) (toks rest.now)) }
     ensures placed { IfOk result (λ x. Consumes (ExpressionPlaced version program.new x.0) (spot ∷ places rest.now) (places x.1.now)) }
@@ -527,7 +513,7 @@ fn one_and_function<'a>(
 
 /// Two values and a function in brackets, whose word is the first of these tokens, and the tokens behind it.
 #[cycle(expression)]
-#[tactic(auto, using(crate::proofs::Named::expression_named), unfolding(sf_grammar::specs::Reading::parse_two_and_function))]
+#[tactic(auto, unfolding(sf_grammar::specs::Reading::parse_two_and_function))]
 fn two_and_function<'a>(
     alloc: Global,
     version: Version,
@@ -539,7 +525,6 @@ fn two_and_function<'a>(
     left: u32,
 ) -> Result<(ExprId, &'a [PlacedToken<'a>]), Stop>
     requires shallow { left ≤ 63 }
-    requires named { AreNamed (toks rest.now) }
     ensures reads { ReadsExpression program.old program.new result (parse_two_and_function left (parse_expression left version) (counts_of program.old) folding (toks tokens.now) (toks rest.now)) }
     ensures placed { IfOk result (λ x. Consumes (ExpressionPlaced version program.new x.0) (spot ∷ places rest.now) (places x.1.now)) }
 {
@@ -558,7 +543,7 @@ fn two_and_function<'a>(
 
 /// A call of a stored function, whose word is the first of these tokens, and the tokens behind it.
 #[cycle(expression)]
-#[tactic(auto, using(crate::proofs::Named::name_behind), unfolding(sf_grammar::specs::Reading::parse_called))]
+#[tactic(auto, unfolding(sf_grammar::specs::Reading::parse_called))]
 fn called<'a>(
     alloc: Global,
     version: Version,
@@ -569,7 +554,6 @@ fn called<'a>(
     left: u32,
 ) -> Result<(ExprId, &'a [PlacedToken<'a>]), Stop>
     requires shallow { left ≤ 63 }
-    requires named { AreNamed (toks rest.now) }
     ensures reads { ReadsExpression program.old program.new result (parse_called (parse_expression left version) (counts_of program.old) (toks tokens.now) (toks rest.now)) }
     ensures placed { IfOk result (λ x. Consumes (ExpressionPlaced version program.new x.0) (spot ∷ places rest.now) (places x.1.now)) }
 {
@@ -577,7 +561,7 @@ fn called<'a>(
     let rest = symbol(rest, Symbol::Open)?;
     let (part, rest) = expression(alloc, version, rest, program, left)?;
     let rest = symbol(rest, Symbol::Close)?;
-    let name = String::from_str(alloc, function.name)?;
+    let name = String::from_str(alloc, function.name.as_str())?;
     match program.called(name, function.spot, part, spot) {
         Ok(id) => Ok((id, rest)),
         Err(refusal) => Err(refused(refusal, tokens)),
@@ -586,7 +570,6 @@ fn called<'a>(
 
 /// The pattern and the expression of a function, of so much depth at most, and the tokens behind them.
 #[cycle(expression)]
-#[tactic(auto, using(crate::proofs::Named::pattern_behind))]
 fn mapping_parts<'a>(
     alloc: Global,
     version: Version,
@@ -595,7 +578,6 @@ fn mapping_parts<'a>(
     left: u32,
 ) -> Result<(Pat, ExprId, &'a [PlacedToken<'a>]), Stop>
     requires shallow { left ≤ 63 }
-    requires named { AreNamed (toks tokens.now) }
     ensures reads { ReadsMapping program.old program.new result (parse_mapping left (parse_expression left version) (counts_of program.old) (toks tokens.now)) }
     ensures placed { IfOk result (λ x. Consumes (Parted (PatternPlaced x.0) (ExpressionPlaced version program.new x.1)) (places tokens.now) (places x.2.now)) }
 {
@@ -615,7 +597,6 @@ pub(crate) fn function<'a>(
     left: u32,
 ) -> Result<(FunctionId, &'a [PlacedToken<'a>]), Stop>
     requires shallow { left ≤ 63 }
-    requires named { AreNamed (toks tokens.now) }
     ensures reads { ReadsFunction program.old program.new result (parse_function left version (counts_of program.old) (toks tokens.now)) }
     ensures placed { IfOk result (λ x. Consumes (FunctionPlaced version program.new x.0) (places tokens.now) (places x.1.now)) }
 {

@@ -3,7 +3,7 @@ ghost use Rattle.std.specs.Prelude.{◌≡◌, ◌≢◌, ◌≤◌, ◌-◌, �
 ghost use Rattle.sf_term.specs.Arena.{templates_of, headers_of};
 ghost use Rattle.sf_term.specs.Trees.{Templates};
 ghost use Rattle.sf_refusal.specs.Refusals.{OrMemory};
-ghost use Rattle.sf_text.specs.Answers.{toks, AreNamed};
+ghost use Rattle.sf_text.specs.Answers.{toks};
 ghost use Rattle.sf_grammar.specs.Spelling.{IsNetworkText};
 ghost use Rattle.sf_grammar.specs.Placing.{TemplatesPlaced, NetworkPlaced, IsPlacedIn};
 ghost use Rattle.sf_text.specs.Consuming.{places};
@@ -28,7 +28,6 @@ fn templates<'a>(
     tokens: &'a [PlacedToken<'a>],
     program: &mut Program,
 ) -> Result<(), Stop>
-    requires named { AreNamed (toks tokens.now) }
     requires blank { IsBlankProgram program.old }
     ensures reads { ReadsTemplates version result (toks tokens.now) program.new }
     ensures placed { OnOk result (TemplatesPlaced version program.new (headers_of program.new) (places tokens.now)) }
@@ -42,13 +41,12 @@ fn templates<'a>(
 }
 
 /// Reads a network into a program without terms and templates, and answers its version.
-#[tactic(auto, using(crate::proofs::Whole::stops_opening, crate::proofs::Whole::opening_named, crate::proofs::Whole::network_spelled, crate::proofs::Whole::network_stops))]
+#[tactic(auto, using(crate::proofs::Whole::stops_opening, crate::proofs::Whole::network_spelled, crate::proofs::Whole::network_stops))]
 fn network<'a>(
     alloc: Global,
     tokens: &'a [PlacedToken<'a>],
     program: &mut Program,
 ) -> Result<Version, Stop>
-    requires named { AreNamed (toks tokens.now) }
     requires blank { IsBlankProgram program.old }
     ensures reads { ReadsNetwork result (toks tokens.now) program.new }
     ensures placed { IfOk result (λ v. NetworkPlaced v program.new (places tokens.now)) }
@@ -63,7 +61,7 @@ fn network<'a>(
 /// first; then the first in reading order: `Rule::Unexpected`, the first token that no network has behind the tokens before
 /// it, or the place behind the last byte; `Rule::TooDeep`, the token that begins a form 65 deep; `Rule::Version`;
 /// `Rule::WrittenTypeTooLarge`, the first token of the type; `Rule::TooMany`, the first token of the form too many.
-#[tactic(auto, using(crate::proofs::Whole::tokens_named, crate::proofs::Whole::network_text, crate::proofs::Whole::text_stops, sf_grammar::proofs::Texts::refused_none))]
+#[tactic(auto, using(crate::proofs::Whole::network_text, crate::proofs::Whole::text_stops, sf_grammar::proofs::Texts::refused_none))]
 pub fn read_network(alloc: Global, bytes: &[u8]) -> Result<Program, Refusal>
     // What is read is the network of the text.
     ensures read { IfOk result (λ p. IsNetworkText bytes.now (templates_of p)) }

@@ -1,13 +1,13 @@
 //! Single tokens, and what has a fixed shape.
 ghost use Rattle.std.specs.Prelude.{◌≡◌, ℕ, List, length, IfOk};
-ghost use Rattle.sf_text.specs.Answers.{toks, AreNamed, StopsReading, ReadsAs, ReadsRest, name_bytes, kinds_in};
+ghost use Rattle.sf_text.specs.Answers.{toks, StopsReading, ReadsAs, ReadsRest, named_bytes, kinds_in};
 ghost use Rattle.sf_text.specs.Consuming.{places, BehindOne, BehindSome, NamePlaced, HeadingPlaced, OpeningPlaced};
 ghost use Rattle.sf_grammar.specs.Reading.{Read, stop, parse_symbol, parse_keyword, parse_name, parse_version, parse_opening, parse_heading, parse_signature};
 
 use crate::stop::Stop;
 use crate::ty::ty;
 use sf_grammar::Version;
-use sf_lex::{Keyword, PlacedToken, Symbol, Token};
+use sf_lex::{Keyword, Name, PlacedToken, Symbol, Token};
 use sf_refusal::{Rule, Spot};
 use sf_value::Ty;
 use std::alloc::Global;
@@ -26,7 +26,6 @@ pub(crate) fn symbol<'a>(
 ) -> Result<&'a [PlacedToken<'a>], Stop>
     ensures reads { ReadsRest result (parse_symbol wanted (toks tokens.now)) }
     ensures behind { IfOk result (λ rest. BehindOne (places tokens.now) (places rest.now)) }
-    ensures named { IfOk result (λ rest. AreNamed (toks tokens.now) → AreNamed (toks rest.now)) }
 {
     if let [first, rest @ ..] = tokens {
         if let Token::Symbol(symbol) = &first.token {
@@ -45,7 +44,6 @@ pub(crate) fn keyword<'a>(
 ) -> Result<&'a [PlacedToken<'a>], Stop>
     ensures reads { ReadsRest result (parse_keyword wanted (toks tokens.now)) }
     ensures behind { IfOk result (λ rest. BehindOne (places tokens.now) (places rest.now)) }
-    ensures named { IfOk result (λ rest. AreNamed (toks tokens.now) → AreNamed (toks rest.now)) }
 {
     if let [first, rest @ ..] = tokens {
         if let Token::Keyword(keyword) = &first.token {
@@ -60,7 +58,7 @@ pub(crate) fn keyword<'a>(
 /// A name and its place.
 #[derive(Clone, Copy, Debug)]
 pub(crate) struct Named<'a> {
-    pub(crate) name: &'a str,
+    pub(crate) name: Name<'a>,
     pub(crate) spot: Spot,
 }
 
@@ -68,7 +66,7 @@ pub(crate) struct Named<'a> {
 pub(crate) fn name<'a>(
     tokens: &'a [PlacedToken<'a>],
 ) -> Result<(Named<'a>, &'a [PlacedToken<'a>]), Stop>
-    ensures reads { ReadsAs name_bytes result (parse_name (toks tokens.now)) }
+    ensures reads { ReadsAs named_bytes result (parse_name (toks tokens.now)) }
     ensures placed { IfOk result (λ x. NamePlaced x.0.spot (places tokens.now) (places x.1.now)) }
 {
     if let [first, rest @ ..] = tokens {
@@ -118,7 +116,7 @@ pub(crate) fn opening<'a>(
 pub(crate) fn heading<'a>(
     tokens: &'a [PlacedToken<'a>],
 ) -> Result<(Named<'a>, &'a [PlacedToken<'a>]), Stop>
-    ensures reads { ReadsAs name_bytes result (parse_heading (toks tokens.now)) }
+    ensures reads { ReadsAs named_bytes result (parse_heading (toks tokens.now)) }
     ensures placed { IfOk result (λ x. HeadingPlaced x.0.spot (places tokens.now) (places x.1.now)) }
 {
     let rest = keyword(tokens, Keyword::Template)?;

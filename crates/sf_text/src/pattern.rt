@@ -2,6 +2,7 @@
 ghost use Rattle.std.specs.Prelude.{◌≡◌, IfOk};
 ghost use Rattle.sf_expr.specs.Expressions.{Pattern};
 ghost use Rattle.sf_expr.specs.Patterns.{pattern_of};
+ghost use Rattle.sf_term.specs.Names.{HasNames};
 ghost use Rattle.sf_lex.specs.Tokens.{token_of};
 ghost use Rattle.sf_text.specs.Answers.{toks, StopsReading, ReadsAs};
 ghost use Rattle.sf_grammar.specs.Placing.{PatternPlaced};
@@ -43,6 +44,7 @@ pub(crate) fn pattern<'a>(
     left: u32,
 ) -> Result<(Pat, &'a [PlacedToken<'a>]), Stop>
     ensures reads { ReadsAs pattern_of result (parse_pattern left (toks tokens.now)) }
+    ensures names { IfOk result (λ x. HasNames (pattern_of x.0)) }
     ensures placed { IfOk result (λ x. Consumes (PatternPlaced x.0) (places tokens.now) (places x.1.now)) }
 {
     if left == 0 {
@@ -58,6 +60,7 @@ fn pattern_form<'a>(
     left: u32,
 ) -> Result<(Pat, &'a [PlacedToken<'a>]), Stop>
     ensures reads { ReadsAs pattern_of result (parse_pattern_form (parse_pattern left) (toks tokens.now)) }
+    ensures names { IfOk result (λ x. HasNames (pattern_of x.0)) }
     ensures placed { IfOk result (λ x. Consumes (PatternPlaced x.0) (places tokens.now) (places x.1.now)) }
 {
     let [first, rest @ ..] = tokens else {
@@ -66,7 +69,7 @@ fn pattern_form<'a>(
     match &first.token {
         Token::Keyword(Keyword::Underscore) => Ok((Pat::unnamed(), rest)),
         Token::Name(name) => {
-            let name = String::from_str(alloc, *name)?;
+            let name = String::from_str(alloc, name.as_str())?;
             Ok((Pat::name(name, first.spot), rest))
         }
         Token::Symbol(Symbol::Open) => pattern_pair(alloc, rest, left),
@@ -83,6 +86,7 @@ fn pattern_pair<'a>(
     left: u32,
 ) -> Result<(Pat, &'a [PlacedToken<'a>]), Stop>
     ensures reads { ReadsAs pattern_of result (parse_pattern_pair (parse_pattern left) (toks tokens.now)) }
+    ensures names { IfOk result (λ x. HasNames (pattern_of x.0)) }
     ensures placed { IfOk result (λ x. ConsumesBehind (PatternPlaced x.0) (places tokens.now) (places x.1.now)) }
 {
     let (first, rest) = pattern(alloc, tokens, left)?;

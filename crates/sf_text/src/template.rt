@@ -1,6 +1,6 @@
 //! Templates.
 ghost use Rattle.std.specs.Prelude.{IfOk};
-ghost use Rattle.sf_text.specs.Answers.{toks, AreNamed, ReadsTemplate, counts_of};
+ghost use Rattle.sf_text.specs.Answers.{toks, ReadsTemplate, counts_of};
 ghost use Rattle.sf_text.specs.Consuming.{places, PlacesTemplate};
 ghost use Rattle.sf_grammar.specs.Reading.{parse_template};
 
@@ -21,7 +21,6 @@ pub(crate) fn template<'a>(
     tokens: &'a [PlacedToken<'a>],
     program: &mut Program,
 ) -> Result<&'a [PlacedToken<'a>], Stop>
-    requires { AreNamed (toks tokens.now) }
     ensures reads { ReadsTemplate program.old program.new result (parse_template version (counts_of program.old) (toks tokens.now)) }
     ensures placed { IfOk result (λ rest. PlacesTemplate version program.old program.new (places tokens.now) (places rest.now)) }
 {
@@ -29,7 +28,7 @@ pub(crate) fn template<'a>(
     let (types, rest) = signature(alloc, version, rest)?;
     let (body, rest) = term(alloc, version, rest, program, 64)?;
     let rest = symbol(rest, Symbol::Semicolon)?;
-    let name = String::from_str(alloc, heading.name)?;
+    let name = String::from_str(alloc, heading.name.as_str())?;
     match program.template(name, heading.spot, types.input, types.output, body) {
         Ok(()) => Ok(rest),
         Err(refusal) => Err(refused(refusal, tokens)),

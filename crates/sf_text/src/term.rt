@@ -2,7 +2,7 @@
 ghost use Rattle.std.specs.Prelude.{◌≡◌, ◌≤◌, IfOk, ◌∷◌};
 ghost use Rattle.sf_lex.specs.Tokens.{token_of};
 ghost use Rattle.sf_term.specs.Trees.{Term, primitive as primitive_form, bare as bare_form};
-ghost use Rattle.sf_text.specs.Answers.{toks, AreNamed, StopsReading, ReadsAs, ReadsTerm, counts_of};
+ghost use Rattle.sf_text.specs.Answers.{toks, StopsReading, ReadsAs, ReadsTerm, counts_of};
 ghost use Rattle.sf_grammar.specs.Placing.{TermPlaced};
 ghost use Rattle.sf_text.specs.Consuming.{places, BehindOne, Consumes};
 ghost use Rattle.sf_grammar.specs.Reading.{begins_term, too_deep, term_read, parse_value, parse_arrow, parse_sided, parse_headed, parse_join, parse_joined, parse_form, parse_worded, parse_term};
@@ -67,7 +67,6 @@ fn with_value<'a>(
     left: u32,
 ) -> Result<(TermId, &'a [PlacedToken<'a>]), Stop>
     requires shallow { left ≤ 63 }
-    requires named { AreNamed (toks rest.now) }
     ensures reads { ReadsTerm program.old program.new result (parse_value left version (counts_of program.old) kind (toks tokens.now) (toks rest.now)) }
     ensures placed { IfOk result (λ x. Consumes (TermPlaced version program.new x.0) (spot ∷ places rest.now) (places x.1.now)) }
 {
@@ -90,7 +89,6 @@ fn arrow<'a>(
     left: u32,
 ) -> Result<(TermId, &'a [PlacedToken<'a>]), Stop>
     requires shallow { left ≤ 63 }
-    requires named { AreNamed (toks rest.now) }
     ensures reads { ReadsTerm program.old program.new result (parse_arrow left version (counts_of program.old) (toks tokens.now) (toks rest.now)) }
     ensures placed { IfOk result (λ x. Consumes (TermPlaced version program.new x.0) (spot ∷ places rest.now) (places x.1.now)) }
 {
@@ -105,7 +103,6 @@ fn arrow<'a>(
 fn join<'a>(tokens: &'a [PlacedToken<'a>]) -> Result<(Join, &'a [PlacedToken<'a>]), Stop>
     ensures reads { ReadsAs (λ j. j) result (parse_join (toks tokens.now)) }
     ensures behind { IfOk result (λ x. BehindOne (places tokens.now) (places x.1.now)) }
-    ensures named { IfOk result (λ x. AreNamed (toks tokens.now) → AreNamed (toks x.1.now)) }
 {
     if let [first, rest @ ..] = tokens {
         if let Token::Symbol(symbol) = &first.token {
@@ -128,7 +125,6 @@ pub(crate) fn term<'a>(
     left: u32,
 ) -> Result<(TermId, &'a [PlacedToken<'a>]), Stop>
     requires shallow { left ≤ 64 }
-    requires named { AreNamed (toks tokens.now) }
     ensures reads { ReadsTerm program.old program.new result (parse_term left version (counts_of program.old) (toks tokens.now)) }
     ensures placed { IfOk result (λ x. Consumes (TermPlaced version program.new x.0) (places tokens.now) (places x.1.now)) }
 {
@@ -147,7 +143,6 @@ fn form<'a>(
     left: u32,
 ) -> Result<(TermId, &'a [PlacedToken<'a>]), Stop>
     requires shallow { left ≤ 63 }
-    requires named { AreNamed (toks tokens.now) }
     ensures reads { ReadsTerm program.old program.new result (parse_form left version (parse_term left version) (counts_of program.old) (toks tokens.now)) }
     ensures placed { IfOk result (λ x. Consumes (TermPlaced version program.new x.0) (places tokens.now) (places x.1.now)) }
 {
@@ -178,7 +173,6 @@ fn worded<'a>(
     left: u32,
 ) -> Result<(TermId, &'a [PlacedToken<'a>]), Stop>
     requires shallow { left ≤ 63 }
-    requires named { AreNamed (toks rest.now) }
     ensures reads { ReadsTerm program.old program.new result (parse_worded left version (parse_term left version) (counts_of program.old) (Some head) (toks tokens.now) (toks rest.now)) }
     ensures placed { IfOk result (λ x. Consumes (TermPlaced version program.new x.0) (spot ∷ places rest.now) (places x.1.now)) }
 {
@@ -207,7 +201,6 @@ fn sided<'a>(
     left: u32,
 ) -> Result<(TermId, &'a [PlacedToken<'a>]), Stop>
     requires shallow { left ≤ 63 }
-    requires named { AreNamed (toks rest.now) }
     ensures reads { ReadsTerm program.old program.new result (parse_sided (parse_term left version) (counts_of program.old) side (toks tokens.now) (toks rest.now)) }
     ensures placed { IfOk result (λ x. Consumes (TermPlaced version program.new x.0) (spot ∷ places rest.now) (places x.1.now)) }
 {
@@ -220,7 +213,7 @@ fn sided<'a>(
 
 /// A term with an expression at its head, whose word is the first of these tokens, and the tokens behind it.
 #[cycle(term)]
-#[tactic(auto, using(crate::proofs::Named::expression_named), unfolding(sf_grammar::specs::Reading::parse_headed))]
+#[tactic(auto, unfolding(sf_grammar::specs::Reading::parse_headed))]
 fn headed<'a>(
     alloc: Global,
     version: Version,
@@ -232,7 +225,6 @@ fn headed<'a>(
     left: u32,
 ) -> Result<(TermId, &'a [PlacedToken<'a>]), Stop>
     requires shallow { left ≤ 63 }
-    requires named { AreNamed (toks rest.now) }
     ensures reads { ReadsTerm program.old program.new result (parse_headed left version (parse_term left version) (counts_of program.old) heading (toks tokens.now) (toks rest.now)) }
     ensures placed { IfOk result (λ x. Consumes (TermPlaced version program.new x.0) (spot ∷ places rest.now) (places x.1.now)) }
 {
@@ -249,7 +241,7 @@ fn headed<'a>(
 
 /// Two terms joined, whose opening bracket is the first of these tokens, and the tokens behind them.
 #[cycle(term)]
-#[tactic(auto, using(crate::proofs::Named::term_named), unfolding(sf_grammar::specs::Reading::parse_joined))]
+#[tactic(auto, unfolding(sf_grammar::specs::Reading::parse_joined))]
 fn joined<'a>(
     alloc: Global,
     version: Version,
@@ -260,7 +252,6 @@ fn joined<'a>(
     left: u32,
 ) -> Result<(TermId, &'a [PlacedToken<'a>]), Stop>
     requires shallow { left ≤ 63 }
-    requires named { AreNamed (toks rest.now) }
     ensures reads { ReadsTerm program.old program.new result (parse_joined (parse_term left version) (counts_of program.old) (toks tokens.now) (toks rest.now)) }
     ensures placed { IfOk result (λ x. Consumes (TermPlaced version program.new x.0) (spot ∷ places rest.now) (places x.1.now)) }
 {

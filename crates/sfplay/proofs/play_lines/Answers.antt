@@ -24,9 +24,6 @@ add-requires-4 g c =
     let pair_is = c.in-Ok-pair-2.ensures.ok ∙ ap (λ t. pair_kind t c.int-9.result) c.int-8.ensures ∙ ap (pair_kind int_kind) c.int-9.ensures in
     boxed_keeps (λ v. (own-1.entry v).1.answers) c.into_dyn_box-in_ok-new-4.ensures.0 _ pair_is c.int-10.ensures (λ i. int2_keeps _)
 
-pub play-requires-clause-typed : goal.play-requires-clause-typed
-play-requires-clause-typed g c = c.add-4.ensures.typed (c.add-3.ensures.typed (c.add-2.ensures.typed (c.add.ensures.typed c.new-functions.ensures.typed)))
-
 pub returns : goal.returns
 returns g c =
     let two = c.in-Ok-pair.ensures.ok ∙ ap (λ t. pair_kind t c.int-6.result) c.int-5.ensures ∙ ap (pair_kind int_kind) c.int-6.ensures in

@@ -1,6 +1,6 @@
 use Rattle.std.proofs.Common.{◌+◌, ◌-◌, ◌*◌, ◌≤◌, take, drop}
 use Rattle.sf_step.specs.Meters.{entered_of}
-use Rattle.sf_step.proofs.Stages.{Continues, RestFed}
+use Rattle.sf_step.proofs.Stages.{Continues}
 use Rattle.sf_step.proofs.sample.+step.Given as goal
 
 -- the nodes that the meter has left, and which of the functions it is
@@ -31,6 +31,5 @@ decreases-step_pipeline g l = 5 * (100000 - entered_of l.meter.now) + 3
 abbrev pub invariant-step_pipeline-loop-stage : goal.invariant-step_pipeline-loop-stage
 invariant-step_pipeline-loop-stage g l = record {
   grows : entered_of l.initial.meter ≤ entered_of l.meter;
-  fed : ∥ RestFed (g.R.Holds.answers l.context.functions.now) l.context.plan.now (drop l.stage-index l.stage-items) l.value ∥₁;
   goes_on : Continues (g.R.Holds.answers l.context.functions.now) l.context.plan.now l.initial.stage-items l.context.dt l.initial.value l.initial.meter (take l.stage-index l.stage-items) (drop l.stage-index l.stage-items) l.value l.meter l.inside;
 }

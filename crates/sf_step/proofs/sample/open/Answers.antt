@@ -1,37 +1,28 @@
 use Rattle.std.proofs.Common.{subst}
 use Rattle.sf_step.specs.Sampling.{AllBegin}
-use Rattle.std.proofs.Math.Logic.{∥∥₁_map}
-use Rattle.sf_step.proofs.Typed.{primitive_typed, head_typed}
 use Rattle.sf_step.proofs.Exits.{open_exit, open_prim, open_prim_fails, open_joined, open_sided, open_headed, open_headed_fails}
 use Rattle.sf_step.proofs.Stages.{open_staged}
 use Rattle.sf_step.proofs.sample.open.Goals as goal
 
-pub born-requires : goal.born-requires
-born-requires g c = rw c.expressions.ensures (∥∥₁_map c.requires (primitive_typed (g.R.Holds.answers c.args.context.now.functions.now) c.args.context.now.plan.now c.in-Primitive.primitive _ (rw c.in-Primitive.is at c.node.ensures.builds)))
-
 pub returns-in-Ok : goal.returns-in-Ok
-returns-in-Ok g c = open_prim (g.R.Holds.answers c.args.context.now.functions.now) c.args.context.now.plan.now c.in-Primitive.primitive _ c.args.names.now c.in-Ok.prim (rw c.in-Primitive.is at c.node.ensures.builds) (rw c.expressions.ensures at c.in-Ok.ensures)
+returns-in-Ok g c = open_prim (g.R.Holds.answers c.args.context.now.functions.now) c.args.context.now.plan.now c.in-Primitive.primitive _ c.args.names.now c.in-Ok.prim (rw c.in-Primitive.is at c.node.ensures.builds) c.in-Ok.ensures
 
 pub returns-in-Err : goal.returns-in-Err
 returns-in-Err g c =
-    rw c.fault_of.ensures (open_prim_fails (g.R.Holds.answers c.args.context.now.functions.now) c.args.context.now.plan.now c.in-Primitive.primitive _ c.args.names.now c.in-Err.fault (rw c.in-Primitive.is at c.node.ensures.builds) (rw c.expressions.ensures at c.in-Err.ensures))
+    rw c.fault_of.ensures (open_prim_fails (g.R.Holds.answers c.args.context.now.functions.now) c.args.context.now.plan.now c.in-Primitive.primitive _ c.args.names.now c.in-Err.fault (rw c.in-Primitive.is at c.node.ensures.builds) c.in-Err.ensures)
 
 pub returns-in-Sided : goal.returns-in-Sided
 returns-in-Sided g c = open_sided (g.R.Holds.answers c.args.context.now.functions.now) c.args.context.now.plan.now c.in-Sided.side c.in-Sided.part _ c.args.names.now _ _ (rw c.in-Sided.is at c.node.ensures.builds) c.on_side.ensures c.around.ensures
 
-pub eval-requires : goal.eval-requires
-eval-requires g c = rw (c.new-scope.ensures, c.expressions-in-Headed.ensures)
-    (∥∥₁_map c.requires (head_typed (g.R.Holds.answers c.args.context.now.functions.now) c.args.context.now.plan.now c.in-Headed.heading c.in-Headed.expression c.in-Headed.part _ (rw c.in-Headed.is at c.node.ensures.builds)))
+pub returns-in-Ok-evaluate : goal.returns-in-Ok-evaluate
+returns-in-Ok-evaluate g c =
+    open_headed (g.R.Holds.answers c.args.context.now.functions.now) c.args.context.now.plan.now c.in-Headed.heading c.in-Headed.field-1 c.in-Headed.code c.in-Headed.part _ c.args.names.now c.in-Ok-evaluate.head _ _ (rw c.in-Headed.is at c.node.ensures.builds)
+    c.in-Ok-evaluate.ensures c.with_head.ensures c.around-in-Ok-evaluate.ensures
 
-pub returns-in-Ok-eval : goal.returns-in-Ok-eval
-returns-in-Ok-eval g c =
-    open_headed (g.R.Holds.answers c.args.context.now.functions.now) c.args.context.now.plan.now c.in-Headed.heading c.in-Headed.expression c.in-Headed.part _ c.args.names.now c.in-Ok-eval.head _ _ (rw c.in-Headed.is at c.node.ensures.builds)
-    (rw (c.new-scope.ensures, c.expressions-in-Headed.ensures) at c.in-Ok-eval.ensures) c.with_head.ensures c.around-in-Ok-eval.ensures
-
-pub returns-in-Err-eval : goal.returns-in-Err-eval
-returns-in-Err-eval g c =
-    rw c.fault_of-in-Err-eval.ensures (open_headed_fails (g.R.Holds.answers c.args.context.now.functions.now) c.args.context.now.plan.now c.in-Headed.heading c.in-Headed.expression c.in-Headed.part _ c.args.names.now c.in-Err-eval.fault (rw c.in-Headed.is at c.node.ensures.builds)
-    (rw (c.new-scope.ensures, c.expressions-in-Headed.ensures) at c.in-Err-eval.ensures))
+pub returns-in-Err-evaluate : goal.returns-in-Err-evaluate
+returns-in-Err-evaluate g c =
+    rw c.fault_of-in-Err-evaluate.ensures (open_headed_fails (g.R.Holds.answers c.args.context.now.functions.now) c.args.context.now.plan.now c.in-Headed.heading c.in-Headed.field-1 c.in-Headed.code c.in-Headed.part _ c.args.names.now c.in-Err-evaluate.fault (rw c.in-Headed.is at c.node.ensures.builds)
+    c.in-Err-evaluate.ensures)
 
 pub returns-in_err-joined-in-Joined : goal.returns-in_err-joined-in-Joined
 returns-in_err-joined-in-Joined g c = λ e N. open_exit (g.R.Holds.answers c.args.context.now.functions.now) c.args.context.now.plan.now _ e _ c.from_residual.ensures.1

@@ -1,10 +1,6 @@
-use Rattle.std.proofs.Common.{rules, sym, subst, arith}
-use Rattle.sf_text.specs.Answers.{AreNamed}
-use Rattle.sf_text.proofs.Behind.{toks_from, next_at, none_reached, all_reached}
+use Rattle.std.proofs.Common.{rules, arith}
+use Rattle.sf_text.proofs.Behind.{next_at, none_reached, all_reached}
 use Rattle.sf_text.proofs.network.templates.Goals as goal
-
-pub template-requires : goal.template-requires
-template-requires c = subst AreNamed (sym (toks_from c.args.tokens.now c.loop-at.at)) c.loop-at.invariant.templates.behind.named
 
 pub overflow_sub-at : goal.overflow_sub-at
 overflow_sub-at c = (next_at c.args.version c.args.tokens.now c.in_ok-behind.behind.now c.loop-at.at c.loop-at.program c.template.new.program c.loop-at.invariant c.loop-at-test.true c.in_ok-behind.ensures.reads c.in_ok-behind.ensures.placed).within

@@ -1,6 +1,10 @@
-use Rattle.std.proofs.Common.{rules, ◌≡◌, ℕ, ◌≤◌, false, List, ◌∷◌, [], length, get_or, refl, sym, subst, arith}
+use Rattle.std.proofs.Common.{rules, ◌≡◌, ℕ, ◌≤◌, false, List, ◌∷◌, [], length, get_or, string_bytes, refl, sym, subst, arith}
 use Rattle.std.proofs.lemmas.List.{length-map}
-use Rattle.sf_expr.specs.Patterns.{PlacedPattern}
+use Rattle.std.proofs.lemmas.List.Elements.{All-append, All-cons, All-nil}
+use Rattle.sf_lex.specs.Words.{IsName}
+use Rattle.sf_term.specs.Names.{HasNames}
+use Rattle.sf_expr.specs.Expressions.{names_in}
+use Rattle.sf_expr.specs.Patterns.{PlacedPattern, pattern_of}
 use Rattle.sf_grammar.specs.Placing.{around, PatternPlaced, unnamed_placed, name_placed, both_placed}
 use Rattle.sf_text.proofs.Placed.{first_alone, in_brackets_read}
 use Rattle.sf_text.proofs.pattern.+pattern.Goals.{pattern_form-in_default-token-via-in-Keyword+in_default, pattern_form-in_default-token-via-in-Symbol+in_default, pattern_form-in_default-token-via-in_default}
@@ -57,3 +61,16 @@ pub pattern_pair-returns-clause-placed : goal.pattern_pair-returns-clause-placed
 pattern_pair-returns-clause-placed t c = λ at.
     in_brackets_read c.in_ok-first.ensures.placed c.in_ok-rest.ensures.behind c.in_ok-second.ensures.placed c.in_ok-rest-2.ensures.behind (λ comma closing xs ys p q.
     subst (λ (r : PlacedPattern). PatternPlaced r (around at xs comma ys closing)) (sym c.in_ok-both.ensures) (both_placed at comma closing p q))
+
+pub pattern_form-returns-in-Keyword-Underscore-clause-names : goal.pattern_form-returns-in-Keyword-Underscore-clause-names
+pattern_form-returns-in-Keyword-Underscore-clause-names t c = subst (λ (p : PlacedPattern). HasNames (pattern_of p)) (sym c.unnamed.ensures) (All-nil IsName)
+
+pub pattern_form-returns-in_ok-name-in-Name-clause-names : goal.pattern_form-returns-in_ok-name-in-Name-clause-names
+pattern_form-returns-in_ok-name-in-Name-clause-names t c =
+    subst (λ (p : PlacedPattern). HasNames (pattern_of p)) (sym c.name.ensures)
+    (All-cons IsName (string_bytes c.in_ok-name-in-Name.name) [] (subst IsName (sym c.in_ok-name-in-Name.ensures.ok) c.as_str.ensures.named) (All-nil IsName))
+
+pub pattern_pair-returns-clause-names : goal.pattern_pair-returns-clause-names
+pattern_pair-returns-clause-names t c =
+    subst (λ (p : PlacedPattern). HasNames (pattern_of p)) (sym c.in_ok-both.ensures)
+    (All-append IsName (names_in (pattern_of c.in_ok-first.first)) (names_in (pattern_of c.in_ok-second.second)) c.in_ok-first.ensures.names c.in_ok-second.ensures.names)

@@ -3,20 +3,14 @@ use Rattle.sf_lex.specs.Words.{IsName}
 use Rattle.sf_text.specs.declared.stop.Stop.{Stop}
 use Rattle.sf_grammar.specs.Reading.{parse_template}
 use Rattle.sf_text.specs.Answers.{StopsReading, counts_of, toks, kinds_in, stop_for}
-use Rattle.sf_text.proofs.Named.{heading_named, header_named, template_refused}
+use Rattle.sf_text.proofs.Found.{template_refused}
 use Rattle.sf_text.proofs.Placed.{signature_counted, template_read}
 use Rattle.sf_text.proofs.template.template.Goals as goal
-
-pub term-requires-clause-named : goal.term-requires-clause-named
-term-requires-clause-named c =
-    header_named c.args.version (toks c.args.tokens.now) (toks c.in_ok-heading.rest.now) (toks c.in_ok-types.rest.now) c.in_ok-heading.heading.name.now (kinds_in c.in_ok-types.types)
-    c.in_ok-heading.ensures.reads c.in_ok-types.ensures.reads c.requires
 
 pub returns-in-Err-clause-reads : goal.returns-in-Err-clause-reads
 returns-in-Err-clause-reads c =
     let is : c.refused.result ≡ stop_for c.in-Err.refusal (length c.args.tokens.now) = c.refused.ensures in
-    let bytes : string_bytes c.in_ok-name.name ≡ c.in_ok-heading.heading.name.now = c.in_ok-name.ensures.ok in
-    let named : IsName (string_bytes c.in_ok-name.name) = rw bytes (heading_named (toks c.args.tokens.now) c.in_ok-heading.heading.name.now (toks c.in_ok-heading.rest.now) c.in_ok-heading.ensures.reads c.requires) in
+    let named : IsName (string_bytes c.in_ok-name.name) = subst IsName (sym c.in_ok-name.ensures.ok) c.as_str.ensures.named in
     subst (λ (s : Stop). StopsReading s (parse_template c.args.version (counts_of c.args.program.now) (toks c.args.tokens.now))) (sym is)
     (template_refused c.in-Err.refusal (length c.args.tokens.now) (string_bytes c.in_ok-name.name) (parse_template c.args.version (counts_of c.args.program.now) (toks c.args.tokens.now)) named
     (λ same. c.in-Err.ensures.bad_name.0 (ap Err same)) (λ same. c.in-Err.ensures.not_many (ap Err same)) (λ same. c.in-Err.ensures.not_deep (ap Err same)))

@@ -1,22 +1,11 @@
-use Rattle.std.proofs.Common.{IfSome, sym, subst}
-use Rattle.sf_value.specs.Values.{HasKind}
+use Rattle.std.proofs.Common.{sym}
 use Rattle.sf_engine.specs.Sampling.{had_no_memory}
 use Rattle.sf_engine.proofs.Going.{next_given, next_unchanged}
-use Rattle.sf_engine.proofs.Keeping.{last_typed}
 use Rattle.sf_engine.proofs.engine.Engine.next_sample.Goals.{in-Some, in-None+in-Ok}
 use Rattle.sf_engine.proofs.engine.Engine.next_sample.Goals as goal
 
 pub returns-in-Err : goal.returns-in-Err
 returns-in-Err g c = λ n m L R. rw c.stop.ensures.error (had_no_memory c.stop.ensures.stopped)
-
-pub sample-requires-clause-typed : goal.sample-requires-clause-typed
-sample-requires-clause-typed g c =
-    elim c.match-value.branch [
-      | in-Some w ↦
-          ∣ rw w.input-is (subst (λ v. IfSome v (λ y. HasKind y c.args.self.now.input)) w.in-Some.is c.requires.typed) ∣₁
-      | in-None+in-Ok w ↦
-          rw w.input-is (last_typed (c.args.self.now.ready c.requires.goes_on) w.in-Ok.ensures)
-    ]
 
 pub returns : goal.returns
 returns g c = λ n m L R.

@@ -2,18 +2,10 @@ use Rattle.std.proofs.Common.{refl, ap, Some}
 use Rattle.sf_mean.specs.Lives.{closure, empty}
 use Rattle.sf_engine.specs.Sampling.{had_no_memory}
 use Rattle.sf_engine.proofs.Going.{goes_to, sampled_value, sampled_fault}
-use Rattle.sf_engine.proofs.Keeping.{ready_fed, ready_next}
 use Rattle.sf_engine.proofs.engine.Engine.sample.Goals as goal
 
 pub returns-in_default : goal.returns-in_default
 returns-in_default g c = λ n m L R H. rw c.stop.ensures.error (had_no_memory c.stop.ensures.stopped)
-
-pub step-requires : goal.step-requires
-step-requires g c = ready_fed (c.args.self.now.ready c.requires.going) c.requires.typed
-
-pub invariant_of-self-in-Ok-step-clause-ready : goal.invariant_of-self-in-Ok-step-clause-ready
-invariant_of-self-in-Ok-step-clause-ready g c = λ q.
-    rw c.in-Ok.ensures (ready_next (c.args.self.now.ready q) c.requires.typed c.in-Ok-step.ensures.answers)
 
 pub returns-in-Ok-step : goal.returns-in-Ok-step
 returns-in-Ok-step g c = λ n m L R H.

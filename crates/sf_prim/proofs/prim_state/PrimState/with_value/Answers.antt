@@ -3,7 +3,7 @@ use Rattle.std.proofs.Common.{refl}
 use Rattle.sf_prim.proofs.prim_state.PrimState.with_value.Goals as goal
 
 pub returns-in-Constant : goal.returns-in-Constant
-returns-in-Constant c = λ p φ e h. rw c.in-Constant.is (keeps_value h)
+returns-in-Constant c = λ φ e h. rw c.in-Constant.is (keeps_value h)
 
 pub returns-in-InitialPre : goal.returns-in-InitialPre
-returns-in-InitialPre c = λ p φ e h. rw c.in-InitialPre.is (keeps_previous h refl)
+returns-in-InitialPre c = λ φ e h. rw c.in-InitialPre.is (keeps_previous h refl)

@@ -1,12 +1,11 @@
 use Rattle.std.proofs.Common.{subst}
 use Rattle.sf_state.specs.Standing.{AllFollow}
-use Rattle.sf_law.specs.Arena.{plan_expressions}
 use Rattle.sf_state.proofs.Copies.{prim_follows, join_follows, wrap_follows, pipeline_follows}
 use Rattle.sf_state.proofs.state.Live.clone_in.Goals as goal
 
 pub returns-in_ok-kept-in-Prim : goal.returns-in_ok-kept-in-Prim
 returns-in_ok-kept-in-Prim c = λ φ p P L S.
-    prim_follows φ p c.in-Prim.prim c.in_ok-kept-in-Prim.kept (c.in_ok-kept-in-Prim.ensures (plan_expressions p)) P L (rw c.in-Prim.is at S)
+    prim_follows φ p c.in-Prim.prim c.in_ok-kept-in-Prim.kept c.in_ok-kept-in-Prim.ensures P L (rw c.in-Prim.is at S)
 
 pub returns-in_ok-second-in-Join : goal.returns-in_ok-second-in-Join
 returns-in_ok-second-in-Join c = λ φ p P L S.

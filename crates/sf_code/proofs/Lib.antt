@@ -1,0 +1,4 @@
+pub mod Compiled
+pub mod Worth
+pub mod Rows
+pub mod Sized

@@ -1,0 +1,18 @@
+-- What code stands for.
+use Rattle.std.specs.Prelude.{string_bytes}
+use Rattle.sf_code.specs.declared.code.Code as declared
+use Rattle.sf_code.specs.declared.code.Code.TheVariants as codes
+use Rattle.sf_code.specs.PlaceView.{place_of}
+use Rattle.sf_code.specs.Codes.{Code, place, constant, paired, applied, operation, conditional, mapped, folded, called}
+
+-- the code that code stands for
+abbrev pub code_of : declared.Code → Code
+code_of (codes.Place p) = place (place_of p)
+code_of (codes.Constant v) = constant v
+code_of (codes.Pair' a i b j) = paired (code_of i) (code_of j)
+code_of (codes.Applied' o a i) = applied o (code_of i)
+code_of (codes.Operation' a i o b j) = operation (code_of i) o (code_of j)
+code_of (codes.Conditional' a i b j c k) = conditional (code_of i) (code_of j) (code_of k)
+code_of (codes.Mapped' a i m b j) = mapped (code_of i) m (code_of j)
+code_of (codes.Folded' a i o b j c k) = folded (code_of i) o (code_of j) (code_of k)
+code_of (codes.Called' g a i) = called (string_bytes g) (code_of i)

@@ -1,0 +1,10 @@
+pub mod Places
+pub mod Codes
+pub mod Running
+pub mod Compiling
+pub mod Laws
+pub mod PlaceView
+pub mod CodeView
+pub mod Worth
+pub mod FrameView
+pub mod Numbers

@@ -1,0 +1,27 @@
+-- What places and the patterns of frames stand for.
+use Rattle.std.specs.Prelude.{List, [], ◌∷◌}
+use Rattle.sf_expr.specs.Expressions.{Pattern}
+use Rattle.sf_expr.specs.Patterns.{pattern_of}
+use Rattle.sf_code.specs.declared.place.Half.{Half}
+use Rattle.sf_code.specs.declared.place.Path as paths
+use Rattle.sf_code.specs.declared.place.Path.TheVariants.{Whole, Half'}
+use Rattle.sf_code.specs.declared.place.Place as places
+use Rattle.sf_code.specs.declared.place.Place.TheVariants.{Here, Out'}
+use Rattle.sf_code.specs.declared.place.Patterns.{Patterns}
+use Rattle.sf_code.specs.declared.place.Patterns.TheVariants.{Empty, Within'}
+use Rattle.sf_code.specs.Places.{Place, at_frame, one_out}
+
+-- the halves of a path
+abbrev pub path_of : paths.Path → List Half
+path_of Whole = []
+path_of (Half' half at path) = half ∷ path_of path
+
+-- the place that a place stands for
+abbrev pub place_of : places.Place → Place
+place_of (Here path) = at_frame 0 (path_of path)
+place_of (Out' at place) = one_out (place_of place)
+
+-- the patterns, the innermost first
+abbrev pub patterns_of : Patterns → List Pattern
+patterns_of Empty = []
+patterns_of (Within' pattern at around) = pattern_of pattern.now ∷ patterns_of around

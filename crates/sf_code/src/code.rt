@@ -1,0 +1,28 @@
+//! Code.
+use crate::place::Place;
+use sf_operator::{Folding, Mapping, Operator, Unary};
+use sf_value::Value;
+
+/// An expression of which each name is a place among the values of frames. The code of a function stands last, and has one
+/// frame more: its argument.
+#[derive(Drop)]
+pub enum Code {
+    /// A place in the frames.
+    Place(Place),
+    /// A value.
+    Constant(Value),
+    /// A pair of two codes.
+    Pair(Box<Code>, Box<Code>),
+    /// An operator on its operand.
+    Applied(Unary, Box<Code>),
+    /// An operator between its operands.
+    Operation(Box<Code>, Operator, Box<Code>),
+    /// The second where the first is true, the third where it is false.
+    Conditional(Box<Code>, Box<Code>, Box<Code>),
+    /// A form on a value with a function.
+    Mapped(Box<Code>, Mapping, Box<Code>),
+    /// A form on two values with a function.
+    Folded(Box<Code>, Folding, Box<Code>, Box<Code>),
+    /// A call of a stored function, by its name, on its argument.
+    Called(String, Box<Code>),
+}

@@ -1,0 +1,196 @@
+//! The code of expressions.
+ghost use Rattle.std.specs.Prelude.{◌≡◌, ◌∷◌, IfOk};
+ghost use Rattle.sf_expr.specs.Arena.{expression, placed_at, name_at};
+ghost use Rattle.sf_expr.specs.Evaluation.{literal_value};
+ghost use Rattle.sf_expr.specs.Patterns.{pattern_of};
+ghost use Rattle.sf_code.specs.Codes as trees;
+ghost use Rattle.sf_code.specs.CodeView.{code_of};
+ghost use Rattle.sf_code.specs.Compiling.{compiled, place_in, name_code as code_of_name};
+ghost use Rattle.sf_code.specs.PlaceView.{patterns_of};
+
+use crate::code::Code;
+use crate::place::Patterns;
+use sf_expr::{Constant, ExprId, ExprNode, Exprs, NameId, PatternId};
+use sf_operator::{Folding, Mapping};
+use sf_value::Value;
+use std::alloc::{AllocError, Global};
+
+/// The code of an expression, where frames have these patterns.
+#[cycle(compile)]
+pub(crate) fn compile(
+    alloc: Global,
+    exprs: &Exprs,
+    id: ExprId,
+    patterns: &Patterns,
+) -> Result<Code, AllocError>
+    ensures { IfOk result (λ code. code_of code ≡ compiled (patterns_of patterns.now) (expression exprs.now id)) }
+{
+    match exprs.node(id) {
+        ExprNode::Unit => Ok(Code::Constant(Value::unit())),
+        ExprNode::Truth(truth) => Ok(Code::Constant(Value::bool(truth))),
+        ExprNode::Int(number) => Ok(Code::Constant(Value::int(number))),
+        ExprNode::Constant(constant) => constant_code(alloc, exprs.constant_at(constant)),
+        ExprNode::Name(name) => name_code(alloc, exprs.name_of(name), patterns),
+        ExprNode::Pair(first, second) => {
+            let (first, second) = both(alloc, exprs, first, second, patterns)?;
+            Ok(Code::Pair(first, second))
+        }
+        ExprNode::Applied(operator, part) => {
+            let part = boxed(alloc, exprs, part, patterns)?;
+            Ok(Code::Applied(operator, part))
+        }
+        ExprNode::Operation(left, operator, right) => {
+            let (left, right) = both(alloc, exprs, left, right, patterns)?;
+            Ok(Code::Operation(left, operator, right))
+        }
+        ExprNode::Conditional(condition, first, second) => {
+            conditional(alloc, exprs, condition, first, second, patterns)
+        }
+        ExprNode::Mapped(part, mapping, pattern, body) => {
+            mapped(alloc, exprs, part, mapping, pattern, body, patterns)
+        }
+        ExprNode::Folded(first, folding, second, pattern, body) => folded(
+            alloc, exprs, first, folding, second, pattern, body, patterns,
+        ),
+        ExprNode::Called(function, _, part) => called(alloc, exprs, function, part, patterns),
+    }
+}
+
+/// The code of an expression, in a box.
+#[cycle(compile)]
+fn boxed(
+    alloc: Global,
+    exprs: &Exprs,
+    id: ExprId,
+    patterns: &Patterns,
+) -> Result<Box<Code>, AllocError>
+    ensures { IfOk result (λ code. code_of code.value ≡ compiled (patterns_of patterns.now) (expression exprs.now id)) }
+{
+    let code = compile(alloc, exprs, id, patterns)?;
+    Ok(Box::new(alloc, code)?)
+}
+
+/// The codes of two expressions, in boxes.
+#[cycle(compile)]
+fn both(
+    alloc: Global,
+    exprs: &Exprs,
+    first: ExprId,
+    second: ExprId,
+    patterns: &Patterns,
+) -> Result<(Box<Code>, Box<Code>), AllocError>
+    ensures first { IfOk result (λ pair. code_of pair.0.value ≡ compiled (patterns_of patterns.now) (expression exprs.now first)) }
+    ensures second { IfOk result (λ pair. code_of pair.1.value ≡ compiled (patterns_of patterns.now) (expression exprs.now second)) }
+{
+    let first = boxed(alloc, exprs, first, patterns)?;
+    let second = boxed(alloc, exprs, second, patterns)?;
+    Ok((first, second))
+}
+
+/// The code of a function's expression, in a box: its pattern is that of a frame inside the others.
+#[cycle(compile)]
+fn within(
+    alloc: Global,
+    exprs: &Exprs,
+    pattern: PatternId,
+    body: ExprId,
+    patterns: &Patterns,
+) -> Result<Box<Code>, AllocError>
+    ensures { IfOk result (λ code. code_of code.value ≡ compiled (pattern_of (placed_at exprs.now pattern) ∷ patterns_of patterns.now) (expression exprs.now body)) }
+{
+    let inner = (&*patterns).within((&*exprs).placed(pattern));
+    boxed(alloc, &*exprs, body, &inner)
+}
+
+/// The code of two expressions of which a condition chooses one.
+#[cycle(compile)]
+fn conditional(
+    alloc: Global,
+    exprs: &Exprs,
+    condition: ExprId,
+    first: ExprId,
+    second: ExprId,
+    patterns: &Patterns,
+) -> Result<Code, AllocError>
+    ensures { let ps = patterns_of patterns.now in
+        IfOk result (λ code. code_of code ≡ trees.conditional (compiled ps (expression exprs.now condition)) (compiled ps (expression exprs.now first)) (compiled ps (expression exprs.now second))) }
+{
+    let condition = boxed(alloc, exprs, condition, patterns)?;
+    let (first, second) = both(alloc, exprs, first, second, patterns)?;
+    Ok(Code::Conditional(condition, first, second))
+}
+
+/// The code of a form on an expression with a function.
+#[cycle(compile)]
+fn mapped(
+    alloc: Global,
+    exprs: &Exprs,
+    part: ExprId,
+    mapping: Mapping,
+    pattern: PatternId,
+    body: ExprId,
+    patterns: &Patterns,
+) -> Result<Code, AllocError>
+    ensures { let ps = patterns_of patterns.now in
+        let p = pattern_of (placed_at exprs.now pattern) in
+        IfOk result (λ code. code_of code ≡ trees.mapped (compiled ps (expression exprs.now part)) mapping (compiled (p ∷ ps) (expression exprs.now body))) }
+{
+    let part = boxed(alloc, exprs, part, patterns)?;
+    let body = within(alloc, exprs, pattern, body, patterns)?;
+    Ok(Code::Mapped(part, mapping, body))
+}
+
+/// The code of a form on two expressions with a function.
+#[cycle(compile)]
+fn folded(
+    alloc: Global,
+    exprs: &Exprs,
+    first: ExprId,
+    folding: Folding,
+    second: ExprId,
+    pattern: PatternId,
+    body: ExprId,
+    patterns: &Patterns,
+) -> Result<Code, AllocError>
+    ensures { let ps = patterns_of patterns.now in
+        let p = pattern_of (placed_at exprs.now pattern) in
+        IfOk result (λ code. code_of code ≡ trees.folded (compiled ps (expression exprs.now first)) folding (compiled ps (expression exprs.now second)) (compiled (p ∷ ps) (expression exprs.now body))) }
+{
+    let (first, second) = both(alloc, exprs, first, second, patterns)?;
+    let body = within(alloc, exprs, pattern, body, patterns)?;
+    Ok(Code::Folded(first, folding, second, body))
+}
+
+/// The code of a call of a stored function on an expression.
+#[cycle(compile)]
+fn called(
+    alloc: Global,
+    exprs: &Exprs,
+    function: NameId,
+    part: ExprId,
+    patterns: &Patterns,
+) -> Result<Code, AllocError>
+    ensures { IfOk result (λ code. code_of code ≡ trees.called (name_at exprs.now function) (compiled (patterns_of patterns.now) (expression exprs.now part))) }
+{
+    let part = boxed(alloc, exprs, part, patterns)?;
+    let function = String::from_str(alloc, exprs.name_of(function))?;
+    Ok(Code::Called(function, part))
+}
+
+/// The code of a constant: what it is worth. It takes no memory.
+fn constant_code(alloc: Global, constant: &Constant) -> Result<Code, AllocError>
+    ensures { IfOk result (λ code. code_of code ≡ trees.constant (literal_value constant.now)) }
+{
+    let value = constant.value(alloc)?;
+    Ok(Code::Constant(value))
+}
+
+/// The code of a name: its place, or the number 0 where it is not bound.
+fn name_code(alloc: Global, name: &str, patterns: &Patterns) -> Result<Code, AllocError>
+    ensures { IfOk result (λ code. code_of code ≡ code_of_name (place_in name.now (patterns_of patterns.now))) }
+{
+    match patterns.place(alloc, name)? {
+        Some(place) => Ok(Code::Place(place)),
+        None => Ok(Code::Constant(Value::int(0))),
+    }
+}

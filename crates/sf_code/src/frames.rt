@@ -1,0 +1,122 @@
+//! The values of frames.
+ghost use Rattle.std.specs.Prelude.{◌≡◌, [], ◌∷◌, IfOk};
+ghost use Rattle.sf_operator.specs.Operations.{number_in as a_number_in};
+ghost use Rattle.sf_code.specs.Places.{half_of, part_at, value_in_frames};
+ghost use Rattle.sf_code.specs.PlaceView.{path_of, place_of};
+ghost use Rattle.sf_code.specs.FrameView.{frames_of, found_value};
+
+use crate::place::{Half, Path, Place};
+use sf_value::{Form, Value};
+use std::alloc::{AllocError, Global};
+use std::rc::Rc;
+
+/// The values of frames.
+#[derive(Clone, Copy)]
+pub(crate) enum Frames<'a> {
+    /// No frame.
+    Empty,
+    /// That of the innermost frame, and those around it.
+    Within(&'a Value, &'a Frames<'a>),
+}
+
+/// What stands at a place.
+#[derive(Clone, Copy)]
+pub(crate) enum Found<'a> {
+    /// Nothing.
+    Nothing,
+    /// A whole value.
+    Whole(&'a Value),
+    /// A half of a pair, which can be shared.
+    Half(&'a Rc<Value>),
+}
+
+impl<'a> Found<'a> {
+    /// The value that was found; the number 0 where there is none. It takes no memory.
+    pub(crate) fn value(self, alloc: Global) -> Result<Value, AllocError>
+        ensures { IfOk result (λ v. v ≡ found_value self.entry) }
+    {
+        match self {
+            Found::Nothing => Ok(Value::int(0)),
+            Found::Whole(value) => value.clone_in(alloc),
+            Found::Half(shared) => shared.clone_in(alloc),
+        }
+    }
+
+    /// The number that was found, if it is one; the number 0 where there is nothing.
+    pub(crate) fn number(self) -> Option<i64>
+        ensures { result ≡ a_number_in (found_value self.entry) }
+    {
+        match self {
+            Found::Nothing => Some(0),
+            Found::Whole(value) => number_in(value),
+            Found::Half(shared) => number_in(&**shared),
+        }
+    }
+
+    /// A half of the value; what is no pair stands for itself.
+    fn half(self, half: Half) -> Found<'a>
+        ensures { found_value result ≡ half_of half (found_value self.entry) }
+    {
+        let value = match self {
+            Found::Nothing => return self,
+            Found::Whole(value) => value,
+            Found::Half(shared) => &**shared,
+        };
+        match value.form() {
+            Form::Pair(first, second) => match half {
+                Half::First => Found::Half(first),
+                Half::Second => Found::Half(second),
+            },
+            _ => self,
+        }
+    }
+}
+
+impl<'a> Frames<'a> {
+    /// No frame.
+    pub(crate) fn new() -> Frames<'a>
+        ensures { frames_of result ≡ [] }
+    {
+        Frames::Empty
+    }
+
+    /// These frames, and inside them one with a value.
+    pub(crate) fn within<'b>(&'b self, value: &'b Value) -> Frames<'b>
+        ensures { frames_of result ≡ value.now ∷ frames_of self.now }
+    {
+        Frames::Within(value, self)
+    }
+
+    /// What stands at a place.
+    pub(crate) fn at(&self, place: &Place) -> Found<'a>
+        ensures { found_value result ≡ value_in_frames (place_of place.now) (frames_of self.now) }
+    {
+        match self {
+            Frames::Empty => Found::Nothing,
+            Frames::Within(value, around) => match place {
+                Place::Here(path) => part(Found::Whole(value), path),
+                Place::Out(place) => around.at(place),
+            },
+        }
+    }
+}
+
+/// The part of a value that a path leads to; what is no pair stands for its halves.
+fn part<'a>(whole: Found<'a>, path: &Path) -> Found<'a>
+    ensures { found_value result ≡ part_at (path_of path.now) (found_value whole.entry) }
+{
+    match path {
+        Path::Whole => whole,
+        Path::Half(half, path) => part(whole.half(*half), path),
+    }
+}
+
+/// The number that a value is, if it is one.
+pub(crate) fn number_in(value: &Value) -> Option<i64>
+    ensures { result ≡ a_number_in value.now }
+{
+    match value.form() {
+        Form::Int(number) => Some(*number),
+        _ => None,
+    }
+}

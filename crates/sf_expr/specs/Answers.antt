@@ -1,2 +1,0 @@
--- What an evaluation answers.
-pub use Rattle.sf_operator.specs.Answers.{EvaluatesAs, Evaluates}

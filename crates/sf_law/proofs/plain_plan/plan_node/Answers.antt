@@ -1,0 +1,14 @@
+use Rattle.sf_law.specs.Copies.{copies_primitive, copies_joined, copies_sided, copies_headed}
+use Rattle.sf_law.proofs.plain_plan.plan_node.Goals as goal
+
+pub returns-in_ok-primitive-in-Primitive-clause-same : goal.returns-in_ok-primitive-in-Primitive-clause-same
+returns-in_ok-primitive-in-Primitive-clause-same c = rw c.in-Primitive.is (copies_primitive c.in_ok-primitive-in-Primitive.ensures.same)
+
+pub returns-in-Joined-clause-same : goal.returns-in-Joined-clause-same
+returns-in-Joined-clause-same c = rw (c.in-Joined.is, c.plan_id.ensures, c.plan_id-in-Joined.ensures) copies_joined
+
+pub returns-in-Sided-clause-same : goal.returns-in-Sided-clause-same
+returns-in-Sided-clause-same c = rw (c.in-Sided.is, c.plan_id-in-Sided.ensures) copies_sided
+
+pub returns-in_ok-code-in-Headed-clause-same : goal.returns-in_ok-code-in-Headed-clause-same
+returns-in_ok-code-in-Headed-clause-same c = rw (c.in-Headed.is, c.plan_id-in-Headed.ensures) copies_headed

@@ -1,0 +1,55 @@
+-- That a node is coded has one proof at most, so a plan can keep it.
+use Rattle.std.specs.Prelude.{◌≡◌, refl, Result, Ok, Err, [], ◌∷◌}
+use Rattle.std.specs.Coded.{Coded-set, code_by, coded_result, Unit-prop}
+use Rattle.sf_value.specs.Values.{Data}
+use Rattle.sf_value.specs.declared.fault.ValueFault.{ValueFault}
+use Rattle.sf_value.specs.contracts.value.Value as values
+use Rattle.sf_value.specs.contracts.fault.ValueFault as faults
+use Rattle.sf_operator.specs.Outcomes.{Evaluated, answer, failed}
+use Rattle.sf_expr.specs.Expressions.{Expression, Function}
+use Rattle.sf_expr.specs.Evaluation.{no_names, eval, apply}
+use Rattle.sf_expr.specs.Arena.{expression, function_at}
+use Rattle.sf_expr.specs.declared.exprs.Exprs.{Exprs}
+use Rattle.sf_code.specs.declared.code.Code.{Code}
+use Rattle.sf_code.specs.CodeView.{code_of}
+use Rattle.sf_code.specs.Running.{run}
+use Rattle.sf_code.specs.Worth.{IsCodeOf, IsCodeOfFunction}
+use Rattle.sf_law.specs.declared.node.PlanNode.{PlanNode}
+use Rattle.sf_law.specs.declared.node.PlanNode.TheVariants as nodes
+use Rattle.sf_law.specs.declared.node.PlanPrimitive.{PlanPrimitive}
+use Rattle.sf_law.specs.declared.node.PlanPrimitive.TheVariants as primitives
+use Rattle.sf_law.specs.Entries.{IsCodedPrimitive, IsCoded}
+
+-- an evaluation as a result, and back
+abbrev result_in : Evaluated Data → Result Data ValueFault
+result_in (answer d) = Ok d
+result_in (failed x) = Err x
+
+abbrev evaluated : Result Data ValueFault → Evaluated Data
+evaluated (Ok d) = answer d
+evaluated (Err x) = failed x
+
+evaluated-result : (v : Evaluated Data) → evaluated (result_in v) ≡ v
+evaluated-result (answer d) = refl
+evaluated-result (failed x) = refl
+
+evaluated-set : (v w : Evaluated Data) → IsProp (v ≡ w)
+evaluated-set = Coded-set (code_by (Result Data ValueFault) (coded_result values.the_row.coded faults.the_row.coded) result_in evaluated evaluated-result)
+
+IsCodeOf-prop : (e : Expression) (c : Code) → IsProp (IsCodeOf e c)
+IsCodeOf-prop e c a b = λ i. record { worth = λ f. evaluated-set (run (code_of c) [] f) (eval e (no_names f)) (a.worth f) (b.worth f) i }
+
+IsCodeOfFunction-prop : (g : Function) (c : Code) → IsProp (IsCodeOfFunction g c)
+IsCodeOfFunction-prop g c a b = λ i. record { worth = λ d f. evaluated-set (run (code_of c) (d ∷ []) f) (apply g d (no_names f)) (a.worth d f) (b.worth d f) i }
+
+IsCodedPrimitive-prop : (x : Exprs) (q : PlanPrimitive) → IsProp (IsCodedPrimitive x q)
+IsCodedPrimitive-prop x (primitives.Bare k) = Unit-prop
+IsCodedPrimitive-prop x (primitives.WithValue k e c) = IsCodeOf-prop (expression x e) c
+IsCodedPrimitive-prop x (primitives.Arrow f c) = IsCodeOfFunction-prop (function_at x f) c.value
+
+pub IsCoded-prop : (x : Exprs) (n : PlanNode) → IsProp (IsCoded x n)
+IsCoded-prop x (nodes.Primitive q) = IsCodedPrimitive-prop x q
+IsCoded-prop x (nodes.Joined j a b) = Unit-prop
+IsCoded-prop x (nodes.Sided d a) = Unit-prop
+IsCoded-prop x (nodes.Headed h e c a) = IsCodeOf-prop (expression x e) c
+IsCoded-prop x (nodes.Pipeline v) = Unit-prop
