@@ -88,6 +88,7 @@ impl<'a> Frames<'a> {
     }
 
     /// What stands at a place.
+    #[inline(always)]
     pub(crate) fn at(&self, place: &Place) -> Found<'a>
         ensures { found_value result ≡ value_in_frames (place_of place.now) (frames_of self.now) }
     {
@@ -95,19 +96,43 @@ impl<'a> Frames<'a> {
             Frames::Empty => Found::Nothing,
             Frames::Within(value, around) => match place {
                 Place::Here(path) => part(Found::Whole(value), path),
-                Place::Out(place) => around.at(place),
+                Place::Out(outer) => around.further(outer),
+            },
+        }
+    }
+
+    /// The same, by a call for each frame.
+    fn further(&self, place: &Place) -> Found<'a>
+        ensures { found_value result ≡ value_in_frames (place_of place.now) (frames_of self.now) }
+    {
+        match self {
+            Frames::Empty => Found::Nothing,
+            Frames::Within(value, around) => match place {
+                Place::Here(path) => part(Found::Whole(value), path),
+                Place::Out(place) => around.further(place),
             },
         }
     }
 }
 
 /// The part of a value that a path leads to; what is no pair stands for its halves.
+#[inline(always)]
 fn part<'a>(whole: Found<'a>, path: &Path) -> Found<'a>
     ensures { found_value result ≡ part_at (path_of path.now) (found_value whole.entry) }
 {
     match path {
         Path::Whole => whole,
-        Path::Half(half, path) => part(whole.half(*half), path),
+        Path::Half(half, path) => part_within(whole.half(*half), path),
+    }
+}
+
+/// The same, by a call for each half.
+fn part_within<'a>(whole: Found<'a>, path: &Path) -> Found<'a>
+    ensures { found_value result ≡ part_at (path_of path.now) (found_value whole.entry) }
+{
+    match path {
+        Path::Whole => whole,
+        Path::Half(half, path) => part_within(whole.half(*half), path),
     }
 }
 

@@ -27,6 +27,7 @@ use std::rc::Rc;
 
 /// What code is worth over the values of frames, or the first fault of its operations: operands stand from left to right.
 #[cycle(run)]
+#[inline(always)]
 pub(crate) fn run<F: Holds>(
     alloc: Global,
     code: &Code,
@@ -117,7 +118,7 @@ fn operation<F: Holds>(
 
 /// What arithmetic makes of two codes, or the first fault.
 #[cycle(run)]
-#[inline(never)]
+#[inline(always)]
 fn computed<F: Holds>(
     alloc: Global,
     left: &Code,
@@ -134,6 +135,7 @@ fn computed<F: Holds>(
 
 /// The number that arithmetic makes of two codes, or the first fault: the number 0 of what is no number.
 #[cycle(run)]
+#[inline(always)]
 fn arithmetic<F: Holds>(
     alloc: Global,
     left: &Code,
@@ -155,8 +157,10 @@ fn arithmetic<F: Holds>(
     }
 }
 
-/// The number that code is worth, none where it is worth another value, or the first fault.
+/// The number that code is worth, none where it is worth another value, or the first fault: at once where it is a constant
+/// or a place.
 #[cycle(run)]
+#[inline(always)]
 fn number<F: Holds>(
     alloc: Global,
     code: &Code,
@@ -168,6 +172,22 @@ fn number<F: Holds>(
     match code {
         Code::Constant(value) => Ok(number_in(value)),
         Code::Place(place) => Ok(frames.at(place).number()),
+        _ => number_run(alloc, code, frames, functions),
+    }
+}
+
+/// The number that code is worth, none where it is worth another value, or the first fault.
+#[cycle(run)]
+#[inline(never)]
+fn number_run<F: Holds>(
+    alloc: Global,
+    code: &Code,
+    frames: &Frames,
+    functions: &F,
+) -> Result<Option<i64>, EvalFault>
+    ensures { AnswersNumber result (worth_of (code_of code.now) (frames_of frames.now) (F.answers functions.now)) }
+{
+    match code {
         Code::Operation(left, Operator::Arithmetic(operator), right) => {
             counted(alloc, left, *operator, right, frames, functions)
         }

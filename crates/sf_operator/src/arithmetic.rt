@@ -10,6 +10,7 @@ use sf_value::ValueFault;
 
 /// What an operator makes of two numbers: `Overflow` where it is outside signed 64 bits, and `DivideByZero` where a
 /// divisor is zero.
+#[inline]
 pub fn calculate(operator: Arithmetic, left: i64, right: i64) -> Result<i64, ValueFault>
     ensures { Computes result (of_numbers operator left right) }
 {

@@ -7,43 +7,43 @@ use Rattle.sf_code.proofs.Sized.{code_size}
 use Rattle.sf_code.proofs.running.+run.Given as goal
 
 abbrev pub decreases-run : goal.decreases-run
-decreases-run g l = 4 * code_size (code_of l.code.now)
+decreases-run g l = 8 * code_size (code_of l.code.now)
 
 abbrev pub decreases-half : goal.decreases-half
-decreases-half g l = 4 * code_size (code_of l.code.now) + 1
+decreases-half g l = 8 * code_size (code_of l.code.now) + 2
 
 abbrev pub decreases-answer : goal.decreases-answer
-decreases-answer g l = 4 * code_size (code_of l.body.now) + 1
+decreases-answer g l = 8 * code_size (code_of l.body.now) + 2
 
 abbrev pub decreases-pair : goal.decreases-pair
-decreases-pair g l = 4 * (code_size (code_of l.first.now) + code_size (code_of l.second.now)) + 2
+decreases-pair g l = 8 * (code_size (code_of l.first.now) + code_size (code_of l.second.now)) + 4
 
 abbrev pub decreases-applied : goal.decreases-applied
-decreases-applied g l = 4 * code_size (code_of l.part.now) + 2
+decreases-applied g l = 8 * code_size (code_of l.part.now) + 4
 
 abbrev pub decreases-operation : goal.decreases-operation
-decreases-operation g l = 4 * (code_size (code_of l.left.now) + code_size (code_of l.right.now)) + 2
+decreases-operation g l = 8 * (code_size (code_of l.left.now) + code_size (code_of l.right.now)) + 4
 
 abbrev pub decreases-conditional : goal.decreases-conditional
-decreases-conditional g l = 4 * (code_size (code_of l.condition.now) + (code_size (code_of l.first.now) + code_size (code_of l.second.now))) + 2
+decreases-conditional g l = 8 * (code_size (code_of l.condition.now) + (code_size (code_of l.first.now) + code_size (code_of l.second.now))) + 4
 
 abbrev pub decreases-called : goal.decreases-called
-decreases-called g l = 4 * code_size (code_of l.part.now) + 2
+decreases-called g l = 8 * code_size (code_of l.part.now) + 4
 
 abbrev pub decreases-mapped : goal.decreases-mapped
-decreases-mapped g l = 4 * (code_size (code_of l.part.now) + code_size (code_of l.body.now)) + 3
+decreases-mapped g l = 8 * (code_size (code_of l.part.now) + code_size (code_of l.body.now)) + 6
 
 abbrev pub decreases-matched : goal.decreases-matched
-decreases-matched g l = 4 * (code_size (code_of l.first.now) + (code_size (code_of l.second.now) + code_size (code_of l.body.now))) + 2
+decreases-matched g l = 8 * (code_size (code_of l.first.now) + (code_size (code_of l.second.now) + code_size (code_of l.body.now))) + 4
 
 abbrev pub decreases-merged : goal.decreases-merged
-decreases-merged g l = 4 * (code_size (code_of l.first.now) + (code_size (code_of l.second.now) + code_size (code_of l.body.now))) + 2
+decreases-merged g l = 8 * (code_size (code_of l.first.now) + (code_size (code_of l.second.now) + code_size (code_of l.body.now))) + 4
 
 abbrev pub decreases-fold : goal.decreases-fold
-decreases-fold g l = 4 * (code_size (code_of l.first.now) + (code_size (code_of l.second.now) + code_size (code_of l.body.now))) + 2
+decreases-fold g l = 8 * (code_size (code_of l.first.now) + (code_size (code_of l.second.now) + code_size (code_of l.body.now))) + 4
 
 abbrev pub decreases-folded : goal.decreases-folded
-decreases-folded g l = 4 * (code_size (code_of l.first.now) + (code_size (code_of l.second.now) + code_size (code_of l.body.now))) + 3
+decreases-folded g l = 8 * (code_size (code_of l.first.now) + (code_size (code_of l.second.now) + code_size (code_of l.body.now))) + 6
 
 abbrev pub invariant-fold-loop-rest : goal.invariant-fold-loop-rest
 invariant-fold-loop-rest g l = record {
@@ -55,28 +55,31 @@ abbrev pub decreases-fold-loop-rest : goal.decreases-fold-loop-rest
 decreases-fold-loop-rest g l = length l.rest
 
 abbrev pub decreases-computed : goal.decreases-computed
-decreases-computed g l = 4 * (code_size (code_of l.left.now) + code_size (code_of l.right.now)) + 3
+decreases-computed g l = 8 * (code_size (code_of l.left.now) + code_size (code_of l.right.now)) + 6
 
 abbrev pub decreases-arithmetic : goal.decreases-arithmetic
-decreases-arithmetic g l = 4 * (code_size (code_of l.left.now) + code_size (code_of l.right.now)) + 2
+decreases-arithmetic g l = 8 * (code_size (code_of l.left.now) + code_size (code_of l.right.now)) + 4
 
 abbrev pub decreases-number : goal.decreases-number
-decreases-number g l = 4 * code_size (code_of l.code.now) + 1
+decreases-number g l = 8 * code_size (code_of l.code.now) + 2
 
 abbrev pub decreases-counted : goal.decreases-counted
-decreases-counted g l = 4 * (code_size (code_of l.left.now) + code_size (code_of l.right.now)) + 3
+decreases-counted g l = 8 * (code_size (code_of l.left.now) + code_size (code_of l.right.now)) + 6
 
 abbrev pub decreases-truth : goal.decreases-truth
-decreases-truth g l = 4 * code_size (code_of l.code.now) + 1
+decreases-truth g l = 8 * code_size (code_of l.code.now) + 2
 
 abbrev pub decreases-negated : goal.decreases-negated
-decreases-negated g l = 4 * code_size (code_of l.part.now) + 2
+decreases-negated g l = 8 * code_size (code_of l.part.now) + 4
 
 abbrev pub decreases-compared : goal.decreases-compared
-decreases-compared g l = 4 * (code_size (code_of l.left.now) + code_size (code_of l.right.now)) + 3
+decreases-compared g l = 8 * (code_size (code_of l.left.now) + code_size (code_of l.right.now)) + 6
 
 abbrev pub decreases-combined : goal.decreases-combined
-decreases-combined g l = 4 * (code_size (code_of l.left.now) + code_size (code_of l.right.now)) + 3
+decreases-combined g l = 8 * (code_size (code_of l.left.now) + code_size (code_of l.right.now)) + 6
 
 abbrev pub decreases-accepted : goal.decreases-accepted
-decreases-accepted g l = 4 * code_size (code_of l.body.now) + 2
+decreases-accepted g l = 8 * code_size (code_of l.body.now) + 4
+
+abbrev pub decreases-number_run : goal.decreases-number_run
+decreases-number_run g l = 8 * code_size (code_of l.code.now) + 1
