@@ -30,7 +30,7 @@ use Rattle.sf_term.specs.Headers.{Header}
 use Rattle.sf_term.specs.Trees.{Primitive, bare, with_value, arrow, fused, Term, primitive, joined, sided, headed, staged, Template, Templates}
 use Rattle.sf_term.specs.Arena.{term_number, tree, term_node_at, term_entry_of, expressions_of, headers_of, template_in, templates_of, TermPartsBelow}
 use Rattle.sf_mean.specs.Contexts.{context_of}
-use Rattle.sf_mean.specs.Typing.{PrimitiveTakes, identity_takes, constant_takes, initial_pre_takes, arrow_takes, fused_takes, Takes, takes, FormTakes, primitive_takes, sequence_takes, parallel_takes, fan_takes, first_takes, second_takes, loop_takes, stages_take, Accepted}
+use Rattle.sf_mean.specs.Typing.{PrimitiveTakes, bare_takes, value_takes, arrow_takes, fused_takes, Takes, takes, FormTakes, primitive_takes, sequence_takes, parallel_takes, fan_takes, first_takes, second_takes, loop_takes, stages_take, Accepted}
 use Rattle.sf_check.specs.Answering.{primitive_in}
 use Rattle.sf_check.specs.Calling.{IsCalledAlike, AreCalledAlike}
 use Rattle.sf_check.proofs.Made.{made, tree_made}
@@ -92,9 +92,8 @@ module _ (fs gs : TypesByName) where
 
   module _ (ts : Templates) where
     primitive_over : {p : Primitive} {a b : Kind} → PrimitiveAlike p → PrimitiveTakes (context_of fs ts) p a b → PrimitiveTakes (context_of gs ts) p a b
-    primitive_over k identity_takes = identity_takes
-    primitive_over k (constant_takes h) = constant_takes (typed_over refl k h)
-    primitive_over k (initial_pre_takes h) = initial_pre_takes (typed_over refl k h)
+    primitive_over k (bare_takes h f) = bare_takes h f
+    primitive_over k (value_takes v h f) = value_takes (typed_over refl k v) h f
     primitive_over k (arrow_takes h) = arrow_takes (function_over refl k h)
     primitive_over k (fused_takes h f) = absurd k
 

@@ -11,10 +11,9 @@ use Rattle.sf_expr.specs.declared.exprs.Exprs.{Exprs}
 use Rattle.sf_expr.specs.Arena.{expression}
 use Rattle.sf_expr.specs.Typing.{Fits, HasType}
 use Rattle.sf_expr.specs.Inference.{NamesFit}
+use Rattle.sf_operator.proofs.Refusing.{kind_answered}
 use Rattle.sf_expr.proofs.Answered.{answered, function_answered}
-use Rattle.sf_term.specs.declared.form.Bare.TheVariants.{Identity}
 use Rattle.sf_term.specs.declared.form.WithValue.{WithValue}
-use Rattle.sf_term.specs.declared.form.WithValue.TheVariants.{Constant, InitialPre}
 use Rattle.sf_term.specs.declared.form.Join.TheVariants.{InSequence, InParallel, FannedOut}
 use Rattle.sf_term.specs.declared.form.Side.TheVariants.{First, Second}
 use Rattle.sf_term.specs.declared.form.Heading.TheVariants.{LoopPre}
@@ -27,11 +26,11 @@ use Rattle.sf_term.specs.declared.program.Program.{Program}
 use Rattle.sf_term.specs.Arena.{term_number, tree, term_node_at, term_entry_of, term_spot_at, expressions_of, TermPartsBelow}
 use Rattle.sf_term.proofs.Kept.{parts_below}
 use Rattle.sf_mean.specs.Contexts.{Context, names_of_values}
-use Rattle.sf_mean.specs.Typing.{PrimitiveTakes, identity_takes, constant_takes, initial_pre_takes, arrow_takes, Takes, FormTakes, primitive_takes, sequence_takes, parallel_takes, fan_takes, first_takes, second_takes, loop_takes}
+use Rattle.sf_mean.specs.Typing.{bare_kind, value_kind, PrimitiveTakes, bare_takes, value_takes, arrow_takes, Takes, FormTakes, primitive_takes, sequence_takes, parallel_takes, fan_takes, first_takes, second_takes, loop_takes}
 use Rattle.sf_operator.specs.Kinds.{same_kind}
 use Rattle.sf_operator.proofs.SameKinds.{same_is, is_same}
 use Rattle.sf_mean.proofs.Inferred.{PartsAre, two_parts, no_parts, parts_are, output_fits}
-use Rattle.sf_check.specs.Breaking.{Exceeds, PrimitiveBreaks, value_refused, initial_differs, function_refused, FormBreaks, primitive_breaks, parallel_input, parallel_exceeds, fan_exceeds, side_input, first_exceeds, second_exceeds, start_refused, fed_exceeds, loop_differs, Reaches, sequence_left, sequence_right, parallel_left, parallel_right, fan_left, fan_right, first_part, second_part, loop_part, TermBreaks, itself, within}
+use Rattle.sf_check.specs.Breaking.{Exceeds, PrimitiveBreaks, value_refused, bare_refused, given_refused, function_refused, FormBreaks, primitive_breaks, parallel_input, parallel_exceeds, fan_exceeds, side_input, first_exceeds, second_exceeds, start_refused, fed_exceeds, loop_differs, Reaches, sequence_left, sequence_right, parallel_left, parallel_right, fan_left, fan_right, first_part, second_part, loop_part, TermBreaks, itself, within}
 use Rattle.sf_check.specs.Answering.{primitive_in}
 use Rattle.sf_check.proofs.Made.{made}
 use Rattle.sf_check.proofs.Terms.{form_ok}
@@ -50,14 +49,10 @@ abbrev pub PrimitiveAnswered : Exprs → Context → Primitive → Kind → Spot
 PrimitiveAnswered x Γ q a s = ((b : Kind) × PrimitiveTakes Γ (primitive_in x q) a b) ⊎ ((e : Breach) × PrimitiveBreaks x Γ s q a e)
 
 value_answered : (x : Exprs) (Γ : Context) (k : WithValue) (v : ExprId) (a : Kind) (s : Spot) (b : Kind) → HasType (names_of_values Γ) (expression x v) b → PrimitiveAnswered x Γ (primitives.WithValue k v) a s
-value_answered x Γ Constant v a s b h = inl (b, constant_takes h)
-value_answered x Γ InitialPre v a s b h = elim (kinds_or b a) [
-  | inl e ↦ inl (a, initial_pre_takes (subst (HasType (names_of_values Γ) (expression x v)) e h))
-  | inr other ↦ inr (_, initial_differs h other)
-]
+value_answered x Γ k v a s b h = elim (kind_answered (value_kind k b a) s) [ inl t ↦ inl (t.0, value_takes h t.1 t.2) | inr r ↦ inr (r.0, given_refused h r.1) ]
 
 primitive_answered : (x : Exprs) (Γ : Context) (q : Primitive) (a : Kind) (s : Spot) → NamesFit (names_of_values Γ) → Fits a → PrimitiveAnswered x Γ q a s
-primitive_answered x Γ (primitives.Bare Identity) a s fit f = inl (a, identity_takes)
+primitive_answered x Γ (primitives.Bare k) a s fit f = elim (kind_answered (bare_kind k a) s) [ inl t ↦ inl (t.0, bare_takes t.1 t.2) | inr r ↦ inr (r.0, bare_refused r.1) ]
 primitive_answered x Γ (primitives.WithValue k v) a s fit f = elim (answered x (names_of_values Γ) fit v) [ inl t ↦ value_answered x Γ k v a s t.0 t.1 | inr r ↦ inr (_, value_refused r.1) ]
 primitive_answered x Γ (primitives.Arrow g) a s fit f = elim (function_answered x (names_of_values Γ) g a s fit f) [ inl t ↦ inl (t.0, arrow_takes t.1) | inr r ↦ inr (_, function_refused r.1) ]
 

@@ -1,5 +1,5 @@
 -- Where a rule is broken, there is no type.
-use Rattle.std.proofs.Common.{◌≡◌, refl, subst, ap, arith}
+use Rattle.std.proofs.Common.{◌≡◌, refl, subst, ap, ◌∙◌, arith}
 use mathlib.Core.Path.{ap₂}
 use Rattle.sf_value.specs.Values.{Kind, pair_kind, nodes as nodes_of}
 use Rattle.sf_func.specs.Registries.{TypesByName}
@@ -8,6 +8,7 @@ use Rattle.sf_expr.specs.declared.exprs.Exprs.{Exprs}
 use Rattle.sf_refusal.specs.declared.spot.Spot.{Spot}
 use Rattle.sf_refusal.specs.declared.refusal.Breach.{Breach}
 use Rattle.sf_refusal.specs.Refusals.{broken}
+use Rattle.sf_operator.proofs.Refusing.{kind_refused}
 use Rattle.sf_expr.proofs.Judged.{refused_untyped, refused_takes_none}
 use Rattle.sf_term.specs.declared.node.TermId.{TermId}
 use Rattle.sf_term.specs.declared.node.Primitive.{Primitive}
@@ -16,9 +17,9 @@ use Rattle.sf_term.specs.declared.program.Program.{Program}
 use Rattle.sf_term.specs.Headers.{Header}
 use Rattle.sf_term.specs.Arena.{tree, term_node_at, template_in, templates_of}
 use Rattle.sf_mean.specs.Contexts.{Context}
-use Rattle.sf_mean.specs.Typing.{PrimitiveTakes, constant_takes, initial_pre_takes, arrow_takes, Takes, FormTakes, primitive_takes, sequence_takes, parallel_takes, fan_takes, first_takes, second_takes, loop_takes, IsTyped}
+use Rattle.sf_mean.specs.Typing.{value_kind, PrimitiveTakes, bare_takes, value_takes, arrow_takes, Takes, FormTakes, primitive_takes, sequence_takes, parallel_takes, fan_takes, first_takes, second_takes, loop_takes, IsTyped}
 use Rattle.sf_check.specs.Answering.{primitive_in}
-use Rattle.sf_check.specs.Breaking.{Exceeds, PrimitiveBreaks, value_refused, initial_differs, function_refused, FormBreaks, primitive_breaks, parallel_input, parallel_exceeds, fan_exceeds, side_input, first_exceeds, second_exceeds, start_refused, fed_exceeds, loop_differs, Reaches, sequence_left, sequence_right, parallel_left, parallel_right, fan_left, fan_right, first_part, second_part, loop_part, TermBreaks, itself, within, TemplateBreaks, breaks_within, breaks_header}
+use Rattle.sf_check.specs.Breaking.{Exceeds, PrimitiveBreaks, value_refused, bare_refused, given_refused, function_refused, FormBreaks, primitive_breaks, parallel_input, parallel_exceeds, fan_exceeds, side_input, first_exceeds, second_exceeds, start_refused, fed_exceeds, loop_differs, Reaches, sequence_left, sequence_right, parallel_left, parallel_right, fan_left, fan_right, first_part, second_part, loop_part, TermBreaks, itself, within, TemplateBreaks, breaks_within, breaks_header}
 use Rattle.sf_check.proofs.Made.{made, tree_made}
 use Rattle.sf_check.proofs.Types.{expression_one, takes_one, input_fits, output_fits, form_of}
 
@@ -26,9 +27,9 @@ pub too_large : {t u : Kind} → Exceeds t → Fits u → t ≡ u → ⊥
 too_large big fits e = let n = ap nodes_of e in omega (arith, big, fits, n)
 
 primitive_untyped : {x : Exprs} {Γ : Context} {s : Spot} {q : Primitive} {a b : Kind} {e : Breach} → PrimitiveBreaks x Γ s q a e → PrimitiveTakes Γ (primitive_in x q) a b → ⊥
-primitive_untyped (value_refused q) (constant_takes h) = refused_untyped q h
-primitive_untyped (value_refused q) (initial_pre_takes h) = refused_untyped q h
-primitive_untyped (initial_differs h other) (initial_pre_takes k) = other (expression_one h k)
+primitive_untyped (value_refused q) (value_takes h e f) = refused_untyped q h
+primitive_untyped {s = s} (bare_refused q) (bare_takes e f) = kind_refused _ s _ q e f
+primitive_untyped {s = s} (given_refused {k = k} {a = a} h q) (value_takes l e f) = kind_refused _ s _ q (ap (λ t. value_kind k t a) (expression_one h l) ∙ e) f
 primitive_untyped (function_refused q) (arrow_takes h) = refused_takes_none q h
 
 form_made : (p : Program) {Γ : Context} (i : TermId) {a b : Kind} → Takes Γ (tree p i) a b → FormTakes Γ (made p (term_node_at p i)) a b

@@ -8,6 +8,8 @@ use Rattle.sf_refusal.specs.declared.spot.Spot.{Spot}
 use Rattle.sf_refusal.specs.declared.rule.Rule.TheVariants.{DuplicateName}
 use Rattle.sf_refusal.specs.declared.refusal.Breach.{Breach}
 use Rattle.sf_refusal.specs.Refusals.{breach_of, broken}
+use Rattle.sf_operator.specs.Breaches.{KindRefused}
+use Rattle.sf_operator.proofs.Refusing.{kind_once}
 use Rattle.sf_expr.proofs.Judged.{refused_untyped}
 use Rattle.sf_expr.proofs.Once.{refused_once, function_refused_once}
 use Rattle.sf_term.specs.declared.node.TermId.{TermId}
@@ -17,9 +19,9 @@ use Rattle.sf_term.specs.declared.program.Program.{Program}
 use Rattle.sf_term.specs.Headers.{Header}
 use Rattle.sf_term.specs.Arena.{tree, headers_of, spots_of, template_in}
 use Rattle.sf_mean.specs.Contexts.{Context}
-use Rattle.sf_mean.specs.Typing.{Takes}
+use Rattle.sf_mean.specs.Typing.{value_kind, Takes}
 use Rattle.sf_check.specs.Names.{IsFirstRepeat}
-use Rattle.sf_check.specs.Breaking.{PrimitiveBreaks, value_refused, initial_differs, function_refused, FormBreaks, primitive_breaks, parallel_input, parallel_exceeds, fan_exceeds, side_input, first_exceeds, second_exceeds, start_refused, fed_exceeds, loop_differs, Reaches, sequence_left, sequence_right, parallel_left, parallel_right, fan_left, fan_right, first_part, second_part, loop_part, TermBreaks, itself, within, TemplateBreaks, breaks_within, breaks_header, IsFirstBreak}
+use Rattle.sf_check.specs.Breaking.{PrimitiveBreaks, value_refused, bare_refused, given_refused, function_refused, FormBreaks, primitive_breaks, parallel_input, parallel_exceeds, fan_exceeds, side_input, first_exceeds, second_exceeds, start_refused, fed_exceeds, loop_differs, Reaches, sequence_left, sequence_right, parallel_left, parallel_right, fan_left, fan_right, first_part, second_part, loop_part, TermBreaks, itself, within, TemplateBreaks, breaks_within, breaks_header, IsFirstBreak}
 use Rattle.sf_check.specs.Refusing.{RefusesNetwork, name_refused, type_refused, main_missing}
 use Rattle.sf_check.proofs.Types.{expression_one, takes_one, input_fits}
 use Rattle.sf_check.proofs.Broken.{too_large, breaks_untyped, template_untyped}
@@ -29,9 +31,10 @@ use Rattle.sf_check.proofs.Templates.{template_at}
 
 primitive_once : {x : Exprs} {Γ : Context} {s : Spot} {q : Primitive} {a : Kind} {e f : Breach} → PrimitiveBreaks x Γ s q a e → PrimitiveBreaks x Γ s q a f → e ≡ f
 primitive_once (value_refused h) (value_refused k) = refused_once h k
-primitive_once (value_refused h) (initial_differs k other) = absurd (refused_untyped h k)
-primitive_once (initial_differs k other) (value_refused h) = absurd (refused_untyped h k)
-primitive_once (initial_differs h other) (initial_differs k more) = refl
+primitive_once (value_refused h) (given_refused k q) = absurd (refused_untyped h k)
+primitive_once (given_refused k q) (value_refused h) = absurd (refused_untyped h k)
+primitive_once {s = s} {f = f} (given_refused {k = w} {a = a} h q) (given_refused k p) = kind_once _ s q (subst (λ t. KindRefused (value_kind w t a) s f) (expression_one k h) p)
+primitive_once {s = s} (bare_refused h) (bare_refused k) = kind_once _ s h k
 primitive_once (function_refused h) (function_refused k) = function_refused_once h k
 
 module _ {p : Program} {Γ : Context} where

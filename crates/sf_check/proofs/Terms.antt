@@ -13,13 +13,11 @@ use Rattle.sf_refusal.specs.declared.refusal.Refusal.{Refusal}
 use Rattle.sf_refusal.specs.declared.refusal.Refusal.TheVariants.{Memory}
 use Rattle.sf_refusal.specs.Refusals.{breach_of, broken, OrMemory, no_memory}
 use Rattle.sf_refusal.proofs.Explained.{or_memory, breaks_at}
-use Rattle.sf_expr.specs.Expressions.{Expression}
+use Rattle.sf_operator.specs.Breaches.{AnswersKind}
 use Rattle.sf_expr.specs.Refusals.{Refused, Judges, JudgesFunction, PairRefused, AnswersPair}
 use Rattle.sf_expr.specs.Typing.{Names, Fits, HasType, FunctionTakes}
 use Rattle.sf_term.specs.declared.form.Bare.{Bare}
-use Rattle.sf_term.specs.declared.form.Bare.TheVariants.{Identity}
 use Rattle.sf_term.specs.declared.form.WithValue.{WithValue}
-use Rattle.sf_term.specs.declared.form.WithValue.TheVariants.{Constant, InitialPre}
 use Rattle.sf_term.specs.declared.form.Join.{Join}
 use Rattle.sf_term.specs.declared.form.Join.TheVariants.{InSequence, InParallel, FannedOut}
 use Rattle.sf_term.specs.declared.form.Side.{Side}
@@ -32,11 +30,10 @@ use Rattle.sf_term.specs.declared.node.Primitive.{Primitive}
 use Rattle.sf_term.specs.declared.node.Primitive.TheVariants as primitives
 use Rattle.sf_term.specs.declared.program.Program.{Program}
 use Rattle.sf_term.specs.Headers.{Header}
-use Rattle.sf_term.specs.Trees.{bare, with_value}
 use Rattle.sf_term.specs.Arena.{tree, term_node_at, term_spot_at, expressions_of, templates_of}
 use Rattle.sf_mean.specs.Contexts.{Context, names_of_values, context_of}
-use Rattle.sf_mean.specs.Typing.{PrimitiveTakes, identity_takes, constant_takes, initial_pre_takes, arrow_takes, Takes, takes, FormTakes, primitive_takes, sequence_takes, parallel_takes, fan_takes, first_takes, second_takes, loop_takes}
-use Rattle.sf_check.specs.Breaking.{IsNoPairWith, Exceeds, PrimitiveBreaks, value_refused, initial_differs, function_refused, FormBreaks, primitive_breaks, parallel_exceeds, fan_exceeds, first_exceeds, second_exceeds, start_refused, fed_exceeds, loop_differs, Reaches, sequence_right, fan_left, parallel_left, parallel_right, first_part, second_part, loop_part, TermBreaks, itself, within, TemplateBreaks, breaks_within, breaks_header}
+use Rattle.sf_mean.specs.Typing.{bare_kind, value_kind, PrimitiveTakes, bare_takes, value_takes, arrow_takes, Takes, takes, FormTakes, primitive_takes, sequence_takes, parallel_takes, fan_takes, first_takes, second_takes, loop_takes}
+use Rattle.sf_check.specs.Breaking.{IsNoPairWith, Exceeds, PrimitiveBreaks, value_refused, bare_refused, given_refused, function_refused, FormBreaks, primitive_breaks, parallel_exceeds, fan_exceeds, first_exceeds, second_exceeds, start_refused, fed_exceeds, loop_differs, Reaches, sequence_right, fan_left, parallel_left, parallel_right, first_part, second_part, loop_part, TermBreaks, itself, within, TemplateBreaks, breaks_within, breaks_header}
 use Rattle.sf_check.specs.Answering.{primitive_in, AnswersPrimitive, AnswersTerm}
 use Rattle.sf_check.proofs.Made.{made, tree_made}
 use Rattle.sf_check.proofs.Types.{primitive_fits, output_fits}
@@ -176,24 +173,20 @@ constant_refused x Γ k v a s r h = or_memory (λ b q. value_refused q) h
 pub arrow_refused : (x : Exprs) (Γ : Context) (f : FunctionId) (a : Kind) (s : Spot) (r : Refusal) → JudgesFunction x (names_of_values Γ) f a s (Err r) → OrMemory (PrimitiveBreaks x Γ s (primitives.Arrow f) a) r
 arrow_refused x Γ f a s r h = or_memory (λ b q. function_refused q) h
 
-pub constant_output : (Γ : Context) (k : WithValue) (v : Expression) (a b : Kind) → k ≡ Constant → HasType (names_of_values Γ) v b → PrimitiveTakes Γ (with_value k v) a b
-constant_output Γ k v a b is h = subst (λ k. PrimitiveTakes Γ (with_value k v) a b) (sym is) (constant_takes h)
+-- the answer for the types is that for the primitive
+pub bare_answers : (x : Exprs) (Γ : Context) (q : Primitive) (k : Bare) (a : Kind) (s : Spot) (r : Result Kind Refusal) → q ≡ primitives.Bare k → AnswersKind (bare_kind k a) s r → AnswersPrimitive x Γ q a s r
+bare_answers x Γ q k a s r is h = subst (λ q. AnswersPrimitive x Γ q a s r) (sym is) (each r h)
+  where
+    each : (r : Result Kind Refusal) → AnswersKind (bare_kind k a) s r → AnswersPrimitive x Γ (primitives.Bare k) a s r
+    each (Ok b) h = bare_takes h.0 h.1
+    each (Err e) h = or_memory (λ b q. bare_refused q) h
 
-pub initial_output : (Γ : Context) (k : WithValue) (v : Expression) (a b : Kind) → k ≡ InitialPre → HasType (names_of_values Γ) v b → b ≡ a → PrimitiveTakes Γ (with_value k v) a b
-initial_output Γ k v a b is h same =
-    subst (λ k. PrimitiveTakes Γ (with_value k v) a b) (sym is) (subst (PrimitiveTakes Γ (with_value InitialPre v) a) (sym same) (initial_pre_takes (subst (HasType (names_of_values Γ) v) same h)))
-
-pub initial_refused : (x : Exprs) (Γ : Context) (k : WithValue) (v : ExprId) (a b : Kind) (s : Spot) (e : Refusal) → k ≡ InitialPre → HasType (names_of_values Γ) (expression x v) b → (b ≡ a → ⊥) → e ≡ broken Mismatch s → OrMemory (PrimitiveBreaks x Γ s (primitives.WithValue k v) a) e
-initial_refused x Γ k v a b s e is h other eq = breaks_at Mismatch eq refl (subst (λ k. PrimitiveBreaks x Γ s (primitives.WithValue k v) a (breach_of Mismatch s)) (sym is) (initial_differs h other))
+pub value_answers : (x : Exprs) (Γ : Context) (k : WithValue) (v : ExprId) (t a : Kind) (s : Spot) (r : Result Kind Refusal) → HasType (names_of_values Γ) (expression x v) t → AnswersKind (value_kind k t a) s r → AnswersPrimitive x Γ (primitives.WithValue k v) a s r
+value_answers x Γ k v t a s (Ok b) typed h = value_takes typed h.0 h.1
+value_answers x Γ k v t a s (Err e) typed h = or_memory (λ b q. given_refused typed q) h
 
 pub arrow_output : (x : Exprs) (Γ : Context) (q : Primitive) (f : FunctionId) (a b : Kind) → q ≡ primitives.Arrow f → FunctionTakes (names_of_values Γ) (function_at x f) a b → PrimitiveTakes Γ (primitive_in x q) a b
 arrow_output x Γ q f a b is h = subst (λ q. PrimitiveTakes Γ (primitive_in x q) a b) (sym is) (arrow_takes h)
-
-pub identity_output : (x : Exprs) (Γ : Context) (q : Primitive) (k : Bare) (a : Kind) → q ≡ primitives.Bare k → PrimitiveTakes Γ (primitive_in x q) a a
-identity_output x Γ q k a is = subst (λ q. PrimitiveTakes Γ (primitive_in x q) a a) (sym is) (each k)
-  where
-    each : (k : Bare) → PrimitiveTakes Γ (bare k) a a
-    each Identity = identity_takes
 
 -- ## Under an equal context
 

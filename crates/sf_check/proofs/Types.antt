@@ -7,7 +7,7 @@ use Rattle.sf_expr.specs.Typing.{Names, only_functions, typed_name, with_types, 
 pub use Rattle.sf_expr.proofs.Judged.{one_type as expression_one}
 use Rattle.sf_term.specs.Trees.{Primitive}
 use Rattle.sf_mean.specs.Contexts.{Context, values_in}
-use Rattle.sf_mean.specs.Typing.{PrimitiveTakes, identity_takes, constant_takes, initial_pre_takes, arrow_takes, fused_takes}
+use Rattle.sf_mean.specs.Typing.{PrimitiveTakes, bare_takes, value_takes, arrow_takes, fused_takes}
 use Rattle.sf_check.specs.Contexts.{bindings_of}
 use Rattle.sf_check.specs.Breaking.{IsNoPairWith}
 pub use Rattle.sf_mean.proofs.Inferred.{takes_one, input_fits, output_fits, form_of}
@@ -27,9 +27,8 @@ function_fits : {R : Names} {f : Function} {t u : Kind} → FunctionTakes R f t 
 function_fits (function_takes fits binds h) = expression_fits h
 
 pub primitive_fits : {Γ : Context} {q : Primitive} {a b : Kind} → Fits a → PrimitiveTakes Γ q a b → Fits b
-primitive_fits f identity_takes = f
-primitive_fits f (constant_takes h) = expression_fits h
-primitive_fits f (initial_pre_takes h) = f
+primitive_fits f (bare_takes h g) = g
+primitive_fits f (value_takes v h g) = g
 primitive_fits f (arrow_takes h) = function_fits h
 primitive_fits f (fused_takes h g) = g
 

@@ -6,14 +6,15 @@ use Rattle.sf_refusal.specs.declared.rule.Rule.TheVariants.{Mismatch, TypeTooLar
 use Rattle.sf_refusal.specs.declared.refusal.Breach.{Breach}
 use Rattle.sf_refusal.specs.Refusals.{breach_of}
 use Rattle.sf_func.specs.Registries.{TypesByName}
+use Rattle.sf_operator.specs.Breaches.{KindRefused}
 use Rattle.sf_expr.specs.declared.exprs.ExprId.{ExprId}
 use Rattle.sf_expr.specs.declared.exprs.FunctionId.{FunctionId}
 use Rattle.sf_expr.specs.declared.exprs.Exprs.{Exprs}
 use Rattle.sf_expr.specs.Arena.{expression}
 use Rattle.sf_expr.specs.Refusals.{Refused, FunctionRefused}
 use Rattle.sf_expr.specs.Typing.{Fits, HasType}
+use Rattle.sf_term.specs.declared.form.Bare.{Bare}
 use Rattle.sf_term.specs.declared.form.WithValue.{WithValue}
-use Rattle.sf_term.specs.declared.form.WithValue.TheVariants.{InitialPre}
 use Rattle.sf_term.specs.declared.form.Join.TheVariants.{InSequence, InParallel, FannedOut}
 use Rattle.sf_term.specs.declared.form.Side.{Side}
 use Rattle.sf_term.specs.declared.form.Side.TheVariants.{First, Second}
@@ -29,7 +30,7 @@ use Rattle.sf_term.specs.Headers.{Header}
 use Rattle.sf_term.specs.Trees.{Template}
 use Rattle.sf_term.specs.Arena.{tree, term_node_at, term_spot_at, expressions_of, headers_of, templates_of}
 use Rattle.sf_mean.specs.Contexts.{Context, names_of_values, context_of}
-use Rattle.sf_mean.specs.Typing.{Takes, IsTyped}
+use Rattle.sf_mean.specs.Typing.{bare_kind, value_kind, Takes, IsTyped}
 
 -- a type is none of pairs with this second part
 abbrev pub IsNoPairWith : Kind → Kind → Type 0
@@ -43,7 +44,8 @@ Exceeds t = 256 < nodes_of t
 -- has its own place.
 pub data PrimitiveBreaks (x : Exprs) (Γ : Context) (s : Spot) : Primitive → Kind → Breach → Type 0 where
   value_refused : {k : WithValue} {v : ExprId} {a : Kind} {r : Breach} → Refused x (names_of_values Γ) v r → PrimitiveBreaks x Γ s (primitives.WithValue k v) a r
-  initial_differs : {v : ExprId} {a b : Kind} → HasType (names_of_values Γ) (expression x v) b → b ≢ a → PrimitiveBreaks x Γ s (primitives.WithValue InitialPre v) a (breach_of Mismatch s)
+  bare_refused : {k : Bare} {a : Kind} {r : Breach} → KindRefused (bare_kind k a) s r → PrimitiveBreaks x Γ s (primitives.Bare k) a r
+  given_refused : {k : WithValue} {v : ExprId} {t a : Kind} {r : Breach} → HasType (names_of_values Γ) (expression x v) t → KindRefused (value_kind k t a) s r → PrimitiveBreaks x Γ s (primitives.WithValue k v) a r
   function_refused : {f : FunctionId} {a : Kind} {r : Breach} → FunctionRefused x (names_of_values Γ) f a s r → PrimitiveBreaks x Γ s (primitives.Arrow f) a r
 
 -- On inputs of a type, a form at a spot, with these parts, breaks a rule of its own, at a place.

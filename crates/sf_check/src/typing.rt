@@ -8,7 +8,8 @@ ghost use Rattle.sf_expr.specs.Refusals.{Judges};
 ghost use Rattle.sf_expr.specs.Typing.{Fits};
 ghost use Rattle.sf_term.specs.Arena.{term_number, term_node_at, expressions_of, template_in, templates_of};
 ghost use Rattle.sf_mean.specs.Contexts.{names_of_values};
-ghost use Rattle.sf_mean.specs.Typing.{IsTyped};
+ghost use Rattle.sf_operator.specs.Breaches.{AnswersKind};
+ghost use Rattle.sf_mean.specs.Typing.{bare_kind, value_kind, IsTyped};
 ghost use Rattle.sf_check.specs.Contexts.{program_in, context_in};
 ghost use Rattle.sf_check.specs.Answering.{AnswersPrimitive, AnswersTerm};
 ghost use Rattle.sf_check.specs.Breaking.{IsNoPairWith, TemplateBreaks, AreTyped, IsFirstBreak};
@@ -16,6 +17,7 @@ ghost use Rattle.sf_check.specs.Breaking.{IsNoPairWith, TemplateBreaks, AreTyped
 use crate::context::TypingContext;
 use sf_expr::{ExprId, function_type, pair_type, type_of};
 use sf_func::Signatures;
+use sf_operator::{event_type, payload, same};
 use sf_refusal::{Refusal, Rule, Spot};
 use sf_term::{Bare, Heading, Join, Node, Primitive, Program, Side, Template, TermId, WithValue};
 use sf_value::{Ty, same_type};
@@ -46,6 +48,58 @@ fn constant_type(alloc: Global, context: &TypingContext, value: ExprId) -> Resul
     )
 }
 
+/// The type of the outputs of a primitive without constants on inputs of a type. Refused at the spot with `Mismatch`
+/// where it is none on such inputs, then with `TypeTooLarge`, and with `Memory`.
+fn bare_output(alloc: Global, kind: Bare, input: Ty, spot: Spot) -> Result<Ty, Refusal>
+    ensures { AnswersKind (bare_kind kind input) spot result }
+{
+    match kind {
+        Bare::Identity => Ok(input),
+        Bare::LocalTime => Ok(Ty::int()),
+        Bare::Integral => {
+            same(&input, &Ty::int(), spot)?;
+            Ok(input)
+        }
+        Bare::Edge => {
+            same(&input, &Ty::bool(), spot)?;
+            event_type(alloc, &Ty::unit(), spot)
+        }
+        Bare::NotYet => {
+            payload(&input, spot)?;
+            Ok(input)
+        }
+        Bare::Count => {
+            payload(&input, spot)?;
+            event_type(alloc, &Ty::int(), spot)
+        }
+    }
+}
+
+/// The type of the outputs of a primitive with a value of a type on inputs of a type. Refused at the spot with `Mismatch`
+/// where it is none on such inputs, then with `TypeTooLarge`, and with `Memory`.
+fn given_output(
+    alloc: Global,
+    kind: WithValue,
+    given: Ty,
+    input: &Ty,
+    spot: Spot,
+) -> Result<Ty, Refusal>
+    ensures { AnswersKind (value_kind kind given input.now) spot result }
+{
+    match kind {
+        WithValue::Constant => Ok(given),
+        WithValue::InitialPre => {
+            same(input, &given, spot)?;
+            Ok(given)
+        }
+        WithValue::Now => event_type(alloc, &given, spot),
+        WithValue::Hold => {
+            same(payload(input, spot)?, &given, spot)?;
+            Ok(given)
+        }
+    }
+}
+
 /// The type of the outputs of a primitive with a value on inputs of a type.
 fn value_output(
     alloc: Global,
@@ -58,16 +112,7 @@ fn value_output(
     ensures { AnswersPrimitive (expressions_of (program_in context.now)) (context_in context.now) (Primitive.WithValue kind value) input.now spot result }
 {
     let given = constant_type(alloc, context, value)?;
-    match kind {
-        WithValue::Constant => Ok(given),
-        WithValue::InitialPre => {
-            if same_type(&given, input) {
-                Ok(given)
-            } else {
-                Err(Refusal::broken(Rule::Mismatch, spot))
-            }
-        }
-    }
+    given_output(alloc, kind, given, input, spot)
 }
 
 /// The type of the outputs of a primitive on inputs of a type.
@@ -81,7 +126,7 @@ fn primitive_output(
     ensures { AnswersPrimitive (expressions_of (program_in context.now)) (context_in context.now) primitive input spot result }
 {
     match primitive {
-        Primitive::Bare(Bare::Identity) => Ok(input),
+        Primitive::Bare(kind) => bare_output(alloc, kind, input, spot),
         Primitive::WithValue(kind, value) => {
             value_output(alloc, context, kind, value, &input, spot)
         }

@@ -50,8 +50,15 @@ head_word (heads.Headed h) = heading_word h
 
 pub head_again : (h : Head) → head_of (head_word h) ≡ Some h
 head_again (heads.Bare bares.Identity) = refl
+head_again (heads.Bare bares.LocalTime) = refl
+head_again (heads.Bare bares.Integral) = refl
+head_again (heads.Bare bares.Edge) = refl
+head_again (heads.Bare bares.NotYet) = refl
+head_again (heads.Bare bares.Count) = refl
 head_again (heads.WithValue values.Constant) = refl
 head_again (heads.WithValue values.InitialPre) = refl
+head_again (heads.WithValue values.Now) = refl
+head_again (heads.WithValue values.Hold) = refl
 head_again heads.Arrow = refl
 head_again (heads.Sided sides.First) = refl
 head_again (heads.Sided sides.Second) = refl
@@ -59,8 +66,15 @@ head_again (heads.Headed headings.LoopPre) = refl
 
 pub head_takes : (k : Keyword) (h : Head) → head_of k ≡ Some h → k ≡ head_word h
 head_takes words.Identity h e = let p : heads.Bare bares.Identity ≡ h = cc in rw (← p) refl
+head_takes words.LocalTime h e = let p : heads.Bare bares.LocalTime ≡ h = cc in rw (← p) refl
+head_takes words.Integral h e = let p : heads.Bare bares.Integral ≡ h = cc in rw (← p) refl
+head_takes words.Edge h e = let p : heads.Bare bares.Edge ≡ h = cc in rw (← p) refl
+head_takes words.NotYet h e = let p : heads.Bare bares.NotYet ≡ h = cc in rw (← p) refl
+head_takes words.Count h e = let p : heads.Bare bares.Count ≡ h = cc in rw (← p) refl
 head_takes words.Constant h e = let p : heads.WithValue values.Constant ≡ h = cc in rw (← p) refl
 head_takes words.IPre h e = let p : heads.WithValue values.InitialPre ≡ h = cc in rw (← p) refl
+head_takes words.Now h e = let p : heads.WithValue values.Now ≡ h = cc in rw (← p) refl
+head_takes words.Hold h e = let p : heads.WithValue values.Hold ≡ h = cc in rw (← p) refl
 head_takes words.Arr h e = let p : heads.Arrow ≡ h = cc in rw (← p) refl
 head_takes words.First h e = let p : heads.Sided sides.First ≡ h = cc in rw (← p) refl
 head_takes words.Second h e = let p : heads.Sided sides.Second ≡ h = cc in rw (← p) refl

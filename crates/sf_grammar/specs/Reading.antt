@@ -411,8 +411,15 @@ term_read c t start rest = if nat_le (c.terms + terms_in t) 100000 then got t re
 -- the form that a word begins
 abbrev pub head_of : Keyword → Option Head
 head_of words.Identity = Some (heads.Bare bares.Identity)
+head_of words.LocalTime = Some (heads.Bare bares.LocalTime)
+head_of words.Integral = Some (heads.Bare bares.Integral)
+head_of words.Edge = Some (heads.Bare bares.Edge)
+head_of words.NotYet = Some (heads.Bare bares.NotYet)
+head_of words.Count = Some (heads.Bare bares.Count)
 head_of words.Constant = Some (heads.WithValue values.Constant)
 head_of words.IPre = Some (heads.WithValue values.InitialPre)
+head_of words.Now = Some (heads.WithValue values.Now)
+head_of words.Hold = Some (heads.WithValue values.Hold)
 head_of words.Arr = Some heads.Arrow
 head_of words.First = Some (heads.Sided sides.First)
 head_of words.Second = Some (heads.Sided sides.Second)

@@ -39,11 +39,18 @@ use Rattle.sf_grammar.specs.declared.ty.Version.TheVariants as versions
 -- the word of a primitive without constants
 abbrev pub bare_word : Bare → Keyword
 bare_word bares.Identity = words.Identity
+bare_word bares.LocalTime = words.LocalTime
+bare_word bares.Integral = words.Integral
+bare_word bares.Edge = words.Edge
+bare_word bares.NotYet = words.NotYet
+bare_word bares.Count = words.Count
 
 -- the word of a primitive with a value
 abbrev pub value_word : WithValue → Keyword
 value_word values.Constant = words.Constant
 value_word values.InitialPre = words.IPre
+value_word values.Now = words.Now
+value_word values.Hold = words.Hold
 
 -- the symbol between two terms that are joined
 abbrev pub join_symbol : Join → Symbol

@@ -62,8 +62,15 @@ pub fn head_of(word: Keyword) -> Option<Head>
 {
     match word {
         Keyword::Identity => Some(Head::Bare(Bare::Identity)),
+        Keyword::LocalTime => Some(Head::Bare(Bare::LocalTime)),
+        Keyword::Integral => Some(Head::Bare(Bare::Integral)),
+        Keyword::Edge => Some(Head::Bare(Bare::Edge)),
+        Keyword::NotYet => Some(Head::Bare(Bare::NotYet)),
+        Keyword::Count => Some(Head::Bare(Bare::Count)),
         Keyword::Constant => Some(Head::WithValue(WithValue::Constant)),
         Keyword::IPre => Some(Head::WithValue(WithValue::InitialPre)),
+        Keyword::Now => Some(Head::WithValue(WithValue::Now)),
+        Keyword::Hold => Some(Head::WithValue(WithValue::Hold)),
         Keyword::Arr => Some(Head::Arrow),
         Keyword::First => Some(Head::Sided(Side::First)),
         Keyword::Second => Some(Head::Sided(Side::Second)),

@@ -3,13 +3,11 @@ use Rattle.std.proofs.Common.{◌≡◌, Bool, true, false, cond, Some, None, re
 use Rattle.std.specs.Prelude.{Option, nat_le}
 use Rattle.sf_value.specs.Values.{Kind, unit_kind, bool_kind, int_kind, text_kind, pair_kind, event_kind, table_kind, nodes, IsNoPair}
 use Rattle.sf_operator.specs.Kinds.{same_kind, parts_of}
-use Rattle.sf_operator.proofs.SameKinds.{same_is, is_same}
+use Rattle.sf_operator.proofs.SameKinds.{same_is, is_same, found_is}
 use Rattle.sf_expr.specs.Expressions.{Expression}
-use Rattle.sf_expr.specs.Typing.{Fits, HasType}
+use Rattle.sf_expr.specs.Typing.{Fits}
 use Rattle.sf_expr.specs.Inference.{found_then, fitting, expression_type}
 use Rattle.sf_expr.proofs.Inferred.{test_fits, fits_test, fitting_is, fitting_found, found_typed, typed_found, output_takes, takes_output}
-use Rattle.sf_term.specs.declared.form.Bare.TheVariants.{Identity}
-use Rattle.sf_term.specs.declared.form.WithValue.TheVariants.{Constant, InitialPre}
 use Rattle.sf_term.specs.declared.form.Join.{Join}
 use Rattle.sf_term.specs.declared.form.Join.TheVariants.{InSequence, InParallel, FannedOut}
 use Rattle.sf_term.specs.declared.form.Side.{Side}
@@ -17,7 +15,7 @@ use Rattle.sf_term.specs.declared.form.Side.TheVariants.{First, Second}
 use Rattle.sf_term.specs.declared.form.Heading.TheVariants.{LoopPre}
 use Rattle.sf_term.specs.Trees.{Chain, lone, chained, on_side, on_both, fanned, Primitive, bare, with_value, arrow, fused, Term, primitive, joined, sided, headed, staged}
 use Rattle.sf_mean.specs.Contexts.{Context, names_of_values}
-use Rattle.sf_mean.specs.Typing.{ChainTakes, lone_takes, chained_takes, on_first_takes, on_second_takes, on_both_takes, fanned_takes, PrimitiveTakes, identity_takes, constant_takes, initial_pre_takes, arrow_takes, fused_takes, Takes, takes, FormTakes, primitive_takes, sequence_takes, parallel_takes, fan_takes, first_takes, second_takes, loop_takes, stages_take}
+use Rattle.sf_mean.specs.Typing.{ChainTakes, lone_takes, chained_takes, on_first_takes, on_second_takes, on_both_takes, fanned_takes, bare_kind, value_kind, PrimitiveTakes, bare_takes, value_takes, arrow_takes, fused_takes, Takes, takes, FormTakes, primitive_takes, sequence_takes, parallel_takes, fan_takes, first_takes, second_takes, loop_takes, stages_take}
 use Rattle.sf_mean.specs.Inference.{Finds, both_outputs, join_output, side_output, first_beside, heading_output, chain_output, primitive_output, with_fitting, form_output, term_output}
 
 -- ## Types of pairs
@@ -145,21 +143,16 @@ module _ {Γ : Context} where
 
   -- ## Primitives
 
-  pre_takes : (e : Expression) (a b c : Kind) → expression_type (names_of_values Γ) e ≡ Some c → (t : Bool) → same_kind a c ≡ t → cond t (Some a) None ≡ Some b → PrimitiveTakes Γ (with_value InitialPre e) a b
-  pre_takes e a b c h true k g =
-      let is : a ≡ b = cc in
-      let E : HasType (names_of_values Γ) e a = found_typed (names_of_values Γ) e a (h ∙ ap Some (sym (same_is a c k))) in
-      subst (PrimitiveTakes Γ (with_value InitialPre e) a) is (initial_pre_takes E)
-  pre_takes e a b c h false k g = absurd cc
-
   pub primitive_found : (p : Primitive) (a b : Kind) → primitive_output Γ p a ≡ Some b → PrimitiveTakes Γ p a b
-  primitive_found (bare Identity) a b h = let is : a ≡ b = cc in subst (PrimitiveTakes Γ (bare Identity) a) is identity_takes
-  primitive_found (with_value Constant e) a b h = constant_takes (found_typed (names_of_values Γ) e b h)
-  primitive_found (with_value InitialPre e) a b h = each (expression_type (names_of_values Γ) e) refl h
-    where
-      each : (o : Option Kind) → expression_type (names_of_values Γ) e ≡ o → found_then o (λ b. cond (same_kind a b) (Some a) None) ≡ Some b → PrimitiveTakes Γ (with_value InitialPre e) a b
-      each (Some c) k g = pre_takes e a b c k (same_kind a c) refl g
-      each None k g = absurd cc
+  primitive_found (bare k) a b h =
+      let made = found_is (bare_kind k a) fitting h in
+      let fit = fitting_found made.0 b made.2 in
+      bare_takes (made.1 ∙ ap Some fit.is) (subst Fits fit.is fit.fits)
+  primitive_found (with_value k e) a b h =
+      let made = found_is (found_then (expression_type (names_of_values Γ) e) (λ v. value_kind k v a)) fitting h in
+      let fit = fitting_found made.0 b made.2 in
+      let given = found_is (expression_type (names_of_values Γ) e) (λ v. value_kind k v a) made.1 in
+      value_takes (found_typed (names_of_values Γ) e given.0 given.1) (given.2 ∙ ap Some fit.is) (subst Fits fit.is fit.fits)
   primitive_found (arrow f) a b h = arrow_takes (output_takes (names_of_values Γ) f a b h)
   primitive_found (fused f) a b h = elim (found_went (chain_output Γ f) fitting a b h) [
     | went {b = c} k e ↦
@@ -168,9 +161,8 @@ module _ {Γ : Context} where
   ]
 
   pub primitive_is : {p : Primitive} {a b : Kind} → PrimitiveTakes Γ p a b → primitive_output Γ p a ≡ Some b
-  primitive_is identity_takes = refl
-  primitive_is (constant_takes E) = typed_found E
-  primitive_is (initial_pre_takes {a = a} E) = ap (λ o. found_then o (λ b. cond (same_kind a b) (Some a) None)) (typed_found E) ∙ ap (λ t. cond t (Some a) None) (is_same a)
+  primitive_is (bare_takes {b = b} h f) = ap (λ o. found_then o fitting) h ∙ fitting_is b f
+  primitive_is (value_takes {k = k} {a = a} {b = b} E h f) = ap (λ o. found_then (found_then o (λ v. value_kind k v a)) fitting) (typed_found E) ∙ ap (λ o. found_then o fitting) h ∙ fitting_is b f
   primitive_is (arrow_takes F) = takes_output F
   primitive_is (fused_takes {b = b} F h) = ap (λ o. found_then o fitting) (chain_found F) ∙ fitting_is b h
 

@@ -9,11 +9,12 @@ use Rattle.sf_expr.specs.Soundness.{Yields, yields, fails, ScopeHas, has_no_name
 use Rattle.sf_term.specs.declared.form.Side.TheVariants.{First, Second}
 use Rattle.sf_term.specs.Trees.{Chain, Primitive, Term}
 use Rattle.sf_mean.specs.Lives.{Step, input_of, Life, Environment, scope_around, Process, first_input as input_at_first}
-use Rattle.sf_mean.specs.Formulas.{before, with_side, apply_chain, formula}
+use Rattle.sf_mean.specs.Formulas.{value_formula, with_side, apply_chain, formula}
 use Rattle.sf_mean.specs.Meaning.{Network, Outcome, Cost, Made, value_made, make, Gives, gives, Outputs, not_begun, and_gave, Sample, of_constants, of_form, Form, of_primitive, of_join, of_side, of_loop, of_stages, Next, goes_on, stops, Loops, no_loop, and_looped}
 use Rattle.sf_mean.specs.Contexts.{Bindings, values_in, context_with, Context, names_of_values}
-use Rattle.sf_mean.specs.Typing.{ChainTakes, lone_takes, chained_takes, on_first_takes, on_second_takes, on_both_takes, fanned_takes, PrimitiveTakes, identity_takes, constant_takes, initial_pre_takes, arrow_takes, fused_takes, Takes, takes, FormTakes, primitive_takes, sequence_takes, parallel_takes, fan_takes, first_takes, second_takes, loop_takes, stages_take}
-use Rattle.sf_mean.specs.Soundness.{Have, have_nothing, have_more, LifeHas, no_steps, more_steps, EnvironmentHas, has_nothing, ProcessTakes, closure_takes, OutcomeHas}
+use Rattle.sf_mean.specs.Typing.{ChainTakes, lone_takes, chained_takes, on_first_takes, on_second_takes, on_both_takes, fanned_takes, PrimitiveTakes, bare_takes, value_takes, arrow_takes, fused_takes, Takes, takes, FormTakes, primitive_takes, sequence_takes, parallel_takes, fan_takes, first_takes, second_takes, loop_takes, stages_take}
+use Rattle.sf_mean.specs.Soundness.{Have, have_nothing, have_more, LifeHas, more_steps, EnvironmentHas, has_nothing, ProcessTakes, closure_takes, OutcomeHas}
+use Rattle.sf_mean.proofs.TypedPrimitives.{bare_typed, value_typed}
 use Rattle.sf_mean.proofs.TypedLives.{first_is, second_is, with_inputs_has, fed_has, outcome_is, changed_has, combined_has, LifeIf, life_if, relay_if}
 
 -- expressions and functions have values of their types, or faults
@@ -22,10 +23,6 @@ EvalsTyped = (R : Names) (i : Expression) (t : Kind) (s : Scope) → HasType R i
 
 abbrev pub AppliesTyped : Type 0
 AppliesTyped = (R : Names) (f : Function) (a b : Kind) (x : Data) (s : Scope) → FunctionTakes R f a b → HasKind x a → ScopeHas s R → Yields b (apply f x s)
-
-before_has : {v : Data} {a : Kind} {L : Life} → HasKind v a → LifeHas L a → HasKind (before v L) a
-before_has h no_steps = h
-before_has h (more_steps i l) = i
 
 -- what is known of an answer that is changed
 changed_yields : {t u : Kind} {q : Evaluated Data} (f : Data → Data) → ((v : Data) → HasKind v t → HasKind (f v) u) → Yields t q → Yields u (q >>= λ v. answer (f v))
@@ -64,9 +61,8 @@ module _ (n : Network) (eval_is : EvalsTyped) (apply_is : AppliesTyped) where
         next_yields (λ y. apply_chain g x scope >>= λ z. answer (pair y z)) (chain_is x F h) (λ y k. changed_yields (pair y) (λ z l. has_pair k l) (chain_is x G h))
 
     formula_is : {p : Primitive} {a b : Kind} (s : Step) {L : Life} → PrimitiveTakes Γ p a b → HasKind (input_of s) a → LifeHas L a → Yields b (formula p scope s L)
-    formula_is s identity_takes h l = yields h
-    formula_is s (constant_takes I) h l = changed_yields (λ v. v) (λ v k. k) (eval_is _ _ _ _ I in_scope)
-    formula_is s {L = L} (initial_pre_takes I) h l = changed_yields (λ v. before v L) (λ v k. before_has k l) (eval_is _ _ _ _ I in_scope)
+    formula_is s {L = L} (bare_takes {k = k} B f) h l = bare_typed k s L B h l
+    formula_is s {L = L} (value_takes {k = k} I B f) h l = changed_yields (λ v. value_formula k v s L) (λ v i. value_typed k s L B i h l) (eval_is _ _ _ _ I in_scope)
     formula_is s (arrow_takes F) h l = apply_is _ _ _ _ _ _ F h in_scope
     formula_is s (fused_takes F B) h l = chain_is (input_of s) F h
 

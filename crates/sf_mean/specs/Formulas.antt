@@ -1,15 +1,17 @@
 -- What primitives give, by formulas over their whole life.
-use Rattle.std.specs.Prelude.{[], ◌∷◌}
-use Rattle.sf_value.specs.Values.{Data, pair, first_of, second_of}
+use Rattle.std.specs.Prelude.{ℕ, suc, [], ◌∷◌, Bool, true, false, not, ◌&&◌, cond, ℤ, pos, ◌+ℤ◌, ◌*ℤ◌, Option, Some, None, unwrap_or}
+use Rattle.sf_value.specs.Values.{Data, unit, truth, number, pair, no_event, event, first_of, second_of}
+use Rattle.sf_operator.specs.Outcomes.{tested}
+use Rattle.sf_operator.specs.Operations.{truth_in, number_in, payload_in, payload_or}
 use Rattle.sf_expr.specs.Evaluation.{Evaluated, answer, ◌>>=◌, Scope, eval, apply}
 use Rattle.sf_term.specs.declared.form.Bare.{Bare}
-use Rattle.sf_term.specs.declared.form.Bare.TheVariants.{Identity}
+use Rattle.sf_term.specs.declared.form.Bare.TheVariants.{Identity, LocalTime, Integral, Edge, NotYet, Count}
 use Rattle.sf_term.specs.declared.form.WithValue.{WithValue}
-use Rattle.sf_term.specs.declared.form.WithValue.TheVariants.{Constant, InitialPre}
+use Rattle.sf_term.specs.declared.form.WithValue.TheVariants.{Constant, InitialPre, Now, Hold}
 use Rattle.sf_term.specs.declared.form.Side.{Side}
 use Rattle.sf_term.specs.declared.form.Side.TheVariants.{First, Second}
 use Rattle.sf_term.specs.Trees.{Chain, lone, chained, on_side, on_both, fanned, Primitive, bare, with_value, arrow, fused}
-use Rattle.sf_mean.specs.Lives.{Step, input_of, Life}
+use Rattle.sf_mean.specs.Lives.{Step, wait_of, input_of, Life, time}
 
 -- In all of these, s is the newest step and L the steps before it.
 
@@ -18,14 +20,74 @@ abbrev pub before : Data → Life → Data
 before v [] = v
 before v (s ∷ L) = input_of s
 
+-- one thing at the first step, another at the later ones
+abbrev pub at_first : {A : Type 0} → Life → A → A → A
+at_first [] a b = a
+at_first (s ∷ L) a b = b
+
+-- the number that an input is
+abbrev pub level : Data → ℤ
+level d = unwrap_or (number_in d) (pos 0)
+
+-- the sum of the inputs before, each by the time to the next step; before the first step nothing is summed
+abbrev pub area : Life → ℤ
+area [] = pos 0
+area (s ∷ L) = area L +ℤ (pos (wait_of s) *ℤ level (before (number (pos 0)) L))
+
+-- whether a value is the truth true, and whether it is false
+abbrev pub is_high : Data → Bool
+is_high d = unwrap_or (truth_in d) false
+
+abbrev pub is_low : Data → Bool
+is_low d = not (unwrap_or (truth_in d) true)
+
+-- an event of the unit where this holds, else none
+abbrev pub event_if : Bool → Data
+event_if b = cond b (event unit) no_event
+
+-- an event where an input is true and the one before was false
+abbrev pub risen : Data → Data → Data
+risen x y = event_if (is_high x && is_low y)
+
+-- the payload of a value, if it is an event that occurs
+abbrev pub occurring : Data → Option Data
+occurring d = unwrap_or (payload_in d) None
+
+-- one more where there is a payload
+abbrev pub count_up : Option Data → ℕ → ℕ
+count_up None n = n
+count_up (Some x) n = suc n
+
+-- how many events occurred in a life
+abbrev pub occurrences : Life → ℕ
+occurrences [] = 0
+occurrences (s ∷ L) = count_up (occurring (input_of s)) (occurrences L)
+
+-- an event of a number, where there is a payload
+abbrev pub counted : Option Data → ℕ → Evaluated Data
+counted None n = answer no_event
+counted (Some x) n = tested (pos n) >>= λ v. answer (event v)
+
+-- the last payload in a life, or v where there was none
+abbrev pub last_payload : Data → Life → Data
+last_payload v [] = v
+last_payload v (s ∷ L) = payload_or (occurring (input_of s)) (last_payload v L)
+
 -- primitives without constants
 abbrev pub bare_formula : Bare → Step → Life → Evaluated Data
 bare_formula Identity s L = answer (input_of s)
+bare_formula LocalTime s L = tested (pos (time (s ∷ L)))
+bare_formula Integral s L = tested (area (s ∷ L))
+bare_formula Edge s L = answer (risen (input_of s) (before (truth true) L))
+bare_formula NotYet s L = answer (at_first L no_event (input_of s))
+bare_formula Count s L = counted (occurring (input_of s)) (occurrences (s ∷ L))
 
 -- primitives with the value v
 abbrev pub value_formula : WithValue → Data → Step → Life → Data
 value_formula Constant v s L = v
 value_formula InitialPre v s L = before v L
+value_formula Now v s L = at_first L (event v) no_event
+value_formula Hold v s L = last_payload v (s ∷ L)
 
 -- the side of the input that the part is given
 abbrev pub side_of : Side → Data → Data

@@ -3,8 +3,6 @@ use Rattle.std.specs.Prelude.{nat_le, cond, Option, Some, None}
 use Rattle.sf_value.specs.Values.{Kind, pair_kind, nodes}
 use Rattle.sf_operator.specs.Kinds.{same_kind, parts_of}
 use Rattle.sf_expr.specs.Inference.{found_then, fitting, expression_type, function_output}
-use Rattle.sf_term.specs.declared.form.Bare.TheVariants.{Identity}
-use Rattle.sf_term.specs.declared.form.WithValue.TheVariants.{Constant, InitialPre}
 use Rattle.sf_term.specs.declared.form.Join.{Join}
 use Rattle.sf_term.specs.declared.form.Join.TheVariants.{InSequence, InParallel, FannedOut}
 use Rattle.sf_term.specs.declared.form.Side.{Side}
@@ -13,6 +11,7 @@ use Rattle.sf_term.specs.declared.form.Heading.{Heading}
 use Rattle.sf_term.specs.declared.form.Heading.TheVariants.{LoopPre}
 use Rattle.sf_term.specs.Trees.{Chain, lone, chained, on_side, on_both, fanned, Primitive, bare, with_value, arrow, fused, Term, primitive, joined, sided, headed, staged}
 use Rattle.sf_mean.specs.Contexts.{Context, names_of_values}
+use Rattle.sf_mean.specs.Typing.{bare_kind, value_kind}
 
 -- What finds an output type for an input type, if inputs of that type are taken.
 abbrev pub Finds : Type 0
@@ -54,9 +53,8 @@ chain_output Γ (fanned f g) a = join_output FannedOut (chain_output Γ f) (chai
 
 -- the output of a primitive
 abbrev pub primitive_output : Context → Primitive → Finds
-primitive_output Γ (bare Identity) a = Some a
-primitive_output Γ (with_value Constant e) a = expression_type (names_of_values Γ) e
-primitive_output Γ (with_value InitialPre e) a = found_then (expression_type (names_of_values Γ) e) (λ b. cond (same_kind a b) (Some a) None)
+primitive_output Γ (bare k) a = found_then (bare_kind k a) fitting
+primitive_output Γ (with_value k e) a = found_then (found_then (expression_type (names_of_values Γ) e) (λ v. value_kind k v a)) fitting
 primitive_output Γ (arrow f) a = function_output (names_of_values Γ) f a
 primitive_output Γ (fused f) a = found_then (chain_output Γ f a) fitting
 

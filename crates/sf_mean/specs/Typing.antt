@@ -1,11 +1,14 @@
 -- The types of terms under a context, and the networks that are accepted.
-use Rattle.std.specs.Prelude.{◌≡◌, ◌≢◌, ℕ, ◌<◌, Some, slice_get}
-use Rattle.sf_value.specs.Values.{Kind, pair_kind}
+use Rattle.std.specs.Prelude.{◌≡◌, ◌≢◌, ℕ, ◌<◌, Option, Some, slice_get}
+use Rattle.sf_value.specs.Values.{Kind, unit_kind, bool_kind, int_kind, pair_kind, event_kind}
+use Rattle.sf_operator.specs.Kinds.{found_then, only, payload_of}
 use Rattle.sf_func.specs.Registries.{TypesByName}
 use Rattle.sf_expr.specs.Expressions.{Expression, Function}
 use Rattle.sf_expr.specs.Typing.{Fits, HasType, FunctionTakes}
-use Rattle.sf_term.specs.declared.form.Bare.TheVariants.{Identity}
-use Rattle.sf_term.specs.declared.form.WithValue.TheVariants.{Constant, InitialPre}
+use Rattle.sf_term.specs.declared.form.Bare.{Bare}
+use Rattle.sf_term.specs.declared.form.Bare.TheVariants.{Identity, LocalTime, Integral, Edge, NotYet, Count}
+use Rattle.sf_term.specs.declared.form.WithValue.{WithValue}
+use Rattle.sf_term.specs.declared.form.WithValue.TheVariants.{Constant, InitialPre, Now, Hold}
 use Rattle.sf_term.specs.declared.form.Join.TheVariants.{InSequence, InParallel, FannedOut}
 use Rattle.sf_term.specs.declared.form.Side.TheVariants.{First, Second}
 use Rattle.sf_term.specs.declared.form.Heading.TheVariants.{LoopPre}
@@ -22,11 +25,26 @@ pub data ChainTakes (Γ : Context) : Chain → Kind → Kind → Type 0 where
   on_both_takes : {f g : Chain} {a b c d : Kind} → ChainTakes Γ f a b → ChainTakes Γ g c d → ChainTakes Γ (on_both f g) (pair_kind a c) (pair_kind b d)
   fanned_takes : {f g : Chain} {a b c : Kind} → ChainTakes Γ f a b → ChainTakes Γ g a c → ChainTakes Γ (fanned f g) a (pair_kind b c)
 
+-- the type of the outputs of a primitive without constants on inputs of a type, if it is one on such inputs
+abbrev pub bare_kind : Bare → Kind → Option Kind
+bare_kind Identity a = Some a
+bare_kind LocalTime a = Some int_kind
+bare_kind Integral a = only a int_kind (Some int_kind)
+bare_kind Edge a = only a bool_kind (Some (event_kind unit_kind))
+bare_kind NotYet a = found_then (payload_of a) (λ p. Some a)
+bare_kind Count a = found_then (payload_of a) (λ p. Some (event_kind int_kind))
+
+-- the type of the outputs of a primitive with a value of a type on inputs of a type, if it is one on such inputs
+abbrev pub value_kind : WithValue → Kind → Kind → Option Kind
+value_kind Constant v a = Some v
+value_kind InitialPre v a = only a v (Some v)
+value_kind Now v a = Some (event_kind v)
+value_kind Hold v a = found_then (payload_of a) (λ p. only p v (Some v))
+
 -- A primitive takes inputs of one type to outputs of another.
 pub data PrimitiveTakes (Γ : Context) : Primitive → Kind → Kind → Type 0 where
-  identity_takes : {a : Kind} → PrimitiveTakes Γ (bare Identity) a a
-  constant_takes : {e : Expression} {a b : Kind} → HasType (names_of_values Γ) e b → PrimitiveTakes Γ (with_value Constant e) a b
-  initial_pre_takes : {e : Expression} {a : Kind} → HasType (names_of_values Γ) e a → PrimitiveTakes Γ (with_value InitialPre e) a a
+  bare_takes : {k : Bare} {a b : Kind} → bare_kind k a ≡ Some b → Fits b → PrimitiveTakes Γ (bare k) a b
+  value_takes : {k : WithValue} {e : Expression} {v a b : Kind} → HasType (names_of_values Γ) e v → value_kind k v a ≡ Some b → Fits b → PrimitiveTakes Γ (with_value k e) a b
   arrow_takes : {f : Function} {a b : Kind} → FunctionTakes (names_of_values Γ) f a b → PrimitiveTakes Γ (arrow f) a b
   fused_takes : {f : Chain} {a b : Kind} → ChainTakes Γ f a b → Fits b → PrimitiveTakes Γ (fused f) a b
 

@@ -82,7 +82,7 @@ of_order {c = c} {v = v} f e h l = each h (as_kind (sym e) l)
 
 -- ## What is made of it
 
-tested_yields : (z : ℤ) → Yields int_kind (tested z)
+pub tested_yields : (z : ℤ) → Yields int_kind (tested z)
 tested_yields z = elim (is_narrow z) as (λ b. is_narrow z ≡ b → Yields int_kind (cond b (answer (number z)) (failed Overflow))) [
   | true ↦ λ e. yields (has_int e)
   | false ↦ λ e. fails

@@ -25,7 +25,7 @@ pub fn calculate(operator: Arithmetic, left: i64, right: i64) -> Result<i64, Val
 }
 
 /// A number, where it is within signed 64 bits.
-pub(crate) fn narrow(n: i128) -> Result<i64, ValueFault>
+pub fn narrow(n: i128) -> Result<i64, ValueFault>
     ensures { Computes result (tested n) }
 {
     if n < i128::from(i64::MIN) || i128::from(i64::MAX) < n {

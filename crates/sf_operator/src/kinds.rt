@@ -16,7 +16,7 @@ use sf_value::{KeyType, Ty, TyForm, TyRefusal, same_type};
 use std::alloc::Global;
 
 /// Nothing where two types are the same; else refused with `Mismatch` at `at`.
-pub(crate) fn same(left: &Ty, right: &Ty, at: Spot) -> Result<(), Refusal>
+pub fn same(left: &Ty, right: &Ty, at: Spot) -> Result<(), Refusal>
     ensures ok { OnOk result (same_kind left.now right.now ≡ true) }
     ensures err { IfErr result (λ r. (same_kind left.now right.now ≡ false) × (r ≡ broken Mismatch at)) }
 {
@@ -39,7 +39,7 @@ fn parts(ty: &Ty, at: Spot) -> Result<(&Ty, &Ty), Refusal>
 }
 
 /// The type of the payloads of a type of events; another type is refused with `Mismatch` at `at`.
-pub(crate) fn payload(ty: &Ty, at: Spot) -> Result<&Ty, Refusal>
+pub fn payload(ty: &Ty, at: Spot) -> Result<&Ty, Refusal>
     ensures ok { IfOk result (λ payload. payload_of ty.now ≡ Some payload.now) }
     ensures err { IfErr result (λ r. (payload_of ty.now ≡ None) × (r ≡ broken Mismatch at)) }
 {

@@ -10,15 +10,15 @@ mod operator;
 mod parts;
 mod values;
 
-pub use arithmetic::calculate;
+pub use arithmetic::{calculate, narrow};
 pub use fault::EvalFault;
 pub use function_types::{
     called_type, folded_argument_type, folded_type, mapped_argument_type, mapped_type,
 };
-pub use kinds::{binary_type, conditional_type, event_type, pair_type, unary_type};
+pub use kinds::{binary_type, conditional_type, event_type, pair_type, payload, same, unary_type};
 pub use laws::{floor_division, typed_functions, typed_operators};
 pub use operator::{
     Arithmetic, Comparison, Equality, Folding, Logic, Mapping, Merge, Operator, Unary,
 };
-pub use parts::{is_true, payload_in, rows_in, value_of_key};
+pub use parts::{is_true, number_in, payload_in, rows_in, value_of_key};
 pub use values::{decide, operate, operate_on};

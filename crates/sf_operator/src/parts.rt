@@ -21,7 +21,7 @@ pub fn is_true(value: &Value) -> Option<bool>
 }
 
 /// The number that a value is, if it is one.
-pub(crate) fn number_in(value: &Value) -> Option<i64>
+pub fn number_in(value: &Value) -> Option<i64>
     ensures { result ≡ a_number_in value.now }
 {
     match value.form() {

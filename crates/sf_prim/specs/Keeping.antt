@@ -1,23 +1,49 @@
 -- What the states of primitives keep of their lives.
-use Rattle.std.specs.Prelude.{◌≡◌, [], ◌∷◌, Result, Ok, Err}
+use Rattle.std.specs.Prelude.{◌≡◌, ℕ, [], ◌∷◌, Bool, true, false, ℤ, pos, ◌+ℤ◌, Option, Some, None, Result, Ok, Err}
 use Rattle.std.specs.declared.alloc.Global.{Global}
 use Rattle.std.specs.declared.rc.Rc.{Rc}
-use Rattle.sf_value.specs.Values.{Data}
+use Rattle.sf_value.specs.Values.{Data, truth, number, no_event, event}
 use Rattle.sf_value.specs.declared.fault.ValueFault.{ValueFault}
 use Rattle.sf_func.specs.Registries.{AnswersByName}
 use Rattle.sf_expr.specs.Expressions.{Expression, Function}
-use Rattle.sf_expr.specs.Evaluation.{Scope, no_names, answer, failed, eval}
+use Rattle.sf_operator.specs.Outcomes.{tested}
+use Rattle.sf_expr.specs.Evaluation.{Evaluated, Scope, no_names, answer, failed, ◌>>=◌, eval}
 use Rattle.sf_code.specs.declared.code.Code.{Code}
 use Rattle.sf_code.specs.Worth.{IsCodeOfFunction}
 use Rattle.sf_operator.specs.declared.fault.EvalFault.{EvalFault}
 use Rattle.sf_operator.specs.declared.fault.EvalFault.TheVariants.{Value, Memory}
-use Rattle.sf_term.specs.declared.form.Bare.TheVariants.{Identity as BIdentity}
-use Rattle.sf_term.specs.declared.form.WithValue.TheVariants.{Constant as VConstant, InitialPre}
+use Rattle.sf_term.specs.declared.form.Bare.TheVariants.{Identity as BIdentity, LocalTime, Integral, Edge as BEdge, NotYet as BNotYet, Count as BCount}
+use Rattle.sf_term.specs.declared.form.WithValue.TheVariants.{Constant as VConstant, InitialPre, Now as VNow, Hold as VHold}
 use Rattle.sf_term.specs.Trees.{Primitive, bare, with_value, arrow}
-use Rattle.sf_mean.specs.Lives.{Step, Life}
-use Rattle.sf_mean.specs.Formulas.{before, formula}
+use Rattle.sf_mean.specs.Lives.{Step, Life, time}
+use Rattle.sf_mean.specs.Formulas.{before, at_first, level, area, is_low, occurrences, last_payload, formula}
+use Rattle.sf_prim.specs.declared.time.Area.{Area as Sum}
 use Rattle.sf_prim.specs.declared.prim_state.PrimState.{PrimState}
-use Rattle.sf_prim.specs.declared.prim_state.PrimState.TheVariants.{Identity, Constant, Previous, Arrow}
+use Rattle.sf_prim.specs.declared.prim_state.PrimState.TheVariants.{Identity, Constant, Previous, Arrow, Clock, Area, Edge, NotYet, Count, Now, Hold}
+
+-- the time at a sample, by that at the one before, if there was one
+abbrev pub time_after : Option ℤ → ℕ → ℤ
+time_after None d = pos 0
+time_after (Some t) d = t +ℤ pos d
+
+-- the time at the newest step, if there is one
+abbrev pub last_time : Life → Option ℤ
+last_time [] = None
+last_time (s ∷ L) = Some (pos (time (s ∷ L)))
+
+-- whether there is a step
+abbrev pub has_steps : Life → Bool
+has_steps L = at_first L false true
+
+-- how many events there were, by how many there were before
+abbrev pub count_after : Option Data → ℤ → ℤ
+count_after None z = z
+count_after (Some x) z = pos 1 +ℤ z
+
+-- at an event, one of that
+abbrev pub counted_after : Option Data → ℤ → Evaluated Data
+counted_after None z = answer no_event
+counted_after (Some x) z = tested (pos 1 +ℤ z) >>= λ v. answer (event v)
 
 -- A state keeps what its primitive needs of a life.
 pub data Remembers : PrimState → Primitive → Scope → Life → Type 0 where
@@ -28,6 +54,16 @@ pub data Remembers : PrimState → Primitive → Scope → Life → Type 0 where
       → eval e scope ≡ answer v → w ≡ before v L → Remembers (Previous w) (with_value InitialPre e) scope L
   keeps_function : {c : Rc Code Global} {f : Function} {g : AnswersByName} {L : Life}
       → IsCodeOfFunction f c.value → Remembers (Arrow c) (arrow f) (no_names g) L
+  keeps_time : {t : Option ℤ} {scope : Scope} {L : Life} → t ≡ last_time L → Remembers (Clock t) (bare LocalTime) scope L
+  keeps_area : {r : Sum} {scope : Scope} {L : Life}
+      → r.sum ≡ area L → r.level ≡ level (before (number (pos 0)) L) → Remembers (Area r) (bare Integral) scope L
+  keeps_low : {b : Bool} {scope : Scope} {L : Life} → b ≡ is_low (before (truth true) L) → Remembers (Edge b) (bare BEdge) scope L
+  keeps_begun : {b : Bool} {scope : Scope} {L : Life} → b ≡ has_steps L → Remembers (NotYet b) (bare BNotYet) scope L
+  keeps_count : {z : ℤ} {scope : Scope} {L : Life} → z ≡ pos (occurrences L) → Remembers (Count z) (bare BCount) scope L
+  keeps_first : {e : Expression} {scope : Scope} {v : Data} {o : Option Data} {L : Life}
+      → eval e scope ≡ answer v → o ≡ at_first L (Some v) None → Remembers (Now o) (with_value VNow e) scope L
+  keeps_last : {e : Expression} {scope : Scope} {v w : Data} {L : Life}
+      → eval e scope ≡ answer v → w ≡ last_payload v L → Remembers (Hold w) (with_value VHold e) scope L
 
 -- A primitive before its first sample, or the fault of its constants, which is that of the first sample, where functions
 -- answer this.

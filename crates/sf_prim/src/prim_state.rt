@@ -7,6 +7,8 @@ ghost use Rattle.sf_operator.specs.Answers.{Evaluates};
 ghost use Rattle.sf_operator.specs.declared.fault.EvalFault.TheVariants.{Memory};
 ghost use Rattle.sf_prim.specs.Gifts.{gift};
 
+use crate::events::{count_event, hold, occur, pass_later, rise};
+use crate::time::{Area, integrate, tell_time};
 use sf_code::{Code, apply, evaluate};
 use sf_func::Holds;
 use sf_law::PlanPrimitive;
@@ -28,6 +30,20 @@ pub enum PrimState {
     Previous(Value),
     /// `arr f`, with the code of `f`, which it shares with its plan.
     Arrow(Rc<Code>),
+    /// `localTime`, with the milliseconds at the sample before, if there was one.
+    Clock(Option<i64>),
+    /// `integral`, with what is under its input so far.
+    Area(Area),
+    /// `edge`; whether the input before was false.
+    Edge(bool),
+    /// `notYet`; whether there was a sample before.
+    NotYet(bool),
+    /// `count`, with how many events there were.
+    Count(i64),
+    /// `now e`, with the value of `e` before the first sample.
+    Now(Option<Value>),
+    /// `hold e`, with the last payload, or the value of `e` where there was none.
+    Hold(Value),
 }
 
 impl PrimState {
@@ -69,6 +85,11 @@ impl PrimState {
     {
         match form {
             Bare::Identity => PrimState::Identity,
+            Bare::LocalTime => PrimState::Clock(None),
+            Bare::Integral => PrimState::Area(Area { sum: 0, level: 0 }),
+            Bare::Edge => PrimState::Edge(false),
+            Bare::NotYet => PrimState::NotYet(false),
+            Bare::Count => PrimState::Count(0),
         }
     }
 
@@ -80,6 +101,8 @@ impl PrimState {
         match form {
             WithValue::Constant => PrimState::Constant(value),
             WithValue::InitialPre => PrimState::Previous(value),
+            WithValue::Now => PrimState::Now(Some(value)),
+            WithValue::Hold => PrimState::Hold(value),
         }
     }
 
@@ -104,6 +127,16 @@ impl PrimState {
                 Ok(())
             }
             PrimState::Arrow(code) => replace(alloc, code, functions, value),
+            PrimState::Clock(clock) => tell_time(clock, dt, value),
+            PrimState::Area(area) => integrate(area, dt, value),
+            PrimState::Edge(low) => rise(alloc, low, value),
+            PrimState::NotYet(begun) => {
+                pass_later(begun, value);
+                Ok(())
+            }
+            PrimState::Count(count) => count_event(alloc, count, value),
+            PrimState::Now(first) => occur(alloc, first, value),
+            PrimState::Hold(last) => hold(alloc, last, value),
         }
     }
 
@@ -121,6 +154,14 @@ impl PrimState {
                 let shared = code.clone()?;
                 Ok(PrimState::Arrow(shared))
             }
+            PrimState::Clock(clock) => Ok(PrimState::Clock(*clock)),
+            PrimState::Area(area) => Ok(PrimState::Area(*area)),
+            PrimState::Edge(low) => Ok(PrimState::Edge(*low)),
+            PrimState::NotYet(begun) => Ok(PrimState::NotYet(*begun)),
+            PrimState::Count(count) => Ok(PrimState::Count(*count)),
+            PrimState::Now(None) => Ok(PrimState::Now(None)),
+            PrimState::Now(Some(value)) => Ok(PrimState::Now(Some(value.clone_in(alloc)?))),
+            PrimState::Hold(value) => Ok(PrimState::Hold(value.clone_in(alloc)?)),
         }
     }
 }

@@ -3,8 +3,8 @@ use Rattle.std.proofs.Common.{pos, ◌≡◌, Bool, true, false, IsTrue, refl, s
 use Rattle.sf_operator.specs.declared.operator.Operator.TheVariants.{Arithmetic}
 use Rattle.sf_operator.specs.declared.operator.Arithmetic.TheVariants.{Divide}
 use Rattle.sf_expr.specs.Expressions.{Expression, unnamed, literal, int_literal, operation, Function, function}
-use Rattle.sf_term.specs.declared.form.Bare.TheVariants.{Identity}
-use Rattle.sf_term.specs.declared.form.WithValue.TheVariants.{Constant, InitialPre}
+use Rattle.sf_term.specs.declared.form.Bare.TheVariants.{Identity, LocalTime, Integral, Edge, NotYet, Count}
+use Rattle.sf_term.specs.declared.form.WithValue.TheVariants.{Constant, InitialPre, Now, Hold}
 use Rattle.sf_term.specs.declared.form.Join.TheVariants.{InSequence, InParallel, FannedOut}
 use Rattle.sf_term.specs.declared.form.Side.{Side}
 use Rattle.sf_term.specs.declared.form.Side.TheVariants.{First, Second}
@@ -51,6 +51,8 @@ constant_view : (t : Term) → IsConstant t
 constant_view (primitive (bare k)) = no_constant
 constant_view (primitive (with_value Constant i)) = a_constant i refl
 constant_view (primitive (with_value InitialPre i)) = no_constant
+constant_view (primitive (with_value Now i)) = no_constant
+constant_view (primitive (with_value Hold i)) = no_constant
 constant_view (primitive (arrow f)) = no_constant
 constant_view (primitive (fused f)) = no_constant
 constant_view (joined j f g) = no_constant
@@ -148,6 +150,11 @@ data Staged (t : Term) : Type 0 where
 
 stages : {t : Term} → IsPlan t → Staged t
 stages (plan_primitive {p = bare Identity}) = no_stage refl
+stages (plan_primitive {p = bare LocalTime}) = one_stage refl
+stages (plan_primitive {p = bare Integral}) = one_stage refl
+stages (plan_primitive {p = bare Edge}) = one_stage refl
+stages (plan_primitive {p = bare NotYet}) = one_stage refl
+stages (plan_primitive {p = bare Count}) = one_stage refl
 stages (plan_primitive {p = with_value k i}) = one_stage refl
 stages (plan_primitive {p = arrow f}) = one_stage refl
 stages (plan_primitive {p = fused f}) = one_stage refl

@@ -16,7 +16,7 @@ use Rattle.sf_operator.specs.declared.operator.Folding.TheVariants as folding
 use Rattle.sf_operator.specs.FunctionForms.{kept_payload, mapped_payload, mapped_value, matched_payload, merged_by, value_of_key, folded_rows, folded_value}
 use Rattle.sf_operator.specs.Operations.{truth_in, halves_in, payload_in, rows_in, key_in, order_of, merged, unary_value, decided, operated}
 use Rattle.sf_expr.specs.Evaluation.{Evaluated, answer, ◌>>=◌, known, Scope, bound_in, unless_decided, eval, apply}
-use Rattle.sf_term.specs.declared.form.Bare.TheVariants.{Identity}
+use Rattle.sf_term.specs.declared.form.Bare.TheVariants.{Identity, LocalTime, Integral, Edge, NotYet, Count}
 use Rattle.sf_term.specs.declared.form.Join.{Join}
 use Rattle.sf_term.specs.declared.form.Join.TheVariants.{InSequence, InParallel, FannedOut}
 use Rattle.sf_term.specs.declared.form.Heading.TheVariants.{LoopPre}
@@ -162,7 +162,12 @@ quiet_chain (fanned f g) h x sc =
     (λ y. next (apply_chain g x sc) (λ z. answer (pair y z)) (quiet_chain g k.1 x sc) (λ z. (pair y z, refl)))
 
 quiet_formula : (p : Primitive) → IsTrue (is_quiet_primitive p) → (sc : Scope) (s : Step) (L : Life) → Answers (formula p sc s L)
-quiet_formula (bare Identity) h sc s L = (input_of s, refl)
+quiet_formula (bare Identity) h sc s L = (_, refl)
+quiet_formula (bare LocalTime) h sc s L = absurd (no_truth h)
+quiet_formula (bare Integral) h sc s L = absurd (no_truth h)
+quiet_formula (bare Edge) h sc s L = (_, refl)
+quiet_formula (bare NotYet) h sc s L = (_, refl)
+quiet_formula (bare Count) h sc s L = absurd (no_truth h)
 quiet_formula (with_value k i) h sc s L = next (eval i sc) (λ v. answer (value_formula k v s L)) (quiet_eval i h sc) (λ v. (value_formula k v s L, refl))
 quiet_formula (arrow f) h sc s L = quiet_apply f h (input_of s) sc
 quiet_formula (fused f) h sc s L = quiet_chain f h (input_of s) sc

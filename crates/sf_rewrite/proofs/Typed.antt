@@ -1,5 +1,6 @@
 -- Plans take the types that their terms take.
-use Rattle.std.proofs.Common.{◌≡◌, List, ◌∷◌, map, refl, sym, ap}
+use Rattle.std.proofs.Common.{◌≡◌, List, ◌∷◌, map, Some, refl, sym, ap, subst}
+use Rattle.std.proofs.lemmas.Option.{same_Some}
 use mathlib.Core.Path.{ap₂}
 use Rattle.sf_value.specs.Values.{Kind}
 use Rattle.sf_func.specs.Registries.{TypesByName}
@@ -9,7 +10,7 @@ use Rattle.sf_term.specs.declared.form.Side.{Side}
 use Rattle.sf_term.specs.declared.form.Heading.{Heading}
 use Rattle.sf_term.specs.Trees.{Chain, Extent, Term, joined, sided, headed, staged, Template, Templates}
 use Rattle.sf_mean.specs.Contexts.{Context, Bindings, Signature, signature_of, context_with}
-use Rattle.sf_mean.specs.Typing.{ChainTakes, lone_takes, chained_takes, on_first_takes, on_second_takes, on_both_takes, fanned_takes, identity_takes, constant_takes, arrow_takes, fused_takes, Takes, takes, primitive_takes, sequence_takes, parallel_takes, fan_takes, first_takes, second_takes, loop_takes, stages_take}
+use Rattle.sf_mean.specs.Typing.{ChainTakes, lone_takes, chained_takes, on_first_takes, on_second_takes, on_both_takes, fanned_takes, bare_takes, value_takes, arrow_takes, fused_takes, Takes, takes, primitive_takes, sequence_takes, parallel_takes, fan_takes, first_takes, second_takes, loop_takes, stages_take}
 use Rattle.sf_mean.proofs.Inferred.{input_fits, output_fits}
 use Rattle.sf_rewrite.specs.Laws.{arr, Laws, unchanged, in_turn, in_join, in_stages, in_side, in_heading, as_pipeline, within_pipeline, associate_right, associate_left, identity_before, identity_after, arr_as_chain, chain_as_arr, arr_composed, arr_on_side, arr_in_parallel, arr_fanned_out, sides_composed, exchanged, constant_after, left_tightened, right_tightened}
 use Rattle.sf_rewrite.specs.Plans.{Plans, plans, PlansParts, of_primitive, of_join, of_side, of_heading, PlansTemplate, PlansAll, no_templates, one_more}
@@ -48,8 +49,8 @@ module _ {Γ : Context} where
   law_takes within_pipeline a b (takes p q (stages_take f g)) = takes p q (stages_take f g)
   law_takes associate_right a b (takes p q (stages_take (takes p' q' (stages_take f g)) h)) = takes p q (stages_take f (takes (output_fits f) q (stages_take g h)))
   law_takes associate_left a b (takes p q (stages_take f (takes p' q' (stages_take g h)))) = takes p q (stages_take (takes p (input_fits h) (stages_take f g)) h)
-  law_takes identity_before a b (takes p q (stages_take (takes p' q' (primitive_takes identity_takes)) f)) = f
-  law_takes identity_after a b (takes p q (stages_take f (takes p' q' (primitive_takes identity_takes)))) = f
+  law_takes identity_before a b (takes p q (stages_take {g = g} (takes p' q' (primitive_takes (bare_takes h k))) f)) = subst (λ a. Takes Γ g a b) (same_Some _ _ (sym h)) f
+  law_takes identity_after a b (takes p q (stages_take {f = f} T (takes p' q' (primitive_takes (bare_takes h k))))) = subst (Takes Γ f a) (same_Some _ _ h) T
   law_takes arr_as_chain a b (takes p q (primitive_takes (arrow_takes f))) = takes p q (primitive_takes (fused_takes (lone_takes f) q))
   law_takes chain_as_arr a b (takes p q (primitive_takes (fused_takes (lone_takes f) h))) = takes p q (primitive_takes (arrow_takes f))
   law_takes arr_composed a b (takes p q (stages_take f g)) = takes p q (primitive_takes (fused_takes (chained_takes (arr_chain f) (arr_chain g)) q))
@@ -63,7 +64,7 @@ module _ {Γ : Context} where
       takes p q (parallel_takes (takes (input_fits f) (output_fits h) (stages_take f h)) (takes (input_fits g) (output_fits k) (stages_take g k)))
   law_takes (left_tightened z) a b (takes p q (loop_takes e (takes p' q' (stages_take (takes p'' q'' (first_takes f)) g)))) = takes p q (stages_take f (takes (output_fits f) q (loop_takes e g)))
   law_takes right_tightened a b (takes p q (loop_takes e (takes p' q' (stages_take g (takes p'' q'' (first_takes h)))))) = takes p q (stages_take (takes p (input_fits h) (loop_takes e g)) h)
-  law_takes (constant_after z) a b (takes p q (stages_take f (takes p' q' (primitive_takes (constant_takes e))))) = takes p q (primitive_takes (constant_takes e))
+  law_takes (constant_after z) a b (takes p q (stages_take f (takes p' q' (primitive_takes (value_takes e h k))))) = takes p q (primitive_takes (value_takes e h k))
 
   mutual
     pub plan_takes : {t u : Term} → Plans t u → Keeps Γ t u

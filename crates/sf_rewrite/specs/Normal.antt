@@ -1,7 +1,7 @@
 -- What a plan looks like when no law about pipelines is left to apply.
 use Rattle.std.specs.Prelude.{Bool, true, false, ◌&&◌, IsTrue}
 use Rattle.sf_expr.specs.Expressions.{Expression}
-use Rattle.sf_term.specs.declared.form.Bare.TheVariants.{Identity}
+use Rattle.sf_term.specs.declared.form.Bare.TheVariants.{Identity, LocalTime, Integral, Edge, NotYet, Count}
 use Rattle.sf_term.specs.declared.form.Join.{Join}
 use Rattle.sf_term.specs.declared.form.Join.TheVariants.{InSequence, InParallel, FannedOut}
 use Rattle.sf_term.specs.declared.form.Side.{Side}
@@ -28,6 +28,11 @@ is_left FannedOut = true
 -- a stage is neither a pipeline nor the identity
 abbrev pub is_stage : Term → Bool
 is_stage (primitive (bare Identity)) = false
+is_stage (primitive (bare LocalTime)) = true
+is_stage (primitive (bare Integral)) = true
+is_stage (primitive (bare Edge)) = true
+is_stage (primitive (bare NotYet)) = true
+is_stage (primitive (bare Count)) = true
 is_stage (primitive (with_value k i)) = true
 is_stage (primitive (arrow f)) = true
 is_stage (primitive (fused f)) = true

@@ -7,6 +7,8 @@ use Rattle.sf_operator.specs.declared.operator.Operator.{Operator}
 use Rattle.sf_operator.specs.declared.operator.Operator.TheVariants.{Arithmetic, Merge}
 use Rattle.sf_operator.specs.declared.operator.Merge.TheVariants.{Exclusive}
 use Rattle.sf_expr.specs.Expressions.{Expression, variable, literal, paired, applied, operation, conditional, mapped, folded, called, Function, function}
+use Rattle.sf_term.specs.declared.form.Bare.{Bare}
+use Rattle.sf_term.specs.declared.form.Bare.TheVariants.{Identity, LocalTime, Integral, Edge, NotYet, Count}
 use Rattle.sf_term.specs.Trees.{Chain, lone, chained, on_side, on_both, fanned, Primitive, bare, with_value, arrow, fused, Term, primitive, joined, sided, headed, staged}
 
 -- an operator on a value that always makes one; a table may have more keys than there are numbers
@@ -44,9 +46,19 @@ is_quiet_chain (on_side d f) = is_quiet_chain f
 is_quiet_chain (on_both f g) = is_quiet_chain f && is_quiet_chain g
 is_quiet_chain (fanned f g) = is_quiet_chain f && is_quiet_chain g
 
--- a primitive of a quiet expression or function
+-- a primitive without constants that always gives a value; a life may last longer, and have more events, than there are
+-- numbers
+abbrev pub is_quiet_bare : Bare → Bool
+is_quiet_bare Identity = true
+is_quiet_bare LocalTime = false
+is_quiet_bare Integral = false
+is_quiet_bare Edge = true
+is_quiet_bare NotYet = true
+is_quiet_bare Count = false
+
+-- such a primitive, or one of a quiet expression or function
 abbrev pub is_quiet_primitive : Primitive → Bool
-is_quiet_primitive (bare k) = true
+is_quiet_primitive (bare k) = is_quiet_bare k
 is_quiet_primitive (with_value k i) = is_quiet_expression i
 is_quiet_primitive (arrow f) = is_quiet_function f
 is_quiet_primitive (fused f) = is_quiet_chain f

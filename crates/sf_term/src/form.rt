@@ -5,6 +5,16 @@
 pub enum Bare {
     /// `identity`: the input.
     Identity,
+    /// `localTime`: the milliseconds since the first sample.
+    LocalTime,
+    /// `integral`: the sum of the inputs before, each by the milliseconds to the next sample.
+    Integral,
+    /// `edge`: an event where the input is true and the one before was false.
+    Edge,
+    /// `notYet`: no event at the first sample, then the input.
+    NotYet,
+    /// `count`: at an event, how many there were so far.
+    Count,
 }
 
 /// A primitive with a value.
@@ -14,6 +24,10 @@ pub enum WithValue {
     Constant,
     /// `iPre e`: the value first, then the input before.
     InitialPre,
+    /// `now e`: an event of the value at the first sample alone.
+    Now,
+    /// `hold e`: the last payload so far, or the value where there was none.
+    Hold,
 }
 
 /// Two terms joined.

@@ -1,4 +1,4 @@
-use Rattle.sf_prim.proofs.Primitives.{identity_goes_on, constant_goes_on, previous_goes_on, arrow_goes_on}
+use Rattle.sf_prim.proofs.Primitives.{identity_goes_on, constant_goes_on, previous_goes_on, arrow_goes_on, clock_goes_on, area_goes_on, edge_goes_on, not_yet_goes_on, count_goes_on, now_goes_on, hold_goes_on}
 use Rattle.sf_prim.proofs.prim_state.PrimState.step.Goals as goal
 
 pub returns-in-Identity : goal.returns-in-Identity
@@ -12,3 +12,24 @@ returns-in-Previous g c = λ q scope L same k. rw (c.swap.ensures.x_after, c.swa
 
 pub returns-in-Arrow : goal.returns-in-Arrow
 returns-in-Arrow g c = rw c.in-Arrow.is (arrow_goes_on (g.R.Holds.answers c.args.functions.now) c.in-Arrow.code _ _ _ (rw c.deref.ensures at c.replace.ensures))
+
+pub returns-in-Clock : goal.returns-in-Clock
+returns-in-Clock g c = λ q scope L same k. clock_goes_on q scope _ _ L _ _ _ _ c.tell_time.ensures.told c.tell_time.ensures.kept (rw c.in-Clock.is at k)
+
+pub returns-in-Area : goal.returns-in-Area
+returns-in-Area g c = λ q scope L same k. area_goes_on q scope _ _ L _ _ _ _ c.integrate.ensures.told c.integrate.ensures.kept (rw c.in-Area.is at k)
+
+pub returns-in-Edge : goal.returns-in-Edge
+returns-in-Edge g c = λ q scope L same k. edge_goes_on q scope _ _ L _ _ _ _ c.rise.ensures.told c.rise.ensures.kept (rw c.in-Edge.is at k)
+
+pub returns-in-Count : goal.returns-in-Count
+returns-in-Count g c = λ q scope L same k. count_goes_on q scope _ _ L _ _ _ _ c.count_event.ensures.told c.count_event.ensures.kept (rw c.in-Count.is at k)
+
+pub returns-in-Now : goal.returns-in-Now
+returns-in-Now g c = λ q scope L same k. now_goes_on q scope _ L _ _ _ _ c.occur.ensures.told c.occur.ensures.kept (rw c.in-Now.is at k)
+
+pub returns-in-Hold : goal.returns-in-Hold
+returns-in-Hold g c = λ q scope L same k. hold_goes_on q scope _ _ L _ _ _ _ c.hold.ensures.told c.hold.ensures.kept (rw c.in-Hold.is at k)
+
+pub returns-in-NotYet : goal.returns-in-NotYet
+returns-in-NotYet g c = λ q scope L same k. not_yet_goes_on q scope _ _ L _ _ _ c.pass_later.ensures.told c.pass_later.ensures.kept (rw c.in-NotYet.is at k)

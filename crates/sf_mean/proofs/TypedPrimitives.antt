@@ -1,0 +1,76 @@
+-- What primitives give has the type that the tables of types say.
+use Rattle.std.proofs.Common.{◌≡◌, ℕ, pos, [], ◌∷◌, Bool, true, false, Option, Some, None, sym, ◌∙◌}
+use Rattle.std.proofs.lemmas.Option.{same_Some}
+use Rattle.sf_value.specs.Values.{Kind, unit_kind, bool_kind, int_kind, event_kind, Data, event, HasKind, has_unit, has_no_event, has_event}
+use Rattle.sf_operator.specs.Outcomes.{Evaluated, answer, ◌>>=◌}
+use Rattle.sf_operator.specs.Answers.{Yields, yields, fails}
+use Rattle.sf_operator.specs.Kinds.{only, payload_of}
+use Rattle.sf_operator.specs.Operations.{payload_or}
+use Rattle.sf_operator.proofs.SameKinds.{only_is, found_is, payload_is}
+use Rattle.sf_operator.proofs.Yielding.{as_kind, yields_as, HasPayload, has_none, has_some, tested_yields}
+use Rattle.sf_term.specs.declared.form.Bare.{Bare}
+use Rattle.sf_term.specs.declared.form.Bare.TheVariants.{Identity, LocalTime, Integral, Edge, NotYet, Count}
+use Rattle.sf_term.specs.declared.form.WithValue.{WithValue}
+use Rattle.sf_term.specs.declared.form.WithValue.TheVariants.{Constant, InitialPre, Now, Hold}
+use Rattle.sf_mean.specs.Lives.{Step, input_of, Life, time}
+use Rattle.sf_mean.specs.Formulas.{before, at_first, area, event_if, occurring, occurrences, counted, last_payload, bare_formula, value_formula}
+use Rattle.sf_mean.specs.Typing.{bare_kind, value_kind}
+use Rattle.sf_mean.specs.Soundness.{LifeHas, no_steps, more_steps}
+
+before_has : {v : Data} {a : Kind} {L : Life} → HasKind v a → LifeHas L a → HasKind (before v L) a
+before_has h no_steps = h
+before_has h (more_steps i l) = i
+
+first_has : {x y : Data} {a : Kind} (L : Life) → HasKind x a → HasKind y a → HasKind (at_first L x y) a
+first_has [] h k = h
+first_has (s ∷ L) h k = k
+
+if_has : (b : Bool) → HasKind (event_if b) (event_kind unit_kind)
+if_has true = has_event has_unit
+if_has false = has_no_event
+
+payload_has : {d : Data} {a p : Kind} → payload_of a ≡ Some p → HasKind d a → HasPayload p (occurring d)
+payload_has {a = a} {p = p} e h = each (as_kind (payload_is a e) h)
+  where
+    each : {d : Data} → HasKind d (event_kind p) → HasPayload p (occurring d)
+    each has_no_event = has_none
+    each (has_event k) = has_some k
+
+or_has : {p : Kind} {e : Option Data} {d : Data} → HasPayload p e → HasKind d p → HasKind (payload_or e d) p
+or_has has_none k = k
+or_has (has_some h) k = h
+
+last_has : {v : Data} {a p : Kind} {L : Life} → payload_of a ≡ Some p → HasKind v p → LifeHas L a → HasKind (last_payload v L) p
+last_has e h no_steps = h
+last_has e h (more_steps i l) = or_has (payload_has e i) (last_has e h l)
+
+wrapped : {o : Evaluated Data} {t : Kind} → Yields t o → Yields (event_kind t) (o >>= λ v. answer (event v))
+wrapped (yields h) = yields (has_event h)
+wrapped fails = fails
+
+counted_yields : (e : Option Data) (n : ℕ) → Yields (event_kind int_kind) (counted e n)
+counted_yields None n = yields has_no_event
+counted_yields (Some x) n = wrapped (tested_yields (pos n))
+
+pub bare_typed : (k : Bare) {a b : Kind} (s : Step) (L : Life) → bare_kind k a ≡ Some b → HasKind (input_of s) a → LifeHas L a → Yields b (bare_formula k s L)
+bare_typed Identity s L e h l = yields_as e (yields h)
+bare_typed LocalTime s L e h l = yields_as e (tested_yields (pos (time (s ∷ L))))
+bare_typed Integral {a = a} s L e h l = yields_as (only_is a int_kind (Some int_kind) e).1 (tested_yields (area (s ∷ L)))
+bare_typed Edge {a = a} s L e h l = yields_as (only_is a bool_kind (Some (event_kind unit_kind)) e).1 (yields (if_has _))
+bare_typed NotYet {a = a} s L e h l =
+    let found = found_is (payload_of a) (λ p. Some a) e in
+    yields_as found.2 (yields (first_has L (as_kind (sym (payload_is a found.1)) has_no_event) h))
+bare_typed Count {a = a} s L e h l =
+    let found = found_is (payload_of a) (λ p. Some (event_kind int_kind)) e in
+    yields_as found.2 (counted_yields (occurring (input_of s)) (occurrences (s ∷ L)))
+
+pub value_typed : (k : WithValue) {v : Data} {t a b : Kind} (s : Step) (L : Life) → value_kind k t a ≡ Some b → HasKind v t → HasKind (input_of s) a → LifeHas L a → HasKind (value_formula k v s L) b
+value_typed Constant s L e i h l = as_kind (same_Some _ _ e) i
+value_typed InitialPre {t = t} {a = a} s L e i h l =
+    let same = only_is a t (Some t) e in
+    as_kind (same.0 ∙ same_Some _ _ same.1) (before_has (as_kind (sym same.0) i) l)
+value_typed Now s L e i h l = as_kind (same_Some _ _ e) (first_has L (has_event i) has_no_event)
+value_typed Hold {t = t} {a = a} s L e i h l =
+    let found = found_is (payload_of a) (λ p. only p t (Some t)) e in
+    let same = only_is found.0 t (Some t) found.2 in
+    as_kind (same.0 ∙ same_Some _ _ same.1) (last_has found.1 (as_kind (sym same.0) i) (more_steps {s = s} h l))

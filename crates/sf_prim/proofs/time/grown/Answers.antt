@@ -1,0 +1,12 @@
+use Rattle.std.proofs.Common.{subst, arith, w64, ◌∙◌}
+use Rattle.std.proofs.lemmas.Int.{to_z-of_z}
+use Rattle.sf_operator.specs.Outcomes.{tested}
+use Rattle.sf_operator.specs.Answers.{Computes}
+use Rattle.sf_prim.proofs.Widths.{wide_sum}
+use Rattle.sf_prim.proofs.time.grown.Goals as goal
+
+pub returns : goal.returns
+returns c =
+    let sum = c.from.ensures ∙ to_z-of_z w64 c.args.sum c.ranges.sum in
+    let level = c.from-3.ensures ∙ to_z-of_z w64 c.args.level c.ranges.level in
+    subst (λ z. Computes c.narrow.result (tested z)) (wide_sum c.args.sum c.args.level c.args.dt _ _ _ c.ranges.sum c.ranges.level (omega (arith, c.ranges.dt)) sum c.from-2.ensures level) c.narrow.ensures
