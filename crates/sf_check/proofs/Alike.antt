@@ -27,10 +27,10 @@ use Rattle.sf_term.specs.declared.node.Node.{Node}
 use Rattle.sf_term.specs.declared.node.Node.TheVariants as terms
 use Rattle.sf_term.specs.declared.program.Program.{Program}
 use Rattle.sf_term.specs.Headers.{Header}
-use Rattle.sf_term.specs.Trees.{Primitive, bare, with_value, arrow, fused, Term, primitive, joined, sided, headed, staged, Template, Templates}
+use Rattle.sf_term.specs.Trees.{Primitive, bare, with_value, timed, arrow, accumulated, fused, Term, primitive, joined, sided, headed, staged, Template, Templates}
 use Rattle.sf_term.specs.Arena.{term_number, tree, term_node_at, term_entry_of, expressions_of, headers_of, template_in, templates_of, TermPartsBelow}
 use Rattle.sf_mean.specs.Contexts.{context_of}
-use Rattle.sf_mean.specs.Typing.{PrimitiveTakes, bare_takes, value_takes, arrow_takes, fused_takes, Takes, takes, FormTakes, primitive_takes, sequence_takes, parallel_takes, fan_takes, first_takes, second_takes, loop_takes, stages_take, Accepted}
+use Rattle.sf_mean.specs.Typing.{PrimitiveTakes, bare_takes, value_takes, timed_takes, accumulated_takes, arrow_takes, fused_takes, Takes, takes, FormTakes, primitive_takes, sequence_takes, parallel_takes, fan_takes, first_takes, second_takes, loop_takes, stages_take, Accepted}
 use Rattle.sf_check.specs.Answering.{primitive_in}
 use Rattle.sf_check.specs.Calling.{IsCalledAlike, AreCalledAlike}
 use Rattle.sf_check.proofs.Made.{made, tree_made}
@@ -59,6 +59,8 @@ module _ (fs gs : TypesByName) where
   PrimitiveAlike (bare k) = Unit {0}
   PrimitiveAlike (with_value k e) = Alike e
   PrimitiveAlike (arrow f) = FunctionAlike f
+  PrimitiveAlike (timed k q e) = Alike e
+  PrimitiveAlike (accumulated k e f) = Alike e × FunctionAlike f
   PrimitiveAlike (fused f) = ⊥
 
   abbrev pub TermAlike : Term → Type 0
@@ -94,6 +96,8 @@ module _ (fs gs : TypesByName) where
     primitive_over : {p : Primitive} {a b : Kind} → PrimitiveAlike p → PrimitiveTakes (context_of fs ts) p a b → PrimitiveTakes (context_of gs ts) p a b
     primitive_over k (bare_takes h f) = bare_takes h f
     primitive_over k (value_takes v h f) = value_takes (typed_over refl k v) h f
+    primitive_over k (timed_takes v w h f) = timed_takes (typed_over refl k v) w h f
+    primitive_over k (accumulated_takes v h q e f) = accumulated_takes (typed_over refl k.0 v) h (function_over refl k.1 q) e f
     primitive_over k (arrow_takes h) = arrow_takes (function_over refl k h)
     primitive_over k (fused_takes h f) = absurd k
 
@@ -143,6 +147,8 @@ module _ (fs gs : TypesByName) where
     node_alike (primitives.Bare k) = tt
     node_alike (primitives.WithValue k e) = expression_alike e
     node_alike (primitives.Arrow f) = expression_alike (body_at x f)
+    node_alike (primitives.Timed k q e) = expression_alike e
+    node_alike (primitives.Accumulated k e f) = (expression_alike e, expression_alike (body_at x f))
 
   -- ## Programs
 

@@ -1,5 +1,5 @@
 -- A term takes inputs of a type, or breaks a rule on them.
-use Rattle.std.proofs.Common.{◌≡◌, ◌≢◌, ℕ, zero, suc, ◌<◌, Bool, true, false, Option, ◌⊎◌, inl, inr, refl, sym, ap, subst, ◌∙◌, arith}
+use Rattle.std.proofs.Common.{ℤ, ◌≡◌, ◌≢◌, ℕ, zero, suc, ◌<◌, Bool, true, false, Option, ◌⊎◌, inl, inr, refl, sym, ap, subst, ◌∙◌, arith}
 use Rattle.std.proofs.lemmas.Bool.{cases_lt}
 use Rattle.sf_value.specs.Values.{Kind, pair_kind, nodes as nodes_of}
 use Rattle.sf_refusal.specs.declared.spot.Spot.{Spot}
@@ -13,7 +13,10 @@ use Rattle.sf_expr.specs.Typing.{Fits, HasType}
 use Rattle.sf_expr.specs.Inference.{NamesFit}
 use Rattle.sf_operator.proofs.Refusing.{kind_answered}
 use Rattle.sf_expr.proofs.Answered.{answered, function_answered}
+use Rattle.sf_expr.specs.declared.exprs.FunctionId.{FunctionId}
 use Rattle.sf_term.specs.declared.form.WithValue.{WithValue}
+use Rattle.sf_term.specs.declared.form.Timing.{Timing}
+use Rattle.sf_term.specs.declared.form.Accumulation.{Accumulation}
 use Rattle.sf_term.specs.declared.form.Join.TheVariants.{InSequence, InParallel, FannedOut}
 use Rattle.sf_term.specs.declared.form.Side.TheVariants.{First, Second}
 use Rattle.sf_term.specs.declared.form.Heading.TheVariants.{LoopPre}
@@ -26,11 +29,11 @@ use Rattle.sf_term.specs.declared.program.Program.{Program}
 use Rattle.sf_term.specs.Arena.{term_number, tree, term_node_at, term_entry_of, term_spot_at, expressions_of, TermPartsBelow}
 use Rattle.sf_term.proofs.Kept.{parts_below}
 use Rattle.sf_mean.specs.Contexts.{Context, names_of_values}
-use Rattle.sf_mean.specs.Typing.{bare_kind, value_kind, PrimitiveTakes, bare_takes, value_takes, arrow_takes, Takes, FormTakes, primitive_takes, sequence_takes, parallel_takes, fan_takes, first_takes, second_takes, loop_takes}
+use Rattle.sf_mean.specs.Typing.{bare_kind, value_kind, takes_time, timed_kind, accumulated_argument, accumulated_kind, PrimitiveTakes, bare_takes, value_takes, timed_takes, accumulated_takes, arrow_takes, Takes, FormTakes, primitive_takes, sequence_takes, parallel_takes, fan_takes, first_takes, second_takes, loop_takes}
 use Rattle.sf_operator.specs.Kinds.{same_kind}
 use Rattle.sf_operator.proofs.SameKinds.{same_is, is_same}
 use Rattle.sf_mean.proofs.Inferred.{PartsAre, two_parts, no_parts, parts_are, output_fits}
-use Rattle.sf_check.specs.Breaking.{Exceeds, PrimitiveBreaks, value_refused, bare_refused, given_refused, function_refused, FormBreaks, primitive_breaks, parallel_input, parallel_exceeds, fan_exceeds, side_input, first_exceeds, second_exceeds, start_refused, fed_exceeds, loop_differs, Reaches, sequence_left, sequence_right, parallel_left, parallel_right, fan_left, fan_right, first_part, second_part, loop_part, TermBreaks, itself, within}
+use Rattle.sf_check.specs.Breaking.{Exceeds, PrimitiveBreaks, argument_refused, accumulator_refused, made_refused, value_refused, bare_refused, given_refused, timed_value_refused, time_outside, timed_refused, start_value_refused, accumulation_breaks, function_refused, FormBreaks, primitive_breaks, parallel_input, parallel_exceeds, fan_exceeds, side_input, first_exceeds, second_exceeds, start_refused, fed_exceeds, loop_differs, Reaches, sequence_left, sequence_right, parallel_left, parallel_right, fan_left, fan_right, first_part, second_part, loop_part, TermBreaks, itself, within}
 use Rattle.sf_check.specs.Answering.{primitive_in}
 use Rattle.sf_check.proofs.Made.{made}
 use Rattle.sf_check.proofs.Terms.{form_ok}
@@ -51,9 +54,27 @@ PrimitiveAnswered x Γ q a s = ((b : Kind) × PrimitiveTakes Γ (primitive_in x 
 value_answered : (x : Exprs) (Γ : Context) (k : WithValue) (v : ExprId) (a : Kind) (s : Spot) (b : Kind) → HasType (names_of_values Γ) (expression x v) b → PrimitiveAnswered x Γ (primitives.WithValue k v) a s
 value_answered x Γ k v a s b h = elim (kind_answered (value_kind k b a) s) [ inl t ↦ inl (t.0, value_takes h t.1 t.2) | inr r ↦ inr (r.0, given_refused h r.1) ]
 
+timed_answered : (x : Exprs) (Γ : Context) (k : Timing) (q : ℤ) (v : ExprId) (a : Kind) (s : Spot) (t : Kind) → HasType (names_of_values Γ) (expression x v) t → (b : Bool) → takes_time k q ≡ b → PrimitiveAnswered x Γ (primitives.Timed k q v) a s
+timed_answered x Γ k q v a s t h false e = inr (_, time_outside h e)
+timed_answered x Γ k q v a s t h true e = elim (kind_answered (timed_kind k t) s) [ inl u ↦ inl (u.0, timed_takes h e u.1 u.2) | inr r ↦ inr (r.0, timed_refused h e r.1) ]
+
+accumulation_answered : (x : Exprs) (Γ : Context) (k : Accumulation) (v : ExprId) (f : FunctionId) (a : Kind) (s : Spot) → NamesFit (names_of_values Γ) → (t : Kind) → HasType (names_of_values Γ) (expression x v) t → PrimitiveAnswered x Γ (primitives.Accumulated k v f) a s
+accumulation_answered x Γ k v f a s fit t h = elim (kind_answered (accumulated_argument k t a) s) [
+  | inr r ↦ inr (r.0, accumulation_breaks h (argument_refused r.1))
+  | inl c ↦ elim (function_answered x (names_of_values Γ) f c.0 s fit c.2) [
+    | inr r ↦ inr (r.0, accumulation_breaks h (accumulator_refused c.1 c.2 r.1))
+    | inl u ↦ elim (kind_answered (accumulated_kind k t u.0) s) [
+      | inr r ↦ inr (r.0, accumulation_breaks h (made_refused c.1 u.1 r.1))
+      | inl b ↦ inl (b.0, accumulated_takes h c.1 u.1 b.1 b.2)
+    ]
+  ]
+]
+
 primitive_answered : (x : Exprs) (Γ : Context) (q : Primitive) (a : Kind) (s : Spot) → NamesFit (names_of_values Γ) → Fits a → PrimitiveAnswered x Γ q a s
 primitive_answered x Γ (primitives.Bare k) a s fit f = elim (kind_answered (bare_kind k a) s) [ inl t ↦ inl (t.0, bare_takes t.1 t.2) | inr r ↦ inr (r.0, bare_refused r.1) ]
 primitive_answered x Γ (primitives.WithValue k v) a s fit f = elim (answered x (names_of_values Γ) fit v) [ inl t ↦ value_answered x Γ k v a s t.0 t.1 | inr r ↦ inr (_, value_refused r.1) ]
+primitive_answered x Γ (primitives.Timed k q v) a s fit f = elim (answered x (names_of_values Γ) fit v) [ inl t ↦ timed_answered x Γ k q v a s t.0 t.1 (takes_time k q) refl | inr r ↦ inr (_, timed_value_refused r.1) ]
+primitive_answered x Γ (primitives.Accumulated k v g) a s fit f = elim (answered x (names_of_values Γ) fit v) [ inl t ↦ accumulation_answered x Γ k v g a s fit t.0 t.1 | inr r ↦ inr (_, start_value_refused r.1) ]
 primitive_answered x Γ (primitives.Arrow g) a s fit f = elim (function_answered x (names_of_values Γ) g a s fit f) [ inl t ↦ inl (t.0, arrow_takes t.1) | inr r ↦ inr (_, function_refused r.1) ]
 
 -- ## Terms

@@ -1,9 +1,15 @@
 -- Where a rule is broken, there is no type.
-use Rattle.std.proofs.Common.{◌≡◌, refl, subst, ap, ◌∙◌, arith}
+use Rattle.std.proofs.Common.{◌≡◌, Some, refl, sym, subst, ap, ◌∙◌, arith}
+use Rattle.std.proofs.lemmas.Option.{same_Some}
 use mathlib.Core.Path.{ap₂}
 use Rattle.sf_value.specs.Values.{Kind, pair_kind, nodes as nodes_of}
 use Rattle.sf_func.specs.Registries.{TypesByName}
-use Rattle.sf_expr.specs.Typing.{Fits}
+use Rattle.sf_expr.specs.declared.exprs.FunctionId.{FunctionId}
+use Rattle.sf_expr.specs.Expressions.{Function}
+use Rattle.sf_expr.specs.Arena.{function_at}
+use Rattle.sf_expr.specs.Inference.{function_output}
+use Rattle.sf_expr.specs.Typing.{Names, Fits, FunctionTakes}
+use Rattle.sf_expr.proofs.Inferred.{takes_output}
 use Rattle.sf_expr.specs.declared.exprs.Exprs.{Exprs}
 use Rattle.sf_refusal.specs.declared.spot.Spot.{Spot}
 use Rattle.sf_refusal.specs.declared.refusal.Breach.{Breach}
@@ -16,20 +22,37 @@ use Rattle.sf_term.specs.declared.node.Node.{Node}
 use Rattle.sf_term.specs.declared.program.Program.{Program}
 use Rattle.sf_term.specs.Headers.{Header}
 use Rattle.sf_term.specs.Arena.{tree, term_node_at, template_in, templates_of}
-use Rattle.sf_mean.specs.Contexts.{Context}
-use Rattle.sf_mean.specs.Typing.{value_kind, PrimitiveTakes, bare_takes, value_takes, arrow_takes, Takes, FormTakes, primitive_takes, sequence_takes, parallel_takes, fan_takes, first_takes, second_takes, loop_takes, IsTyped}
+use Rattle.sf_term.specs.declared.form.Accumulation.{Accumulation}
+use Rattle.sf_mean.specs.Contexts.{Context, names_of_values}
+use Rattle.sf_mean.specs.Typing.{value_kind, timed_kind, accumulated_argument, accumulated_kind, PrimitiveTakes, bare_takes, value_takes, timed_takes, accumulated_takes, arrow_takes, Takes, FormTakes, primitive_takes, sequence_takes, parallel_takes, fan_takes, first_takes, second_takes, loop_takes, IsTyped}
 use Rattle.sf_check.specs.Answering.{primitive_in}
-use Rattle.sf_check.specs.Breaking.{Exceeds, PrimitiveBreaks, value_refused, bare_refused, given_refused, function_refused, FormBreaks, primitive_breaks, parallel_input, parallel_exceeds, fan_exceeds, side_input, first_exceeds, second_exceeds, start_refused, fed_exceeds, loop_differs, Reaches, sequence_left, sequence_right, parallel_left, parallel_right, fan_left, fan_right, first_part, second_part, loop_part, TermBreaks, itself, within, TemplateBreaks, breaks_within, breaks_header}
+use Rattle.sf_check.specs.Breaking.{Exceeds, PrimitiveBreaks, AccumulationBreaks, argument_refused, accumulator_refused, made_refused, value_refused, bare_refused, given_refused, timed_value_refused, time_outside, timed_refused, start_value_refused, accumulation_breaks, function_refused, FormBreaks, primitive_breaks, parallel_input, parallel_exceeds, fan_exceeds, side_input, first_exceeds, second_exceeds, start_refused, fed_exceeds, loop_differs, Reaches, sequence_left, sequence_right, parallel_left, parallel_right, fan_left, fan_right, first_part, second_part, loop_part, TermBreaks, itself, within, TemplateBreaks, breaks_within, breaks_header}
 use Rattle.sf_check.proofs.Made.{made, tree_made}
-use Rattle.sf_check.proofs.Types.{expression_one, takes_one, input_fits, output_fits, form_of}
+use Rattle.sf_check.proofs.Types.{argument_fits, expression_one, takes_one, input_fits, output_fits, form_of}
 
 pub too_large : {t u : Kind} → Exceeds t → Fits u → t ≡ u → ⊥
 too_large big fits e = let n = ap nodes_of e in omega (arith, big, fits, n)
+
+-- a function has one type of answers at most
+pub answer_one : {R : Names} {f : Function} {a b u v : Kind} → a ≡ b → FunctionTakes R f a u → FunctionTakes R f b v → u ≡ v
+answer_one {R} {f} same F G = same_Some _ _ (sym (takes_output F) ∙ ap (function_output R f) same ∙ takes_output G)
+
+accumulation_untyped : {x : Exprs} {R : Names} {s : Spot} {k : Accumulation} {f : FunctionId} {t a c u b : Kind} {e : Breach}
+    → AccumulationBreaks x R s k f t a e → accumulated_argument k t a ≡ Some c → FunctionTakes R (function_at x f) c u → accumulated_kind k t u ≡ Some b → Fits b → ⊥
+accumulation_untyped {s = s} (argument_refused q) h F g fits = kind_refused _ s _ q h (argument_fits F)
+accumulation_untyped {x = x} {R = R} {f = f} {u = u} (accumulator_refused h' fits' q) h F g fits = refused_takes_none q (subst (λ c. FunctionTakes R (function_at x f) c u) (same_Some _ _ (sym h ∙ h')) F)
+accumulation_untyped {s = s} {k = k} {t = t} (made_refused h' F' q) h F g fits = kind_refused _ s _ q (ap (accumulated_kind k t) (answer_one (same_Some _ _ (sym h' ∙ h)) F' F) ∙ g) fits
 
 primitive_untyped : {x : Exprs} {Γ : Context} {s : Spot} {q : Primitive} {a b : Kind} {e : Breach} → PrimitiveBreaks x Γ s q a e → PrimitiveTakes Γ (primitive_in x q) a b → ⊥
 primitive_untyped (value_refused q) (value_takes h e f) = refused_untyped q h
 primitive_untyped {s = s} (bare_refused q) (bare_takes e f) = kind_refused _ s _ q e f
 primitive_untyped {s = s} (given_refused {k = k} {a = a} h q) (value_takes l e f) = kind_refused _ s _ q (ap (λ t. value_kind k t a) (expression_one h l) ∙ e) f
+primitive_untyped (timed_value_refused q) (timed_takes h w e f) = refused_untyped q h
+primitive_untyped (time_outside h out) (timed_takes l w e f) = let z = sym out ∙ w in absurd cc
+primitive_untyped {s = s} (timed_refused {k = k} h w q) (timed_takes l u e f) = kind_refused _ s _ q (ap (timed_kind k) (expression_one h l) ∙ e) f
+primitive_untyped (start_value_refused q) (accumulated_takes h e F g f) = refused_untyped q h
+primitive_untyped {x = x} {Γ = Γ} {s = s} {e = r} (accumulation_breaks {k = k} {f = w} {a = a} h q) (accumulated_takes l e F g f) =
+    accumulation_untyped (subst (λ t. AccumulationBreaks x (names_of_values Γ) s k w t a r) (expression_one h l) q) e F g f
 primitive_untyped (function_refused q) (arrow_takes h) = refused_takes_none q h
 
 form_made : (p : Program) {Γ : Context} (i : TermId) {a b : Kind} → Takes Γ (tree p i) a b → FormTakes Γ (made p (term_node_at p i)) a b

@@ -1,12 +1,13 @@
 -- The terms that nodes stand for.
 use Rattle.std.proofs.Common.{◌≡◌, refl, sym, ap, ◌∙◌}
+use mathlib.Core.Path.{ap₂}
 use Rattle.sf_expr.specs.Arena.{expression}
 use Rattle.sf_term.specs.declared.node.TermId.{TermId}
 use Rattle.sf_term.specs.declared.node.Primitive.TheVariants as primitives
 use Rattle.sf_term.specs.declared.node.Node.{Node}
 use Rattle.sf_term.specs.declared.node.Node.TheVariants as nodes
 use Rattle.sf_term.specs.declared.program.Program.{Program}
-use Rattle.sf_term.specs.Trees.{Term, primitive, joined, sided, headed, with_value, arrow}
+use Rattle.sf_term.specs.Trees.{Term, primitive, joined, sided, headed, with_value, timed, arrow, accumulated}
 use Rattle.sf_term.specs.Arena.{tree, term_node_at, expressions_of, term_of}
 use Rattle.sf_term.proofs.Kept.{node_builds, expression_in, function_at_in}
 use Rattle.sf_check.specs.Answering.{primitive_in}
@@ -25,6 +26,8 @@ tree_made p t n e = node_builds p t n e ∙ by n
     by (nodes.Primitive (primitives.Bare k)) = refl
     by (nodes.Primitive (primitives.WithValue k v)) = ap (λ e. primitive (with_value k e)) (sym (expression_in p v))
     by (nodes.Primitive (primitives.Arrow f)) = ap (λ f. primitive (arrow f)) (sym (function_at_in p f))
+    by (nodes.Primitive (primitives.Timed k q v)) = ap (λ e. primitive (timed k q e)) (sym (expression_in p v))
+    by (nodes.Primitive (primitives.Accumulated k v f)) = ap₂ (λ e g. primitive (accumulated k e g)) (sym (expression_in p v)) (sym (function_at_in p f))
     by (nodes.Joined j f g) = refl
     by (nodes.Sided d f) = refl
     by (nodes.Headed h v f) = ap (λ e. headed h e (tree p f)) (sym (expression_in p v))

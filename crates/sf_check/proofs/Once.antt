@@ -9,8 +9,12 @@ use Rattle.sf_refusal.specs.declared.rule.Rule.TheVariants.{DuplicateName}
 use Rattle.sf_refusal.specs.declared.refusal.Breach.{Breach}
 use Rattle.sf_refusal.specs.Refusals.{breach_of, broken}
 use Rattle.sf_operator.specs.Breaches.{KindRefused}
-use Rattle.sf_operator.proofs.Refusing.{kind_once}
-use Rattle.sf_expr.proofs.Judged.{refused_untyped}
+use Rattle.sf_operator.proofs.Refusing.{kind_refused, kind_once}
+use Rattle.sf_expr.specs.declared.exprs.FunctionId.{FunctionId}
+use Rattle.sf_expr.specs.Arena.{function_at}
+use Rattle.sf_expr.specs.Typing.{Names, FunctionTakes}
+use Rattle.sf_expr.specs.Refusals.{FunctionRefused}
+use Rattle.sf_expr.proofs.Judged.{refused_untyped, refused_takes_none}
 use Rattle.sf_expr.proofs.Once.{refused_once, function_refused_once}
 use Rattle.sf_term.specs.declared.node.TermId.{TermId}
 use Rattle.sf_term.specs.declared.node.Primitive.{Primitive}
@@ -18,16 +22,28 @@ use Rattle.sf_term.specs.declared.node.Node.{Node}
 use Rattle.sf_term.specs.declared.program.Program.{Program}
 use Rattle.sf_term.specs.Headers.{Header}
 use Rattle.sf_term.specs.Arena.{tree, headers_of, spots_of, template_in}
-use Rattle.sf_mean.specs.Contexts.{Context}
-use Rattle.sf_mean.specs.Typing.{value_kind, Takes}
+use Rattle.sf_term.specs.declared.form.Accumulation.{Accumulation}
+use Rattle.sf_mean.specs.Contexts.{Context, names_of_values}
+use Rattle.sf_mean.specs.Typing.{value_kind, timed_kind, accumulated_kind, Takes}
 use Rattle.sf_check.specs.Names.{IsFirstRepeat}
-use Rattle.sf_check.specs.Breaking.{PrimitiveBreaks, value_refused, bare_refused, given_refused, function_refused, FormBreaks, primitive_breaks, parallel_input, parallel_exceeds, fan_exceeds, side_input, first_exceeds, second_exceeds, start_refused, fed_exceeds, loop_differs, Reaches, sequence_left, sequence_right, parallel_left, parallel_right, fan_left, fan_right, first_part, second_part, loop_part, TermBreaks, itself, within, TemplateBreaks, breaks_within, breaks_header, IsFirstBreak}
+use Rattle.sf_check.specs.Breaking.{PrimitiveBreaks, AccumulationBreaks, argument_refused, accumulator_refused, made_refused, value_refused, bare_refused, given_refused, timed_value_refused, time_outside, timed_refused, start_value_refused, accumulation_breaks, function_refused, FormBreaks, primitive_breaks, parallel_input, parallel_exceeds, fan_exceeds, side_input, first_exceeds, second_exceeds, start_refused, fed_exceeds, loop_differs, Reaches, sequence_left, sequence_right, parallel_left, parallel_right, fan_left, fan_right, first_part, second_part, loop_part, TermBreaks, itself, within, TemplateBreaks, breaks_within, breaks_header, IsFirstBreak}
 use Rattle.sf_check.specs.Refusing.{RefusesNetwork, name_refused, type_refused, main_missing}
-use Rattle.sf_check.proofs.Types.{expression_one, takes_one, input_fits}
-use Rattle.sf_check.proofs.Broken.{too_large, breaks_untyped, template_untyped}
+use Rattle.sf_check.proofs.Types.{argument_fits, expression_one, takes_one, input_fits}
+use Rattle.sf_check.proofs.Broken.{answer_one, too_large, breaks_untyped, template_untyped}
 use Rattle.sf_check.proofs.Templates.{template_at}
 
 -- ## One form
+
+accumulation_once : {x : Exprs} {R : Names} {s : Spot} {k : Accumulation} {f : FunctionId} {t a : Kind} {e g : Breach} → AccumulationBreaks x R s k f t a e → AccumulationBreaks x R s k f t a g → e ≡ g
+accumulation_once {s = s} (argument_refused q) (argument_refused p) = kind_once _ s q p
+accumulation_once {s = s} (argument_refused q) (accumulator_refused h fits p) = absurd (kind_refused _ s _ q h fits)
+accumulation_once {s = s} (argument_refused q) (made_refused h F p) = absurd (kind_refused _ s _ q h (argument_fits F))
+accumulation_once {s = s} (accumulator_refused h fits p) (argument_refused q) = absurd (kind_refused _ s _ q h fits)
+accumulation_once {x = x} {R = R} {s = s} {f = f} {g = g} (accumulator_refused h fits q) (accumulator_refused k more p) = function_refused_once q (subst (λ c. FunctionRefused x R f c s g) (same_Some _ _ (sym k ∙ h)) p)
+accumulation_once {x = x} {R = R} {f = f} (accumulator_refused h fits q) (made_refused {u = u} k F p) = absurd (refused_takes_none q (subst (λ c. FunctionTakes R (function_at x f) c u) (same_Some _ _ (sym k ∙ h)) F))
+accumulation_once {s = s} (made_refused h F p) (argument_refused q) = absurd (kind_refused _ s _ q h (argument_fits F))
+accumulation_once {x = x} {R = R} {f = f} (made_refused {u = u} k F p) (accumulator_refused h fits q) = absurd (refused_takes_none q (subst (λ c. FunctionTakes R (function_at x f) c u) (same_Some _ _ (sym k ∙ h)) F))
+accumulation_once {s = s} {k = w} {t = t} {g = g} (made_refused h F q) (made_refused k G p) = kind_once _ s q (subst (λ u. KindRefused (accumulated_kind w t u) s g) (answer_one (same_Some _ _ (sym k ∙ h)) G F) p)
 
 primitive_once : {x : Exprs} {Γ : Context} {s : Spot} {q : Primitive} {a : Kind} {e f : Breach} → PrimitiveBreaks x Γ s q a e → PrimitiveBreaks x Γ s q a f → e ≡ f
 primitive_once (value_refused h) (value_refused k) = refused_once h k
@@ -35,6 +51,20 @@ primitive_once (value_refused h) (given_refused k q) = absurd (refused_untyped h
 primitive_once (given_refused k q) (value_refused h) = absurd (refused_untyped h k)
 primitive_once {s = s} {f = f} (given_refused {k = w} {a = a} h q) (given_refused k p) = kind_once _ s q (subst (λ t. KindRefused (value_kind w t a) s f) (expression_one k h) p)
 primitive_once {s = s} (bare_refused h) (bare_refused k) = kind_once _ s h k
+primitive_once (timed_value_refused h) (timed_value_refused k) = refused_once h k
+primitive_once (timed_value_refused h) (time_outside k out) = absurd (refused_untyped h k)
+primitive_once (timed_value_refused h) (timed_refused k w q) = absurd (refused_untyped h k)
+primitive_once (time_outside k out) (timed_value_refused h) = absurd (refused_untyped h k)
+primitive_once (time_outside h out) (time_outside k more) = refl
+primitive_once (time_outside h out) (timed_refused k w q) = let z = sym out ∙ w in absurd cc
+primitive_once (timed_refused k w q) (timed_value_refused h) = absurd (refused_untyped h k)
+primitive_once (timed_refused k w q) (time_outside h out) = let z = sym out ∙ w in absurd cc
+primitive_once {s = s} {f = f} (timed_refused {k = w} h u q) (timed_refused k t p) = kind_once _ s q (subst (λ t. KindRefused (timed_kind w t) s f) (expression_one k h) p)
+primitive_once (start_value_refused h) (start_value_refused k) = refused_once h k
+primitive_once (start_value_refused h) (accumulation_breaks k q) = absurd (refused_untyped h k)
+primitive_once (accumulation_breaks k q) (start_value_refused h) = absurd (refused_untyped h k)
+primitive_once {x = x} {Γ = Γ} {s = s} {f = f} (accumulation_breaks {k = w} {f = z} {a = a} h q) (accumulation_breaks k p) =
+    accumulation_once q (subst (λ t. AccumulationBreaks x (names_of_values Γ) s w z t a f) (expression_one k h) p)
 primitive_once (function_refused h) (function_refused k) = function_refused_once h k
 
 module _ {p : Program} {Γ : Context} where

@@ -1,23 +1,28 @@
 -- What is answered for terms, by their forms.
-use Rattle.std.proofs.Common.{◌≡◌, refl, sym, subst, ap, ◌∙◌, Result, Ok, Err, IfOk, IfErr, arith, IsErrAnd}
-use Rattle.sf_value.specs.Values.{Kind, pair_kind}
+use Rattle.std.proofs.Common.{◌≡◌, ℤ, true, false, Some, None, refl, sym, subst, ap, ◌∙◌, Result, Ok, Err, IfOk, IfErr, arith, IsErrAnd}
+use Rattle.sf_value.specs.Values.{Kind, pair_kind, event_kind}
 use Rattle.sf_func.specs.Registries.{TypesByName}
 use Rattle.sf_expr.specs.declared.exprs.ExprId.{ExprId}
 use Rattle.sf_expr.specs.declared.exprs.Exprs.{Exprs}
 use Rattle.sf_expr.specs.declared.exprs.FunctionId.{FunctionId}
 use Rattle.sf_expr.specs.Arena.{expression, function_at}
 use Rattle.sf_refusal.specs.declared.spot.Spot.{Spot}
-use Rattle.sf_refusal.specs.declared.rule.Rule.TheVariants.{Mismatch, TypeTooLarge}
+use Rattle.sf_refusal.specs.declared.rule.Rule.TheVariants.{Mismatch, BadConstant, TypeTooLarge}
 use Rattle.sf_refusal.specs.declared.refusal.Breach.{Breach}
 use Rattle.sf_refusal.specs.declared.refusal.Refusal.{Refusal}
 use Rattle.sf_refusal.specs.declared.refusal.Refusal.TheVariants.{Memory}
 use Rattle.sf_refusal.specs.Refusals.{breach_of, broken, OrMemory, no_memory}
 use Rattle.sf_refusal.proofs.Explained.{or_memory, breaks_at}
+use Rattle.sf_operator.specs.Kinds.{same_kind}
 use Rattle.sf_operator.specs.Breaches.{AnswersKind}
+use Rattle.sf_operator.proofs.Answering.{none_only}
 use Rattle.sf_expr.specs.Refusals.{Refused, Judges, JudgesFunction, PairRefused, AnswersPair}
 use Rattle.sf_expr.specs.Typing.{Names, Fits, HasType, FunctionTakes}
 use Rattle.sf_term.specs.declared.form.Bare.{Bare}
 use Rattle.sf_term.specs.declared.form.WithValue.{WithValue}
+use Rattle.sf_term.specs.declared.form.Timing.{Timing}
+use Rattle.sf_term.specs.declared.form.Accumulation.{Accumulation}
+use Rattle.sf_term.specs.declared.form.Accumulation.TheVariants.{AccumBy, AccumHoldBy, Scan}
 use Rattle.sf_term.specs.declared.form.Join.{Join}
 use Rattle.sf_term.specs.declared.form.Join.TheVariants.{InSequence, InParallel, FannedOut}
 use Rattle.sf_term.specs.declared.form.Side.{Side}
@@ -32,8 +37,8 @@ use Rattle.sf_term.specs.declared.program.Program.{Program}
 use Rattle.sf_term.specs.Headers.{Header}
 use Rattle.sf_term.specs.Arena.{tree, term_node_at, term_spot_at, expressions_of, templates_of}
 use Rattle.sf_mean.specs.Contexts.{Context, names_of_values, context_of}
-use Rattle.sf_mean.specs.Typing.{bare_kind, value_kind, PrimitiveTakes, bare_takes, value_takes, arrow_takes, Takes, takes, FormTakes, primitive_takes, sequence_takes, parallel_takes, fan_takes, first_takes, second_takes, loop_takes}
-use Rattle.sf_check.specs.Breaking.{IsNoPairWith, Exceeds, PrimitiveBreaks, value_refused, bare_refused, given_refused, function_refused, FormBreaks, primitive_breaks, parallel_exceeds, fan_exceeds, first_exceeds, second_exceeds, start_refused, fed_exceeds, loop_differs, Reaches, sequence_right, fan_left, parallel_left, parallel_right, first_part, second_part, loop_part, TermBreaks, itself, within, TemplateBreaks, breaks_within, breaks_header}
+use Rattle.sf_mean.specs.Typing.{bare_kind, value_kind, takes_time, timed_kind, accumulated_argument, accumulated_kind, PrimitiveTakes, bare_takes, value_takes, timed_takes, accumulated_takes, arrow_takes, Takes, takes, FormTakes, primitive_takes, sequence_takes, parallel_takes, fan_takes, first_takes, second_takes, loop_takes}
+use Rattle.sf_check.specs.Breaking.{IsNoPairWith, Exceeds, PrimitiveBreaks, argument_refused, accumulator_refused, made_refused, value_refused, bare_refused, given_refused, timed_value_refused, time_outside, timed_refused, start_value_refused, accumulation_breaks, function_refused, FormBreaks, primitive_breaks, parallel_exceeds, fan_exceeds, first_exceeds, second_exceeds, start_refused, fed_exceeds, loop_differs, Reaches, sequence_right, fan_left, parallel_left, parallel_right, first_part, second_part, loop_part, TermBreaks, itself, within, TemplateBreaks, breaks_within, breaks_header}
 use Rattle.sf_check.specs.Answering.{primitive_in, AnswersPrimitive, AnswersTerm}
 use Rattle.sf_check.proofs.Made.{made, tree_made}
 use Rattle.sf_check.proofs.Types.{primitive_fits, output_fits}
@@ -170,9 +175,6 @@ err_primitive x Γ q a s (Err y) e h broken = subst (OrMemory (PrimitiveBreaks x
 pub constant_refused : (x : Exprs) (Γ : Context) (k : WithValue) (v : ExprId) (a : Kind) (s : Spot) (r : Refusal) → Judges x (names_of_values Γ) v (Err r) → OrMemory (PrimitiveBreaks x Γ s (primitives.WithValue k v) a) r
 constant_refused x Γ k v a s r h = or_memory (λ b q. value_refused q) h
 
-pub arrow_refused : (x : Exprs) (Γ : Context) (f : FunctionId) (a : Kind) (s : Spot) (r : Refusal) → JudgesFunction x (names_of_values Γ) f a s (Err r) → OrMemory (PrimitiveBreaks x Γ s (primitives.Arrow f) a) r
-arrow_refused x Γ f a s r h = or_memory (λ b q. function_refused q) h
-
 -- the answer for the types is that for the primitive
 pub bare_answers : (x : Exprs) (Γ : Context) (q : Primitive) (k : Bare) (a : Kind) (s : Spot) (r : Result Kind Refusal) → q ≡ primitives.Bare k → AnswersKind (bare_kind k a) s r → AnswersPrimitive x Γ q a s r
 bare_answers x Γ q k a s r is h = subst (λ q. AnswersPrimitive x Γ q a s r) (sym is) (each r h)
@@ -185,8 +187,50 @@ pub value_answers : (x : Exprs) (Γ : Context) (k : WithValue) (v : ExprId) (t a
 value_answers x Γ k v t a s (Ok b) typed h = value_takes typed h.0 h.1
 value_answers x Γ k v t a s (Err e) typed h = or_memory (λ b q. given_refused typed q) h
 
-pub arrow_output : (x : Exprs) (Γ : Context) (q : Primitive) (f : FunctionId) (a b : Kind) → q ≡ primitives.Arrow f → FunctionTakes (names_of_values Γ) (function_at x f) a b → PrimitiveTakes Γ (primitive_in x q) a b
-arrow_output x Γ q f a b is h = subst (λ q. PrimitiveTakes Γ (primitive_in x q) a b) (sym is) (arrow_takes h)
+pub arrow_answers : (x : Exprs) (Γ : Context) (q : Primitive) (f : FunctionId) (a : Kind) (s : Spot) (r : Result Kind Refusal) → q ≡ primitives.Arrow f → JudgesFunction x (names_of_values Γ) f a s r → AnswersPrimitive x Γ q a s r
+arrow_answers x Γ q f a s r is h = subst (λ q. AnswersPrimitive x Γ q a s r) (sym is) (each r h)
+  where
+    each : (r : Result Kind Refusal) → JudgesFunction x (names_of_values Γ) f a s r → AnswersPrimitive x Γ (primitives.Arrow f) a s r
+    each (Ok b) h = arrow_takes h
+    each (Err e) h = or_memory (λ b q. function_refused q) h
+
+-- ## A time
+
+module _ (x : Exprs) (Γ : Context) (k : Timing) (q : ℤ) (v : ExprId) (a : Kind) (s : Spot) where
+  pub timed_value_answers : (r : Refusal) → Judges x (names_of_values Γ) v (Err r) → OrMemory (PrimitiveBreaks x Γ s (primitives.Timed k q v) a) r
+  timed_value_answers r h = or_memory (λ b w. timed_value_refused w) h
+
+  module _ (t : Kind) (typed : HasType (names_of_values Γ) (expression x v) t) where
+    pub outside_answers : (r : Refusal) → takes_time k q ≡ false → r ≡ broken BadConstant s → OrMemory (PrimitiveBreaks x Γ s (primitives.Timed k q v) a) r
+    outside_answers r out is = breaks_at BadConstant is refl (time_outside typed out)
+
+    pub timed_answers : (r : Result Kind Refusal) → takes_time k q ≡ true → AnswersKind (timed_kind k t) s r → AnswersPrimitive x Γ (primitives.Timed k q v) a s r
+    timed_answers (Ok b) in_time h = timed_takes typed in_time h.0 h.1
+    timed_answers (Err e) in_time h = or_memory (λ b w. timed_refused typed in_time w) h
+
+-- ## An accumulation
+
+module _ (x : Exprs) (Γ : Context) (k : Accumulation) (v : ExprId) (f : FunctionId) (a : Kind) (s : Spot) where
+  pub start_value_answers : (r : Refusal) → Judges x (names_of_values Γ) v (Err r) → OrMemory (PrimitiveBreaks x Γ s (primitives.Accumulated k v f) a) r
+  start_value_answers r h = or_memory (λ b q. start_value_refused q) h
+
+  module _ (t : Kind) (typed : HasType (names_of_values Γ) (expression x v) t) where
+    pub argument_answers : (r : Refusal) → AnswersKind (accumulated_argument k t a) s (Err r) → OrMemory (PrimitiveBreaks x Γ s (primitives.Accumulated k v f) a) r
+    argument_answers r h = or_memory (λ b q. accumulation_breaks typed (argument_refused q)) h
+
+    module _ (c : Kind) (argument : AnswersKind (accumulated_argument k t a) s (Ok c)) where
+      pub accumulator_answers : (r : Refusal) → JudgesFunction x (names_of_values Γ) f c s (Err r) → OrMemory (PrimitiveBreaks x Γ s (primitives.Accumulated k v f) a) r
+      accumulator_answers r h = or_memory (λ b q. accumulation_breaks typed (accumulator_refused argument.0 argument.1 q)) h
+
+      pub made_answers : (u : Kind) (r : Result Kind Refusal) → JudgesFunction x (names_of_values Γ) f c s (Ok u) → AnswersKind (accumulated_kind k t u) s r → AnswersPrimitive x Γ (primitives.Accumulated k v f) a s r
+      made_answers u (Ok b) made h = accumulated_takes typed argument.0 made h.0 h.1
+      made_answers u (Err e) made h = or_memory (λ b q. accumulation_breaks typed (made_refused argument.0 made q)) h
+
+-- values of another type than the one so far make no accumulation
+pub none_made : (k : Accumulation) (v u : Kind) → same_kind u v ≡ false → accumulated_kind k v u ≡ None
+none_made AccumBy v u h = none_only u v v (Some (event_kind v)) refl h
+none_made AccumHoldBy v u h = none_only u v v (Some v) refl h
+none_made Scan v u h = none_only u v v (Some v) refl h
 
 -- ## Under an equal context
 

@@ -7,7 +7,7 @@ use Rattle.sf_expr.specs.Typing.{Names, only_functions, typed_name, with_types, 
 pub use Rattle.sf_expr.proofs.Judged.{one_type as expression_one}
 use Rattle.sf_term.specs.Trees.{Primitive}
 use Rattle.sf_mean.specs.Contexts.{Context, values_in}
-use Rattle.sf_mean.specs.Typing.{PrimitiveTakes, bare_takes, value_takes, arrow_takes, fused_takes}
+use Rattle.sf_mean.specs.Typing.{PrimitiveTakes, bare_takes, value_takes, timed_takes, accumulated_takes, arrow_takes, fused_takes}
 use Rattle.sf_check.specs.Contexts.{bindings_of}
 use Rattle.sf_check.specs.Breaking.{IsNoPairWith}
 pub use Rattle.sf_mean.proofs.Inferred.{takes_one, input_fits, output_fits, form_of}
@@ -23,12 +23,18 @@ expression_fits (mapped_has h a f b i e g) = g
 expression_fits (folded_has h i a f b j e g) = g
 expression_fits (called_has h e f) = f
 
+-- a function takes a type that fits
+pub argument_fits : {R : Names} {f : Function} {t u : Kind} → FunctionTakes R f t u → Fits t
+argument_fits (function_takes fits binds h) = fits
+
 function_fits : {R : Names} {f : Function} {t u : Kind} → FunctionTakes R f t u → Fits u
 function_fits (function_takes fits binds h) = expression_fits h
 
 pub primitive_fits : {Γ : Context} {q : Primitive} {a b : Kind} → Fits a → PrimitiveTakes Γ q a b → Fits b
 primitive_fits f (bare_takes h g) = g
 primitive_fits f (value_takes v h g) = g
+primitive_fits f (timed_takes v w h g) = g
+primitive_fits f (accumulated_takes v h k e g) = g
 primitive_fits f (arrow_takes h) = function_fits h
 primitive_fits f (fused_takes h g) = g
 

@@ -10,7 +10,7 @@ use Rattle.sf_term.specs.declared.node.TermId.{TermId}
 use Rattle.sf_term.specs.declared.node.Primitive.{Primitive as PrimitiveNode}
 use Rattle.sf_term.specs.declared.node.Primitive.TheVariants as nodes
 use Rattle.sf_term.specs.declared.program.Program.{Program}
-use Rattle.sf_term.specs.Trees.{Primitive, bare, with_value, arrow}
+use Rattle.sf_term.specs.Trees.{Primitive, bare, with_value, timed, arrow, accumulated}
 use Rattle.sf_term.specs.Arena.{tree}
 use Rattle.sf_mean.specs.Contexts.{Context}
 use Rattle.sf_mean.specs.Typing.{PrimitiveTakes, Takes}
@@ -20,7 +20,9 @@ use Rattle.sf_check.specs.Breaking.{PrimitiveBreaks, TermBreaks}
 abbrev pub primitive_in : Exprs → PrimitiveNode → Primitive
 primitive_in x (nodes.Bare k) = bare k
 primitive_in x (nodes.WithValue k e) = with_value k (expression x e)
+primitive_in x (nodes.Timed k q e) = timed k q (expression x e)
 primitive_in x (nodes.Arrow f) = arrow (function_at x f)
+primitive_in x (nodes.Accumulated k e f) = accumulated k (expression x e) (function_at x f)
 
 -- the answer for a primitive at a spot, under a context: the type that it takes inputs of a type to, or the rule that is broken
 abbrev pub AnswersPrimitive : Exprs → Context → PrimitiveNode → Kind → Spot → Result Kind Refusal → Type 0

@@ -1,8 +1,8 @@
 -- Where rules of types are broken, under a context.
-use Rattle.std.specs.Prelude.{◌≡◌, ◌≢◌, ◌<◌, ℕ, Some, slice_get}
+use Rattle.std.specs.Prelude.{◌≡◌, ◌≢◌, ◌<◌, ℕ, ℤ, false, IsTrue, Some, slice_get}
 use Rattle.sf_value.specs.Values.{Kind, pair_kind, nodes as nodes_of, IsNoPair}
 use Rattle.sf_refusal.specs.declared.spot.Spot.{Spot}
-use Rattle.sf_refusal.specs.declared.rule.Rule.TheVariants.{Mismatch, TypeTooLarge}
+use Rattle.sf_refusal.specs.declared.rule.Rule.TheVariants.{Mismatch, BadConstant, TypeTooLarge}
 use Rattle.sf_refusal.specs.declared.refusal.Breach.{Breach}
 use Rattle.sf_refusal.specs.Refusals.{breach_of}
 use Rattle.sf_func.specs.Registries.{TypesByName}
@@ -10,11 +10,13 @@ use Rattle.sf_operator.specs.Breaches.{KindRefused}
 use Rattle.sf_expr.specs.declared.exprs.ExprId.{ExprId}
 use Rattle.sf_expr.specs.declared.exprs.FunctionId.{FunctionId}
 use Rattle.sf_expr.specs.declared.exprs.Exprs.{Exprs}
-use Rattle.sf_expr.specs.Arena.{expression}
+use Rattle.sf_expr.specs.Arena.{expression, function_at}
 use Rattle.sf_expr.specs.Refusals.{Refused, FunctionRefused}
-use Rattle.sf_expr.specs.Typing.{Fits, HasType}
+use Rattle.sf_expr.specs.Typing.{Names, Fits, HasType, FunctionTakes}
 use Rattle.sf_term.specs.declared.form.Bare.{Bare}
 use Rattle.sf_term.specs.declared.form.WithValue.{WithValue}
+use Rattle.sf_term.specs.declared.form.Timing.{Timing}
+use Rattle.sf_term.specs.declared.form.Accumulation.{Accumulation}
 use Rattle.sf_term.specs.declared.form.Join.TheVariants.{InSequence, InParallel, FannedOut}
 use Rattle.sf_term.specs.declared.form.Side.{Side}
 use Rattle.sf_term.specs.declared.form.Side.TheVariants.{First, Second}
@@ -30,7 +32,7 @@ use Rattle.sf_term.specs.Headers.{Header}
 use Rattle.sf_term.specs.Trees.{Template}
 use Rattle.sf_term.specs.Arena.{tree, term_node_at, term_spot_at, expressions_of, headers_of, templates_of}
 use Rattle.sf_mean.specs.Contexts.{Context, names_of_values, context_of}
-use Rattle.sf_mean.specs.Typing.{bare_kind, value_kind, Takes, IsTyped}
+use Rattle.sf_mean.specs.Typing.{bare_kind, value_kind, takes_time, timed_kind, accumulated_argument, accumulated_kind, Takes, IsTyped}
 
 -- a type is none of pairs with this second part
 abbrev pub IsNoPairWith : Kind → Kind → Type 0
@@ -40,12 +42,26 @@ IsNoPairWith u a = (t : Kind) → a ≢ pair_kind t u
 abbrev pub Exceeds : Kind → Type 0
 Exceeds t = 256 < nodes_of t
 
+-- On inputs of a type, an accumulation at a spot, with a value of a type, breaks a rule, at a place: of what its function
+-- would take, of the function itself, or of what it makes.
+pub data AccumulationBreaks (x : Exprs) (R : Names) (s : Spot) (k : Accumulation) (f : FunctionId) (t a : Kind) : Breach → Type 0 where
+  argument_refused : {r : Breach} → KindRefused (accumulated_argument k t a) s r → AccumulationBreaks x R s k f t a r
+  accumulator_refused : {c : Kind} {r : Breach} → accumulated_argument k t a ≡ Some c → Fits c → FunctionRefused x R f c s r → AccumulationBreaks x R s k f t a r
+  made_refused : {c u : Kind} {r : Breach} → accumulated_argument k t a ≡ Some c → FunctionTakes R (function_at x f) c u → KindRefused (accumulated_kind k t u) s r → AccumulationBreaks x R s k f t a r
+
 -- On inputs of a type, a primitive at a spot breaks a rule, at a place. An expression or a function that is refused
 -- has its own place.
 pub data PrimitiveBreaks (x : Exprs) (Γ : Context) (s : Spot) : Primitive → Kind → Breach → Type 0 where
   value_refused : {k : WithValue} {v : ExprId} {a : Kind} {r : Breach} → Refused x (names_of_values Γ) v r → PrimitiveBreaks x Γ s (primitives.WithValue k v) a r
   bare_refused : {k : Bare} {a : Kind} {r : Breach} → KindRefused (bare_kind k a) s r → PrimitiveBreaks x Γ s (primitives.Bare k) a r
   given_refused : {k : WithValue} {v : ExprId} {t a : Kind} {r : Breach} → HasType (names_of_values Γ) (expression x v) t → KindRefused (value_kind k t a) s r → PrimitiveBreaks x Γ s (primitives.WithValue k v) a r
+  timed_value_refused : {k : Timing} {q : ℤ} {v : ExprId} {a : Kind} {r : Breach} → Refused x (names_of_values Γ) v r → PrimitiveBreaks x Γ s (primitives.Timed k q v) a r
+  time_outside : {k : Timing} {q : ℤ} {v : ExprId} {t a : Kind} → HasType (names_of_values Γ) (expression x v) t → takes_time k q ≡ false → PrimitiveBreaks x Γ s (primitives.Timed k q v) a (breach_of BadConstant s)
+  timed_refused : {k : Timing} {q : ℤ} {v : ExprId} {t a : Kind} {r : Breach}
+      → HasType (names_of_values Γ) (expression x v) t → IsTrue (takes_time k q) → KindRefused (timed_kind k t) s r → PrimitiveBreaks x Γ s (primitives.Timed k q v) a r
+  start_value_refused : {k : Accumulation} {v : ExprId} {f : FunctionId} {a : Kind} {r : Breach} → Refused x (names_of_values Γ) v r → PrimitiveBreaks x Γ s (primitives.Accumulated k v f) a r
+  accumulation_breaks : {k : Accumulation} {v : ExprId} {f : FunctionId} {t a : Kind} {r : Breach}
+      → HasType (names_of_values Γ) (expression x v) t → AccumulationBreaks x (names_of_values Γ) s k f t a r → PrimitiveBreaks x Γ s (primitives.Accumulated k v f) a r
   function_refused : {f : FunctionId} {a : Kind} {r : Breach} → FunctionRefused x (names_of_values Γ) f a s r → PrimitiveBreaks x Γ s (primitives.Arrow f) a r
 
 -- On inputs of a type, a form at a spot, with these parts, breaks a rule of its own, at a place.

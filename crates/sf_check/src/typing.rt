@@ -4,22 +4,25 @@ ghost use Rattle.sf_value.specs.Values.{pair_kind, IsNoPair};
 ghost use Rattle.sf_refusal.specs.Refusals.{breach_of, OrMemory};
 ghost use Rattle.sf_refusal.specs.declared.rule.Rule.TheVariants.{Mismatch};
 ghost use Rattle.sf_func.specs.Signatures.{signatures_in};
-ghost use Rattle.sf_expr.specs.Refusals.{Judges};
+ghost use Rattle.sf_expr.specs.Refusals.{Judges, JudgesFunction};
 ghost use Rattle.sf_expr.specs.Typing.{Fits};
 ghost use Rattle.sf_term.specs.Arena.{term_number, term_node_at, expressions_of, template_in, templates_of};
 ghost use Rattle.sf_mean.specs.Contexts.{names_of_values};
 ghost use Rattle.sf_operator.specs.Breaches.{AnswersKind};
-ghost use Rattle.sf_mean.specs.Typing.{bare_kind, value_kind, IsTyped};
+ghost use Rattle.sf_mean.specs.Typing.{bare_kind, value_kind, takes_time as a_time, timed_kind, accumulated_argument, accumulated_kind, IsTyped};
 ghost use Rattle.sf_check.specs.Contexts.{program_in, context_in};
 ghost use Rattle.sf_check.specs.Answering.{AnswersPrimitive, AnswersTerm};
 ghost use Rattle.sf_check.specs.Breaking.{IsNoPairWith, TemplateBreaks, AreTyped, IsFirstBreak};
 
 use crate::context::TypingContext;
-use sf_expr::{ExprId, function_type, pair_type, type_of};
+use sf_expr::{ExprId, FunctionId, function_type, pair_type, type_of};
 use sf_func::Signatures;
-use sf_operator::{event_type, payload, same};
+use sf_operator::{event_type, pair_type as pair_of, payload, same};
 use sf_refusal::{Refusal, Rule, Spot};
-use sf_term::{Bare, Heading, Join, Node, Primitive, Program, Side, Template, TermId, WithValue};
+use sf_term::{
+    Accumulation, Bare, Heading, Join, Node, Primitive, Program, Side, Template, TermId, Timing,
+    WithValue,
+};
 use sf_value::{Ty, same_type};
 use std::alloc::Global;
 
@@ -115,6 +118,119 @@ fn value_output(
     given_output(alloc, kind, given, input, spot)
 }
 
+/// Whether a form takes a time, in milliseconds.
+fn takes_time(kind: Timing, time: i64) -> bool
+    ensures { result ≡ a_time kind time }
+{
+    match kind {
+        Timing::After => 0 <= time && time <= 1_000_000_000_000,
+    }
+}
+
+/// The type of the outputs of a primitive with a time and a value of a type. Refused at the spot with `TypeTooLarge`, and
+/// with `Memory`.
+fn timed_type(alloc: Global, kind: Timing, given: &Ty, spot: Spot) -> Result<Ty, Refusal>
+    ensures { AnswersKind (timed_kind kind given.now) spot result }
+{
+    match kind {
+        Timing::After => event_type(alloc, given, spot),
+    }
+}
+
+/// The type of the outputs of a primitive with a time and a value on inputs of a type.
+fn timed_output(
+    alloc: Global,
+    context: &TypingContext,
+    kind: Timing,
+    time: i64,
+    value: ExprId,
+    input: &Ty,
+    spot: Spot,
+) -> Result<Ty, Refusal>
+    ensures { AnswersPrimitive (expressions_of (program_in context.now)) (context_in context.now) (Primitive.Timed kind time value) input.now spot result }
+{
+    let given = constant_type(alloc, context, value)?;
+    if !takes_time(kind, time) {
+        return Err(Refusal::broken(Rule::BadConstant, spot));
+    }
+    timed_type(alloc, kind, &given, spot)
+}
+
+/// The type of what a function answers to values of a type.
+fn answer_type(
+    alloc: Global,
+    context: &TypingContext,
+    function: FunctionId,
+    argument: &Ty,
+    spot: Spot,
+) -> Result<Ty, Refusal>
+    ensures { JudgesFunction (expressions_of (program_in context.now)) (names_of_values (context_in context.now)) function argument.now spot result }
+{
+    function_type(
+        alloc,
+        context.program.expressions(),
+        function,
+        argument,
+        &context.names,
+        context.functions,
+        spot,
+    )
+}
+
+/// The type of what the function of an accumulation takes, with a value of a type, on inputs of a type. Refused at the spot
+/// with `Mismatch` where it is none on such inputs, then with `TypeTooLarge`, and with `Memory`.
+fn accumulated_argument_type(
+    alloc: Global,
+    kind: Accumulation,
+    given: &Ty,
+    input: &Ty,
+    spot: Spot,
+) -> Result<Ty, Refusal>
+    ensures { AnswersKind (accumulated_argument kind given.now input.now) spot result }
+{
+    match kind {
+        Accumulation::AccumBy => pair_of(alloc, given, payload(input, spot)?, spot),
+        Accumulation::AccumHoldBy => pair_of(alloc, given, payload(input, spot)?, spot),
+        Accumulation::Scan => pair_of(alloc, given, input, spot),
+    }
+}
+
+/// The type of the outputs of an accumulation with a value of a type, where its function makes values of a type. Refused
+/// at the spot with `Mismatch` where these are not the same, then with `TypeTooLarge`, and with `Memory`.
+fn accumulated_type(
+    alloc: Global,
+    kind: Accumulation,
+    given: Ty,
+    made: &Ty,
+    spot: Spot,
+) -> Result<Ty, Refusal>
+    ensures { AnswersKind (accumulated_kind kind given made.now) spot result }
+{
+    same(made, &given, spot)?;
+    match kind {
+        Accumulation::AccumBy => event_type(alloc, &given, spot),
+        Accumulation::AccumHoldBy | Accumulation::Scan => Ok(given),
+    }
+}
+
+/// The type of the outputs of an accumulation on inputs of a type.
+fn accumulated_output(
+    alloc: Global,
+    context: &TypingContext,
+    kind: Accumulation,
+    value: ExprId,
+    function: FunctionId,
+    input: &Ty,
+    spot: Spot,
+) -> Result<Ty, Refusal>
+    ensures { AnswersPrimitive (expressions_of (program_in context.now)) (context_in context.now) (Primitive.Accumulated kind value function) input.now spot result }
+{
+    let given = constant_type(alloc, context, value)?;
+    let argument = accumulated_argument_type(alloc, kind, &given, input, spot)?;
+    let made = answer_type(alloc, context, function, &argument, spot)?;
+    accumulated_type(alloc, kind, given, &made, spot)
+}
+
 /// The type of the outputs of a primitive on inputs of a type.
 fn primitive_output(
     alloc: Global,
@@ -130,17 +246,12 @@ fn primitive_output(
         Primitive::WithValue(kind, value) => {
             value_output(alloc, context, kind, value, &input, spot)
         }
-        Primitive::Arrow(function) => {
-            let exprs = context.program.expressions();
-            Ok(function_type(
-                alloc,
-                exprs,
-                function,
-                &input,
-                &context.names,
-                context.functions,
-                spot,
-            )?)
+        Primitive::Timed(kind, time, value) => {
+            timed_output(alloc, context, kind, time, value, &input, spot)
+        }
+        Primitive::Arrow(function) => answer_type(alloc, context, function, &input, spot),
+        Primitive::Accumulated(kind, value, function) => {
+            accumulated_output(alloc, context, kind, value, function, &input, spot)
         }
     }
 }

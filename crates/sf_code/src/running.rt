@@ -510,7 +510,7 @@ fn fold<F: Holds>(
         Some(rows) => {
             let mut rest = rows;
             while let [(key, value), after @ ..] = rest {
-                let row = Value::pair(alloc, value_of_key(alloc, key)?, value.clone_in(alloc)?)?;
+                let row = Value::pair(alloc, value_of_key(key)?, value.clone_in(alloc)?)?;
                 let argument = Value::pair(alloc, so_far, row)?;
                 so_far = answer(alloc, body, &argument, frames, functions)?;
                 rest = after;

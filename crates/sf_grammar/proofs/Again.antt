@@ -7,7 +7,7 @@ use Rattle.sf_operator.specs.declared.operator.Operator.{Operator}
 use Rattle.sf_operator.specs.declared.operator.Mapping.{Mapping}
 use Rattle.sf_operator.specs.declared.operator.Mapping.TheVariants as mappings
 use Rattle.sf_operator.specs.declared.operator.Folding.{Folding}
-use Rattle.sf_term.specs.Trees.{bare, with_value, arrow, fused, Term, primitive, joined, sided, headed, staged, Template, term_depth, terms_in, expressions_in}
+use Rattle.sf_term.specs.Trees.{bare, with_value, timed, arrow, accumulated, fused, Term, primitive, joined, sided, headed, staged, Template, term_depth, terms_in, expressions_in}
 use Rattle.sf_lex.specs.declared.word.Keyword.TheVariants as words
 use Rattle.sf_lex.specs.declared.symbol.Symbol.TheVariants as symbols
 use Rattle.sf_lex.specs.Tokens.{Tok, keyword, name, number, text, symbol}
@@ -16,8 +16,8 @@ use Rattle.sf_grammar.specs.declared.head.Head.TheVariants as heads
 use Rattle.sf_grammar.specs.declared.head.ExpressionHead.TheVariants as expression_heads
 use Rattle.sf_grammar.specs.declared.head.Link.{Link}
 use Rattle.sf_grammar.specs.declared.head.Link.TheVariants as links
-use Rattle.sf_grammar.specs.Spelling.{unary_word, takes_brackets, operator_token, stands_between, mapping_word, maps_in_brackets, folding_word, spell_operand, spell_operands, spell_choice, spell_mapped, spell_folded, spell_called, spell_keys, spell_type, spell_pattern, spell_literal, spell_expression, spell_function, spell_term, spell_signature, spell_template, bare_word, value_word, side_word, heading_word, join_symbol, in_brackets, type_depth, WritesType, WritesExpression, WritesFunction, WritesTerm, HasWrittenTypes}
-use Rattle.sf_grammar.specs.Reading.{Read, got, ◌and_then◌, Counts, counts_with, counts_with_expression, parse_symbol, parse_keys, parse_outer_type, parse_inner_type, parse_pair_type, parse_pattern, parse_pattern_pair, parse_link, linked, parse_linked, bracketed_from, parse_none, parse_prefixed, parse_one_in_brackets, parse_two_in_brackets, parse_conditional, parse_mapping, parse_let, parse_one_and_function, parse_two_and_function, parse_called, expression_head, parse_expression, expression_read, parse_function, parse_join, parse_term, term_read, parse_joined, parse_value, parse_arrow, parse_sided, parse_headed, parse_heading, parse_signature, parse_template}
+use Rattle.sf_grammar.specs.Spelling.{unary_word, takes_brackets, operator_token, stands_between, mapping_word, maps_in_brackets, folding_word, spell_operand, spell_operands, spell_choice, spell_mapped, spell_folded, spell_called, spell_keys, spell_type, spell_pattern, spell_literal, spell_expression, spell_function, spell_term, spell_signature, spell_template, bare_word, value_word, side_word, heading_word, timing_word, accumulation_word, join_symbol, in_brackets, type_depth, WritesType, WritesExpression, WritesFunction, WritesTerm, HasWrittenTypes}
+use Rattle.sf_grammar.specs.Reading.{parse_timed, Read, got, ◌and_then◌, Counts, counts_with, counts_with_expression, parse_symbol, parse_keys, parse_outer_type, parse_inner_type, parse_pair_type, parse_pattern, parse_pattern_pair, parse_link, linked, parse_linked, bracketed_from, parse_none, parse_prefixed, parse_one_in_brackets, parse_two_in_brackets, parse_conditional, parse_mapping, parse_let, parse_one_and_function, parse_two_and_function, parse_called, expression_head, parse_expression, expression_read, parse_function, parse_join, parse_term, term_read, parse_joined, parse_value, parse_arrow, parse_accumulated, parse_sided, parse_headed, parse_heading, parse_signature, parse_template}
 use Rattle.sf_grammar.proofs.Words.{head_again, join_again, link_again, link_token, LinksBetween, unary_again, IsInFront, operator_again, folding_again, keys_again, no_close}
 use Rattle.sf_grammar.proofs.Parts.{within, type_within, brackets_behind, three_behind, parts_again}
 
@@ -262,10 +262,12 @@ function_again v (function p e) d c rest deep few known = mapping_again v p e d 
 
 pub term_again : (v : Version) (t : Term) (d : ℕ) (c : Counts) (rest : List Tok) → d ≤ 64 → term_depth t ≤ d → c.terms + terms_in t ≤ 100000 → c.expressions + expressions_in t ≤ 100000 → WritesTerm v d t
     → parse_term d v c (spell_term v t ++ rest) ≡ got t rest
-unfolding parse_term parse_joined parse_value parse_arrow parse_sided parse_headed
+unfolding parse_term parse_joined parse_value parse_timed parse_arrow parse_accumulated parse_sided parse_headed
 term_again v (primitive (bare b)) zero c rest small deep few_terms few_expressions known = absurd (omega arith)
 term_again v (primitive (with_value k e)) zero c rest small deep few_terms few_expressions known = absurd (omega arith)
+term_again v (primitive (timed k q e)) zero c rest small deep few_terms few_expressions known = absurd (omega arith)
 term_again v (primitive (arrow f)) zero c rest small deep few_terms few_expressions known = absurd (omega arith)
+term_again v (primitive (accumulated k e f)) zero c rest small deep few_terms few_expressions known = absurd (omega arith)
 term_again v (primitive (fused f)) d c rest small deep few_terms few_expressions known = absurd (omega (arith, small, deep))
 term_again v (staged x f g) d c rest small deep few_terms few_expressions known = absurd (omega (arith, small, deep))
 term_again v (joined j f g) zero c rest small deep few_terms few_expressions known = absurd (omega arith)
@@ -276,9 +278,21 @@ term_again v (primitive (bare b)) (suc d) c rest small deep few_terms few_expres
 term_again v (primitive (with_value k e)) (suc d) c rest small deep few_terms few_expressions known =
     rw (head_again (heads.WithValue k), expression_again v e d c rest (omega arith) few_expressions known)
     (within (c.terms + 1) (primitive (with_value k e)) (keyword (value_word k) ∷ (spell_expression v e ++ rest)) rest few_terms)
+term_again v (primitive (timed k q e)) (suc d) c rest small deep few_terms few_expressions known =
+    rw (head_again (heads.Timed k), expression_again v e d c rest (omega arith) few_expressions known)
+    (within (c.terms + 1) (primitive (timed k q e)) (keyword (timing_word k) ∷ number q ∷ (spell_expression v e ++ rest)) rest few_terms)
 term_again v (primitive (arrow f)) (suc d) c rest small deep few_terms few_expressions known =
     rw (function_again v f d c rest (omega arith) few_expressions known)
     (within (c.terms + 1) (primitive (arrow f)) (keyword words.Arr ∷ (spell_function v f ++ rest)) rest few_terms)
+term_again v (primitive (accumulated k e f)) (suc d) c rest small deep few_terms few_expressions known =
+    let behind : List Tok = spell_function v f ++ (symbol symbols.Close ∷ rest) in
+    let start : List Tok = keyword (accumulation_word k) ∷ symbol symbols.Open ∷ (spell_expression v e ++ (symbol symbols.Comma ∷ behind)) in
+    ap (λ (r : List Tok). parse_term (suc d) v c (keyword (accumulation_word k) ∷ symbol symbols.Open ∷ r)) (brackets_behind (spell_expression v e) (spell_function v f) rest (symbol symbols.Comma))
+    ∙ rw (head_again (heads.Accumulated k)) (parts_again (parse_expression d v c) (parse_symbol symbols.Comma) (λ e. parse_function d v (counts_with_expression c e)) (λ e _ f rest. term_read c (primitive (accumulated k e f)) start rest) e tt f
+    (spell_expression v e ++ (symbol symbols.Comma ∷ behind)) (symbol symbols.Comma ∷ behind) behind rest
+    (expression_again v e d c (symbol symbols.Comma ∷ behind) (omega arith) (omega arith) known.0) refl
+    (function_again v f d (counts_with_expression c e) (symbol symbols.Close ∷ rest) (omega arith) (omega arith) known.1))
+    ∙ within (c.terms + 1) (primitive (accumulated k e f)) start rest few_terms
 term_again v (joined j f g) (suc d) c rest small deep few_terms few_expressions known =
     let behind : List Tok = spell_term v g ++ (symbol symbols.Close ∷ rest) in
     let start : List Tok = symbol symbols.Open ∷ (spell_term v f ++ (symbol (join_symbol j) ∷ behind)) in

@@ -1,5 +1,5 @@
 -- What is read is spelled so, within the limits.
-use Rattle.std.proofs.Common.{◌≡◌, ℕ, zero, suc, ◌+◌, ◌<◌, ◌≤◌, true, false, pos, List, [], ◌∷◌, ◌++◌, Option, Some, None, refl, sym, ◌∙◌, ap, subst, append_assoc, arith}
+use Rattle.std.proofs.Common.{◌≡◌, ℕ, zero, suc, ◌+◌, ◌<◌, ◌≤◌, true, false, pos, List, [], ◌∷◌, ◌++◌, Option, Some, None, refl, sym, ◌∙◌, ap, subst, append_assoc, arith, ℤ}
 use Rattle.sf_value.specs.Values.{Name, Kind, pair_kind, event_kind, table_kind, nodes}
 use Rattle.sf_expr.specs.Expressions.{Pattern, unnamed, named, both, pattern_depth, unit_literal, truth_literal, int_literal, text_literal, none_literal, Expression, variable, literal, applied, operation, conditional, mapped, called, depth as expression_depth, size, Function, function, function_depth, function_size}
 use Rattle.sf_operator.specs.declared.operator.Unary.{Unary}
@@ -8,10 +8,12 @@ use Rattle.sf_operator.specs.declared.operator.Mapping.{Mapping}
 use Rattle.sf_operator.specs.declared.operator.Mapping.TheVariants as mappings
 use Rattle.sf_operator.specs.declared.operator.Folding.{Folding}
 use Rattle.sf_term.specs.declared.form.WithValue.{WithValue}
+use Rattle.sf_term.specs.declared.form.Timing.{Timing}
+use Rattle.sf_term.specs.declared.form.Accumulation.{Accumulation}
 use Rattle.sf_term.specs.declared.form.Join.{Join}
 use Rattle.sf_term.specs.declared.form.Side.{Side}
 use Rattle.sf_term.specs.declared.form.Heading.{Heading}
-use Rattle.sf_term.specs.Trees.{bare, with_value, arrow, Term, primitive, joined, sided, headed, Template, term_depth, terms_in, expressions_in}
+use Rattle.sf_term.specs.Trees.{bare, with_value, timed, arrow, accumulated, Term, primitive, joined, sided, headed, Template, term_depth, terms_in, expressions_in}
 use Rattle.sf_lex.specs.declared.word.Keyword.{Keyword}
 use Rattle.sf_lex.specs.declared.word.Keyword.TheVariants as words
 use Rattle.sf_lex.specs.declared.symbol.Symbol.{Symbol}
@@ -26,8 +28,8 @@ use Rattle.sf_grammar.specs.declared.head.ExpressionHead.{ExpressionHead}
 use Rattle.sf_grammar.specs.declared.head.ExpressionHead.TheVariants as expression_heads
 use Rattle.sf_grammar.specs.declared.head.Link.{Link}
 use Rattle.sf_grammar.specs.declared.head.Link.TheVariants as links
-use Rattle.sf_grammar.specs.Spelling.{version_number, mapping_word, folding_word, spell_keys, spell_type, spell_pattern, spell_expression, spell_function, spell_term, spell_signature, spell_template, bare_word, value_word, side_word, heading_word, join_symbol, type_depth, WritesType, IsWrittenType, WritesExpression, WritesFunction, WritesTerm, HasWrittenTypes}
-use Rattle.sf_grammar.specs.Reading.{Read, got, ◌and_then◌, Counts, counts_with, counts_with_expression, begins_type, begins_pattern, begins_expression, begins_term, type_head, word_kind, parse_keys, parse_outer_type, parse_headed_type, type_from, parse_inner_type, parse_pair_type, parse_pattern, parse_pattern_pair, link_of, link_from, parse_link, linked, parse_linked, behind_close, bracketed_from, parse_none, expression_head, parse_prefixed, parse_one_in_brackets, parse_two_in_brackets, parse_conditional, parse_mapping, parse_let, mapped_by, folded_by, parse_one_and_function, parse_two_and_function, parse_called, parse_worded_expression, parse_expression, expression_read, parse_function, parse_term, parse_joined, parse_value, parse_arrow, parse_sided, parse_headed, parse_worded, head_of, join_of, parse_join, join_from, term_read, parse_parts, parse_opening, parse_heading, parse_signature, parse_template, template_of, parse_symbol, parse_name, parse_type, parse_keyword, parse_version}
+use Rattle.sf_grammar.specs.Spelling.{version_number, mapping_word, folding_word, spell_keys, spell_type, spell_pattern, spell_expression, spell_function, spell_term, spell_signature, spell_template, bare_word, value_word, side_word, heading_word, timing_word, accumulation_word, join_symbol, type_depth, WritesType, IsWrittenType, WritesExpression, WritesFunction, WritesTerm, HasWrittenTypes}
+use Rattle.sf_grammar.specs.Reading.{parse_number, parse_timed, Read, got, ◌and_then◌, Counts, counts_with, counts_with_expression, begins_type, begins_pattern, begins_expression, begins_term, type_head, word_kind, parse_keys, parse_outer_type, parse_headed_type, type_from, parse_inner_type, parse_pair_type, parse_pattern, parse_pattern_pair, link_of, link_from, parse_link, linked, parse_linked, behind_close, bracketed_from, parse_none, expression_head, parse_prefixed, parse_one_in_brackets, parse_two_in_brackets, parse_conditional, parse_mapping, parse_let, mapped_by, folded_by, parse_one_and_function, parse_two_and_function, parse_called, parse_worded_expression, parse_expression, expression_read, parse_function, parse_term, parse_joined, parse_value, parse_arrow, parse_accumulated, parse_sided, parse_headed, parse_worded, head_of, join_of, parse_join, join_from, term_read, parse_parts, parse_opening, parse_heading, parse_signature, parse_template, template_of, parse_symbol, parse_name, parse_type, parse_keyword, parse_version}
 use Rattle.sf_grammar.proofs.Words.{head_takes, join_takes, link_token, LinksBetween, IsLinkToken, link_takes, BeginsWith, expression_head_takes, type_word, type_token, type_head_takes, IsWordKind, word_kind_is, close_takes}
 use Rattle.sf_grammar.proofs.Parts.{Same, bind_got, got_same, within_takes, deep_takes, met_takes, parts_takes, brackets_took, three_behind, symbol_takes, keyword_takes, name_takes, version_takes, TookKeys, keys_takes}
 
@@ -518,6 +520,22 @@ value_takes v d c k tokens t rest is =
     took_as v (suc d) c start (primitive (with_value k e)) t behind rest same
     (record { spelled = ap (λ r. keyword (value_word k) ∷ r) took.spelled; shallow = omega (arith, took.shallow); few_terms = few_terms; few_expressions = took.few; known = took.known })))
 
+number_takes : (tokens : List Tok) (q : ℤ) (rest : List Tok) → parse_number tokens ≡ got q rest → tokens ≡ number q ∷ rest
+number_takes (number z ∷ tokens) q rest is = let same = got_same z q tokens rest is in let e : z ≡ q = same.value in let r : tokens ≡ rest = same.rest in cc
+number_takes _ q rest is = cc
+
+timed_takes : (v : Version) (d : ℕ) (c : Counts) (k : Timing) (tokens : List Tok) (t : Term) (rest : List Tok)
+    → parse_timed d v c k (keyword (timing_word k) ∷ tokens) tokens ≡ got t rest → Took v (suc d) c (keyword (timing_word k) ∷ tokens) t rest
+unfolding parse_timed
+timed_takes v d c k tokens t rest is =
+    let start : List Tok = keyword (timing_word k) ∷ tokens in
+    bind_got (λ q r. parse_expression d v c r and_then λ e behind. term_read c (primitive (timed k q e)) start behind) (parse_number tokens) t rest is (λ q r at_q is_q.
+    bind_got (λ e behind. term_read c (primitive (timed k q e)) start behind) (parse_expression d v c r) t rest is_q (λ e behind at_e is_e.
+    within_takes (c.terms + 1) (primitive (timed k q e)) t start behind rest is_e (λ few_terms same.
+    let took : TookExpression v d c r e behind = expression_takes v d c r e behind at_e in
+    took_as v (suc d) c start (primitive (timed k q e)) t behind rest same
+    (record { spelled = ap (λ r. keyword (timing_word k) ∷ r) (number_takes tokens q r at_q ∙ ap (λ r. number q ∷ r) took.spelled); shallow = omega (arith, took.shallow); few_terms = few_terms; few_expressions = took.few; known = took.known }))))
+
 arrow_takes : (v : Version) (d : ℕ) (c : Counts) (tokens : List Tok) (t : Term) (rest : List Tok)
     → parse_arrow d v c (keyword words.Arr ∷ tokens) tokens ≡ got t rest → Took v (suc d) c (keyword words.Arr ∷ tokens) t rest
 unfolding parse_arrow
@@ -528,6 +546,27 @@ arrow_takes v d c tokens t rest is =
     let took : TookFunction v d c tokens f behind = function_takes v d c tokens f behind at_f in
     took_as v (suc d) c start (primitive (arrow f)) t behind rest same
     (record { spelled = ap (λ r. keyword words.Arr ∷ r) took.spelled; shallow = omega (arith, took.shallow); few_terms = few_terms; few_expressions = took.few; known = took.known })))
+
+accumulated_takes : (v : Version) (d : ℕ) (c : Counts) (k : Accumulation) (tokens : List Tok) (t : Term) (rest : List Tok)
+    → parse_accumulated d v c k (keyword (accumulation_word k) ∷ tokens) tokens ≡ got t rest → Took v (suc d) c (keyword (accumulation_word k) ∷ tokens) t rest
+unfolding parse_accumulated
+accumulated_takes v d c k tokens t rest is =
+    let start : List Tok = keyword (accumulation_word k) ∷ tokens in
+    bind_got (λ _ r. parse_parts (parse_expression d v c) (parse_symbol symbols.Comma) (λ e. parse_function d v (counts_with_expression c e)) (λ e _ f rest. term_read c (primitive (accumulated k e f)) start rest) r)
+    (parse_symbol symbols.Open tokens) t rest is (λ u r0 opened is_u.
+    parts_takes (parse_expression d v c) (parse_symbol symbols.Comma) (λ e. parse_function d v (counts_with_expression c e)) (λ e _ f rest. term_read c (primitive (accumulated k e f)) start rest) r0 t rest is_u
+    (λ e m f r1 r2 r3 r4 at_e at_m at_f closed is_t.
+    within_takes (c.terms + 1) (primitive (accumulated k e f)) t start r4 rest is_t (λ few_terms same.
+    let one : TookExpression v d c r0 e r1 = expression_takes v d c r0 e r1 at_e in
+    let two : TookFunction v d (counts_with_expression c e) r2 f r3 = function_takes v d (counts_with_expression c e) r2 f r3 at_f in
+    took_as v (suc d) c start (primitive (accumulated k e f)) t r4 rest same (record {
+      spelled = ap (λ r. keyword (accumulation_word k) ∷ r) (symbol_takes symbols.Open tokens u r0 opened
+          ∙ brackets_took (spell_expression v e) (spell_function v f) r0 r1 r2 r3 r4 (symbol symbols.Comma) one.spelled (symbol_takes symbols.Comma r1 m r2 at_m) two.spelled closed);
+      shallow = omega (arith, one.shallow, two.shallow);
+      few_terms = few_terms;
+      few_expressions = omega (arith, two.few);
+      known = (one.known, two.known);
+    }))))
 
 sided_takes : (v : Version) (d : ℕ) (c : Counts) (s : Side) (tokens : List Tok) (t : Term) (rest : List Tok) → Takes v d → c.expressions ≤ 100000
     → parse_sided (parse_term d v) c s (keyword (side_word s) ∷ tokens) tokens ≡ got t rest → Took v (suc d) c (keyword (side_word s) ∷ tokens) t rest
@@ -576,8 +615,12 @@ worded_takes v d c (Some (heads.Bare b)) k tokens t rest part found few is =
     (record { spelled = ap (λ w. keyword w ∷ tokens) word; shallow = omega arith; few_terms = few_terms; few_expressions = omega arith; known = tt }))
 worded_takes v d c (Some (heads.WithValue w)) k tokens t rest part found few is =
     by_word v d c k (value_word w) tokens t rest (λ start. parse_value d v c w start tokens) (head_takes k (heads.WithValue w) found) is (value_takes v d c w tokens t rest)
+worded_takes v d c (Some (heads.Timed w)) k tokens t rest part found few is =
+    by_word v d c k (timing_word w) tokens t rest (λ start. parse_timed d v c w start tokens) (head_takes k (heads.Timed w) found) is (timed_takes v d c w tokens t rest)
 worded_takes v d c (Some heads.Arrow) k tokens t rest part found few is =
     by_word v d c k words.Arr tokens t rest (λ start. parse_arrow d v c start tokens) (head_takes k heads.Arrow found) is (arrow_takes v d c tokens t rest)
+worded_takes v d c (Some (heads.Accumulated a)) k tokens t rest part found few is =
+    by_word v d c k (accumulation_word a) tokens t rest (λ start. parse_accumulated d v c a start tokens) (head_takes k (heads.Accumulated a) found) is (accumulated_takes v d c a tokens t rest)
 worded_takes v d c (Some (heads.Sided s)) k tokens t rest part found few is =
     by_word v d c k (side_word s) tokens t rest (λ start. parse_sided (parse_term d v) c s start tokens) (head_takes k (heads.Sided s) found) is (sided_takes v d c s tokens t rest part few)
 worded_takes v d c (Some (heads.Headed h)) k tokens t rest part found few is =

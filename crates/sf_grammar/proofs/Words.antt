@@ -2,6 +2,8 @@
 use Rattle.std.proofs.Common.{◌≡◌, Bool, true, false, List, [], ◌∷◌, ◌++◌, Option, Some, None, option_map, refl, subst}
 use Rattle.sf_term.specs.declared.form.Bare.TheVariants as bares
 use Rattle.sf_term.specs.declared.form.WithValue.TheVariants as values
+use Rattle.sf_term.specs.declared.form.Timing.TheVariants as timings
+use Rattle.sf_term.specs.declared.form.Accumulation.TheVariants as accumulations
 use Rattle.sf_term.specs.declared.form.Join.{Join}
 use Rattle.sf_term.specs.declared.form.Join.TheVariants as joins
 use Rattle.sf_term.specs.declared.form.Side.TheVariants as sides
@@ -37,14 +39,16 @@ use Rattle.sf_grammar.specs.declared.head.ExpressionHead.{ExpressionHead}
 use Rattle.sf_grammar.specs.declared.head.ExpressionHead.TheVariants as expression_heads
 use Rattle.sf_grammar.specs.declared.head.Link.{Link}
 use Rattle.sf_grammar.specs.declared.head.Link.TheVariants as links
-use Rattle.sf_grammar.specs.Spelling.{bare_word, value_word, side_word, heading_word, join_symbol, unary_word, takes_brackets, operator_token, stands_between, mapping_word, maps_in_brackets, folding_word, spell_operands, spell_type, spell_keys, type_depth, WritesKeys, WritesType, spell_expression}
+use Rattle.sf_grammar.specs.Spelling.{bare_word, value_word, timing_word, accumulation_word, side_word, heading_word, join_symbol, unary_word, takes_brackets, operator_token, stands_between, mapping_word, maps_in_brackets, folding_word, spell_operands, spell_type, spell_keys, type_depth, WritesKeys, WritesType, spell_expression}
 use Rattle.sf_grammar.specs.Reading.{head_of, join_of, operator_of, link_of, expression_head, type_head, word_kind, got, parse_keys, behind_close}
 
 -- the word of a form
 abbrev pub head_word : Head → Keyword
 head_word (heads.Bare b) = bare_word b
 head_word (heads.WithValue v) = value_word v
+head_word (heads.Timed k) = timing_word k
 head_word heads.Arrow = words.Arr
+head_word (heads.Accumulated k) = accumulation_word k
 head_word (heads.Sided s) = side_word s
 head_word (heads.Headed h) = heading_word h
 
@@ -59,7 +63,11 @@ head_again (heads.WithValue values.Constant) = refl
 head_again (heads.WithValue values.InitialPre) = refl
 head_again (heads.WithValue values.Now) = refl
 head_again (heads.WithValue values.Hold) = refl
+head_again (heads.Timed timings.After) = refl
 head_again heads.Arrow = refl
+head_again (heads.Accumulated accumulations.AccumBy) = refl
+head_again (heads.Accumulated accumulations.AccumHoldBy) = refl
+head_again (heads.Accumulated accumulations.Scan) = refl
 head_again (heads.Sided sides.First) = refl
 head_again (heads.Sided sides.Second) = refl
 head_again (heads.Headed headings.LoopPre) = refl
@@ -75,7 +83,11 @@ head_takes words.Constant h e = let p : heads.WithValue values.Constant ≡ h = 
 head_takes words.IPre h e = let p : heads.WithValue values.InitialPre ≡ h = cc in rw (← p) refl
 head_takes words.Now h e = let p : heads.WithValue values.Now ≡ h = cc in rw (← p) refl
 head_takes words.Hold h e = let p : heads.WithValue values.Hold ≡ h = cc in rw (← p) refl
+head_takes words.After h e = let p : heads.Timed timings.After ≡ h = cc in rw (← p) refl
 head_takes words.Arr h e = let p : heads.Arrow ≡ h = cc in rw (← p) refl
+head_takes words.AccumBy h e = let p : heads.Accumulated accumulations.AccumBy ≡ h = cc in rw (← p) refl
+head_takes words.AccumHoldBy h e = let p : heads.Accumulated accumulations.AccumHoldBy ≡ h = cc in rw (← p) refl
+head_takes words.Sscan h e = let p : heads.Accumulated accumulations.Scan ≡ h = cc in rw (← p) refl
 head_takes words.First h e = let p : heads.Sided sides.First ≡ h = cc in rw (← p) refl
 head_takes words.Second h e = let p : heads.Sided sides.Second ≡ h = cc in rw (← p) refl
 head_takes words.LoopPre h e = let p : heads.Headed headings.LoopPre ≡ h = cc in rw (← p) refl

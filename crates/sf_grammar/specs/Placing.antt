@@ -1,5 +1,5 @@
 -- Where what was read from a text stands: a form at its first token, and a name at its own.
-use Rattle.std.specs.Prelude.{◌≡◌, ℕ, true, false, List, [], ◌∷◌, ◌++◌, length, map}
+use Rattle.std.specs.Prelude.{◌≡◌, ℕ, true, false, List, [], ◌∷◌, ◌++◌, length, map, ℤ}
 use Rattle.sf_value.specs.Values.{Name}
 use Rattle.sf_refusal.specs.declared.spot.Spot.{Spot}
 use Rattle.sf_operator.specs.declared.operator.Unary.{Unary}
@@ -17,6 +17,8 @@ use Rattle.sf_expr.specs.declared.exprs.ExprNode.TheVariants as expressions
 use Rattle.sf_expr.specs.Patterns.{PlacedPattern, placed_unnamed, placed_name, placed_both}
 use Rattle.sf_term.specs.declared.form.Bare.{Bare}
 use Rattle.sf_term.specs.declared.form.WithValue.{WithValue}
+use Rattle.sf_term.specs.declared.form.Timing.{Timing}
+use Rattle.sf_term.specs.declared.form.Accumulation.{Accumulation}
 use Rattle.sf_term.specs.declared.form.Join.{Join}
 use Rattle.sf_term.specs.declared.form.Side.{Side}
 use Rattle.sf_term.specs.declared.form.Heading.{Heading}
@@ -97,8 +99,12 @@ pub data TermPlaced (v : Version) (p : Program) : TermId → List Spot → Type 
   bare_placed : {id : TermId} {k : Bare} {at : Spot} → TermStands p id (nodes.Primitive (primitives.Bare k)) at → TermPlaced v p id (at ∷ [])
   with_value_placed : {id : TermId} {k : WithValue} {e : ExprId} {xs : List Spot} {at : Spot} → TermStands p id (nodes.Primitive (primitives.WithValue k e)) at
       → ExpressionPlaced v p e xs → TermPlaced v p id (at ∷ xs)
+  timed_placed : {id : TermId} {k : Timing} {q : ℤ} {e : ExprId} {xs : List Spot} {at : Spot} (time : Spot) → TermStands p id (nodes.Primitive (primitives.Timed k q e)) at
+      → ExpressionPlaced v p e xs → TermPlaced v p id (at ∷ time ∷ xs)
   arrow_placed : {id : TermId} {f : FunctionId} {xs : List Spot} {at : Spot} → TermStands p id (nodes.Primitive (primitives.Arrow f)) at
       → FunctionPlaced v p f xs → TermPlaced v p id (at ∷ xs)
+  accumulated_placed : {id : TermId} {k : Accumulation} {e : ExprId} {f : FunctionId} {xs ys : List Spot} {at : Spot} (opening comma closing : Spot) → TermStands p id (nodes.Primitive (primitives.Accumulated k e f)) at
+      → ExpressionPlaced v p e xs → FunctionPlaced v p f ys → TermPlaced v p id (at ∷ around opening xs comma ys closing)
   joined_placed : {id a b : TermId} {j : Join} {xs ys : List Spot} {opening : Spot} (between closing : Spot) → TermStands p id (nodes.Joined j a b) opening
       → TermPlaced v p a xs → TermPlaced v p b ys → TermPlaced v p id (around opening xs between ys closing)
   sided_placed : {id a : TermId} {s : Side} {xs : List Spot} {at : Spot} → TermStands p id (nodes.Sided s a) at

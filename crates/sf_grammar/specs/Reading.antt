@@ -1,5 +1,5 @@
 -- What reading a list of tokens from left to right gives.
-use Rattle.std.specs.Prelude.{ℕ, zero, suc, ◌+◌, nat_le, nat_lt, Bool, true, false, pos, List, [], ◌∷◌, Option, Some, None, is_some, option_map, if◌then◌else◌}
+use Rattle.std.specs.Prelude.{ℕ, zero, suc, ◌+◌, nat_le, nat_lt, Bool, true, false, pos, List, [], ◌∷◌, Option, Some, None, is_some, option_map, if◌then◌else◌, ℤ}
 use Rattle.std.specs.Ordering.{int_eq}
 use denote.Enum.Bare.{sameb}
 use Rattle.sf_value.specs.Values.{Name, KeyKind, int_keys, text_keys, Kind, unit_kind, bool_kind, int_kind, text_kind, pair_kind, event_kind, table_kind, nodes}
@@ -20,13 +20,17 @@ use Rattle.sf_expr.specs.Expressions.{Pattern, unnamed, named, both, unit_litera
 use Rattle.sf_term.specs.declared.form.Bare.TheVariants as bares
 use Rattle.sf_term.specs.declared.form.WithValue.{WithValue}
 use Rattle.sf_term.specs.declared.form.WithValue.TheVariants as values
+use Rattle.sf_term.specs.declared.form.Timing.{Timing}
+use Rattle.sf_term.specs.declared.form.Timing.TheVariants as timings
+use Rattle.sf_term.specs.declared.form.Accumulation.{Accumulation}
+use Rattle.sf_term.specs.declared.form.Accumulation.TheVariants as accumulations
 use Rattle.sf_term.specs.declared.form.Join.{Join}
 use Rattle.sf_term.specs.declared.form.Join.TheVariants as joins
 use Rattle.sf_term.specs.declared.form.Side.{Side}
 use Rattle.sf_term.specs.declared.form.Side.TheVariants as sides
 use Rattle.sf_term.specs.declared.form.Heading.{Heading}
 use Rattle.sf_term.specs.declared.form.Heading.TheVariants as headings
-use Rattle.sf_term.specs.Trees.{Term, primitive, joined, sided, headed, bare, with_value, arrow, Template, terms_in, expressions_in}
+use Rattle.sf_term.specs.Trees.{Term, primitive, joined, sided, headed, bare, with_value, timed, arrow, accumulated, Template, terms_in, expressions_in}
 use Rattle.sf_lex.specs.declared.word.Keyword.{Keyword}
 use Rattle.sf_lex.specs.declared.word.Keyword.TheVariants as words
 use Rattle.sf_lex.specs.declared.symbol.Symbol.{Symbol}
@@ -420,7 +424,11 @@ head_of words.Constant = Some (heads.WithValue values.Constant)
 head_of words.IPre = Some (heads.WithValue values.InitialPre)
 head_of words.Now = Some (heads.WithValue values.Now)
 head_of words.Hold = Some (heads.WithValue values.Hold)
+head_of words.After = Some (heads.Timed timings.After)
 head_of words.Arr = Some heads.Arrow
+head_of words.AccumBy = Some (heads.Accumulated accumulations.AccumBy)
+head_of words.AccumHoldBy = Some (heads.Accumulated accumulations.AccumHoldBy)
+head_of words.Sscan = Some (heads.Accumulated accumulations.Scan)
 head_of words.First = Some (heads.Sided sides.First)
 head_of words.Second = Some (heads.Sided sides.Second)
 head_of words.LoopPre = Some (heads.Headed headings.LoopPre)
@@ -436,9 +444,24 @@ join_of _ = None
 unfoldable pub parse_value : ℕ → Version → Counts → WithValue → List Tok → List Tok → Read Term
 parse_value left v c k start tokens = parse_expression left v c tokens and_then λ e rest. term_read c (primitive (with_value k e)) start rest
 
+-- a number
+abbrev pub parse_number : List Tok → Read ℤ
+parse_number (number z ∷ rest) = got z rest
+parse_number tokens = stop Unexpected tokens
+
+-- behind the word of a primitive with a time and a value
+unfoldable pub parse_timed : ℕ → Version → Counts → Timing → List Tok → List Tok → Read Term
+parse_timed left v c k start tokens = parse_number tokens and_then λ q rest. parse_expression left v c rest and_then λ e behind. term_read c (primitive (timed k q e)) start behind
+
 -- behind `arr`
 unfoldable pub parse_arrow : ℕ → Version → Counts → List Tok → List Tok → Read Term
 parse_arrow left v c start tokens = parse_function left v c tokens and_then λ f rest. term_read c (primitive (arrow f)) start rest
+
+-- behind the word of a primitive with a value and a function
+unfoldable pub parse_accumulated : ℕ → Version → Counts → Accumulation → List Tok → List Tok → Read Term
+parse_accumulated left v c k start tokens =
+    parse_symbol symbols.Open tokens and_then λ _ rest.
+    parse_parts (parse_expression left v c) (parse_symbol symbols.Comma) (λ e. parse_function left v (counts_with_expression c e)) (λ e _ f rest. term_read c (primitive (accumulated k e f)) start rest) rest
 
 -- behind the word of a term on one part of a pair, where that term is read so
 unfoldable pub parse_sided : (Counts → List Tok → Read Term) → Counts → Side → List Tok → List Tok → Read Term
@@ -454,7 +477,9 @@ parse_headed left v part c h start tokens =
 abbrev pub parse_worded : ℕ → Version → (Counts → List Tok → Read Term) → Counts → Option Head → List Tok → List Tok → Read Term
 parse_worded left v part c (Some (heads.Bare b)) start tokens = term_read c (primitive (bare b)) start tokens
 parse_worded left v part c (Some (heads.WithValue k)) start tokens = parse_value left v c k start tokens
+parse_worded left v part c (Some (heads.Timed k)) start tokens = parse_timed left v c k start tokens
 parse_worded left v part c (Some heads.Arrow) start tokens = parse_arrow left v c start tokens
+parse_worded left v part c (Some (heads.Accumulated k)) start tokens = parse_accumulated left v c k start tokens
 parse_worded left v part c (Some (heads.Sided s)) start tokens = parse_sided part c s start tokens
 parse_worded left v part c (Some (heads.Headed h)) start tokens = parse_headed left v part c h start tokens
 parse_worded left v part c None start tokens = stop Unexpected start

@@ -20,13 +20,17 @@ use Rattle.sf_term.specs.declared.form.Bare.{Bare}
 use Rattle.sf_term.specs.declared.form.Bare.TheVariants as bares
 use Rattle.sf_term.specs.declared.form.WithValue.{WithValue}
 use Rattle.sf_term.specs.declared.form.WithValue.TheVariants as values
+use Rattle.sf_term.specs.declared.form.Timing.{Timing}
+use Rattle.sf_term.specs.declared.form.Timing.TheVariants as timings
+use Rattle.sf_term.specs.declared.form.Accumulation.{Accumulation}
+use Rattle.sf_term.specs.declared.form.Accumulation.TheVariants as accumulations
 use Rattle.sf_term.specs.declared.form.Join.{Join}
 use Rattle.sf_term.specs.declared.form.Join.TheVariants as joins
 use Rattle.sf_term.specs.declared.form.Side.{Side}
 use Rattle.sf_term.specs.declared.form.Side.TheVariants as sides
 use Rattle.sf_term.specs.declared.form.Heading.{Heading}
 use Rattle.sf_term.specs.declared.form.Heading.TheVariants as headings
-use Rattle.sf_term.specs.Trees.{bare, with_value, arrow, fused, Term, primitive, joined, sided, headed, staged, Template, Templates, term_depth, terms_in, expressions_in}
+use Rattle.sf_term.specs.Trees.{bare, with_value, timed, arrow, accumulated, fused, Term, primitive, joined, sided, headed, staged, Template, Templates, term_depth, terms_in, expressions_in}
 use Rattle.sf_lex.specs.declared.word.Keyword.{Keyword}
 use Rattle.sf_lex.specs.declared.word.Keyword.TheVariants as words
 use Rattle.sf_lex.specs.declared.symbol.Symbol.{Symbol}
@@ -51,6 +55,16 @@ value_word values.Constant = words.Constant
 value_word values.InitialPre = words.IPre
 value_word values.Now = words.Now
 value_word values.Hold = words.Hold
+
+-- the word of a primitive with a time and a value
+abbrev pub timing_word : Timing → Keyword
+timing_word timings.After = words.After
+
+-- the word of a primitive with a value and a function
+abbrev pub accumulation_word : Accumulation → Keyword
+accumulation_word accumulations.AccumBy = words.AccumBy
+accumulation_word accumulations.AccumHoldBy = words.AccumHoldBy
+accumulation_word accumulations.Scan = words.Sscan
 
 -- the symbol between two terms that are joined
 abbrev pub join_symbol : Join → Symbol
@@ -226,7 +240,9 @@ spell_function v (function p e) = spell_mapping (spell_pattern p) (spell_express
 abbrev pub spell_term : Version → Term → List Tok
 spell_term v (primitive (bare k)) = keyword (bare_word k) ∷ []
 spell_term v (primitive (with_value k e)) = keyword (value_word k) ∷ spell_expression v e
+spell_term v (primitive (timed k q e)) = keyword (timing_word k) ∷ number q ∷ spell_expression v e
 spell_term v (primitive (arrow f)) = keyword words.Arr ∷ spell_function v f
+spell_term v (primitive (accumulated k e f)) = keyword (accumulation_word k) ∷ in_brackets (spell_expression v e) (symbol symbols.Comma) (spell_function v f)
 spell_term v (primitive (fused f)) = []
 spell_term v (joined j f g) = in_brackets (spell_term v f) (symbol (join_symbol j)) (spell_term v g)
 spell_term v (sided s f) = keyword (side_word s) ∷ spell_term v f
@@ -306,7 +322,9 @@ WritesFunction v d (function p e) = WritesExpression v d e
 -- a text of the version has the types in a term, where so much depth is left
 abbrev pub WritesTerm : Version → ℕ → Term → Type 0
 WritesTerm v (suc d) (primitive (with_value k e)) = WritesExpression v d e
+WritesTerm v (suc d) (primitive (timed k q e)) = WritesExpression v d e
 WritesTerm v (suc d) (primitive (arrow f)) = WritesFunction v d f
+WritesTerm v (suc d) (primitive (accumulated k e f)) = WritesExpression v d e × WritesFunction v d f
 WritesTerm v (suc d) (joined j f g) = WritesTerm v d f × WritesTerm v d g
 WritesTerm v (suc d) (sided s f) = WritesTerm v d f
 WritesTerm v (suc d) (headed h e f) = WritesExpression v d e × WritesTerm v d f

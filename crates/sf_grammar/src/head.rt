@@ -5,7 +5,7 @@ ghost use Rattle.sf_grammar.specs.Reading.{expression_head, head_of, join_of, li
 
 use sf_expr::{Arithmetic, Comparison, Equality, Folding, Logic, Mapping, Merge, Operator, Unary};
 use sf_lex::{Keyword, Symbol, Token};
-use sf_term::{Bare, Heading, Join, Side, WithValue};
+use sf_term::{Accumulation, Bare, Heading, Join, Side, Timing, WithValue};
 
 /// A form that a word begins, by its shape.
 #[derive(Clone, Copy, Debug, PartialEq, Eq)]
@@ -14,8 +14,12 @@ pub enum Head {
     Bare(Bare),
     /// A word, and an expression behind it.
     WithValue(WithValue),
+    /// A word, and behind it a number and an expression.
+    Timed(Timing),
     /// A word, and a function behind it.
     Arrow,
+    /// A word, and behind it an expression and a function in brackets.
+    Accumulated(Accumulation),
     /// A word, and a term behind it.
     Sided(Side),
     /// A word, and behind it an expression and a term in brackets.
@@ -71,7 +75,11 @@ pub fn head_of(word: Keyword) -> Option<Head>
         Keyword::IPre => Some(Head::WithValue(WithValue::InitialPre)),
         Keyword::Now => Some(Head::WithValue(WithValue::Now)),
         Keyword::Hold => Some(Head::WithValue(WithValue::Hold)),
+        Keyword::After => Some(Head::Timed(Timing::After)),
         Keyword::Arr => Some(Head::Arrow),
+        Keyword::AccumBy => Some(Head::Accumulated(Accumulation::AccumBy)),
+        Keyword::AccumHoldBy => Some(Head::Accumulated(Accumulation::AccumHoldBy)),
+        Keyword::Sscan => Some(Head::Accumulated(Accumulation::Scan)),
         Keyword::First => Some(Head::Sided(Side::First)),
         Keyword::Second => Some(Head::Sided(Side::Second)),
         Keyword::LoopPre => Some(Head::Headed(Heading::LoopPre)),

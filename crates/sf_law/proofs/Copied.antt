@@ -1,5 +1,5 @@
 -- Plans that show the terms of a program.
-use Rattle.std.proofs.Common.{◌≡◌, ℕ, ◌+◌, ◌<◌, ◌≤◌, List, [], ◌∷◌, map, IsTrue, refl, sym, ◌∙◌, ap, arith, ⊎_elim}
+use Rattle.std.proofs.Common.{◌≡◌, ℕ, ◌+◌, ◌<◌, ◌≤◌, List, [], ◌∷◌, map, IsTrue, ℤ, refl, sym, ◌∙◌, ap, subst, arith, ⊎_elim}
 use mathlib.Core.Path.{ap₂}
 use Rattle.std.proofs.lemmas.Bool.{cases_lt}
 use Rattle.sf_func.specs.Registries.{AnswersByName}
@@ -12,8 +12,11 @@ use Rattle.sf_term.specs.declared.node.TermId.{TermId}
 use Rattle.sf_term.specs.declared.node.Node.{Node}
 use Rattle.sf_term.specs.declared.node.Node.TheVariants as ast
 use Rattle.sf_term.specs.declared.node.Primitive.{Primitive}
+use Rattle.sf_term.specs.declared.node.Primitive.TheVariants as ast_primitives
+use Rattle.sf_term.specs.declared.form.Timing.{Timing}
+use Rattle.sf_code.specs.declared.code.Code.{Code}
 use Rattle.sf_term.specs.declared.program.Program.{Program}
-use Rattle.sf_term.specs.Trees.{Term, Template, Templates, primitive, joined, sided, headed, with_value, arrow}
+use Rattle.sf_term.specs.Trees.{Term, Template, Templates, primitive, joined, sided, headed, with_value, timed, arrow, accumulated}
 use Rattle.sf_term.specs.Headers.{Header as TermHeader}
 use Rattle.sf_term.specs.Arena.{term_count, tree as term, expression_under, function_in, expressions_of as program_expressions, term_of, TermPartsBelow, headers_of as program_headers, template_in as term_template}
 use Rattle.sf_mean.specs.Networks.{network_of}
@@ -21,11 +24,16 @@ use Rattle.sf_term.proofs.Kept.{term_past, expression_in, function_at_in}
 use Rattle.sf_law.specs.declared.node.PlanId.{PlanId}
 use Rattle.sf_law.specs.declared.node.PlanNode.{PlanNode}
 use Rattle.sf_law.specs.declared.node.PlanPrimitive.{PlanPrimitive}
+use Rattle.sf_law.specs.declared.node.PlanPrimitive.TheVariants as plan_primitives
 use Rattle.sf_law.specs.declared.plan.Plan.{Plan}
 use Rattle.sf_law.specs.Entries.{primitive_over, parts_end, is_whole}
 use Rattle.sf_law.specs.Arena.{plan_expressions, node_count, plan_tree, plan_headers, plan_template, network_of_plan, BuildsPlan, builds_primitive, builds_joined, builds_sided, builds_headed, KeepsPlan, AddsNode}
-use Rattle.sf_law.specs.Copies.{plan_id, CopiesPrimitive, copies_bare, copies_with_value, copies_arrow, CopiesNode, copies_primitive, copies_joined, copies_sided, copies_headed, plan_header, ShowsTerms}
+use Rattle.sf_law.specs.Copies.{plan_id, CopiesPrimitive, copies_bare, copies_with_value, copies_timed, copies_accumulated, copies_arrow, CopiesNode, copies_primitive, copies_joined, copies_sided, copies_headed, plan_header, ShowsTerms}
 use Rattle.sf_law.proofs.Kept.{tree_past}
+
+-- a primitive with an equal time is copied
+pub timed_copied : {k : Timing} {q z : ℤ} {e : ExprId} {c : Code} → z ≡ q → CopiesPrimitive (ast_primitives.Timed k q e) (plan_primitives.Timed k z e c)
+timed_copied {k} {q} {z} {e} {c} is = subst (λ (z : ℤ). CopiesPrimitive (ast_primitives.Timed k q e) (plan_primitives.Timed k z e c)) (sym is) copies_timed
 
 -- a plan shows a program's terms below a number
 abbrev pub ShowsBelow : Program → Plan → ℕ → Type 0
@@ -58,6 +66,8 @@ module _ (p : Program) (q : Plan) (copy : IsCopy (program_expressions p) (plan_e
   same_primitive : (a : Primitive) (b : PlanPrimitive) → CopiesPrimitive a b → primitive (primitive_over (plan_expressions q) b) ≡ term_of p (ast.Primitive a)
   same_primitive _ _ copies_bare = refl
   same_primitive _ _ (copies_with_value {k} {e}) = ap (λ v. primitive (with_value k v)) (value_same e)
+  same_primitive _ _ (copies_timed {k} {q} {e}) = ap (λ v. primitive (timed k q v)) (value_same e)
+  same_primitive _ _ (copies_accumulated {k} {e} {f = f}) = ap₂ (λ v g. primitive (accumulated k v g)) (value_same e) (function_same f)
   same_primitive _ _ (copies_arrow {f}) = ap (λ v. primitive (arrow v)) (function_same f)
 
   -- the same node stands for the same term

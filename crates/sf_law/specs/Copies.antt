@@ -1,11 +1,13 @@
 -- What a plan copies of a program.
-use Rattle.std.specs.Prelude.{◌≡◌}
+use Rattle.std.specs.Prelude.{◌≡◌, ℤ}
 use Rattle.std.specs.declared.rc.Rc.{Rc}
 use Rattle.std.specs.declared.alloc.Global.{Global}
 use Rattle.sf_expr.specs.declared.exprs.ExprId.{ExprId}
 use Rattle.sf_expr.specs.declared.exprs.FunctionId.{FunctionId}
 use Rattle.sf_term.specs.declared.form.Bare.{Bare}
 use Rattle.sf_term.specs.declared.form.WithValue.{WithValue}
+use Rattle.sf_term.specs.declared.form.Timing.{Timing}
+use Rattle.sf_term.specs.declared.form.Accumulation.{Accumulation}
 use Rattle.sf_term.specs.declared.form.Join.{Join}
 use Rattle.sf_term.specs.declared.form.Side.{Side}
 use Rattle.sf_term.specs.declared.form.Heading.{Heading}
@@ -35,6 +37,8 @@ plan_id t = record { 0 = t.0 }
 pub data CopiesPrimitive : Primitive → PlanPrimitive → Type 0 where
   copies_bare : {k : Bare} → CopiesPrimitive (primitives.Bare k) (plan_primitives.Bare k)
   copies_with_value : {k : WithValue} {e : ExprId} {c : Code} → CopiesPrimitive (primitives.WithValue k e) (plan_primitives.WithValue k e c)
+  copies_timed : {k : Timing} {q : ℤ} {e : ExprId} {c : Code} → CopiesPrimitive (primitives.Timed k q e) (plan_primitives.Timed k q e c)
+  copies_accumulated : {k : Accumulation} {e : ExprId} {d : Code} {f : FunctionId} {c : Rc Code Global} → CopiesPrimitive (primitives.Accumulated k e f) (plan_primitives.Accumulated k e d f c)
   copies_arrow : {f : FunctionId} {c : Rc Code Global} → CopiesPrimitive (primitives.Arrow f) (plan_primitives.Arrow f c)
 
 -- A plan's node is a program's, with some code: of the same form, with the same id of its expression and the ids of the same numbers.

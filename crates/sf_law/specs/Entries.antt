@@ -6,7 +6,7 @@ use Rattle.sf_arena.specs.Folded.{trees, tree_at}
 use Rattle.sf_term.specs.declared.form.Bare.TheVariants.{Identity}
 use Rattle.sf_code.specs.Worth.{IsCodeOf, IsCodeOfFunction}
 use Rattle.sf_term.specs.Entries.{identity_term, term_among}
-use Rattle.sf_term.specs.Trees.{Extent, whole, rest, Primitive, Term, primitive, joined, sided, headed, staged, bare, with_value, arrow}
+use Rattle.sf_term.specs.Trees.{Extent, whole, rest, Primitive, Term, primitive, joined, sided, headed, staged, bare, with_value, timed, arrow, accumulated}
 use Rattle.sf_law.specs.declared.node.PlanId.{PlanId}
 use Rattle.sf_law.specs.declared.node.PlanNode.{PlanNode}
 use Rattle.sf_law.specs.declared.node.PlanNode.TheVariants as nodes
@@ -27,13 +27,17 @@ pipeline (f ∷ fs) = stages whole f fs
 abbrev pub primitive_over : Exprs → PlanPrimitive → Primitive
 primitive_over x (primitives.Bare k) = bare k
 primitive_over x (primitives.WithValue k e c) = with_value k (expression x e)
+primitive_over x (primitives.Timed k q e c) = timed k q (expression x e)
 primitive_over x (primitives.Arrow f c) = arrow (function_at x f)
+primitive_over x (primitives.Accumulated k e d f c) = accumulated k (expression x e) (function_at x f)
 
 -- a primitive's code is that of its expression or its function
 abbrev pub IsCodedPrimitive : Exprs → PlanPrimitive → Type 0
 IsCodedPrimitive x (primitives.Bare k) = ⊤
 IsCodedPrimitive x (primitives.WithValue k e c) = IsCodeOf (expression x e) c
+IsCodedPrimitive x (primitives.Timed k q e c) = IsCodeOf (expression x e) c
 IsCodedPrimitive x (primitives.Arrow f c) = IsCodeOfFunction (function_at x f) c.value
+IsCodedPrimitive x (primitives.Accumulated k e d f c) = IsCodeOf (expression x e) d × IsCodeOfFunction (function_at x f) c.value
 
 -- a node's code is that of its expression or its function
 abbrev pub IsCoded : Exprs → PlanNode → Type 0

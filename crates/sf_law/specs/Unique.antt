@@ -46,6 +46,8 @@ IsCodedPrimitive-prop : (x : Exprs) (q : PlanPrimitive) → IsProp (IsCodedPrimi
 IsCodedPrimitive-prop x (primitives.Bare k) = Unit-prop
 IsCodedPrimitive-prop x (primitives.WithValue k e c) = IsCodeOf-prop (expression x e) c
 IsCodedPrimitive-prop x (primitives.Arrow f c) = IsCodeOfFunction-prop (function_at x f) c.value
+IsCodedPrimitive-prop x (primitives.Timed k q e c) = IsCodeOf-prop (expression x e) c
+IsCodedPrimitive-prop x (primitives.Accumulated k e d f c) = λ a b i. (IsCodeOf-prop (expression x e) d a.0 b.0 i, IsCodeOfFunction-prop (function_at x f) c.value a.1 b.1 i)
 
 pub IsCoded-prop : (x : Exprs) (n : PlanNode) → IsProp (IsCoded x n)
 IsCoded-prop x (nodes.Primitive q) = IsCodedPrimitive-prop x q

@@ -1,7 +1,7 @@
 //! Nodes of an arena of plans.
 use sf_code::Code;
 use sf_expr::{ExprId, FunctionId};
-use sf_term::{Bare, Heading, Join, Side, WithValue};
+use sf_term::{Accumulation, Bare, Heading, Join, Side, Timing, WithValue};
 use std::rc::Rc;
 
 /// A term in its plan.
@@ -15,8 +15,12 @@ pub enum PlanPrimitive {
     Bare(Bare),
     /// One with an expression.
     WithValue(WithValue, ExprId, Code),
+    /// One with a time and an expression.
+    Timed(Timing, i64, ExprId, Code),
     /// `arr`, with its function. Whatever lives by it shares the code.
     Arrow(FunctionId, Rc<Code>),
+    /// One with an expression and a function. Whatever lives by it shares the code of the function.
+    Accumulated(Accumulation, ExprId, Code, FunctionId, Rc<Code>),
 }
 
 /// A term of a plan, whose parts are ids of terms before it.

@@ -94,9 +94,19 @@ fn plan_primitive(
             let code = expression_code(alloc, exprs, value)?;
             Ok(PlanPrimitive::WithValue(form, value, code))
         }
+        Primitive::Timed(form, time, value) => {
+            let code = expression_code(alloc, exprs, value)?;
+            Ok(PlanPrimitive::Timed(form, time, value, code))
+        }
         Primitive::Arrow(function) => {
             let code = function_code(alloc, exprs, function)?;
             Ok(PlanPrimitive::Arrow(function, Rc::new(alloc, code)?))
+        }
+        Primitive::Accumulated(form, value, function) => {
+            let start = expression_code(alloc, exprs, value)?;
+            let code = function_code(alloc, exprs, function)?;
+            let shared = Rc::new(alloc, code)?;
+            Ok(PlanPrimitive::Accumulated(form, value, start, function, shared))
         }
     }
 }

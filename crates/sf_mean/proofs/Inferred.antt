@@ -1,21 +1,22 @@
 -- The output types that are found are those that terms take inputs to.
-use Rattle.std.proofs.Common.{◌≡◌, Bool, true, false, cond, Some, None, refl, sym, ap, subst, ◌∙◌}
+use Rattle.std.proofs.Common.{ℤ, ◌≡◌, Bool, true, false, cond, Some, None, refl, sym, ap, subst, ◌∙◌}
 use Rattle.std.specs.Prelude.{Option, nat_le}
 use Rattle.sf_value.specs.Values.{Kind, unit_kind, bool_kind, int_kind, text_kind, pair_kind, event_kind, table_kind, nodes, IsNoPair}
 use Rattle.sf_operator.specs.Kinds.{same_kind, parts_of}
 use Rattle.sf_operator.proofs.SameKinds.{same_is, is_same, found_is}
 use Rattle.sf_expr.specs.Expressions.{Expression}
-use Rattle.sf_expr.specs.Typing.{Fits}
-use Rattle.sf_expr.specs.Inference.{found_then, fitting, expression_type}
+use Rattle.sf_expr.specs.Typing.{Fits, HasType}
+use Rattle.sf_expr.specs.Inference.{found_then, fitting, expression_type, function_output}
 use Rattle.sf_expr.proofs.Inferred.{test_fits, fits_test, fitting_is, fitting_found, found_typed, typed_found, output_takes, takes_output}
+use Rattle.sf_term.specs.declared.form.Timing.{Timing}
 use Rattle.sf_term.specs.declared.form.Join.{Join}
 use Rattle.sf_term.specs.declared.form.Join.TheVariants.{InSequence, InParallel, FannedOut}
 use Rattle.sf_term.specs.declared.form.Side.{Side}
 use Rattle.sf_term.specs.declared.form.Side.TheVariants.{First, Second}
 use Rattle.sf_term.specs.declared.form.Heading.TheVariants.{LoopPre}
-use Rattle.sf_term.specs.Trees.{Chain, lone, chained, on_side, on_both, fanned, Primitive, bare, with_value, arrow, fused, Term, primitive, joined, sided, headed, staged}
+use Rattle.sf_term.specs.Trees.{Chain, lone, chained, on_side, on_both, fanned, Primitive, bare, with_value, timed, arrow, accumulated, fused, Term, primitive, joined, sided, headed, staged}
 use Rattle.sf_mean.specs.Contexts.{Context, names_of_values}
-use Rattle.sf_mean.specs.Typing.{ChainTakes, lone_takes, chained_takes, on_first_takes, on_second_takes, on_both_takes, fanned_takes, bare_kind, value_kind, PrimitiveTakes, bare_takes, value_takes, arrow_takes, fused_takes, Takes, takes, FormTakes, primitive_takes, sequence_takes, parallel_takes, fan_takes, first_takes, second_takes, loop_takes, stages_take}
+use Rattle.sf_mean.specs.Typing.{ChainTakes, lone_takes, chained_takes, on_first_takes, on_second_takes, on_both_takes, fanned_takes, bare_kind, value_kind, accumulated_argument, accumulated_kind, takes_time, timed_kind, PrimitiveTakes, bare_takes, value_takes, timed_takes, accumulated_takes, arrow_takes, fused_takes, Takes, takes, FormTakes, primitive_takes, sequence_takes, parallel_takes, fan_takes, first_takes, second_takes, loop_takes, stages_take}
 use Rattle.sf_mean.specs.Inference.{Finds, both_outputs, join_output, side_output, first_beside, heading_output, chain_output, primitive_output, with_fitting, form_output, term_output}
 
 -- ## Types of pairs
@@ -143,6 +144,13 @@ module _ {Γ : Context} where
 
   -- ## Primitives
 
+  timed_found : (k : Timing) (q : ℤ) (e : Expression) (v a b : Kind) → HasType (names_of_values Γ) e v → (t : Bool) → takes_time k q ≡ t → cond t (found_then (timed_kind k v) fitting) None ≡ Some b → PrimitiveTakes Γ (timed k q e) a b
+  timed_found k q e v a b E true h g =
+      let made = found_is (timed_kind k v) fitting g in
+      let fit = fitting_found made.0 b made.2 in
+      timed_takes E h (made.1 ∙ ap Some fit.is) (subst Fits fit.is fit.fits)
+  timed_found k q e v a b E false h g = absurd cc
+
   pub primitive_found : (p : Primitive) (a b : Kind) → primitive_output Γ p a ≡ Some b → PrimitiveTakes Γ p a b
   primitive_found (bare k) a b h =
       let made = found_is (bare_kind k a) fitting h in
@@ -154,6 +162,17 @@ module _ {Γ : Context} where
       let given = found_is (expression_type (names_of_values Γ) e) (λ v. value_kind k v a) made.1 in
       value_takes (found_typed (names_of_values Γ) e given.0 given.1) (given.2 ∙ ap Some fit.is) (subst Fits fit.is fit.fits)
   primitive_found (arrow f) a b h = arrow_takes (output_takes (names_of_values Γ) f a b h)
+  primitive_found (timed k q e) a b h =
+      let given = found_is (expression_type (names_of_values Γ) e) (λ v. cond (takes_time k q) (found_then (timed_kind k v) fitting) None) h in
+      timed_found k q e given.0 a b (found_typed (names_of_values Γ) e given.0 given.1) (takes_time k q) refl given.2
+  primitive_found (accumulated k e f) a b h =
+      let R = names_of_values Γ in
+      let given = found_is (expression_type R e) (λ v. found_then (accumulated_argument k v a) (λ c. found_then (function_output R f c) (λ u. found_then (accumulated_kind k v u) fitting))) h in
+      let argument = found_is (accumulated_argument k given.0 a) (λ c. found_then (function_output R f c) (λ u. found_then (accumulated_kind k given.0 u) fitting)) given.2 in
+      let made = found_is (function_output R f argument.0) (λ u. found_then (accumulated_kind k given.0 u) fitting) argument.2 in
+      let whole = found_is (accumulated_kind k given.0 made.0) fitting made.2 in
+      let fit = fitting_found whole.0 b whole.2 in
+      accumulated_takes (found_typed R e given.0 given.1) argument.1 (output_takes R f argument.0 made.0 made.1) (whole.1 ∙ ap Some fit.is) (subst Fits fit.is fit.fits)
   primitive_found (fused f) a b h = elim (found_went (chain_output Γ f) fitting a b h) [
     | went {b = c} k e ↦
         let fit = fitting_found c b e in
@@ -164,6 +183,15 @@ module _ {Γ : Context} where
   primitive_is (bare_takes {b = b} h f) = ap (λ o. found_then o fitting) h ∙ fitting_is b f
   primitive_is (value_takes {k = k} {a = a} {b = b} E h f) = ap (λ o. found_then (found_then o (λ v. value_kind k v a)) fitting) (typed_found E) ∙ ap (λ o. found_then o fitting) h ∙ fitting_is b f
   primitive_is (arrow_takes F) = takes_output F
+  primitive_is (timed_takes {k = k} {q = q} {v = v} {b = b} E h g f) =
+      ap (λ o. found_then o (λ v. cond (takes_time k q) (found_then (timed_kind k v) fitting) None)) (typed_found E)
+      ∙ ap (λ t. cond t (found_then (timed_kind k v) fitting) None) h ∙ ap (λ o. found_then o fitting) g ∙ fitting_is b f
+  primitive_is (accumulated_takes {k = k} {f = f} {v = v} {a = a} {c = c} {b = b} E q F h g) =
+      let R = names_of_values Γ in
+      ap (λ o. found_then o (λ v. found_then (accumulated_argument k v a) (λ c. found_then (function_output R f c) (λ u. found_then (accumulated_kind k v u) fitting)))) (typed_found E)
+      ∙ ap (λ o. found_then o (λ c. found_then (function_output R f c) (λ u. found_then (accumulated_kind k v u) fitting))) q
+      ∙ ap (λ o. found_then o (λ u. found_then (accumulated_kind k v u) fitting)) (takes_output F)
+      ∙ ap (λ o. found_then o fitting) h ∙ fitting_is b g
   primitive_is (fused_takes {b = b} F h) = ap (λ o. found_then o fitting) (chain_found F) ∙ fitting_is b h
 
   -- ## Terms: each takes what is found for its form, within the bound

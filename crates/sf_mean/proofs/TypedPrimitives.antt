@@ -1,7 +1,7 @@
 -- What primitives give has the type that the tables of types say.
-use Rattle.std.proofs.Common.{◌≡◌, ℕ, pos, [], ◌∷◌, Bool, true, false, Option, Some, None, sym, ◌∙◌}
+use Rattle.std.proofs.Common.{cond, ℤ, ◌≡◌, ℕ, pos, [], ◌∷◌, Bool, true, false, Option, Some, None, sym, ◌∙◌}
 use Rattle.std.proofs.lemmas.Option.{same_Some}
-use Rattle.sf_value.specs.Values.{Kind, unit_kind, bool_kind, int_kind, event_kind, Data, event, HasKind, has_unit, has_no_event, has_event}
+use Rattle.sf_value.specs.Values.{Kind, unit_kind, bool_kind, int_kind, pair_kind, event_kind, Data, no_event, event, HasKind, has_unit, has_no_event, has_event}
 use Rattle.sf_operator.specs.Outcomes.{Evaluated, answer, ◌>>=◌}
 use Rattle.sf_operator.specs.Answers.{Yields, yields, fails}
 use Rattle.sf_operator.specs.Kinds.{only, payload_of}
@@ -12,9 +12,13 @@ use Rattle.sf_term.specs.declared.form.Bare.{Bare}
 use Rattle.sf_term.specs.declared.form.Bare.TheVariants.{Identity, LocalTime, Integral, Edge, NotYet, Count}
 use Rattle.sf_term.specs.declared.form.WithValue.{WithValue}
 use Rattle.sf_term.specs.declared.form.WithValue.TheVariants.{Constant, InitialPre, Now, Hold}
+use Rattle.sf_term.specs.declared.form.Timing.{Timing}
+use Rattle.sf_term.specs.declared.form.Timing.TheVariants.{After}
+use Rattle.sf_term.specs.declared.form.Accumulation.{Accumulation}
+use Rattle.sf_term.specs.declared.form.Accumulation.TheVariants.{AccumBy, AccumHoldBy, Scan}
 use Rattle.sf_mean.specs.Lives.{Step, input_of, Life, time}
-use Rattle.sf_mean.specs.Formulas.{before, at_first, area, event_if, occurring, occurrences, counted, last_payload, bare_formula, value_formula}
-use Rattle.sf_mean.specs.Typing.{bare_kind, value_kind}
+use Rattle.sf_mean.specs.Formulas.{timed_formula, coming, displayed, before, at_first, area, event_if, occurring, occurrences, counted, last_payload, bare_formula, value_formula}
+use Rattle.sf_mean.specs.Typing.{bare_kind, value_kind, timed_kind, accumulated_argument, accumulated_kind}
 use Rattle.sf_mean.specs.Soundness.{LifeHas, no_steps, more_steps}
 
 before_has : {v : Data} {a : Kind} {L : Life} → HasKind v a → LifeHas L a → HasKind (before v L) a
@@ -74,3 +78,44 @@ value_typed Hold {t = t} {a = a} s L e i h l =
     let found = found_is (payload_of a) (λ p. only p t (Some t)) e in
     let same = only_is found.0 t (Some t) found.2 in
     as_kind (same.0 ∙ same_Some _ _ same.1) (last_has found.1 (as_kind (sym same.0) i) (more_steps {s = s} h l))
+
+when_has : {v : Data} {t : Kind} (b : Bool) → HasKind v t → HasKind (cond b (event v) no_event) (event_kind t)
+when_has true h = has_event h
+when_has false h = has_no_event
+
+pub timed_typed : (k : Timing) (q : ℤ) {v : Data} {t b : Kind} (s : Step) (L : Life) → timed_kind k t ≡ Some b → HasKind v t → HasKind (timed_formula k q v s L) b
+timed_typed After q s L e h = as_kind (same_Some _ _ e) (when_has _ h)
+
+-- what comes has a type, where something does
+pub data Comes : Option Data → Kind → Type 0 where
+  comes_none : {p : Kind} → Comes None p
+  comes_some : {x : Data} {p : Kind} → HasKind x p → Comes (Some x) p
+
+occurring_comes : {d : Data} {a p : Kind} → payload_of a ≡ Some p → HasKind d a → Comes (occurring d) p
+occurring_comes e h = each (payload_has e h)
+  where
+    each : {o : Option Data} {p : Kind} → HasPayload p o → Comes o p
+    each has_none = comes_none
+    each (has_some k) = comes_some k
+
+-- what the function takes is a pair of the value so far and of what comes
+pub coming_typed : (k : Accumulation) {v c : Kind} (a : Kind) → accumulated_argument k v a ≡ Some c → (p : Kind) × (c ≡ pair_kind v p) × ((x : Data) → HasKind x a → Comes (coming k x) p)
+coming_typed AccumBy {v} a e =
+    let found = found_is (payload_of a) (λ p. Some (pair_kind v p)) e in
+    (found.0, sym (same_Some _ _ found.2), λ x h. occurring_comes found.1 h)
+coming_typed AccumHoldBy {v} a e =
+    let found = found_is (payload_of a) (λ p. Some (pair_kind v p)) e in
+    (found.0, sym (same_Some _ _ found.2), λ x h. occurring_comes found.1 h)
+coming_typed Scan {v} a e = (a, sym (same_Some _ _ e), λ x h. comes_some h)
+
+-- the function makes values of the type of the value so far
+pub made_typed : (k : Accumulation) {v u b : Kind} → accumulated_kind k v u ≡ Some b → u ≡ v
+made_typed AccumBy {v} {u} e = (only_is u v (Some (event_kind v)) e).0
+made_typed AccumHoldBy {v} {u} e = (only_is u v (Some v) e).0
+made_typed Scan {v} {u} e = (only_is u v (Some v) e).0
+
+pub shown_typed : (k : Accumulation) (v u : Kind) {b : Kind} {w : Data} (o : Option Data) → accumulated_kind k v u ≡ Some b → HasKind w v → HasKind (displayed k o w) b
+shown_typed AccumBy v u None e h = as_kind (same_Some _ _ (only_is u v (Some (event_kind v)) e).1) has_no_event
+shown_typed AccumBy v u (Some x) e h = as_kind (same_Some _ _ (only_is u v (Some (event_kind v)) e).1) (has_event h)
+shown_typed AccumHoldBy v u o e h = as_kind (same_Some _ _ (only_is u v (Some v) e).1) h
+shown_typed Scan v u o e h = as_kind (same_Some _ _ (only_is u v (Some v) e).1) h

@@ -1,20 +1,21 @@
 -- A typed process gives values of its output type.
-use Rattle.std.proofs.Common.{◌≡◌, List, [], ◌∷◌, ap, subst}
+use Rattle.std.proofs.Common.{◌≡◌, List, [], ◌∷◌, Option, ap, subst}
 use Rattle.sf_value.specs.Values.{Kind, pair_kind, Data, pair, HasKind, has_pair, first_of, second_of}
 use Rattle.sf_func.specs.Registries.{TypesByName, AnswersByName, KeepTheirTypes}
 use Rattle.sf_expr.specs.Expressions.{Expression, Function}
 use Rattle.sf_expr.specs.Evaluation.{Evaluated, answer, failed, ◌>>=◌, Scope, eval, apply}
 use Rattle.sf_expr.specs.Typing.{Names, HasType, FunctionTakes}
 use Rattle.sf_expr.specs.Soundness.{Yields, yields, fails, ScopeHas, has_no_names}
+use Rattle.sf_term.specs.declared.form.Accumulation.{Accumulation}
 use Rattle.sf_term.specs.declared.form.Side.TheVariants.{First, Second}
 use Rattle.sf_term.specs.Trees.{Chain, Primitive, Term}
 use Rattle.sf_mean.specs.Lives.{Step, input_of, Life, Environment, scope_around, Process, first_input as input_at_first}
-use Rattle.sf_mean.specs.Formulas.{value_formula, with_side, apply_chain, formula}
+use Rattle.sf_mean.specs.Formulas.{timed_formula, coming, next_value, accumulation, displayed, value_formula, with_side, apply_chain, formula}
 use Rattle.sf_mean.specs.Meaning.{Network, Outcome, Cost, Made, value_made, make, Gives, gives, Outputs, not_begun, and_gave, Sample, of_constants, of_form, Form, of_primitive, of_join, of_side, of_loop, of_stages, Next, goes_on, stops, Loops, no_loop, and_looped}
 use Rattle.sf_mean.specs.Contexts.{Bindings, values_in, context_with, Context, names_of_values}
-use Rattle.sf_mean.specs.Typing.{ChainTakes, lone_takes, chained_takes, on_first_takes, on_second_takes, on_both_takes, fanned_takes, PrimitiveTakes, bare_takes, value_takes, arrow_takes, fused_takes, Takes, takes, FormTakes, primitive_takes, sequence_takes, parallel_takes, fan_takes, first_takes, second_takes, loop_takes, stages_take}
-use Rattle.sf_mean.specs.Soundness.{Have, have_nothing, have_more, LifeHas, more_steps, EnvironmentHas, has_nothing, ProcessTakes, closure_takes, OutcomeHas}
-use Rattle.sf_mean.proofs.TypedPrimitives.{bare_typed, value_typed}
+use Rattle.sf_mean.specs.Typing.{ChainTakes, lone_takes, chained_takes, on_first_takes, on_second_takes, on_both_takes, fanned_takes, PrimitiveTakes, bare_takes, value_takes, timed_takes, accumulated_takes, arrow_takes, fused_takes, Takes, takes, FormTakes, primitive_takes, sequence_takes, parallel_takes, fan_takes, first_takes, second_takes, loop_takes, stages_take}
+use Rattle.sf_mean.specs.Soundness.{Have, have_nothing, have_more, LifeHas, no_steps, more_steps, EnvironmentHas, has_nothing, ProcessTakes, closure_takes, OutcomeHas}
+use Rattle.sf_mean.proofs.TypedPrimitives.{bare_typed, value_typed, timed_typed, Comes, comes_none, comes_some, coming_typed, made_typed, shown_typed}
 use Rattle.sf_mean.proofs.TypedLives.{first_is, second_is, with_inputs_has, fed_has, outcome_is, changed_has, combined_has, LifeIf, life_if, relay_if}
 
 -- expressions and functions have values of their types, or faults
@@ -49,6 +50,17 @@ pub environment_scope : (φ : AnswersByName) (fs : TypesByName) {e : Environment
 environment_scope φ fs K has_nothing = has_no_names K
 
 module _ (n : Network) (eval_is : EvalsTyped) (apply_is : AppliesTyped) where
+  -- an accumulation has values of its type, or the fault of its function
+  next_is : {R : Names} {f : Function} {v p u : Kind} {w : Data} {o : Option Data} (scope : Scope) → ScopeHas scope R → FunctionTakes R f (pair_kind v p) u → u ≡ v → HasKind w v → Comes o p → Yields v (next_value f scope w o)
+  next_is scope in_scope F same h comes_none = yields h
+  next_is {f = f} {w = w} scope in_scope F same h (comes_some {x = x} k) = subst (λ t. Yields t (apply f (pair w x) scope)) same (apply_is _ _ _ _ _ _ F (has_pair h k) in_scope)
+
+  accumulation_is : (k : Accumulation) {R : Names} {f : Function} {v a p u : Kind} {w : Data} {L : Life} (scope : Scope) → ScopeHas scope R → ((x : Data) → HasKind x a → Comes (coming k x) p)
+      → FunctionTakes R f (pair_kind v p) u → u ≡ v → HasKind w v → LifeHas L a → Yields v (accumulation k f scope w L)
+  accumulation_is k scope in_scope comes F same h no_steps = yields h
+  accumulation_is k {f = f} scope in_scope comes F same h (more_steps {s = s} i l) =
+      next_yields (λ w. next_value f scope w (coming k (input_of s))) (accumulation_is k scope in_scope comes F same h l) (λ w g. next_is scope in_scope F same g (comes _ i))
+
   module _ {Γ : Context} (scope : Scope) (in_scope : ScopeHas scope (names_of_values Γ)) where
     chain_is : {f : Chain} {a b : Kind} (x : Data) → ChainTakes Γ f a b → HasKind x a → Yields b (apply_chain f x scope)
     chain_is x (lone_takes F) h = apply_is _ _ _ _ _ _ F h in_scope
@@ -64,6 +76,13 @@ module _ (n : Network) (eval_is : EvalsTyped) (apply_is : AppliesTyped) where
     formula_is s {L = L} (bare_takes {k = k} B f) h l = bare_typed k s L B h l
     formula_is s {L = L} (value_takes {k = k} I B f) h l = changed_yields (λ v. value_formula k v s L) (λ v i. value_typed k s L B i h l) (eval_is _ _ _ _ I in_scope)
     formula_is s (arrow_takes F) h l = apply_is _ _ _ _ _ _ F h in_scope
+    formula_is s {L = L} (timed_takes {k = k} {q = q} I w B f) h l = changed_yields (λ v. timed_formula k q v s L) (λ v i. timed_typed k q s L B i) (eval_is _ _ _ _ I in_scope)
+    formula_is s {L = L} (accumulated_takes {k = k} {f = f} {v = t} {a = a} {u = u} I q F e B) h l =
+        let part = coming_typed k a q in
+        let same = made_typed k e in
+        next_yields (λ v. accumulation k f scope v (s ∷ L) >>= λ w. answer (displayed k (coming k (input_of s)) w)) (eval_is _ _ _ _ I in_scope) (λ v i.
+        changed_yields (displayed k (coming k (input_of s))) (λ w g. shown_typed k t u (coming k (input_of s)) e g)
+        (accumulation_is k scope in_scope part.2 (subst (λ c. FunctionTakes (names_of_values Γ) f c u) part.1 F) same i (more_steps {s = s} h l)))
     formula_is s (fused_takes F B) h l = chain_is (input_of s) F h
 
   mutual

@@ -1,16 +1,21 @@
 -- What primitives give, by formulas over their whole life.
-use Rattle.std.specs.Prelude.{ℕ, suc, [], ◌∷◌, Bool, true, false, not, ◌&&◌, cond, ℤ, pos, ◌+ℤ◌, ◌*ℤ◌, Option, Some, None, unwrap_or}
+use Rattle.std.specs.Prelude.{ℕ, suc, [], ◌∷◌, Bool, true, false, not, ◌&&◌, cond, ℤ, pos, ◌+ℤ◌, ◌*ℤ◌, int_le, Option, Some, None, unwrap_or}
 use Rattle.sf_value.specs.Values.{Data, unit, truth, number, pair, no_event, event, first_of, second_of}
 use Rattle.sf_operator.specs.Outcomes.{tested}
 use Rattle.sf_operator.specs.Operations.{truth_in, number_in, payload_in, payload_or}
+use Rattle.sf_expr.specs.Expressions.{Function}
 use Rattle.sf_expr.specs.Evaluation.{Evaluated, answer, ◌>>=◌, Scope, eval, apply}
 use Rattle.sf_term.specs.declared.form.Bare.{Bare}
 use Rattle.sf_term.specs.declared.form.Bare.TheVariants.{Identity, LocalTime, Integral, Edge, NotYet, Count}
 use Rattle.sf_term.specs.declared.form.WithValue.{WithValue}
 use Rattle.sf_term.specs.declared.form.WithValue.TheVariants.{Constant, InitialPre, Now, Hold}
+use Rattle.sf_term.specs.declared.form.Timing.{Timing}
+use Rattle.sf_term.specs.declared.form.Timing.TheVariants.{After}
+use Rattle.sf_term.specs.declared.form.Accumulation.{Accumulation}
+use Rattle.sf_term.specs.declared.form.Accumulation.TheVariants.{AccumBy, AccumHoldBy, Scan}
 use Rattle.sf_term.specs.declared.form.Side.{Side}
 use Rattle.sf_term.specs.declared.form.Side.TheVariants.{First, Second}
-use Rattle.sf_term.specs.Trees.{Chain, lone, chained, on_side, on_both, fanned, Primitive, bare, with_value, arrow, fused}
+use Rattle.sf_term.specs.Trees.{Chain, lone, chained, on_side, on_both, fanned, Primitive, bare, with_value, timed, arrow, accumulated, fused}
 use Rattle.sf_mean.specs.Lives.{Step, wait_of, input_of, Life, time}
 
 -- In all of these, s is the newest step and L the steps before it.
@@ -89,6 +94,38 @@ value_formula InitialPre v s L = before v L
 value_formula Now v s L = at_first L (event v) no_event
 value_formula Hold v s L = last_payload v (s ∷ L)
 
+-- whether a life has come to a step at which so much time has passed since the first
+abbrev pub has_passed : ℤ → Life → Bool
+has_passed q [] = false
+has_passed q (s ∷ L) = int_le q (pos (time (s ∷ L)))
+
+-- primitives with a time and the value v
+abbrev pub timed_formula : Timing → ℤ → Data → Step → Life → Data
+timed_formula After q v s L = cond (has_passed q (s ∷ L) && not (has_passed q L)) (event v) no_event
+
+-- what an accumulation goes on with: the payload of an event that occurs, or each input
+abbrev pub coming : Accumulation → Data → Option Data
+coming AccumBy x = occurring x
+coming AccumHoldBy x = occurring x
+coming Scan x = Some x
+
+-- the next value, of the one so far and of what comes; the same where nothing comes
+abbrev pub next_value : Function → Scope → Data → Option Data → Evaluated Data
+next_value f scope w None = answer w
+next_value f scope w (Some x) = apply f (pair w x) scope
+
+-- the value after a life, from v before it
+abbrev pub accumulation : Accumulation → Function → Scope → Data → Life → Evaluated Data
+accumulation k f scope v [] = answer v
+accumulation k f scope v (s ∷ L) = accumulation k f scope v L >>= λ w. next_value f scope w (coming k (input_of s))
+
+-- what an accumulation gives of its value: at an event an event of it, or the value itself
+abbrev pub displayed : Accumulation → Option Data → Data → Data
+displayed AccumBy None w = no_event
+displayed AccumBy (Some x) w = event w
+displayed AccumHoldBy o w = w
+displayed Scan o w = w
+
 -- the side of the input that the part is given
 abbrev pub side_of : Side → Data → Data
 side_of First x = first_of x
@@ -112,4 +149,6 @@ abbrev pub formula : Primitive → Scope → Step → Life → Evaluated Data
 formula (bare k) scope s L = bare_formula k s L
 formula (with_value k e) scope s L = eval e scope >>= λ v. answer (value_formula k v s L)
 formula (arrow f) scope s L = apply f (input_of s) scope
+formula (timed k q e) scope s L = eval e scope >>= λ v. answer (timed_formula k q v s L)
+formula (accumulated k e f) scope s L = eval e scope >>= λ v. accumulation k f scope v (s ∷ L) >>= λ w. answer (displayed k (coming k (input_of s)) w)
 formula (fused f) scope s L = apply_chain f (input_of s) scope

@@ -9,9 +9,9 @@ use Rattle.sf_term.specs.declared.form.Side.{Side}
 use Rattle.sf_term.specs.declared.form.Side.TheVariants.{First, Second}
 use Rattle.sf_term.specs.declared.form.Heading.{Heading}
 use Rattle.sf_term.specs.declared.form.Heading.TheVariants.{LoopPre}
-use Rattle.sf_term.specs.Trees.{Chain, lone, chained, on_side, on_both, fanned, Primitive, bare, with_value, arrow, fused, Term, primitive, joined, sided, headed, staged}
+use Rattle.sf_term.specs.Trees.{Chain, lone, chained, on_side, on_both, fanned, Primitive, bare, with_value, timed, arrow, accumulated, fused, Term, primitive, joined, sided, headed, staged}
 use Rattle.sf_mean.specs.Contexts.{Context, names_of_values}
-use Rattle.sf_mean.specs.Typing.{bare_kind, value_kind}
+use Rattle.sf_mean.specs.Typing.{bare_kind, value_kind, takes_time, timed_kind, accumulated_argument, accumulated_kind}
 
 -- What finds an output type for an input type, if inputs of that type are taken.
 abbrev pub Finds : Type 0
@@ -56,6 +56,9 @@ abbrev pub primitive_output : Context → Primitive → Finds
 primitive_output Γ (bare k) a = found_then (bare_kind k a) fitting
 primitive_output Γ (with_value k e) a = found_then (found_then (expression_type (names_of_values Γ) e) (λ v. value_kind k v a)) fitting
 primitive_output Γ (arrow f) a = function_output (names_of_values Γ) f a
+primitive_output Γ (timed k q e) a = found_then (expression_type (names_of_values Γ) e) (λ v. cond (takes_time k q) (found_then (timed_kind k v) fitting) None)
+primitive_output Γ (accumulated k e f) a =
+    found_then (expression_type (names_of_values Γ) e) (λ v. found_then (accumulated_argument k v a) (λ c. found_then (function_output (names_of_values Γ) f c) (λ u. found_then (accumulated_kind k v u) fitting)))
 primitive_output Γ (fused f) a = found_then (chain_output Γ f a) fitting
 
 -- inputs and outputs have types of at most 256 nodes

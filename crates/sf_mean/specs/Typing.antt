@@ -1,5 +1,5 @@
 -- The types of terms under a context, and the networks that are accepted.
-use Rattle.std.specs.Prelude.{◌≡◌, ◌≢◌, ℕ, ◌<◌, Option, Some, slice_get}
+use Rattle.std.specs.Prelude.{◌≡◌, ◌≢◌, ℕ, ◌<◌, Bool, ◌&&◌, IsTrue, ℤ, pos, int_le, Option, Some, slice_get}
 use Rattle.sf_value.specs.Values.{Kind, unit_kind, bool_kind, int_kind, pair_kind, event_kind}
 use Rattle.sf_operator.specs.Kinds.{found_then, only, payload_of}
 use Rattle.sf_func.specs.Registries.{TypesByName}
@@ -9,10 +9,14 @@ use Rattle.sf_term.specs.declared.form.Bare.{Bare}
 use Rattle.sf_term.specs.declared.form.Bare.TheVariants.{Identity, LocalTime, Integral, Edge, NotYet, Count}
 use Rattle.sf_term.specs.declared.form.WithValue.{WithValue}
 use Rattle.sf_term.specs.declared.form.WithValue.TheVariants.{Constant, InitialPre, Now, Hold}
+use Rattle.sf_term.specs.declared.form.Timing.{Timing}
+use Rattle.sf_term.specs.declared.form.Timing.TheVariants.{After}
+use Rattle.sf_term.specs.declared.form.Accumulation.{Accumulation}
+use Rattle.sf_term.specs.declared.form.Accumulation.TheVariants.{AccumBy, AccumHoldBy, Scan}
 use Rattle.sf_term.specs.declared.form.Join.TheVariants.{InSequence, InParallel, FannedOut}
 use Rattle.sf_term.specs.declared.form.Side.TheVariants.{First, Second}
 use Rattle.sf_term.specs.declared.form.Heading.TheVariants.{LoopPre}
-use Rattle.sf_term.specs.Trees.{Chain, lone, chained, on_side, on_both, fanned, Primitive, bare, with_value, arrow, fused, Extent, Term, primitive, joined, sided, headed, staged, Template, Templates}
+use Rattle.sf_term.specs.Trees.{Chain, lone, chained, on_side, on_both, fanned, Primitive, bare, with_value, timed, arrow, accumulated, fused, Extent, Term, primitive, joined, sided, headed, staged, Template, Templates}
 use Rattle.sf_mean.specs.Networks.{main_of}
 use Rattle.sf_mean.specs.Contexts.{Context, names_of_values, context_of}
 
@@ -41,11 +45,35 @@ value_kind InitialPre v a = only a v (Some v)
 value_kind Now v a = Some (event_kind v)
 value_kind Hold v a = found_then (payload_of a) (λ p. only p v (Some v))
 
+-- whether a form takes a time, in milliseconds
+abbrev pub takes_time : Timing → ℤ → Bool
+takes_time After q = int_le (pos 0) q && int_le q (pos 1000000000000)
+
+-- the type of the outputs of a primitive with a time and a value of a type
+abbrev pub timed_kind : Timing → Kind → Option Kind
+timed_kind After v = Some (event_kind v)
+
+-- the type of what the function of an accumulation takes, with a value of a type, on inputs of a type: pairs of the value
+-- so far and what comes
+abbrev pub accumulated_argument : Accumulation → Kind → Kind → Option Kind
+accumulated_argument AccumBy v a = found_then (payload_of a) (λ p. Some (pair_kind v p))
+accumulated_argument AccumHoldBy v a = found_then (payload_of a) (λ p. Some (pair_kind v p))
+accumulated_argument Scan v a = Some (pair_kind v a)
+
+-- the type of the outputs of an accumulation, where its function makes values of a type
+abbrev pub accumulated_kind : Accumulation → Kind → Kind → Option Kind
+accumulated_kind AccumBy v u = only u v (Some (event_kind v))
+accumulated_kind AccumHoldBy v u = only u v (Some v)
+accumulated_kind Scan v u = only u v (Some v)
+
 -- A primitive takes inputs of one type to outputs of another.
 pub data PrimitiveTakes (Γ : Context) : Primitive → Kind → Kind → Type 0 where
   bare_takes : {k : Bare} {a b : Kind} → bare_kind k a ≡ Some b → Fits b → PrimitiveTakes Γ (bare k) a b
   value_takes : {k : WithValue} {e : Expression} {v a b : Kind} → HasType (names_of_values Γ) e v → value_kind k v a ≡ Some b → Fits b → PrimitiveTakes Γ (with_value k e) a b
   arrow_takes : {f : Function} {a b : Kind} → FunctionTakes (names_of_values Γ) f a b → PrimitiveTakes Γ (arrow f) a b
+  timed_takes : {k : Timing} {q : ℤ} {e : Expression} {v a b : Kind} → HasType (names_of_values Γ) e v → IsTrue (takes_time k q) → timed_kind k v ≡ Some b → Fits b → PrimitiveTakes Γ (timed k q e) a b
+  accumulated_takes : {k : Accumulation} {e : Expression} {f : Function} {v a c u b : Kind}
+      → HasType (names_of_values Γ) e v → accumulated_argument k v a ≡ Some c → FunctionTakes (names_of_values Γ) f c u → accumulated_kind k v u ≡ Some b → Fits b → PrimitiveTakes Γ (accumulated k e f) a b
   fused_takes : {f : Chain} {a b : Kind} → ChainTakes Γ f a b → Fits b → PrimitiveTakes Γ (fused f) a b
 
 mutual

@@ -6,7 +6,7 @@ ghost use Rattle.sf_operator.specs.Operations.{truth_in, number_in as a_number_i
 ghost use Rattle.sf_operator.specs.FunctionForms.{value_of_key as the_value_of_key};
 
 use sf_value::{Form, Key, Value};
-use std::alloc::{AllocError, Global};
+use std::alloc::AllocError;
 use std::cmp::Ordering;
 use std::rc::Rc;
 
@@ -72,13 +72,13 @@ pub(crate) fn key_in(value: &Value) -> Result<Option<Key>, AllocError>
     }
 }
 
-/// A key, as a value. A text is copied.
-pub fn value_of_key(alloc: Global, key: &Key) -> Result<Value, AllocError>
+/// A key, as a value. A text is shared; the error is too many owners of it.
+pub fn value_of_key(key: &Key) -> Result<Value, AllocError>
     ensures { IfOk result (λ v. v ≡ the_value_of_key (key_of key.now)) }
 {
     match key {
         Key::Int(number) => Ok(Value::int(*number)),
-        Key::Text(text) => Value::text(alloc, String::from_str(alloc, text.as_str())?),
+        Key::Text(text) => Ok(Value::of_text(text.clone()?)),
     }
 }
 

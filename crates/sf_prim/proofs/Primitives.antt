@@ -1,7 +1,8 @@
 -- Samples of primitives.
-use Rattle.std.proofs.Common.{◌≡◌, ℕ, suc, ◌+◌, arith, [], ◌∷◌, Bool, true, cond, ℤ, pos, Option, Some, None, Result, Ok, Err, refl, sym, ap, ◌∙◌, subst}
+use Rattle.std.proofs.Common.{◌≡◌, ℕ, suc, ◌+◌, ◌-◌, arith, inl, inr, [], ◌∷◌, Bool, true, false, true≢false, cond, ℤ, pos, negsuc, Option, Some, None, Result, Ok, Err, refl, sym, ap, ◌∙◌, subst}
 use mathlib.Core.Path.{ap₂}
-use Rattle.std.specs.Prelude.{◌&&◌, ◌+ℤ◌, ◌*ℤ◌, IsErrAnd, OnOk, IfErr}
+use Rattle.std.proofs.lemmas.Bool.{cases_lt, le-leb, lt-leb, leb-true}
+use Rattle.std.specs.Prelude.{nat_le, not, ◌&&◌, ◌+ℤ◌, ◌*ℤ◌, IsErrAnd, OnOk, IfErr}
 use Rattle.std.specs.declared.alloc.Global.{Global}
 use Rattle.std.specs.declared.rc.Rc.{Rc}
 use Rattle.sf_value.specs.Values.{Data, no_event, event}
@@ -17,14 +18,19 @@ use Rattle.sf_operator.specs.declared.fault.EvalFault.{EvalFault}
 use Rattle.sf_operator.specs.declared.fault.EvalFault.TheVariants.{Value, Memory}
 use Rattle.sf_term.specs.declared.form.WithValue.{WithValue}
 use Rattle.sf_term.specs.declared.form.WithValue.TheVariants.{Constant as VConstant, InitialPre, Now as VNow, Hold as VHold}
-use Rattle.sf_term.specs.Trees.{Primitive, with_value, arrow}
-use Rattle.sf_mean.specs.Lives.{Step, step, Life, time}
-use Rattle.sf_mean.specs.Formulas.{at_first, level, area, is_high, is_low, event_if, occurring, count_up, occurrences, counted, last_payload, value_formula, formula}
+use Rattle.sf_term.specs.declared.form.Timing.{Timing}
+use Rattle.sf_term.specs.declared.form.Timing.TheVariants.{After}
+use Rattle.sf_term.specs.declared.form.Accumulation.{Accumulation}
+use Rattle.sf_term.specs.Trees.{Primitive, with_value, timed, arrow, accumulated}
+use Rattle.sf_mean.specs.Lives.{Step, step, input_of, Life, time}
+use Rattle.sf_mean.specs.Formulas.{coming, next_value, accumulation, displayed, at_first, level, area, is_high, is_low, event_if, occurring, count_up, occurrences, counted, last_payload, value_formula, has_passed, timed_formula, formula}
 use Rattle.sf_prim.specs.declared.time.Area.{Area as Sum}
+use Rattle.sf_prim.specs.declared.time.Timer.{Timer}
+use Rattle.sf_prim.specs.declared.accumulator.Accumulator.{Accumulator}
 use Rattle.sf_prim.specs.declared.prim_state.PrimState.{PrimState}
-use Rattle.sf_prim.specs.declared.prim_state.PrimState.TheVariants.{Identity, Constant, Previous, Arrow, Clock, Area, Edge, NotYet, Count, Now, Hold}
+use Rattle.sf_prim.specs.declared.prim_state.PrimState.TheVariants.{Identity, Constant, Previous, Arrow, Accumulated, Clock, Area, Timed, Edge, NotYet, Count, Now, Hold}
 use Rattle.sf_prim.specs.Gifts.{gift}
-use Rattle.sf_prim.specs.Keeping.{time_after, last_time, has_steps, count_after, counted_after, Remembers, keeps_nothing, keeps_value, keeps_previous, keeps_function, keeps_time, keeps_area, keeps_low, keeps_begun, keeps_count, keeps_first, keeps_last, Begins, begins_with_fault, begins_without_memory, GoesOn, goes_on, goes_on_with_fault, goes_on_without_memory}
+use Rattle.sf_prim.specs.Keeping.{shown_after, time_after, last_time, has_steps, span, waited, is_up, count_after, counted_after, Remembers, keeps_nothing, keeps_value, keeps_previous, keeps_function, keeps_accumulation, keeps_time, keeps_area, keeps_timer, keeps_low, keeps_begun, keeps_count, keeps_first, keeps_last, Begins, begins_with_fault, begins_without_memory, GoesOn, goes_on, goes_on_with_fault, goes_on_without_memory}
 
 -- a primitive with a value gives what its formula makes of it
 value_gives : (k : WithValue) (e : Expression) (scope : Scope) (v : Data) (s : Step) (L : Life)
@@ -34,19 +40,26 @@ value_gives k e scope v s L h = ap (λ r. r >>= λ v. answer (value_formula k v 
 -- ## Before the first sample
 
 -- a constant's fault is that of the first sample
-value_fails : (φ : AnswersByName) (k : WithValue) (e : Expression) (f : EvalFault) → Evaluates (Err f) (eval e (no_names φ)) → Begins φ (with_value k e) (Err f)
-value_fails φ k e (Value x) h = begins_with_fault (λ s. ap (λ r. r >>= λ v. answer (value_formula k v s [])) h)
-value_fails φ k e Memory h = begins_without_memory
+constant_fails : (φ : AnswersByName) (q : Primitive) (e : Expression) (next : Step → Data → Evaluated Data) → ((s : Step) → formula q (no_names φ) s [] ≡ (eval e (no_names φ) >>= next s))
+    → (f : EvalFault) → Evaluates (Err f) (eval e (no_names φ)) → Begins φ q (Err f)
+constant_fails φ q e next is (Value x) h = begins_with_fault (λ s. is s ∙ ap (λ r. r >>= next s) h)
+constant_fails φ q e next is Memory h = begins_without_memory
+
+exit_so : (φ : AnswersByName) (q : Primitive) (f : EvalFault) (r : Result PrimState EvalFault) → IsErrAnd r (λ e. e ≡ f) → Begins φ q (Err f) → Begins φ q r
+exit_so φ q f (Ok i) h b = absurd h
+exit_so φ q f (Err g) h b = subst (λ (g : EvalFault). Begins φ q (Err g)) (sym h) b
 
 pub begins_exit : (φ : AnswersByName) (k : WithValue) (e : Expression) (f : EvalFault) (r : Result PrimState EvalFault)
     → IsErrAnd r (λ e. e ≡ f) → Evaluates (Err f) (eval e (no_names φ)) → Begins φ (with_value k e) r
-begins_exit φ k e f (Ok i) h g = absurd h
-begins_exit φ k e f (Err q) h g = subst (λ (q : EvalFault). Begins φ (with_value k e) (Err q)) (sym h) (value_fails φ k e f g)
+begins_exit φ k e f r h g = exit_so φ (with_value k e) f r h (constant_fails φ (with_value k e) e (λ s v. answer (value_formula k v s [])) (λ s. refl) f g)
+
+pub timed_exit : (φ : AnswersByName) (k : Timing) (q : ℤ) (e : Expression) (f : EvalFault) (r : Result PrimState EvalFault)
+    → IsErrAnd r (λ e. e ≡ f) → Evaluates (Err f) (eval e (no_names φ)) → Begins φ (timed k q e) r
+timed_exit φ k q e f r h g = exit_so φ (timed k q e) f r h (constant_fails φ (timed k q e) e (λ s v. answer (timed_formula k q v s [])) (λ s. refl) f g)
 
 -- memory runs out
 pub memory_exit : (φ : AnswersByName) (q : Primitive) (r : Result PrimState EvalFault) → IsErrAnd r (λ e. e ≡ Memory) → Begins φ q r
-memory_exit φ q (Ok i) h = absurd h
-memory_exit φ q (Err f) h = subst (λ (f : EvalFault). Begins φ q (Err f)) (sym h) begins_without_memory
+memory_exit φ q r h = exit_so φ q Memory r h begins_without_memory
 
 -- a function's code, and the same code shared
 pub arrow_keeps : (φ : AnswersByName) (f : Function) (c d : Rc Code Global) → d.value ≡ c.value → IsCodeOfFunction f c.value → Remembers (Arrow d) (arrow f) (no_names φ) []
@@ -101,6 +114,74 @@ area_goes_on q scope d x L b c w r told kept (keeps_area sum last) =
     let now : b.sum +ℤ (pos d *ℤ b.level) ≡ area (step d x ∷ L) = ap₂ (λ z h. z +ℤ (pos d *ℤ h)) sum last in
     goes_with r w (ap tested (sym now)) told (where_ok r (λ k. keeps_area (k.0 ∙ now) k.1) kept)
 
+-- how much of a time is left, and whether all of it has passed
+le_moved : (n a w : ℕ) → nat_le (n - a) w ≡ nat_le n (a + w)
+le_moved n a w = elim (cases_lt (a + w) n) [
+  | inl h ↦ lt-leb (n - a) w (omega arith) ∙ sym (lt-leb n (a + w) h)
+  | inr h ↦ le-leb (n - a) w (omega arith) ∙ sym (le-leb n (a + w) h)
+]
+
+taken_off : (n a w : ℕ) → (n - a) - w ≡ n - (a + w)
+taken_off n a w = omega arith
+
+all_left : (n : ℕ) → n ≡ n - 0
+all_left n = omega arith
+
+time_grows : (d : ℕ) (x : Data) (L : Life) → time L + waited (has_steps L) d ≡ time (step d x ∷ L)
+time_grows d x [] = refl
+time_grows d x (s ∷ L) = refl
+
+reached_is : (q : ℤ) (s : Step) (L : Life) → nat_le (span q) (time (s ∷ L)) ≡ has_passed q (s ∷ L)
+reached_is (pos n) s L = refl
+reached_is (negsuc n) s L = le-leb 0 (time (s ∷ L)) (omega arith)
+
+stays_passed : (q : ℤ) (s : Step) (L : Life) → has_passed q L ≡ true → has_passed q (s ∷ L) ≡ true
+stays_passed q s [] h = absurd (true≢false (sym h))
+stays_passed q s (r ∷ L) h = sym (reached_is q s (r ∷ L)) ∙ le-leb (span q) (time (s ∷ r ∷ L)) (omega (arith, leb-true (span q) (time (r ∷ L)) (reached_is q r L ∙ h)))
+
+-- by whether the time had passed before, and whether it has now
+rung_is : (before now : Bool) (v : Data) → cond now (event_of (cond before None (Some v))) no_event ≡ cond (now && not before) (event v) no_event
+rung_is true true v = refl
+rung_is true false v = refl
+rung_is false true v = refl
+rung_is false false v = refl
+
+due_is : (before now : Bool) (v : Data) → (before ≡ true → now ≡ true) → cond now None (cond before None (Some v)) ≡ cond now None (Some v)
+due_is before true v h = refl
+due_is false false v h = refl
+due_is true false v h = absurd (true≢false (sym (h refl)))
+
+pub timer_keeps : (φ : AnswersByName) (k : Timing) (q : ℤ) (e : Expression) (t : Timer) (v : Data) → t.due ≡ Some v → t.begun ≡ false → t.left ≡ span q
+    → eval e (no_names φ) ≡ answer v → Remembers (Timed t) (timed k q e) (no_names φ) []
+timer_keeps φ After q e t v due begun left h = keeps_timer h due begun (left ∙ all_left (span q))
+
+-- of an equal time it keeps the same
+pub timed_as : (φ : AnswersByName) (i : PrimState) (k : Timing) (e : Expression) {y z : ℤ} → y ≡ z → Remembers i (timed k y e) (no_names φ) [] → Remembers i (timed k z e) (no_names φ) []
+timed_as φ i k e is h = subst (λ (z : ℤ). Remembers i (timed k z e) (no_names φ) []) is h
+
+-- a copy of a timer keeps the same
+pub timer_follows : (t u : Timer) → u.due ≡ t.due → u.begun ≡ t.begun → u.left ≡ t.left → (q : Primitive) (scope : Scope) (L : Life) → Remembers (Timed t) q scope L → Remembers (Timed u) q scope L
+timer_follows t u due begun left q scope L (keeps_timer h is_due is_begun is_left) = keeps_timer h (due ∙ is_due) (begun ∙ is_begun) (left ∙ is_left)
+
+pub timer_goes_on : {A : Type 0} (q : Primitive) (scope : Scope) (d : ℕ) (x : Data) (L : Life) (t u : Timer) (w : Data) (r : Result A EvalFault)
+    → Evaluates (gift r w) (answer (cond (is_up t d) (event_of t.due) no_event)) → OnOk r (u.due ≡ cond (is_up t d) None t.due) → OnOk r (u.begun ≡ true) → OnOk r (u.left ≡ t.left - waited t.begun d)
+    → Remembers (Timed t) q scope L → GoesOn q scope (step d x) L (Timed u) (gift r w)
+timer_goes_on q scope d x L t u w r told due begun left (keeps_timer {q = m} {e = e} {v = v} h is_due is_begun is_left) =
+    let s = step d x in
+    let before = has_passed m L in
+    let now = has_passed m (s ∷ L) in
+    let up : is_up t d ≡ now =
+    ap₂ (λ l b. nat_le l (waited b d)) is_left is_begun ∙ le_moved (span m) (time L) (waited (has_steps L) d) ∙ ap (nat_le (span m)) (time_grows d x L) ∙ reached_is m s L in
+    let given : cond (is_up t d) (event_of t.due) no_event ≡ timed_formula After m v s L = ap₂ (λ b o. cond b (event_of o) no_event) up is_due ∙ rung_is before now v in
+    let due_now : cond (is_up t d) None t.due ≡ cond now None (Some v) = ap₂ (λ b o. cond b None o) up is_due ∙ due_is before now v (stays_passed m s L) in
+    let left_now : t.left - waited t.begun d ≡ span m - time (s ∷ L) =
+    ap₂ (λ l b. l - waited b d) is_left is_begun ∙ taken_off (span m) (time L) (waited (has_steps L) d) ∙ ap (λ z. span m - z) (time_grows d x L) in
+    goes_with r w (ap (λ r. r >>= λ v. answer (timed_formula After m v s L)) h ∙ ap answer (sym given)) told (kept_so r (λ a b c. keeps_timer h (a ∙ due_now) b (c ∙ left_now)) due begun left)
+  where
+    kept_so : {A P Q R S : Type 0} (r : Result A EvalFault) → (P → Q → R → S) → OnOk r P → OnOk r Q → OnOk r R → OnOk r S
+    kept_so (Ok a) f p q r = f p q r
+    kept_so (Err e) f p q r = p
+
 pub edge_goes_on : {A : Type 0} (q : Primitive) (scope : Scope) (d : ℕ) (x : Data) (L : Life) (b c : Bool) (w : Data) (r : Result A EvalFault)
     → Evaluates (gift r w) (answer (event_if (is_high x && b))) → OnOk r (c ≡ is_low x) → Remembers (Edge b) q scope L → GoesOn q scope (step d x) L (Edge c) (gift r w)
 edge_goes_on q scope d x L b c w r told kept (keeps_low is) =
@@ -145,6 +226,54 @@ pub hold_goes_on : {A : Type 0} (q : Primitive) (scope : Scope) (d : ℕ) (x : D
 hold_goes_on q scope d x L v u w r told kept (keeps_last {e = e} {v = given} h is) =
     let now : payload_or (occurring x) v ≡ last_payload given (step d x ∷ L) = ap (payload_or (occurring x)) is in
     goes_with r w (value_gives VHold e scope given (step d x) L h ∙ ap answer (sym now)) told (where_ok r (λ k. keeps_last h (k ∙ now)) kept)
+
+-- an accumulation on a longer life
+accumulation_gives : (a : Accumulator) (e : Expression) (f : Function) (v : Data) (g : AnswersByName) (d : ℕ) (x : Data) (L : Life)
+    → eval e (no_names g) ≡ answer v → accumulation a.form f (no_names g) v L ≡ answer a.value → formula (accumulated a.form e f) (no_names g) (step d x) L ≡ shown_after a f (no_names g) x
+accumulation_gives a e f v g d x L h k =
+    let sc = no_names g in
+    ap (λ r. r >>= λ v. accumulation a.form f sc v (step d x ∷ L) >>= λ w. answer (displayed a.form (coming a.form x) w)) h
+    ∙ ap (λ r. (r >>= λ w. next_value f sc w (coming a.form x)) >>= λ w. answer (displayed a.form (coming a.form x) w)) k
+
+shown_so : {A : Type 0} (k : Accumulation) (o : Option Data) (u w : Data) (r : Result A EvalFault) (worth : Evaluated Data)
+    → Evaluates (gift r u) worth → OnOk r (w ≡ displayed k o u) → Evaluates (gift r w) (worth >>= λ w. answer (displayed k o w))
+shown_so k o u w (Ok y) worth goes shows = ap (λ r. r >>= λ w. answer (displayed k o w)) goes ∙ ap answer (sym shows)
+shown_so k o u w (Err (Value y)) worth goes shows = ap (λ r. r >>= λ w. answer (displayed k o w)) goes
+shown_so k o u w (Err Memory) worth goes shows = goes
+
+pub accumulated_goes_on : {A : Type 0} (φ : AnswersByName) (d : ℕ) (x : Data) (a b : Accumulator) (w : Data) (r : Result A EvalFault)
+    → ((f : Function) → IsCodeOfFunction f a.code.value → Evaluates (gift r b.value) (next_value f (no_names φ) a.value (coming a.form x)))
+    → OnOk r (w ≡ displayed a.form (coming a.form x) b.value)
+    → OnOk r ((b.form ≡ a.form) × (b.code.value ≡ a.code.value))
+    → (q : Primitive) (scope : Scope) (L : Life) → functions_in scope ≡ φ → Remembers (Accumulated a) q scope L → GoesOn q scope (step d x) L (Accumulated b) (gift r w)
+accumulated_goes_on φ d x a b w r goes shows same q scope L is (keeps_accumulation {e = e} {f = f} {v = v} {g = g} h code k) =
+    goes_with r w (accumulation_gives a e f v g d x L h k ∙ ap (λ (ψ : AnswersByName). shown_after a f (no_names ψ) x) is)
+    (shown_so a.form (coming a.form x) b.value w r _ (goes f code) shows) (keeps r (goes f code) same)
+  where
+    goes_so : b.form ≡ a.form → b.code.value ≡ a.code.value → next_value f (no_names φ) a.value (coming a.form x) ≡ answer b.value → Remembers (Accumulated b) (accumulated a.form e f) (no_names g) (step d x ∷ L)
+    goes_so form code_same n =
+        let after : accumulation a.form f (no_names g) v (step d x ∷ L) ≡ answer b.value =
+        ap (λ r. r >>= λ w. next_value f (no_names g) w (coming a.form x)) k ∙ ap (λ (ψ : AnswersByName). next_value f (no_names ψ) a.value (coming a.form x)) is ∙ n in
+        subst (λ m. Remembers (Accumulated b) (accumulated m e f) (no_names g) (step d x ∷ L)) form
+        (keeps_accumulation h (rw code_same code) (ap (λ m. accumulation m f (no_names g) v (step d x ∷ L)) form ∙ after))
+
+    keeps : {A : Type 0} (r : Result A EvalFault) → Evaluates (gift r b.value) (next_value f (no_names φ) a.value (coming a.form x)) → OnOk r ((b.form ≡ a.form) × (b.code.value ≡ a.code.value)) → OnOk r (Remembers (Accumulated b) (accumulated a.form e f) (no_names g) (step d x ∷ L))
+    keeps (Ok y) n m = goes_so m.0 m.1 n
+    keeps (Err y) n m = m
+
+-- a copy of an accumulation keeps the same
+pub accumulated_follows : (a b : Accumulator) → b.form ≡ a.form → b.code.value ≡ a.code.value → b.value ≡ a.value → (q : Primitive) (scope : Scope) (L : Life) → Remembers (Accumulated a) q scope L → Remembers (Accumulated b) q scope L
+accumulated_follows a b form code value q scope L (keeps_accumulation {e = e} {f = f} {v = v} {g = g} h c k) =
+    subst (λ m. Remembers (Accumulated b) (accumulated m e f) (no_names g) L) form (keeps_accumulation h (rw code c) (ap (λ m. accumulation m f (no_names g) v L) form ∙ k ∙ ap answer (sym value)))
+
+-- before its first sample
+pub accumulated_keeps : (φ : AnswersByName) (e : Expression) (f : Function) (a : Accumulator) (c : Rc Code Global) → a.code.value ≡ c.value → IsCodeOfFunction f c.value → eval e (no_names φ) ≡ answer a.value → Remembers (Accumulated a) (accumulated a.form e f) (no_names φ) []
+accumulated_keeps φ e f a c same code h = keeps_accumulation h (rw same code) refl
+
+pub accumulated_fails : (φ : AnswersByName) (k : Accumulation) (e : Expression) (g : Function) (f : EvalFault) (r : Result PrimState EvalFault)
+    → IsErrAnd r (λ e. e ≡ f) → Evaluates (Err f) (eval e (no_names φ)) → Begins φ (accumulated k e g) r
+accumulated_fails φ k e g f r h w =
+    exit_so φ (accumulated k e g) f r h (constant_fails φ (accumulated k e g) e (λ s v. accumulation k g (no_names φ) v (s ∷ []) >>= λ w. answer (displayed k (coming k (input_of s)) w)) (λ s. refl) f w)
 
 -- the same code shared keeps the same
 pub arrow_follows : (c d : Rc Code Global) → d.value ≡ c.value → (q : Primitive) (scope : Scope) (L : Life) → Remembers (Arrow c) q scope L → Remembers (Arrow d) q scope L

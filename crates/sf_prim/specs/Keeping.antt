@@ -1,5 +1,5 @@
 -- What the states of primitives keep of their lives.
-use Rattle.std.specs.Prelude.{◌≡◌, ℕ, [], ◌∷◌, Bool, true, false, ℤ, pos, ◌+ℤ◌, Option, Some, None, Result, Ok, Err}
+use Rattle.std.specs.Prelude.{◌≡◌, ℕ, ◌-◌, nat_le, [], ◌∷◌, Bool, true, false, cond, ℤ, pos, negsuc, ◌+ℤ◌, Option, Some, None, Result, Ok, Err}
 use Rattle.std.specs.declared.alloc.Global.{Global}
 use Rattle.std.specs.declared.rc.Rc.{Rc}
 use Rattle.sf_value.specs.Values.{Data, truth, number, no_event, event}
@@ -14,12 +14,15 @@ use Rattle.sf_operator.specs.declared.fault.EvalFault.{EvalFault}
 use Rattle.sf_operator.specs.declared.fault.EvalFault.TheVariants.{Value, Memory}
 use Rattle.sf_term.specs.declared.form.Bare.TheVariants.{Identity as BIdentity, LocalTime, Integral, Edge as BEdge, NotYet as BNotYet, Count as BCount}
 use Rattle.sf_term.specs.declared.form.WithValue.TheVariants.{Constant as VConstant, InitialPre, Now as VNow, Hold as VHold}
-use Rattle.sf_term.specs.Trees.{Primitive, bare, with_value, arrow}
+use Rattle.sf_term.specs.declared.form.Timing.TheVariants.{After}
+use Rattle.sf_term.specs.Trees.{Primitive, bare, with_value, timed, arrow, accumulated}
 use Rattle.sf_mean.specs.Lives.{Step, Life, time}
-use Rattle.sf_mean.specs.Formulas.{before, at_first, level, area, is_low, occurrences, last_payload, formula}
+use Rattle.sf_mean.specs.Formulas.{coming, next_value, accumulation, displayed, before, at_first, level, area, is_low, occurrences, last_payload, has_passed, formula}
 use Rattle.sf_prim.specs.declared.time.Area.{Area as Sum}
+use Rattle.sf_prim.specs.declared.time.Timer.{Timer}
+use Rattle.sf_prim.specs.declared.accumulator.Accumulator.{Accumulator}
 use Rattle.sf_prim.specs.declared.prim_state.PrimState.{PrimState}
-use Rattle.sf_prim.specs.declared.prim_state.PrimState.TheVariants.{Identity, Constant, Previous, Arrow, Clock, Area, Edge, NotYet, Count, Now, Hold}
+use Rattle.sf_prim.specs.declared.prim_state.PrimState.TheVariants.{Identity, Constant, Previous, Arrow, Accumulated, Clock, Area, Timed, Edge, NotYet, Count, Now, Hold}
 
 -- the time at a sample, by that at the one before, if there was one
 abbrev pub time_after : Option ℤ → ℕ → ℤ
@@ -35,6 +38,19 @@ last_time (s ∷ L) = Some (pos (time (s ∷ L)))
 abbrev pub has_steps : Life → Bool
 has_steps L = at_first L false true
 
+-- how many milliseconds a time has; none where it is below 0
+abbrev pub span : ℤ → ℕ
+span (pos n) = n
+span (negsuc n) = 0
+
+-- the milliseconds since the sample before; none where there was none
+abbrev pub waited : Bool → ℕ → ℕ
+waited b d = cond b d 0
+
+-- whether nothing is left of a timer's time at a sample, so long after the one before
+abbrev pub is_up : Timer → ℕ → Bool
+is_up t d = nat_le t.left (waited t.begun d)
+
 -- how many events there were, by how many there were before
 abbrev pub count_after : Option Data → ℤ → ℤ
 count_after None z = z
@@ -45,6 +61,10 @@ abbrev pub counted_after : Option Data → ℤ → Evaluated Data
 counted_after None z = answer no_event
 counted_after (Some x) z = tested (pos 1 +ℤ z) >>= λ v. answer (event v)
 
+-- what an accumulation gives on a further input, by its value so far
+abbrev pub shown_after : Accumulator → Function → Scope → Data → Evaluated Data
+shown_after a f scope x = next_value f scope a.value (coming a.form x) >>= λ w. answer (displayed a.form (coming a.form x) w)
+
 -- A state keeps what its primitive needs of a life.
 pub data Remembers : PrimState → Primitive → Scope → Life → Type 0 where
   keeps_nothing : {scope : Scope} {L : Life} → Remembers Identity (bare BIdentity) scope L
@@ -54,9 +74,15 @@ pub data Remembers : PrimState → Primitive → Scope → Life → Type 0 where
       → eval e scope ≡ answer v → w ≡ before v L → Remembers (Previous w) (with_value InitialPre e) scope L
   keeps_function : {c : Rc Code Global} {f : Function} {g : AnswersByName} {L : Life}
       → IsCodeOfFunction f c.value → Remembers (Arrow c) (arrow f) (no_names g) L
+  keeps_accumulation : {a : Accumulator} {e : Expression} {f : Function} {v : Data} {g : AnswersByName} {L : Life}
+      → eval e (no_names g) ≡ answer v → IsCodeOfFunction f a.code.value → accumulation a.form f (no_names g) v L ≡ answer a.value
+      → Remembers (Accumulated a) (accumulated a.form e f) (no_names g) L
   keeps_time : {t : Option ℤ} {scope : Scope} {L : Life} → t ≡ last_time L → Remembers (Clock t) (bare LocalTime) scope L
   keeps_area : {r : Sum} {scope : Scope} {L : Life}
       → r.sum ≡ area L → r.level ≡ level (before (number (pos 0)) L) → Remembers (Area r) (bare Integral) scope L
+  keeps_timer : {t : Timer} {q : ℤ} {e : Expression} {scope : Scope} {v : Data} {L : Life}
+      → eval e scope ≡ answer v → t.due ≡ cond (has_passed q L) None (Some v) → t.begun ≡ has_steps L → t.left ≡ span q - time L
+      → Remembers (Timed t) (timed After q e) scope L
   keeps_low : {b : Bool} {scope : Scope} {L : Life} → b ≡ is_low (before (truth true) L) → Remembers (Edge b) (bare BEdge) scope L
   keeps_begun : {b : Bool} {scope : Scope} {L : Life} → b ≡ has_steps L → Remembers (NotYet b) (bare BNotYet) scope L
   keeps_count : {z : ℤ} {scope : Scope} {L : Life} → z ≡ pos (occurrences L) → Remembers (Count z) (bare BCount) scope L

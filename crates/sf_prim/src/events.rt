@@ -43,7 +43,7 @@ pub(crate) fn pass_later(begun: &mut bool, value: &mut Value)
 }
 
 /// The payload of an event that occurs; none of another value.
-fn occurs(value: &Value) -> Option<&Rc<Value>>
+pub(crate) fn occurs(value: &Value) -> Option<&Rc<Value>>
     ensures { option_map (λ x. x.now.value) result ≡ occurring value.now }
 {
     match payload_in(value) {

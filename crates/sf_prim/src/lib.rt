@@ -1,9 +1,11 @@
 //! The states of primitives.
 #![tactic(auto)]
 
+mod accumulator;
 mod events;
 mod prim_state;
 mod time;
 
+pub use accumulator::Accumulator;
 pub use prim_state::PrimState;
-pub use time::Area;
+pub use time::{Area, Timer};

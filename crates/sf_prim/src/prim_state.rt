@@ -7,13 +7,14 @@ ghost use Rattle.sf_operator.specs.Answers.{Evaluates};
 ghost use Rattle.sf_operator.specs.declared.fault.EvalFault.TheVariants.{Memory};
 ghost use Rattle.sf_prim.specs.Gifts.{gift};
 
+use crate::accumulator::{Accumulator, accumulate};
 use crate::events::{count_event, hold, occur, pass_later, rise};
-use crate::time::{Area, integrate, tell_time};
+use crate::time::{Area, Timer, integrate, run_down, tell_time};
 use sf_code::{Code, apply, evaluate};
 use sf_func::Holds;
 use sf_law::PlanPrimitive;
 use sf_operator::EvalFault;
-use sf_term::{Bare, WithValue};
+use sf_term::{Bare, Timing, WithValue};
 use sf_value::Value;
 use std::alloc::{AllocError, Global};
 use std::mem;
@@ -30,10 +31,14 @@ pub enum PrimState {
     Previous(Value),
     /// `arr f`, with the code of `f`, which it shares with its plan.
     Arrow(Rc<Code>),
+    /// A primitive with a value and a function.
+    Accumulated(Accumulator),
     /// `localTime`, with the milliseconds at the sample before, if there was one.
     Clock(Option<i64>),
     /// `integral`, with what is under its input so far.
     Area(Area),
+    /// `after q e`.
+    Timed(Timer),
     /// `edge`; whether the input before was false.
     Edge(bool),
     /// `notYet`; whether there was a sample before.
@@ -52,7 +57,7 @@ impl PrimState {
     ghost use Rattle.sf_func.specs.Registries.{AnswersByName};
     ghost use Rattle.sf_expr.specs.Evaluation.{Scope as Names, no_names, functions_in, answer, eval as worth};
     ghost use Rattle.sf_expr.specs.declared.exprs.Exprs.{Exprs as ExprsOf};
-    ghost use Rattle.sf_term.specs.Trees.{Primitive as Form, bare as bare_form, with_value as form_with_value};
+    ghost use Rattle.sf_term.specs.Trees.{Primitive as Form, bare as bare_form, with_value as form_with_value, timed as timed_form};
     ghost use Rattle.sf_law.specs.Entries.{primitive_over, IsCodedPrimitive};
     ghost use Rattle.sf_mean.specs.Lives.{step, Life};
     ghost use Rattle.sf_prim.specs.Keeping.{Remembers, Begins, GoesOn};
@@ -72,9 +77,22 @@ impl PrimState {
                 let value = evaluate(alloc, code, functions)?;
                 Ok(PrimState::with_value(*form, value))
             }
+            PlanPrimitive::Timed(form, time, _, code) => {
+                let value = evaluate(alloc, code, functions)?;
+                Ok(PrimState::timed(*form, *time, value))
+            }
             PlanPrimitive::Arrow(_, code) => {
                 let shared = code.clone()?;
                 Ok(PrimState::Arrow(shared))
+            }
+            PlanPrimitive::Accumulated(form, _, start, _, code) => {
+                let value = evaluate(alloc, start, functions)?;
+                let shared = code.clone()?;
+                Ok(PrimState::Accumulated(Accumulator {
+                    form: *form,
+                    code: shared,
+                    value,
+                }))
             }
         }
     }
@@ -106,6 +124,16 @@ impl PrimState {
         }
     }
 
+    // A primitive with a time and its value, before its first sample.
+    fn timed(form: Timing, time: i64, value: Value) -> PrimState
+        ensures { (f : AnswersByName) (e : Expression) → worth e (no_names f) ≡ answer value →
+            Remembers result (timed_form form time e) (no_names f) [] }
+    {
+        match form {
+            Timing::After => PrimState::Timed(Timer::born(time, value)),
+        }
+    }
+
     /// Puts the value at the next sample, `dt` milliseconds after the one before, in place of the input. The error is the
     /// fault of the primitive's formula, or `Memory`; after it the state stands for nothing, and the value may be any.
     #[inline(always)]
@@ -127,8 +155,10 @@ impl PrimState {
                 Ok(())
             }
             PrimState::Arrow(code) => replace(alloc, code, functions, value),
+            PrimState::Accumulated(accumulator) => accumulate(alloc, accumulator, functions, value),
             PrimState::Clock(clock) => tell_time(clock, dt, value),
             PrimState::Area(area) => integrate(area, dt, value),
+            PrimState::Timed(timer) => run_down(alloc, timer, dt, value),
             PrimState::Edge(low) => rise(alloc, low, value),
             PrimState::NotYet(begun) => {
                 pass_later(begun, value);
@@ -154,8 +184,16 @@ impl PrimState {
                 let shared = code.clone()?;
                 Ok(PrimState::Arrow(shared))
             }
+            PrimState::Accumulated(accumulator) => {
+                let copy = accumulator.clone_in(alloc)?;
+                Ok(PrimState::Accumulated(copy))
+            }
             PrimState::Clock(clock) => Ok(PrimState::Clock(*clock)),
             PrimState::Area(area) => Ok(PrimState::Area(*area)),
+            PrimState::Timed(timer) => {
+                let copy = timer.clone_in(alloc)?;
+                Ok(PrimState::Timed(copy))
+            }
             PrimState::Edge(low) => Ok(PrimState::Edge(*low)),
             PrimState::NotYet(begun) => Ok(PrimState::NotYet(*begun)),
             PrimState::Count(count) => Ok(PrimState::Count(*count)),

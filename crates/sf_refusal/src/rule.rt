@@ -31,6 +31,8 @@ pub enum Rule {
     Mismatch,
     /// C7: no template is named `main`.
     NoMain,
+    /// C8: a number of a form is outside its range.
+    BadConstant,
     /// C9: a type that is found is made of more than 256 types.
     TypeTooLarge,
 }
@@ -54,6 +56,7 @@ impl Rule {
             Rule::DuplicateName => "C2",
             Rule::Mismatch => "C4",
             Rule::NoMain => "C7",
+            Rule::BadConstant => "C8",
             Rule::TypeTooLarge => "C9",
         }
     }
@@ -76,6 +79,7 @@ impl Rule {
             Rule::DuplicateName => "DuplicateName",
             Rule::Mismatch => "Mismatch",
             Rule::NoMain => "NoMain",
+            Rule::BadConstant => "BadConstant",
         }
     }
 }

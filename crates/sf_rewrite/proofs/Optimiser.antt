@@ -9,7 +9,7 @@ use Rattle.sf_term.specs.declared.form.Join.TheVariants.{InSequence, InParallel,
 use Rattle.sf_term.specs.declared.form.Side.{Side}
 use Rattle.sf_term.specs.declared.form.Side.TheVariants.{First, Second}
 use Rattle.sf_term.specs.declared.form.Heading.TheVariants.{LoopPre}
-use Rattle.sf_term.specs.Trees.{Chain, lone, chained, on_side, on_both, fanned, bare, with_value, arrow, fused, Extent, whole, rest, Term, primitive, joined, sided, headed, staged}
+use Rattle.sf_term.specs.Trees.{Chain, lone, chained, on_side, on_both, fanned, bare, with_value, timed, arrow, accumulated, fused, Extent, whole, rest, Term, primitive, joined, sided, headed, staged}
 use Rattle.sf_rewrite.specs.Quiet.{is_quiet_expression, is_quiet}
 use Rattle.sf_rewrite.specs.Laws.{identity, constant, arr, loop_pre, Laws, unchanged, in_turn, in_join, in_stages, in_side, as_pipeline, within_pipeline, associate_right, associate_left, identity_before, identity_after, arr_as_chain, arr_composed, arr_on_side, arr_in_parallel, arr_fanned_out, sides_composed, exchanged, constant_after, left_tightened, right_tightened}
 use Rattle.sf_rewrite.specs.Plans.{Plans, plans, of_primitive, of_join, of_side, of_heading}
@@ -37,6 +37,8 @@ arr_view : (t : Term) → Arr t
 arr_view (primitive (bare k)) = no_arr refl
 arr_view (primitive (with_value k i)) = no_arr refl
 arr_view (primitive (arrow f)) = an_arr (lone f) arr_as_chain refl
+arr_view (primitive (timed k q i)) = no_arr refl
+arr_view (primitive (accumulated k i f)) = no_arr refl
 arr_view (primitive (fused f)) = an_arr f unchanged refl
 arr_view (joined j f g) = no_arr refl
 arr_view (sided d t) = no_arr refl
@@ -54,6 +56,8 @@ constant_view (primitive (with_value InitialPre i)) = no_constant
 constant_view (primitive (with_value Now i)) = no_constant
 constant_view (primitive (with_value Hold i)) = no_constant
 constant_view (primitive (arrow f)) = no_constant
+constant_view (primitive (timed k q i)) = no_constant
+constant_view (primitive (accumulated k i f)) = no_constant
 constant_view (primitive (fused f)) = no_constant
 constant_view (joined j f g) = no_constant
 constant_view (sided d t) = no_constant
@@ -157,6 +161,8 @@ stages (plan_primitive {p = bare NotYet}) = one_stage refl
 stages (plan_primitive {p = bare Count}) = one_stage refl
 stages (plan_primitive {p = with_value k i}) = one_stage refl
 stages (plan_primitive {p = arrow f}) = one_stage refl
+stages (plan_primitive {p = timed k q i}) = one_stage refl
+stages (plan_primitive {p = accumulated k i f}) = one_stage refl
 stages (plan_primitive {p = fused f}) = one_stage refl
 stages (plan_join h P Q) = one_stage h
 stages (plan_side P) = one_stage refl

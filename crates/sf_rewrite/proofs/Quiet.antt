@@ -17,12 +17,13 @@ use Rattle.sf_operator.specs.FunctionForms.{kept_payload, mapped_payload, mapped
 use Rattle.sf_operator.specs.Operations.{truth_in, halves_in, payload_in, rows_in, key_in, order_of, merged, unary_value, decided, operated}
 use Rattle.sf_expr.specs.Evaluation.{Evaluated, answer, ◌>>=◌, known, Scope, bound_in, unless_decided, eval, apply}
 use Rattle.sf_term.specs.declared.form.Bare.TheVariants.{Identity, LocalTime, Integral, Edge, NotYet, Count}
+use Rattle.sf_term.specs.declared.form.Accumulation.{Accumulation}
 use Rattle.sf_term.specs.declared.form.Join.{Join}
 use Rattle.sf_term.specs.declared.form.Join.TheVariants.{InSequence, InParallel, FannedOut}
 use Rattle.sf_term.specs.declared.form.Heading.TheVariants.{LoopPre}
-use Rattle.sf_term.specs.Trees.{Chain, lone, chained as chained_functions, on_side, on_both, fanned, Primitive, bare, with_value, arrow, fused, Extent, Term, primitive, joined, sided, headed, staged}
+use Rattle.sf_term.specs.Trees.{Chain, lone, chained as chained_functions, on_side, on_both, fanned, Primitive, bare, with_value, timed, arrow, accumulated, fused, Extent, Term, primitive, joined, sided, headed, staged}
 use Rattle.sf_mean.specs.Lives.{Step, step, wait_of, input_of, Life, Environment, scope_around, with_inputs, relay, fed}
-use Rattle.sf_mean.specs.Formulas.{side_of, with_side, apply_chain, value_formula, formula}
+use Rattle.sf_mean.specs.Formulas.{timed_formula, coming, next_value, accumulation, displayed, side_of, with_side, apply_chain, value_formula, formula}
 use Rattle.sf_mean.specs.Meaning.{Outcome, gave, as_outcome, Cost, one_term, text_cost}
 use Rattle.sf_rewrite.specs.Quiet.{is_quiet_unary, is_quiet_operator, is_quiet_expression, is_quiet_function, is_quiet_chain, is_quiet_primitive, is_quiet}
 use Rattle.sf_rewrite.proofs.Parts.{Leaves, Part, part, Parts, begins, then_gave, At, at_primitive, at_join, at_stages, at_side, at_loop, then_part, Rounds, no_round, one_round, no_truth, OneLeaf, once_at}
@@ -161,6 +162,15 @@ quiet_chain (fanned f g) h x sc =
     next (apply_chain f x sc) (λ y. apply_chain g x sc >>= λ z. answer (pair y z)) (quiet_chain f k.0 x sc)
     (λ y. next (apply_chain g x sc) (λ z. answer (pair y z)) (quiet_chain g k.1 x sc) (λ z. (pair y z, refl)))
 
+-- an accumulation of a quiet function
+quiet_next : (f : Function) → IsTrue (is_quiet_function f) → (sc : Scope) (w : Data) (o : Option Data) → Answers (next_value f sc w o)
+quiet_next f h sc w None = (w, refl)
+quiet_next f h sc w (Some x) = quiet_apply f h (pair w x) sc
+
+quiet_accumulation : (k : Accumulation) (f : Function) → IsTrue (is_quiet_function f) → (sc : Scope) (v : Data) (L : Life) → Answers (accumulation k f sc v L)
+quiet_accumulation k f h sc v [] = (v, refl)
+quiet_accumulation k f h sc v (s ∷ L) = next (accumulation k f sc v L) (λ w. next_value f sc w (coming k (input_of s))) (quiet_accumulation k f h sc v L) (λ w. quiet_next f h sc w (coming k (input_of s)))
+
 quiet_formula : (p : Primitive) → IsTrue (is_quiet_primitive p) → (sc : Scope) (s : Step) (L : Life) → Answers (formula p sc s L)
 quiet_formula (bare Identity) h sc s L = (_, refl)
 quiet_formula (bare LocalTime) h sc s L = absurd (no_truth h)
@@ -170,6 +180,11 @@ quiet_formula (bare NotYet) h sc s L = (_, refl)
 quiet_formula (bare Count) h sc s L = absurd (no_truth h)
 quiet_formula (with_value k i) h sc s L = next (eval i sc) (λ v. answer (value_formula k v s L)) (quiet_eval i h sc) (λ v. (value_formula k v s L, refl))
 quiet_formula (arrow f) h sc s L = quiet_apply f h (input_of s) sc
+quiet_formula (timed k q i) h sc s L = next (eval i sc) (λ v. answer (timed_formula k q v s L)) (quiet_eval i h sc) (λ v. (_, refl))
+quiet_formula (accumulated k i f) h sc s L =
+    let both = both_true (is_quiet_expression i) (is_quiet_function f) h in
+    next (eval i sc) (λ v. accumulation k f sc v (s ∷ L) >>= λ w. answer (displayed k (coming k (input_of s)) w)) (quiet_eval i both.0 sc) (λ v.
+    next (accumulation k f sc v (s ∷ L)) (λ w. answer (displayed k (coming k (input_of s)) w)) (quiet_accumulation k f both.1 sc v (s ∷ L)) (λ w. (_, refl)))
 quiet_formula (fused f) h sc s L = quiet_chain f h (input_of s) sc
 
 module _ (Q : Leaves) (one : OneLeaf Q) where

@@ -6,13 +6,15 @@ use Rattle.sf_term.specs.declared.form.Join.{Join}
 use Rattle.sf_term.specs.declared.form.Join.TheVariants.{InSequence, InParallel, FannedOut}
 use Rattle.sf_term.specs.declared.form.Side.{Side}
 use Rattle.sf_term.specs.declared.form.Heading.{Heading}
-use Rattle.sf_term.specs.Trees.{Primitive, bare, with_value, arrow, fused, whole, rest, Term, primitive, joined, sided, headed, staged}
+use Rattle.sf_term.specs.Trees.{Primitive, bare, with_value, timed, arrow, accumulated, fused, whole, rest, Term, primitive, joined, sided, headed, staged}
 
 -- `arr`, of one function or of functions made into one
 abbrev pub is_arr : Term → Bool
 is_arr (primitive (bare k)) = false
 is_arr (primitive (with_value k i)) = false
 is_arr (primitive (arrow f)) = true
+is_arr (primitive (timed k q i)) = false
+is_arr (primitive (accumulated k i f)) = false
 is_arr (primitive (fused f)) = true
 is_arr (joined j f g) = false
 is_arr (sided d t) = false
@@ -35,6 +37,8 @@ is_stage (primitive (bare NotYet)) = true
 is_stage (primitive (bare Count)) = true
 is_stage (primitive (with_value k i)) = true
 is_stage (primitive (arrow f)) = true
+is_stage (primitive (timed k q i)) = true
+is_stage (primitive (accumulated k i f)) = true
 is_stage (primitive (fused f)) = true
 is_stage (joined j f g) = is_left j
 is_stage (sided d t) = true
@@ -66,6 +70,8 @@ abbrev pub is_written : Term → Bool
 is_written (primitive (bare k)) = true
 is_written (primitive (with_value k i)) = true
 is_written (primitive (arrow f)) = true
+is_written (primitive (timed k q i)) = true
+is_written (primitive (accumulated k i f)) = true
 is_written (primitive (fused f)) = false
 is_written (joined j f g) = is_written f && is_written g
 is_written (sided d t) = is_written t

@@ -9,7 +9,7 @@ use Rattle.sf_operator.specs.declared.operator.Merge.TheVariants.{Exclusive}
 use Rattle.sf_expr.specs.Expressions.{Expression, variable, literal, paired, applied, operation, conditional, mapped, folded, called, Function, function}
 use Rattle.sf_term.specs.declared.form.Bare.{Bare}
 use Rattle.sf_term.specs.declared.form.Bare.TheVariants.{Identity, LocalTime, Integral, Edge, NotYet, Count}
-use Rattle.sf_term.specs.Trees.{Chain, lone, chained, on_side, on_both, fanned, Primitive, bare, with_value, arrow, fused, Term, primitive, joined, sided, headed, staged}
+use Rattle.sf_term.specs.Trees.{Chain, lone, chained, on_side, on_both, fanned, Primitive, bare, with_value, timed, arrow, accumulated, fused, Term, primitive, joined, sided, headed, staged}
 
 -- an operator on a value that always makes one; a table may have more keys than there are numbers
 abbrev pub is_quiet_unary : Unary → Bool
@@ -61,6 +61,8 @@ abbrev pub is_quiet_primitive : Primitive → Bool
 is_quiet_primitive (bare k) = is_quiet_bare k
 is_quiet_primitive (with_value k i) = is_quiet_expression i
 is_quiet_primitive (arrow f) = is_quiet_function f
+is_quiet_primitive (timed k q i) = is_quiet_expression i
+is_quiet_primitive (accumulated k i f) = is_quiet_expression i && is_quiet_function f
 is_quiet_primitive (fused f) = is_quiet_chain f
 
 -- a term whose constants and parts are quiet

@@ -23,7 +23,7 @@ use Rattle.sf_expr.proofs.Entered.{below_holds, below_function, unchanged_keeps}
 use Rattle.sf_term.specs.declared.node.Primitive.TheVariants as primitives
 use Rattle.sf_term.specs.declared.node.Node.{Node}
 use Rattle.sf_term.specs.declared.node.Node.TheVariants as nodes
-use Rattle.sf_term.specs.Trees.{Term, primitive, joined, sided, headed, with_value, arrow, term_depth}
+use Rattle.sf_term.specs.Trees.{Term, primitive, joined, sided, headed, with_value, timed, arrow, accumulated, term_depth}
 use Rattle.sf_term.specs.Entries.{identity_term, term_among, term_over, needs_terms, needs_expressions, needs_functions, identity_entry, term_entry, term_made, terms_made, term_entered, AreTerms}
 
 -- a node's term depends on its parts alone
@@ -36,7 +36,9 @@ local x ts more entry h = at_node entry.node h
     at_node : (n : Node) → needs_terms n ≤ length ts → term_over x (ts ++ more) n ≡ term_over x ts n
     at_node (nodes.Primitive (primitives.Bare k)) h = refl
     at_node (nodes.Primitive (primitives.WithValue k e)) h = refl
+    at_node (nodes.Primitive (primitives.Timed k q e)) h = refl
     at_node (nodes.Primitive (primitives.Arrow f)) h = refl
+    at_node (nodes.Primitive (primitives.Accumulated k e f)) h = refl
     at_node (nodes.Joined j a b) h = ap₂ (λ s t. joined j s t) (part a.0 (omega arith)) (part b.0 (omega arith))
     at_node (nodes.Sided d a) h = ap (λ t. sided d t) (part a.0 h)
     at_node (nodes.Headed k e a) h = ap (λ t. headed k (expression x e) t) (part a.0 h)
@@ -78,7 +80,9 @@ term-same x y entries i k closed functions =
     at_node : (ts : List Term) (n : Node) → needs_expressions n ≤ count_of x → needs_functions n ≤ function_count x → term_over y ts n ≡ term_over x ts n
     at_node ts (nodes.Primitive (primitives.Bare k)) h g = refl
     at_node ts (nodes.Primitive (primitives.WithValue q e)) h g = ap (λ v. primitive (with_value q v)) (k.trees e (below_holds x e (omega arith)))
+    at_node ts (nodes.Primitive (primitives.Timed q t e)) h g = ap (λ v. primitive (timed q t v)) (k.trees e (below_holds x e (omega arith)))
     at_node ts (nodes.Primitive (primitives.Arrow f)) h g = ap (λ v. primitive (arrow v)) (k.meanings f (below_function x f (omega arith)))
+    at_node ts (nodes.Primitive (primitives.Accumulated q e f)) h g = ap₂ (λ v g. primitive (accumulated q v g)) (k.trees e (below_holds x e (omega arith))) (k.meanings f (below_function x f (omega arith)))
     at_node ts (nodes.Joined j a b) h g = refl
     at_node ts (nodes.Sided d a) h g = refl
     at_node ts (nodes.Headed q e a) h g = ap (λ v. headed q v (term_among ts a.0)) (k.trees e (below_holds x e (omega arith)))

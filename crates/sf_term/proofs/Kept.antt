@@ -38,7 +38,9 @@ pub parts_needed : (p : Program) (n : Node) → HoldsTermParts p n → (needs_te
 unfolding HoldsTerm HoldsExpression ProgramHoldsFunction
 parts_needed p (nodes.Primitive (primitives.Bare k)) h = (omega arith, omega arith, omega arith)
 parts_needed p (nodes.Primitive (primitives.WithValue k e)) h = (omega arith, omega (arith, holds_below p.expressions e h), omega arith)
+parts_needed p (nodes.Primitive (primitives.Timed k q e)) h = (omega arith, omega (arith, holds_below p.expressions e h), omega arith)
 parts_needed p (nodes.Primitive (primitives.Arrow f)) h = (omega arith, omega arith, omega (arith, function_below p.expressions f h))
+parts_needed p (nodes.Primitive (primitives.Accumulated k e f)) h = (omega arith, omega (arith, holds_below p.expressions e h.0), omega (arith, function_below p.expressions f h.1))
 parts_needed p (nodes.Joined j a b) h = (omega arith, omega arith, omega arith)
 parts_needed p (nodes.Sided d a) h = (omega arith, omega arith, omega arith)
 parts_needed p (nodes.Headed q e a) h = (omega arith, omega (arith, holds_below p.expressions e h.0), omega arith)
@@ -48,7 +50,9 @@ pub node-made : (p : Program) (n : Node) → term_of p n ≡ term_over p.express
 unfolding tree expression_under function_pattern_at function_body_at tree_at
 node-made p (nodes.Primitive (primitives.Bare k)) = refl
 node-made p (nodes.Primitive (primitives.WithValue k e)) = refl
+node-made p (nodes.Primitive (primitives.Timed k q e)) = refl
 node-made p (nodes.Primitive (primitives.Arrow f)) = refl
+node-made p (nodes.Primitive (primitives.Accumulated k e f)) = refl
 node-made p (nodes.Joined j a b) = refl
 node-made p (nodes.Sided d a) = refl
 node-made p (nodes.Headed h e a) = refl
@@ -362,7 +366,9 @@ parts_held p t = of_node (term_entry (entries_of p.terms) t.0).node (p.arena.in_
     of_node : (n : Node) → needs_terms n ≤ t.0 → needs_expressions n ≤ count_of p.expressions → needs_functions n ≤ function_count p.expressions → (needs_terms n ≡ 0) ⊎ (t.0 < length (entries_of p.terms)) → HoldsTermParts p n
     of_node (nodes.Primitive (primitives.Bare k)) b x f w = tt
     of_node (nodes.Primitive (primitives.WithValue k e)) b x f w = below_holds p.expressions e (omega arith)
+    of_node (nodes.Primitive (primitives.Timed k q e)) b x f w = below_holds p.expressions e (omega arith)
     of_node (nodes.Primitive (primitives.Arrow g)) b x f w = below_function p.expressions g (omega arith)
+    of_node (nodes.Primitive (primitives.Accumulated k e g)) b x f w = (below_holds p.expressions e (omega arith), below_function p.expressions g (omega arith))
     of_node (nodes.Joined j a c) b x f (inl z) = absurd (omega arith)
     of_node (nodes.Joined j a c) b x f (inr h) = (omega arith, omega arith)
     of_node (nodes.Sided d a) b x f (inl z) = absurd (omega arith)

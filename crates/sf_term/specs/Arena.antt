@@ -16,7 +16,7 @@ use Rattle.sf_term.specs.declared.node.Primitive.TheVariants as primitives
 use Rattle.sf_term.specs.declared.node.Node.{Node}
 use Rattle.sf_term.specs.declared.node.Node.TheVariants as nodes
 use Rattle.sf_term.specs.declared.program.Program.{Program}
-use Rattle.sf_term.specs.Trees.{Term, primitive, joined, sided, headed, bare, with_value, arrow, term_depth, Template, Templates}
+use Rattle.sf_term.specs.Trees.{Term, primitive, joined, sided, headed, bare, with_value, timed, arrow, accumulated, term_depth, Template, Templates}
 use Rattle.sf_term.specs.Headers.{Header}
 use Rattle.sf_term.specs.Entries.{term_entry, term_entered}
 
@@ -92,7 +92,9 @@ expression_node_at p e = expression_node_in p.expressions e
 abbrev pub term_of : Program → Node → Term
 term_of p (nodes.Primitive (primitives.Bare k)) = primitive (bare k)
 term_of p (nodes.Primitive (primitives.WithValue k e)) = primitive (with_value k (expression_under p e))
+term_of p (nodes.Primitive (primitives.Timed k q e)) = primitive (timed k q (expression_under p e))
 term_of p (nodes.Primitive (primitives.Arrow f)) = primitive (arrow (function_in p f))
+term_of p (nodes.Primitive (primitives.Accumulated k e f)) = primitive (accumulated k (expression_under p e) (function_in p f))
 term_of p (nodes.Joined j a b) = joined j (tree p a) (tree p b)
 term_of p (nodes.Sided d a) = sided d (tree p a)
 term_of p (nodes.Headed h e a) = headed h (expression_under p e) (tree p a)
@@ -132,7 +134,9 @@ TermPartsBelow (nodes.Headed h e a) n = term_number a < n
 abbrev pub HoldsTermParts : Program → Node → Type 0
 HoldsTermParts p (nodes.Primitive (primitives.Bare k)) = Unit {0}
 HoldsTermParts p (nodes.Primitive (primitives.WithValue k e)) = HoldsExpression p e
+HoldsTermParts p (nodes.Primitive (primitives.Timed k q e)) = HoldsExpression p e
 HoldsTermParts p (nodes.Primitive (primitives.Arrow f)) = ProgramHoldsFunction p f
+HoldsTermParts p (nodes.Primitive (primitives.Accumulated k e f)) = HoldsExpression p e × ProgramHoldsFunction p f
 HoldsTermParts p (nodes.Joined j a b) = HoldsTerm p a × HoldsTerm p b
 HoldsTermParts p (nodes.Sided d a) = HoldsTerm p a
 HoldsTermParts p (nodes.Headed h e a) = HoldsExpression p e × HoldsTerm p a

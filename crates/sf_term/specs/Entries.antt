@@ -8,7 +8,7 @@ use Rattle.sf_term.specs.declared.form.Bare.TheVariants.{Identity}
 use Rattle.sf_term.specs.declared.node.Primitive.TheVariants as primitives
 use Rattle.sf_term.specs.declared.node.Node.{Node}
 use Rattle.sf_term.specs.declared.node.Node.TheVariants as nodes
-use Rattle.sf_term.specs.Trees.{Term, primitive, joined, sided, headed, bare, with_value, arrow, term_depth}
+use Rattle.sf_term.specs.Trees.{Term, primitive, joined, sided, headed, bare, with_value, timed, arrow, accumulated, term_depth}
 
 -- the identity
 abbrev pub identity_term : Term
@@ -22,7 +22,9 @@ term_among ts i = slice_index_or ts i identity_term
 abbrev pub term_over : Exprs → List Term → Node → Term
 term_over x ts (nodes.Primitive (primitives.Bare k)) = primitive (bare k)
 term_over x ts (nodes.Primitive (primitives.WithValue k e)) = primitive (with_value k (expression x e))
+term_over x ts (nodes.Primitive (primitives.Timed k q e)) = primitive (timed k q (expression x e))
 term_over x ts (nodes.Primitive (primitives.Arrow f)) = primitive (arrow (function_at x f))
+term_over x ts (nodes.Primitive (primitives.Accumulated k e f)) = primitive (accumulated k (expression x e) (function_at x f))
 term_over x ts (nodes.Joined j a b) = joined j (term_among ts a.0) (term_among ts b.0)
 term_over x ts (nodes.Sided d a) = sided d (term_among ts a.0)
 term_over x ts (nodes.Headed h e a) = headed h (expression x e) (term_among ts a.0)
@@ -38,7 +40,9 @@ needs_terms (nodes.Headed h e a) = suc a.0
 abbrev pub needs_expressions : Node → ℕ
 needs_expressions (nodes.Primitive (primitives.Bare k)) = 0
 needs_expressions (nodes.Primitive (primitives.WithValue k e)) = suc (id_number e)
+needs_expressions (nodes.Primitive (primitives.Timed k q e)) = suc (id_number e)
 needs_expressions (nodes.Primitive (primitives.Arrow f)) = 0
+needs_expressions (nodes.Primitive (primitives.Accumulated k e f)) = suc (id_number e)
 needs_expressions (nodes.Joined j a b) = 0
 needs_expressions (nodes.Sided d a) = 0
 needs_expressions (nodes.Headed h e a) = suc (id_number e)
@@ -47,7 +51,9 @@ needs_expressions (nodes.Headed h e a) = suc (id_number e)
 abbrev pub needs_functions : Node → ℕ
 needs_functions (nodes.Primitive (primitives.Bare k)) = 0
 needs_functions (nodes.Primitive (primitives.WithValue k e)) = 0
+needs_functions (nodes.Primitive (primitives.Timed k q e)) = 0
 needs_functions (nodes.Primitive (primitives.Arrow f)) = suc f.0
+needs_functions (nodes.Primitive (primitives.Accumulated k e f)) = suc f.0
 needs_functions (nodes.Joined j a b) = 0
 needs_functions (nodes.Sided d a) = 0
 needs_functions (nodes.Headed h e a) = 0

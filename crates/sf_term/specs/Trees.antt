@@ -1,9 +1,11 @@
 -- Networks as trees.
-use Rattle.std.specs.Prelude.{ℕ, suc, ◌+◌, max, List}
+use Rattle.std.specs.Prelude.{ℕ, suc, ◌+◌, max, ℤ, List}
 use Rattle.sf_value.specs.Values.{Name, Kind}
 use Rattle.sf_expr.specs.Expressions.{Expression, Function, depth as expression_depth, size as expression_size, function_depth, function_size}
 use Rattle.sf_term.specs.declared.form.Bare.{Bare}
 use Rattle.sf_term.specs.declared.form.WithValue.{WithValue}
+use Rattle.sf_term.specs.declared.form.Accumulation.{Accumulation}
+use Rattle.sf_term.specs.declared.form.Timing.{Timing}
 use Rattle.sf_term.specs.declared.form.Join.{Join}
 use Rattle.sf_term.specs.declared.form.Side.{Side}
 use Rattle.sf_term.specs.declared.form.Heading.{Heading}
@@ -16,11 +18,13 @@ pub data Chain : Type 0 where
   on_both : Chain → Chain → Chain
   fanned : Chain → Chain → Chain
 
--- primitives: without constants, with a value, or with a function; and, in plans alone, with functions made into one
+-- primitives: without constants, with a value, with a time and a value, with a function, or with a value and a function; and, in plans alone, with functions made into one
 pub data Primitive : Type 0 where
   bare : Bare → Primitive
   with_value : WithValue → Expression → Primitive
+  timed : Timing → ℤ → Expression → Primitive
   arrow : Function → Primitive
+  accumulated : Accumulation → Expression → Function → Primitive
   fused : Chain → Primitive
 
 -- a whole pipeline, or the rest of one after some of its stages
@@ -52,7 +56,9 @@ Templates = List Template
 abbrev pub primitive_depth : Primitive → ℕ
 primitive_depth (bare k) = 0
 primitive_depth (with_value k e) = expression_depth e
+primitive_depth (timed k q e) = expression_depth e
 primitive_depth (arrow f) = function_depth f
+primitive_depth (accumulated k e f) = max (expression_depth e) (function_depth f)
 primitive_depth (fused f) = 64
 
 -- how many terms and expressions stand one inside another; the forms of plans are deeper than each text
@@ -75,7 +81,9 @@ terms_in (staged x f g) = suc (terms_in f + terms_in g)
 abbrev pub expressions_in : Term → ℕ
 expressions_in (primitive (bare k)) = 0
 expressions_in (primitive (with_value k e)) = expression_size e
+expressions_in (primitive (timed k q e)) = expression_size e
 expressions_in (primitive (arrow f)) = function_size f
+expressions_in (primitive (accumulated k e f)) = expression_size e + function_size f
 expressions_in (primitive (fused f)) = 0
 expressions_in (joined j f g) = expressions_in f + expressions_in g
 expressions_in (sided d t) = expressions_in t

@@ -30,6 +30,24 @@ pub enum WithValue {
     Hold,
 }
 
+/// A primitive with a value and a function, which makes the next value of the one so far and of what comes.
+#[derive(Clone, Copy, Debug, PartialEq, Eq)]
+pub enum Accumulation {
+    /// `accumBy(e, f)`: at an event, an event of the next value, made of its payload.
+    AccumBy,
+    /// `accumHoldBy(e, f)`: the last value made of a payload, or `e`.
+    AccumHoldBy,
+    /// `sscan(e, f)`: the next value, made of the input.
+    Scan,
+}
+
+/// A primitive with a time and a value.
+#[derive(Clone, Copy, Debug, PartialEq, Eq)]
+pub enum Timing {
+    /// `after q e`: an event of the value once q milliseconds have passed since the first sample.
+    After,
+}
+
 /// Two terms joined.
 #[derive(Clone, Copy, Debug, PartialEq, Eq)]
 pub enum Join {

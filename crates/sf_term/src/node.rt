@@ -1,6 +1,6 @@
 //! Nodes of an arena of terms.
 
-use crate::form::{Bare, Heading, Join, Side, WithValue};
+use crate::form::{Accumulation, Bare, Heading, Join, Side, Timing, WithValue};
 use sf_expr::{ExprId, FunctionId};
 
 /// A term in its program.
@@ -28,6 +28,10 @@ pub enum Primitive {
     WithValue(WithValue, ExprId),
     /// `arr f`: what a function answers to the input.
     Arrow(FunctionId),
+    /// A primitive with a time, in milliseconds, and a value.
+    Timed(Timing, i64, ExprId),
+    /// A primitive with a value and a function.
+    Accumulated(Accumulation, ExprId, FunctionId),
 }
 
 /// A term, whose parts are ids of terms before it.

@@ -87,9 +87,15 @@ impl Program {
     {
         match node {
             Node::Primitive(Primitive::Bare(_)) => 1,
-            Node::Primitive(Primitive::WithValue(_, value)) => 1 + self.expressions.depth(value),
+            Node::Primitive(Primitive::WithValue(_, value) | Primitive::Timed(_, _, value)) => {
+                1 + self.expressions.depth(value)
+            }
             Node::Primitive(Primitive::Arrow(function)) => {
                 1 + self.expressions.function_depth(function)
+            }
+            Node::Primitive(Primitive::Accumulated(_, value, function)) => {
+                let depth = self.expressions.function_depth(function);
+                1 + self.expressions.depth(value).max(depth)
             }
             Node::Joined(_, first, second) => 1 + self.depth(first).max(self.depth(second)),
             Node::Sided(_, part) => 1 + self.depth(part),

@@ -1,5 +1,5 @@
 -- What was read into a program before more is built of it.
-use Rattle.std.proofs.Common.{◌≡◌, ℕ, ◌+◌, ◌<◌, ◌≤◌, inl, inr, nat_le, Bool, List, length, if◌then◌else◌, refl, sym, ◌∙◌, ap, subst, arith}
+use Rattle.std.proofs.Common.{◌≡◌, ℕ, ◌+◌, ◌<◌, ◌≤◌, inl, inr, nat_le, Bool, List, length, if◌then◌else◌, refl, sym, ◌∙◌, ap, subst, arith, ℤ}
 use Rattle.std.proofs.lemmas.Bool.Decides.{leb_tells}
 use Rattle.std.proofs.lemmas.List.{length-map}
 use Rattle.sf_value.specs.Values.{Name, Kind, nodes}
@@ -15,6 +15,8 @@ use Rattle.sf_expr.specs.declared.exprs.ExprNode.{ExprNode}
 use Rattle.sf_expr.specs.declared.exprs.FunctionId.{FunctionId}
 use Rattle.sf_expr.specs.Expressions.{Literal, Pattern, Expression, literal, paired, applied, operation, conditional, mapped, folded, called, depth as expression_depth, size, function, function_depth}
 use Rattle.sf_term.specs.declared.form.WithValue.{WithValue}
+use Rattle.sf_term.specs.declared.form.Timing.{Timing}
+use Rattle.sf_term.specs.declared.form.Accumulation.{Accumulation}
 use Rattle.sf_term.specs.declared.form.Join.{Join}
 use Rattle.sf_term.specs.declared.form.Side.{Side}
 use Rattle.sf_term.specs.declared.form.Heading.{Heading}
@@ -24,7 +26,7 @@ use Rattle.sf_term.specs.declared.refusal.BuildRefusal.{BuildRefusal}
 use Rattle.sf_term.specs.declared.refusal.BuildRefusal.TheVariants as refusals
 use Rattle.sf_term.specs.Names.{HasNames}
 use Rattle.sf_lex.specs.Words.{IsName}
-use Rattle.sf_term.specs.Trees.{Term, primitive, with_value, arrow, joined, sided, headed, term_depth, terms_in, expressions_in}
+use Rattle.sf_term.specs.Trees.{Term, primitive, with_value, timed, arrow, accumulated, joined, sided, headed, term_depth, terms_in, expressions_in}
 use Rattle.sf_term.specs.Arena.{tree, expression_under as expression_in, function_in, term_count, expression_count, KeepsProgram, AddsExpression}
 use Rattle.sf_term.proofs.Kept.{few_program_expressions, keeps_trans}
 use Rattle.sf_refusal.specs.declared.spot.Spot.{Spot}
@@ -37,7 +39,7 @@ use Rattle.sf_grammar.specs.declared.head.Link.{Link}
 use Rattle.sf_grammar.specs.declared.head.Link.TheVariants as links
 use Rattle.sf_refusal.specs.declared.rule.Rule.TheVariants.{TooMany}
 use Rattle.sf_text.specs.declared.stop.Stop.{Stop}
-use Rattle.sf_grammar.specs.Reading.{Read, got, stop, Counts, counts_with, counts_with_expression, parse_symbol, parse_keyword, parse_name, parse_inner_type, parse_pattern, parse_link, linked, parse_linked, parse_prefixed, parse_one_in_brackets, parse_two_in_brackets, parse_conditional, parse_mapping, parse_let, parse_one_and_function, parse_two_and_function, parse_called, parse_expression, expression_read, parse_function, parse_value, parse_arrow, parse_sided, parse_headed, term_read, parse_join, parse_joined, parse_term}
+use Rattle.sf_grammar.specs.Reading.{parse_number, parse_timed, Read, got, stop, Counts, counts_with, counts_with_expression, parse_symbol, parse_keyword, parse_name, parse_inner_type, parse_pattern, parse_link, linked, parse_linked, parse_prefixed, parse_one_in_brackets, parse_two_in_brackets, parse_conditional, parse_mapping, parse_let, parse_one_and_function, parse_two_and_function, parse_called, parse_expression, expression_read, parse_function, parse_value, parse_arrow, parse_accumulated, parse_sided, parse_headed, term_read, parse_join, parse_joined, parse_term}
 use Rattle.sf_text.specs.Answers.{StopsReading, FoundExpression, FoundMapping, FoundFunction, FoundTerm, counts_of, stop_for, stop_for_type, toks}
 use Rattle.sf_grammar.proofs.Takes.{TookType, TookPattern, TookExpression, TookFunction, Took, inner_type_takes, pattern_takes, expression_takes, function_takes, term_takes}
 
@@ -339,6 +341,21 @@ value_ready v {old} {mid} {start} {rest} {e} {k} d tokens small f =
       terms = omega (arith, f.terms);
     }
 
+-- a primitive with a time and a value
+pub timed_ready : (v : Version) {old mid : Program} {start r0 rest : List Tok} {q : ℤ} {e : ExprId} {k : Timing} (d : ℕ) (tokens : List Tok) → d ≤ 63 → parse_number tokens ≡ got q r0
+    → FoundExpression old mid e rest (parse_expression d v (counts_of old) r0)
+    → Ready old mid (primitive (timed k q (expression_in mid e))) start rest (parse_timed d v (counts_of old) k start tokens)
+unfolding parse_timed
+timed_ready v {old} {mid} {start} {r0} {rest} {q} {e} {k} d tokens small time f =
+    let took = expression_taken v old mid e rest r0 d f in
+    record {
+      term = primitive (timed k q f.value);
+      is = rw (time, f.is) refl;
+      same = ap (λ (i : Expression). primitive (timed k q i)) f.tree;
+      shallow = omega (arith, took.shallow);
+      terms = omega (arith, f.terms);
+    }
+
 -- a function as a primitive
 pub arrow_ready : (v : Version) {old mid : Program} {start rest : List Tok} {g : FunctionId} (d : ℕ) (tokens : List Tok) → d ≤ 63 → FoundFunction old mid g rest (parse_function d v (counts_of old) tokens)
     → Ready old mid (primitive (arrow (function_in mid g))) start rest (parse_arrow d v (counts_of old) start tokens)
@@ -351,6 +368,25 @@ arrow_ready v {old} {mid} {start} {rest} {g} d tokens small f =
       same = ap (λ h. primitive (arrow h)) f.meaning;
       shallow = omega (arith, took.shallow);
       terms = omega (arith, f.terms);
+    }
+
+-- a primitive with a value and a function
+pub accumulated_ready : (v : Version) {old one two : Program} {start r0 r1 r2 r3 rest : List Tok} {e : ExprId} {g : FunctionId} {k : Accumulation} (d : ℕ) (tokens : List Tok) → d ≤ 63 → parse_symbol symbols.Open tokens ≡ got tt r0
+    → FoundExpression old one e r1 (parse_expression d v (counts_of old) r0) → parse_symbol symbols.Comma r1 ≡ got tt r2 → FoundFunction one two g r3 (parse_function d v (counts_of one) r2) → parse_symbol symbols.Close r3 ≡ got tt rest
+    → Ready old two (primitive (accumulated k (expression_in two e) (function_in two g))) start rest (parse_accumulated d v (counts_of old) k start tokens)
+unfolding parse_accumulated
+accumulated_ready v {old} {one} {two} {start} {r0} {r1} {r2} {r3} {rest} {e} {g} {k} d tokens small opening f comma h closing =
+    let second : parse_function d v (counts_with_expression (counts_of old) f.value) r2 ≡ got h.function r3 =
+    subst (λ (c : Counts). parse_function d v c r2 ≡ got h.function r3) (behind_expression old one f.value f.terms f.expressions) h.is in
+    let first_same : expression_in two e ≡ f.value = h.kept.trees.values e f.held ∙ f.tree in
+    let took_f = expression_taken v old one e r1 r0 d f in
+    let took_h : TookFunction v d (counts_of one) r2 h.function r3 = function_takes v d (counts_of one) r2 h.function r3 h.is in
+    record {
+      term = primitive (accumulated k f.value h.function);
+      is = rw (opening, f.is, comma, second, closing) refl;
+      same = rw (first_same, h.meaning) refl;
+      shallow = omega (arith, took_f.shallow, took_h.shallow);
+      terms = omega (arith, f.terms, h.terms);
     }
 
 -- a term on one part of a pair

@@ -1,5 +1,5 @@
 -- What was read stays where it stands, and what is built of it stands at its first token.
-use Rattle.std.proofs.Common.{◌≡◌, ℕ, suc, true, false, ◌-◌, ◌≤◌, List, [], ◌∷◌, ◌++◌, length, get_or, take, drop, map, Result, Ok, Err, refl, sym, ◌∙◌, ap, append_assoc, subst, arith}
+use Rattle.std.proofs.Common.{◌≡◌, ℕ, suc, true, false, ◌-◌, ◌≤◌, List, [], ◌∷◌, ◌++◌, length, get_or, take, drop, map, Result, Ok, Err, refl, sym, ◌∙◌, ap, append_assoc, subst, arith, ℤ}
 use Rattle.std.specs.Prelude.{IfOk}
 use mathlib.Core.Path.{ap₂}
 use Rattle.std.proofs.Common.{Bor}
@@ -21,6 +21,8 @@ use Rattle.sf_expr.specs.Patterns.{PlacedPattern}
 use Rattle.sf_expr.specs.Expressions.{Literal, Expression, literal, text_literal, none_literal}
 use Rattle.sf_term.specs.declared.form.Bare.{Bare}
 use Rattle.sf_term.specs.declared.form.WithValue.{WithValue}
+use Rattle.sf_term.specs.declared.form.Timing.{Timing}
+use Rattle.sf_term.specs.declared.form.Accumulation.{Accumulation}
 use Rattle.sf_term.specs.declared.form.Join.{Join}
 use Rattle.sf_term.specs.declared.form.Side.{Side}
 use Rattle.sf_term.specs.declared.form.Heading.{Heading}
@@ -45,7 +47,7 @@ use Rattle.sf_grammar.proofs.Takes.{TookLink, link_at_takes, TookType, inner_typ
 use Rattle.sf_lex.specs.declared.token.PlacedToken.{PlacedToken}
 use Rattle.sf_grammar.specs.declared.head.Link.{Link}
 use Rattle.sf_grammar.specs.declared.head.Link.TheVariants as links
-use Rattle.sf_grammar.specs.Placing.{around, PatternPlaced, PatternStands, ExpressionStands, ExpressionPlaced, unit_placed, truth_placed, number_placed, constant_placed, variable_placed, pair_placed, prefixed_placed, one_in_brackets_placed, operation_placed, two_in_brackets_placed, conditional_placed, let_placed, one_and_function_placed, two_and_function_placed, called_placed, FunctionPlaced, function_placed, TermStands, TermPlaced, bare_placed, with_value_placed, arrow_placed, joined_placed, sided_placed, headed_placed, TemplatePlaced, TemplatesPlaced, none_placed, template_placed, NetworkPlaced, IsPlacedIn}
+use Rattle.sf_grammar.specs.Placing.{around, PatternPlaced, PatternStands, ExpressionStands, ExpressionPlaced, unit_placed, truth_placed, number_placed, constant_placed, variable_placed, pair_placed, prefixed_placed, one_in_brackets_placed, operation_placed, two_in_brackets_placed, conditional_placed, let_placed, one_and_function_placed, two_and_function_placed, called_placed, FunctionPlaced, function_placed, TermStands, TermPlaced, bare_placed, with_value_placed, timed_placed, arrow_placed, accumulated_placed, joined_placed, sided_placed, headed_placed, TemplatePlaced, TemplatesPlaced, none_placed, template_placed, NetworkPlaced, IsPlacedIn}
 use Rattle.sf_text.specs.Progress.{IsSpelled}
 use Rattle.sf_text.proofs.Whole.{toks_same}
 use Rattle.sf_text.specs.Consuming.{places, BehindOne, BehindSome, NamePlaced, HeadingPlaced, OpeningPlaced, Parted, Consumes, ConsumesBehind, PlacesTemplate, linked_node}
@@ -93,7 +95,10 @@ function_keeps v old new k f xs (function_placed {f = g} {xs = front} {ys = behi
 pub term_keeps : (v : Version) (old new : Program) → KeepsTrees old new → (id : TermId) (xs : List Spot) → TermPlaced v old id xs → TermPlaced v new id xs
 term_keeps v old new k id xs (bare_placed s) = bare_placed (term_stays old new k _ _ _ s)
 term_keeps v old new k id xs (with_value_placed s value) = with_value_placed (term_stays old new k _ _ _ s) (expression_keeps v old new k _ _ value)
+term_keeps v old new k id xs (timed_placed time s value) = timed_placed time (term_stays old new k _ _ _ s) (expression_keeps v old new k _ _ value)
 term_keeps v old new k id xs (arrow_placed s function) = arrow_placed (term_stays old new k _ _ _ s) (function_keeps v old new k _ _ function)
+term_keeps v old new k id xs (accumulated_placed opening comma closing s value function) =
+    accumulated_placed opening comma closing (term_stays old new k _ _ _ s) (expression_keeps v old new k _ _ value) (function_keeps v old new k _ _ function)
 term_keeps v old new k id xs (joined_placed between closing s one two) =
     joined_placed between closing (term_stays old new k _ _ _ s) (term_keeps v old new k _ _ one) (term_keeps v old new k _ _ two)
 term_keeps v old new k id xs (sided_placed s part) = sided_placed (term_stays old new k _ _ _ s) (term_keeps v old new k _ _ part)
@@ -306,6 +311,11 @@ pub with_value_read : {v : Version} {mid new : Program} {id : TermId} {k : WithV
 with_value_read {v} {mid} {new} {id} {k} {e} {t} {spot} added value =
     behind_first value (λ xs p. with_value_placed (term_stands mid new id _ t spot added) (expression_keeps v mid new added.kept.trees e xs p))
 
+pub timed_read : {v : Version} {mid new : Program} {id : TermId} {k : Timing} {q : ℤ} {e : ExprId} {t : Term} {spot : Spot} {r r0 rest : List Spot} → AddsTerm mid new id (nodes.Primitive (primitives.Timed k q e)) t spot
+    → BehindOne r r0 → Consumes (ExpressionPlaced v mid e) r0 rest → Consumes (TermPlaced v new id) (spot ∷ r) rest
+timed_read {v} {mid} {new} {id} {k} {q} {e} {t} {spot} added time value =
+    behind_opening time (behind_first value (λ xs p. timed_placed time.at (term_stands mid new id _ t spot added) (expression_keeps v mid new added.kept.trees e xs p)))
+
 pub arrow_read : {v : Version} {mid new : Program} {id : TermId} {f : FunctionId} {t : Term} {spot : Spot} {r0 rest : List Spot} → AddsTerm mid new id (nodes.Primitive (primitives.Arrow f)) t spot
     → Consumes (FunctionPlaced v mid f) r0 rest → Consumes (TermPlaced v new id) (spot ∷ r0) rest
 arrow_read {v} {mid} {new} {id} {f} {t} {spot} added function =
@@ -315,6 +325,13 @@ pub sided_read : {v : Version} {mid new : Program} {id a : TermId} {s : Side} {t
     → Consumes (TermPlaced v mid a) r0 rest → Consumes (TermPlaced v new id) (spot ∷ r0) rest
 sided_read {v} {mid} {new} {id} {a} {s} {t} {spot} added part =
     behind_first part (λ xs p. sided_placed (term_stands mid new id _ t spot added) (term_keeps v mid new added.kept.trees a xs p))
+
+-- an expression and a function in brackets
+pub accumulated_read : {v : Version} {one two new : Program} {id : TermId} {k : Accumulation} {e : ExprId} {f : FunctionId} {t : Term} {spot : Spot} {r r0 r1 r2 r3 rest : List Spot} → KeepsTrees one two → AddsTerm two new id (nodes.Primitive (primitives.Accumulated k e f)) t spot
+    → BehindOne r r0 → Consumes (ExpressionPlaced v one e) r0 r1 → BehindOne r1 r2 → Consumes (FunctionPlaced v two f) r2 r3 → BehindOne r3 rest → Consumes (TermPlaced v new id) (spot ∷ r) rest
+accumulated_read {v} {one} {two} {new} {id} {k} {e} {f} {t} {spot} {r} {r0} {r1} {r2} {r3} {rest} K added opening value between function closing =
+    behind_opening opening (in_brackets_read value between function closing (λ comma closing xs ys p q.
+    accumulated_placed opening.at comma closing (term_stands two new id _ t spot added) (expression_keeps v two new added.kept.trees e xs (expression_keeps v one two K e xs p)) (function_keeps v two new added.kept.trees f ys q)))
 
 -- an expression and a term in brackets
 pub headed_read : {v : Version} {one two new : Program} {id a : TermId} {h : Heading} {e : ExprId} {t : Term} {spot : Spot} {r r0 r1 r2 r3 rest : List Spot} → KeepsTrees one two → AddsTerm two new id (nodes.Headed h e a) t spot

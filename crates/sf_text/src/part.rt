@@ -2,7 +2,7 @@
 ghost use Rattle.std.specs.Prelude.{◌≡◌, ℕ, List, length, IfOk};
 ghost use Rattle.sf_text.specs.Answers.{toks, StopsReading, ReadsAs, ReadsRest, named_bytes, kinds_in};
 ghost use Rattle.sf_text.specs.Consuming.{places, BehindOne, BehindSome, NamePlaced, HeadingPlaced, OpeningPlaced};
-ghost use Rattle.sf_grammar.specs.Reading.{Read, stop, parse_symbol, parse_keyword, parse_name, parse_version, parse_opening, parse_heading, parse_signature};
+ghost use Rattle.sf_grammar.specs.Reading.{Read, stop, parse_symbol, parse_keyword, parse_name, parse_number, parse_version, parse_opening, parse_heading, parse_signature};
 
 use crate::stop::Stop;
 use crate::ty::ty;
@@ -73,6 +73,21 @@ pub(crate) fn name<'a>(
         if let Token::Name(name) = &first.token {
             let spot = first.spot;
             return Ok((Named { name: *name, spot }, rest));
+        }
+    }
+    Err(stop_at(Rule::Unexpected, tokens))
+}
+
+/// A number, and the tokens behind it.
+pub(crate) fn number<'a>(
+    tokens: &'a [PlacedToken<'a>],
+) -> Result<(i64, &'a [PlacedToken<'a>]), Stop>
+    ensures reads { ReadsAs (λ z. z) result (parse_number (toks tokens.now)) }
+    ensures behind { IfOk result (λ x. BehindOne (places tokens.now) (places x.1.now)) }
+{
+    if let [first, rest @ ..] = tokens {
+        if let Token::Number(number) = &first.token {
+            return Ok((*number, rest));
         }
     }
     Err(stop_at(Rule::Unexpected, tokens))

@@ -5,15 +5,17 @@ ghost use Rattle.sf_term.specs.Trees.{Term, primitive as primitive_form, bare as
 ghost use Rattle.sf_text.specs.Answers.{toks, StopsReading, ReadsAs, ReadsTerm, counts_of};
 ghost use Rattle.sf_grammar.specs.Placing.{TermPlaced};
 ghost use Rattle.sf_text.specs.Consuming.{places, BehindOne, Consumes};
-ghost use Rattle.sf_grammar.specs.Reading.{begins_term, too_deep, term_read, parse_value, parse_arrow, parse_sided, parse_headed, parse_join, parse_joined, parse_form, parse_worded, parse_term};
+ghost use Rattle.sf_grammar.specs.Reading.{begins_term, too_deep, term_read, parse_value, parse_timed, parse_arrow, parse_accumulated, parse_sided, parse_headed, parse_join, parse_joined, parse_form, parse_worded, parse_term};
 
 use crate::expression::{expression, function, refused};
-use crate::part::{stop_at, symbol};
+use crate::part::{number, stop_at, symbol};
 use crate::stop::Stop;
 use sf_grammar::{Head, Version, head_of, join_of};
 use sf_lex::{PlacedToken, Symbol, Token};
 use sf_refusal::{Rule, Spot};
-use sf_term::{Bare, Heading, Join, Node, Primitive, Program, Side, TermId, WithValue};
+use sf_term::{
+    Accumulation, Bare, Heading, Join, Node, Primitive, Program, Side, TermId, Timing, WithValue,
+};
 use std::alloc::Global;
 
 fn begins_term(token: &Token) -> bool
@@ -77,6 +79,30 @@ fn with_value<'a>(
     }
 }
 
+/// A primitive with a time and a value, whose word is the first of these tokens, and the tokens behind it.
+#[tactic(auto, unfolding(sf_grammar::specs::Reading::parse_timed))]
+fn timed<'a>(
+    alloc: Global,
+    version: Version,
+    tokens: &'a [PlacedToken<'a>],
+    rest: &'a [PlacedToken<'a>],
+    program: &mut Program,
+    kind: Timing,
+    spot: Spot,
+    left: u32,
+) -> Result<(TermId, &'a [PlacedToken<'a>]), Stop>
+    requires shallow { left ≤ 63 }
+    ensures reads { ReadsTerm program.old program.new result (parse_timed left version (counts_of program.old) kind (toks tokens.now) (toks rest.now)) }
+    ensures placed { IfOk result (λ x. Consumes (TermPlaced version program.new x.0) (spot ∷ places rest.now) (places x.1.now)) }
+{
+    let (time, rest) = number(rest)?;
+    let (value, rest) = expression(alloc, version, rest, program, left)?;
+    match program.add(Node::Primitive(Primitive::Timed(kind, time, value)), spot) {
+        Ok(id) => Ok((id, rest)),
+        Err(refusal) => Err(refused(refusal, tokens)),
+    }
+}
+
 /// A function as a primitive, whose word is the first of these tokens, and the tokens behind it.
 #[tactic(auto, unfolding(sf_grammar::specs::Reading::parse_arrow))]
 fn arrow<'a>(
@@ -94,6 +120,36 @@ fn arrow<'a>(
 {
     let (function, rest) = function(alloc, version, rest, program, left)?;
     match program.add(Node::Primitive(Primitive::Arrow(function)), spot) {
+        Ok(id) => Ok((id, rest)),
+        Err(refusal) => Err(refused(refusal, tokens)),
+    }
+}
+
+/// A primitive with a value and a function, whose word is the first of these tokens, and the tokens behind it.
+#[tactic(auto, unfolding(sf_grammar::specs::Reading::parse_accumulated))]
+fn accumulated<'a>(
+    alloc: Global,
+    version: Version,
+    tokens: &'a [PlacedToken<'a>],
+    rest: &'a [PlacedToken<'a>],
+    program: &mut Program,
+    kind: Accumulation,
+    spot: Spot,
+    left: u32,
+) -> Result<(TermId, &'a [PlacedToken<'a>]), Stop>
+    requires shallow { left ≤ 63 }
+    ensures reads { ReadsTerm program.old program.new result (parse_accumulated left version (counts_of program.old) kind (toks tokens.now) (toks rest.now)) }
+    ensures placed { IfOk result (λ x. Consumes (TermPlaced version program.new x.0) (spot ∷ places rest.now) (places x.1.now)) }
+{
+    let rest = symbol(rest, Symbol::Open)?;
+    let (value, rest) = expression(alloc, version, rest, program, left)?;
+    let rest = symbol(rest, Symbol::Comma)?;
+    let (function, rest) = function(alloc, version, rest, program, left)?;
+    let rest = symbol(rest, Symbol::Close)?;
+    match program.add(
+        Node::Primitive(Primitive::Accumulated(kind, value, function)),
+        spot,
+    ) {
         Ok(id) => Ok((id, rest)),
         Err(refusal) => Err(refused(refusal, tokens)),
     }
@@ -181,7 +237,11 @@ fn worded<'a>(
         Head::WithValue(kind) => with_value(
             alloc, version, tokens, rest, program, kind, spot, left,
         ),
+        Head::Timed(kind) => timed(alloc, version, tokens, rest, program, kind, spot, left),
         Head::Arrow => arrow(alloc, version, tokens, rest, program, spot, left),
+        Head::Accumulated(kind) => accumulated(
+            alloc, version, tokens, rest, program, kind, spot, left,
+        ),
         Head::Sided(side) => sided(alloc, version, tokens, rest, program, side, spot, left),
         Head::Headed(heading) => headed(alloc, version, tokens, rest, program, heading, spot, left),
     }

@@ -42,6 +42,16 @@ impl Value {
         })
     }
 
+    /// A text that is shared. It takes no memory.
+    pub fn of_text(shared: Rc<String>) -> Value
+        ensures { result ≡ text (string_bytes shared.value) }
+    {
+        let _utf8 = shared.as_str();
+        Value {
+            form: Form::Text(shared),
+        }
+    }
+
     /// A pair of two values.
     pub fn pair(alloc: Global, first: Value, second: Value) -> Result<Value, AllocError>
         ensures { IfOk result (λ v. v ≡ pair first second) }

@@ -1,4 +1,7 @@
-use Rattle.sf_law.specs.Copies.{copies_bare, copies_with_value, copies_arrow}
+use Rattle.std.proofs.Common.{w64}
+use Rattle.std.proofs.lemmas.Int.{to_z-of_z}
+use Rattle.sf_law.specs.Copies.{copies_bare, copies_with_value, copies_arrow, copies_accumulated}
+use Rattle.sf_law.proofs.Copied.{timed_copied}
 use Rattle.sf_law.proofs.plain_plan.plan_primitive.Goals as goal
 
 pub returns-in-Bare-clause-same : goal.returns-in-Bare-clause-same
@@ -9,3 +12,9 @@ returns-in_ok-code-in-WithValue-clause-same c = rw c.in-WithValue.is copies_with
 
 pub returns-in_ok-new-in-Arrow-clause-same : goal.returns-in_ok-new-in-Arrow-clause-same
 returns-in_ok-new-in-Arrow-clause-same c = rw c.in-Arrow.is copies_arrow
+
+pub returns-in_ok-shared-in-Accumulated-clause-same : goal.returns-in_ok-shared-in-Accumulated-clause-same
+returns-in_ok-shared-in-Accumulated-clause-same c = rw c.in-Accumulated.is copies_accumulated
+
+pub returns-in_ok-code-in-Timed-clause-same : goal.returns-in_ok-code-in-Timed-clause-same
+returns-in_ok-code-in-Timed-clause-same c = rw c.in-Timed.is (timed_copied (to_z-of_z w64 c.in-Timed.time search))

@@ -1,4 +1,4 @@
-use Rattle.sf_prim.proofs.Primitives.{identity_goes_on, constant_goes_on, previous_goes_on, arrow_goes_on, clock_goes_on, area_goes_on, edge_goes_on, not_yet_goes_on, count_goes_on, now_goes_on, hold_goes_on}
+use Rattle.sf_prim.proofs.Primitives.{identity_goes_on, constant_goes_on, previous_goes_on, arrow_goes_on, accumulated_goes_on, clock_goes_on, area_goes_on, timer_goes_on, edge_goes_on, not_yet_goes_on, count_goes_on, now_goes_on, hold_goes_on}
 use Rattle.sf_prim.proofs.prim_state.PrimState.step.Goals as goal
 
 pub returns-in-Identity : goal.returns-in-Identity
@@ -19,6 +19,9 @@ returns-in-Clock g c = λ q scope L same k. clock_goes_on q scope _ _ L _ _ _ _ 
 pub returns-in-Area : goal.returns-in-Area
 returns-in-Area g c = λ q scope L same k. area_goes_on q scope _ _ L _ _ _ _ c.integrate.ensures.told c.integrate.ensures.kept (rw c.in-Area.is at k)
 
+pub returns-in-Timed : goal.returns-in-Timed
+returns-in-Timed g c = λ q scope L same k. timer_goes_on q scope _ _ L _ _ _ _ c.run_down.ensures.told c.run_down.ensures.due c.run_down.ensures.begun c.run_down.ensures.left (rw c.in-Timed.is at k)
+
 pub returns-in-Edge : goal.returns-in-Edge
 returns-in-Edge g c = λ q scope L same k. edge_goes_on q scope _ _ L _ _ _ _ c.rise.ensures.told c.rise.ensures.kept (rw c.in-Edge.is at k)
 
@@ -33,3 +36,6 @@ returns-in-Hold g c = λ q scope L same k. hold_goes_on q scope _ _ L _ _ _ _ c.
 
 pub returns-in-NotYet : goal.returns-in-NotYet
 returns-in-NotYet g c = λ q scope L same k. not_yet_goes_on q scope _ _ L _ _ _ c.pass_later.ensures.told c.pass_later.ensures.kept (rw c.in-NotYet.is at k)
+
+pub returns-in-Accumulated : goal.returns-in-Accumulated
+returns-in-Accumulated g c = rw c.in-Accumulated.is (accumulated_goes_on (g.R.Holds.answers c.args.functions.now) _ _ _ _ _ _ c.accumulate.ensures.goes_on c.accumulate.ensures.shows c.accumulate.ensures.same)

@@ -1,0 +1,97 @@
+//! Samples of primitives with a value and a function.
+ghost use Rattle.std.specs.Prelude.{◌≡◌, Option, is_some, IfOk, OnOk};
+ghost use Rattle.std.specs.Option.{option_map};
+ghost use Rattle.sf_value.specs.Values.{Data};
+ghost use Rattle.sf_operator.specs.Answers.{Evaluates};
+ghost use Rattle.sf_expr.specs.Expressions.{Function};
+ghost use Rattle.sf_expr.specs.Evaluation.{no_names};
+ghost use Rattle.sf_code.specs.Worth.{IsCodeOfFunction};
+ghost use Rattle.sf_mean.specs.Formulas.{coming as what_comes, next_value, displayed as what_is_shown};
+ghost use Rattle.sf_prim.specs.Gifts.{gift};
+
+use crate::events::occurs;
+use sf_code::{Code, apply};
+use sf_func::Holds;
+use sf_operator::EvalFault;
+use sf_term::Accumulation;
+use sf_value::Value;
+use std::alloc::{AllocError, Global};
+use std::rc::Rc;
+
+/// An accumulation that has lived through some samples.
+#[derive(Drop)]
+pub struct Accumulator {
+    /// What it goes on with, and what it gives.
+    pub form: Accumulation,
+    /// The code of its function, which it shares with its plan.
+    pub code: Rc<Code>,
+    /// The value so far.
+    pub value: Value,
+}
+
+impl Accumulator {
+    /// A copy, which shares the code; the error is a want of memory, or too many owners of the code.
+    pub(crate) fn clone_in(&self, alloc: Global) -> Result<Accumulator, AllocError>
+        ensures form { IfOk result (λ copy. copy.form ≡ self.now.form) }
+        ensures code { IfOk result (λ copy. copy.code.value ≡ self.now.code.value) }
+        ensures value { IfOk result (λ copy. copy.value ≡ self.now.value) }
+    {
+        let value = self.value.clone_in(alloc)?;
+        let code = self.code.clone()?;
+        Ok(Accumulator {
+            form: self.form,
+            code,
+            value,
+        })
+    }
+}
+
+/// What an accumulation goes on with: the payload of an event that occurs, which is shared, or each input.
+fn coming(alloc: Global, form: Accumulation, value: &Value) -> Result<Option<Rc<Value>>, AllocError>
+    ensures { IfOk result (λ o. option_map (λ x. x.value) o ≡ what_comes form value.now) }
+{
+    match form {
+        Accumulation::AccumBy | Accumulation::AccumHoldBy => match occurs(value) {
+            Some(payload) => Ok(Some(payload.clone()?)),
+            None => Ok(None),
+        },
+        Accumulation::Scan => Ok(Some(Rc::new(alloc, value.clone_in(alloc)?)?)),
+    }
+}
+
+/// What an accumulation gives of its value, by whether something came.
+fn shown(alloc: Global, form: Accumulation, comes: bool, value: &Value) -> Result<Value, AllocError>
+    ensures { (o : Option Data) → is_some o ≡ comes → IfOk result (λ v. v ≡ what_is_shown form o value.now) }
+{
+    match form {
+        Accumulation::AccumBy if comes => Value::event(alloc, value.clone_in(alloc)?),
+        Accumulation::AccumBy => Ok(Value::no_event()),
+        Accumulation::AccumHoldBy | Accumulation::Scan => value.clone_in(alloc),
+    }
+}
+
+/// The next sample of an accumulation: what it gives in place of the input. The error is the fault of its function, or
+/// `Memory`.
+#[inline(never)]
+pub(crate) fn accumulate<R: Holds>(
+    alloc: Global,
+    accumulator: &mut Accumulator,
+    functions: &R,
+    value: &mut Value,
+) -> Result<(), EvalFault>
+    ensures goes_on { (f : Function) → IsCodeOfFunction f accumulator.old.code.value →
+        Evaluates (gift result accumulator.new.value) (next_value f (no_names (R.answers functions.now)) accumulator.old.value (what_comes accumulator.old.form value.old)) }
+    ensures shows { OnOk result (value.new ≡ what_is_shown accumulator.old.form (what_comes accumulator.old.form value.old) accumulator.new.value) }
+    ensures same { OnOk result ((accumulator.new.form ≡ accumulator.old.form) × (accumulator.new.code.value ≡ accumulator.old.code.value)) }
+{
+    let form = accumulator.form;
+    let came = coming(alloc, form, value)?;
+    let comes = came.is_some();
+    if let Some(argument) = came {
+        let before = Rc::new(alloc, accumulator.value.clone_in(alloc)?)?;
+        let both = Value::of_halves(before, argument);
+        accumulator.value = apply(alloc, &accumulator.code, &both, functions)?;
+    }
+    *value = shown(alloc, form, comes, &accumulator.value)?;
+    Ok(())
+}
