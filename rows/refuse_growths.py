@@ -1,5 +1,5 @@
-"""Plays four networks, a delay of numbers, a loop over pairs, one of texts, events and tables with functions inside and one that
-calls stored functions, on three lines with each growth of memory refused in turn.
+"""Plays five networks, a delay of numbers, a loop over pairs, one of texts, events and tables with functions inside, one that calls
+stored functions and one that switches, on three lines with each growth of memory refused in turn.
 
     python3 rows/refuse_growths.py --exe PATH
 
@@ -28,6 +28,8 @@ RUNS = [
     ("(Int, Event Int) ~> (Int, Int) = loopPre(call abs(-3), arr ((x, e), most) =>"
      " let high = call max((most, call abs(fromEvent(e, x)))) in ((high, call sign(x)), high))",
      ["(1,none)", "(2,event -7)", "(-5,none)"], ["(3,1)", "(7,1)", "(7,-1)"]),
+    ('Int ~> (Int, Int) = dSwitch(((identity &&& constant 0) &&& arr x => if (x > 1) then event (x, "") else none (Int, Text)),'
+     ' (start, _) => (iPre start &&& arr x => (x - start)))', ["1", "2", "3"], ["(1,0)", "(2,0)", "(2,1)"]),
 ]
 TIMES = [0, 16, 32]
 

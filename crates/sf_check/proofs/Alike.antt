@@ -1,11 +1,11 @@
 -- Where the functions that are called have the same types elsewhere, what was accepted is accepted there.
-use Rattle.std.proofs.Common.{◌≡◌, ℕ, zero, suc, ◌+◌, ◌<◌, ◌≤◌, Option, Some, None, slice_get, inl, inr, refl, sym, ap, ◌∙◌, subst, arith}
+use Rattle.std.proofs.Common.{◌≡◌, ℕ, zero, suc, ◌+◌, ◌<◌, ◌≤◌, [], ◌∷◌, Option, Some, None, slice_get, inl, inr, refl, sym, ap, ◌∙◌, subst, arith}
 use Rattle.std.specs.Prelude.{pos}
 use Rattle.std.specs.Option.{option_map}
 use Rattle.std.proofs.lemmas.Bool.{cases_lt}
 use Rattle.std.proofs.lemmas.List.{get_or_past}
 use Rattle.std.proofs.lemmas.Option.{slice_get-map, same_Some, none-some}
-use Rattle.sf_value.specs.Values.{Kind}
+use Rattle.sf_value.specs.Values.{Name, Kind}
 use Rattle.sf_func.specs.Registries.{TypesByName, types_named}
 use Rattle.sf_expr.specs.declared.exprs.ExprId.{ExprId}
 use Rattle.sf_expr.specs.declared.exprs.ExprNode.{ExprNode}
@@ -16,7 +16,7 @@ use Rattle.sf_arena.specs.Arenas.{entries_of}
 use Rattle.sf_expr.specs.Entries.{zero_entry}
 use Rattle.sf_expr.specs.Arena.{id_number, count_of, node_at, entry_of, expression, body_at, PartsBelow, Builds, builds_unit, builds_truth, builds_constant, builds_int, builds_name, builds_pair, builds_applied, builds_operation, builds_conditional, builds_mapped, builds_folded, builds_called}
 use Rattle.sf_expr.specs.Expressions.{Pattern, Expression, variable, literal, paired, applied, operation, conditional, mapped, folded, called, Function, function}
-use Rattle.sf_expr.specs.Typing.{Names, functions_of, with_types, call_kind, AddsNames, adds_nothing, adds_name, adds_both, HasType, variable_has, literal_has, pair_has, applied_has, operation_has, conditional_has, mapped_has, folded_has, called_has, FunctionTakes, function_takes}
+use Rattle.sf_expr.specs.Typing.{Names, functions_of, with_types, call_kind, AddsNames, adds_nothing, adds_name, adds_both, Binds, HasType, variable_has, literal_has, pair_has, applied_has, operation_has, conditional_has, mapped_has, folded_has, called_has, FunctionTakes, function_takes}
 use Rattle.sf_expr.proofs.Bound.{type_with, functions_with, binds_with}
 use Rattle.sf_expr.proofs.Entered.{node_builds, parts_below}
 use Rattle.sf_term.proofs.Kept.{parts_below as term_parts_below}
@@ -27,10 +27,10 @@ use Rattle.sf_term.specs.declared.node.Node.{Node}
 use Rattle.sf_term.specs.declared.node.Node.TheVariants as terms
 use Rattle.sf_term.specs.declared.program.Program.{Program}
 use Rattle.sf_term.specs.Headers.{Header}
-use Rattle.sf_term.specs.Trees.{Primitive, bare, with_value, timed, arrow, accumulated, fused, Term, primitive, joined, sided, headed, staged, Template, Templates}
+use Rattle.sf_term.specs.Trees.{Primitive, bare, never, with_value, timed, arrow, accumulated, fused, Term, primitive, joined, sided, headed, switching, staged, Template, Templates}
 use Rattle.sf_term.specs.Arena.{term_number, tree, term_node_at, term_entry_of, expressions_of, headers_of, template_in, templates_of, TermPartsBelow}
-use Rattle.sf_mean.specs.Contexts.{context_of}
-use Rattle.sf_mean.specs.Typing.{PrimitiveTakes, bare_takes, value_takes, timed_takes, accumulated_takes, arrow_takes, fused_takes, Takes, takes, FormTakes, primitive_takes, sequence_takes, parallel_takes, fan_takes, first_takes, second_takes, loop_takes, stages_take, Accepted}
+use Rattle.sf_mean.specs.Contexts.{NameKind, value, Bindings, context_with, bindings_inside, with_value_of, values_in}
+use Rattle.sf_mean.specs.Typing.{PrimitiveTakes, bare_takes, never_takes, value_takes, timed_takes, accumulated_takes, arrow_takes, fused_takes, Takes, takes, FormTakes, primitive_takes, sequence_takes, parallel_takes, fan_takes, first_takes, second_takes, loop_takes, switch_takes, stages_take, Accepted}
 use Rattle.sf_check.specs.Answering.{primitive_in}
 use Rattle.sf_check.specs.Calling.{IsCalledAlike, AreCalledAlike}
 use Rattle.sf_check.proofs.Made.{made, tree_made}
@@ -57,6 +57,7 @@ module _ (fs gs : TypesByName) where
   -- programs have no functions made into one, and no pipelines
   abbrev pub PrimitiveAlike : Primitive → Type 0
   PrimitiveAlike (bare k) = Unit {0}
+  PrimitiveAlike (never t) = Unit {0}
   PrimitiveAlike (with_value k e) = Alike e
   PrimitiveAlike (arrow f) = FunctionAlike f
   PrimitiveAlike (timed k q e) = Alike e
@@ -68,6 +69,7 @@ module _ (fs gs : TypesByName) where
   TermAlike (joined j f g) = TermAlike f × TermAlike g
   TermAlike (sided d t) = TermAlike t
   TermAlike (headed h e t) = Alike e × TermAlike t
+  TermAlike (switching w t p u) = TermAlike t × TermAlike u
   TermAlike (staged x f g) = ⊥
 
   adds_functions : {p : Pattern} {t : Kind} {R S : Names} → AddsNames p t R S → functions_of S ≡ functions_of R
@@ -92,28 +94,57 @@ module _ (fs gs : TypesByName) where
   function_over : {R : Names} {f : Function} {a b : Kind} → functions_of R ≡ fs → FunctionAlike f → FunctionTakes R f a b → FunctionTakes (with_types gs R) f a b
   function_over q k (function_takes fits B h) = function_takes fits (binds_with gs B) (typed_over (adds_functions B.adds ∙ q) k h)
 
+  -- names that are bound have the same types with the other functions
+  functions_beside : (x : Name) (k : NameKind) (R : Names) → functions_of (with_value_of x k R) ≡ functions_of R
+  functions_beside x (value t) R = refl
+
+  functions_around : (bs : Bindings) → functions_of (values_in fs bs) ≡ fs
+  functions_around [] = refl
+  functions_around (b ∷ bs) = functions_beside b.0 b.1 (values_in fs bs) ∙ functions_around bs
+
+  types_beside : (x : Name) (k : NameKind) (R : Names) → with_types gs (with_value_of x k R) ≡ with_value_of x k (with_types gs R)
+  types_beside x (value t) R = refl
+
+  types_around : (bs : Bindings) → with_types gs (values_in fs bs) ≡ values_in gs bs
+  types_around [] = refl
+  types_around (b ∷ bs) = types_beside b.0 b.1 (values_in fs bs) ∙ ap (with_value_of b.0 b.1) (types_around bs)
+
+  module _ (bs : Bindings) where
+    typed_around : {e : Expression} {t : Kind} → Alike e → HasType (values_in fs bs) e t → HasType (values_in gs bs) e t
+    typed_around {e} {t} k h = subst (λ R. HasType R e t) (types_around bs) (typed_over (functions_around bs) k h)
+
+    function_around : {f : Function} {a b : Kind} → FunctionAlike f → FunctionTakes (values_in fs bs) f a b → FunctionTakes (values_in gs bs) f a b
+    function_around {f} {a} {b} k h = subst (λ R. FunctionTakes R f a b) (types_around bs) (function_over (functions_around bs) k h)
+
+    bound_around : {p : Pattern} {t : Kind} → Binds p t (values_in fs bs) (values_in fs (bindings_inside p t bs)) → Binds p t (values_in gs bs) (values_in gs (bindings_inside p t bs))
+    bound_around {p} {t} h =
+        let S = values_in gs (bindings_inside p t bs) in
+        subst (λ R. Binds p t R S) (types_around bs) (subst (Binds p t (with_types gs (values_in fs bs))) (types_around (bindings_inside p t bs)) (binds_with gs h))
+
   module _ (ts : Templates) where
-    primitive_over : {p : Primitive} {a b : Kind} → PrimitiveAlike p → PrimitiveTakes (context_of fs ts) p a b → PrimitiveTakes (context_of gs ts) p a b
-    primitive_over k (bare_takes h f) = bare_takes h f
-    primitive_over k (value_takes v h f) = value_takes (typed_over refl k v) h f
-    primitive_over k (timed_takes v w h f) = timed_takes (typed_over refl k v) w h f
-    primitive_over k (accumulated_takes v h q e f) = accumulated_takes (typed_over refl k.0 v) h (function_over refl k.1 q) e f
-    primitive_over k (arrow_takes h) = arrow_takes (function_over refl k h)
-    primitive_over k (fused_takes h f) = absurd k
+    primitive_over : (bs : Bindings) {p : Primitive} {a b : Kind} → PrimitiveAlike p → PrimitiveTakes (context_with fs bs ts) p a b → PrimitiveTakes (context_with gs bs ts) p a b
+    primitive_over bs k (bare_takes h f) = bare_takes h f
+    primitive_over bs k (never_takes f) = never_takes f
+    primitive_over bs k (value_takes v h f) = value_takes (typed_around bs k v) h f
+    primitive_over bs k (timed_takes v w h f) = timed_takes (typed_around bs k v) w h f
+    primitive_over bs k (accumulated_takes v h q e f) = accumulated_takes (typed_around bs k.0 v) h (function_around bs k.1 q) e f
+    primitive_over bs k (arrow_takes h) = arrow_takes (function_around bs k h)
+    primitive_over bs k (fused_takes h f) = absurd k
 
     mutual
-      pub takes_over : {t : Term} {a b : Kind} → TermAlike t → Takes (context_of fs ts) t a b → Takes (context_of gs ts) t a b
-      takes_over k (takes p q F) = takes p q (form_over k F)
+      pub takes_over : (bs : Bindings) {t : Term} {a b : Kind} → TermAlike t → Takes (context_with fs bs ts) t a b → Takes (context_with gs bs ts) t a b
+      takes_over bs k (takes p q F) = takes p q (form_over bs k F)
 
-      form_over : {t : Term} {a b : Kind} → TermAlike t → FormTakes (context_of fs ts) t a b → FormTakes (context_of gs ts) t a b
-      form_over k (primitive_takes T) = primitive_takes (primitive_over k T)
-      form_over k (sequence_takes f g) = sequence_takes (takes_over k.0 f) (takes_over k.1 g)
-      form_over k (parallel_takes f g) = parallel_takes (takes_over k.0 f) (takes_over k.1 g)
-      form_over k (fan_takes f g) = fan_takes (takes_over k.0 f) (takes_over k.1 g)
-      form_over k (first_takes t) = first_takes (takes_over k t)
-      form_over k (second_takes t) = second_takes (takes_over k t)
-      form_over k (loop_takes e t) = loop_takes (typed_over refl k.0 e) (takes_over k.1 t)
-      form_over k (stages_take f g) = absurd k
+      form_over : (bs : Bindings) {t : Term} {a b : Kind} → TermAlike t → FormTakes (context_with fs bs ts) t a b → FormTakes (context_with gs bs ts) t a b
+      form_over bs k (primitive_takes T) = primitive_takes (primitive_over bs k T)
+      form_over bs k (sequence_takes f g) = sequence_takes (takes_over bs k.0 f) (takes_over bs k.1 g)
+      form_over bs k (parallel_takes f g) = parallel_takes (takes_over bs k.0 f) (takes_over bs k.1 g)
+      form_over bs k (fan_takes f g) = fan_takes (takes_over bs k.0 f) (takes_over bs k.1 g)
+      form_over bs k (first_takes t) = first_takes (takes_over bs k t)
+      form_over bs k (second_takes t) = second_takes (takes_over bs k t)
+      form_over bs k (loop_takes e t) = loop_takes (typed_around bs k.0 e) (takes_over bs k.1 t)
+      form_over bs k (switch_takes {p = p} {c = c} t h u) = switch_takes (takes_over bs k.0 t) (bound_around bs h) (takes_over (bindings_inside p c bs) k.1 u)
+      form_over bs k (stages_take f g) = absurd k
 
   -- ## Arenas of expressions
 
@@ -145,6 +176,7 @@ module _ (fs gs : TypesByName) where
 
     pub node_alike : (q : PrimitiveNode) → PrimitiveAlike (primitive_in x q)
     node_alike (primitives.Bare k) = tt
+    node_alike (primitives.Never n) = tt
     node_alike (primitives.WithValue k e) = expression_alike e
     node_alike (primitives.Arrow f) = expression_alike (body_at x f)
     node_alike (primitives.Timed k q e) = expression_alike e
@@ -158,6 +190,7 @@ module _ (fs gs : TypesByName) where
     made_alike (terms.Joined j f g) k b parts = (parts f b.0, parts g b.1)
     made_alike (terms.Sided d f) k b parts = parts f b
     made_alike (terms.Headed h v f) k b parts = (expression_alike (expressions_of p) all v, parts f b)
+    made_alike (terms.Switching w f q g) k b parts = (parts f b.0, parts g b.1)
 
     term_parts : (t : TermId) → TermPartsBelow (term_node_at p t) (term_number t)
     unfolding term_node_at term_entry_of
@@ -182,7 +215,7 @@ module _ (fs gs : TypesByName) where
     pub accepted_over : Accepted fs (templates_of p) → Accepted gs (templates_of p)
     accepted_over h = record {
       different = h.different;
-      typed = λ i t at. takes_over (templates_of p) (template_alike i t at) (h.typed i t at);
+      typed = λ i t at. takes_over (templates_of p) [] (template_alike i t at) (h.typed i t at);
       has_main = h.has_main;
     }
 

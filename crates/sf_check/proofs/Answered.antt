@@ -1,39 +1,43 @@
 -- A term takes inputs of a type, or breaks a rule on them.
-use Rattle.std.proofs.Common.{ℤ, ◌≡◌, ◌≢◌, ℕ, zero, suc, ◌<◌, Bool, true, false, Option, ◌⊎◌, inl, inr, refl, sym, ap, subst, ◌∙◌, arith}
+use Rattle.std.proofs.Common.{ℤ, ◌≡◌, ◌≢◌, ℕ, zero, suc, ◌<◌, Bool, true, false, Option, ◌⊎◌, inl, inr, refl, sym, ap, subst, ◌∙◌, arith, Some}
+use Rattle.std.proofs.lemmas.Option.{same_Some}
 use Rattle.std.proofs.lemmas.Bool.{cases_lt}
-use Rattle.sf_value.specs.Values.{Kind, pair_kind, nodes as nodes_of}
+use Rattle.sf_value.specs.Values.{Kind, pair_kind, event_kind, nodes as nodes_of}
 use Rattle.sf_refusal.specs.declared.spot.Spot.{Spot}
 use Rattle.sf_refusal.specs.declared.rule.Rule.TheVariants.{TypeTooLarge}
 use Rattle.sf_refusal.specs.declared.refusal.Breach.{Breach}
 use Rattle.sf_refusal.specs.Refusals.{breach_of}
 use Rattle.sf_expr.specs.declared.exprs.ExprId.{ExprId}
 use Rattle.sf_expr.specs.declared.exprs.Exprs.{Exprs}
-use Rattle.sf_expr.specs.Arena.{expression}
-use Rattle.sf_expr.specs.Typing.{Fits, HasType}
+use Rattle.sf_expr.specs.Arena.{expression, literal_at, placed_at}
+use Rattle.sf_expr.specs.Typing.{Fits, Binds, HasType}
 use Rattle.sf_expr.specs.Inference.{NamesFit}
 use Rattle.sf_operator.proofs.Refusing.{kind_answered}
-use Rattle.sf_expr.proofs.Answered.{answered, function_answered}
+use Rattle.sf_expr.proofs.Answered.{bound_or, answered, function_answered}
 use Rattle.sf_expr.specs.declared.exprs.FunctionId.{FunctionId}
+use Rattle.sf_expr.specs.declared.exprs.PatternId.{PatternId}
 use Rattle.sf_term.specs.declared.form.WithValue.{WithValue}
 use Rattle.sf_term.specs.declared.form.Timing.{Timing}
 use Rattle.sf_term.specs.declared.form.Accumulation.{Accumulation}
 use Rattle.sf_term.specs.declared.form.Join.TheVariants.{InSequence, InParallel, FannedOut}
 use Rattle.sf_term.specs.declared.form.Side.TheVariants.{First, Second}
 use Rattle.sf_term.specs.declared.form.Heading.TheVariants.{LoopPre}
+use Rattle.sf_term.specs.declared.form.Switching.{Switching}
 use Rattle.sf_term.specs.declared.node.TermId.{TermId}
 use Rattle.sf_term.specs.declared.node.Primitive.{Primitive}
 use Rattle.sf_term.specs.declared.node.Primitive.TheVariants as primitives
 use Rattle.sf_term.specs.declared.node.Node.{Node}
 use Rattle.sf_term.specs.declared.node.Node.TheVariants as nodes
 use Rattle.sf_term.specs.declared.program.Program.{Program}
+use Rattle.sf_term.specs.Entries.{absent_payload}
 use Rattle.sf_term.specs.Arena.{term_number, tree, term_node_at, term_entry_of, term_spot_at, expressions_of, TermPartsBelow}
 use Rattle.sf_term.proofs.Kept.{parts_below}
-use Rattle.sf_mean.specs.Contexts.{Context, names_of_values}
-use Rattle.sf_mean.specs.Typing.{bare_kind, value_kind, takes_time, timed_kind, accumulated_argument, accumulated_kind, PrimitiveTakes, bare_takes, value_takes, timed_takes, accumulated_takes, arrow_takes, Takes, FormTakes, primitive_takes, sequence_takes, parallel_takes, fan_takes, first_takes, second_takes, loop_takes}
+use Rattle.sf_mean.specs.Contexts.{Context, names_of_values, inside_pattern}
+use Rattle.sf_mean.specs.Typing.{bare_kind, value_kind, takes_time, timed_kind, accumulated_argument, accumulated_kind, PrimitiveTakes, bare_takes, never_takes, value_takes, timed_takes, accumulated_takes, arrow_takes, Takes, FormTakes, primitive_takes, sequence_takes, parallel_takes, fan_takes, first_takes, second_takes, loop_takes, switch_takes}
 use Rattle.sf_operator.specs.Kinds.{same_kind}
 use Rattle.sf_operator.proofs.SameKinds.{same_is, is_same}
-use Rattle.sf_mean.proofs.Inferred.{PartsAre, two_parts, no_parts, parts_are, output_fits}
-use Rattle.sf_check.specs.Breaking.{Exceeds, PrimitiveBreaks, argument_refused, accumulator_refused, made_refused, value_refused, bare_refused, given_refused, timed_value_refused, time_outside, timed_refused, start_value_refused, accumulation_breaks, function_refused, FormBreaks, primitive_breaks, parallel_input, parallel_exceeds, fan_exceeds, side_input, first_exceeds, second_exceeds, start_refused, fed_exceeds, loop_differs, Reaches, sequence_left, sequence_right, parallel_left, parallel_right, fan_left, fan_right, first_part, second_part, loop_part, TermBreaks, itself, within}
+use Rattle.sf_mean.proofs.Inferred.{PartsAre, two_parts, no_parts, parts_are, names_inside, output_fits}
+use Rattle.sf_check.specs.Breaking.{IsNoEventBeside, pattern_in, BindsInside, Exceeds, PrimitiveBreaks, argument_refused, accumulator_refused, made_refused, value_refused, bare_refused, never_refused, given_refused, timed_value_refused, time_outside, timed_refused, start_value_refused, accumulation_breaks, function_refused, FormBreaks, primitive_breaks, parallel_input, parallel_exceeds, fan_exceeds, side_input, first_exceeds, second_exceeds, start_refused, fed_exceeds, loop_differs, source_differs, pattern_refused, body_differs, Reaches, sequence_left, sequence_right, parallel_left, parallel_right, fan_left, fan_right, first_part, second_part, loop_part, switch_source, switch_body, TermBreaks, itself, within}
 use Rattle.sf_check.specs.Answering.{primitive_in}
 use Rattle.sf_check.proofs.Made.{made}
 use Rattle.sf_check.proofs.Terms.{form_ok}
@@ -45,6 +49,18 @@ kinds_or t u = each (same_kind t u) refl
     each : (b : Bool) → same_kind t u ≡ b → (t ≡ u) ⊎ (t ≢ u)
     each true h = inl (same_is t u h)
     each false h = inr (λ e. let k = sym h ∙ ap (same_kind t) (sym e) ∙ is_same t in cc)
+
+-- a type is of pairs of a value and an event, or none of them
+beside_or : (d : Kind) → ((b : Kind) × (c : Kind) × (d ≡ pair_kind b (event_kind c))) ⊎ IsNoEventBeside d
+beside_or d = each (parts_are d)
+  where
+    second : (b u : Kind) → ((v : Kind) × (c : Kind) × (pair_kind b u ≡ pair_kind v (event_kind c))) ⊎ IsNoEventBeside (pair_kind b u)
+    second b (event_kind c) = inl (b, c, refl)
+    second b u = inr (λ v c e. cc)
+
+    each : {d : Kind} {parts : Option (Kind × Kind)} → PartsAre d parts → ((b : Kind) × (c : Kind) × (d ≡ pair_kind b (event_kind c))) ⊎ IsNoEventBeside d
+    each (no_parts n) = inr (λ b c. n b (event_kind c))
+    each (two_parts {t = b} {u = u}) = second b u
 
 -- ## Primitives
 
@@ -72,6 +88,7 @@ accumulation_answered x Γ k v f a s fit t h = elim (kind_answered (accumulated_
 
 primitive_answered : (x : Exprs) (Γ : Context) (q : Primitive) (a : Kind) (s : Spot) → NamesFit (names_of_values Γ) → Fits a → PrimitiveAnswered x Γ q a s
 primitive_answered x Γ (primitives.Bare k) a s fit f = elim (kind_answered (bare_kind k a) s) [ inl t ↦ inl (t.0, bare_takes t.1 t.2) | inr r ↦ inr (r.0, bare_refused r.1) ]
+primitive_answered x Γ (primitives.Never n) a s fit f = elim (kind_answered (Some (event_kind (absent_payload (literal_at x n)))) s) [ inl t ↦ inl (_, never_takes (subst Fits (sym (same_Some _ _ t.1)) t.2)) | inr r ↦ inr (r.0, never_refused r.1) ]
 primitive_answered x Γ (primitives.WithValue k v) a s fit f = elim (answered x (names_of_values Γ) fit v) [ inl t ↦ value_answered x Γ k v a s t.0 t.1 | inr r ↦ inr (_, value_refused r.1) ]
 primitive_answered x Γ (primitives.Timed k q v) a s fit f = elim (answered x (names_of_values Γ) fit v) [ inl t ↦ timed_answered x Γ k q v a s t.0 t.1 (takes_time k q) refl | inr r ↦ inr (_, timed_value_refused r.1) ]
 primitive_answered x Γ (primitives.Accumulated k v g) a s fit f = elim (answered x (names_of_values Γ) fit v) [ inl t ↦ accumulation_answered x Γ k v g a s fit t.0 t.1 | inr r ↦ inr (_, start_value_refused r.1) ]
@@ -79,44 +96,41 @@ primitive_answered x Γ (primitives.Arrow g) a s fit f = elim (function_answered
 
 -- ## Terms
 
-module _ (p : Program) (Γ : Context) (names : NamesFit (names_of_values Γ)) where
-  -- a term takes inputs of a type, or a rule is broken
-  abbrev pub IsAnswered : TermId → Kind → Type 0
-  IsAnswered t a = ((b : Kind) × Takes Γ (tree p t) a b) ⊎ ((e : Breach) × TermBreaks p Γ t a e)
+-- a term takes inputs of a type, or a rule is broken
+abbrev pub IsAnswered : Program → Context → TermId → Kind → Type 0
+IsAnswered p Γ t a = ((b : Kind) × Takes Γ (tree p t) a b) ⊎ ((e : Breach) × TermBreaks p Γ t a e)
 
+module _ (p : Program) (Γ : Context) (names : NamesFit (names_of_values Γ)) where
   module _ (t : TermId) (n : Node) (a : Kind) (is : term_node_at p t ≡ n) (fits : Fits a) where
-    broken : {e : Breach} → FormBreaks p Γ (term_spot_at p t) n a e → IsAnswered t a
+    broken : {e : Breach} → FormBreaks p Γ (term_spot_at p t) n a e → IsAnswered p Γ t a
     broken {e} h = inr (e, itself (subst (λ m. FormBreaks p Γ (term_spot_at p t) m a e) (sym is) h))
 
-    in_part : {j : TermId} {b : Kind} {e : Breach} → Reaches p Γ n a j b → TermBreaks p Γ j b e → IsAnswered t a
-    in_part {j} {b} {e} r h = inr (e, within (subst (λ m. Reaches p Γ m a j b) (sym is) r) h)
+    in_part : {Δ : Context} {j : TermId} {b : Kind} {e : Breach} → Reaches p Γ n a Δ j b → TermBreaks p Δ j b e → IsAnswered p Γ t a
+    in_part {Δ} {j} {b} {e} r h = inr (e, within (subst (λ m. Reaches p Γ m a Δ j b) (sym is) r) h)
 
-    taken : (b : Kind) → Fits b → FormTakes Γ (made p n) a b → IsAnswered t a
+    taken : (b : Kind) → Fits b → FormTakes Γ (made p n) a b → IsAnswered p Γ t a
     taken b f h = inl (b, form_ok p Γ t n a is b fits f h)
 
-    pair_taken : (b c : Kind) → FormTakes Γ (made p n) a (pair_kind b c) → (Exceeds (pair_kind b c) → FormBreaks p Γ (term_spot_at p t) n a (breach_of TypeTooLarge (term_spot_at p t))) → IsAnswered t a
+    pair_taken : (b c : Kind) → FormTakes Γ (made p n) a (pair_kind b c) → (Exceeds (pair_kind b c) → FormBreaks p Γ (term_spot_at p t) n a (breach_of TypeTooLarge (term_spot_at p t))) → IsAnswered p Γ t a
     pair_taken b c h big = elim (cases_lt 256 (nodes_of (pair_kind b c))) [ inl q ↦ broken (big q) | inr f ↦ taken (pair_kind b c) f h ]
 
-  abbrev Parts : TermId → Type 0
-  Parts t = (j : TermId) → term_number j < term_number t → (b : Kind) → Fits b → IsAnswered j b
-
-  of_primitive : (t : TermId) (q : Primitive) (a : Kind) → term_node_at p t ≡ nodes.Primitive q → Fits a → IsAnswered t a
+  of_primitive : (t : TermId) (q : Primitive) (a : Kind) → term_node_at p t ≡ nodes.Primitive q → Fits a → IsAnswered p Γ t a
   of_primitive t q a is f = elim (primitive_answered (expressions_of p) Γ q a (term_spot_at p t) names f) [
     | inl h ↦ taken t (nodes.Primitive q) a is f h.0 (primitive_fits f h.1) (primitive_takes h.1)
     | inr r ↦ broken t (nodes.Primitive q) a is f (primitive_breaks r.1)
   ]
 
-  of_sequence : (t f g : TermId) (a : Kind) → term_node_at p t ≡ nodes.Joined InSequence f g → Fits a → IsAnswered f a → ((b : Kind) → Fits b → IsAnswered g b) → IsAnswered t a
+  of_sequence : (t f g : TermId) (a : Kind) → term_node_at p t ≡ nodes.Joined InSequence f g → Fits a → IsAnswered p Γ f a → ((b : Kind) → Fits b → IsAnswered p Γ g b) → IsAnswered p Γ t a
   of_sequence t f g a is k (inr r) G = in_part t _ a is k sequence_left r.1
   of_sequence t f g a is k (inl h) G = elim (G h.0 (output_fits h.1)) [
     | inr r ↦ in_part t _ a is k (sequence_right h.1) r.1
     | inl i ↦ taken t _ a is k i.0 (output_fits i.1) (sequence_takes h.1 i.1)
   ]
 
-  of_parallel : (t f g : TermId) (a : Kind) → term_node_at p t ≡ nodes.Joined InParallel f g → Fits a → ((b : Kind) → Fits b → IsAnswered f b) → ((b : Kind) → Fits b → IsAnswered g b) → IsAnswered t a
+  of_parallel : (t f g : TermId) (a : Kind) → term_node_at p t ≡ nodes.Joined InParallel f g → Fits a → ((b : Kind) → Fits b → IsAnswered p Γ f b) → ((b : Kind) → Fits b → IsAnswered p Γ g b) → IsAnswered p Γ t a
   of_parallel t f g a is k F G = each (parts_are a) k
     where
-      each : {a : Kind} {parts : Option (Kind × Kind)} → PartsAre a parts → Fits a → IsAnswered t a
+      each : {a : Kind} {parts : Option (Kind × Kind)} → PartsAre a parts → Fits a → IsAnswered p Γ t a
       each (no_parts n) k = broken t _ _ is k (parallel_input n)
       each (two_parts {t = a} {u = c}) k = elim (F a (omega arith)) [
         | inr r ↦ in_part t _ (pair_kind a c) is k parallel_left r.1
@@ -126,42 +140,42 @@ module _ (p : Program) (Γ : Context) (names : NamesFit (names_of_values Γ)) wh
         ]
       ]
 
-  of_fan : (t f g : TermId) (a : Kind) → term_node_at p t ≡ nodes.Joined FannedOut f g → Fits a → IsAnswered f a → IsAnswered g a → IsAnswered t a
+  of_fan : (t f g : TermId) (a : Kind) → term_node_at p t ≡ nodes.Joined FannedOut f g → Fits a → IsAnswered p Γ f a → IsAnswered p Γ g a → IsAnswered p Γ t a
   of_fan t f g a is k (inr r) G = in_part t _ a is k fan_left r.1
   of_fan t f g a is k (inl h) (inr r) = in_part t _ a is k (fan_right h.1) r.1
   of_fan t f g a is k (inl h) (inl i) = pair_taken t _ a is k h.0 i.0 (fan_takes h.1 i.1) (fan_exceeds h.1 i.1)
 
-  of_first : (t f : TermId) (a : Kind) → term_node_at p t ≡ nodes.Sided First f → Fits a → ((b : Kind) → Fits b → IsAnswered f b) → IsAnswered t a
+  of_first : (t f : TermId) (a : Kind) → term_node_at p t ≡ nodes.Sided First f → Fits a → ((b : Kind) → Fits b → IsAnswered p Γ f b) → IsAnswered p Γ t a
   of_first t f a is k F = each (parts_are a) k
     where
-      each : {a : Kind} {parts : Option (Kind × Kind)} → PartsAre a parts → Fits a → IsAnswered t a
+      each : {a : Kind} {parts : Option (Kind × Kind)} → PartsAre a parts → Fits a → IsAnswered p Γ t a
       each (no_parts n) k = broken t _ _ is k (side_input n)
       each (two_parts {t = a} {u = c}) k = elim (F a (omega arith)) [
         | inr r ↦ in_part t _ (pair_kind a c) is k first_part r.1
         | inl h ↦ pair_taken t _ (pair_kind a c) is k h.0 c (first_takes h.1) (first_exceeds h.1)
       ]
 
-  of_second : (t f : TermId) (a : Kind) → term_node_at p t ≡ nodes.Sided Second f → Fits a → ((b : Kind) → Fits b → IsAnswered f b) → IsAnswered t a
+  of_second : (t f : TermId) (a : Kind) → term_node_at p t ≡ nodes.Sided Second f → Fits a → ((b : Kind) → Fits b → IsAnswered p Γ f b) → IsAnswered p Γ t a
   of_second t f a is k F = each (parts_are a) k
     where
-      each : {a : Kind} {parts : Option (Kind × Kind)} → PartsAre a parts → Fits a → IsAnswered t a
+      each : {a : Kind} {parts : Option (Kind × Kind)} → PartsAre a parts → Fits a → IsAnswered p Γ t a
       each (no_parts n) k = broken t _ _ is k (side_input n)
       each (two_parts {t = c} {u = a}) k = elim (F a (omega arith)) [
         | inr r ↦ in_part t _ (pair_kind c a) is k second_part r.1
         | inl h ↦ pair_taken t _ (pair_kind c a) is k c h.0 (second_takes h.1) (second_exceeds h.1)
       ]
 
-  looped : (t : TermId) (v : ExprId) (f : TermId) (a c d : Kind) → term_node_at p t ≡ nodes.Headed LoopPre v f → Fits a → HasType (names_of_values Γ) (expression (expressions_of p) v) c → Takes Γ (tree p f) (pair_kind a c) d → IsAnswered t a
+  looped : (t : TermId) (v : ExprId) (f : TermId) (a c d : Kind) → term_node_at p t ≡ nodes.Headed LoopPre v f → Fits a → HasType (names_of_values Γ) (expression (expressions_of p) v) c → Takes Γ (tree p f) (pair_kind a c) d → IsAnswered p Γ t a
   looped t v f a c d is k E T = each (parts_are d) T
     where
-      each : {d : Kind} {parts : Option (Kind × Kind)} → PartsAre d parts → Takes Γ (tree p f) (pair_kind a c) d → IsAnswered t a
+      each : {d : Kind} {parts : Option (Kind × Kind)} → PartsAre d parts → Takes Γ (tree p f) (pair_kind a c) d → IsAnswered p Γ t a
       each (no_parts n) T = broken t _ a is k (loop_differs E T (λ x. n x c))
       each (two_parts {t = b} {u = w}) T = elim (kinds_or w c) [
         | inl e ↦ let fit = output_fits T in taken t _ a is k b (omega arith) (loop_takes E (subst (λ w. Takes Γ (tree p f) (pair_kind a c) (pair_kind b w)) e T))
         | inr other ↦ broken t _ a is k (loop_differs E T (λ x e. other cc))
       ]
 
-  of_loop : (t : TermId) (v : ExprId) (f : TermId) (a : Kind) → term_node_at p t ≡ nodes.Headed LoopPre v f → Fits a → ((b : Kind) → Fits b → IsAnswered f b) → IsAnswered t a
+  of_loop : (t : TermId) (v : ExprId) (f : TermId) (a : Kind) → term_node_at p t ≡ nodes.Headed LoopPre v f → Fits a → ((b : Kind) → Fits b → IsAnswered p Γ f b) → IsAnswered p Γ t a
   of_loop t v f a is k F = elim (answered (expressions_of p) (names_of_values Γ) names v) [
     | inr r ↦ broken t _ a is k (start_refused r.1)
     | inl c ↦ elim (cases_lt 256 (nodes_of (pair_kind a c.0))) [
@@ -173,22 +187,55 @@ module _ (p : Program) (Γ : Context) (names : NamesFit (names_of_values Γ)) wh
     ]
   ]
 
-  node_parts : (t : TermId) → TermPartsBelow (term_node_at p t) (term_number t)
-  unfolding term_node_at term_entry_of
-  node_parts t = parts_below p t
+  module _ (t : TermId) (w : Switching) (f : TermId) (q : PatternId) (g : TermId) (a : Kind) (is : term_node_at p t ≡ nodes.Switching w f q g) (k : Fits a) where
+    -- what is bound inside the pattern for a type, and the answer for the body there
+    abbrev Body : Kind → Type 0
+    Body c = NamesFit (names_of_values (inside_pattern (pattern_in p q) c Γ)) → IsAnswered p (inside_pattern (pattern_in p q) c Γ) g a
 
-  answered_within : (fuel : ℕ) (t : TermId) → term_number t < fuel → (a : Kind) → Fits a → IsAnswered t a
-  answered_within zero t h a f = absurd (omega arith)
-  answered_within (suc fuel) t h a f = by_node (term_node_at p t) refl (node_parts t) (λ j k. answered_within fuel j (omega arith))
-    where
-      by_node : (n : Node) → term_node_at p t ≡ n → TermPartsBelow n (term_number t) → Parts t → IsAnswered t a
-      by_node (nodes.Primitive q) is b parts = of_primitive t q a is f
-      by_node (nodes.Joined InSequence l r) is b parts = of_sequence t l r a is f (parts l b.0 a f) (parts r b.1)
-      by_node (nodes.Joined InParallel l r) is b parts = of_parallel t l r a is f (parts l b.0) (parts r b.1)
-      by_node (nodes.Joined FannedOut l r) is b parts = of_fan t l r a is f (parts l b.0 a f) (parts r b.1 a f)
-      by_node (nodes.Sided First j) is b parts = of_first t j a is f (parts j b)
-      by_node (nodes.Sided Second j) is b parts = of_second t j a is f (parts j b)
-      by_node (nodes.Headed LoopPre v j) is b parts = of_loop t v j a is f (parts j b)
+    of_body : (b c : Kind) → Takes Γ (tree p f) a (pair_kind b (event_kind c)) → BindsInside (pattern_in p q) c Γ → IsAnswered p (inside_pattern (pattern_in p q) c Γ) g a → IsAnswered p Γ t a
+    of_body b c F binds (inr r) = in_part t _ a is k (switch_body F binds) r.1
+    of_body b c F binds (inl d) = elim (kinds_or d.0 b) [
+      | inr other ↦ broken t _ a is k (body_differs F binds d.1 other)
+      | inl e ↦
+          let G = subst (Takes (inside_pattern (pattern_in p q) c Γ) (tree p g) a) e d.1 in
+          taken t _ a is k b (output_fits G) (switch_takes F binds G)
+    ]
 
-  pub term_answered : (t : TermId) (a : Kind) → Fits a → IsAnswered t a
-  term_answered t a f = answered_within (suc (term_number t)) t (omega arith) a f
+    of_event : (b c : Kind) → Takes Γ (tree p f) a (pair_kind b (event_kind c)) → Body c → IsAnswered p Γ t a
+    of_event b c F G =
+        let fits = output_fits F in
+        elim (bound_or (names_of_values Γ) (placed_at (expressions_of p) q) c (term_spot_at p t) names (omega (arith, fits))) [
+          | inr r ↦ broken t _ a is k (pattern_refused F r.1)
+          | inl n ↦
+              let inner = names_inside Γ.functions Γ.bindings n.1.adds refl in
+              of_body b c F (subst (Binds (pattern_in p q) c (names_of_values Γ)) inner n.1) (G (subst (λ R. NamesFit R) inner n.2))
+        ]
+
+    of_switch : IsAnswered p Γ f a → ((c : Kind) → Body c) → IsAnswered p Γ t a
+    of_switch (inr r) G = in_part t _ a is k switch_source r.1
+    of_switch (inl d) G = elim (beside_or d.0) [
+      | inr none ↦ broken t _ a is k (source_differs d.1 none)
+      | inl e ↦ of_event e.0 e.1 (subst (Takes Γ (tree p f) a) e.2 d.1) (G e.1)
+    ]
+
+node_parts : (p : Program) (t : TermId) → TermPartsBelow (term_node_at p t) (term_number t)
+unfolding term_node_at term_entry_of
+node_parts p t = parts_below p t
+
+answered_within : (p : Program) (fuel : ℕ) (Γ : Context) → NamesFit (names_of_values Γ) → (t : TermId) → term_number t < fuel → (a : Kind) → Fits a → IsAnswered p Γ t a
+answered_within p zero Γ names t h a f = absurd (omega arith)
+answered_within p (suc fuel) Γ names t h a f = by_node (term_node_at p t) refl (node_parts p t) (λ Δ fit j k. answered_within p fuel Δ fit j (omega arith))
+  where
+    by_node : (n : Node) → term_node_at p t ≡ n → TermPartsBelow n (term_number t)
+        → ((Δ : Context) → NamesFit (names_of_values Δ) → (j : TermId) → term_number j < term_number t → (b : Kind) → Fits b → IsAnswered p Δ j b) → IsAnswered p Γ t a
+    by_node (nodes.Primitive q) is b parts = of_primitive p Γ names t q a is f
+    by_node (nodes.Joined InSequence l r) is b parts = of_sequence p Γ names t l r a is f (parts Γ names l b.0 a f) (parts Γ names r b.1)
+    by_node (nodes.Joined InParallel l r) is b parts = of_parallel p Γ names t l r a is f (parts Γ names l b.0) (parts Γ names r b.1)
+    by_node (nodes.Joined FannedOut l r) is b parts = of_fan p Γ names t l r a is f (parts Γ names l b.0 a f) (parts Γ names r b.1 a f)
+    by_node (nodes.Sided First j) is b parts = of_first p Γ names t j a is f (parts Γ names j b)
+    by_node (nodes.Sided Second j) is b parts = of_second p Γ names t j a is f (parts Γ names j b)
+    by_node (nodes.Headed LoopPre v j) is b parts = of_loop p Γ names t v j a is f (parts Γ names j b)
+    by_node (nodes.Switching w l q r) is b parts = of_switch p Γ names t w l q r a is f (parts Γ names l b.0 a f) (λ c fit. parts (inside_pattern (pattern_in p q) c Γ) fit r b.1 a f)
+
+pub term_answered : (p : Program) (Γ : Context) → NamesFit (names_of_values Γ) → (t : TermId) (a : Kind) → Fits a → IsAnswered p Γ t a
+term_answered p Γ names t a f = answered_within p (suc (term_number t)) Γ names t (omega arith) a f

@@ -5,8 +5,10 @@ use mathlib.Core.Path.{ap₂}
 use Rattle.sf_value.specs.Values.{Kind, pair_kind, nodes as nodes_of}
 use Rattle.sf_func.specs.Registries.{TypesByName}
 use Rattle.sf_expr.specs.declared.exprs.FunctionId.{FunctionId}
-use Rattle.sf_expr.specs.Expressions.{Function}
+use Rattle.sf_expr.specs.Expressions.{Pattern, Function}
+use Rattle.sf_expr.specs.Patterns.{PlacedPattern, pattern_of}
 use Rattle.sf_expr.specs.Arena.{function_at}
+use Rattle.sf_expr.specs.Refusals.{PatternRefused}
 use Rattle.sf_expr.specs.Inference.{function_output}
 use Rattle.sf_expr.specs.Typing.{Names, Fits, FunctionTakes}
 use Rattle.sf_expr.proofs.Inferred.{takes_output}
@@ -15,20 +17,21 @@ use Rattle.sf_refusal.specs.declared.spot.Spot.{Spot}
 use Rattle.sf_refusal.specs.declared.refusal.Breach.{Breach}
 use Rattle.sf_refusal.specs.Refusals.{broken}
 use Rattle.sf_operator.proofs.Refusing.{kind_refused}
-use Rattle.sf_expr.proofs.Judged.{refused_untyped, refused_takes_none}
+use Rattle.sf_expr.proofs.Judged.{pattern_unbound, refused_untyped, refused_takes_none}
 use Rattle.sf_term.specs.declared.node.TermId.{TermId}
 use Rattle.sf_term.specs.declared.node.Primitive.{Primitive}
 use Rattle.sf_term.specs.declared.node.Node.{Node}
 use Rattle.sf_term.specs.declared.program.Program.{Program}
 use Rattle.sf_term.specs.Headers.{Header}
+use Rattle.sf_term.specs.Trees.{Term}
 use Rattle.sf_term.specs.Arena.{tree, term_node_at, template_in, templates_of}
 use Rattle.sf_term.specs.declared.form.Accumulation.{Accumulation}
-use Rattle.sf_mean.specs.Contexts.{Context, names_of_values}
-use Rattle.sf_mean.specs.Typing.{value_kind, timed_kind, accumulated_argument, accumulated_kind, PrimitiveTakes, bare_takes, value_takes, timed_takes, accumulated_takes, arrow_takes, Takes, FormTakes, primitive_takes, sequence_takes, parallel_takes, fan_takes, first_takes, second_takes, loop_takes, IsTyped}
+use Rattle.sf_mean.specs.Contexts.{Context, names_of_values, inside_pattern}
+use Rattle.sf_mean.specs.Typing.{value_kind, timed_kind, accumulated_argument, accumulated_kind, PrimitiveTakes, bare_takes, never_takes, value_takes, timed_takes, accumulated_takes, arrow_takes, Takes, FormTakes, primitive_takes, sequence_takes, parallel_takes, fan_takes, first_takes, second_takes, loop_takes, switch_takes, IsTyped}
 use Rattle.sf_check.specs.Answering.{primitive_in}
-use Rattle.sf_check.specs.Breaking.{Exceeds, PrimitiveBreaks, AccumulationBreaks, argument_refused, accumulator_refused, made_refused, value_refused, bare_refused, given_refused, timed_value_refused, time_outside, timed_refused, start_value_refused, accumulation_breaks, function_refused, FormBreaks, primitive_breaks, parallel_input, parallel_exceeds, fan_exceeds, side_input, first_exceeds, second_exceeds, start_refused, fed_exceeds, loop_differs, Reaches, sequence_left, sequence_right, parallel_left, parallel_right, fan_left, fan_right, first_part, second_part, loop_part, TermBreaks, itself, within, TemplateBreaks, breaks_within, breaks_header}
+use Rattle.sf_check.specs.Breaking.{pattern_in, BindsInside, Exceeds, PrimitiveBreaks, AccumulationBreaks, argument_refused, accumulator_refused, made_refused, value_refused, bare_refused, never_refused, given_refused, timed_value_refused, time_outside, timed_refused, start_value_refused, accumulation_breaks, function_refused, FormBreaks, primitive_breaks, parallel_input, parallel_exceeds, fan_exceeds, side_input, first_exceeds, second_exceeds, start_refused, fed_exceeds, loop_differs, source_differs, pattern_refused, body_differs, Reaches, sequence_left, sequence_right, parallel_left, parallel_right, fan_left, fan_right, first_part, second_part, loop_part, switch_source, switch_body, TermBreaks, itself, within, TemplateBreaks, breaks_within, breaks_header}
 use Rattle.sf_check.proofs.Made.{made, tree_made}
-use Rattle.sf_check.proofs.Types.{argument_fits, expression_one, takes_one, input_fits, output_fits, form_of}
+use Rattle.sf_check.proofs.Types.{argument_fits, expression_one, takes_one, beside_one, input_fits, output_fits, form_of}
 
 pub too_large : {t u : Kind} → Exceeds t → Fits u → t ≡ u → ⊥
 too_large big fits e = let n = ap nodes_of e in omega (arith, big, fits, n)
@@ -45,6 +48,7 @@ accumulation_untyped {s = s} {k = k} {t = t} (made_refused h' F' q) h F g fits =
 
 primitive_untyped : {x : Exprs} {Γ : Context} {s : Spot} {q : Primitive} {a b : Kind} {e : Breach} → PrimitiveBreaks x Γ s q a e → PrimitiveTakes Γ (primitive_in x q) a b → ⊥
 primitive_untyped (value_refused q) (value_takes h e f) = refused_untyped q h
+primitive_untyped (never_refused q) (never_takes f) = omega (arith, q.1, f)
 primitive_untyped {s = s} (bare_refused q) (bare_takes e f) = kind_refused _ s _ q e f
 primitive_untyped {s = s} (given_refused {k = k} {a = a} h q) (value_takes l e f) = kind_refused _ s _ q (ap (λ t. value_kind k t a) (expression_one h l) ∙ e) f
 primitive_untyped (timed_value_refused q) (timed_takes h w e f) = refused_untyped q h
@@ -57,6 +61,14 @@ primitive_untyped (function_refused q) (arrow_takes h) = refused_takes_none q h
 
 form_made : (p : Program) {Γ : Context} (i : TermId) {a b : Kind} → Takes Γ (tree p i) a b → FormTakes Γ (made p (term_node_at p i)) a b
 form_made p {Γ} i {a} {b} h = subst (λ u. FormTakes Γ u a b) (tree_made p i (term_node_at p i) refl) (form_of h)
+
+-- a pattern that is refused for a type is not bound to the same
+pub pattern_none : (Γ : Context) {q : PlacedPattern} {s : Spot} {c d : Kind} {e : Breach} → PatternRefused q c s e → d ≡ c → BindsInside (pattern_of q) d Γ → ⊥
+pattern_none Γ {q} refused same binds = pattern_unbound refused (subst (λ d. BindsInside (pattern_of q) d Γ) same binds)
+
+-- a term inside a pattern for a type has one type of outputs at most
+inside_one : (Γ : Context) (q : Pattern) {u : Term} {a b c d v : Kind} → c ≡ d → Takes (inside_pattern q c Γ) u a b → Takes (inside_pattern q d Γ) u a v → b ≡ v
+inside_one Γ q {u} {a} {b} same h k = takes_one (subst (λ c. Takes (inside_pattern q c Γ) u a b) same h) k
 
 module _ {p : Program} {Γ : Context} where
   itself_untyped : {s : Spot} {n : Node} {a b : Kind} {e : Breach} → FormBreaks p Γ s n a e → FormTakes Γ (made p n) a b → Fits b → ⊥
@@ -73,8 +85,11 @@ module _ {p : Program} {Γ : Context} where
   itself_untyped (loop_differs {t = t} {a = a} h g none) (loop_takes {b = b} k g') fits =
       let P : Kind → Type 0 = λ c. Takes Γ (tree p t) (pair_kind a c) (pair_kind b c) in
       none b (takes_one g (subst P (expression_one k h) g'))
+  itself_untyped (source_differs f none) (switch_takes f' binds g) fits = none _ _ (takes_one f f')
+  itself_untyped (pattern_refused f q) (switch_takes f' binds g) fits = pattern_none Γ q (beside_one f' f).1 binds
+  itself_untyped (body_differs {q = q} f binds g other) (switch_takes f' binds' g') fits = let same = beside_one f f' in other (inside_one Γ (pattern_in p q) same.1 g g' ∙ sym same.0)
 
-  reached_takes : {n : Node} {j : TermId} {a b c : Kind} → Reaches p Γ n a j b → FormTakes Γ (made p n) a c → (d : Kind) × Takes Γ (tree p j) b d
+  reached_takes : {n : Node} {Δ : Context} {j : TermId} {a b c : Kind} → Reaches p Γ n a Δ j b → FormTakes Γ (made p n) a c → (d : Kind) × Takes Δ (tree p j) b d
   reached_takes sequence_left (sequence_takes f g) = (_, f)
   reached_takes (sequence_right {g = g} f) (sequence_takes {c = c} f' h) =
       let P : Kind → Type 0 = λ b. Takes Γ (tree p g) b c in
@@ -88,10 +103,14 @@ module _ {p : Program} {Γ : Context} where
   reached_takes (loop_part {t = t} {a = a} h fits) (loop_takes {b = b} k g) =
       let P : Kind → Type 0 = λ c. Takes Γ (tree p t) (pair_kind a c) (pair_kind b c) in
       (_, subst P (expression_one k h) g)
+  reached_takes switch_source (switch_takes f binds g) = (_, f)
+  reached_takes (switch_body {u = u} {q = q} {a = a} f binds) (switch_takes {b = b} f' binds' g) =
+      let P : Kind → Type 0 = λ c. Takes (inside_pattern (pattern_in p q) c Γ) (tree p u) a b in
+      (b, subst P (beside_one f' f).1 g)
 
-  pub breaks_untyped : {i : TermId} {a b : Kind} {e : Breach} → TermBreaks p Γ i a e → Takes Γ (tree p i) a b → ⊥
-  breaks_untyped {i} (itself broken) h = itself_untyped broken (form_made p i h) (output_fits h)
-  breaks_untyped {i} (within reached broken) h = breaks_untyped broken (reached_takes reached (form_made p i h)).1
+pub breaks_untyped : {p : Program} {Γ : Context} {i : TermId} {a b : Kind} {e : Breach} → TermBreaks p Γ i a e → Takes Γ (tree p i) a b → ⊥
+breaks_untyped {p} {i = i} (itself broken) h = itself_untyped broken (form_made p i h) (output_fits h)
+breaks_untyped {p} {i = i} (within reached broken) h = breaks_untyped broken (reached_takes reached (form_made p i h)).1
 
 pub template_untyped : {fs : TypesByName} {p : Program} {h : Header} {e : Breach} → TemplateBreaks fs p h e → IsTyped fs (templates_of p) (template_in p h) → ⊥
 template_untyped (breaks_within broken) k = breaks_untyped broken k

@@ -1,15 +1,18 @@
 -- The terms that nodes stand for.
 use Rattle.std.proofs.Common.{◌≡◌, refl, sym, ap, ◌∙◌}
 use mathlib.Core.Path.{ap₂}
-use Rattle.sf_expr.specs.Arena.{expression}
+use Rattle.sf_expr.specs.declared.exprs.PatternId.{PatternId}
+use Rattle.sf_expr.specs.Patterns.{pattern_of}
+use Rattle.sf_expr.specs.Arena.{expression, placed_at}
 use Rattle.sf_term.specs.declared.node.TermId.{TermId}
 use Rattle.sf_term.specs.declared.node.Primitive.TheVariants as primitives
 use Rattle.sf_term.specs.declared.node.Node.{Node}
 use Rattle.sf_term.specs.declared.node.Node.TheVariants as nodes
 use Rattle.sf_term.specs.declared.program.Program.{Program}
-use Rattle.sf_term.specs.Trees.{Term, primitive, joined, sided, headed, with_value, timed, arrow, accumulated}
-use Rattle.sf_term.specs.Arena.{tree, term_node_at, expressions_of, term_of}
+use Rattle.sf_term.specs.Trees.{Term, primitive, joined, sided, headed, switching, with_value, timed, arrow, accumulated}
+use Rattle.sf_term.specs.Arena.{tree, term_node_at, expressions_of, pattern_under, term_of}
 use Rattle.sf_term.proofs.Kept.{node_builds, expression_in, function_at_in}
+use Rattle.sf_check.specs.Breaking.{pattern_in}
 use Rattle.sf_check.specs.Answering.{primitive_in}
 
 -- the term that a node makes of its parts
@@ -18,12 +21,18 @@ made p (nodes.Primitive q) = primitive (primitive_in (expressions_of p) q)
 made p (nodes.Joined j f g) = joined j (tree p f) (tree p g)
 made p (nodes.Sided d f) = sided d (tree p f)
 made p (nodes.Headed h v f) = headed h (expression (expressions_of p) v) (tree p f)
+made p (nodes.Switching w f q g) = switching w (tree p f) (pattern_in p q) (tree p g)
+
+placed_in : (p : Program) (q : PatternId) → placed_at (expressions_of p) q ≡ pattern_under p q
+unfolding expressions_of pattern_under
+placed_in p q = refl
 
 pub tree_made : (p : Program) (t : TermId) (n : Node) → term_node_at p t ≡ n → tree p t ≡ made p n
 tree_made p t n e = node_builds p t n e ∙ by n
   where
     by : (n : Node) → term_of p n ≡ made p n
     by (nodes.Primitive (primitives.Bare k)) = refl
+    by (nodes.Primitive (primitives.Never n)) = refl
     by (nodes.Primitive (primitives.WithValue k v)) = ap (λ e. primitive (with_value k e)) (sym (expression_in p v))
     by (nodes.Primitive (primitives.Arrow f)) = ap (λ f. primitive (arrow f)) (sym (function_at_in p f))
     by (nodes.Primitive (primitives.Timed k q v)) = ap (λ e. primitive (timed k q e)) (sym (expression_in p v))
@@ -31,3 +40,4 @@ tree_made p t n e = node_builds p t n e ∙ by n
     by (nodes.Joined j f g) = refl
     by (nodes.Sided d f) = refl
     by (nodes.Headed h v f) = ap (λ e. headed h e (tree p f)) (sym (expression_in p v))
+    by (nodes.Switching w f q g) = ap (λ r. switching w (tree p f) (pattern_of r) (tree p g)) (sym (placed_in p q))

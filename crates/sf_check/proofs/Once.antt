@@ -11,25 +11,25 @@ use Rattle.sf_refusal.specs.Refusals.{breach_of, broken}
 use Rattle.sf_operator.specs.Breaches.{KindRefused}
 use Rattle.sf_operator.proofs.Refusing.{kind_refused, kind_once}
 use Rattle.sf_expr.specs.declared.exprs.FunctionId.{FunctionId}
-use Rattle.sf_expr.specs.Arena.{function_at}
+use Rattle.sf_expr.specs.Arena.{function_at, placed_at}
 use Rattle.sf_expr.specs.Typing.{Names, FunctionTakes}
-use Rattle.sf_expr.specs.Refusals.{FunctionRefused}
+use Rattle.sf_expr.specs.Refusals.{PatternRefused, FunctionRefused}
 use Rattle.sf_expr.proofs.Judged.{refused_untyped, refused_takes_none}
-use Rattle.sf_expr.proofs.Once.{refused_once, function_refused_once}
+use Rattle.sf_expr.proofs.Once.{pattern_once, refused_once, function_refused_once}
 use Rattle.sf_term.specs.declared.node.TermId.{TermId}
 use Rattle.sf_term.specs.declared.node.Primitive.{Primitive}
 use Rattle.sf_term.specs.declared.node.Node.{Node}
 use Rattle.sf_term.specs.declared.program.Program.{Program}
 use Rattle.sf_term.specs.Headers.{Header}
-use Rattle.sf_term.specs.Arena.{tree, headers_of, spots_of, template_in}
+use Rattle.sf_term.specs.Arena.{tree, expressions_of, headers_of, spots_of, template_in}
 use Rattle.sf_term.specs.declared.form.Accumulation.{Accumulation}
-use Rattle.sf_mean.specs.Contexts.{Context, names_of_values}
+use Rattle.sf_mean.specs.Contexts.{Context, names_of_values, inside_pattern}
 use Rattle.sf_mean.specs.Typing.{value_kind, timed_kind, accumulated_kind, Takes}
 use Rattle.sf_check.specs.Names.{IsFirstRepeat}
-use Rattle.sf_check.specs.Breaking.{PrimitiveBreaks, AccumulationBreaks, argument_refused, accumulator_refused, made_refused, value_refused, bare_refused, given_refused, timed_value_refused, time_outside, timed_refused, start_value_refused, accumulation_breaks, function_refused, FormBreaks, primitive_breaks, parallel_input, parallel_exceeds, fan_exceeds, side_input, first_exceeds, second_exceeds, start_refused, fed_exceeds, loop_differs, Reaches, sequence_left, sequence_right, parallel_left, parallel_right, fan_left, fan_right, first_part, second_part, loop_part, TermBreaks, itself, within, TemplateBreaks, breaks_within, breaks_header, IsFirstBreak}
+use Rattle.sf_check.specs.Breaking.{pattern_in, PrimitiveBreaks, AccumulationBreaks, argument_refused, accumulator_refused, made_refused, value_refused, bare_refused, never_refused, given_refused, timed_value_refused, time_outside, timed_refused, start_value_refused, accumulation_breaks, function_refused, FormBreaks, primitive_breaks, parallel_input, parallel_exceeds, fan_exceeds, side_input, first_exceeds, second_exceeds, start_refused, fed_exceeds, loop_differs, source_differs, pattern_refused, body_differs, Reaches, sequence_left, sequence_right, parallel_left, parallel_right, fan_left, fan_right, first_part, second_part, loop_part, switch_source, switch_body, TermBreaks, itself, within, TemplateBreaks, breaks_within, breaks_header, IsFirstBreak}
 use Rattle.sf_check.specs.Refusing.{RefusesNetwork, name_refused, type_refused, main_missing}
-use Rattle.sf_check.proofs.Types.{argument_fits, expression_one, takes_one, input_fits}
-use Rattle.sf_check.proofs.Broken.{answer_one, too_large, breaks_untyped, template_untyped}
+use Rattle.sf_check.proofs.Types.{argument_fits, expression_one, takes_one, beside_one, input_fits}
+use Rattle.sf_check.proofs.Broken.{answer_one, too_large, pattern_none, breaks_untyped, template_untyped}
 use Rattle.sf_check.proofs.Templates.{template_at}
 
 -- ## One form
@@ -51,6 +51,7 @@ primitive_once (value_refused h) (given_refused k q) = absurd (refused_untyped h
 primitive_once (given_refused k q) (value_refused h) = absurd (refused_untyped h k)
 primitive_once {s = s} {f = f} (given_refused {k = w} {a = a} h q) (given_refused k p) = kind_once _ s q (subst (λ t. KindRefused (value_kind w t a) s f) (expression_one k h) p)
 primitive_once {s = s} (bare_refused h) (bare_refused k) = kind_once _ s h k
+primitive_once (never_refused h) (never_refused k) = h.0 ∙ sym k.0
 primitive_once (timed_value_refused h) (timed_value_refused k) = refused_once h k
 primitive_once (timed_value_refused h) (time_outside k out) = absurd (refused_untyped h k)
 primitive_once (timed_value_refused h) (timed_refused k w q) = absurd (refused_untyped h k)
@@ -91,9 +92,18 @@ module _ {p : Program} {Γ : Context} where
   itself_once (loop_differs k l none) (start_refused h) = absurd (refused_untyped h k)
   itself_once (loop_differs {a = a} k l none) (fed_exceeds h big) = absurd (too_large big (input_fits l) (ap (pair_kind a) (expression_one h k)))
   itself_once (loop_differs h k none) (loop_differs l m more) = refl
+  itself_once (source_differs f none) (source_differs g more) = refl
+  itself_once (source_differs f none) (pattern_refused g q) = absurd (none _ _ (takes_one f g))
+  itself_once (source_differs f none) (body_differs g binds h other) = absurd (none _ _ (takes_one f g))
+  itself_once (pattern_refused g q) (source_differs f none) = absurd (none _ _ (takes_one f g))
+  itself_once {s} {f = e} (pattern_refused {q = q} f h) (pattern_refused g k) = pattern_once h (subst (λ c. PatternRefused (placed_at (expressions_of p) q) c s e) (beside_one g f).1 k)
+  itself_once (pattern_refused f q) (body_differs g binds h other) = absurd (pattern_none Γ q (beside_one g f).1 binds)
+  itself_once (body_differs g binds h other) (source_differs f none) = absurd (none _ _ (takes_one f g))
+  itself_once (body_differs g binds h other) (pattern_refused f q) = absurd (pattern_none Γ q (beside_one g f).1 binds)
+  itself_once (body_differs f binds g other) (body_differs h again k differs) = refl
 
   -- where the form itself breaks a rule, no part that is typed next does
-  itself_parts : {s : Spot} {n : Node} {j : TermId} {a b : Kind} {e f : Breach} → FormBreaks p Γ s n a e → Reaches p Γ n a j b → TermBreaks p Γ j b f → ⊥
+  itself_parts : {s : Spot} {n : Node} {Δ : Context} {j : TermId} {a b : Kind} {e f : Breach} → FormBreaks p Γ s n a e → Reaches p Γ n a Δ j b → TermBreaks p Δ j b f → ⊥
   itself_parts (primitive_breaks h) reached broken = elim reached [ ]
   itself_parts (parallel_input none) parallel_left broken = none _ _ refl
   itself_parts (parallel_input none) (parallel_right h) broken = none _ _ refl
@@ -110,9 +120,17 @@ module _ {p : Program} {Γ : Context} where
   itself_parts (loop_differs {t = t} {a = a} {d = d} h l none) (loop_part k fits) broken =
       let P : Kind → Type 0 = λ c. Takes Γ (tree p t) (pair_kind a c) d in
       breaks_untyped broken (subst P (expression_one h k) l)
+  itself_parts (source_differs f none) switch_source broken = breaks_untyped broken f
+  itself_parts (source_differs f none) (switch_body g binds) broken = none _ _ (takes_one f g)
+  itself_parts (pattern_refused f q) switch_source broken = breaks_untyped broken f
+  itself_parts (pattern_refused f q) (switch_body g binds) broken = pattern_none Γ q (beside_one g f).1 binds
+  itself_parts (body_differs f binds g other) switch_source broken = breaks_untyped broken f
+  itself_parts (body_differs {u = u} {q = q} {a = a} {d = d} f binds g other) (switch_body h again) broken =
+      let P : Kind → Type 0 = λ c. Takes (inside_pattern (pattern_in p q) c Γ) (tree p u) a d in
+      breaks_untyped broken (subst P (beside_one f h).1 g)
 
   -- of the parts, one at most breaks a rule where it is typed next
-  parts_once : {n : Node} {i j : TermId} {a b c : Kind} {e f : Breach} → Reaches p Γ n a i b → Reaches p Γ n a j c → TermBreaks p Γ i b e → ((g : Breach) → TermBreaks p Γ i b g → e ≡ g) → TermBreaks p Γ j c f → e ≡ f
+  parts_once : {n : Node} {Δ Θ : Context} {i j : TermId} {a b c : Kind} {e f : Breach} → Reaches p Γ n a Δ i b → Reaches p Γ n a Θ j c → TermBreaks p Δ i b e → ((g : Breach) → TermBreaks p Δ i b g → e ≡ g) → TermBreaks p Θ j c f → e ≡ f
   parts_once sequence_left sequence_left broken once other = once _ other
   parts_once sequence_left (sequence_right h) broken once other = absurd (breaks_untyped broken h)
   parts_once (sequence_right h) sequence_left broken once other = absurd (breaks_untyped other h)
@@ -132,14 +150,20 @@ module _ {p : Program} {Γ : Context} where
   parts_once {f = f} (loop_part {t = t} {a = a} h fits) (loop_part k more) broken once other =
       let P : Kind → Type 0 = λ c. TermBreaks p Γ t (pair_kind a c) f in
       once f (subst P (expression_one k h) other)
+  parts_once switch_source switch_source broken once other = once _ other
+  parts_once switch_source (switch_body h binds) broken once other = absurd (breaks_untyped broken h)
+  parts_once (switch_body h binds) switch_source broken once other = absurd (breaks_untyped other h)
+  parts_once {f = f} (switch_body {u = u} {q = q} {a = a} h binds) (switch_body k again) broken once other =
+      let P : Kind → Type 0 = λ c. TermBreaks p (inside_pattern (pattern_in p q) c Γ) u a f in
+      once f (subst P (beside_one k h).1 other)
 
-  -- ## Terms, templates, networks
+-- ## Terms, templates, networks
 
-  breaks_once : {i : TermId} {a : Kind} {e f : Breach} → TermBreaks p Γ i a e → TermBreaks p Γ i a f → e ≡ f
-  breaks_once (itself h) (itself k) = itself_once h k
-  breaks_once (itself h) (within reached k) = absurd (itself_parts h reached k)
-  breaks_once (within reached h) (itself k) = absurd (itself_parts k reached h)
-  breaks_once (within reached h) (within more k) = parts_once reached more h (λ g l. breaks_once h l) k
+breaks_once : {p : Program} {Γ : Context} {i : TermId} {a : Kind} {e f : Breach} → TermBreaks p Γ i a e → TermBreaks p Γ i a f → e ≡ f
+breaks_once (itself h) (itself k) = itself_once h k
+breaks_once (itself h) (within reached k) = absurd (itself_parts h reached k)
+breaks_once (within reached h) (itself k) = absurd (itself_parts k reached h)
+breaks_once (within reached h) (within more k) = parts_once reached more h (λ g l. breaks_once h l) k
 
 module _ {p : Program} where
   repeat_once : {s t : Spot} → IsFirstRepeat p s → IsFirstRepeat p t → s ≡ t

@@ -1,11 +1,14 @@
 -- What is answered for terms, by their forms.
 use Rattle.std.proofs.Common.{◌≡◌, ℤ, true, false, Some, None, refl, sym, subst, ap, ◌∙◌, Result, Ok, Err, IfOk, IfErr, arith, IsErrAnd}
+use Rattle.std.proofs.lemmas.Option.{same_Some}
 use Rattle.sf_value.specs.Values.{Kind, pair_kind, event_kind}
 use Rattle.sf_func.specs.Registries.{TypesByName}
+use Rattle.sf_expr.specs.declared.exprs.ConstantId.{ConstantId}
 use Rattle.sf_expr.specs.declared.exprs.ExprId.{ExprId}
 use Rattle.sf_expr.specs.declared.exprs.Exprs.{Exprs}
 use Rattle.sf_expr.specs.declared.exprs.FunctionId.{FunctionId}
-use Rattle.sf_expr.specs.Arena.{expression, function_at}
+use Rattle.sf_expr.specs.declared.exprs.PatternId.{PatternId}
+use Rattle.sf_expr.specs.Arena.{expression, literal_at, placed_at}
 use Rattle.sf_refusal.specs.declared.spot.Spot.{Spot}
 use Rattle.sf_refusal.specs.declared.rule.Rule.TheVariants.{Mismatch, BadConstant, TypeTooLarge}
 use Rattle.sf_refusal.specs.declared.refusal.Breach.{Breach}
@@ -16,8 +19,9 @@ use Rattle.sf_refusal.proofs.Explained.{or_memory, breaks_at}
 use Rattle.sf_operator.specs.Kinds.{same_kind}
 use Rattle.sf_operator.specs.Breaches.{AnswersKind}
 use Rattle.sf_operator.proofs.Answering.{none_only}
-use Rattle.sf_expr.specs.Refusals.{Refused, Judges, JudgesFunction, PairRefused, AnswersPair}
-use Rattle.sf_expr.specs.Typing.{Names, Fits, HasType, FunctionTakes}
+use Rattle.sf_operator.proofs.SameKinds.{same_is, is_same}
+use Rattle.sf_expr.specs.Refusals.{Refused, Judges, JudgesFunction, PatternRefused, PairRefused, AnswersPair}
+use Rattle.sf_expr.specs.Typing.{Names, Fits, HasType}
 use Rattle.sf_term.specs.declared.form.Bare.{Bare}
 use Rattle.sf_term.specs.declared.form.WithValue.{WithValue}
 use Rattle.sf_term.specs.declared.form.Timing.{Timing}
@@ -28,6 +32,7 @@ use Rattle.sf_term.specs.declared.form.Join.TheVariants.{InSequence, InParallel,
 use Rattle.sf_term.specs.declared.form.Side.{Side}
 use Rattle.sf_term.specs.declared.form.Side.TheVariants.{First, Second}
 use Rattle.sf_term.specs.declared.form.Heading.TheVariants.{LoopPre}
+use Rattle.sf_term.specs.declared.form.Switching.{Switching}
 use Rattle.sf_term.specs.declared.node.TermId.{TermId}
 use Rattle.sf_term.specs.declared.node.Node.{Node}
 use Rattle.sf_term.specs.declared.node.Node.TheVariants as nodes
@@ -35,10 +40,12 @@ use Rattle.sf_term.specs.declared.node.Primitive.{Primitive}
 use Rattle.sf_term.specs.declared.node.Primitive.TheVariants as primitives
 use Rattle.sf_term.specs.declared.program.Program.{Program}
 use Rattle.sf_term.specs.Headers.{Header}
+use Rattle.sf_term.specs.Trees.{never}
+use Rattle.sf_term.specs.Entries.{absent_payload}
 use Rattle.sf_term.specs.Arena.{tree, term_node_at, term_spot_at, expressions_of, templates_of}
-use Rattle.sf_mean.specs.Contexts.{Context, names_of_values, context_of}
-use Rattle.sf_mean.specs.Typing.{bare_kind, value_kind, takes_time, timed_kind, accumulated_argument, accumulated_kind, PrimitiveTakes, bare_takes, value_takes, timed_takes, accumulated_takes, arrow_takes, Takes, takes, FormTakes, primitive_takes, sequence_takes, parallel_takes, fan_takes, first_takes, second_takes, loop_takes}
-use Rattle.sf_check.specs.Breaking.{IsNoPairWith, Exceeds, PrimitiveBreaks, argument_refused, accumulator_refused, made_refused, value_refused, bare_refused, given_refused, timed_value_refused, time_outside, timed_refused, start_value_refused, accumulation_breaks, function_refused, FormBreaks, primitive_breaks, parallel_exceeds, fan_exceeds, first_exceeds, second_exceeds, start_refused, fed_exceeds, loop_differs, Reaches, sequence_right, fan_left, parallel_left, parallel_right, first_part, second_part, loop_part, TermBreaks, itself, within, TemplateBreaks, breaks_within, breaks_header}
+use Rattle.sf_mean.specs.Contexts.{Context, names_of_values, context_of, inside_pattern}
+use Rattle.sf_mean.specs.Typing.{bare_kind, value_kind, takes_time, timed_kind, accumulated_argument, accumulated_kind, PrimitiveTakes, bare_takes, never_takes, value_takes, timed_takes, accumulated_takes, arrow_takes, Takes, takes, FormTakes, primitive_takes, sequence_takes, parallel_takes, fan_takes, first_takes, second_takes, loop_takes, switch_takes}
+use Rattle.sf_check.specs.Breaking.{IsNoPairWith, IsNoEventBeside, pattern_in, BindsInside, Exceeds, PrimitiveBreaks, argument_refused, accumulator_refused, made_refused, value_refused, bare_refused, never_refused, given_refused, timed_value_refused, time_outside, timed_refused, start_value_refused, accumulation_breaks, function_refused, FormBreaks, primitive_breaks, parallel_exceeds, fan_exceeds, first_exceeds, second_exceeds, start_refused, fed_exceeds, loop_differs, source_differs, pattern_refused, body_differs, Reaches, sequence_right, fan_left, parallel_left, parallel_right, first_part, second_part, loop_part, switch_source, switch_body, TermBreaks, itself, within, TemplateBreaks, breaks_within, breaks_header}
 use Rattle.sf_check.specs.Answering.{primitive_in, AnswersPrimitive, AnswersTerm}
 use Rattle.sf_check.proofs.Made.{made, tree_made}
 use Rattle.sf_check.proofs.Types.{primitive_fits, output_fits}
@@ -54,8 +61,8 @@ module _ (p : Program) (Γ : Context) (t : TermId) (n : Node) (a : Kind) (is : t
   itself_refused s e at h = or_memory (λ f k. breaks_itself s at k) h
 
   -- a part breaks a rule
-  pub part_refused : (j : TermId) (b : Kind) (e : Refusal) → Reaches p Γ n a j b → OrMemory (TermBreaks p Γ j b) e → OrMemory (TermBreaks p Γ t a) e
-  part_refused j b e reached h = or_memory (λ f k. within (subst (λ m. Reaches p Γ m a j b) (sym is) reached) k) h
+  pub part_refused : {Δ : Context} (j : TermId) (b : Kind) (e : Refusal) → Reaches p Γ n a Δ j b → OrMemory (TermBreaks p Δ j b) e → OrMemory (TermBreaks p Γ t a) e
+  part_refused {Δ} j b e reached h = or_memory (λ f k. within (subst (λ m. Reaches p Γ m a Δ j b) (sym is) reached) k) h
 
   pub form_ok : (b : Kind) → Fits a → Fits b → FormTakes Γ (made p n) a b → Takes Γ (tree p t) a b
   form_ok b f g h = subst (λ u. Takes Γ u a b) (sym (tree_made p t n is)) (takes f g h)
@@ -98,8 +105,11 @@ module _ (p : Program) (Γ : Context) (t : TermId) (a : Kind) (s : Spot) (at : s
 
   -- of a copy of the input
   module _ (z : Kind) (copy : z ≡ a) where
-    pub copy_reached : (f g : TermId) → Reaches p Γ (nodes.Joined FannedOut f g) a f z
-    copy_reached f g = subst (Reaches p Γ (nodes.Joined FannedOut f g) a f) (sym copy) fan_left
+    pub copy_reached : (f g : TermId) → Reaches p Γ (nodes.Joined FannedOut f g) a Γ f z
+    copy_reached f g = subst (Reaches p Γ (nodes.Joined FannedOut f g) a Γ f) (sym copy) fan_left
+
+    pub source_reached : (w : Switching) (f : TermId) (q : PatternId) (g : TermId) → Reaches p Γ (nodes.Switching w f q g) a Γ f z
+    source_reached w f q g = subst (Reaches p Γ (nodes.Switching w f q g) a Γ f) (sym copy) switch_source
 
     pub copy_takes : (f : TermId) (b : Kind) → Takes Γ (tree p f) z b → Takes Γ (tree p f) a b
     copy_takes f b h = subst (λ a. Takes Γ (tree p f) a b) copy h
@@ -109,17 +119,17 @@ module _ (p : Program) (Γ : Context) (t : TermId) (a : Kind) (s : Spot) (at : s
 
   -- inputs are pairs
   module _ (x y : Kind) (parts : a ≡ pair_kind x y) where
-    pub left_reached : (f g : TermId) → Reaches p Γ (nodes.Joined InParallel f g) a f x
-    left_reached f g = subst (λ a. Reaches p Γ (nodes.Joined InParallel f g) a f x) (sym parts) parallel_left
+    pub left_reached : (f g : TermId) → Reaches p Γ (nodes.Joined InParallel f g) a Γ f x
+    left_reached f g = subst (λ a. Reaches p Γ (nodes.Joined InParallel f g) a Γ f x) (sym parts) parallel_left
 
-    pub right_reached : (f g : TermId) (b : Kind) → Takes Γ (tree p f) x b → Reaches p Γ (nodes.Joined InParallel f g) a g y
-    right_reached f g b h = subst (λ a. Reaches p Γ (nodes.Joined InParallel f g) a g y) (sym parts) (parallel_right h)
+    pub right_reached : (f g : TermId) (b : Kind) → Takes Γ (tree p f) x b → Reaches p Γ (nodes.Joined InParallel f g) a Γ g y
+    right_reached f g b h = subst (λ a. Reaches p Γ (nodes.Joined InParallel f g) a Γ g y) (sym parts) (parallel_right h)
 
-    pub first_reached : (f : TermId) → Reaches p Γ (nodes.Sided First f) a f x
-    first_reached f = subst (λ a. Reaches p Γ (nodes.Sided First f) a f x) (sym parts) first_part
+    pub first_reached : (f : TermId) → Reaches p Γ (nodes.Sided First f) a Γ f x
+    first_reached f = subst (λ a. Reaches p Γ (nodes.Sided First f) a Γ f x) (sym parts) first_part
 
-    pub second_reached : (f : TermId) → Reaches p Γ (nodes.Sided Second f) a f y
-    second_reached f = subst (λ a. Reaches p Γ (nodes.Sided Second f) a f y) (sym parts) second_part
+    pub second_reached : (f : TermId) → Reaches p Γ (nodes.Sided Second f) a Γ f y
+    second_reached f = subst (λ a. Reaches p Γ (nodes.Sided Second f) a Γ f y) (sym parts) second_part
 
     pairs_answer : (n : Node) → term_node_at p t ≡ n → (b d : Kind) (r : Result Kind Refusal) → Fits a → FormTakes Γ (made p n) (pair_kind x y) (pair_kind b d) → (Exceeds (pair_kind b d) → FormBreaks p Γ s n (pair_kind x y) (breach_of TypeTooLarge s)) → AnswersPair b d s r → AnswersTerm p Γ t a r
     pairs_answer n is b d r fit form big = pair_answers p Γ t n a is b d s r at fit (subst (λ a. FormTakes Γ (made p n) a (pair_kind b d)) (sym parts) form) (λ q. subst (λ a. FormBreaks p Γ s n a (breach_of TypeTooLarge s)) (sym parts) (big q))
@@ -146,8 +156,8 @@ module _ (p : Program) (Γ : Context) (t : TermId) (a : Kind) (s : Spot) (at : s
       pub fed_refused : (z : Kind) (e : Refusal) → z ≡ c → OrMemory (PairRefused a z s) e → OrMemory (TermBreaks p Γ t a) e
       fed_refused z e same h = itself_refused p Γ t (nodes.Headed LoopPre v f) a is s e at (or_memory (λ c k. subst (λ c. FormBreaks p Γ s (nodes.Headed LoopPre v f) a c) (sym k.0) (fed_exceeds typed_in (subst Exceeds (ap (pair_kind a) same) k.1))) h)
 
-      pub loop_reached : (w : Kind) → w ≡ pair_kind a c → Fits w → Reaches p Γ (nodes.Headed LoopPre v f) a f w
-      loop_reached w e fits = subst (Reaches p Γ (nodes.Headed LoopPre v f) a f) (sym e) (loop_part typed_in (subst Fits e fits))
+      pub loop_reached : (w : Kind) → w ≡ pair_kind a c → Fits w → Reaches p Γ (nodes.Headed LoopPre v f) a Γ f w
+      loop_reached w e fits = subst (Reaches p Γ (nodes.Headed LoopPre v f) a Γ f) (sym e) (loop_part typed_in (subst Fits e fits))
 
       pub loop_answers : (w d : Kind) (r : Result Kind Refusal) → w ≡ pair_kind a c → Fits a → Takes Γ (tree p f) w d → IfOk r (λ b. d ≡ pair_kind b c) → IfErr r (OrMemory (λ b. (b ≡ breach_of Mismatch s) × IsNoPairWith c d)) → AnswersTerm p Γ t a r
       loop_answers w d (Ok b) same fit k ok err =
@@ -155,6 +165,36 @@ module _ (p : Program) (Γ : Context) (t : TermId) (a : Kind) (s : Spot) (at : s
           let fits = subst Fits ok (output_fits h) in
           form_ok p Γ t (nodes.Headed LoopPre v f) a is b fit (omega (arith, fits)) (loop_takes typed_in (subst (Takes Γ (tree p f) (pair_kind a c)) ok h))
       loop_answers w d (Err e) same fit k ok err = mismatch_refused (nodes.Headed LoopPre v f) is e err (loop_differs typed_in (subst (λ w. Takes Γ (tree p f) w d) same k))
+
+  -- a switch
+  module _ (w : Switching) (f : TermId) (q : PatternId) (g : TermId) (is : term_node_at p t ≡ nodes.Switching w f q g) (z : Kind) (copy : z ≡ a) (d : Kind) (given : Takes Γ (tree p f) z d) where
+    source : Takes Γ (tree p f) a d
+    source = copy_takes z copy f d given
+
+    pub source_answers : (e : Refusal) → e ≡ broken Mismatch s → IsNoEventBeside d → OrMemory (TermBreaks p Γ t a) e
+    source_answers e wrong none = itself_refused p Γ t (nodes.Switching w f q g) a is s e at (breaks_at Mismatch wrong refl (source_differs source none))
+
+    module _ (b c : Kind) (beside : d ≡ pair_kind b (event_kind c)) where
+      source_beside : Takes Γ (tree p f) a (pair_kind b (event_kind c))
+      source_beside = subst (Takes Γ (tree p f) a) beside source
+
+      pub pattern_answers : (e : Refusal) → OrMemory (PatternRefused (placed_at (expressions_of p) q) c s) e → OrMemory (TermBreaks p Γ t a) e
+      pattern_answers e h = itself_refused p Γ t (nodes.Switching w f q g) a is s e at (or_memory (λ r k. pattern_refused source_beside k) h)
+
+      module _ (binds : BindsInside (pattern_in p q) c Γ) where
+        pub body_reached : Reaches p Γ (nodes.Switching w f q g) a (inside_pattern (pattern_in p q) c Γ) g a
+        body_reached = switch_body source_beside binds
+
+        module _ (v : Kind) (body : Takes (inside_pattern (pattern_in p q) c Γ) (tree p g) a v) where
+          pub body_answers : (e : Refusal) → same_kind v b ≡ false → e ≡ broken Mismatch s → OrMemory (TermBreaks p Γ t a) e
+          body_answers e other wrong =
+              let differs : v ≡ b → ⊥ = λ k. let same = ap (same_kind v) k ∙ other in let yes = is_same v in cc in
+              itself_refused p Γ t (nodes.Switching w f q g) a is s e at (breaks_at Mismatch wrong refl (body_differs source_beside binds body differs))
+
+          pub switch_answers : Fits a → same_kind v b ≡ true → Takes Γ (tree p t) a v
+          switch_answers fit same =
+              let is_same_type : b ≡ v = sym (same_is v b same) in
+              form_ok p Γ t (nodes.Switching w f q g) a is v fit (output_fits body) (switch_takes (subst (λ b. Takes Γ (tree p f) a (pair_kind b (event_kind c))) is_same_type source_beside) binds body)
 
 -- ## A template
 
@@ -182,6 +222,13 @@ bare_answers x Γ q k a s r is h = subst (λ q. AnswersPrimitive x Γ q a s r) (
     each : (r : Result Kind Refusal) → AnswersKind (bare_kind k a) s r → AnswersPrimitive x Γ (primitives.Bare k) a s r
     each (Ok b) h = bare_takes h.0 h.1
     each (Err e) h = or_memory (λ b q. bare_refused q) h
+
+pub never_answers : (x : Exprs) (Γ : Context) (n : ConstantId) (t a : Kind) (s : Spot) (r : Result Kind Refusal) → t ≡ absent_payload (literal_at x n) → AnswersKind (Some (event_kind t)) s r → AnswersPrimitive x Γ (primitives.Never n) a s r
+never_answers x Γ n t a s r is h = each r (subst (λ t. AnswersKind (Some (event_kind t)) s r) is h)
+  where
+    each : (r : Result Kind Refusal) → AnswersKind (Some (event_kind (absent_payload (literal_at x n)))) s r → AnswersPrimitive x Γ (primitives.Never n) a s r
+    each (Ok b) h = subst (λ b. PrimitiveTakes Γ (never (absent_payload (literal_at x n))) a b) (same_Some _ _ h.0) (never_takes (subst Fits (sym (same_Some _ _ h.0)) h.1))
+    each (Err e) h = or_memory (λ b q. never_refused q) h
 
 pub value_answers : (x : Exprs) (Γ : Context) (k : WithValue) (v : ExprId) (t a : Kind) (s : Spot) (r : Result Kind Refusal) → HasType (names_of_values Γ) (expression x v) t → AnswersKind (value_kind k t a) s r → AnswersPrimitive x Γ (primitives.WithValue k v) a s r
 value_answers x Γ k v t a s (Ok b) typed h = value_takes typed h.0 h.1

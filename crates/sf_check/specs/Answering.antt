@@ -5,12 +5,13 @@ use Rattle.sf_refusal.specs.declared.spot.Spot.{Spot}
 use Rattle.sf_refusal.specs.declared.refusal.Refusal.{Refusal}
 use Rattle.sf_refusal.specs.Refusals.{OrMemory}
 use Rattle.sf_expr.specs.declared.exprs.Exprs.{Exprs}
-use Rattle.sf_expr.specs.Arena.{expression, function_at}
+use Rattle.sf_expr.specs.Arena.{expression, function_at, literal_at}
 use Rattle.sf_term.specs.declared.node.TermId.{TermId}
 use Rattle.sf_term.specs.declared.node.Primitive.{Primitive as PrimitiveNode}
 use Rattle.sf_term.specs.declared.node.Primitive.TheVariants as nodes
 use Rattle.sf_term.specs.declared.program.Program.{Program}
-use Rattle.sf_term.specs.Trees.{Primitive, bare, with_value, timed, arrow, accumulated}
+use Rattle.sf_term.specs.Trees.{Primitive, bare, never, with_value, timed, arrow, accumulated}
+use Rattle.sf_term.specs.Entries.{absent_payload}
 use Rattle.sf_term.specs.Arena.{tree}
 use Rattle.sf_mean.specs.Contexts.{Context}
 use Rattle.sf_mean.specs.Typing.{PrimitiveTakes, Takes}
@@ -19,6 +20,7 @@ use Rattle.sf_check.specs.Breaking.{PrimitiveBreaks, TermBreaks}
 -- the primitive that a node stands for
 abbrev pub primitive_in : Exprs → PrimitiveNode → Primitive
 primitive_in x (nodes.Bare k) = bare k
+primitive_in x (nodes.Never n) = never (absent_payload (literal_at x n))
 primitive_in x (nodes.WithValue k e) = with_value k (expression x e)
 primitive_in x (nodes.Timed k q e) = timed k q (expression x e)
 primitive_in x (nodes.Arrow f) = arrow (function_at x f)

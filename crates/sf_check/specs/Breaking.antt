@@ -1,18 +1,22 @@
 -- Where rules of types are broken, under a context.
 use Rattle.std.specs.Prelude.{◌≡◌, ◌≢◌, ◌<◌, ℕ, ℤ, false, IsTrue, Some, slice_get}
-use Rattle.sf_value.specs.Values.{Kind, pair_kind, nodes as nodes_of, IsNoPair}
+use Rattle.sf_value.specs.Values.{Kind, pair_kind, event_kind, nodes as nodes_of, IsNoPair}
 use Rattle.sf_refusal.specs.declared.spot.Spot.{Spot}
 use Rattle.sf_refusal.specs.declared.rule.Rule.TheVariants.{Mismatch, BadConstant, TypeTooLarge}
 use Rattle.sf_refusal.specs.declared.refusal.Breach.{Breach}
 use Rattle.sf_refusal.specs.Refusals.{breach_of}
 use Rattle.sf_func.specs.Registries.{TypesByName}
 use Rattle.sf_operator.specs.Breaches.{KindRefused}
+use Rattle.sf_expr.specs.declared.exprs.ConstantId.{ConstantId}
 use Rattle.sf_expr.specs.declared.exprs.ExprId.{ExprId}
+use Rattle.sf_expr.specs.declared.exprs.PatternId.{PatternId}
 use Rattle.sf_expr.specs.declared.exprs.FunctionId.{FunctionId}
 use Rattle.sf_expr.specs.declared.exprs.Exprs.{Exprs}
-use Rattle.sf_expr.specs.Arena.{expression, function_at}
-use Rattle.sf_expr.specs.Refusals.{Refused, FunctionRefused}
-use Rattle.sf_expr.specs.Typing.{Names, Fits, HasType, FunctionTakes}
+use Rattle.sf_expr.specs.Expressions.{Pattern}
+use Rattle.sf_expr.specs.Patterns.{pattern_of}
+use Rattle.sf_expr.specs.Arena.{expression, function_at, literal_at, placed_at}
+use Rattle.sf_expr.specs.Refusals.{Refused, PatternRefused, FunctionRefused}
+use Rattle.sf_expr.specs.Typing.{Names, Fits, Binds, HasType, FunctionTakes}
 use Rattle.sf_term.specs.declared.form.Bare.{Bare}
 use Rattle.sf_term.specs.declared.form.WithValue.{WithValue}
 use Rattle.sf_term.specs.declared.form.Timing.{Timing}
@@ -22,21 +26,27 @@ use Rattle.sf_term.specs.declared.form.Side.{Side}
 use Rattle.sf_term.specs.declared.form.Side.TheVariants.{First, Second}
 use Rattle.sf_term.specs.declared.form.Heading.{Heading}
 use Rattle.sf_term.specs.declared.form.Heading.TheVariants.{LoopPre}
+use Rattle.sf_term.specs.declared.form.Switching.{Switching}
 use Rattle.sf_term.specs.declared.node.TermId.{TermId}
 use Rattle.sf_term.specs.declared.node.Primitive.{Primitive}
 use Rattle.sf_term.specs.declared.node.Primitive.TheVariants as primitives
 use Rattle.sf_term.specs.declared.node.Node.{Node}
 use Rattle.sf_term.specs.declared.node.Node.TheVariants as nodes
 use Rattle.sf_term.specs.declared.program.Program.{Program}
+use Rattle.sf_term.specs.Entries.{absent_payload}
 use Rattle.sf_term.specs.Headers.{Header}
 use Rattle.sf_term.specs.Trees.{Template}
 use Rattle.sf_term.specs.Arena.{tree, term_node_at, term_spot_at, expressions_of, headers_of, templates_of}
-use Rattle.sf_mean.specs.Contexts.{Context, names_of_values, context_of}
+use Rattle.sf_mean.specs.Contexts.{Context, names_of_values, context_of, inside_pattern}
 use Rattle.sf_mean.specs.Typing.{bare_kind, value_kind, takes_time, timed_kind, accumulated_argument, accumulated_kind, Takes, IsTyped}
 
 -- a type is none of pairs with this second part
 abbrev pub IsNoPairWith : Kind → Kind → Type 0
 IsNoPairWith u a = (t : Kind) → a ≢ pair_kind t u
+
+-- a type is none of pairs of a value and an event
+abbrev pub IsNoEventBeside : Kind → Type 0
+IsNoEventBeside d = (b c : Kind) → d ≢ pair_kind b (event_kind c)
 
 -- a type has more than 256 nodes
 abbrev pub Exceeds : Kind → Type 0
@@ -54,6 +64,7 @@ pub data AccumulationBreaks (x : Exprs) (R : Names) (s : Spot) (k : Accumulation
 pub data PrimitiveBreaks (x : Exprs) (Γ : Context) (s : Spot) : Primitive → Kind → Breach → Type 0 where
   value_refused : {k : WithValue} {v : ExprId} {a : Kind} {r : Breach} → Refused x (names_of_values Γ) v r → PrimitiveBreaks x Γ s (primitives.WithValue k v) a r
   bare_refused : {k : Bare} {a : Kind} {r : Breach} → KindRefused (bare_kind k a) s r → PrimitiveBreaks x Γ s (primitives.Bare k) a r
+  never_refused : {n : ConstantId} {a : Kind} {r : Breach} → KindRefused (Some (event_kind (absent_payload (literal_at x n)))) s r → PrimitiveBreaks x Γ s (primitives.Never n) a r
   given_refused : {k : WithValue} {v : ExprId} {t a : Kind} {r : Breach} → HasType (names_of_values Γ) (expression x v) t → KindRefused (value_kind k t a) s r → PrimitiveBreaks x Γ s (primitives.WithValue k v) a r
   timed_value_refused : {k : Timing} {q : ℤ} {v : ExprId} {a : Kind} {r : Breach} → Refused x (names_of_values Γ) v r → PrimitiveBreaks x Γ s (primitives.Timed k q v) a r
   time_outside : {k : Timing} {q : ℤ} {v : ExprId} {t a : Kind} → HasType (names_of_values Γ) (expression x v) t → takes_time k q ≡ false → PrimitiveBreaks x Γ s (primitives.Timed k q v) a (breach_of BadConstant s)
@@ -64,7 +75,16 @@ pub data PrimitiveBreaks (x : Exprs) (Γ : Context) (s : Spot) : Primitive → K
       → HasType (names_of_values Γ) (expression x v) t → AccumulationBreaks x (names_of_values Γ) s k f t a r → PrimitiveBreaks x Γ s (primitives.Accumulated k v f) a r
   function_refused : {f : FunctionId} {a : Kind} {r : Breach} → FunctionRefused x (names_of_values Γ) f a s r → PrimitiveBreaks x Γ s (primitives.Arrow f) a r
 
--- On inputs of a type, a form at a spot, with these parts, breaks a rule of its own, at a place.
+-- the pattern at an id
+abbrev pub pattern_in : Program → PatternId → Pattern
+pattern_in p q = pattern_of (placed_at (expressions_of p) q)
+
+-- a pattern binds its names inside, for a type
+abbrev pub BindsInside : Pattern → Kind → Context → Type 0
+BindsInside q c Γ = Binds q c (names_of_values Γ) (names_of_values (inside_pattern q c Γ))
+
+-- On inputs of a type, a form at a spot, with these parts, breaks a rule of its own, at a place. A pattern that is refused has
+-- its own place where a name is repeated.
 pub data FormBreaks (p : Program) (Γ : Context) (s : Spot) : Node → Kind → Breach → Type 0 where
   primitive_breaks : {q : Primitive} {a : Kind} {e : Breach} → PrimitiveBreaks (expressions_of p) Γ s q a e → FormBreaks p Γ s (nodes.Primitive q) a e
   parallel_input : {f g : TermId} {a : Kind} → IsNoPair a → FormBreaks p Γ s (nodes.Joined InParallel f g) a (breach_of Mismatch s)
@@ -76,24 +96,34 @@ pub data FormBreaks (p : Program) (Γ : Context) (s : Spot) : Node → Kind → 
   start_refused : {h : Heading} {v : ExprId} {t : TermId} {a : Kind} {r : Breach} → Refused (expressions_of p) (names_of_values Γ) v r → FormBreaks p Γ s (nodes.Headed h v t) a r
   fed_exceeds : {v : ExprId} {t : TermId} {a c : Kind} → HasType (names_of_values Γ) (expression (expressions_of p) v) c → Exceeds (pair_kind a c) → FormBreaks p Γ s (nodes.Headed LoopPre v t) a (breach_of TypeTooLarge s)
   loop_differs : {v : ExprId} {t : TermId} {a c d : Kind} → HasType (names_of_values Γ) (expression (expressions_of p) v) c → Takes Γ (tree p t) (pair_kind a c) d → IsNoPairWith c d → FormBreaks p Γ s (nodes.Headed LoopPre v t) a (breach_of Mismatch s)
+  source_differs : {w : Switching} {t u : TermId} {q : PatternId} {a d : Kind} → Takes Γ (tree p t) a d → IsNoEventBeside d → FormBreaks p Γ s (nodes.Switching w t q u) a (breach_of Mismatch s)
+  pattern_refused : {w : Switching} {t u : TermId} {q : PatternId} {a b c : Kind} {r : Breach}
+      → Takes Γ (tree p t) a (pair_kind b (event_kind c)) → PatternRefused (placed_at (expressions_of p) q) c s r → FormBreaks p Γ s (nodes.Switching w t q u) a r
+  body_differs : {w : Switching} {t u : TermId} {q : PatternId} {a b c d : Kind}
+      → Takes Γ (tree p t) a (pair_kind b (event_kind c)) → BindsInside (pattern_in p q) c Γ → Takes (inside_pattern (pattern_in p q) c Γ) (tree p u) a d → d ≢ b
+      → FormBreaks p Γ s (nodes.Switching w t q u) a (breach_of Mismatch s)
 
--- In a form on inputs of a type, a part is typed next, on inputs of its own: what stands before it in the text keeps its rules.
-pub data Reaches (p : Program) (Γ : Context) : Node → Kind → TermId → Kind → Type 0 where
-  sequence_left : {f g : TermId} {a : Kind} → Reaches p Γ (nodes.Joined InSequence f g) a f a
-  sequence_right : {f g : TermId} {a b : Kind} → Takes Γ (tree p f) a b → Reaches p Γ (nodes.Joined InSequence f g) a g b
-  parallel_left : {f g : TermId} {a c : Kind} → Reaches p Γ (nodes.Joined InParallel f g) (pair_kind a c) f a
-  parallel_right : {f g : TermId} {a b c : Kind} → Takes Γ (tree p f) a b → Reaches p Γ (nodes.Joined InParallel f g) (pair_kind a c) g c
-  fan_left : {f g : TermId} {a : Kind} → Reaches p Γ (nodes.Joined FannedOut f g) a f a
-  fan_right : {f g : TermId} {a b : Kind} → Takes Γ (tree p f) a b → Reaches p Γ (nodes.Joined FannedOut f g) a g a
-  first_part : {t : TermId} {a c : Kind} → Reaches p Γ (nodes.Sided First t) (pair_kind a c) t a
-  second_part : {t : TermId} {a c : Kind} → Reaches p Γ (nodes.Sided Second t) (pair_kind c a) t a
-  loop_part : {v : ExprId} {t : TermId} {a c : Kind} → HasType (names_of_values Γ) (expression (expressions_of p) v) c → Fits (pair_kind a c) → Reaches p Γ (nodes.Headed LoopPre v t) a t (pair_kind a c)
+-- In a form on inputs of a type, a part is typed next, under a context and on inputs of its own: what stands before it in the
+-- text keeps its rules.
+pub data Reaches (p : Program) (Γ : Context) : Node → Kind → Context → TermId → Kind → Type 0 where
+  sequence_left : {f g : TermId} {a : Kind} → Reaches p Γ (nodes.Joined InSequence f g) a Γ f a
+  sequence_right : {f g : TermId} {a b : Kind} → Takes Γ (tree p f) a b → Reaches p Γ (nodes.Joined InSequence f g) a Γ g b
+  parallel_left : {f g : TermId} {a c : Kind} → Reaches p Γ (nodes.Joined InParallel f g) (pair_kind a c) Γ f a
+  parallel_right : {f g : TermId} {a b c : Kind} → Takes Γ (tree p f) a b → Reaches p Γ (nodes.Joined InParallel f g) (pair_kind a c) Γ g c
+  fan_left : {f g : TermId} {a : Kind} → Reaches p Γ (nodes.Joined FannedOut f g) a Γ f a
+  fan_right : {f g : TermId} {a b : Kind} → Takes Γ (tree p f) a b → Reaches p Γ (nodes.Joined FannedOut f g) a Γ g a
+  first_part : {t : TermId} {a c : Kind} → Reaches p Γ (nodes.Sided First t) (pair_kind a c) Γ t a
+  second_part : {t : TermId} {a c : Kind} → Reaches p Γ (nodes.Sided Second t) (pair_kind c a) Γ t a
+  loop_part : {v : ExprId} {t : TermId} {a c : Kind} → HasType (names_of_values Γ) (expression (expressions_of p) v) c → Fits (pair_kind a c) → Reaches p Γ (nodes.Headed LoopPre v t) a Γ t (pair_kind a c)
+  switch_source : {w : Switching} {t u : TermId} {q : PatternId} {a : Kind} → Reaches p Γ (nodes.Switching w t q u) a Γ t a
+  switch_body : {w : Switching} {t u : TermId} {q : PatternId} {a b c : Kind}
+      → Takes Γ (tree p t) a (pair_kind b (event_kind c)) → BindsInside (pattern_in p q) c Γ → Reaches p Γ (nodes.Switching w t q u) a (inside_pattern (pattern_in p q) c Γ) u a
 
 -- In the term at an id, on inputs of a type, this is the first rule, in the order of the text, that is broken: that of the
 -- form at the id itself, or one within the part that is typed next.
-pub data TermBreaks (p : Program) (Γ : Context) : TermId → Kind → Breach → Type 0 where
-  itself : {i : TermId} {a : Kind} {e : Breach} → FormBreaks p Γ (term_spot_at p i) (term_node_at p i) a e → TermBreaks p Γ i a e
-  within : {i j : TermId} {a b : Kind} {e : Breach} → Reaches p Γ (term_node_at p i) a j b → TermBreaks p Γ j b e → TermBreaks p Γ i a e
+pub data TermBreaks (p : Program) : Context → TermId → Kind → Breach → Type 0 where
+  itself : {Γ : Context} {i : TermId} {a : Kind} {e : Breach} → FormBreaks p Γ (term_spot_at p i) (term_node_at p i) a e → TermBreaks p Γ i a e
+  within : {Γ Δ : Context} {i j : TermId} {a b : Kind} {e : Breach} → Reaches p Γ (term_node_at p i) a Δ j b → TermBreaks p Δ j b e → TermBreaks p Γ i a e
 
 -- With functions of these types, this is the first rule that is broken in a template, or that the whole term doesn't give its
 -- header's output.

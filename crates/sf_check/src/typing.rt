@@ -1,21 +1,24 @@
 //! The types of terms, under contexts.
 ghost use Rattle.std.specs.Prelude.{◌≡◌, ◌<◌, IfOk, IfErr, OnOk};
-ghost use Rattle.sf_value.specs.Values.{pair_kind, IsNoPair};
-ghost use Rattle.sf_refusal.specs.Refusals.{breach_of, OrMemory};
+ghost use Rattle.sf_value.specs.Values.{pair_kind, event_kind, IsNoPair};
+ghost use Rattle.sf_refusal.specs.Refusals.{breach_of, broken, OrMemory};
 ghost use Rattle.sf_refusal.specs.declared.rule.Rule.TheVariants.{Mismatch};
 ghost use Rattle.sf_func.specs.Signatures.{signatures_in};
 ghost use Rattle.sf_expr.specs.Refusals.{Judges, JudgesFunction};
 ghost use Rattle.sf_expr.specs.Typing.{Fits};
+ghost use Rattle.sf_term.specs.declared.form.Switching.{Switching};
 ghost use Rattle.sf_term.specs.Arena.{term_number, term_node_at, expressions_of, template_in, templates_of};
 ghost use Rattle.sf_mean.specs.Contexts.{names_of_values};
 ghost use Rattle.sf_operator.specs.Breaches.{AnswersKind};
 ghost use Rattle.sf_mean.specs.Typing.{bare_kind, value_kind, takes_time as a_time, timed_kind, accumulated_argument, accumulated_kind, IsTyped};
 ghost use Rattle.sf_check.specs.Contexts.{program_in, context_in};
 ghost use Rattle.sf_check.specs.Answering.{AnswersPrimitive, AnswersTerm};
-ghost use Rattle.sf_check.specs.Breaking.{IsNoPairWith, TemplateBreaks, AreTyped, IsFirstBreak};
+ghost use Rattle.sf_check.specs.Breaking.{IsNoPairWith, IsNoEventBeside, TemplateBreaks, AreTyped, IsFirstBreak};
 
 use crate::context::TypingContext;
-use sf_expr::{ExprId, FunctionId, function_type, pair_type, type_of};
+use sf_expr::{
+    ConstantForm, ConstantId, ExprId, FunctionId, PatternId, function_type, pair_type, type_of,
+};
 use sf_func::Signatures;
 use sf_operator::{event_type, pair_type as pair_of, payload, same};
 use sf_refusal::{Refusal, Rule, Spot};
@@ -34,6 +37,18 @@ fn parts(alloc: Global, ty: &Ty, spot: Spot) -> Result<(Ty, Ty), Refusal>
 {
     match ty.parts() {
         Some((first, second)) => Ok((first.clone_in(alloc)?, second.clone_in(alloc)?)),
+        None => Err(Refusal::broken(Rule::Mismatch, spot)),
+    }
+}
+
+/// The type of a value and that of the payload of the event beside it, of a type of pairs of both; another type is refused
+/// with `Mismatch` at the spot.
+fn value_and_payload(ty: &Ty, spot: Spot) -> Result<(&Ty, &Ty), Refusal>
+    ensures ok { IfOk result (λ types. ty.now ≡ pair_kind types.0.now (event_kind types.1.now)) }
+    ensures err { IfErr result (λ r. (r ≡ broken Mismatch spot) × IsNoEventBeside ty.now) }
+{
+    match ty.parts() {
+        Some((value, event)) => Ok((value, payload(event, spot)?)),
         None => Err(Refusal::broken(Rule::Mismatch, spot)),
     }
 }
@@ -75,6 +90,23 @@ fn bare_output(alloc: Global, kind: Bare, input: Ty, spot: Spot) -> Result<Ty, R
             payload(&input, spot)?;
             event_type(alloc, &Ty::int(), spot)
         }
+    }
+}
+
+/// The type of no event, of payloads of the type of a constant. Refused at the spot with `TypeTooLarge`, and with `Memory`.
+fn never_output(
+    alloc: Global,
+    context: &TypingContext,
+    constant: ConstantId,
+    input: &Ty,
+    spot: Spot,
+) -> Result<Ty, Refusal>
+    ensures { AnswersPrimitive (expressions_of (program_in context.now)) (context_in context.now) (Primitive.Never constant) input.now spot result }
+{
+    let constant = context.program.expressions().constant_at(constant);
+    match constant.form() {
+        ConstantForm::NoEvent(payload) => event_type(alloc, payload, spot),
+        ConstantForm::Text(_) => event_type(alloc, &Ty::unit(), spot),
     }
 }
 
@@ -243,6 +275,7 @@ fn primitive_output(
 {
     match primitive {
         Primitive::Bare(kind) => bare_output(alloc, kind, input, spot),
+        Primitive::Never(constant) => never_output(alloc, context, constant, &input, spot),
         Primitive::WithValue(kind, value) => {
             value_output(alloc, context, kind, value, &input, spot)
         }
@@ -357,6 +390,31 @@ fn headed_output(
     loop_output(alloc, &output, &fed, spot)
 }
 
+/// The type of the outputs of a term that gives way to another inside a pattern, on inputs of a type.
+#[cycle(output)]
+fn switching_output(
+    alloc: Global,
+    context: &TypingContext,
+    term: TermId,
+    source: TermId,
+    pattern: PatternId,
+    body: TermId,
+    input: Ty,
+) -> Result<Ty, Refusal>
+    requires fits { Fits input }
+    requires there { (form : Switching) × (term_node_at (program_in context.now) term ≡ Node.Switching form source pattern body) }
+    requires below { (term_number source < term_number term) × (term_number body < term_number term) }
+    ensures { AnswersTerm (program_in context.now) (context_in context.now) term input result }
+{
+    let spot = context.program.spot(term);
+    let output = output_of(alloc, context, source, input.clone_in(alloc)?)?;
+    let (value, payload) = value_and_payload(&output, spot)?;
+    let inner = (&*context).within(alloc, pattern, payload, spot)?;
+    let given = output_of(alloc, &inner, body, input)?;
+    same(&given, value, spot)?;
+    Ok(given)
+}
+
 /// The type of a term's outputs on inputs of a type, or the first rule that a form in it breaks.
 #[cycle(output)]
 fn output_of(alloc: Global, context: &TypingContext, term: TermId, input: Ty) -> Result<Ty, Refusal>
@@ -373,6 +431,9 @@ fn output_of(alloc: Global, context: &TypingContext, term: TermId, input: Ty) ->
         Node::Sided(side, part) => sided_output(alloc, context, term, side, part, input),
         Node::Headed(Heading::LoopPre, start, part) => {
             headed_output(alloc, context, term, start, part, input)
+        }
+        Node::Switching(_, source, pattern, body) => {
+            switching_output(alloc, context, term, source, pattern, body, input)
         }
     }
 }

@@ -1,4 +1,5 @@
 pub mod Compiled
+pub mod Named
 pub mod Worth
 pub mod Rows
 pub mod Sized

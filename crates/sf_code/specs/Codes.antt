@@ -6,7 +6,7 @@ use Rattle.sf_operator.specs.declared.operator.Mapping.{Mapping}
 use Rattle.sf_operator.specs.declared.operator.Folding.{Folding}
 use Rattle.sf_code.specs.Places.{Place}
 
--- Code: an expression, of which each name is a place. The code of a function stands last, and has one frame more: its argument.
+-- Code: an expression, of which each name is a place or a value. The code of a function stands last, and has one frame more: its argument.
 pub data Code : Type 0 where
   place : Place → Code
   constant : Data → Code

@@ -1,10 +1,9 @@
 -- The code of expressions.
-use Rattle.std.specs.Prelude.{cond, bytes_eq, List, [], ◌∷◌, Option, Some, None, option_map}
+use Rattle.std.specs.Prelude.{Bool, true, ◌&&◌, cond, bytes_eq, List, [], ◌∷◌, Option, Some, None, is_some, option_map}
 use Rattle.sf_value.specs.Values.{Name, Data}
-use Rattle.sf_func.specs.Registries.{AnswersByName}
 use Rattle.sf_operator.specs.Outcomes.{nonsense}
-use Rattle.sf_expr.specs.Expressions.{Pattern, unnamed, named, both, Expression, variable as variable_expression, literal as literal_expression, paired as paired_expression, applied as applied_expression, operation as operation_expression, conditional as conditional_expression, mapped as mapped_expression, folded as folded_expression, called as called_expression}
-use Rattle.sf_expr.specs.Evaluation.{Scope, no_names, bound_in, literal_value}
+use Rattle.sf_expr.specs.Expressions.{Pattern, unnamed, named, both, Expression, variable as variable_expression, literal as literal_expression, paired as paired_expression, applied as applied_expression, operation as operation_expression, conditional as conditional_expression, mapped as mapped_expression, folded as folded_expression, called as called_expression, Function, function}
+use Rattle.sf_expr.specs.Evaluation.{Scope, bound_in, literal_value}
 use Rattle.sf_code.specs.declared.place.Half.{Half}
 use Rattle.sf_code.specs.declared.place.Half.TheVariants.{First, Second}
 use Rattle.sf_code.specs.Places.{Place, at_frame, one_out}
@@ -32,25 +31,46 @@ abbrev pub place_in : Name → List Pattern → Option Place
 place_in x [] = None
 place_in x (p ∷ ps) = place_or (path_in x p) (place_in x ps)
 
--- the code of a name; where it is not bound, that of what makes no sense
-abbrev pub name_code : Option Place → Code
-name_code None = constant nonsense
-name_code (Some p) = place p
+-- the code of a name: its place, and without one its value around the frames
+abbrev pub name_code : Data → Option Place → Code
+name_code d None = constant d
+name_code d (Some p) = place p
 
--- the code of an expression, where the frames have these patterns
-abbrev pub compiled : List Pattern → Expression → Code
-compiled ps (variable_expression x) = name_code (place_in x ps)
-compiled ps (literal_expression l) = constant (literal_value l)
-compiled ps (paired_expression i j) = paired (compiled ps i) (compiled ps j)
-compiled ps (applied_expression o i) = applied o (compiled ps i)
-compiled ps (operation_expression i op j) = operation (compiled ps i) op (compiled ps j)
-compiled ps (conditional_expression i j k) = conditional (compiled ps i) (compiled ps j) (compiled ps k)
-compiled ps (mapped_expression i m p j) = mapped (compiled ps i) m (compiled (p ∷ ps) j)
-compiled ps (folded_expression i o j p k) = folded (compiled ps i) o (compiled ps j) (compiled (p ∷ ps) k)
-compiled ps (called_expression g i) = called g (compiled ps i)
+-- the code of an expression, where the frames have these patterns; a name that none of them binds has a value around the frames
+abbrev pub compiled : (Name → Data) → List Pattern → Expression → Code
+compiled w ps (variable_expression x) = name_code (w x) (place_in x ps)
+compiled w ps (literal_expression l) = constant (literal_value l)
+compiled w ps (paired_expression i j) = paired (compiled w ps i) (compiled w ps j)
+compiled w ps (applied_expression o i) = applied o (compiled w ps i)
+compiled w ps (operation_expression i op j) = operation (compiled w ps i) op (compiled w ps j)
+compiled w ps (conditional_expression i j k) = conditional (compiled w ps i) (compiled w ps j) (compiled w ps k)
+compiled w ps (mapped_expression i m p j) = mapped (compiled w ps i) m (compiled w (p ∷ ps) j)
+compiled w ps (folded_expression i o j p k) = folded (compiled w ps i) o (compiled w ps j) (compiled w (p ∷ ps) k)
+compiled w ps (called_expression g i) = called g (compiled w ps i)
 
--- the names that frames' patterns bind to the frames' values, the innermost first; a frame without a value has one that makes no sense
-abbrev pub scope_under : List Pattern → List Data → AnswersByName → Scope
-scope_under [] vs f = no_names f
-scope_under (p ∷ ps) [] f = bound_in p nonsense (scope_under ps [] f)
-scope_under (p ∷ ps) (v ∷ vs) f = bound_in p v (scope_under ps vs f)
+-- whether the frames' patterns bind each name of an expression, so that none has its value around the frames
+abbrev pub is_closed : List Pattern → Expression → Bool
+is_closed ps (variable_expression x) = is_some (place_in x ps)
+is_closed ps (literal_expression l) = true
+is_closed ps (paired_expression i j) = is_closed ps i && is_closed ps j
+is_closed ps (applied_expression o i) = is_closed ps i
+is_closed ps (operation_expression i op j) = is_closed ps i && is_closed ps j
+is_closed ps (conditional_expression i j k) = is_closed ps i && (is_closed ps j && is_closed ps k)
+is_closed ps (mapped_expression i m p j) = is_closed ps i && is_closed (p ∷ ps) j
+is_closed ps (folded_expression i o j p k) = is_closed ps i && (is_closed ps j && is_closed (p ∷ ps) k)
+is_closed ps (called_expression g i) = is_closed ps i
+
+-- the code of an expression, if the frames' patterns bind each of its names
+abbrev pub closed_code : List Pattern → Expression → Option Code
+closed_code ps e = cond (is_closed ps e) (Some (compiled (λ x. nonsense) ps e)) None
+
+-- whether the pattern of a function binds each name of its expression
+abbrev pub is_closed_function : Function → Bool
+is_closed_function (function p i) = is_closed (p ∷ []) i
+
+-- the names that frames' patterns bind to the frames' values, the innermost first, inside the scope around the frames; a frame without a value has one
+-- that makes no sense
+abbrev pub scope_under : List Pattern → List Data → Scope → Scope
+scope_under [] vs s = s
+scope_under (p ∷ ps) [] s = bound_in p nonsense (scope_under ps [] s)
+scope_under (p ∷ ps) (v ∷ vs) s = bound_in p v (scope_under ps vs s)

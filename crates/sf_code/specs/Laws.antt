@@ -1,16 +1,19 @@
 -- What holds of code.
-use Rattle.std.specs.Prelude.{◌≡◌, List, [], ◌∷◌}
-use Rattle.sf_value.specs.Values.{Data}
-use Rattle.sf_func.specs.Registries.{AnswersByName}
+use Rattle.std.specs.Prelude.{◌≡◌, true, List, [], ◌∷◌}
+use Rattle.sf_value.specs.Values.{Name, Data}
 use Rattle.sf_expr.specs.Expressions.{Pattern, Expression, function}
-use Rattle.sf_expr.specs.Evaluation.{no_names, eval, apply}
+use Rattle.sf_expr.specs.Evaluation.{Scope, functions_in, value_of, eval, apply}
 use Rattle.sf_code.specs.Running.{run}
-use Rattle.sf_code.specs.Compiling.{compiled, scope_under}
+use Rattle.sf_code.specs.Compiling.{compiled, is_closed, scope_under}
 
--- the code of each expression is worth over values what the expression is worth where the patterns' names have them
+-- the code of each expression is worth over values what the expression is worth where the patterns' names have them, inside a scope
 abbrev pub EachIsCompiled : Type 0
-EachIsCompiled = (e : Expression) (ps : List Pattern) (vs : List Data) (f : AnswersByName) → run (compiled ps e) vs f ≡ eval e (scope_under ps vs f)
+EachIsCompiled = (e : Expression) (s : Scope) (ps : List Pattern) (vs : List Data) → run (compiled (λ x. value_of x s) ps e) vs (functions_in s) ≡ eval e (scope_under ps vs s)
 
 -- the code of each function, with its argument in the only frame, is worth what the function answers
 abbrev pub EachFunctionIsCompiled : Type 0
-EachFunctionIsCompiled = (p : Pattern) (e : Expression) (d : Data) (f : AnswersByName) → run (compiled (p ∷ []) e) (d ∷ []) f ≡ apply (function p e) d (no_names f)
+EachFunctionIsCompiled = (p : Pattern) (e : Expression) (s : Scope) (d : Data) → run (compiled (λ x. value_of x s) (p ∷ []) e) (d ∷ []) (functions_in s) ≡ apply (function p e) d s
+
+-- where the patterns bind each name of an expression, its code is the same whatever the values around are
+abbrev pub ClosedIsTheSame : Type 0
+ClosedIsTheSame = (e : Expression) (w v : Name → Data) (ps : List Pattern) → is_closed ps e ≡ true → compiled w ps e ≡ compiled v ps e

@@ -3,8 +3,8 @@ use crate::place::Place;
 use sf_operator::{Folding, Mapping, Operator, Unary};
 use sf_value::Value;
 
-/// An expression of which each name is a place among the values of frames. The code of a function stands last, and has one
-/// frame more: its argument.
+/// An expression of which each name is a place among the values of frames, or a value. The code of a function stands last,
+/// and has one frame more: its argument.
 #[derive(Drop)]
 pub enum Code {
     /// A place in the frames.

@@ -1,14 +1,19 @@
 //! The code of expressions and functions.
-ghost use Rattle.std.specs.Prelude.{IfOk};
+ghost use Rattle.std.specs.Prelude.{◌≡◌, [], IfOk, IfSome, is_some};
+ghost use Rattle.sf_func.specs.Registries.{AnswersByName};
 ghost use Rattle.sf_expr.specs.Arena.{expression, function_at};
 ghost use Rattle.sf_expr.specs.Expressions.{Expression, Function};
-ghost use Rattle.sf_expr.specs.Evaluation.{no_names, eval, apply as applied};
+ghost use Rattle.sf_expr.specs.Evaluation.{Scope, functions_in, eval, apply as applied};
 ghost use Rattle.sf_operator.specs.Answers.{Evaluates};
-ghost use Rattle.sf_code.specs.Worth.{IsCodeOf, IsCodeOfFunction};
+ghost use Rattle.sf_code.specs.Compiling.{is_closed, is_closed_function};
+ghost use Rattle.sf_code.specs.Names.{scope_with};
+ghost use Rattle.sf_code.specs.Worth.{IsCodeOf, IsCodeOfFunction, IsCodeOfIn, IsCodeOfFunctionIn};
 
+use crate::closing::closed_code;
 use crate::code::Code;
 use crate::compiler::compile;
 use crate::frames::Frames;
+use crate::names::Names;
 use crate::place::Patterns;
 use crate::running::run;
 use sf_expr::{ExprId, Exprs, FunctionId};
@@ -17,25 +22,57 @@ use sf_operator::EvalFault;
 use sf_value::Value;
 use std::alloc::{AllocError, Global};
 
-/// The code of an expression around which there are no names.
-pub fn expression_code(alloc: Global, exprs: &Exprs, id: ExprId) -> Result<Code, AllocError>
-    ensures { IfOk result (λ code. IsCodeOf (expression exprs.now id) code) }
+/// The code of an expression in every scope, if it has no names from around it.
+pub fn expression_code(alloc: Global, exprs: &Exprs, id: ExprId) -> Result<Option<Code>, AllocError>
+    ensures closed { IfOk result (λ code. is_some code ≡ is_closed [] (expression exprs.now id)) }
+    ensures code { IfOk result (λ code. IfSome code (λ c. IsCodeOf (expression exprs.now id) c)) }
 {
-    compile(alloc, exprs, id, &Patterns::new())
+    closed_code(alloc, exprs, id, &Patterns::new())
 }
 
-/// The code of a function around which there are no names.
-pub fn function_code(alloc: Global, exprs: &Exprs, id: FunctionId) -> Result<Code, AllocError>
-    ensures { IfOk result (λ code. IsCodeOfFunction (function_at exprs.now id) code) }
+/// The code of a function in every scope, if it has no names from around it.
+pub fn function_code(
+    alloc: Global,
+    exprs: &Exprs,
+    id: FunctionId,
+) -> Result<Option<Code>, AllocError>
+    ensures closed { IfOk result (λ code. is_some code ≡ is_closed_function (function_at exprs.now id)) }
+    ensures code { IfOk result (λ code. IfSome code (λ c. IsCodeOfFunction (function_at exprs.now id) c)) }
 {
     let outside = Patterns::new();
     let patterns = outside.within(exprs.pattern(id));
-    compile(alloc, exprs, exprs.body(id), &patterns)
+    closed_code(alloc, exprs, exprs.body(id), &patterns)
+}
+
+/// The code of an expression where these names are around it: their values are constants in it.
+pub fn expression_code_in<N: Names>(
+    alloc: Global,
+    exprs: &Exprs,
+    id: ExprId,
+    names: &N,
+) -> Result<Code, AllocError>
+    ensures { IfOk result (λ code. (f : AnswersByName) → IsCodeOfIn (scope_with (N.values names.now) f) (expression exprs.now id) code) }
+{
+    compile(alloc, exprs, id, &Patterns::new(), names)
+}
+
+/// The code of a function where these names are around it: their values are constants in it.
+pub fn function_code_in<N: Names>(
+    alloc: Global,
+    exprs: &Exprs,
+    id: FunctionId,
+    names: &N,
+) -> Result<Code, AllocError>
+    ensures { IfOk result (λ code. (f : AnswersByName) → IsCodeOfFunctionIn (scope_with (N.values names.now) f) (function_at exprs.now id) code) }
+{
+    let outside = Patterns::new();
+    let patterns = outside.within(exprs.pattern(id));
+    compile(alloc, exprs, exprs.body(id), &patterns, names)
 }
 
 /// What an expression is worth by its code, or the first fault of its operations: operands stand from left to right.
 pub fn evaluate<F: Holds>(alloc: Global, code: &Code, functions: &F) -> Result<Value, EvalFault>
-    ensures { (e : Expression) → IsCodeOf e code.now → Evaluates result (eval e (no_names (F.answers functions.now))) }
+    ensures { (s : Scope) → functions_in s ≡ F.answers functions.now → (e : Expression) → IsCodeOfIn s e code.now → Evaluates result (eval e s) }
 {
     run(alloc, code, &Frames::new(), functions)
 }
@@ -47,7 +84,7 @@ pub fn apply<F: Holds>(
     value: &Value,
     functions: &F,
 ) -> Result<Value, EvalFault>
-    ensures { (g : Function) → IsCodeOfFunction g code.now → Evaluates result (applied g value.now (no_names (F.answers functions.now))) }
+    ensures { (s : Scope) → functions_in s ≡ F.answers functions.now → (g : Function) → IsCodeOfFunctionIn s g code.now → Evaluates result (applied g value.now s) }
 {
     let outside = Frames::new();
     let frames = outside.within(value);

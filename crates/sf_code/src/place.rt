@@ -1,6 +1,5 @@
 //! Places of names, and how they are found.
-ghost use Rattle.std.specs.Prelude.{◌≡◌, [], ◌∷◌, IfOk};
-ghost use Rattle.std.specs.Prelude.{option_map};
+ghost use Rattle.std.specs.Prelude.{◌≡◌, [], ◌∷◌, IfOk, is_some, option_map};
 ghost use Rattle.sf_expr.specs.Patterns.{pattern_of};
 ghost use Rattle.sf_code.specs.Compiling.{path_in as path_of_name, place_in as place_of_name};
 ghost use Rattle.sf_code.specs.PlaceView.{path_of, place_of, patterns_of};
@@ -73,6 +72,27 @@ impl<'a> Patterns<'a> {
                 },
             },
         }
+    }
+
+    /// Whether one of these patterns binds a name.
+    pub(crate) fn binds(&self, name: &str) -> bool
+        ensures { result ≡ is_some (place_of_name name.now (patterns_of self.now)) }
+    {
+        match self {
+            Patterns::Empty => false,
+            Patterns::Within(pattern, around) => binds(pattern, name) || around.binds(name),
+        }
+    }
+}
+
+/// Whether a pattern binds a name.
+fn binds(pattern: &Pat, name: &str) -> bool
+    ensures { result ≡ is_some (path_of_name name.now (pattern_of pattern.now)) }
+{
+    match pattern.form() {
+        PatForm::Unnamed => false,
+        PatForm::Name(own, _) => own.as_str() == name,
+        PatForm::Both(first, second) => binds(second, name) || binds(first, name),
     }
 }
 

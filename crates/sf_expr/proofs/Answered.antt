@@ -92,7 +92,7 @@ adds_any (adds_both a b) T =
 abbrev pub IsBound : Names → PlacedPattern → Kind → Spot → Type 0
 IsBound R p t at = ((S : Names) × Binds (pattern_of p) t R S × NamesFit S) ⊎ ((r : Breach) × PatternRefused p t at r)
 
-bound_or : (R : Names) (p : PlacedPattern) (t : Kind) (at : Spot) → NamesFit R → Fits t → IsBound R p t at
+pub bound_or : (R : Names) (p : PlacedPattern) (t : Kind) (at : Spot) → NamesFit R → Fits t → IsBound R p t at
 bound_or R p t at fit fits = elim (apart_or [] p tt) [
   | inr r ↦ inr (_, repeats r.1)
   | inl apart ↦ bound apart (names_with (pattern_of p) t R) refl

@@ -90,11 +90,11 @@ different_test [] h = refl
 different_test (x ∷ xs) h = rw (among_not x xs h.0) (different_test xs h.1)
 
 -- names that are bound
-record Bounded (p : Pattern) (t : Kind) (R S : Names) : Type 0 where
-  fits : Fits t
-  binds : Binds p t R S
+pub record Bounded (p : Pattern) (t : Kind) (R S : Names) : Type 0 where
+  pub fits : Fits t
+  pub binds : Binds p t R S
 
-bound_found : (p : Pattern) (t : Kind) (R S : Names) → names_bound p t R ≡ Some S → Bounded p t R S
+pub bound_found : (p : Pattern) (t : Kind) (R S : Names) → names_bound p t R ≡ Some S → Bounded p t R S
 bound_found p t R S = each (nat_le (nodes t) 256) (are_different (names_in p)) refl refl
   where
     each : (b d : Bool) → nat_le (nodes t) 256 ≡ b → are_different (names_in p) ≡ d → cond (b && d) (names_with p t R) None ≡ Some S → Bounded p t R S
@@ -102,7 +102,7 @@ bound_found p t R S = each (nat_le (nodes t) 256) (are_different (names_in p)) r
     each true false h k e = absurd cc
     each false d h k e = absurd cc
 
-found_bound : {p : Pattern} {t : Kind} {R S : Names} → Fits t → Binds p t R S → names_bound p t R ≡ Some S
+pub found_bound : {p : Pattern} {t : Kind} {R S : Names} → Fits t → Binds p t R S → names_bound p t R ≡ Some S
 found_bound {p} {t} fits binds = rw (test_fits t fits, different_test (names_in p) binds.apart) (adds_with binds.adds)
 
 -- ## Expressions

@@ -60,7 +60,7 @@ module _ {p : PlacedPattern} where
   repeated_differs : {s : Spot} → IsRepeated [] p s → AllDifferent (names_in (pattern_of p)) → ⊥
   repeated_differs r apart = repeated_apart r.before r.name r.after (subst (λ ns. AllDifferent ns) r.names apart) r.stood
 
-pattern_once : {p : PlacedPattern} {t : Kind} {at : Spot} {r q : Breach} → PatternRefused p t at r → PatternRefused p t at q → r ≡ q
+pub pattern_once : {p : PlacedPattern} {t : Kind} {at : Spot} {r q : Breach} → PatternRefused p t at r → PatternRefused p t at q → r ≡ q
 pattern_once (repeats h) (repeats k) = ap (breach_of DuplicateName) (repeated_once h k)
 pattern_once (repeats h) (fits_not apart none) = absurd (repeated_differs h apart)
 pattern_once (fits_not apart none) (repeats k) = absurd (repeated_differs k apart)

@@ -149,6 +149,15 @@ impl Exprs {
         self.pattern(id).depth().max(self.depth(body))
     }
 
+    /// How many patterns stand one inside another in the pattern at an id of patterns.
+    #[tactic(auto, using(crate::proofs::Entered::placed_shallow))]
+    pub fn pattern_depth(&self, pattern: PatternId) -> u32
+        ensures value { result ≡ pattern_depth (pattern_of (placed_at self.now pattern)) }
+        ensures bound { result ≤ 64 }
+    {
+        self.placed(pattern).depth()
+    }
+
     // How many patterns or expressions stand one inside another in a pattern and the expression that it binds names for.
     #[tactic(auto, using(crate::proofs::Entered::placed_shallow, crate::proofs::Entered::expression_shallow))]
     fn depth_under(&self, pattern: PatternId, body: ExprId) -> u32

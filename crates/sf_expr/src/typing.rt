@@ -93,6 +93,26 @@ impl<'a> TypeScope<'a> {
             (PatForm::Both(_, _), None) => Err(Refusal::broken(Rule::Mismatch, at)),
         }
     }
+
+    /// The names with those of a pattern behind them, for the parts of a type. Refused with `DuplicateName` where two of
+    /// the pattern's names are the same, with the place of the later one, then with `Mismatch` at `at` where it does not
+    /// fit the type, and with `Memory`.
+    pub fn within<'b>(
+        &'b self,
+        alloc: Global,
+        pattern: &'b Pat,
+        ty: &'b Ty,
+        at: Spot,
+    ) -> Result<TypeScope<'b>, Refusal>
+        ensures bound { IfOk result (λ names. Binds (pattern_of pattern.now) ty.now (names_of self.now) (names_of names)) }
+        ensures fits { OnOk result (Fits ty.now) }
+        ensures err { IfErr result (OrMemory (PatternRefused pattern.now ty.now at)) }
+    {
+        see(pattern, &mut SmallVec::new(alloc))?;
+        let mut names = self.shorter(alloc)?;
+        names.bind(pattern, ty, at)?;
+        Ok(names)
+    }
 }
 
 /// Whether a name was seen.
@@ -245,26 +265,6 @@ fn judge(
     }
 }
 
-/// The names around with those of a pattern behind them, for the parts of a type. Refused with `DuplicateName` where two
-/// of its names are the same, with the place of the later one, then with `Mismatch` at `at` where it does not fit the
-/// type, and with `Memory`.
-fn names_with<'a>(
-    alloc: Global,
-    pattern: &'a Pat,
-    from: &'a Ty,
-    around: &'a TypeScope,
-    at: Spot,
-) -> Result<TypeScope<'a>, Refusal>
-    ensures bound { IfOk result (λ names. Binds (pattern_of pattern.now) from.now (names_of around.now) (names_of names)) }
-    ensures fits { OnOk result (Fits from.now) }
-    ensures err { IfErr result (OrMemory (PatternRefused pattern.now from.now at)) }
-{
-    see(pattern, &mut SmallVec::new(alloc))?;
-    let mut names = around.shorter(alloc)?;
-    names.bind(pattern, from, at)?;
-    Ok(names)
-}
-
 /// The type of an expression where a pattern before it binds names for the parts of a type, or the first refusal.
 #[cycle(judge)]
 fn judge_part(
@@ -279,7 +279,7 @@ fn judge_part(
 ) -> Result<Ty, Refusal>
     ensures { JudgesPart exprs.now (with_types (signatures_in functions.now) (names_of around.now)) pattern.now body from.now at result }
 {
-    let names = names_with(alloc, &*pattern, &*from, &*around, at)?;
+    let names = (&*around).within(alloc, &*pattern, &*from, at)?;
     judge(alloc, &*exprs, body, &names, &*functions)
 }
 

@@ -7,7 +7,7 @@ use Rattle.sf_operator.specs.declared.operator.Operator.{Operator}
 use Rattle.sf_operator.specs.declared.operator.Mapping.{Mapping}
 use Rattle.sf_operator.specs.declared.operator.Mapping.TheVariants as mappings
 use Rattle.sf_operator.specs.declared.operator.Folding.{Folding}
-use Rattle.sf_term.specs.Trees.{bare, with_value, timed, arrow, accumulated, fused, Term, primitive, joined, sided, headed, staged, Template, term_depth, terms_in, expressions_in}
+use Rattle.sf_term.specs.Trees.{bare, never, with_value, timed, arrow, accumulated, fused, Term, primitive, joined, sided, headed, switching, staged, Template, term_depth, terms_in, expressions_in}
 use Rattle.sf_lex.specs.declared.word.Keyword.TheVariants as words
 use Rattle.sf_lex.specs.declared.symbol.Symbol.TheVariants as symbols
 use Rattle.sf_lex.specs.Tokens.{Tok, keyword, name, number, text, symbol}
@@ -16,8 +16,8 @@ use Rattle.sf_grammar.specs.declared.head.Head.TheVariants as heads
 use Rattle.sf_grammar.specs.declared.head.ExpressionHead.TheVariants as expression_heads
 use Rattle.sf_grammar.specs.declared.head.Link.{Link}
 use Rattle.sf_grammar.specs.declared.head.Link.TheVariants as links
-use Rattle.sf_grammar.specs.Spelling.{unary_word, takes_brackets, operator_token, stands_between, mapping_word, maps_in_brackets, folding_word, spell_operand, spell_operands, spell_choice, spell_mapped, spell_folded, spell_called, spell_keys, spell_type, spell_pattern, spell_literal, spell_expression, spell_function, spell_term, spell_signature, spell_template, bare_word, value_word, side_word, heading_word, timing_word, accumulation_word, join_symbol, in_brackets, type_depth, WritesType, WritesExpression, WritesFunction, WritesTerm, HasWrittenTypes}
-use Rattle.sf_grammar.specs.Reading.{parse_timed, Read, got, ◌and_then◌, Counts, counts_with, counts_with_expression, parse_symbol, parse_keys, parse_outer_type, parse_inner_type, parse_pair_type, parse_pattern, parse_pattern_pair, parse_link, linked, parse_linked, bracketed_from, parse_none, parse_prefixed, parse_one_in_brackets, parse_two_in_brackets, parse_conditional, parse_mapping, parse_let, parse_one_and_function, parse_two_and_function, parse_called, expression_head, parse_expression, expression_read, parse_function, parse_join, parse_term, term_read, parse_joined, parse_value, parse_arrow, parse_accumulated, parse_sided, parse_headed, parse_heading, parse_signature, parse_template}
+use Rattle.sf_grammar.specs.Spelling.{unary_word, takes_brackets, operator_token, stands_between, mapping_word, maps_in_brackets, folding_word, spell_operand, spell_operands, spell_choice, spell_mapped, spell_folded, spell_called, spell_mapping, spell_keys, spell_type, spell_pattern, spell_literal, spell_expression, spell_function, spell_term, spell_signature, spell_template, bare_word, value_word, side_word, heading_word, timing_word, accumulation_word, switching_word, join_symbol, in_brackets, type_depth, WritesType, WritesExpression, WritesFunction, WritesTerm, HasWrittenTypes}
+use Rattle.sf_grammar.specs.Reading.{parse_never, parse_timed, Read, got, ◌and_then◌, Counts, counts_with, counts_with_expression, parse_symbol, parse_keys, parse_outer_type, parse_inner_type, parse_pair_type, parse_pattern, parse_pattern_pair, parse_link, linked, parse_linked, bracketed_from, parse_none, parse_prefixed, parse_one_in_brackets, parse_two_in_brackets, parse_conditional, parse_mapping, parse_let, parse_one_and_function, parse_two_and_function, parse_called, expression_head, parse_expression, expression_read, parse_function, parse_join, parse_term, term_read, parse_joined, parse_value, parse_arrow, parse_accumulated, parse_sided, parse_headed, parse_body, parse_switching, parse_heading, parse_signature, parse_template}
 use Rattle.sf_grammar.proofs.Words.{head_again, join_again, link_again, link_token, LinksBetween, unary_again, IsInFront, operator_again, folding_again, keys_again, no_close}
 use Rattle.sf_grammar.proofs.Parts.{within, type_within, brackets_behind, three_behind, parts_again}
 
@@ -260,10 +260,17 @@ pub function_again : (v : Version) (f : Function) (d : ℕ) (c : Counts) (rest :
 unfolding parse_function
 function_again v (function p e) d c rest deep few known = mapping_again v p e d c rest (omega arith) (λ rest. expression_again v e d c rest (omega arith) few known)
 
+-- the body of a switch whose term is read again
+body_again : (v : Version) (p : Pattern) (f : Term) (d : ℕ) (c : Counts) (rest : List Tok) → pattern_depth p ≤ d → ((rest : List Tok) → parse_term d v c (spell_term v f ++ rest) ≡ got f rest)
+    → parse_body d (parse_term d v) c (spell_mapping (spell_pattern p) (spell_term v f) ++ rest) ≡ got (p, f) rest
+body_again v p f d c rest deep part =
+    rw (append_assoc (spell_pattern p) (symbol symbols.MapsTo ∷ spell_term v f) rest, pattern_again p d (symbol symbols.MapsTo ∷ (spell_term v f ++ rest)) deep, part rest) refl
+
 pub term_again : (v : Version) (t : Term) (d : ℕ) (c : Counts) (rest : List Tok) → d ≤ 64 → term_depth t ≤ d → c.terms + terms_in t ≤ 100000 → c.expressions + expressions_in t ≤ 100000 → WritesTerm v d t
     → parse_term d v c (spell_term v t ++ rest) ≡ got t rest
-unfolding parse_term parse_joined parse_value parse_timed parse_arrow parse_accumulated parse_sided parse_headed
+unfolding parse_term parse_joined parse_never parse_value parse_timed parse_arrow parse_accumulated parse_sided parse_headed parse_switching
 term_again v (primitive (bare b)) zero c rest small deep few_terms few_expressions known = absurd (omega arith)
+term_again v (primitive (never t)) zero c rest small deep few_terms few_expressions known = absurd (omega arith)
 term_again v (primitive (with_value k e)) zero c rest small deep few_terms few_expressions known = absurd (omega arith)
 term_again v (primitive (timed k q e)) zero c rest small deep few_terms few_expressions known = absurd (omega arith)
 term_again v (primitive (arrow f)) zero c rest small deep few_terms few_expressions known = absurd (omega arith)
@@ -273,8 +280,12 @@ term_again v (staged x f g) d c rest small deep few_terms few_expressions known 
 term_again v (joined j f g) zero c rest small deep few_terms few_expressions known = absurd (omega arith)
 term_again v (sided s f) zero c rest small deep few_terms few_expressions known = absurd (omega arith)
 term_again v (headed h e f) zero c rest small deep few_terms few_expressions known = absurd (omega arith)
+term_again v (switching w f p g) zero c rest small deep few_terms few_expressions known = absurd (omega arith)
 term_again v (primitive (bare b)) (suc d) c rest small deep few_terms few_expressions known =
     rw (head_again (heads.Bare b)) (within (c.terms + 1) (primitive (bare b)) (keyword (bare_word b) ∷ rest) rest few_terms)
+term_again v (primitive (never t)) (suc d) c rest small deep few_terms few_expressions known =
+    rw (inner_type_again v t d (spell_type v t ++ rest) 0 rest known.shallow (omega (arith, known.few)) known.known)
+    (within (c.terms + 1) (primitive (never t)) (keyword words.Never ∷ (spell_type v t ++ rest)) rest few_terms)
 term_again v (primitive (with_value k e)) (suc d) c rest small deep few_terms few_expressions known =
     rw (head_again (heads.WithValue k), expression_again v e d c rest (omega arith) few_expressions known)
     (within (c.terms + 1) (primitive (with_value k e)) (keyword (value_word k) ∷ (spell_expression v e ++ rest)) rest few_terms)
@@ -314,6 +325,16 @@ term_again v (headed h e f) (suc d) c rest small deep few_terms few_expressions 
     (expression_again v e d c (symbol symbols.Comma ∷ behind) (omega arith) (omega arith) known.0) refl
     (term_again v f d (counts_with_expression c e) (symbol symbols.Close ∷ rest) (omega arith) (omega arith) (omega arith) (omega arith) known.1))
     ∙ within (c.terms + terms_in (headed h e f)) (headed h e f) start rest few_terms
+term_again v (switching w f p g) (suc d) c rest small deep few_terms few_expressions known =
+    let body : List Tok = spell_mapping (spell_pattern p) (spell_term v g) in
+    let behind : List Tok = body ++ (symbol symbols.Close ∷ rest) in
+    let start : List Tok = keyword (switching_word w) ∷ symbol symbols.Open ∷ (spell_term v f ++ (symbol symbols.Comma ∷ behind)) in
+    ap (λ (r : List Tok). parse_term (suc d) v c (keyword (switching_word w) ∷ symbol symbols.Open ∷ r)) (brackets_behind (spell_term v f) body rest (symbol symbols.Comma))
+    ∙ rw (head_again (heads.Switching w)) (parts_again (parse_term d v c) (parse_symbol symbols.Comma) (λ f. parse_body d (parse_term d v) (counts_with c f)) (λ f _ b rest. term_read c (switching w f b.0 b.1) start rest) f tt (p, g)
+    (spell_term v f ++ (symbol symbols.Comma ∷ behind)) (symbol symbols.Comma ∷ behind) behind rest
+    (term_again v f d c (symbol symbols.Comma ∷ behind) (omega arith) (omega arith) (omega arith) (omega arith) known.0) refl
+    (body_again v p g d (counts_with c f) (symbol symbols.Close ∷ rest) (omega arith) (λ rest. term_again v g d (counts_with c f) rest (omega arith) (omega arith) (omega arith) (omega arith) known.1)))
+    ∙ within (c.terms + terms_in (switching w f p g)) (switching w f p g) start rest few_terms
 
 pub signature_again : (v : Version) (t : Template) (rest : List Tok) → HasWrittenTypes v t → parse_signature v (spell_signature v t ++ rest) ≡ got (t.input, t.output) rest
 unfolding parse_signature

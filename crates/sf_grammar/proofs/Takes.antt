@@ -13,7 +13,8 @@ use Rattle.sf_term.specs.declared.form.Accumulation.{Accumulation}
 use Rattle.sf_term.specs.declared.form.Join.{Join}
 use Rattle.sf_term.specs.declared.form.Side.{Side}
 use Rattle.sf_term.specs.declared.form.Heading.{Heading}
-use Rattle.sf_term.specs.Trees.{bare, with_value, timed, arrow, accumulated, Term, primitive, joined, sided, headed, Template, term_depth, terms_in, expressions_in}
+use Rattle.sf_term.specs.declared.form.Switching.{Switching}
+use Rattle.sf_term.specs.Trees.{bare, never, with_value, timed, arrow, accumulated, Term, primitive, joined, sided, headed, switching, Template, term_depth, terms_in, expressions_in}
 use Rattle.sf_lex.specs.declared.word.Keyword.{Keyword}
 use Rattle.sf_lex.specs.declared.word.Keyword.TheVariants as words
 use Rattle.sf_lex.specs.declared.symbol.Symbol.{Symbol}
@@ -28,8 +29,8 @@ use Rattle.sf_grammar.specs.declared.head.ExpressionHead.{ExpressionHead}
 use Rattle.sf_grammar.specs.declared.head.ExpressionHead.TheVariants as expression_heads
 use Rattle.sf_grammar.specs.declared.head.Link.{Link}
 use Rattle.sf_grammar.specs.declared.head.Link.TheVariants as links
-use Rattle.sf_grammar.specs.Spelling.{version_number, mapping_word, folding_word, spell_keys, spell_type, spell_pattern, spell_expression, spell_function, spell_term, spell_signature, spell_template, bare_word, value_word, side_word, heading_word, timing_word, accumulation_word, join_symbol, type_depth, WritesType, IsWrittenType, WritesExpression, WritesFunction, WritesTerm, HasWrittenTypes}
-use Rattle.sf_grammar.specs.Reading.{parse_number, parse_timed, Read, got, ◌and_then◌, Counts, counts_with, counts_with_expression, begins_type, begins_pattern, begins_expression, begins_term, type_head, word_kind, parse_keys, parse_outer_type, parse_headed_type, type_from, parse_inner_type, parse_pair_type, parse_pattern, parse_pattern_pair, link_of, link_from, parse_link, linked, parse_linked, behind_close, bracketed_from, parse_none, expression_head, parse_prefixed, parse_one_in_brackets, parse_two_in_brackets, parse_conditional, parse_mapping, parse_let, mapped_by, folded_by, parse_one_and_function, parse_two_and_function, parse_called, parse_worded_expression, parse_expression, expression_read, parse_function, parse_term, parse_joined, parse_value, parse_arrow, parse_accumulated, parse_sided, parse_headed, parse_worded, head_of, join_of, parse_join, join_from, term_read, parse_parts, parse_opening, parse_heading, parse_signature, parse_template, template_of, parse_symbol, parse_name, parse_type, parse_keyword, parse_version}
+use Rattle.sf_grammar.specs.Spelling.{version_number, mapping_word, folding_word, spell_keys, spell_type, spell_mapping, spell_pattern, spell_expression, spell_function, spell_term, spell_signature, spell_template, bare_word, value_word, side_word, heading_word, timing_word, accumulation_word, switching_word, join_symbol, type_depth, WritesType, IsWrittenType, WritesExpression, WritesFunction, WritesTerm, HasWrittenTypes}
+use Rattle.sf_grammar.specs.Reading.{parse_number, parse_never, parse_timed, Read, got, ◌and_then◌, Counts, counts_with, counts_with_expression, begins_type, begins_pattern, begins_expression, begins_term, type_head, word_kind, parse_keys, parse_outer_type, parse_headed_type, type_from, parse_inner_type, parse_pair_type, parse_pattern, parse_pattern_pair, link_of, link_from, parse_link, linked, parse_linked, behind_close, bracketed_from, parse_none, expression_head, parse_prefixed, parse_one_in_brackets, parse_two_in_brackets, parse_conditional, parse_mapping, parse_let, mapped_by, folded_by, parse_one_and_function, parse_two_and_function, parse_called, parse_worded_expression, parse_expression, expression_read, parse_function, parse_term, parse_joined, parse_value, parse_arrow, parse_accumulated, parse_sided, parse_headed, parse_body, parse_switching, parse_worded, head_of, join_of, parse_join, join_from, term_read, parse_parts, parse_opening, parse_heading, parse_signature, parse_template, template_of, parse_symbol, parse_name, parse_type, parse_keyword, parse_version}
 use Rattle.sf_grammar.proofs.Words.{head_takes, join_takes, link_token, LinksBetween, IsLinkToken, link_takes, BeginsWith, expression_head_takes, type_word, type_token, type_head_takes, IsWordKind, word_kind_is, close_takes}
 use Rattle.sf_grammar.proofs.Parts.{Same, bind_got, got_same, within_takes, deep_takes, met_takes, parts_takes, brackets_took, three_behind, symbol_takes, keyword_takes, name_takes, version_takes, TookKeys, keys_takes}
 
@@ -520,6 +521,17 @@ value_takes v d c k tokens t rest is =
     took_as v (suc d) c start (primitive (with_value k e)) t behind rest same
     (record { spelled = ap (λ r. keyword (value_word k) ∷ r) took.spelled; shallow = omega (arith, took.shallow); few_terms = few_terms; few_expressions = took.few; known = took.known })))
 
+never_takes : (v : Version) (d : ℕ) (c : Counts) (tokens : List Tok) (t : Term) (rest : List Tok) → c.expressions ≤ 100000
+    → parse_never d v c (keyword words.Never ∷ tokens) tokens ≡ got t rest → Took v (suc d) c (keyword words.Never ∷ tokens) t rest
+unfolding parse_never
+never_takes v d c tokens t rest few is =
+    let start : List Tok = keyword words.Never ∷ tokens in
+    bind_got (λ u r. term_read c (primitive (never u)) start r) (parse_inner_type d v tokens 0 tokens) t rest is (λ u behind at_u is_u.
+    let took : TookType v d 0 tokens u behind = inner_type_takes v d tokens 0 tokens u behind at_u in
+    within_takes (c.terms + 1) (primitive (never u)) t start behind rest is_u (λ few_terms same.
+    took_as v (suc d) c start (primitive (never u)) t behind rest same
+    (record { spelled = ap (λ r. keyword words.Never ∷ r) took.spelled; shallow = omega arith; few_terms = few_terms; few_expressions = omega arith; known = written_type v d tokens u behind took })))
+
 number_takes : (tokens : List Tok) (q : ℤ) (rest : List Tok) → parse_number tokens ≡ got q rest → tokens ≡ number q ∷ rest
 number_takes (number z ∷ tokens) q rest is = let same = got_same z q tokens rest is in let e : z ≡ q = same.value in let r : tokens ≡ rest = same.rest in cc
 number_takes _ q rest is = cc
@@ -600,6 +612,55 @@ headed_takes v d c h tokens t rest part is =
       known = (one.known, two.known);
     }))))
 
+-- what was taken of the body of a switch
+pub record TookBody (v : Version) (d : ℕ) (c : Counts) (tokens : List Tok) (b : Pattern × Term) (rest : List Tok) : Type 0 where
+  pub spelled : tokens ≡ spell_mapping (spell_pattern b.0) (spell_term v b.1) ++ rest
+  pub pattern : pattern_depth b.0 ≤ d
+  pub shallow : term_depth b.1 ≤ d
+  pub few_terms : c.terms + terms_in b.1 ≤ 100000
+  pub few_expressions : c.expressions + expressions_in b.1 ≤ 100000
+  pub known : WritesTerm v d b.1
+
+pub body_takes : (v : Version) (d : ℕ) (c : Counts) (tokens : List Tok) (b : Pattern × Term) (rest : List Tok) → Takes v d → c.expressions ≤ 100000
+    → parse_body d (parse_term d v) c tokens ≡ got b rest → TookBody v d c tokens b rest
+body_takes v d c tokens b rest part few is =
+    bind_got (λ p r. parse_symbol symbols.MapsTo r and_then λ _ r. parse_term d v c r and_then λ f r. got (p, f) r) (parse_pattern d tokens) b rest is (λ p r1 at_p is_p.
+    bind_got (λ _ r. parse_term d v c r and_then λ f r. got (p, f) r) (parse_symbol symbols.MapsTo r1) b rest is_p (λ u r2 leads is_u.
+    bind_got (λ f r. got (p, f) r) (parse_term d v c r2) b rest is_u (λ f r3 at_f is_f.
+    let one : TookPattern d tokens p r1 = pattern_takes d tokens p r1 at_p in
+    let two : Took v d c r2 f r3 = part c r2 f r3 few at_f in
+    let same : Same (p, f) b r3 rest = got_same (p, f) b r3 rest is_f in
+    let took : TookBody v d c tokens (p, f) r3 = record {
+      spelled = rw (one.spelled, symbol_takes symbols.MapsTo r1 u r2 leads, two.spelled, append_assoc (spell_pattern p) (symbol symbols.MapsTo ∷ spell_term v f) r3) refl;
+      pattern = one.shallow;
+      shallow = two.shallow;
+      few_terms = two.few_terms;
+      few_expressions = two.few_expressions;
+      known = two.known;
+    } in
+    subst (λ (b : Pattern × Term). TookBody v d c tokens b rest) same.value (subst (λ (r : List Tok). TookBody v d c tokens (p, f) r) same.rest took))))
+
+switching_takes : (v : Version) (d : ℕ) (c : Counts) (w : Switching) (tokens : List Tok) (t : Term) (rest : List Tok) → Takes v d → c.expressions ≤ 100000
+    → parse_switching d (parse_term d v) c w (keyword (switching_word w) ∷ tokens) tokens ≡ got t rest → Took v (suc d) c (keyword (switching_word w) ∷ tokens) t rest
+unfolding parse_switching
+switching_takes v d c w tokens t rest part few is =
+    let start : List Tok = keyword (switching_word w) ∷ tokens in
+    let body : Term → List Tok → Read (Pattern × Term) = λ f. parse_body d (parse_term d v) (counts_with c f) in
+    bind_got (λ _ r. parse_parts (parse_term d v c) (parse_symbol symbols.Comma) body (λ f _ b rest. term_read c (switching w f b.0 b.1) start rest) r) (parse_symbol symbols.Open tokens) t rest is (λ u r0 opened is_u.
+    parts_takes (parse_term d v c) (parse_symbol symbols.Comma) body (λ f _ b rest. term_read c (switching w f b.0 b.1) start rest) r0 t rest is_u
+    (λ f m b r1 r2 r3 r4 at_f at_m at_b closed is_t.
+    within_takes (c.terms + terms_in (switching w f b.0 b.1)) (switching w f b.0 b.1) t start r4 rest is_t (λ few_terms same.
+    let one : Took v d c r0 f r1 = part c r0 f r1 few at_f in
+    let two : TookBody v d (counts_with c f) r2 b r3 = body_takes v d (counts_with c f) r2 b r3 part one.few_expressions at_b in
+    took_as v (suc d) c start (switching w f b.0 b.1) t r4 rest same (record {
+      spelled = ap (λ r. keyword (switching_word w) ∷ r) (symbol_takes symbols.Open tokens u r0 opened
+          ∙ brackets_took (spell_term v f) (spell_mapping (spell_pattern b.0) (spell_term v b.1)) r0 r1 r2 r3 r4 (symbol symbols.Comma) one.spelled (symbol_takes symbols.Comma r1 m r2 at_m) two.spelled closed);
+      shallow = omega (arith, one.shallow, two.pattern, two.shallow);
+      few_terms = few_terms;
+      few_expressions = omega (arith, two.few_expressions);
+      known = (one.known, two.known);
+    }))))
+
 -- what begins with a word begins with the form's own
 by_word : (v : Version) (d : ℕ) (c : Counts) (k w : Keyword) (tokens : List Tok) (t : Term) (rest : List Tok) (read : List Tok → Read Term) → k ≡ w → read (keyword k ∷ tokens) ≡ got t rest
     → (read (keyword w ∷ tokens) ≡ got t rest → Took v (suc d) c (keyword w ∷ tokens) t rest) → Took v (suc d) c (keyword k ∷ tokens) t rest
@@ -613,6 +674,8 @@ worded_takes v d c (Some (heads.Bare b)) k tokens t rest part found few is =
     within_takes (c.terms + 1) (primitive (bare b)) t (keyword k ∷ tokens) tokens rest is (λ few_terms same.
     took_as v (suc d) c (keyword k ∷ tokens) (primitive (bare b)) t tokens rest same
     (record { spelled = ap (λ w. keyword w ∷ tokens) word; shallow = omega arith; few_terms = few_terms; few_expressions = omega arith; known = tt }))
+worded_takes v d c (Some heads.Never) k tokens t rest part found few is =
+    by_word v d c k words.Never tokens t rest (λ start. parse_never d v c start tokens) (head_takes k heads.Never found) is (never_takes v d c tokens t rest few)
 worded_takes v d c (Some (heads.WithValue w)) k tokens t rest part found few is =
     by_word v d c k (value_word w) tokens t rest (λ start. parse_value d v c w start tokens) (head_takes k (heads.WithValue w) found) is (value_takes v d c w tokens t rest)
 worded_takes v d c (Some (heads.Timed w)) k tokens t rest part found few is =
@@ -625,6 +688,8 @@ worded_takes v d c (Some (heads.Sided s)) k tokens t rest part found few is =
     by_word v d c k (side_word s) tokens t rest (λ start. parse_sided (parse_term d v) c s start tokens) (head_takes k (heads.Sided s) found) is (sided_takes v d c s tokens t rest part few)
 worded_takes v d c (Some (heads.Headed h)) k tokens t rest part found few is =
     by_word v d c k (heading_word h) tokens t rest (λ start. parse_headed d v (parse_term d v) c h start tokens) (head_takes k (heads.Headed h) found) is (headed_takes v d c h tokens t rest part)
+worded_takes v d c (Some (heads.Switching w)) k tokens t rest part found few is =
+    by_word v d c k (switching_word w) tokens t rest (λ start. parse_switching d (parse_term d v) c w start tokens) (head_takes k (heads.Switching w) found) is (switching_takes v d c w tokens t rest part few)
 worded_takes v d c None k tokens t rest part found few is = cc
 
 join_from_takes : (o : Option Join) (s : Symbol) (tokens : List Tok) (j : Join) (rest : List Tok) → join_of s ≡ o → join_from o s tokens ≡ got j rest → symbol s ∷ tokens ≡ symbol (join_symbol j) ∷ rest

@@ -8,6 +8,7 @@ use Rattle.sf_term.specs.declared.form.Join.{Join}
 use Rattle.sf_term.specs.declared.form.Join.TheVariants as joins
 use Rattle.sf_term.specs.declared.form.Side.TheVariants as sides
 use Rattle.sf_term.specs.declared.form.Heading.TheVariants as headings
+use Rattle.sf_term.specs.declared.form.Switching.TheVariants as switches
 use Rattle.sf_operator.specs.declared.operator.Unary.{Unary}
 use Rattle.sf_operator.specs.declared.operator.Unary.TheVariants as unaries
 use Rattle.sf_operator.specs.declared.operator.Operator.{Operator}
@@ -39,7 +40,7 @@ use Rattle.sf_grammar.specs.declared.head.ExpressionHead.{ExpressionHead}
 use Rattle.sf_grammar.specs.declared.head.ExpressionHead.TheVariants as expression_heads
 use Rattle.sf_grammar.specs.declared.head.Link.{Link}
 use Rattle.sf_grammar.specs.declared.head.Link.TheVariants as links
-use Rattle.sf_grammar.specs.Spelling.{bare_word, value_word, timing_word, accumulation_word, side_word, heading_word, join_symbol, unary_word, takes_brackets, operator_token, stands_between, mapping_word, maps_in_brackets, folding_word, spell_operands, spell_type, spell_keys, type_depth, WritesKeys, WritesType, spell_expression}
+use Rattle.sf_grammar.specs.Spelling.{bare_word, value_word, timing_word, accumulation_word, side_word, heading_word, switching_word, join_symbol, unary_word, takes_brackets, operator_token, stands_between, mapping_word, maps_in_brackets, folding_word, spell_operands, spell_type, spell_keys, type_depth, WritesKeys, WritesType, spell_expression}
 use Rattle.sf_grammar.specs.Reading.{head_of, join_of, operator_of, link_of, expression_head, type_head, word_kind, got, parse_keys, behind_close}
 
 -- the word of a form
@@ -47,10 +48,12 @@ abbrev pub head_word : Head → Keyword
 head_word (heads.Bare b) = bare_word b
 head_word (heads.WithValue v) = value_word v
 head_word (heads.Timed k) = timing_word k
+head_word heads.Never = words.Never
 head_word heads.Arrow = words.Arr
 head_word (heads.Accumulated k) = accumulation_word k
 head_word (heads.Sided s) = side_word s
 head_word (heads.Headed h) = heading_word h
+head_word (heads.Switching w) = switching_word w
 
 pub head_again : (h : Head) → head_of (head_word h) ≡ Some h
 head_again (heads.Bare bares.Identity) = refl
@@ -64,6 +67,7 @@ head_again (heads.WithValue values.InitialPre) = refl
 head_again (heads.WithValue values.Now) = refl
 head_again (heads.WithValue values.Hold) = refl
 head_again (heads.Timed timings.After) = refl
+head_again heads.Never = refl
 head_again heads.Arrow = refl
 head_again (heads.Accumulated accumulations.AccumBy) = refl
 head_again (heads.Accumulated accumulations.AccumHoldBy) = refl
@@ -71,6 +75,8 @@ head_again (heads.Accumulated accumulations.Scan) = refl
 head_again (heads.Sided sides.First) = refl
 head_again (heads.Sided sides.Second) = refl
 head_again (heads.Headed headings.LoopPre) = refl
+head_again (heads.Switching switches.Switch) = refl
+head_again (heads.Switching switches.DSwitch) = refl
 
 pub head_takes : (k : Keyword) (h : Head) → head_of k ≡ Some h → k ≡ head_word h
 head_takes words.Identity h e = let p : heads.Bare bares.Identity ≡ h = cc in rw (← p) refl
@@ -83,6 +89,7 @@ head_takes words.Constant h e = let p : heads.WithValue values.Constant ≡ h = 
 head_takes words.IPre h e = let p : heads.WithValue values.InitialPre ≡ h = cc in rw (← p) refl
 head_takes words.Now h e = let p : heads.WithValue values.Now ≡ h = cc in rw (← p) refl
 head_takes words.Hold h e = let p : heads.WithValue values.Hold ≡ h = cc in rw (← p) refl
+head_takes words.Never h e = let p : heads.Never ≡ h = cc in rw (← p) refl
 head_takes words.After h e = let p : heads.Timed timings.After ≡ h = cc in rw (← p) refl
 head_takes words.Arr h e = let p : heads.Arrow ≡ h = cc in rw (← p) refl
 head_takes words.AccumBy h e = let p : heads.Accumulated accumulations.AccumBy ≡ h = cc in rw (← p) refl
@@ -91,6 +98,8 @@ head_takes words.Sscan h e = let p : heads.Accumulated accumulations.Scan ≡ h 
 head_takes words.First h e = let p : heads.Sided sides.First ≡ h = cc in rw (← p) refl
 head_takes words.Second h e = let p : heads.Sided sides.Second ≡ h = cc in rw (← p) refl
 head_takes words.LoopPre h e = let p : heads.Headed headings.LoopPre ≡ h = cc in rw (← p) refl
+head_takes words.Switch h e = let p : heads.Switching switches.Switch ≡ h = cc in rw (← p) refl
+head_takes words.DSwitch h e = let p : heads.Switching switches.DSwitch ≡ h = cc in rw (← p) refl
 head_takes _ h e = cc
 
 pub join_again : (j : Join) → join_of (join_symbol j) ≡ Some j

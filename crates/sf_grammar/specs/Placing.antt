@@ -22,16 +22,17 @@ use Rattle.sf_term.specs.declared.form.Accumulation.{Accumulation}
 use Rattle.sf_term.specs.declared.form.Join.{Join}
 use Rattle.sf_term.specs.declared.form.Side.{Side}
 use Rattle.sf_term.specs.declared.form.Heading.{Heading}
+use Rattle.sf_term.specs.declared.form.Switching.{Switching}
 use Rattle.sf_term.specs.declared.node.TermId.{TermId}
 use Rattle.sf_term.specs.declared.node.Primitive.TheVariants as primitives
 use Rattle.sf_term.specs.declared.node.Node.{Node}
 use Rattle.sf_term.specs.declared.node.Node.TheVariants as nodes
 use Rattle.sf_term.specs.declared.program.Program.{Program}
 use Rattle.sf_term.specs.Headers.{Header}
-use Rattle.sf_term.specs.Arena.{HoldsTerm, HoldsExpression, HoldsPatternIn, ProgramHoldsFunction, term_node_at, term_spot_at, expression_under, expression_node_at, expression_spot_at, function_pattern_at, function_body_at, pattern_under, headers_of, template_in, templates_of}
+use Rattle.sf_term.specs.Arena.{HoldsTerm, HoldsExpression, HoldsPatternIn, ProgramHoldsFunction, term_node_at, term_spot_at, expression_under, expression_node_at, expression_spot_at, function_pattern_at, function_body_at, pattern_under, headers_of, template_in, templates_of, tree}
 use Rattle.sf_lex.specs.Tokens.{Located, place_at}
 use Rattle.sf_grammar.specs.declared.ty.Version.{Version}
-use Rattle.sf_grammar.specs.Spelling.{takes_brackets, stands_between, maps_in_brackets, spell_expression, spell_signature, IsNetworkText}
+use Rattle.sf_grammar.specs.Spelling.{takes_brackets, stands_between, maps_in_brackets, spell_expression, spell_signature, IsNetworkText, spell_term}
 
 -- the places of two parts in brackets, with a token between them
 abbrev pub around : Spot → List Spot → Spot → List Spot → Spot → List Spot
@@ -97,6 +98,8 @@ pub record TermStands (p : Program) (id : TermId) (n : Node) (at : Spot) : Type 
 -- the term at an id, whose tokens have these places
 pub data TermPlaced (v : Version) (p : Program) : TermId → List Spot → Type 0 where
   bare_placed : {id : TermId} {k : Bare} {at : Spot} → TermStands p id (nodes.Primitive (primitives.Bare k)) at → TermPlaced v p id (at ∷ [])
+  never_placed : {id : TermId} {n : ConstantId} {xs : List Spot} {at : Spot} → TermStands p id (nodes.Primitive (primitives.Never n)) at
+      → length (at ∷ xs) ≡ length (spell_term v (tree p id)) → TermPlaced v p id (at ∷ xs)
   with_value_placed : {id : TermId} {k : WithValue} {e : ExprId} {xs : List Spot} {at : Spot} → TermStands p id (nodes.Primitive (primitives.WithValue k e)) at
       → ExpressionPlaced v p e xs → TermPlaced v p id (at ∷ xs)
   timed_placed : {id : TermId} {k : Timing} {q : ℤ} {e : ExprId} {xs : List Spot} {at : Spot} (time : Spot) → TermStands p id (nodes.Primitive (primitives.Timed k q e)) at
@@ -111,6 +114,8 @@ pub data TermPlaced (v : Version) (p : Program) : TermId → List Spot → Type 
       → TermPlaced v p a xs → TermPlaced v p id (at ∷ xs)
   headed_placed : {id a : TermId} {e : ExprId} {h : Heading} {xs ys : List Spot} {at : Spot} (opening comma closing : Spot) → TermStands p id (nodes.Headed h e a) at
       → ExpressionPlaced v p e xs → TermPlaced v p a ys → TermPlaced v p id (at ∷ around opening xs comma ys closing)
+  switching_placed : {id a b : TermId} {w : Switching} {q : PatternId} {xs ps ys : List Spot} {at : Spot} (opening comma leads closing : Spot) → TermStands p id (nodes.Switching w a q b) at
+      → TermPlaced v p a xs → PatternStands p q ps → TermPlaced v p b ys → TermPlaced v p id (at ∷ around opening xs comma (ps ++ (leads ∷ ys)) closing)
 
 -- a template whose tokens have these places, in a text of the version: its name stands at the second, and its body behind as many as spell its types
 pub record TemplatePlaced (v : Version) (p : Program) (h : Header) (places : List Spot) : Type 0 where

@@ -30,7 +30,9 @@ use Rattle.sf_term.specs.declared.form.Side.{Side}
 use Rattle.sf_term.specs.declared.form.Side.TheVariants as sides
 use Rattle.sf_term.specs.declared.form.Heading.{Heading}
 use Rattle.sf_term.specs.declared.form.Heading.TheVariants as headings
-use Rattle.sf_term.specs.Trees.{Term, primitive, joined, sided, headed, bare, with_value, timed, arrow, accumulated, Template, terms_in, expressions_in}
+use Rattle.sf_term.specs.declared.form.Switching.{Switching}
+use Rattle.sf_term.specs.declared.form.Switching.TheVariants as switches
+use Rattle.sf_term.specs.Trees.{Term, primitive, joined, sided, headed, switching, bare, never, with_value, timed, arrow, accumulated, Template, terms_in, expressions_in}
 use Rattle.sf_lex.specs.declared.word.Keyword.{Keyword}
 use Rattle.sf_lex.specs.declared.word.Keyword.TheVariants as words
 use Rattle.sf_lex.specs.declared.symbol.Symbol.{Symbol}
@@ -425,6 +427,7 @@ head_of words.IPre = Some (heads.WithValue values.InitialPre)
 head_of words.Now = Some (heads.WithValue values.Now)
 head_of words.Hold = Some (heads.WithValue values.Hold)
 head_of words.After = Some (heads.Timed timings.After)
+head_of words.Never = Some heads.Never
 head_of words.Arr = Some heads.Arrow
 head_of words.AccumBy = Some (heads.Accumulated accumulations.AccumBy)
 head_of words.AccumHoldBy = Some (heads.Accumulated accumulations.AccumHoldBy)
@@ -432,6 +435,8 @@ head_of words.Sscan = Some (heads.Accumulated accumulations.Scan)
 head_of words.First = Some (heads.Sided sides.First)
 head_of words.Second = Some (heads.Sided sides.Second)
 head_of words.LoopPre = Some (heads.Headed headings.LoopPre)
+head_of words.Switch = Some (heads.Switching switches.Switch)
+head_of words.DSwitch = Some (heads.Switching switches.DSwitch)
 head_of _ = None
 
 abbrev pub join_of : Symbol → Option Join
@@ -448,6 +453,10 @@ parse_value left v c k start tokens = parse_expression left v c tokens and_then 
 abbrev pub parse_number : List Tok → Read ℤ
 parse_number (number z ∷ rest) = got z rest
 parse_number tokens = stop Unexpected tokens
+
+-- behind `never`, with which `start` begins, where so much depth is left
+unfoldable pub parse_never : ℕ → Version → Counts → List Tok → List Tok → Read Term
+parse_never left v c start tokens = parse_inner_type left v tokens 0 tokens and_then λ t rest. term_read c (primitive (never t)) start rest
 
 -- behind the word of a primitive with a time and a value
 unfoldable pub parse_timed : ℕ → Version → Counts → Timing → List Tok → List Tok → Read Term
@@ -473,15 +482,31 @@ parse_headed left v part c h start tokens =
     parse_symbol symbols.Open tokens and_then λ _ rest.
     parse_parts (parse_expression left v c) (parse_symbol symbols.Comma) (λ e. part (counts_with_expression c e)) (λ e _ f rest. term_read c (headed h e f) start rest) rest
 
+-- the body of a switch: a pattern of so much depth at most, and a term, where that is read so
+abbrev pub parse_body : ℕ → (Counts → List Tok → Read Term) → Counts → List Tok → Read (Pattern × Term)
+parse_body left part c tokens =
+    parse_pattern left tokens and_then λ p rest.
+    parse_symbol symbols.MapsTo rest and_then λ _ rest.
+    part c rest and_then λ f rest.
+    got (p, f) rest
+
+-- behind the word of a term that gives way to another, where both are read so
+unfoldable pub parse_switching : ℕ → (Counts → List Tok → Read Term) → Counts → Switching → List Tok → List Tok → Read Term
+parse_switching left part c w start tokens =
+    parse_symbol symbols.Open tokens and_then λ _ rest.
+    parse_parts (part c) (parse_symbol symbols.Comma) (λ f. parse_body left part (counts_with c f)) (λ f _ b rest. term_read c (switching w f b.0 b.1) start rest) rest
+
 -- behind the word of a form
 abbrev pub parse_worded : ℕ → Version → (Counts → List Tok → Read Term) → Counts → Option Head → List Tok → List Tok → Read Term
 parse_worded left v part c (Some (heads.Bare b)) start tokens = term_read c (primitive (bare b)) start tokens
+parse_worded left v part c (Some heads.Never) start tokens = parse_never left v c start tokens
 parse_worded left v part c (Some (heads.WithValue k)) start tokens = parse_value left v c k start tokens
 parse_worded left v part c (Some (heads.Timed k)) start tokens = parse_timed left v c k start tokens
 parse_worded left v part c (Some heads.Arrow) start tokens = parse_arrow left v c start tokens
 parse_worded left v part c (Some (heads.Accumulated k)) start tokens = parse_accumulated left v c k start tokens
 parse_worded left v part c (Some (heads.Sided s)) start tokens = parse_sided part c s start tokens
 parse_worded left v part c (Some (heads.Headed h)) start tokens = parse_headed left v part c h start tokens
+parse_worded left v part c (Some (heads.Switching w)) start tokens = parse_switching left part c w start tokens
 parse_worded left v part c None start tokens = stop Unexpected start
 
 abbrev pub join_from : Option Join → Symbol → List Tok → Read Join

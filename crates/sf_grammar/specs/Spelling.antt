@@ -30,7 +30,9 @@ use Rattle.sf_term.specs.declared.form.Side.{Side}
 use Rattle.sf_term.specs.declared.form.Side.TheVariants as sides
 use Rattle.sf_term.specs.declared.form.Heading.{Heading}
 use Rattle.sf_term.specs.declared.form.Heading.TheVariants as headings
-use Rattle.sf_term.specs.Trees.{bare, with_value, timed, arrow, accumulated, fused, Term, primitive, joined, sided, headed, staged, Template, Templates, term_depth, terms_in, expressions_in}
+use Rattle.sf_term.specs.declared.form.Switching.{Switching}
+use Rattle.sf_term.specs.declared.form.Switching.TheVariants as switches
+use Rattle.sf_term.specs.Trees.{bare, never, with_value, timed, arrow, accumulated, fused, Term, primitive, joined, sided, headed, switching, staged, Template, Templates, term_depth, terms_in, expressions_in}
 use Rattle.sf_lex.specs.declared.word.Keyword.{Keyword}
 use Rattle.sf_lex.specs.declared.word.Keyword.TheVariants as words
 use Rattle.sf_lex.specs.declared.symbol.Symbol.{Symbol}
@@ -80,6 +82,11 @@ side_word sides.Second = words.Second
 -- the word of a term with an expression at its head
 abbrev pub heading_word : Heading → Keyword
 heading_word headings.LoopPre = words.LoopPre
+
+-- the word of a term that gives way to another
+abbrev pub switching_word : Switching → Keyword
+switching_word switches.Switch = words.Switch
+switching_word switches.DSwitch = words.DSwitch
 
 -- the word of an operator on one value
 abbrev pub unary_word : Unary → Keyword
@@ -172,7 +179,7 @@ spell_operands false t one two = t ∷ in_brackets one (symbol symbols.Comma) tw
 abbrev pub spell_choice : List Tok → List Tok → List Tok → List Tok
 spell_choice condition one two = keyword words.If ∷ (condition ++ (keyword words.Then ∷ (one ++ (keyword words.Else ∷ two))))
 
--- a pattern and a body make a function
+-- a pattern and a body behind it
 abbrev pub spell_mapping : List Tok → List Tok → List Tok
 spell_mapping pattern body = pattern ++ (symbol symbols.MapsTo ∷ body)
 
@@ -239,6 +246,7 @@ spell_function v (function p e) = spell_mapping (spell_pattern p) (spell_express
 -- the forms of plans stand in no text
 abbrev pub spell_term : Version → Term → List Tok
 spell_term v (primitive (bare k)) = keyword (bare_word k) ∷ []
+spell_term v (primitive (never t)) = keyword words.Never ∷ spell_type v t
 spell_term v (primitive (with_value k e)) = keyword (value_word k) ∷ spell_expression v e
 spell_term v (primitive (timed k q e)) = keyword (timing_word k) ∷ number q ∷ spell_expression v e
 spell_term v (primitive (arrow f)) = keyword words.Arr ∷ spell_function v f
@@ -247,6 +255,7 @@ spell_term v (primitive (fused f)) = []
 spell_term v (joined j f g) = in_brackets (spell_term v f) (symbol (join_symbol j)) (spell_term v g)
 spell_term v (sided s f) = keyword (side_word s) ∷ spell_term v f
 spell_term v (headed h e f) = keyword (heading_word h) ∷ in_brackets (spell_expression v e) (symbol symbols.Comma) (spell_term v f)
+spell_term v (switching w f p g) = keyword (switching_word w) ∷ in_brackets (spell_term v f) (symbol symbols.Comma) (spell_mapping (spell_pattern p) (spell_term v g))
 spell_term v (staged x f g) = []
 
 abbrev pub spell_heading : Template → List Tok
@@ -321,6 +330,7 @@ WritesFunction v d (function p e) = WritesExpression v d e
 
 -- a text of the version has the types in a term, where so much depth is left
 abbrev pub WritesTerm : Version → ℕ → Term → Type 0
+WritesTerm v (suc d) (primitive (never t)) = IsWrittenType v d t
 WritesTerm v (suc d) (primitive (with_value k e)) = WritesExpression v d e
 WritesTerm v (suc d) (primitive (timed k q e)) = WritesExpression v d e
 WritesTerm v (suc d) (primitive (arrow f)) = WritesFunction v d f
@@ -328,6 +338,7 @@ WritesTerm v (suc d) (primitive (accumulated k e f)) = WritesExpression v d e ×
 WritesTerm v (suc d) (joined j f g) = WritesTerm v d f × WritesTerm v d g
 WritesTerm v (suc d) (sided s f) = WritesTerm v d f
 WritesTerm v (suc d) (headed h e f) = WritesExpression v d e × WritesTerm v d f
+WritesTerm v (suc d) (switching w f p g) = WritesTerm v d f × WritesTerm v d g
 WritesTerm v d t = ⊤
 
 -- a text of the version has the types of a template

@@ -5,7 +5,7 @@ ghost use Rattle.sf_grammar.specs.Reading.{expression_head, head_of, join_of, li
 
 use sf_expr::{Arithmetic, Comparison, Equality, Folding, Logic, Mapping, Merge, Operator, Unary};
 use sf_lex::{Keyword, Symbol, Token};
-use sf_term::{Accumulation, Bare, Heading, Join, Side, Timing, WithValue};
+use sf_term::{Accumulation, Bare, Heading, Join, Side, Switching, Timing, WithValue};
 
 /// A form that a word begins, by its shape.
 #[derive(Clone, Copy, Debug, PartialEq, Eq)]
@@ -16,6 +16,8 @@ pub enum Head {
     WithValue(WithValue),
     /// A word, and behind it a number and an expression.
     Timed(Timing),
+    /// `never`, and a type behind it.
+    Never,
     /// A word, and a function behind it.
     Arrow,
     /// A word, and behind it an expression and a function in brackets.
@@ -24,6 +26,8 @@ pub enum Head {
     Sided(Side),
     /// A word, and behind it an expression and a term in brackets.
     Headed(Heading),
+    /// A word, and behind it a term, a pattern and another term in brackets.
+    Switching(Switching),
 }
 
 /// An expression that a word begins, by its shape.
@@ -76,6 +80,7 @@ pub fn head_of(word: Keyword) -> Option<Head>
         Keyword::Now => Some(Head::WithValue(WithValue::Now)),
         Keyword::Hold => Some(Head::WithValue(WithValue::Hold)),
         Keyword::After => Some(Head::Timed(Timing::After)),
+        Keyword::Never => Some(Head::Never),
         Keyword::Arr => Some(Head::Arrow),
         Keyword::AccumBy => Some(Head::Accumulated(Accumulation::AccumBy)),
         Keyword::AccumHoldBy => Some(Head::Accumulated(Accumulation::AccumHoldBy)),
@@ -83,6 +88,8 @@ pub fn head_of(word: Keyword) -> Option<Head>
         Keyword::First => Some(Head::Sided(Side::First)),
         Keyword::Second => Some(Head::Sided(Side::Second)),
         Keyword::LoopPre => Some(Head::Headed(Heading::LoopPre)),
+        Keyword::Switch => Some(Head::Switching(Switching::Switch)),
+        Keyword::DSwitch => Some(Head::Switching(Switching::DSwitch)),
         _ => None,
     }
 }

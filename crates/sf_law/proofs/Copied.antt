@@ -1,5 +1,5 @@
 -- Plans that show the terms of a program.
-use Rattle.std.proofs.Common.{◌≡◌, ℕ, ◌+◌, ◌<◌, ◌≤◌, List, [], ◌∷◌, map, IsTrue, ℤ, refl, sym, ◌∙◌, ap, subst, arith, ⊎_elim}
+use Rattle.std.proofs.Common.{◌≡◌, ℕ, ◌+◌, ◌<◌, ◌≤◌, List, [], ◌∷◌, map, IsTrue, ℤ, Option, refl, sym, ◌∙◌, ap, subst, arith, ⊎_elim}
 use mathlib.Core.Path.{ap₂}
 use Rattle.std.proofs.lemmas.Bool.{cases_lt}
 use Rattle.sf_func.specs.Registries.{AnswersByName}
@@ -7,7 +7,8 @@ use Rattle.sf_expr.specs.declared.exprs.ExprId.{ExprId}
 use Rattle.sf_expr.specs.declared.exprs.FunctionId.{FunctionId}
 use Rattle.sf_expr.specs.Expressions.{function}
 use Rattle.sf_expr.specs.Patterns.{pattern_of}
-use Rattle.sf_expr.specs.Arena.{expression, function_at, pattern_at, body_at, IsCopy}
+use Rattle.sf_expr.specs.declared.exprs.PatternId.{PatternId}
+use Rattle.sf_expr.specs.Arena.{expression, function_at, pattern_at, placed_at, body_at, IsCopy}
 use Rattle.sf_term.specs.declared.node.TermId.{TermId}
 use Rattle.sf_term.specs.declared.node.Node.{Node}
 use Rattle.sf_term.specs.declared.node.Node.TheVariants as ast
@@ -16,23 +17,24 @@ use Rattle.sf_term.specs.declared.node.Primitive.TheVariants as ast_primitives
 use Rattle.sf_term.specs.declared.form.Timing.{Timing}
 use Rattle.sf_code.specs.declared.code.Code.{Code}
 use Rattle.sf_term.specs.declared.program.Program.{Program}
-use Rattle.sf_term.specs.Trees.{Term, Template, Templates, primitive, joined, sided, headed, with_value, timed, arrow, accumulated}
+use Rattle.sf_term.specs.Trees.{Term, Template, Templates, primitive, joined, sided, headed, never, switching, with_value, timed, arrow, accumulated}
 use Rattle.sf_term.specs.Headers.{Header as TermHeader}
-use Rattle.sf_term.specs.Arena.{term_count, tree as term, expression_under, function_in, expressions_of as program_expressions, term_of, TermPartsBelow, headers_of as program_headers, template_in as term_template}
+use Rattle.sf_term.specs.Entries.{absent_payload}
+use Rattle.sf_term.specs.Arena.{term_count, tree as term, expression_under, pattern_under, function_in, expressions_of as program_expressions, term_of, TermPartsBelow, headers_of as program_headers, template_in as term_template}
 use Rattle.sf_mean.specs.Networks.{network_of}
-use Rattle.sf_term.proofs.Kept.{term_past, expression_in, function_at_in}
+use Rattle.sf_term.proofs.Kept.{term_past, expression_in, pattern_under_in, function_at_in}
 use Rattle.sf_law.specs.declared.node.PlanId.{PlanId}
 use Rattle.sf_law.specs.declared.node.PlanNode.{PlanNode}
 use Rattle.sf_law.specs.declared.node.PlanPrimitive.{PlanPrimitive}
 use Rattle.sf_law.specs.declared.node.PlanPrimitive.TheVariants as plan_primitives
 use Rattle.sf_law.specs.declared.plan.Plan.{Plan}
 use Rattle.sf_law.specs.Entries.{primitive_over, parts_end, is_whole}
-use Rattle.sf_law.specs.Arena.{plan_expressions, node_count, plan_tree, plan_headers, plan_template, network_of_plan, BuildsPlan, builds_primitive, builds_joined, builds_sided, builds_headed, KeepsPlan, AddsNode}
-use Rattle.sf_law.specs.Copies.{plan_id, CopiesPrimitive, copies_bare, copies_with_value, copies_timed, copies_accumulated, copies_arrow, CopiesNode, copies_primitive, copies_joined, copies_sided, copies_headed, plan_header, ShowsTerms}
+use Rattle.sf_law.specs.Arena.{plan_expressions, node_count, plan_tree, plan_headers, plan_template, network_of_plan, BuildsPlan, builds_primitive, builds_joined, builds_sided, builds_headed, builds_switching, KeepsPlan, AddsNode}
+use Rattle.sf_law.specs.Copies.{plan_id, CopiesPrimitive, copies_bare, copies_never, copies_with_value, copies_timed, copies_accumulated, copies_arrow, CopiesNode, copies_primitive, copies_joined, copies_sided, copies_headed, copies_switching, plan_header, ShowsTerms}
 use Rattle.sf_law.proofs.Kept.{tree_past}
 
 -- a primitive with an equal time is copied
-pub timed_copied : {k : Timing} {q z : ℤ} {e : ExprId} {c : Code} → z ≡ q → CopiesPrimitive (ast_primitives.Timed k q e) (plan_primitives.Timed k z e c)
+pub timed_copied : {k : Timing} {q z : ℤ} {e : ExprId} {c : Option Code} → z ≡ q → CopiesPrimitive (ast_primitives.Timed k q e) (plan_primitives.Timed k z e c)
 timed_copied {k} {q} {z} {e} {c} is = subst (λ (z : ℤ). CopiesPrimitive (ast_primitives.Timed k q e) (plan_primitives.Timed k z e c)) (sym is) copies_timed
 
 -- a plan shows a program's terms below a number
@@ -45,6 +47,7 @@ parts_fit _ _ i (copies_primitive c) h = omega arith
 parts_fit _ _ i copies_joined h = omega (arith, h.0, h.1)
 parts_fit _ _ i copies_sided h = omega arith
 parts_fit _ _ i copies_headed h = omega arith
+parts_fit _ _ i copies_switching h = omega (arith, h.0, h.1)
 
 -- no program has a pipeline
 pub no_pipeline : (n : Node) (m : PlanNode) → CopiesNode n m → IsTrue (is_whole m)
@@ -52,6 +55,7 @@ no_pipeline _ _ (copies_primitive c) = refl
 no_pipeline _ _ copies_joined = refl
 no_pipeline _ _ copies_sided = refl
 no_pipeline _ _ copies_headed = refl
+no_pipeline _ _ copies_switching = refl
 
 module _ (p : Program) (q : Plan) (copy : IsCopy (program_expressions p) (plan_expressions q)) where
   value_same : (e : ExprId) → expression (plan_expressions q) e ≡ expression_under p e
@@ -63,8 +67,12 @@ module _ (p : Program) (q : Plan) (copy : IsCopy (program_expressions p) (plan_e
       ap₂ (λ r b. function (pattern_of r) (expression (plan_expressions q) b)) (copy.patterns f) (copy.bodies f)
       ∙ ap (λ v. function (pattern_of (pattern_at x f)) v) (copy.trees (body_at x f)) ∙ function_at_in p f
 
+  pattern_same : (i : PatternId) → placed_at (plan_expressions q) i ≡ pattern_under p i
+  pattern_same i = copy.placed i ∙ pattern_under_in p i
+
   same_primitive : (a : Primitive) (b : PlanPrimitive) → CopiesPrimitive a b → primitive (primitive_over (plan_expressions q) b) ≡ term_of p (ast.Primitive a)
   same_primitive _ _ copies_bare = refl
+  same_primitive _ _ (copies_never {n}) = ap (λ l. primitive (never (absent_payload l))) (copy.constants n)
   same_primitive _ _ (copies_with_value {k} {e}) = ap (λ v. primitive (with_value k v)) (value_same e)
   same_primitive _ _ (copies_timed {k} {q} {e}) = ap (λ v. primitive (timed k q v)) (value_same e)
   same_primitive _ _ (copies_accumulated {k} {e} {f = f}) = ap₂ (λ v g. primitive (accumulated k v g)) (value_same e) (function_same f)
@@ -76,6 +84,8 @@ module _ (p : Program) (q : Plan) (copy : IsCopy (program_expressions p) (plan_e
   same_term _ _ _ i (copies_joined {j} {a} {b}) below shows builds_joined = ap₂ (λ f g. joined j f g) (shows a below.0) (shows b below.1)
   same_term _ _ _ i (copies_sided {d} {a}) below shows builds_sided = ap (λ f. sided d f) (shows a below)
   same_term _ _ _ i (copies_headed {h = k} {e} {c} {a}) below shows (builds_headed w) = ap₂ (λ v f. headed k v f) (value_same e) (shows a below)
+  same_term _ _ _ i (copies_switching {w = k} {a} {b} {q = r}) below shows builds_switching =
+      ap₂ (λ f g. switching k f (pattern_of (placed_at (plan_expressions q) r)) g) (shows a below.0) (shows b below.1) ∙ ap (λ z. switching k (term p a) (pattern_of z) (term p b)) (pattern_same r)
 
 -- one more term is shown
 pub shows_next : (p : Program) (old new : Plan) (n : Node) (m : PlanNode) (t : TermId) (a : PlanId) (i : ℕ) → IsCopy (program_expressions p) (plan_expressions old) → node_count old ≡ i → t.0 ≡ i → ShowsBelow p old i

@@ -5,8 +5,9 @@ use Rattle.std.proofs.lemmas.List.{get_or_append_left}
 use Rattle.sf_arena.specs.Items.{Added}
 use Rattle.sf_arena.proofs.Grown.{each_item, tree_made}
 use Rattle.sf_expr.specs.declared.exprs.Exprs.{Exprs}
-use Rattle.sf_expr.specs.Arena.{expression}
-use Rattle.sf_term.specs.Trees.{Term, joined, sided, headed}
+use Rattle.sf_expr.specs.Patterns.{pattern_of}
+use Rattle.sf_expr.specs.Arena.{expression, placed_at}
+use Rattle.sf_term.specs.Trees.{Term, joined, sided, headed, switching}
 use Rattle.sf_term.specs.Entries.{identity_term, term_among}
 use Rattle.sf_law.specs.declared.node.PlanId.{PlanId}
 use Rattle.sf_law.specs.declared.node.PlanNode.{PlanNode}
@@ -26,6 +27,7 @@ local x ts more (nodes.Primitive q) h = refl
 local x ts more (nodes.Joined j a b) h = ap₂ (λ s t. joined j s t) (part ts more a.0 (omega arith)) (part ts more b.0 (omega arith))
 local x ts more (nodes.Sided d a) h = ap (λ t. sided d t) (part ts more a.0 h)
 local x ts more (nodes.Headed k e c a) h = ap (λ t. headed k (expression x e) t) (part ts more a.0 h)
+local x ts more (nodes.Switching w a q b) h = ap₂ (λ s t. switching w s (pattern_of (placed_at x q)) t) (part ts more a.0 (omega arith)) (part ts more b.0 (omega arith))
 local x ts more (nodes.Pipeline v) h = ap pipeline (all-parts ts more v.items h)
 
 -- nothing is an arena

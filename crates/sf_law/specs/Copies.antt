@@ -1,9 +1,11 @@
 -- What a plan copies of a program.
-use Rattle.std.specs.Prelude.{◌≡◌, ℤ}
+use Rattle.std.specs.Prelude.{◌≡◌, ℤ, Option}
 use Rattle.std.specs.declared.rc.Rc.{Rc}
 use Rattle.std.specs.declared.alloc.Global.{Global}
+use Rattle.sf_expr.specs.declared.exprs.ConstantId.{ConstantId}
 use Rattle.sf_expr.specs.declared.exprs.ExprId.{ExprId}
 use Rattle.sf_expr.specs.declared.exprs.FunctionId.{FunctionId}
+use Rattle.sf_expr.specs.declared.exprs.PatternId.{PatternId}
 use Rattle.sf_term.specs.declared.form.Bare.{Bare}
 use Rattle.sf_term.specs.declared.form.WithValue.{WithValue}
 use Rattle.sf_term.specs.declared.form.Timing.{Timing}
@@ -11,6 +13,7 @@ use Rattle.sf_term.specs.declared.form.Accumulation.{Accumulation}
 use Rattle.sf_term.specs.declared.form.Join.{Join}
 use Rattle.sf_term.specs.declared.form.Side.{Side}
 use Rattle.sf_term.specs.declared.form.Heading.{Heading}
+use Rattle.sf_term.specs.declared.form.Switching.{Switching}
 use Rattle.sf_term.specs.declared.node.TermId.{TermId}
 use Rattle.sf_term.specs.declared.node.Node.{Node}
 use Rattle.sf_term.specs.declared.node.Node.TheVariants as terms
@@ -33,20 +36,22 @@ use Rattle.sf_law.specs.Arena.{plan_tree}
 abbrev pub plan_id : TermId → PlanId
 plan_id t = record { 0 = t.0 }
 
--- A plan's primitive is a program's, with some code: of the same form, with the same id.
+-- A plan's primitive is a program's, whatever its code: of the same form, with the same id.
 pub data CopiesPrimitive : Primitive → PlanPrimitive → Type 0 where
   copies_bare : {k : Bare} → CopiesPrimitive (primitives.Bare k) (plan_primitives.Bare k)
-  copies_with_value : {k : WithValue} {e : ExprId} {c : Code} → CopiesPrimitive (primitives.WithValue k e) (plan_primitives.WithValue k e c)
-  copies_timed : {k : Timing} {q : ℤ} {e : ExprId} {c : Code} → CopiesPrimitive (primitives.Timed k q e) (plan_primitives.Timed k q e c)
-  copies_accumulated : {k : Accumulation} {e : ExprId} {d : Code} {f : FunctionId} {c : Rc Code Global} → CopiesPrimitive (primitives.Accumulated k e f) (plan_primitives.Accumulated k e d f c)
-  copies_arrow : {f : FunctionId} {c : Rc Code Global} → CopiesPrimitive (primitives.Arrow f) (plan_primitives.Arrow f c)
+  copies_never : {n : ConstantId} → CopiesPrimitive (primitives.Never n) (plan_primitives.Never n)
+  copies_with_value : {k : WithValue} {e : ExprId} {c : Option Code} → CopiesPrimitive (primitives.WithValue k e) (plan_primitives.WithValue k e c)
+  copies_timed : {k : Timing} {q : ℤ} {e : ExprId} {c : Option Code} → CopiesPrimitive (primitives.Timed k q e) (plan_primitives.Timed k q e c)
+  copies_accumulated : {k : Accumulation} {e : ExprId} {d : Option Code} {f : FunctionId} {c : Option (Rc Code Global)} → CopiesPrimitive (primitives.Accumulated k e f) (plan_primitives.Accumulated k e d f c)
+  copies_arrow : {f : FunctionId} {c : Option (Rc Code Global)} → CopiesPrimitive (primitives.Arrow f) (plan_primitives.Arrow f c)
 
--- A plan's node is a program's, with some code: of the same form, with the same id of its expression and the ids of the same numbers.
+-- A plan's node is a program's, whatever its code: of the same form, with the same id of its expression and the ids of the same numbers.
 pub data CopiesNode : Node → PlanNode → Type 0 where
   copies_primitive : {q : Primitive} {r : PlanPrimitive} → CopiesPrimitive q r → CopiesNode (terms.Primitive q) (plans.Primitive r)
   copies_joined : {j : Join} {a b : TermId} → CopiesNode (terms.Joined j a b) (plans.Joined j (plan_id a) (plan_id b))
   copies_sided : {d : Side} {a : TermId} → CopiesNode (terms.Sided d a) (plans.Sided d (plan_id a))
-  copies_headed : {h : Heading} {e : ExprId} {c : Code} {a : TermId} → CopiesNode (terms.Headed h e a) (plans.Headed h e c (plan_id a))
+  copies_switching : {w : Switching} {a b : TermId} {q : PatternId} → CopiesNode (terms.Switching w a q b) (plans.Switching w (plan_id a) q (plan_id b))
+  copies_headed : {h : Heading} {e : ExprId} {c : Option Code} {a : TermId} → CopiesNode (terms.Headed h e a) (plans.Headed h e c (plan_id a))
 
 -- a template with the id of the same number
 abbrev pub plan_header : TermHeader → PlanHeader

@@ -1,12 +1,15 @@
 -- The nodes of an arena of plans.
-use Rattle.std.specs.Prelude.{ℕ, suc, ◌≤◌, max, Bool, true, nat_le, IsTrue, ⊤, List, [], ◌∷◌, length, map, slice_index_or}
+use Rattle.std.specs.Prelude.{ℕ, suc, ◌≤◌, max, Bool, true, nat_le, IsTrue, ⊤, Option, IfSome, List, [], ◌∷◌, length, map, slice_index_or}
+use Rattle.sf_expr.specs.declared.exprs.ExprId.{ExprId}
 use Rattle.sf_expr.specs.declared.exprs.Exprs.{Exprs}
-use Rattle.sf_expr.specs.Arena.{expression, function_at}
+use Rattle.sf_expr.specs.Patterns.{pattern_of}
+use Rattle.sf_expr.specs.Arena.{expression, function_at, literal_at, placed_at}
 use Rattle.sf_arena.specs.Folded.{trees, tree_at}
 use Rattle.sf_term.specs.declared.form.Bare.TheVariants.{Identity}
+use Rattle.sf_code.specs.declared.code.Code.{Code}
 use Rattle.sf_code.specs.Worth.{IsCodeOf, IsCodeOfFunction}
-use Rattle.sf_term.specs.Entries.{identity_term, term_among}
-use Rattle.sf_term.specs.Trees.{Extent, whole, rest, Primitive, Term, primitive, joined, sided, headed, staged, bare, with_value, timed, arrow, accumulated}
+use Rattle.sf_term.specs.Entries.{identity_term, absent_payload, term_among}
+use Rattle.sf_term.specs.Trees.{Extent, whole, rest, Primitive, Term, primitive, joined, sided, headed, switching, staged, bare, never, with_value, timed, arrow, accumulated}
 use Rattle.sf_law.specs.declared.node.PlanId.{PlanId}
 use Rattle.sf_law.specs.declared.node.PlanNode.{PlanNode}
 use Rattle.sf_law.specs.declared.node.PlanNode.TheVariants as nodes
@@ -26,25 +29,32 @@ pipeline (f ∷ fs) = stages whole f fs
 -- the primitive that a primitive of a plan is, over these expressions and functions
 abbrev pub primitive_over : Exprs → PlanPrimitive → Primitive
 primitive_over x (primitives.Bare k) = bare k
+primitive_over x (primitives.Never n) = never (absent_payload (literal_at x n))
 primitive_over x (primitives.WithValue k e c) = with_value k (expression x e)
 primitive_over x (primitives.Timed k q e c) = timed k q (expression x e)
 primitive_over x (primitives.Arrow f c) = arrow (function_at x f)
 primitive_over x (primitives.Accumulated k e d f c) = accumulated k (expression x e) (function_at x f)
 
--- a primitive's code is that of its expression or its function
+-- the code that a primitive has is that of its expression or its function
 abbrev pub IsCodedPrimitive : Exprs → PlanPrimitive → Type 0
 IsCodedPrimitive x (primitives.Bare k) = ⊤
-IsCodedPrimitive x (primitives.WithValue k e c) = IsCodeOf (expression x e) c
-IsCodedPrimitive x (primitives.Timed k q e c) = IsCodeOf (expression x e) c
-IsCodedPrimitive x (primitives.Arrow f c) = IsCodeOfFunction (function_at x f) c.value
-IsCodedPrimitive x (primitives.Accumulated k e d f c) = IsCodeOf (expression x e) d × IsCodeOfFunction (function_at x f) c.value
+IsCodedPrimitive x (primitives.Never n) = ⊤
+IsCodedPrimitive x (primitives.WithValue k e c) = IfSome c (λ i. IsCodeOf (expression x e) i)
+IsCodedPrimitive x (primitives.Timed k q e c) = IfSome c (λ i. IsCodeOf (expression x e) i)
+IsCodedPrimitive x (primitives.Arrow f c) = IfSome c (λ i. IsCodeOfFunction (function_at x f) i.value)
+IsCodedPrimitive x (primitives.Accumulated k e d f c) = IfSome d (λ i. IsCodeOf (expression x e) i) × IfSome c (λ i. IsCodeOfFunction (function_at x f) i.value)
 
--- a node's code is that of its expression or its function
+-- the code that an expression has, if there is any, is that of the expression
+abbrev pub IsCodedExpression : Exprs → ExprId → Option Code → Type 0
+IsCodedExpression x e c = IfSome c (λ i. IsCodeOf (expression x e) i)
+
+-- the code that a node has is that of its expression or its function
 abbrev pub IsCoded : Exprs → PlanNode → Type 0
 IsCoded x (nodes.Primitive q) = IsCodedPrimitive x q
 IsCoded x (nodes.Joined j a b) = ⊤
 IsCoded x (nodes.Sided d a) = ⊤
-IsCoded x (nodes.Headed h e c a) = IsCodeOf (expression x e) c
+IsCoded x (nodes.Headed h e c a) = IfSome c (λ i. IsCodeOf (expression x e) i)
+IsCoded x (nodes.Switching w a q b) = ⊤
 IsCoded x (nodes.Pipeline v) = ⊤
 
 -- the term of a node, over the terms before it
@@ -53,6 +63,7 @@ plan_over x ts (nodes.Primitive q) = primitive (primitive_over x q)
 plan_over x ts (nodes.Joined j a b) = joined j (term_among ts a.0) (term_among ts b.0)
 plan_over x ts (nodes.Sided d a) = sided d (term_among ts a.0)
 plan_over x ts (nodes.Headed h e c a) = headed h (expression x e) (term_among ts a.0)
+plan_over x ts (nodes.Switching w a q b) = switching w (term_among ts a.0) (pattern_of (placed_at x q)) (term_among ts b.0)
 plan_over x ts (nodes.Pipeline v) = pipeline (map (λ (a : PlanId). term_among ts a.0) v.items)
 
 -- the least number above ids
@@ -66,6 +77,7 @@ parts_end (nodes.Primitive q) = 0
 parts_end (nodes.Joined j a b) = suc (max a.0 b.0)
 parts_end (nodes.Sided d a) = suc a.0
 parts_end (nodes.Headed h e c a) = suc a.0
+parts_end (nodes.Switching w a q b) = suc (max a.0 b.0)
 parts_end (nodes.Pipeline v) = ids_end v.items
 
 -- a pipeline has two stages or more
@@ -74,6 +86,7 @@ is_whole (nodes.Primitive q) = true
 is_whole (nodes.Joined j a b) = true
 is_whole (nodes.Sided d a) = true
 is_whole (nodes.Headed h e c a) = true
+is_whole (nodes.Switching w a q b) = true
 is_whole (nodes.Pipeline v) = nat_le 2 (length v.items)
 
 -- the identity

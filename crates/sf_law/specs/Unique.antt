@@ -1,13 +1,16 @@
 -- That a node is coded has one proof at most, so a plan can keep it.
-use Rattle.std.specs.Prelude.{◌≡◌, refl, Result, Ok, Err, [], ◌∷◌}
+use Rattle.std.specs.Prelude.{◌≡◌, refl, ⊤, Option, IfSome, Result, Ok, Err, [], ◌∷◌}
+use Rattle.std.specs.Option.{MatchOption-prop}
 use Rattle.std.specs.Coded.{Coded-set, code_by, coded_result, Unit-prop}
+use Rattle.std.specs.declared.rc.Rc.{Rc}
+use Rattle.std.specs.declared.alloc.Global.{Global}
 use Rattle.sf_value.specs.Values.{Data}
 use Rattle.sf_value.specs.declared.fault.ValueFault.{ValueFault}
 use Rattle.sf_value.specs.contracts.value.Value as values
 use Rattle.sf_value.specs.contracts.fault.ValueFault as faults
 use Rattle.sf_operator.specs.Outcomes.{Evaluated, answer, failed}
 use Rattle.sf_expr.specs.Expressions.{Expression, Function}
-use Rattle.sf_expr.specs.Evaluation.{no_names, eval, apply}
+use Rattle.sf_expr.specs.Evaluation.{functions_in, eval, apply}
 use Rattle.sf_expr.specs.Arena.{expression, function_at}
 use Rattle.sf_expr.specs.declared.exprs.Exprs.{Exprs}
 use Rattle.sf_code.specs.declared.code.Code.{Code}
@@ -37,21 +40,29 @@ evaluated-set : (v w : Evaluated Data) → IsProp (v ≡ w)
 evaluated-set = Coded-set (code_by (Result Data ValueFault) (coded_result values.the_row.coded faults.the_row.coded) result_in evaluated evaluated-result)
 
 IsCodeOf-prop : (e : Expression) (c : Code) → IsProp (IsCodeOf e c)
-IsCodeOf-prop e c a b = λ i. record { worth = λ f. evaluated-set (run (code_of c) [] f) (eval e (no_names f)) (a.worth f) (b.worth f) i }
+IsCodeOf-prop e c a b = λ i. record { worth = λ s. evaluated-set (run (code_of c) [] (functions_in s)) (eval e s) (a.worth s) (b.worth s) i }
 
 IsCodeOfFunction-prop : (g : Function) (c : Code) → IsProp (IsCodeOfFunction g c)
-IsCodeOfFunction-prop g c a b = λ i. record { worth = λ d f. evaluated-set (run (code_of c) (d ∷ []) f) (apply g d (no_names f)) (a.worth d f) (b.worth d f) i }
+IsCodeOfFunction-prop g c a b = λ i. record { worth = λ s d. evaluated-set (run (code_of c) (d ∷ []) (functions_in s)) (apply g d s) (a.worth s d) (b.worth s d) i }
+
+code-prop : (e : Expression) (o : Option Code) → IsProp (IfSome o (λ c. IsCodeOf e c))
+code-prop e o = MatchOption-prop o ⊤ (λ c. IsCodeOf e c) Unit-prop (λ c. IsCodeOf-prop e c)
+
+function-prop : (g : Function) (o : Option (Rc Code Global)) → IsProp (IfSome o (λ c. IsCodeOfFunction g c.value))
+function-prop g o = MatchOption-prop o ⊤ (λ c. IsCodeOfFunction g c.value) Unit-prop (λ c. IsCodeOfFunction-prop g c.value)
 
 IsCodedPrimitive-prop : (x : Exprs) (q : PlanPrimitive) → IsProp (IsCodedPrimitive x q)
 IsCodedPrimitive-prop x (primitives.Bare k) = Unit-prop
-IsCodedPrimitive-prop x (primitives.WithValue k e c) = IsCodeOf-prop (expression x e) c
-IsCodedPrimitive-prop x (primitives.Arrow f c) = IsCodeOfFunction-prop (function_at x f) c.value
-IsCodedPrimitive-prop x (primitives.Timed k q e c) = IsCodeOf-prop (expression x e) c
-IsCodedPrimitive-prop x (primitives.Accumulated k e d f c) = λ a b i. (IsCodeOf-prop (expression x e) d a.0 b.0 i, IsCodeOfFunction-prop (function_at x f) c.value a.1 b.1 i)
+IsCodedPrimitive-prop x (primitives.Never n) = Unit-prop
+IsCodedPrimitive-prop x (primitives.WithValue k e c) = code-prop (expression x e) c
+IsCodedPrimitive-prop x (primitives.Timed k q e c) = code-prop (expression x e) c
+IsCodedPrimitive-prop x (primitives.Arrow f c) = function-prop (function_at x f) c
+IsCodedPrimitive-prop x (primitives.Accumulated k e d f c) = λ a b i. (code-prop (expression x e) d a.0 b.0 i, function-prop (function_at x f) c a.1 b.1 i)
 
 pub IsCoded-prop : (x : Exprs) (n : PlanNode) → IsProp (IsCoded x n)
 IsCoded-prop x (nodes.Primitive q) = IsCodedPrimitive-prop x q
 IsCoded-prop x (nodes.Joined j a b) = Unit-prop
 IsCoded-prop x (nodes.Sided d a) = Unit-prop
-IsCoded-prop x (nodes.Headed h e c a) = IsCodeOf-prop (expression x e) c
+IsCoded-prop x (nodes.Headed h e c a) = code-prop (expression x e) c
+IsCoded-prop x (nodes.Switching w a q b) = Unit-prop
 IsCoded-prop x (nodes.Pipeline v) = Unit-prop

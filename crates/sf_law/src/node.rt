@@ -1,26 +1,29 @@
 //! Nodes of an arena of plans.
 use sf_code::Code;
-use sf_expr::{ExprId, FunctionId};
-use sf_term::{Accumulation, Bare, Heading, Join, Side, Timing, WithValue};
+use sf_expr::{ConstantId, ExprId, FunctionId, PatternId};
+use sf_term::{Accumulation, Bare, Heading, Join, Side, Switching, Timing, WithValue};
 use std::rc::Rc;
 
 /// A term in its plan.
 #[derive(Clone, Copy, Debug, PartialEq, Eq)]
 pub struct PlanId(pub(crate) usize);
 
-/// A primitive of a plan, with the code that is run for its expression or its function.
+/// A primitive of a plan, with the code that is run for its expression or its function, where that has no names from
+/// around it.
 #[derive(Drop)]
 pub enum PlanPrimitive {
     /// One without an expression.
     Bare(Bare),
+    /// `never`, with the constant that has its type.
+    Never(ConstantId),
     /// One with an expression.
-    WithValue(WithValue, ExprId, Code),
+    WithValue(WithValue, ExprId, Option<Code>),
     /// One with a time and an expression.
-    Timed(Timing, i64, ExprId, Code),
+    Timed(Timing, i64, ExprId, Option<Code>),
     /// `arr`, with its function. Whatever lives by it shares the code.
-    Arrow(FunctionId, Rc<Code>),
+    Arrow(FunctionId, Option<Rc<Code>>),
     /// One with an expression and a function. Whatever lives by it shares the code of the function.
-    Accumulated(Accumulation, ExprId, Code, FunctionId, Rc<Code>),
+    Accumulated(Accumulation, ExprId, Option<Code>, FunctionId, Option<Rc<Code>>),
 }
 
 /// A term of a plan, whose parts are ids of terms before it.
@@ -32,8 +35,11 @@ pub enum PlanNode {
     Joined(Join, PlanId, PlanId),
     /// A term on one part of a pair.
     Sided(Side, PlanId),
-    /// A term with an expression at its head, and the code that is run for the expression.
-    Headed(Heading, ExprId, Code, PlanId),
+    /// A term with an expression at its head, and the code that is run for the expression, where that has no names from
+    /// around it.
+    Headed(Heading, ExprId, Option<Code>, PlanId),
+    /// A term that waits for its event, and the body that takes over inside a pattern.
+    Switching(Switching, PlanId, PatternId, PlanId),
     /// Two or more stages, each before the others.
     Pipeline(Vec<PlanId>),
 }

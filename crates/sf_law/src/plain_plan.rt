@@ -1,7 +1,8 @@
 //! The plan that is the network itself.
-ghost use Rattle.std.specs.Prelude.{◌≡◌, ◌<◌, [], map, IfOk, OnOk};
-ghost use Rattle.sf_expr.specs.Arena.{IsCopy};
+ghost use Rattle.std.specs.Prelude.{◌≡◌, ◌<◌, [], map, IfOk, OnOk, IfSome};
+ghost use Rattle.sf_expr.specs.Arena.{function_at, IsCopy};
 ghost use Rattle.sf_term.specs.Arena.{expressions_of as program_expressions, headers_of as program_headers};
+ghost use Rattle.sf_code.specs.Worth.{IsCodeOfFunction};
 ghost use Rattle.sf_law.specs.declared.node.PlanId.{PlanId as PlanIdOf};
 ghost use Rattle.sf_law.specs.Entries.{IsCodedPrimitive, IsCoded};
 ghost use Rattle.sf_law.specs.Arena.{plan_expressions, node_count, plan_tree, plan_headers};
@@ -11,8 +12,8 @@ ghost use Rattle.sf_law.specs.Plans.{IsPlainPlan};
 use crate::node::{PlanId, PlanNode, PlanPrimitive};
 use crate::plan::Plan;
 use sf_check::Checked;
-use sf_code::{expression_code, function_code};
-use sf_expr::Exprs;
+use sf_code::{Code, expression_code, function_code};
+use sf_expr::{Exprs, FunctionId};
 use sf_term::{Node, Primitive, Program, TermId};
 use std::alloc::{AllocError, Global};
 use std::rc::Rc;
@@ -76,6 +77,10 @@ fn plan_node(alloc: Global, exprs: &Exprs, node: Node) -> Result<PlanNode, Alloc
             let code = expression_code(alloc, exprs, value)?;
             Ok(PlanNode::Headed(heading, value, code, plan_id(part)))
         }
+        Node::Switching(form, source, pattern, body) => {
+            let source = plan_id(source);
+            Ok(PlanNode::Switching(form, source, pattern, plan_id(body)))
+        }
     }
 }
 
@@ -90,6 +95,7 @@ fn plan_primitive(
 {
     match primitive {
         Primitive::Bare(form) => Ok(PlanPrimitive::Bare(form)),
+        Primitive::Never(constant) => Ok(PlanPrimitive::Never(constant)),
         Primitive::WithValue(form, value) => {
             let code = expression_code(alloc, exprs, value)?;
             Ok(PlanPrimitive::WithValue(form, value, code))
@@ -99,15 +105,28 @@ fn plan_primitive(
             Ok(PlanPrimitive::Timed(form, time, value, code))
         }
         Primitive::Arrow(function) => {
-            let code = function_code(alloc, exprs, function)?;
-            Ok(PlanPrimitive::Arrow(function, Rc::new(alloc, code)?))
+            let code = shared_code(alloc, exprs, function)?;
+            Ok(PlanPrimitive::Arrow(function, code))
         }
         Primitive::Accumulated(form, value, function) => {
             let start = expression_code(alloc, exprs, value)?;
-            let code = function_code(alloc, exprs, function)?;
-            let shared = Rc::new(alloc, code)?;
-            Ok(PlanPrimitive::Accumulated(form, value, start, function, shared))
+            let code = shared_code(alloc, exprs, function)?;
+            Ok(PlanPrimitive::Accumulated(form, value, start, function, code))
         }
+    }
+}
+
+// The code of a function, to be shared, if it has no names from around it.
+fn shared_code(
+    alloc: Global,
+    exprs: &Exprs,
+    function: FunctionId,
+) -> Result<Option<Rc<Code>>, AllocError>
+    ensures { IfOk result (λ code. IfSome code (λ c. IsCodeOfFunction (function_at exprs.now function) c.value)) }
+{
+    match function_code(alloc, exprs, function)? {
+        Some(code) => Ok(Some(Rc::new(alloc, code)?)),
+        None => Ok(None),
     }
 }
 

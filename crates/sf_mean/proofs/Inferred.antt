@@ -1,23 +1,26 @@
 -- The output types that are found are those that terms take inputs to.
-use Rattle.std.proofs.Common.{ℤ, ◌≡◌, Bool, true, false, cond, Some, None, refl, sym, ap, subst, ◌∙◌}
+use Rattle.std.proofs.Common.{ℤ, ◌≡◌, arith, Bool, true, false, cond, Some, None, refl, sym, ap, subst, ◌∙◌}
 use Rattle.std.specs.Prelude.{Option, nat_le}
+use mathlib.Core.Path.{ap₂}
 use Rattle.sf_value.specs.Values.{Kind, unit_kind, bool_kind, int_kind, text_kind, pair_kind, event_kind, table_kind, nodes, IsNoPair}
-use Rattle.sf_operator.specs.Kinds.{same_kind, parts_of}
-use Rattle.sf_operator.proofs.SameKinds.{same_is, is_same, found_is}
-use Rattle.sf_expr.specs.Expressions.{Expression}
-use Rattle.sf_expr.specs.Typing.{Fits, HasType}
-use Rattle.sf_expr.specs.Inference.{found_then, fitting, expression_type, function_output}
-use Rattle.sf_expr.proofs.Inferred.{test_fits, fits_test, fitting_is, fitting_found, found_typed, typed_found, output_takes, takes_output}
+use Rattle.sf_operator.specs.Kinds.{same_kind, only, parts_of, payload_of}
+use Rattle.sf_operator.proofs.SameKinds.{same_is, is_same, found_is, only_is, parts_is, payload_is}
+use Rattle.sf_func.specs.Registries.{TypesByName}
+use Rattle.sf_expr.specs.Expressions.{Pattern, Expression}
+use Rattle.sf_expr.specs.Typing.{Names, typed_name, Fits, HasType, AddsNames, adds_nothing, adds_name, adds_both, Binds}
+use Rattle.sf_expr.specs.Inference.{found_then, fitting, names_bound, expression_type, function_output}
+use Rattle.sf_expr.proofs.Inferred.{test_fits, fits_test, bound_found, found_bound, fitting_is, fitting_found, found_typed, typed_found, output_takes, takes_output}
 use Rattle.sf_term.specs.declared.form.Timing.{Timing}
 use Rattle.sf_term.specs.declared.form.Join.{Join}
 use Rattle.sf_term.specs.declared.form.Join.TheVariants.{InSequence, InParallel, FannedOut}
 use Rattle.sf_term.specs.declared.form.Side.{Side}
 use Rattle.sf_term.specs.declared.form.Side.TheVariants.{First, Second}
 use Rattle.sf_term.specs.declared.form.Heading.TheVariants.{LoopPre}
-use Rattle.sf_term.specs.Trees.{Chain, lone, chained, on_side, on_both, fanned, Primitive, bare, with_value, timed, arrow, accumulated, fused, Term, primitive, joined, sided, headed, staged}
-use Rattle.sf_mean.specs.Contexts.{Context, names_of_values}
-use Rattle.sf_mean.specs.Typing.{ChainTakes, lone_takes, chained_takes, on_first_takes, on_second_takes, on_both_takes, fanned_takes, bare_kind, value_kind, accumulated_argument, accumulated_kind, takes_time, timed_kind, PrimitiveTakes, bare_takes, value_takes, timed_takes, accumulated_takes, arrow_takes, fused_takes, Takes, takes, FormTakes, primitive_takes, sequence_takes, parallel_takes, fan_takes, first_takes, second_takes, loop_takes, stages_take}
-use Rattle.sf_mean.specs.Inference.{Finds, both_outputs, join_output, side_output, first_beside, heading_output, chain_output, primitive_output, with_fitting, form_output, term_output}
+use Rattle.sf_term.specs.declared.form.Switching.{Switching}
+use Rattle.sf_term.specs.Trees.{Chain, lone, chained, on_side, on_both, fanned, Primitive, bare, never, with_value, timed, arrow, accumulated, fused, Extent, Term, primitive, joined, sided, headed, switching, staged}
+use Rattle.sf_mean.specs.Contexts.{NameKind, value, Bindings, values_in, bindings_inside, Context, names_of_values, inside_pattern}
+use Rattle.sf_mean.specs.Typing.{ChainTakes, lone_takes, chained_takes, on_first_takes, on_second_takes, on_both_takes, fanned_takes, bare_kind, value_kind, accumulated_argument, accumulated_kind, takes_time, timed_kind, PrimitiveTakes, bare_takes, never_takes, value_takes, timed_takes, accumulated_takes, arrow_takes, fused_takes, Takes, takes, FormTakes, primitive_takes, sequence_takes, parallel_takes, fan_takes, first_takes, second_takes, loop_takes, switch_takes, stages_take}
+use Rattle.sf_mean.specs.Inference.{Finds, both_outputs, join_output, side_output, first_beside, heading_output, switch_output, chain_output, primitive_output, with_fitting, form_output, term_output}
 
 -- ## Types of pairs
 
@@ -156,6 +159,9 @@ module _ {Γ : Context} where
       let made = found_is (bare_kind k a) fitting h in
       let fit = fitting_found made.0 b made.2 in
       bare_takes (made.1 ∙ ap Some fit.is) (subst Fits fit.is fit.fits)
+  primitive_found (never t) a b h =
+      let fit = fitting_found (event_kind t) b h in
+      subst (λ b. PrimitiveTakes Γ (never t) a b) fit.is (never_takes fit.fits)
   primitive_found (with_value k e) a b h =
       let made = found_is (found_then (expression_type (names_of_values Γ) e) (λ v. value_kind k v a)) fitting h in
       let fit = fitting_found made.0 b made.2 in
@@ -180,6 +186,7 @@ module _ {Γ : Context} where
   ]
 
   pub primitive_is : {p : Primitive} {a b : Kind} → PrimitiveTakes Γ p a b → primitive_output Γ p a ≡ Some b
+  primitive_is (never_takes {t = t} f) = fitting_is (event_kind t) f
   primitive_is (bare_takes {b = b} h f) = ap (λ o. found_then o fitting) h ∙ fitting_is b f
   primitive_is (value_takes {k = k} {a = a} {b = b} E h f) = ap (λ o. found_then (found_then o (λ v. value_kind k v a)) fitting) (typed_found E) ∙ ap (λ o. found_then o fitting) h ∙ fitting_is b f
   primitive_is (arrow_takes F) = takes_output F
@@ -194,75 +201,112 @@ module _ {Γ : Context} where
       ∙ ap (λ o. found_then o fitting) h ∙ fitting_is b g
   primitive_is (fused_takes {b = b} F h) = ap (λ o. found_then o fitting) (chain_found F) ∙ fitting_is b h
 
-  -- ## Terms: each takes what is found for its form, within the bound
+-- ## Terms: each takes what is found for its form, within the bound
 
-  within : (t : Term) → ((a b : Kind) → form_output Γ t a ≡ Some b → FormTakes Γ t a b) → (a b : Kind) → term_output Γ t a ≡ Some b → Takes Γ t a b
-  within t F a b h = let k = fitting_inside (form_output Γ t) a b h in takes k.input k.output (F a b k.is)
+within : (Γ : Context) (t : Term) → ((a b : Kind) → form_output Γ t a ≡ Some b → FormTakes Γ t a b) → (a b : Kind) → term_output Γ t a ≡ Some b → Takes Γ t a b
+within Γ t F a b h = let k = fitting_inside (form_output Γ t) a b h in takes k.input k.output (F a b k.is)
 
-  joins : (j : Join) (f g : Term) → ((a b : Kind) → term_output Γ f a ≡ Some b → Takes Γ f a b) → ((a b : Kind) → term_output Γ g a ≡ Some b → Takes Γ g a b) → {a b : Kind} → JoinIs (term_output Γ f) (term_output Γ g) j a b → FormTakes Γ (joined j f g) a b
-  joins j f g F G (in_sequence (went h k)) = sequence_takes (F _ _ h) (G _ _ k)
-  joins j f g F G (in_parallel h k) = parallel_takes (F _ _ h) (G _ _ k)
-  joins j f g F G (fanned_out h k) = fan_takes (F _ _ h) (G _ _ k)
+joins : (Γ : Context) (j : Join) (f g : Term) → ((a b : Kind) → term_output Γ f a ≡ Some b → Takes Γ f a b) → ((a b : Kind) → term_output Γ g a ≡ Some b → Takes Γ g a b) → {a b : Kind} → JoinIs (term_output Γ f) (term_output Γ g) j a b → FormTakes Γ (joined j f g) a b
+joins Γ j f g F G (in_sequence (went h k)) = sequence_takes (F _ _ h) (G _ _ k)
+joins Γ j f g F G (in_parallel h k) = parallel_takes (F _ _ h) (G _ _ k)
+joins Γ j f g F G (fanned_out h k) = fan_takes (F _ _ h) (G _ _ k)
 
-  sides : (d : Side) (t : Term) → ((a b : Kind) → term_output Γ t a ≡ Some b → Takes Γ t a b) → {a b : Kind} → SideIs (term_output Γ t) d a b → FormTakes Γ (sided d t) a b
-  sides d t F (on_the_first h) = first_takes (F _ _ h)
-  sides d t F (on_the_second h) = second_takes (F _ _ h)
+sides : (Γ : Context) (d : Side) (t : Term) → ((a b : Kind) → term_output Γ t a ≡ Some b → Takes Γ t a b) → {a b : Kind} → SideIs (term_output Γ t) d a b → FormTakes Γ (sided d t) a b
+sides Γ d t F (on_the_first h) = first_takes (F _ _ h)
+sides Γ d t F (on_the_second h) = second_takes (F _ _ h)
 
-  loops : (e : Expression) (t : Term) → ((a b : Kind) → term_output Γ t a ≡ Some b → Takes Γ t a b) → (a b c : Kind) → expression_type (names_of_values Γ) e ≡ Some c → Went (term_output Γ t) (first_beside c) (pair_kind a c) b → FormTakes Γ (headed LoopPre e t) a b
-  loops e t F a b c h (went {b = d} k g) = each (parts_are d) k g
-    where
-      beside : (v w : Kind) → term_output Γ t (pair_kind a c) ≡ Some (pair_kind v w) → (s : Bool) → same_kind c w ≡ s → cond s (Some v) None ≡ Some b → FormTakes Γ (headed LoopPre e t) a b
-      beside v w k true q g =
-          let is : v ≡ b = cc in
-          subst (FormTakes Γ (headed LoopPre e t) a) is (loop_takes (found_typed (names_of_values Γ) e c h) (F (pair_kind a c) (pair_kind v c) (k ∙ ap (λ d. Some (pair_kind v d)) (sym (same_is c w q)))))
-      beside v w k false q g = absurd cc
+loops : (Γ : Context) (e : Expression) (t : Term) → ((a b : Kind) → term_output Γ t a ≡ Some b → Takes Γ t a b) → (a b c : Kind) → expression_type (names_of_values Γ) e ≡ Some c → Went (term_output Γ t) (first_beside c) (pair_kind a c) b → FormTakes Γ (headed LoopPre e t) a b
+loops Γ e t F a b c h (went {b = d} k g) = each (parts_are d) k g
+  where
+    beside : (v w : Kind) → term_output Γ t (pair_kind a c) ≡ Some (pair_kind v w) → (s : Bool) → same_kind c w ≡ s → cond s (Some v) None ≡ Some b → FormTakes Γ (headed LoopPre e t) a b
+    beside v w k true q g =
+        let is : v ≡ b = cc in
+        subst (FormTakes Γ (headed LoopPre e t) a) is (loop_takes (found_typed (names_of_values Γ) e c h) (F (pair_kind a c) (pair_kind v c) (k ∙ ap (λ d. Some (pair_kind v d)) (sym (same_is c w q)))))
+    beside v w k false q g = absurd cc
 
-      each : {d : Kind} {parts : Option (Kind × Kind)} → PartsAre d parts → term_output Γ t (pair_kind a c) ≡ Some d → found_then parts (λ p. cond (same_kind c p.1) (Some p.0) None) ≡ Some b → FormTakes Γ (headed LoopPre e t) a b
-      each (two_parts {t = v} {u = w}) k g = beside v w k (same_kind c w) refl g
-      each (no_parts n) k g = absurd cc
+    each : {d : Kind} {parts : Option (Kind × Kind)} → PartsAre d parts → term_output Γ t (pair_kind a c) ≡ Some d → found_then parts (λ p. cond (same_kind c p.1) (Some p.0) None) ≡ Some b → FormTakes Γ (headed LoopPre e t) a b
+    each (two_parts {t = v} {u = w}) k g = beside v w k (same_kind c w) refl g
+    each (no_parts n) k g = absurd cc
 
-  looped : (e : Expression) (t : Term) → ((a b : Kind) → term_output Γ t a ≡ Some b → Takes Γ t a b) → (a b : Kind) (o : Option Kind) → expression_type (names_of_values Γ) e ≡ o → heading_output LoopPre o (term_output Γ t) a ≡ Some b → FormTakes Γ (headed LoopPre e t) a b
-  looped e t F a b (Some c) h k = loops e t F a b c h (found_went (term_output Γ t) (first_beside c) (pair_kind a c) b k)
-  looped e t F a b None h k = absurd cc
+looped : (Γ : Context) (e : Expression) (t : Term) → ((a b : Kind) → term_output Γ t a ≡ Some b → Takes Γ t a b) → (a b : Kind) (o : Option Kind) → expression_type (names_of_values Γ) e ≡ o → heading_output LoopPre o (term_output Γ t) a ≡ Some b → FormTakes Γ (headed LoopPre e t) a b
+looped Γ e t F a b (Some c) h k = loops Γ e t F a b c h (found_went (term_output Γ t) (first_beside c) (pair_kind a c) b k)
+looped Γ e t F a b None h k = absurd cc
 
-  form_found : (t : Term) → (a b : Kind) → form_output Γ t a ≡ Some b → FormTakes Γ t a b
-  form_found (primitive p) a b h = primitive_takes (primitive_found p a b h)
-  form_found (joined j f g) a b h = joins j f g (within f (form_found f)) (within g (form_found g)) (join_found j (term_output Γ f) (term_output Γ g) a b h)
-  form_found (sided d t) a b h = sides d t (within t (form_found t)) (side_found d (term_output Γ t) a b h)
-  form_found (headed LoopPre e t) a b h = looped e t (within t (form_found t)) a b (expression_type (names_of_values Γ) e) refl h
-  form_found (staged x f g) a b h = stages (within f (form_found f)) (within g (form_found g)) (found_went (term_output Γ f) (term_output Γ g) a b h)
-    where
-      stages : ((a b : Kind) → term_output Γ f a ≡ Some b → Takes Γ f a b) → ((a b : Kind) → term_output Γ g a ≡ Some b → Takes Γ g a b) → Went (term_output Γ f) (term_output Γ g) a b → FormTakes Γ (staged x f g) a b
-      stages F G (went h k) = stages_take (F _ _ h) (G _ _ k)
+stages : (Γ : Context) (x : Extent) (f g : Term) {a b : Kind} → ((a b : Kind) → term_output Γ f a ≡ Some b → Takes Γ f a b) → ((a b : Kind) → term_output Γ g a ≡ Some b → Takes Γ g a b) → Went (term_output Γ f) (term_output Γ g) a b → FormTakes Γ (staged x f g) a b
+stages Γ x f g F G (went h k) = stages_take (F _ _ h) (G _ _ k)
 
-  pub output_found : (t : Term) (a b : Kind) → term_output Γ t a ≡ Some b → Takes Γ t a b
-  output_found t = within t (form_found t)
+-- what a pattern binds in a context
+pub names_inside : {p : Pattern} {t : Kind} {R S : Names} (fs : TypesByName) (bs : Bindings) → AddsNames p t R S → R ≡ values_in fs bs → S ≡ values_in fs (bindings_inside p t bs)
+names_inside fs bs adds_nothing e = e
+names_inside fs bs (adds_name {x = x} {t = t}) e = ap (typed_name x t) e
+names_inside fs bs (adds_both {p = p} {t = t} A B) e = names_inside fs (bindings_inside p t bs) B (names_inside fs bs A e)
 
-  mutual
-    pub takes_found : {t : Term} {a b : Kind} → Takes Γ t a b → term_output Γ t a ≡ Some b
-    takes_found {t} {a} {b} (takes p q F) = inside_fitting (form_output Γ t) a b p q (form_is F)
+part_fits : (b c : Kind) → Fits (pair_kind b (event_kind c)) → Fits c
+part_fits b c h = omega (arith, h)
 
-    form_is : {t : Term} {a b : Kind} → FormTakes Γ t a b → form_output Γ t a ≡ Some b
-    form_is (primitive_takes P) = primitive_is P
-    form_is (sequence_takes F G) = rw (takes_found F) (takes_found G)
-    form_is (parallel_takes F G) = rw (takes_found F, takes_found G) refl
-    form_is (fan_takes F G) = rw (takes_found F, takes_found G) refl
-    form_is (first_takes F) = rw (takes_found F) refl
-    form_is (second_takes F) = rw (takes_found F) refl
-    form_is (loop_takes {t = t} {a = a} {b = b} {c = c} E F) =
-        ap (λ o. heading_output LoopPre o (term_output Γ t) a) (typed_found E) ∙ ap (λ o. found_then o (first_beside c)) (takes_found F) ∙ ap (λ s. cond s (Some b) None) (is_same c)
-    form_is (stages_take F G) = rw (takes_found F) (takes_found G)
+switches : (Γ : Context) (w : Switching) (t : Term) (p : Pattern) (u : Term) → ((a b : Kind) → term_output Γ t a ≡ Some b → Takes Γ t a b) → ((Δ : Context) (a b : Kind) → term_output Δ u a ≡ Some b → Takes Δ u a b)
+    → (a b : Kind) → switch_output Γ p (term_output Γ t a) (λ Δ. term_output Δ u) a ≡ Some b → FormTakes Γ (switching w t p u) a b
+switches Γ w t p u F G a b h =
+    let R = names_of_values Γ in
+    let third : Kind → Kind → Names → Option Kind = λ k c S. found_then (term_output (inside_pattern p c Γ) u a) (λ b. only b k (Some b)) in
+    let second : Kind → Kind → Option Kind = λ k c. found_then (names_bound p c R) (third k c) in
+    let first : Kind × Kind → Option Kind = λ k. found_then (payload_of k.1) (second k.0) in
+    let both = found_is (found_then (term_output Γ t a) parts_of) first h in
+    let given = found_is (term_output Γ t a) parts_of both.1 in
+    let event = found_is (payload_of both.0.1) (second both.0.0) both.2 in
+    let names = found_is (names_bound p event.0 R) (third both.0.0 event.0) event.2 in
+    let body = found_is (term_output (inside_pattern p event.0 Γ) u a) (λ b. only b both.0.0 (Some b)) names.2 in
+    let same = only_is body.0 both.0.0 (Some body.0) body.2 in
+    let bound = bound_found p event.0 R names.0 names.1 in
+    let is : body.0 ≡ b = same_some same.1 in
+    let source : term_output Γ t a ≡ Some (pair_kind b (event_kind event.0)) =
+    given.1 ∙ ap Some (parts_is given.0 given.2 ∙ ap₂ pair_kind (sym same.0 ∙ is) (payload_is both.0.1 event.1)) in
+    switch_takes (F a (pair_kind b (event_kind event.0)) source)
+    (subst (Binds p event.0 R) (names_inside Γ.functions Γ.bindings bound.binds.adds refl) bound.binds)
+    (G (inside_pattern p event.0 Γ) a b (body.1 ∙ ap Some is))
 
-  -- ## What follows for terms that take inputs
+form_found : (Γ : Context) (t : Term) → (a b : Kind) → form_output Γ t a ≡ Some b → FormTakes Γ t a b
+form_found Γ (primitive p) a b h = primitive_takes (primitive_found p a b h)
+form_found Γ (joined j f g) a b h = joins Γ j f g (within Γ f (form_found Γ f)) (within Γ g (form_found Γ g)) (join_found j (term_output Γ f) (term_output Γ g) a b h)
+form_found Γ (sided d t) a b h = sides Γ d t (within Γ t (form_found Γ t)) (side_found d (term_output Γ t) a b h)
+form_found Γ (headed LoopPre e t) a b h = looped Γ e t (within Γ t (form_found Γ t)) a b (expression_type (names_of_values Γ) e) refl h
+form_found Γ (switching w t p u) a b h = switches Γ w t p u (within Γ t (form_found Γ t)) (λ Δ. within Δ u (form_found Δ u)) a b h
+form_found Γ (staged x f g) a b h = stages Γ x f g (within Γ f (form_found Γ f)) (within Γ g (form_found Γ g)) (found_went (term_output Γ f) (term_output Γ g) a b h)
 
-  pub takes_one : {t : Term} {a b c : Kind} → Takes Γ t a b → Takes Γ t a c → b ≡ c
-  takes_one h k = let f = takes_found h in let g = takes_found k in cc
+pub output_found : {Γ : Context} (t : Term) (a b : Kind) → term_output Γ t a ≡ Some b → Takes Γ t a b
+output_found {Γ} t = within Γ t (form_found Γ t)
 
-  pub input_fits : {t : Term} {a b : Kind} → Takes Γ t a b → Fits a
-  input_fits (takes f g h) = f
+pub output_fits : {Γ : Context} {t : Term} {a b : Kind} → Takes Γ t a b → Fits b
+output_fits (takes f g h) = g
 
-  pub output_fits : {t : Term} {a b : Kind} → Takes Γ t a b → Fits b
-  output_fits (takes f g h) = g
+mutual
+  pub takes_found : {Γ : Context} {t : Term} {a b : Kind} → Takes Γ t a b → term_output Γ t a ≡ Some b
+  takes_found {Γ} {t} {a} {b} (takes p q F) = inside_fitting (form_output Γ t) a b p q (form_is F)
 
-  pub form_of : {t : Term} {a b : Kind} → Takes Γ t a b → FormTakes Γ t a b
-  form_of (takes f g h) = h
+  form_is : {Γ : Context} {t : Term} {a b : Kind} → FormTakes Γ t a b → form_output Γ t a ≡ Some b
+  form_is (primitive_takes P) = primitive_is P
+  form_is (sequence_takes F G) = rw (takes_found F) (takes_found G)
+  form_is (parallel_takes F G) = rw (takes_found F, takes_found G) refl
+  form_is (fan_takes F G) = rw (takes_found F, takes_found G) refl
+  form_is (first_takes F) = rw (takes_found F) refl
+  form_is (second_takes F) = rw (takes_found F) refl
+  form_is {Γ} (loop_takes {t = t} {a = a} {b = b} {c = c} E F) =
+      ap (λ o. heading_output LoopPre o (term_output Γ t) a) (typed_found E) ∙ ap (λ o. found_then o (first_beside c)) (takes_found F) ∙ ap (λ s. cond s (Some b) None) (is_same c)
+  form_is {Γ} (switch_takes {t = t} {u = u} {p = p} {a = a} {b = b} {c = c} F B G) =
+      let body : Names → Option Kind = λ S. found_then (term_output (inside_pattern p c Γ) u a) (λ d. only d b (Some d)) in
+      ap (λ o. switch_output Γ p o (λ Δ. term_output Δ u) a) (takes_found F)
+      ∙ ap (λ o. found_then o body) (found_bound (part_fits b c (output_fits F)) B)
+      ∙ ap (λ o. found_then o (λ d. only d b (Some d))) (takes_found G)
+      ∙ ap (λ s. cond s (Some b) None) (is_same b)
+  form_is (stages_take F G) = rw (takes_found F) (takes_found G)
+
+-- ## What follows for terms that take inputs
+
+pub takes_one : {Γ : Context} {t : Term} {a b c : Kind} → Takes Γ t a b → Takes Γ t a c → b ≡ c
+takes_one h k = let f = takes_found h in let g = takes_found k in cc
+
+pub input_fits : {Γ : Context} {t : Term} {a b : Kind} → Takes Γ t a b → Fits a
+input_fits (takes f g h) = f
+
+pub form_of : {Γ : Context} {t : Term} {a b : Kind} → Takes Γ t a b → FormTakes Γ t a b
+form_of (takes f g h) = h

@@ -1,17 +1,18 @@
 -- Where each life before gives a value, there is an outcome.
-use Rattle.std.proofs.Common.{◌≡◌, List, [], ◌∷◌, refl, sym, ap, ◌∙◌, subst}
+use Rattle.std.proofs.Common.{◌≡◌, List, [], ◌∷◌, Option, Some, None, refl, sym, ap, ◌∙◌, subst}
 use Rattle.sf_value.specs.Values.{Data, pair, first_of, second_of}
 use Rattle.sf_value.specs.declared.fault.ValueFault.{ValueFault}
-use Rattle.sf_expr.specs.Expressions.{Expression}
+use Rattle.sf_expr.specs.Expressions.{Pattern, Expression}
 use Rattle.sf_expr.specs.Evaluation.{Evaluated, answer, failed, ◌>>=◌, eval}
 use Rattle.sf_term.specs.declared.form.Join.{Join}
 use Rattle.sf_term.specs.declared.form.Join.TheVariants.{InSequence, InParallel, FannedOut}
 use Rattle.sf_term.specs.declared.form.Side.{Side}
 use Rattle.sf_term.specs.declared.form.Heading.TheVariants.{LoopPre}
-use Rattle.sf_term.specs.Trees.{Extent, Term, primitive, joined, sided, headed, staged}
-use Rattle.sf_mean.specs.Lives.{Step, step, wait_of, input_of, Life, Process, closure, Environment, scope_around, with_inputs, fed, fed_back, older}
-use Rattle.sf_mean.specs.Formulas.{side_of}
-use Rattle.sf_mean.specs.Meaning.{Network, Outcome, gave, faulted, Cost, Made, value_made, left_life, right_life, Gives, gives, Outputs, not_begun, and_gave, Sample, of_constants, of_form, Form, of_primitive, of_join, of_side, of_loop, of_stages, goes_on, stops, Loops, no_loop, and_looped}
+use Rattle.sf_term.specs.declared.form.Switching.{Switching}
+use Rattle.sf_term.specs.Trees.{Extent, Term, primitive, joined, sided, headed, switching, staged}
+use Rattle.sf_mean.specs.Lives.{Step, step, wait_of, input_of, Life, Process, closure, Environment, scope_around, bind, with_inputs, fed, fed_back, older}
+use Rattle.sf_mean.specs.Formulas.{occurring, side_of}
+use Rattle.sf_mean.specs.Meaning.{Network, Outcome, gave, faulted, Cost, Made, value_made, left_life, right_life, Standing, waits, fired, stands_after, body_of, Gives, gives, Outputs, not_begun, and_gave, Sample, of_constants, of_form, Form, of_primitive, of_join, of_side, of_loop, of_switch, of_stages, goes_on, stops, Loops, no_loop, and_looped, Since, at_start, watched, had_fired, SwitchTurn, while_waiting, as_body, after_fault, after_value, Fires, no_event_yet, event_now}
 use Rattle.sf_mean.proofs.TypedProcesses.{made_in}
 
 data Known {A : Type 0} (q : Evaluated A) : Type 0 where
@@ -168,6 +169,48 @@ module _ (n : Network) where
   constants_fail s k not_begun = has (of_constants (ap opened k))
   constants_fail s k (and_gave A B) = absurd (no_fault k B tt)
 
+  -- where a switch that gave a value so far stands: its source has lived, or its body has
+  data Stood (P : Process) (B : Data → Process) (L : Life) : Type 0 where
+    still_waits : Since n P L waits → Lived P L → Stood P B L
+    had_event : {v : Data} {M : Life} → Since n P L (fired v M) → Lived (B v) M → Stood P B L
+
+  fires_stood : {w : Switching} {P : Process} {B : Data → Process} {s : Step} {L : Life} {y : Data} {r : _} {q : Option Data} {o : Outcome} {c d : Cost}
+      → Since n P L waits → Gives n P (s ∷ L) (gave y r) c → occurring (second_of y) ≡ q → Fires n w B s (gave (first_of y) r) q o d → IsGave o → Stood P B (s ∷ L)
+  fires_stood {s = s} S A e no_event_yet h = still_waits (watched S A (ap (stands_after s) e)) (whole A tt)
+  fires_stood {s = s} S A e (event_now {o' = gave z k} G) h = had_event (watched S A (ap (stands_after s) e)) (whole G tt)
+  fires_stood S A e (event_now {o' = faulted x} G) h = absurd h
+
+  turn_stood : {w : Switching} {P : Process} {B : Data → Process} {s : Step} {L : Life} {st : Standing} {o : Outcome} {c : Cost} → Since n P L st → SwitchTurn n w P B s L st o c → IsGave o → Stood P B (s ∷ L)
+  turn_stood S (while_waiting A after_fault) h = absurd h
+  turn_stood S (while_waiting A (after_value F)) h = fires_stood S A refl F h
+  turn_stood S (as_body A) h = had_event (had_fired S) (whole A h)
+
+  from_switch : {w : Switching} {t u : Term} {p : Pattern} {e : Environment} {m : Made} {s : Step} {L : Life} {o : Outcome} {c : Cost} → Form n (switching w t p u) e m s L o c → IsGave o → Stood (closure t e) (body_of p u e) (s ∷ L)
+  from_switch (of_switch S T) h = turn_stood S T h
+
+  switch_at : {w : Switching} {t u : Term} {p : Pattern} {e : Environment} {s : Step} {L : Life} {o : Outcome} {c : Cost} → Sample n (closure (switching w t p u) e) s L o c → IsGave o → Stood (closure t e) (body_of p u e) (s ∷ L)
+  switch_at (of_constants h) i = absurd i
+  switch_at (of_form h F) i = from_switch F i
+
+  switch_stood : {w : Switching} {t u : Term} {p : Pattern} {e : Environment} {L : Life} {ws : List Data} → Outputs n (closure (switching w t p u) e) L ws → Stood (closure t e) (body_of p u e) L
+  switch_stood not_begun = still_waits at_start (lived not_begun)
+  switch_stood (and_gave A B) = switch_at B tt
+
+  payload_fires : (w : Switching) {B : Data → Process} {s : Step} (o : Outcome) (q : Option Data) → ((v : Data) → Has (B v) s []) → (a : Outcome) × ((c : Cost) × Fires n w B s o q a c)
+  payload_fires w o None body = (_, (_, no_event_yet))
+  payload_fires w o (Some v) body = elim (body v) [ has S ↦ (_, (_, event_now (gives not_begun S))) ]
+
+  switch_waits : {w : Switching} {t u : Term} {p : Pattern} {e : Environment} {s : Step} {L : Life} {ys : List Data}
+      → Since n (closure t e) L waits → Outputs n (closure t e) L ys → Has (closure t e) s L → ((v : Data) → Has (body_of p u e v) s []) → Has (closure (switching w t p u) e) s L
+  switch_waits S A (has {o = faulted x} B) body = has (of_form refl (of_switch S (while_waiting (gives A B) after_fault)))
+  switch_waits {w = w} S A (has {o = gave y r} B) body =
+      let F = payload_fires w (gave (first_of y) r) (occurring (second_of y)) body in
+      has (of_form refl (of_switch S (while_waiting (gives A B) (after_value F.1.1))))
+
+  switch_goes_on : {w : Switching} {t u : Term} {p : Pattern} {e : Environment} {s : Step} {L M : Life} {v : Data} {ys : List Data}
+      → Since n (closure t e) L (fired v M) → Outputs n (body_of p u e v) M ys → Has (body_of p u e v) s M → Has (closure (switching w t p u) e) s L
+  switch_goes_on S A (has B) = has (of_form refl (of_switch S (as_body (gives A B))))
+
   pub total : (t : Term) (e : Environment) (s : Step) (L : Life) {ws : List Data} → Outputs n (closure t e) L ws → Has (closure t e) s L
   total (primitive p) e s L O = has (of_form refl (of_primitive refl))
   total (joined j f g) e s L O =
@@ -178,6 +221,11 @@ module _ (n : Network) where
       elim (known (eval i (scope_around n.functions e))) [
         | refused x k ↦ constants_fail s k O
         | answered v k ↦ elim (loop_lived k O) [ looped A R ↦ elim R [ lived B ↦ with_loop k A B (total t e _ _ B) ] ]
+      ]
+  total (switching w t p u) e s L O =
+      elim (switch_stood O) [
+        | still_waits S R ↦ elim R [ lived A ↦ switch_waits S A (total t e s L A) (λ v. total u (bind p v e) s [] not_begun) ]
+        | had_event {v = v} {M = M} S R ↦ elim R [ lived A ↦ switch_goes_on S A (total u (bind p v e) s M A) ]
       ]
   total (staged x f g) e s L O =
       elim (join_lived (as_joined O)) [ joined_so A B ↦ as_staged (with_left A B (total f e s L A) (λ y zs B'. total g e (step (wait_of s) y) _ B')) ]

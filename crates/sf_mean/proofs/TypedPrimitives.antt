@@ -98,6 +98,11 @@ occurring_comes e h = each (payload_has e h)
     each has_none = comes_none
     each (has_some k) = comes_some k
 
+-- so does the payload of an event
+pub event_comes : {d : Data} {p : Kind} → HasKind d (event_kind p) → Comes (occurring d) p
+event_comes has_no_event = comes_none
+event_comes (has_event h) = comes_some h
+
 -- what the function takes is a pair of the value so far and of what comes
 pub coming_typed : (k : Accumulation) {v c : Kind} (a : Kind) → accumulated_argument k v a ≡ Some c → (p : Kind) × (c ≡ pair_kind v p) × ((x : Data) → HasKind x a → Comes (coming k x) p)
 coming_typed AccumBy {v} a e =

@@ -1,21 +1,24 @@
 -- A typed process gives values of its output type.
-use Rattle.std.proofs.Common.{◌≡◌, List, [], ◌∷◌, Option, ap, subst}
-use Rattle.sf_value.specs.Values.{Kind, pair_kind, Data, pair, HasKind, has_pair, first_of, second_of}
+use Rattle.std.proofs.Common.{◌≡◌, List, [], ◌∷◌, Option, Some, None, ap, subst}
+use Rattle.std.specs.Prelude.{⊤}
+use Rattle.sf_value.specs.Values.{Kind, pair_kind, event_kind, Data, pair, HasKind, has_pair, first_of, second_of, has_no_event}
 use Rattle.sf_func.specs.Registries.{TypesByName, AnswersByName, KeepTheirTypes}
-use Rattle.sf_expr.specs.Expressions.{Expression, Function}
+use Rattle.sf_expr.specs.Expressions.{Pattern, unnamed, named, both, Expression, Function}
 use Rattle.sf_expr.specs.Evaluation.{Evaluated, answer, failed, ◌>>=◌, Scope, eval, apply}
-use Rattle.sf_expr.specs.Typing.{Names, HasType, FunctionTakes}
-use Rattle.sf_expr.specs.Soundness.{Yields, yields, fails, ScopeHas, has_no_names}
+use Rattle.sf_expr.specs.Typing.{Names, AddsNames, adds_nothing, adds_name, adds_both, HasType, FunctionTakes}
+use Rattle.sf_expr.specs.Soundness.{Yields, yields, fails, ScopeHas, has_no_names, has_name}
 use Rattle.sf_term.specs.declared.form.Accumulation.{Accumulation}
 use Rattle.sf_term.specs.declared.form.Side.TheVariants.{First, Second}
+use Rattle.sf_term.specs.declared.form.Switching.{Switching}
+use Rattle.sf_term.specs.declared.form.Switching.TheVariants.{Switch, DSwitch}
 use Rattle.sf_term.specs.Trees.{Chain, Primitive, Term}
-use Rattle.sf_mean.specs.Lives.{Step, input_of, Life, Environment, scope_around, Process, first_input as input_at_first}
-use Rattle.sf_mean.specs.Formulas.{timed_formula, coming, next_value, accumulation, displayed, value_formula, with_side, apply_chain, formula}
-use Rattle.sf_mean.specs.Meaning.{Network, Outcome, Cost, Made, value_made, make, Gives, gives, Outputs, not_begun, and_gave, Sample, of_constants, of_form, Form, of_primitive, of_join, of_side, of_loop, of_stages, Next, goes_on, stops, Loops, no_loop, and_looped}
-use Rattle.sf_mean.specs.Contexts.{Bindings, values_in, context_with, Context, names_of_values}
-use Rattle.sf_mean.specs.Typing.{ChainTakes, lone_takes, chained_takes, on_first_takes, on_second_takes, on_both_takes, fanned_takes, PrimitiveTakes, bare_takes, value_takes, timed_takes, accumulated_takes, arrow_takes, fused_takes, Takes, takes, FormTakes, primitive_takes, sequence_takes, parallel_takes, fan_takes, first_takes, second_takes, loop_takes, stages_take}
-use Rattle.sf_mean.specs.Soundness.{Have, have_nothing, have_more, LifeHas, no_steps, more_steps, EnvironmentHas, has_nothing, ProcessTakes, closure_takes, OutcomeHas}
-use Rattle.sf_mean.proofs.TypedPrimitives.{bare_typed, value_typed, timed_typed, Comes, comes_none, comes_some, coming_typed, made_typed, shown_typed}
+use Rattle.sf_mean.specs.Lives.{Step, input_of, Life, Environment, scope_around, bind, Process, first_input as input_at_first}
+use Rattle.sf_mean.specs.Formulas.{timed_formula, occurring, coming, next_value, accumulation, displayed, value_formula, with_side, apply_chain, formula}
+use Rattle.sf_mean.specs.Meaning.{Network, Outcome, Cost, Made, value_made, make, Standing, waits, fired, stands_after, switched_value, Gives, gives, Outputs, not_begun, and_gave, Sample, of_constants, of_form, Form, of_primitive, of_join, of_side, of_loop, of_switch, of_stages, Next, goes_on, stops, Loops, no_loop, and_looped, Since, at_start, watched, had_fired, SwitchTurn, while_waiting, as_body, Switched, after_fault, after_value, Fires, no_event_yet, event_now}
+use Rattle.sf_mean.specs.Contexts.{Bindings, bindings_inside, values_in, context_with, Context, names_of_values}
+use Rattle.sf_mean.specs.Typing.{ChainTakes, lone_takes, chained_takes, on_first_takes, on_second_takes, on_both_takes, fanned_takes, PrimitiveTakes, bare_takes, never_takes, value_takes, timed_takes, accumulated_takes, arrow_takes, fused_takes, Takes, takes, FormTakes, primitive_takes, sequence_takes, parallel_takes, fan_takes, first_takes, second_takes, loop_takes, switch_takes, stages_take}
+use Rattle.sf_mean.specs.Soundness.{Have, have_nothing, have_more, LifeHas, no_steps, more_steps, EnvironmentHas, has_nothing, has_value, ProcessTakes, closure_takes, OutcomeHas}
+use Rattle.sf_mean.proofs.TypedPrimitives.{bare_typed, value_typed, timed_typed, event_comes, Comes, comes_none, comes_some, coming_typed, made_typed, shown_typed}
 use Rattle.sf_mean.proofs.TypedLives.{first_is, second_is, with_inputs_has, fed_has, outcome_is, changed_has, combined_has, LifeIf, life_if, relay_if}
 
 -- expressions and functions have values of their types, or faults
@@ -48,6 +51,26 @@ made_has fails e = absurd cc
 -- the values of an environment have the types of their names, and functions keep theirs
 pub environment_scope : (φ : AnswersByName) (fs : TypesByName) {e : Environment} {bs : Bindings} → KeepTheirTypes fs φ → EnvironmentHas e bs → ScopeHas (scope_around φ e) (values_in fs bs)
 environment_scope φ fs K has_nothing = has_no_names K
+environment_scope φ fs K (has_value h E) = has_name h (environment_scope φ fs K E)
+
+-- the environment inside a pattern has its names
+bind_has : {p : Pattern} {c : Kind} {R S : Names} {v : Data} {e : Environment} {bs : Bindings} → AddsNames p c R S → HasKind v c → EnvironmentHas e bs → EnvironmentHas (bind p v e) (bindings_inside p c bs)
+bind_has adds_nothing h E = E
+bind_has adds_name h E = has_value h E
+bind_has (adds_both A B) (has_pair h k) E = bind_has B k (bind_has A h E)
+
+-- what a switch that fired keeps: a payload of its event's type, and a life of its inputs' type
+abbrev StandingHas : Standing → Kind → Kind → Type 0
+StandingHas waits a c = ⊤
+StandingHas (fired v M) a c = HasKind v c × LifeHas M a
+
+after_has : {s : Step} {L : Life} {o : Option Data} {a c : Kind} → Comes o c → LifeHas (s ∷ L) a → StandingHas (stands_after s o) a c
+after_has comes_none l = tt
+after_has (comes_some h) (more_steps {s = s} i l) = (h, more_steps {s = s} i no_steps)
+
+switched_has_kind : (w : Switching) {v u : Data} {b : Kind} → HasKind v b → HasKind u b → HasKind (switched_value w v u) b
+switched_has_kind Switch h k = k
+switched_has_kind DSwitch h k = h
 
 module _ (n : Network) (eval_is : EvalsTyped) (apply_is : AppliesTyped) where
   -- an accumulation has values of its type, or the fault of its function
@@ -74,6 +97,7 @@ module _ (n : Network) (eval_is : EvalsTyped) (apply_is : AppliesTyped) where
 
     formula_is : {p : Primitive} {a b : Kind} (s : Step) {L : Life} → PrimitiveTakes Γ p a b → HasKind (input_of s) a → LifeHas L a → Yields b (formula p scope s L)
     formula_is s {L = L} (bare_takes {k = k} B f) h l = bare_typed k s L B h l
+    formula_is s (never_takes f) h l = yields has_no_event
     formula_is s {L = L} (value_takes {k = k} I B f) h l = changed_yields (λ v. value_formula k v s L) (λ v i. value_typed k s L B i h l) (eval_is _ _ _ _ I in_scope)
     formula_is s (arrow_takes F) h l = apply_is _ _ _ _ _ _ F h in_scope
     formula_is s {L = L} (timed_takes {k = k} {q = q} I w B f) h l = changed_yields (λ v. timed_formula k q v s L) (λ v i. timed_typed k q s L B i) (eval_is _ _ _ _ I in_scope)
@@ -121,6 +145,8 @@ module _ (n : Network) (eval_is : EvalsTyped) (apply_is : AppliesTyped) where
         let v = made_has (eval_is _ _ _ _ I (environment_scope n.functions fs K E)) q in
         let h : OutcomeHas o (pair_kind b d) = gives_has B (closure_takes K E T) (fed_has b v (more_steps {s = s} i l) (loops_have A (closure_takes K E T) v l)) in
         changed_has o (λ v. first_is) h
+    form_has (of_switch S T) q K E (switch_takes A B U) (more_steps {s = s} i l) =
+        turn_has T (closure_takes K E A) (λ v h. closure_takes K (bind_has B.adds h E) U) (more_steps {s = s} i l) (since_has S (closure_takes K E A) l)
     form_has (of_stages {o = o} {o' = o'} A B C) q K E (stages_take {b = b} {c = d} F H) (more_steps {s = s} i l) =
         let h : OutcomeHas o b = gives_has B (closure_takes K E F) (more_steps {s = s} i l) in
         let j : OutcomeHas o' d = next_has C K E H (relay_if o h (more_steps {s = s} i l) (outputs_have A (closure_takes K E F) l)) in
@@ -133,3 +159,21 @@ module _ (n : Network) (eval_is : EvalsTyped) (apply_is : AppliesTyped) where
     pub loops_have : {v : Data} {P : Process} {L : Life} {zs : List Data} {a b c : Kind} → Loops n v P L zs → ProcessTakes n P (pair_kind a c) (pair_kind b c) → HasKind v c → LifeHas L a → Have zs (pair_kind b c)
     loops_have no_loop p h l = have_nothing
     loops_have {b = b} (and_looped {s = s} A B) p h (more_steps i l) = let z = loops_have A p h l in have_more (gives_has B p (fed_has b h (more_steps {s = s} i l) z)) z
+
+    since_has : {P : Process} {L : Life} {st : Standing} {a b c : Kind} → Since n P L st → ProcessTakes n P a (pair_kind b (event_kind c)) → LifeHas L a → StandingHas st a c
+    since_has at_start p l = tt
+    since_has {a = a} {c = c} (watched A G h) p l = subst (λ st. StandingHas st a c) h (after_has (event_comes (second_is (gives_has G p l))) l)
+    since_has (had_fired A) p (more_steps {s = s} i l) = let h = since_has A p l in (h.0, more_steps {s = s} i h.1)
+
+    turn_has : {w : Switching} {P : Process} {B : Data → Process} {s : Step} {L : Life} {st : Standing} {o : Outcome} {k : Cost} {a b c : Kind} → SwitchTurn n w P B s L st o k → ProcessTakes n P a (pair_kind b (event_kind c))
+        → ((v : Data) → HasKind v c → ProcessTakes n (B v) a b) → LifeHas (s ∷ L) a → StandingHas st a c → OutcomeHas o b
+    turn_has (while_waiting A C) p body (more_steps {s = s} i l) h = switched_has C body (gives_has A p (more_steps {s = s} i l)) i
+    turn_has (as_body A) p body (more_steps {s = s} i l) h = gives_has A (body _ h.0) (more_steps {s = s} i h.1)
+
+    switched_has : {w : Switching} {B : Data → Process} {s : Step} {o q : Outcome} {k : Cost} {a b c : Kind} → Switched n w B s o q k → ((v : Data) → HasKind v c → ProcessTakes n (B v) a b) → OutcomeHas o (pair_kind b (event_kind c)) → HasKind (input_of s) a → OutcomeHas q b
+    switched_has after_fault body h i = tt
+    switched_has (after_value F) body h i = fires_has F body (first_is h) (event_comes (second_is h)) i
+
+    fires_has : {w : Switching} {B : Data → Process} {s : Step} {o : Outcome} {e : Option Data} {q : Outcome} {k : Cost} {a b c : Kind} → Fires n w B s o e q k → ((v : Data) → HasKind v c → ProcessTakes n (B v) a b) → OutcomeHas o b → Comes e c → HasKind (input_of s) a → OutcomeHas q b
+    fires_has no_event_yet body h k i = h
+    fires_has (event_now {w = w} {s = s} {o = o} {o' = o'} A) body h (comes_some k) i = combined_has o o' (λ v u x y. switched_has_kind w x y) h (gives_has A (body _ k) (more_steps {s = s} i no_steps))

@@ -1,6 +1,7 @@
 -- What terms are typed under.
 use Rattle.std.specs.Prelude.{List, [], ◌∷◌, map}
-use Rattle.sf_value.specs.Values.{Name, Kind}
+use Rattle.sf_value.specs.Values.{Name, Kind, pair_kind}
+use Rattle.sf_expr.specs.Expressions.{Pattern, unnamed, named, both}
 use Rattle.sf_func.specs.Registries.{TypesByName}
 use Rattle.sf_expr.specs.Typing.{Names, only_functions, typed_name}
 use Rattle.sf_term.specs.Trees.{Template, Templates}
@@ -38,6 +39,17 @@ context_with fs bs ts = record { bindings = bs; signatures = map signature_of ts
 -- what the body of a template is typed under: no names
 abbrev pub context_of : TypesByName → Templates → Context
 context_of fs ts = context_with fs [] ts
+
+-- the names of a pattern before others, each with the type of its part of a type; none for what doesn't fit the type
+abbrev pub bindings_inside : Pattern → Kind → Bindings → Bindings
+bindings_inside unnamed t bs = bs
+bindings_inside (named x) t bs = (x, value t) ∷ bs
+bindings_inside (both p q) (pair_kind t u) bs = bindings_inside q u (bindings_inside p t bs)
+bindings_inside (both p q) t bs = bs
+
+-- what a term is typed under inside a pattern for a type
+abbrev pub inside_pattern : Pattern → Kind → Context → Context
+inside_pattern p t Γ = record { bindings = bindings_inside p t Γ.bindings; signatures = Γ.signatures; functions = Γ.functions }
 
 -- names with one more, if it stands for a value
 abbrev pub with_value_of : Name → NameKind → Names → Names

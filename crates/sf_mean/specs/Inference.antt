@@ -1,16 +1,17 @@
 -- The output types of terms under a context, found by a function.
 use Rattle.std.specs.Prelude.{nat_le, cond, Option, Some, None}
-use Rattle.sf_value.specs.Values.{Kind, pair_kind, nodes}
-use Rattle.sf_operator.specs.Kinds.{same_kind, parts_of}
-use Rattle.sf_expr.specs.Inference.{found_then, fitting, expression_type, function_output}
+use Rattle.sf_expr.specs.Expressions.{Pattern}
+use Rattle.sf_value.specs.Values.{Kind, pair_kind, nodes, event_kind}
+use Rattle.sf_operator.specs.Kinds.{same_kind, only, parts_of, payload_of}
+use Rattle.sf_expr.specs.Inference.{found_then, fitting, names_bound, expression_type, function_output}
 use Rattle.sf_term.specs.declared.form.Join.{Join}
 use Rattle.sf_term.specs.declared.form.Join.TheVariants.{InSequence, InParallel, FannedOut}
 use Rattle.sf_term.specs.declared.form.Side.{Side}
 use Rattle.sf_term.specs.declared.form.Side.TheVariants.{First, Second}
 use Rattle.sf_term.specs.declared.form.Heading.{Heading}
 use Rattle.sf_term.specs.declared.form.Heading.TheVariants.{LoopPre}
-use Rattle.sf_term.specs.Trees.{Chain, lone, chained, on_side, on_both, fanned, Primitive, bare, with_value, timed, arrow, accumulated, fused, Term, primitive, joined, sided, headed, staged}
-use Rattle.sf_mean.specs.Contexts.{Context, names_of_values}
+use Rattle.sf_term.specs.Trees.{Chain, lone, chained, on_side, on_both, fanned, Primitive, bare, never, with_value, timed, arrow, accumulated, fused, Term, primitive, joined, sided, headed, switching, staged}
+use Rattle.sf_mean.specs.Contexts.{Context, names_of_values, inside_pattern}
 use Rattle.sf_mean.specs.Typing.{bare_kind, value_kind, takes_time, timed_kind, accumulated_argument, accumulated_kind}
 
 -- What finds an output type for an input type, if inputs of that type are taken.
@@ -43,6 +44,12 @@ abbrev pub heading_output : Heading → Option Kind → Finds → Finds
 heading_output LoopPre None f a = None
 heading_output LoopPre (Some c) f a = found_then (f (pair_kind a c)) (first_beside c)
 
+-- the output of a switch, whose source has an output and whose body is found under what its pattern binds
+abbrev pub switch_output : Context → Pattern → Option Kind → (Context → Finds) → Finds
+switch_output Γ p o body a =
+    found_then (found_then o parts_of) (λ k. found_then (payload_of k.1) (λ c.
+    found_then (names_bound p c (names_of_values Γ)) (λ R. found_then (body (inside_pattern p c Γ) a) (λ b. only b k.0 (Some b)))))
+
 -- the output of functions made into one
 abbrev pub chain_output : Context → Chain → Finds
 chain_output Γ (lone f) a = function_output (names_of_values Γ) f a
@@ -54,6 +61,7 @@ chain_output Γ (fanned f g) a = join_output FannedOut (chain_output Γ f) (chai
 -- the output of a primitive
 abbrev pub primitive_output : Context → Primitive → Finds
 primitive_output Γ (bare k) a = found_then (bare_kind k a) fitting
+primitive_output Γ (never t) a = fitting (event_kind t)
 primitive_output Γ (with_value k e) a = found_then (found_then (expression_type (names_of_values Γ) e) (λ v. value_kind k v a)) fitting
 primitive_output Γ (arrow f) a = function_output (names_of_values Γ) f a
 primitive_output Γ (timed k q e) a = found_then (expression_type (names_of_values Γ) e) (λ v. cond (takes_time k q) (found_then (timed_kind k v) fitting) None)
@@ -71,6 +79,7 @@ form_output Γ (primitive p) a = primitive_output Γ p a
 form_output Γ (joined j f g) a = join_output j (with_fitting (form_output Γ f)) (with_fitting (form_output Γ g)) a
 form_output Γ (sided d t) a = side_output d (with_fitting (form_output Γ t)) a
 form_output Γ (headed h e t) a = heading_output h (expression_type (names_of_values Γ) e) (with_fitting (form_output Γ t)) a
+form_output Γ (switching w t p u) a = switch_output Γ p (with_fitting (form_output Γ t) a) (λ Δ. with_fitting (form_output Δ u)) a
 form_output Γ (staged x f g) a = join_output InSequence (with_fitting (form_output Γ f)) (with_fitting (form_output Γ g)) a
 
 -- the type of the outputs of a term for inputs of a type, if it takes them

@@ -1,9 +1,10 @@
 -- Lives and processes.
 use Rattle.std.specs.Prelude.{ℕ, ◌+◌, ◌≤◌, List, [], ◌∷◌, ⊤}
-use Rattle.sf_value.specs.Values.{Data, pair, second_of}
+use Rattle.sf_value.specs.Values.{Name, Data, pair, first_of, second_of}
 use Rattle.sf_func.specs.Registries.{AnswersByName}
 use Rattle.sf_term.specs.Trees.{Term}
-use Rattle.sf_expr.specs.Evaluation.{Scope, no_names}
+use Rattle.sf_expr.specs.Expressions.{Pattern, unnamed, named, both}
+use Rattle.sf_expr.specs.Evaluation.{Scope, no_names, value_name}
 
 -- A step: the time since the step before, and the input. The time of the first step isn't looked at.
 pub data Step : Type 0 where
@@ -38,9 +39,10 @@ pub record IsLife (L : Life) : Type 0 where
   pub waits : HasWaits L
   pub lasts : time L ≤ 4000000000000000
 
--- What names stand for.
+-- What names stand for, the innermost first: values.
 pub data Environment : Type 0 where
   empty : Environment
+  known : Name → Data → Environment → Environment
 
 -- A process: a term with the names around it.
 pub data Process : Type 0 where
@@ -49,6 +51,13 @@ pub data Process : Type 0 where
 -- the scope of expressions, where functions answer this
 abbrev pub scope_around : AnswersByName → Environment → Scope
 scope_around f empty = no_names f
+scope_around f (known x d e) = value_name x d (scope_around f e)
+
+-- the environment inside a pattern that a value was bound to
+abbrev pub bind : Pattern → Data → Environment → Environment
+bind unnamed d e = e
+bind (named x) d e = known x d e
+bind (both p q) d e = bind q (second_of d) (bind p (first_of d) e)
 
 -- the same times, with another input made of each
 abbrev pub with_inputs : (Data → Data) → Life → Life

@@ -1,17 +1,19 @@
 -- What processes give on lives, and at what cost.
-use Rattle.std.specs.Prelude.{◌≡◌, ℕ, suc, ◌+◌, max, List, [], ◌∷◌, ◌++◌, pos}
+use Rattle.std.specs.Prelude.{◌≡◌, ℕ, suc, ◌+◌, max, List, [], ◌∷◌, ◌++◌, pos, Option, Some, None}
 use Rattle.sf_value.specs.Values.{Name, Data, number, pair, first_of, second_of}
 use Rattle.sf_value.specs.declared.fault.ValueFault.{ValueFault}
 use Rattle.sf_func.specs.Registries.{AnswersByName}
-use Rattle.sf_expr.specs.Expressions.{Expression}
+use Rattle.sf_expr.specs.Expressions.{Pattern, Expression}
 use Rattle.sf_expr.specs.Evaluation.{Evaluated, answer, failed, ◌>>=◌, eval}
 use Rattle.sf_term.specs.declared.form.Join.{Join}
 use Rattle.sf_term.specs.declared.form.Join.TheVariants.{InSequence, InParallel, FannedOut}
 use Rattle.sf_term.specs.declared.form.Side.{Side}
 use Rattle.sf_term.specs.declared.form.Heading.TheVariants.{LoopPre}
-use Rattle.sf_term.specs.Trees.{Primitive, Extent, whole, rest, Term, primitive, joined, sided, headed, staged, Templates}
-use Rattle.sf_mean.specs.Lives.{Step, input_of, Life, Process, closure, Environment, scope_around, with_inputs, relay, fed, first_input as input_at_first}
-use Rattle.sf_mean.specs.Formulas.{side_of, with_side, formula}
+use Rattle.sf_term.specs.declared.form.Switching.{Switching}
+use Rattle.sf_term.specs.declared.form.Switching.TheVariants.{Switch, DSwitch}
+use Rattle.sf_term.specs.Trees.{Primitive, Extent, whole, rest, Term, primitive, joined, sided, headed, switching, staged, Templates}
+use Rattle.sf_mean.specs.Lives.{Step, input_of, Life, Process, closure, Environment, scope_around, bind, with_inputs, relay, fed, first_input as input_at_first}
+use Rattle.sf_mean.specs.Formulas.{occurring, side_of, with_side, formula}
 
 -- A network: its templates, and what its stored functions answer.
 pub record Network : Type 0 where
@@ -81,12 +83,13 @@ abbrev pub over_stages : Extent → Cost → Cost
 over_stages whole c = over c
 over_stages rest c = c
 
--- the terms in the text of a term
+-- the terms in the text of a term, outside of the bodies of switches
 abbrev pub text_cost : Term → Cost
 text_cost (primitive p) = one_term
 text_cost (joined j f g) = over (both_costs (text_cost f) (text_cost g))
 text_cost (sided d t) = over (text_cost t)
 text_cost (headed h e t) = over (text_cost t)
+text_cost (switching w t p u) = over (text_cost t)
 text_cost (staged x f g) = over_stages x (both_costs (text_cost f) (text_cost g))
 
 -- What a form's constants give: nothing, or a value.
@@ -100,6 +103,7 @@ make n (primitive p) e x = answer nothing_made
 make n (joined j f g) e x = answer nothing_made
 make n (sided d t) e x = answer nothing_made
 make n (headed h i t) e x = eval i (scope_around n.functions e) >>= λ v. answer (value_made v)
+make n (switching w t p u) e x = answer nothing_made
 make n (staged x f g) e y = answer nothing_made
 
 -- what the left part of a join lives
@@ -119,6 +123,25 @@ abbrev pub join_value : Join → Data → Data → Data
 join_value InSequence y z = z
 join_value InParallel y z = pair y z
 join_value FannedOut y z = pair y z
+
+-- Where a switch stands after a life: it waits for an event, or it had one with the payload v, and its body has lived M since.
+pub data Standing : Type 0 where
+  waits : Standing
+  fired : (v : Data) (M : Life) → Standing
+
+-- where a switch that waited stands after a step at which there was this payload, if there was one
+abbrev pub stands_after : Step → Option Data → Standing
+stands_after s None = waits
+stands_after s (Some v) = fired v (s ∷ [])
+
+-- the value at the step of the event: that of the body, or still that of the source
+abbrev pub switched_value : Switching → Data → Data → Data
+switched_value Switch y z = z
+switched_value DSwitch y z = y
+
+-- what takes over from a switch at an event
+abbrev pub body_of : Pattern → Term → Environment → Data → Process
+body_of p u e v = closure u (bind p v e)
 
 -- ## The meaning
 
@@ -165,6 +188,11 @@ mutual
         → Loops n v (closure t e) L zs
         → Gives n (closure t e) (fed v (s ∷ L) zs) o c
         → Form n (headed LoopPre i t) e (value_made v) s L (changed first_of o) (over c)
+    -- a switch gives what its standing says
+    of_switch : {w : Switching} {t u : Term} {p : Pattern} {e : Environment} {m : Made} {s : Step} {L : Life} {st : Standing} {o : Outcome} {c : Cost}
+        → Since n (closure t e) L st
+        → SwitchTurn n w (closure t e) (body_of p u e) s L st o c
+        → Form n (switching w t p u) e m s L o c
     -- a stage before the others: they live on its values
     of_stages : {x : Extent} {f g : Term} {e : Environment} {m : Made} {s : Step} {L : Life} {ys : List Data} {o o' : Outcome} {c c' : Cost}
         → Outputs n (closure f e) L ys
@@ -187,3 +215,39 @@ mutual
         → Loops n v P L zs
         → Gives n P (fed v (s ∷ L) zs) (gave z r) c
         → Loops n v P (s ∷ L) (z ∷ zs)
+
+  -- Where a switch stands after a life of its source. Its event stands beside its source's value.
+  pub data Since (n : Network) : Process → Life → Standing → Type 0 where
+    at_start : {P : Process} → Since n P [] waits
+    watched : {P : Process} {s : Step} {L : Life} {y : Data} {r : Readings} {c : Cost} {st : Standing}
+        → Since n P L waits
+        → Gives n P (s ∷ L) (gave y r) c
+        → stands_after s (occurring (second_of y)) ≡ st
+        → Since n P (s ∷ L) st
+    had_fired : {P : Process} {s : Step} {L M : Life} {v : Data}
+        → Since n P L (fired v M)
+        → Since n P (s ∷ L) (fired v (s ∷ M))
+
+  -- A switch's next step, where B takes over. Once it has fired it counts nothing, and its body stands in its place.
+  pub data SwitchTurn (n : Network) : Switching → Process → (Data → Process) → Step → Life → Standing → Outcome → Cost → Type 0 where
+    while_waiting : {w : Switching} {P : Process} {B : Data → Process} {s : Step} {L : Life} {o o' : Outcome} {c c' : Cost}
+        → Gives n P (s ∷ L) o c
+        → Switched n w B s o o' c'
+        → SwitchTurn n w P B s L waits o' (over (both_costs c c'))
+    as_body : {w : Switching} {P : Process} {B : Data → Process} {s : Step} {L M : Life} {v : Data} {o : Outcome} {c : Cost}
+        → Gives n (B v) (s ∷ M) o c
+        → SwitchTurn n w P B s L (fired v M) o c
+
+  -- What comes after the source of a switch: nothing after its fault, else what comes of the payload beside its value.
+  pub data Switched (n : Network) : Switching → (Data → Process) → Step → Outcome → Outcome → Cost → Type 0 where
+    after_fault : {w : Switching} {B : Data → Process} {s : Step} {x : ValueFault} → Switched n w B s (faulted x) (faulted x) no_cost
+    after_value : {w : Switching} {B : Data → Process} {s : Step} {y : Data} {r : Readings} {o : Outcome} {c : Cost}
+        → Fires n w B s (gave (first_of y) r) (occurring (second_of y)) o c
+        → Switched n w B s (gave y r) o c
+
+  -- Without a payload the source's outcome stays; with one the body lives from this step on.
+  pub data Fires (n : Network) : Switching → (Data → Process) → Step → Outcome → Option Data → Outcome → Cost → Type 0 where
+    no_event_yet : {w : Switching} {B : Data → Process} {s : Step} {o : Outcome} → Fires n w B s o None o no_cost
+    event_now : {w : Switching} {B : Data → Process} {s : Step} {o o' : Outcome} {v : Data} {c : Cost}
+        → Gives n (B v) (s ∷ []) o' c
+        → Fires n w B s o (Some v) (combined (switched_value w) o o') c

@@ -1,11 +1,11 @@
 -- Typed lives and processes.
 use Rattle.std.specs.Prelude.{List, [], ◌∷◌, ⊤}
-use Rattle.sf_value.specs.Values.{Kind, Data, HasKind}
+use Rattle.sf_value.specs.Values.{Name, Kind, Data, HasKind}
 use Rattle.sf_func.specs.Registries.{TypesByName, KeepTheirTypes}
 use Rattle.sf_term.specs.Trees.{Term}
-use Rattle.sf_mean.specs.Lives.{Step, input_of, Life, Environment, empty, Process, closure}
+use Rattle.sf_mean.specs.Lives.{Step, input_of, Life, Environment, empty, known, Process, closure}
 use Rattle.sf_mean.specs.Meaning.{Network, Outcome, gave, faulted}
-use Rattle.sf_mean.specs.Contexts.{Bindings, context_with}
+use Rattle.sf_mean.specs.Contexts.{NameKind, value, Bindings, context_with}
 use Rattle.sf_mean.specs.Typing.{Takes}
 
 -- Each value of a list has a type.
@@ -21,6 +21,7 @@ pub data LifeHas : Life → Kind → Type 0 where
 -- An environment has the names of a context, each with what it stands for.
 pub data EnvironmentHas : Environment → Bindings → Type 0 where
   has_nothing : EnvironmentHas empty []
+  has_value : {x : Name} {d : Data} {t : Kind} {e : Environment} {bs : Bindings} → HasKind d t → EnvironmentHas e bs → EnvironmentHas (known x d e) ((x, value t) ∷ bs)
 
 -- In a network, a process takes inputs of one type to outputs of another: the network's functions keep types and its
 -- environment has names under which, and under the headers of the network, its term takes them.

@@ -3,8 +3,8 @@ use Rattle.std.specs.Prelude.{◌≡◌, ◌≢◌, ℕ, ◌<◌, Bool, ◌&&◌
 use Rattle.sf_value.specs.Values.{Kind, unit_kind, bool_kind, int_kind, pair_kind, event_kind}
 use Rattle.sf_operator.specs.Kinds.{found_then, only, payload_of}
 use Rattle.sf_func.specs.Registries.{TypesByName}
-use Rattle.sf_expr.specs.Expressions.{Expression, Function}
-use Rattle.sf_expr.specs.Typing.{Fits, HasType, FunctionTakes}
+use Rattle.sf_expr.specs.Expressions.{Pattern, Expression, Function}
+use Rattle.sf_expr.specs.Typing.{Fits, Binds, HasType, FunctionTakes}
 use Rattle.sf_term.specs.declared.form.Bare.{Bare}
 use Rattle.sf_term.specs.declared.form.Bare.TheVariants.{Identity, LocalTime, Integral, Edge, NotYet, Count}
 use Rattle.sf_term.specs.declared.form.WithValue.{WithValue}
@@ -16,9 +16,10 @@ use Rattle.sf_term.specs.declared.form.Accumulation.TheVariants.{AccumBy, AccumH
 use Rattle.sf_term.specs.declared.form.Join.TheVariants.{InSequence, InParallel, FannedOut}
 use Rattle.sf_term.specs.declared.form.Side.TheVariants.{First, Second}
 use Rattle.sf_term.specs.declared.form.Heading.TheVariants.{LoopPre}
-use Rattle.sf_term.specs.Trees.{Chain, lone, chained, on_side, on_both, fanned, Primitive, bare, with_value, timed, arrow, accumulated, fused, Extent, Term, primitive, joined, sided, headed, staged, Template, Templates}
+use Rattle.sf_term.specs.declared.form.Switching.{Switching}
+use Rattle.sf_term.specs.Trees.{Chain, lone, chained, on_side, on_both, fanned, Primitive, bare, never, with_value, timed, arrow, accumulated, fused, Extent, Term, primitive, joined, sided, headed, switching, staged, Template, Templates}
 use Rattle.sf_mean.specs.Networks.{main_of}
-use Rattle.sf_mean.specs.Contexts.{Context, names_of_values, context_of}
+use Rattle.sf_mean.specs.Contexts.{Context, names_of_values, context_of, inside_pattern}
 
 -- Functions made into one take inputs of one type to outputs of another.
 pub data ChainTakes (Γ : Context) : Chain → Kind → Kind → Type 0 where
@@ -69,6 +70,7 @@ accumulated_kind Scan v u = only u v (Some v)
 -- A primitive takes inputs of one type to outputs of another.
 pub data PrimitiveTakes (Γ : Context) : Primitive → Kind → Kind → Type 0 where
   bare_takes : {k : Bare} {a b : Kind} → bare_kind k a ≡ Some b → Fits b → PrimitiveTakes Γ (bare k) a b
+  never_takes : {t a : Kind} → Fits (event_kind t) → PrimitiveTakes Γ (never t) a (event_kind t)
   value_takes : {k : WithValue} {e : Expression} {v a b : Kind} → HasType (names_of_values Γ) e v → value_kind k v a ≡ Some b → Fits b → PrimitiveTakes Γ (with_value k e) a b
   arrow_takes : {f : Function} {a b : Kind} → FunctionTakes (names_of_values Γ) f a b → PrimitiveTakes Γ (arrow f) a b
   timed_takes : {k : Timing} {q : ℤ} {e : Expression} {v a b : Kind} → HasType (names_of_values Γ) e v → IsTrue (takes_time k q) → timed_kind k v ≡ Some b → Fits b → PrimitiveTakes Γ (timed k q e) a b
@@ -78,19 +80,21 @@ pub data PrimitiveTakes (Γ : Context) : Primitive → Kind → Kind → Type 0 
 
 mutual
   -- A term takes inputs of one type to outputs of another. Both have at most 256 nodes.
-  pub data Takes (Γ : Context) : Term → Kind → Kind → Type 0 where
-    takes : {t : Term} {a b : Kind} → Fits a → Fits b → FormTakes Γ t a b → Takes Γ t a b
+  pub data Takes : Context → Term → Kind → Kind → Type 0 where
+    takes : {Γ : Context} {t : Term} {a b : Kind} → Fits a → Fits b → FormTakes Γ t a b → Takes Γ t a b
 
   -- the types of each form of terms
-  pub data FormTakes (Γ : Context) : Term → Kind → Kind → Type 0 where
-    primitive_takes : {p : Primitive} {a b : Kind} → PrimitiveTakes Γ p a b → FormTakes Γ (primitive p) a b
-    sequence_takes : {f g : Term} {a b c : Kind} → Takes Γ f a b → Takes Γ g b c → FormTakes Γ (joined InSequence f g) a c
-    parallel_takes : {f g : Term} {a b c d : Kind} → Takes Γ f a b → Takes Γ g c d → FormTakes Γ (joined InParallel f g) (pair_kind a c) (pair_kind b d)
-    fan_takes : {f g : Term} {a b c : Kind} → Takes Γ f a b → Takes Γ g a c → FormTakes Γ (joined FannedOut f g) a (pair_kind b c)
-    first_takes : {t : Term} {a b c : Kind} → Takes Γ t a b → FormTakes Γ (sided First t) (pair_kind a c) (pair_kind b c)
-    second_takes : {t : Term} {a b c : Kind} → Takes Γ t a b → FormTakes Γ (sided Second t) (pair_kind c a) (pair_kind c b)
-    loop_takes : {e : Expression} {t : Term} {a b c : Kind} → HasType (names_of_values Γ) e c → Takes Γ t (pair_kind a c) (pair_kind b c) → FormTakes Γ (headed LoopPre e t) a b
-    stages_take : {x : Extent} {f g : Term} {a b c : Kind} → Takes Γ f a b → Takes Γ g b c → FormTakes Γ (staged x f g) a c
+  pub data FormTakes : Context → Term → Kind → Kind → Type 0 where
+    primitive_takes : {Γ : Context} {p : Primitive} {a b : Kind} → PrimitiveTakes Γ p a b → FormTakes Γ (primitive p) a b
+    sequence_takes : {Γ : Context} {f g : Term} {a b c : Kind} → Takes Γ f a b → Takes Γ g b c → FormTakes Γ (joined InSequence f g) a c
+    parallel_takes : {Γ : Context} {f g : Term} {a b c d : Kind} → Takes Γ f a b → Takes Γ g c d → FormTakes Γ (joined InParallel f g) (pair_kind a c) (pair_kind b d)
+    fan_takes : {Γ : Context} {f g : Term} {a b c : Kind} → Takes Γ f a b → Takes Γ g a c → FormTakes Γ (joined FannedOut f g) a (pair_kind b c)
+    first_takes : {Γ : Context} {t : Term} {a b c : Kind} → Takes Γ t a b → FormTakes Γ (sided First t) (pair_kind a c) (pair_kind b c)
+    second_takes : {Γ : Context} {t : Term} {a b c : Kind} → Takes Γ t a b → FormTakes Γ (sided Second t) (pair_kind c a) (pair_kind c b)
+    loop_takes : {Γ : Context} {e : Expression} {t : Term} {a b c : Kind} → HasType (names_of_values Γ) e c → Takes Γ t (pair_kind a c) (pair_kind b c) → FormTakes Γ (headed LoopPre e t) a b
+    switch_takes : {Γ : Context} {w : Switching} {t u : Term} {p : Pattern} {a b c : Kind}
+        → Takes Γ t a (pair_kind b (event_kind c)) → Binds p c (names_of_values Γ) (names_of_values (inside_pattern p c Γ)) → Takes (inside_pattern p c Γ) u a b → FormTakes Γ (switching w t p u) a b
+    stages_take : {Γ : Context} {x : Extent} {f g : Term} {a b c : Kind} → Takes Γ f a b → Takes Γ g b c → FormTakes Γ (staged x f g) a c
 
 -- a template's term takes its header's input to its header's output, under the headers of all templates, with functions of
 -- these types

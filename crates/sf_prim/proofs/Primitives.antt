@@ -8,9 +8,9 @@ use Rattle.std.specs.declared.rc.Rc.{Rc}
 use Rattle.sf_value.specs.Values.{Data, no_event, event}
 use Rattle.sf_func.specs.Registries.{AnswersByName}
 use Rattle.sf_expr.specs.Expressions.{Expression, Function}
-use Rattle.sf_expr.specs.Evaluation.{Evaluated, Scope, no_names, functions_in, answer, ◌>>=◌, eval, apply}
+use Rattle.sf_expr.specs.Evaluation.{Evaluated, Scope, functions_in, answer, ◌>>=◌, eval, apply}
 use Rattle.sf_code.specs.declared.code.Code.{Code}
-use Rattle.sf_code.specs.Worth.{IsCodeOfFunction}
+use Rattle.sf_code.specs.Worth.{IsCodeOfFunctionIn}
 use Rattle.sf_operator.specs.Outcomes.{tested}
 use Rattle.sf_operator.specs.Operations.{event_of, payload_or}
 use Rattle.sf_operator.specs.Answers.{Evaluates}
@@ -21,16 +21,16 @@ use Rattle.sf_term.specs.declared.form.WithValue.TheVariants.{Constant as VConst
 use Rattle.sf_term.specs.declared.form.Timing.{Timing}
 use Rattle.sf_term.specs.declared.form.Timing.TheVariants.{After}
 use Rattle.sf_term.specs.declared.form.Accumulation.{Accumulation}
-use Rattle.sf_term.specs.Trees.{Primitive, with_value, timed, arrow, accumulated}
+use Rattle.sf_term.specs.Trees.{Primitive, with_value, timed, accumulated}
 use Rattle.sf_mean.specs.Lives.{Step, step, input_of, Life, time}
 use Rattle.sf_mean.specs.Formulas.{coming, next_value, accumulation, displayed, at_first, level, area, is_high, is_low, event_if, occurring, count_up, occurrences, counted, last_payload, value_formula, has_passed, timed_formula, formula}
 use Rattle.sf_prim.specs.declared.time.Area.{Area as Sum}
 use Rattle.sf_prim.specs.declared.time.Timer.{Timer}
 use Rattle.sf_prim.specs.declared.accumulator.Accumulator.{Accumulator}
 use Rattle.sf_prim.specs.declared.prim_state.PrimState.{PrimState}
-use Rattle.sf_prim.specs.declared.prim_state.PrimState.TheVariants.{Identity, Constant, Previous, Arrow, Accumulated, Clock, Area, Timed, Edge, NotYet, Count, Now, Hold}
+use Rattle.sf_prim.specs.declared.prim_state.PrimState.TheVariants.{Identity, Never, Constant, Previous, Arrow, Accumulated, Clock, Area, Timed, Edge, NotYet, Count, Now, Hold}
 use Rattle.sf_prim.specs.Gifts.{gift}
-use Rattle.sf_prim.specs.Keeping.{shown_after, time_after, last_time, has_steps, span, waited, is_up, count_after, counted_after, Remembers, keeps_nothing, keeps_value, keeps_previous, keeps_function, keeps_accumulation, keeps_time, keeps_area, keeps_timer, keeps_low, keeps_begun, keeps_count, keeps_first, keeps_last, Begins, begins_with_fault, begins_without_memory, GoesOn, goes_on, goes_on_with_fault, goes_on_without_memory}
+use Rattle.sf_prim.specs.Keeping.{shown_after, time_after, last_time, has_steps, span, waited, is_up, count_after, counted_after, Remembers, keeps_nothing, keeps_no_event, keeps_value, keeps_previous, keeps_function, keeps_accumulation, keeps_time, keeps_area, keeps_timer, keeps_low, keeps_begun, keeps_count, keeps_first, keeps_last, Begins, begins_with_fault, begins_without_memory, GoesOn, goes_on, goes_on_with_fault, goes_on_without_memory}
 
 -- a primitive with a value gives what its formula makes of it
 value_gives : (k : WithValue) (e : Expression) (scope : Scope) (v : Data) (s : Step) (L : Life)
@@ -40,36 +40,35 @@ value_gives k e scope v s L h = ap (λ r. r >>= λ v. answer (value_formula k v 
 -- ## Before the first sample
 
 -- a constant's fault is that of the first sample
-constant_fails : (φ : AnswersByName) (q : Primitive) (e : Expression) (next : Step → Data → Evaluated Data) → ((s : Step) → formula q (no_names φ) s [] ≡ (eval e (no_names φ) >>= next s))
-    → (f : EvalFault) → Evaluates (Err f) (eval e (no_names φ)) → Begins φ q (Err f)
-constant_fails φ q e next is (Value x) h = begins_with_fault (λ s. is s ∙ ap (λ r. r >>= next s) h)
-constant_fails φ q e next is Memory h = begins_without_memory
+constant_fails : (sc : Scope) (q : Primitive) (e : Expression) (next : Step → Data → Evaluated Data) → ((s : Step) → formula q sc s [] ≡ (eval e sc >>= next s))
+    → (f : EvalFault) → Evaluates (Err f) (eval e sc) → Begins sc q (Err f)
+constant_fails sc q e next is (Value x) h = begins_with_fault (λ s. is s ∙ ap (λ r. r >>= next s) h)
+constant_fails sc q e next is Memory h = begins_without_memory
 
-exit_so : (φ : AnswersByName) (q : Primitive) (f : EvalFault) (r : Result PrimState EvalFault) → IsErrAnd r (λ e. e ≡ f) → Begins φ q (Err f) → Begins φ q r
-exit_so φ q f (Ok i) h b = absurd h
-exit_so φ q f (Err g) h b = subst (λ (g : EvalFault). Begins φ q (Err g)) (sym h) b
+exit_so : (sc : Scope) (q : Primitive) (f : EvalFault) (r : Result PrimState EvalFault) → IsErrAnd r (λ e. e ≡ f) → Begins sc q (Err f) → Begins sc q r
+exit_so sc q f (Ok i) h b = absurd h
+exit_so sc q f (Err g) h b = subst (λ (g : EvalFault). Begins sc q (Err g)) (sym h) b
 
-pub begins_exit : (φ : AnswersByName) (k : WithValue) (e : Expression) (f : EvalFault) (r : Result PrimState EvalFault)
-    → IsErrAnd r (λ e. e ≡ f) → Evaluates (Err f) (eval e (no_names φ)) → Begins φ (with_value k e) r
-begins_exit φ k e f r h g = exit_so φ (with_value k e) f r h (constant_fails φ (with_value k e) e (λ s v. answer (value_formula k v s [])) (λ s. refl) f g)
+pub begins_exit : (sc : Scope) (k : WithValue) (e : Expression) (f : EvalFault) (r : Result PrimState EvalFault)
+    → IsErrAnd r (λ e. e ≡ f) → Evaluates (Err f) (eval e sc) → Begins sc (with_value k e) r
+begins_exit sc k e f r h g = exit_so sc (with_value k e) f r h (constant_fails sc (with_value k e) e (λ s v. answer (value_formula k v s [])) (λ s. refl) f g)
 
-pub timed_exit : (φ : AnswersByName) (k : Timing) (q : ℤ) (e : Expression) (f : EvalFault) (r : Result PrimState EvalFault)
-    → IsErrAnd r (λ e. e ≡ f) → Evaluates (Err f) (eval e (no_names φ)) → Begins φ (timed k q e) r
-timed_exit φ k q e f r h g = exit_so φ (timed k q e) f r h (constant_fails φ (timed k q e) e (λ s v. answer (timed_formula k q v s [])) (λ s. refl) f g)
+pub timed_exit : (sc : Scope) (k : Timing) (q : ℤ) (e : Expression) (f : EvalFault) (r : Result PrimState EvalFault)
+    → IsErrAnd r (λ e. e ≡ f) → Evaluates (Err f) (eval e sc) → Begins sc (timed k q e) r
+timed_exit sc k q e f r h g = exit_so sc (timed k q e) f r h (constant_fails sc (timed k q e) e (λ s v. answer (timed_formula k q v s [])) (λ s. refl) f g)
 
 -- memory runs out
-pub memory_exit : (φ : AnswersByName) (q : Primitive) (r : Result PrimState EvalFault) → IsErrAnd r (λ e. e ≡ Memory) → Begins φ q r
-memory_exit φ q r h = exit_so φ q Memory r h begins_without_memory
-
--- a function's code, and the same code shared
-pub arrow_keeps : (φ : AnswersByName) (f : Function) (c d : Rc Code Global) → d.value ≡ c.value → IsCodeOfFunction f c.value → Remembers (Arrow d) (arrow f) (no_names φ) []
-arrow_keeps φ f c d e h = keeps_function (rw e h)
+pub memory_exit : (sc : Scope) (q : Primitive) (r : Result PrimState EvalFault) → IsErrAnd r (λ e. e ≡ Memory) → Begins sc q r
+memory_exit sc q r h = exit_so sc q Memory r h begins_without_memory
 
 -- ## A sample
 
 pub identity_goes_on : (q : Primitive) (scope : Scope) (d : _) (x : Data) (L : Life)
     → Remembers Identity q scope L → GoesOn q scope (step d x) L Identity (Ok x)
 identity_goes_on q scope d x L keeps_nothing = goes_on refl keeps_nothing
+
+pub never_goes_on : (q : Primitive) (scope : Scope) (s : Step) (L : Life) (v : Data) → v ≡ no_event → Remembers Never q scope L → GoesOn q scope s L Never (Ok v)
+never_goes_on q scope s L v is keeps_no_event = goes_on (ap answer (sym is)) keeps_no_event
 
 pub constant_goes_on : {A : Type 0} (q : Primitive) (scope : Scope) (s : Step) (L : Life) (v w : Data) (r : Result A EvalFault) → OnOk r (w ≡ v) → IfErr r (λ e. e ≡ Memory)
     → Remembers (Constant v) q scope L → GoesOn q scope s L (Constant v) (gift r w)
@@ -81,10 +80,10 @@ pub previous_goes_on : (q : Primitive) (scope : Scope) (d : _) (x : Data) (L : L
 previous_goes_on q scope d x L w (keeps_previous {e = e} {v = v} h g) =
     goes_on (value_gives InitialPre e scope v (step d x) L h ∙ ap answer (sym g)) (keeps_previous h refl)
 
-pub arrow_goes_on : (φ : AnswersByName) (c : Rc Code Global) (d : _) (x : Data) (r : Result Data EvalFault) → ((f : Function) → IsCodeOfFunction f c.value → Evaluates r (apply f x (no_names φ)))
+pub arrow_goes_on : (φ : AnswersByName) (c : Rc Code Global) (d : _) (x : Data) (r : Result Data EvalFault) → ((s : Scope) → functions_in s ≡ φ → (f : Function) → IsCodeOfFunctionIn s f c.value → Evaluates r (apply f x s))
     → (q : Primitive) (scope : Scope) (L : Life) → functions_in scope ≡ φ → Remembers (Arrow c) q scope L → GoesOn q scope (step d x) L (Arrow c) r
-arrow_goes_on φ c d x (Ok v) h q scope L same (keeps_function {f = f} K) = goes_on (ap (λ (ψ : AnswersByName). apply f x (no_names ψ)) same ∙ h f K) (keeps_function K)
-arrow_goes_on φ c d x (Err (Value y)) h q scope L same (keeps_function {f = f} K) = goes_on_with_fault (ap (λ (ψ : AnswersByName). apply f x (no_names ψ)) same ∙ h f K)
+arrow_goes_on φ c d x (Ok v) h q scope L same (keeps_function {f = f} K) = goes_on (h scope same f K) (keeps_function K)
+arrow_goes_on φ c d x (Err (Value y)) h q scope L same (keeps_function {f = f} K) = goes_on_with_fault (h scope same f K)
 arrow_goes_on φ c d x (Err Memory) h q scope L same K = goes_on_without_memory
 
 -- where a sample answers what the formula is worth, and then keeps the longer life
@@ -151,13 +150,13 @@ due_is before true v h = refl
 due_is false false v h = refl
 due_is true false v h = absurd (true≢false (sym (h refl)))
 
-pub timer_keeps : (φ : AnswersByName) (k : Timing) (q : ℤ) (e : Expression) (t : Timer) (v : Data) → t.due ≡ Some v → t.begun ≡ false → t.left ≡ span q
-    → eval e (no_names φ) ≡ answer v → Remembers (Timed t) (timed k q e) (no_names φ) []
-timer_keeps φ After q e t v due begun left h = keeps_timer h due begun (left ∙ all_left (span q))
+pub timer_keeps : (sc : Scope) (k : Timing) (q : ℤ) (e : Expression) (t : Timer) (v : Data) → t.due ≡ Some v → t.begun ≡ false → t.left ≡ span q
+    → eval e sc ≡ answer v → Remembers (Timed t) (timed k q e) sc []
+timer_keeps sc After q e t v due begun left h = keeps_timer h due begun (left ∙ all_left (span q))
 
 -- of an equal time it keeps the same
-pub timed_as : (φ : AnswersByName) (i : PrimState) (k : Timing) (e : Expression) {y z : ℤ} → y ≡ z → Remembers i (timed k y e) (no_names φ) [] → Remembers i (timed k z e) (no_names φ) []
-timed_as φ i k e is h = subst (λ (z : ℤ). Remembers i (timed k z e) (no_names φ) []) is h
+pub timed_as : (sc : Scope) (i : PrimState) (k : Timing) (e : Expression) {y z : ℤ} → y ≡ z → Remembers i (timed k y e) sc [] → Remembers i (timed k z e) sc []
+timed_as sc i k e is h = subst (λ (z : ℤ). Remembers i (timed k z e) sc []) is h
 
 -- a copy of a timer keeps the same
 pub timer_follows : (t u : Timer) → u.due ≡ t.due → u.begun ≡ t.begun → u.left ≡ t.left → (q : Primitive) (scope : Scope) (L : Life) → Remembers (Timed t) q scope L → Remembers (Timed u) q scope L
@@ -228,10 +227,9 @@ hold_goes_on q scope d x L v u w r told kept (keeps_last {e = e} {v = given} h i
     goes_with r w (value_gives VHold e scope given (step d x) L h ∙ ap answer (sym now)) told (where_ok r (λ k. keeps_last h (k ∙ now)) kept)
 
 -- an accumulation on a longer life
-accumulation_gives : (a : Accumulator) (e : Expression) (f : Function) (v : Data) (g : AnswersByName) (d : ℕ) (x : Data) (L : Life)
-    → eval e (no_names g) ≡ answer v → accumulation a.form f (no_names g) v L ≡ answer a.value → formula (accumulated a.form e f) (no_names g) (step d x) L ≡ shown_after a f (no_names g) x
-accumulation_gives a e f v g d x L h k =
-    let sc = no_names g in
+accumulation_gives : (a : Accumulator) (e : Expression) (f : Function) (v : Data) (sc : Scope) (d : ℕ) (x : Data) (L : Life)
+    → eval e sc ≡ answer v → accumulation a.form f sc v L ≡ answer a.value → formula (accumulated a.form e f) sc (step d x) L ≡ shown_after a f sc x
+accumulation_gives a e f v sc d x L h k =
     ap (λ r. r >>= λ v. accumulation a.form f sc v (step d x ∷ L) >>= λ w. answer (displayed a.form (coming a.form x) w)) h
     ∙ ap (λ r. (r >>= λ w. next_value f sc w (coming a.form x)) >>= λ w. answer (displayed a.form (coming a.form x) w)) k
 
@@ -242,38 +240,36 @@ shown_so k o u w (Err (Value y)) worth goes shows = ap (λ r. r >>= λ w. answer
 shown_so k o u w (Err Memory) worth goes shows = goes
 
 pub accumulated_goes_on : {A : Type 0} (φ : AnswersByName) (d : ℕ) (x : Data) (a b : Accumulator) (w : Data) (r : Result A EvalFault)
-    → ((f : Function) → IsCodeOfFunction f a.code.value → Evaluates (gift r b.value) (next_value f (no_names φ) a.value (coming a.form x)))
+    → ((s : Scope) → functions_in s ≡ φ → (f : Function) → IsCodeOfFunctionIn s f a.code.value → Evaluates (gift r b.value) (next_value f s a.value (coming a.form x)))
     → OnOk r (w ≡ displayed a.form (coming a.form x) b.value)
     → OnOk r ((b.form ≡ a.form) × (b.code.value ≡ a.code.value))
     → (q : Primitive) (scope : Scope) (L : Life) → functions_in scope ≡ φ → Remembers (Accumulated a) q scope L → GoesOn q scope (step d x) L (Accumulated b) (gift r w)
-accumulated_goes_on φ d x a b w r goes shows same q scope L is (keeps_accumulation {e = e} {f = f} {v = v} {g = g} h code k) =
-    goes_with r w (accumulation_gives a e f v g d x L h k ∙ ap (λ (ψ : AnswersByName). shown_after a f (no_names ψ) x) is)
-    (shown_so a.form (coming a.form x) b.value w r _ (goes f code) shows) (keeps r (goes f code) same)
+accumulated_goes_on φ d x a b w r goes shows same q scope L is (keeps_accumulation {e = e} {f = f} {v = v} h code k) =
+    goes_with r w (accumulation_gives a e f v scope d x L h k) (shown_so a.form (coming a.form x) b.value w r _ (goes scope is f code) shows) (keeps r (goes scope is f code) same)
   where
-    goes_so : b.form ≡ a.form → b.code.value ≡ a.code.value → next_value f (no_names φ) a.value (coming a.form x) ≡ answer b.value → Remembers (Accumulated b) (accumulated a.form e f) (no_names g) (step d x ∷ L)
+    goes_so : b.form ≡ a.form → b.code.value ≡ a.code.value → next_value f scope a.value (coming a.form x) ≡ answer b.value → Remembers (Accumulated b) (accumulated a.form e f) scope (step d x ∷ L)
     goes_so form code_same n =
-        let after : accumulation a.form f (no_names g) v (step d x ∷ L) ≡ answer b.value =
-        ap (λ r. r >>= λ w. next_value f (no_names g) w (coming a.form x)) k ∙ ap (λ (ψ : AnswersByName). next_value f (no_names ψ) a.value (coming a.form x)) is ∙ n in
-        subst (λ m. Remembers (Accumulated b) (accumulated m e f) (no_names g) (step d x ∷ L)) form
-        (keeps_accumulation h (rw code_same code) (ap (λ m. accumulation m f (no_names g) v (step d x ∷ L)) form ∙ after))
+        let after : accumulation a.form f scope v (step d x ∷ L) ≡ answer b.value = ap (λ r. r >>= λ w. next_value f scope w (coming a.form x)) k ∙ n in
+        subst (λ m. Remembers (Accumulated b) (accumulated m e f) scope (step d x ∷ L)) form
+        (keeps_accumulation h (rw code_same code) (ap (λ m. accumulation m f scope v (step d x ∷ L)) form ∙ after))
 
-    keeps : {A : Type 0} (r : Result A EvalFault) → Evaluates (gift r b.value) (next_value f (no_names φ) a.value (coming a.form x)) → OnOk r ((b.form ≡ a.form) × (b.code.value ≡ a.code.value)) → OnOk r (Remembers (Accumulated b) (accumulated a.form e f) (no_names g) (step d x ∷ L))
+    keeps : {A : Type 0} (r : Result A EvalFault) → Evaluates (gift r b.value) (next_value f scope a.value (coming a.form x)) → OnOk r ((b.form ≡ a.form) × (b.code.value ≡ a.code.value)) → OnOk r (Remembers (Accumulated b) (accumulated a.form e f) scope (step d x ∷ L))
     keeps (Ok y) n m = goes_so m.0 m.1 n
     keeps (Err y) n m = m
 
 -- a copy of an accumulation keeps the same
 pub accumulated_follows : (a b : Accumulator) → b.form ≡ a.form → b.code.value ≡ a.code.value → b.value ≡ a.value → (q : Primitive) (scope : Scope) (L : Life) → Remembers (Accumulated a) q scope L → Remembers (Accumulated b) q scope L
-accumulated_follows a b form code value q scope L (keeps_accumulation {e = e} {f = f} {v = v} {g = g} h c k) =
-    subst (λ m. Remembers (Accumulated b) (accumulated m e f) (no_names g) L) form (keeps_accumulation h (rw code c) (ap (λ m. accumulation m f (no_names g) v L) form ∙ k ∙ ap answer (sym value)))
+accumulated_follows a b form code value q scope L (keeps_accumulation {e = e} {f = f} {v = v} h c k) =
+    subst (λ m. Remembers (Accumulated b) (accumulated m e f) scope L) form (keeps_accumulation h (rw code c) (ap (λ m. accumulation m f scope v L) form ∙ k ∙ ap answer (sym value)))
 
 -- before its first sample
-pub accumulated_keeps : (φ : AnswersByName) (e : Expression) (f : Function) (a : Accumulator) (c : Rc Code Global) → a.code.value ≡ c.value → IsCodeOfFunction f c.value → eval e (no_names φ) ≡ answer a.value → Remembers (Accumulated a) (accumulated a.form e f) (no_names φ) []
-accumulated_keeps φ e f a c same code h = keeps_accumulation h (rw same code) refl
+pub accumulated_keeps : (sc : Scope) (e : Expression) (f : Function) (a : Accumulator) → IsCodeOfFunctionIn sc f a.code.value → eval e sc ≡ answer a.value → Remembers (Accumulated a) (accumulated a.form e f) sc []
+accumulated_keeps sc e f a code h = keeps_accumulation h code refl
 
-pub accumulated_fails : (φ : AnswersByName) (k : Accumulation) (e : Expression) (g : Function) (f : EvalFault) (r : Result PrimState EvalFault)
-    → IsErrAnd r (λ e. e ≡ f) → Evaluates (Err f) (eval e (no_names φ)) → Begins φ (accumulated k e g) r
-accumulated_fails φ k e g f r h w =
-    exit_so φ (accumulated k e g) f r h (constant_fails φ (accumulated k e g) e (λ s v. accumulation k g (no_names φ) v (s ∷ []) >>= λ w. answer (displayed k (coming k (input_of s)) w)) (λ s. refl) f w)
+pub accumulated_fails : (sc : Scope) (k : Accumulation) (e : Expression) (g : Function) (f : EvalFault) (r : Result PrimState EvalFault)
+    → IsErrAnd r (λ e. e ≡ f) → Evaluates (Err f) (eval e sc) → Begins sc (accumulated k e g) r
+accumulated_fails sc k e g f r h w =
+    exit_so sc (accumulated k e g) f r h (constant_fails sc (accumulated k e g) e (λ s v. accumulation k g sc v (s ∷ []) >>= λ w. answer (displayed k (coming k (input_of s)) w)) (λ s. refl) f w)
 
 -- the same code shared keeps the same
 pub arrow_follows : (c d : Rc Code Global) → d.value ≡ c.value → (q : Primitive) (scope : Scope) (L : Life) → Remembers (Arrow c) q scope L → Remembers (Arrow d) q scope L

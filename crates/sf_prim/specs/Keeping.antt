@@ -2,27 +2,26 @@
 use Rattle.std.specs.Prelude.{◌≡◌, ℕ, ◌-◌, nat_le, [], ◌∷◌, Bool, true, false, cond, ℤ, pos, negsuc, ◌+ℤ◌, Option, Some, None, Result, Ok, Err}
 use Rattle.std.specs.declared.alloc.Global.{Global}
 use Rattle.std.specs.declared.rc.Rc.{Rc}
-use Rattle.sf_value.specs.Values.{Data, truth, number, no_event, event}
+use Rattle.sf_value.specs.Values.{Kind, Data, truth, number, no_event, event}
 use Rattle.sf_value.specs.declared.fault.ValueFault.{ValueFault}
-use Rattle.sf_func.specs.Registries.{AnswersByName}
 use Rattle.sf_expr.specs.Expressions.{Expression, Function}
 use Rattle.sf_operator.specs.Outcomes.{tested}
-use Rattle.sf_expr.specs.Evaluation.{Evaluated, Scope, no_names, answer, failed, ◌>>=◌, eval}
+use Rattle.sf_expr.specs.Evaluation.{Evaluated, Scope, answer, failed, ◌>>=◌, eval}
 use Rattle.sf_code.specs.declared.code.Code.{Code}
-use Rattle.sf_code.specs.Worth.{IsCodeOfFunction}
+use Rattle.sf_code.specs.Worth.{IsCodeOfFunctionIn}
 use Rattle.sf_operator.specs.declared.fault.EvalFault.{EvalFault}
 use Rattle.sf_operator.specs.declared.fault.EvalFault.TheVariants.{Value, Memory}
 use Rattle.sf_term.specs.declared.form.Bare.TheVariants.{Identity as BIdentity, LocalTime, Integral, Edge as BEdge, NotYet as BNotYet, Count as BCount}
 use Rattle.sf_term.specs.declared.form.WithValue.TheVariants.{Constant as VConstant, InitialPre, Now as VNow, Hold as VHold}
 use Rattle.sf_term.specs.declared.form.Timing.TheVariants.{After}
-use Rattle.sf_term.specs.Trees.{Primitive, bare, with_value, timed, arrow, accumulated}
+use Rattle.sf_term.specs.Trees.{Primitive, bare, never, with_value, timed, arrow, accumulated}
 use Rattle.sf_mean.specs.Lives.{Step, Life, time}
 use Rattle.sf_mean.specs.Formulas.{coming, next_value, accumulation, displayed, before, at_first, level, area, is_low, occurrences, last_payload, has_passed, formula}
 use Rattle.sf_prim.specs.declared.time.Area.{Area as Sum}
 use Rattle.sf_prim.specs.declared.time.Timer.{Timer}
 use Rattle.sf_prim.specs.declared.accumulator.Accumulator.{Accumulator}
 use Rattle.sf_prim.specs.declared.prim_state.PrimState.{PrimState}
-use Rattle.sf_prim.specs.declared.prim_state.PrimState.TheVariants.{Identity, Constant, Previous, Arrow, Accumulated, Clock, Area, Timed, Edge, NotYet, Count, Now, Hold}
+use Rattle.sf_prim.specs.declared.prim_state.PrimState.TheVariants.{Identity, Never, Constant, Previous, Arrow, Accumulated, Clock, Area, Timed, Edge, NotYet, Count, Now, Hold}
 
 -- the time at a sample, by that at the one before, if there was one
 abbrev pub time_after : Option ℤ → ℕ → ℤ
@@ -68,15 +67,16 @@ shown_after a f scope x = next_value f scope a.value (coming a.form x) >>= λ w.
 -- A state keeps what its primitive needs of a life.
 pub data Remembers : PrimState → Primitive → Scope → Life → Type 0 where
   keeps_nothing : {scope : Scope} {L : Life} → Remembers Identity (bare BIdentity) scope L
+  keeps_no_event : {t : Kind} {scope : Scope} {L : Life} → Remembers Never (never t) scope L
   keeps_value : {e : Expression} {scope : Scope} {v : Data} {L : Life}
       → eval e scope ≡ answer v → Remembers (Constant v) (with_value VConstant e) scope L
   keeps_previous : {e : Expression} {scope : Scope} {v w : Data} {L : Life}
       → eval e scope ≡ answer v → w ≡ before v L → Remembers (Previous w) (with_value InitialPre e) scope L
-  keeps_function : {c : Rc Code Global} {f : Function} {g : AnswersByName} {L : Life}
-      → IsCodeOfFunction f c.value → Remembers (Arrow c) (arrow f) (no_names g) L
-  keeps_accumulation : {a : Accumulator} {e : Expression} {f : Function} {v : Data} {g : AnswersByName} {L : Life}
-      → eval e (no_names g) ≡ answer v → IsCodeOfFunction f a.code.value → accumulation a.form f (no_names g) v L ≡ answer a.value
-      → Remembers (Accumulated a) (accumulated a.form e f) (no_names g) L
+  keeps_function : {c : Rc Code Global} {f : Function} {scope : Scope} {L : Life}
+      → IsCodeOfFunctionIn scope f c.value → Remembers (Arrow c) (arrow f) scope L
+  keeps_accumulation : {a : Accumulator} {e : Expression} {f : Function} {v : Data} {scope : Scope} {L : Life}
+      → eval e scope ≡ answer v → IsCodeOfFunctionIn scope f a.code.value → accumulation a.form f scope v L ≡ answer a.value
+      → Remembers (Accumulated a) (accumulated a.form e f) scope L
   keeps_time : {t : Option ℤ} {scope : Scope} {L : Life} → t ≡ last_time L → Remembers (Clock t) (bare LocalTime) scope L
   keeps_area : {r : Sum} {scope : Scope} {L : Life}
       → r.sum ≡ area L → r.level ≡ level (before (number (pos 0)) L) → Remembers (Area r) (bare Integral) scope L
@@ -91,12 +91,11 @@ pub data Remembers : PrimState → Primitive → Scope → Life → Type 0 where
   keeps_last : {e : Expression} {scope : Scope} {v w : Data} {L : Life}
       → eval e scope ≡ answer v → w ≡ last_payload v L → Remembers (Hold w) (with_value VHold e) scope L
 
--- A primitive before its first sample, or the fault of its constants, which is that of the first sample, where functions
--- answer this.
-pub data Begins (f : AnswersByName) (q : Primitive) : Result PrimState EvalFault → Type 0 where
-  begins : {i : PrimState} → Remembers i q (no_names f) [] → Begins f q (Ok i)
-  begins_with_fault : {x : ValueFault} → ((s : Step) → formula q (no_names f) s [] ≡ failed x) → Begins f q (Err (Value x))
-  begins_without_memory : Begins f q (Err Memory)
+-- A primitive before its first sample in a scope, or the fault of its constants, which is that of the first sample.
+pub data Begins (scope : Scope) (q : Primitive) : Result PrimState EvalFault → Type 0 where
+  begins : {i : PrimState} → Remembers i q scope [] → Begins scope q (Ok i)
+  begins_with_fault : {x : ValueFault} → ((s : Step) → formula q scope s [] ≡ failed x) → Begins scope q (Err (Value x))
+  begins_without_memory : Begins scope q (Err Memory)
 
 -- A primitive's next sample gives its formula, and its state keeps the longer life.
 pub data GoesOn (q : Primitive) (scope : Scope) (s : Step) (L : Life) : PrimState → Result Data EvalFault → Type 0 where

@@ -4,8 +4,8 @@ ghost use Rattle.std.specs.Option.{option_map};
 ghost use Rattle.sf_value.specs.Values.{Data};
 ghost use Rattle.sf_operator.specs.Answers.{Evaluates};
 ghost use Rattle.sf_expr.specs.Expressions.{Function};
-ghost use Rattle.sf_expr.specs.Evaluation.{no_names};
-ghost use Rattle.sf_code.specs.Worth.{IsCodeOfFunction};
+ghost use Rattle.sf_expr.specs.Evaluation.{Scope, functions_in};
+ghost use Rattle.sf_code.specs.Worth.{IsCodeOfFunctionIn};
 ghost use Rattle.sf_mean.specs.Formulas.{coming as what_comes, next_value, displayed as what_is_shown};
 ghost use Rattle.sf_prim.specs.Gifts.{gift};
 
@@ -79,8 +79,8 @@ pub(crate) fn accumulate<R: Holds>(
     functions: &R,
     value: &mut Value,
 ) -> Result<(), EvalFault>
-    ensures goes_on { (f : Function) → IsCodeOfFunction f accumulator.old.code.value →
-        Evaluates (gift result accumulator.new.value) (next_value f (no_names (R.answers functions.now)) accumulator.old.value (what_comes accumulator.old.form value.old)) }
+    ensures goes_on { (s : Scope) → functions_in s ≡ R.answers functions.now → (f : Function) → IsCodeOfFunctionIn s f accumulator.old.code.value →
+        Evaluates (gift result accumulator.new.value) (next_value f s accumulator.old.value (what_comes accumulator.old.form value.old)) }
     ensures shows { OnOk result (value.new ≡ what_is_shown accumulator.old.form (what_comes accumulator.old.form value.old) accumulator.new.value) }
     ensures same { OnOk result ((accumulator.new.form ≡ accumulator.old.form) × (accumulator.new.code.value ≡ accumulator.old.code.value)) }
 {

@@ -7,5 +7,5 @@ mod prim_state;
 mod time;
 
 pub use accumulator::Accumulator;
-pub use prim_state::PrimState;
+pub use prim_state::{PrimState, constant};
 pub use time::{Area, Timer};

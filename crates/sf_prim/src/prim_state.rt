@@ -1,8 +1,12 @@
 //! The states of primitives.
-ghost use Rattle.std.specs.Prelude.{◌≡◌, OnOk, IfErr};
+ghost use Rattle.std.specs.Prelude.{◌≡◌, OnOk, IfOk, IfSome, IfErr};
+ghost use Rattle.sf_func.specs.Registries.{AnswersByName};
+ghost use Rattle.sf_expr.specs.Arena.{expression, function_at};
 ghost use Rattle.sf_expr.specs.Expressions.{Function};
-ghost use Rattle.sf_expr.specs.Evaluation.{no_names, apply as applied};
-ghost use Rattle.sf_code.specs.Worth.{IsCodeOfFunction};
+ghost use Rattle.sf_expr.specs.Evaluation.{Scope, functions_in, eval, apply as applied};
+ghost use Rattle.sf_code.specs.Names.{scope_with};
+ghost use Rattle.sf_code.specs.Worth.{IsCodeOfFunction, IsCodeOfFunctionIn};
+ghost use Rattle.sf_law.specs.Entries.{IsCodedExpression};
 ghost use Rattle.sf_operator.specs.Answers.{Evaluates};
 ghost use Rattle.sf_operator.specs.declared.fault.EvalFault.TheVariants.{Memory};
 ghost use Rattle.sf_prim.specs.Gifts.{gift};
@@ -10,7 +14,8 @@ ghost use Rattle.sf_prim.specs.Gifts.{gift};
 use crate::accumulator::{Accumulator, accumulate};
 use crate::events::{count_event, hold, occur, pass_later, rise};
 use crate::time::{Area, Timer, integrate, run_down, tell_time};
-use sf_code::{Code, apply, evaluate};
+use sf_code::{Code, Names, apply, evaluate, expression_code_in, function_code_in};
+use sf_expr::{ExprId, Exprs, FunctionId};
 use sf_func::Holds;
 use sf_law::PlanPrimitive;
 use sf_operator::EvalFault;
@@ -25,6 +30,8 @@ use std::rc::Rc;
 pub enum PrimState {
     /// `identity`.
     Identity,
+    /// `never`.
+    Never,
     /// `constant e`, with the value of `e`.
     Constant(Value),
     /// `iPre e`, with its next value.
@@ -52,42 +59,44 @@ pub enum PrimState {
 }
 
 impl PrimState {
-    ghost use Rattle.std.specs.Prelude.{◌≡◌, [], ◌∷◌, IfOk};
+    ghost use Rattle.std.specs.Prelude.{[], ◌∷◌};
     ghost use Rattle.sf_expr.specs.Expressions.{Expression};
-    ghost use Rattle.sf_func.specs.Registries.{AnswersByName};
-    ghost use Rattle.sf_expr.specs.Evaluation.{Scope as Names, no_names, functions_in, answer, eval as worth};
-    ghost use Rattle.sf_expr.specs.declared.exprs.Exprs.{Exprs as ExprsOf};
+    ghost use Rattle.sf_expr.specs.Evaluation.{answer, eval as worth};
     ghost use Rattle.sf_term.specs.Trees.{Primitive as Form, bare as bare_form, with_value as form_with_value, timed as timed_form};
     ghost use Rattle.sf_law.specs.Entries.{primitive_over, IsCodedPrimitive};
     ghost use Rattle.sf_mean.specs.Lives.{step, Life};
     ghost use Rattle.sf_prim.specs.Keeping.{Remembers, Begins, GoesOn};
 
-    /// A primitive before its first sample. Its constant is evaluated here; the error is the first
-    /// fault of that, or `Memory`.
-    pub fn born<R: Holds>(
+    /// A primitive before its first sample, with these names around it. Its constant is evaluated here; the error is the
+    /// first fault of that, or `Memory`.
+    pub fn born<R: Holds, N: Names>(
         alloc: Global,
+        exprs: &Exprs,
         primitive: &PlanPrimitive,
         functions: &R,
+        names: &N,
     ) -> Result<PrimState, EvalFault>
-        ensures { (xs : ExprsOf) → IsCodedPrimitive xs primitive.now → Begins (R.answers functions.now) (primitive_over xs primitive.now) result }
+        ensures { IsCodedPrimitive exprs.now primitive.now →
+            Begins (scope_with (N.values names.now) (R.answers functions.now)) (primitive_over exprs.now primitive.now) result }
     {
         match primitive {
             PlanPrimitive::Bare(form) => Ok(PrimState::bare(*form)),
-            PlanPrimitive::WithValue(form, _, code) => {
-                let value = evaluate(alloc, code, functions)?;
+            PlanPrimitive::Never(_) => Ok(PrimState::Never),
+            PlanPrimitive::WithValue(form, value, code) => {
+                let value = constant(alloc, exprs, *value, code, functions, names)?;
                 Ok(PrimState::with_value(*form, value))
             }
-            PlanPrimitive::Timed(form, time, _, code) => {
-                let value = evaluate(alloc, code, functions)?;
+            PlanPrimitive::Timed(form, time, value, code) => {
+                let value = constant(alloc, exprs, *value, code, functions, names)?;
                 Ok(PrimState::timed(*form, *time, value))
             }
-            PlanPrimitive::Arrow(_, code) => {
-                let shared = code.clone()?;
+            PlanPrimitive::Arrow(function, code) => {
+                let shared = shared_code(alloc, exprs, *function, code, names)?;
                 Ok(PrimState::Arrow(shared))
             }
-            PlanPrimitive::Accumulated(form, _, start, _, code) => {
-                let value = evaluate(alloc, start, functions)?;
-                let shared = code.clone()?;
+            PlanPrimitive::Accumulated(form, value, start, function, code) => {
+                let value = constant(alloc, exprs, *value, start, functions, names)?;
+                let shared = shared_code(alloc, exprs, *function, code, names)?;
                 Ok(PrimState::Accumulated(Accumulator {
                     form: *form,
                     code: shared,
@@ -99,7 +108,7 @@ impl PrimState {
 
     // A primitive without constants, before its first sample.
     fn bare(form: Bare) -> PrimState
-        ensures { (f : AnswersByName) → Remembers result (bare_form form) (no_names f) [] }
+        ensures { (s : Scope) → Remembers result (bare_form form) s [] }
     {
         match form {
             Bare::Identity => PrimState::Identity,
@@ -113,8 +122,7 @@ impl PrimState {
 
     // A primitive with its value, before its first sample.
     fn with_value(form: WithValue, value: Value) -> PrimState
-        ensures { (f : AnswersByName) (e : Expression) → worth e (no_names f) ≡ answer value →
-            Remembers result (form_with_value form e) (no_names f) [] }
+        ensures { (s : Scope) (e : Expression) → worth e s ≡ answer value → Remembers result (form_with_value form e) s [] }
     {
         match form {
             WithValue::Constant => PrimState::Constant(value),
@@ -126,8 +134,7 @@ impl PrimState {
 
     // A primitive with a time and its value, before its first sample.
     fn timed(form: Timing, time: i64, value: Value) -> PrimState
-        ensures { (f : AnswersByName) (e : Expression) → worth e (no_names f) ≡ answer value →
-            Remembers result (timed_form form time e) (no_names f) [] }
+        ensures { (s : Scope) (e : Expression) → worth e s ≡ answer value → Remembers result (timed_form form time e) s [] }
     {
         match form {
             Timing::After => PrimState::Timed(Timer::born(time, value)),
@@ -144,11 +151,15 @@ impl PrimState {
         dt: u64,
         value: &mut Value,
     ) -> Result<(), EvalFault>
-        ensures { (q : Form) (scope : Names) (L : Life) → functions_in scope ≡ R.answers functions.now →
+        ensures { (q : Form) (scope : Scope) (L : Life) → functions_in scope ≡ R.answers functions.now →
             Remembers self.old q scope L → GoesOn q scope (step dt value.old) L self.new (gift result value.new) }
     {
         match self {
             PrimState::Identity => Ok(()),
+            PrimState::Never => {
+                *value = Value::no_event();
+                Ok(())
+            }
             PrimState::Constant(constant) => copy(alloc, constant, value),
             PrimState::Previous(next) => {
                 mem::swap(next, value);
@@ -173,11 +184,12 @@ impl PrimState {
     /// A copy, which keeps the same of a life. It shares the code of a function; the error is a want of memory, or too
     /// many owners of the code.
     pub fn clone_in(&self, alloc: Global) -> Result<PrimState, AllocError>
-        ensures { IfOk result (λ copy. (q : Form) (scope : Names) (L : Life) →
+        ensures { IfOk result (λ copy. (q : Form) (scope : Scope) (L : Life) →
             Remembers self.now q scope L → Remembers copy q scope L) }
     {
         match self {
             PrimState::Identity => Ok(PrimState::Identity),
+            PrimState::Never => Ok(PrimState::Never),
             PrimState::Constant(value) => Ok(PrimState::Constant(value.clone_in(alloc)?)),
             PrimState::Previous(value) => Ok(PrimState::Previous(value.clone_in(alloc)?)),
             PrimState::Arrow(code) => {
@@ -222,9 +234,51 @@ fn replace<R: Holds>(
     functions: &R,
     value: &mut Value,
 ) -> Result<(), EvalFault>
-    ensures { (f : Function) → IsCodeOfFunction f code.now →
-        Evaluates (gift result value.new) (applied f value.old (no_names (R.answers functions.now))) }
+    ensures { (s : Scope) → functions_in s ≡ R.answers functions.now → (f : Function) → IsCodeOfFunctionIn s f code.now →
+        Evaluates (gift result value.new) (applied f value.old s) }
 {
     *value = apply(alloc, code, value, functions)?;
     Ok(())
+}
+
+/// The value of a constant with these names around it: by its code, or by code that is made of it with their values. The
+/// error is the first fault of its operations, or `Memory`.
+pub fn constant<R: Holds, N: Names>(
+    alloc: Global,
+    exprs: &Exprs,
+    value: ExprId,
+    code: &Option<Code>,
+    functions: &R,
+    names: &N,
+) -> Result<Value, EvalFault>
+    ensures { IsCodedExpression exprs.now value code.now →
+        Evaluates result (eval (expression exprs.now value) (scope_with (N.values names.now) (R.answers functions.now))) }
+{
+    match code {
+        Some(code) => evaluate(alloc, code, functions),
+        None => {
+            let made = expression_code_in(alloc, exprs, value, names)?;
+            evaluate(alloc, &made, functions)
+        }
+    }
+}
+
+// The code of a function with these names around it: that of its plan, which is shared, or one that is made with their values.
+fn shared_code<N: Names>(
+    alloc: Global,
+    exprs: &Exprs,
+    function: FunctionId,
+    code: &Option<Rc<Code>>,
+    names: &N,
+) -> Result<Rc<Code>, AllocError>
+    ensures { IfSome code.now (λ c. IsCodeOfFunction (function_at exprs.now function) c.value) →
+        IfOk result (λ shared. (φ : AnswersByName) → IsCodeOfFunctionIn (scope_with (N.values names.now) φ) (function_at exprs.now function) shared.value) }
+{
+    match code {
+        Some(code) => Ok(code.clone()?),
+        None => {
+            let made = function_code_in(alloc, exprs, function, names)?;
+            Ok(Rc::new(alloc, made)?)
+        }
+    }
 }

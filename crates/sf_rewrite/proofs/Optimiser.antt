@@ -9,11 +9,12 @@ use Rattle.sf_term.specs.declared.form.Join.TheVariants.{InSequence, InParallel,
 use Rattle.sf_term.specs.declared.form.Side.{Side}
 use Rattle.sf_term.specs.declared.form.Side.TheVariants.{First, Second}
 use Rattle.sf_term.specs.declared.form.Heading.TheVariants.{LoopPre}
-use Rattle.sf_term.specs.Trees.{Chain, lone, chained, on_side, on_both, fanned, bare, with_value, timed, arrow, accumulated, fused, Extent, whole, rest, Term, primitive, joined, sided, headed, staged}
+use Rattle.sf_term.specs.declared.form.Switching.TheVariants.{Switch}
+use Rattle.sf_term.specs.Trees.{Chain, lone, chained, on_side, on_both, fanned, bare, never, with_value, timed, arrow, accumulated, fused, Extent, whole, rest, Term, primitive, joined, sided, headed, switching, staged}
 use Rattle.sf_rewrite.specs.Quiet.{is_quiet_expression, is_quiet}
 use Rattle.sf_rewrite.specs.Laws.{identity, constant, arr, loop_pre, Laws, unchanged, in_turn, in_join, in_stages, in_side, as_pipeline, within_pipeline, associate_right, associate_left, identity_before, identity_after, arr_as_chain, arr_composed, arr_on_side, arr_in_parallel, arr_fanned_out, sides_composed, exchanged, constant_after, left_tightened, right_tightened}
-use Rattle.sf_rewrite.specs.Plans.{Plans, plans, of_primitive, of_join, of_side, of_heading}
-use Rattle.sf_rewrite.specs.Normal.{is_arr, is_stage, may_meet, IsPlan, plan_primitive, plan_join, plan_side, plan_heading, plan_pipeline, IsRest, last_stage, more_stages, is_written}
+use Rattle.sf_rewrite.specs.Plans.{Plans, plans, of_primitive, of_join, of_side, of_heading, of_switch}
+use Rattle.sf_rewrite.specs.Normal.{is_arr, is_stage, may_meet, IsPlan, plan_primitive, plan_join, plan_side, plan_heading, plan_switch, plan_pipeline, IsRest, last_stage, more_stages, is_written}
 use Rattle.sf_rewrite.proofs.Parts.{no_truth}
 use Rattle.sf_rewrite.proofs.Quiet.{both_true}
 
@@ -35,6 +36,7 @@ data Arr (t : Term) : Type 0 where
 
 arr_view : (t : Term) → Arr t
 arr_view (primitive (bare k)) = no_arr refl
+arr_view (primitive (never t)) = no_arr refl
 arr_view (primitive (with_value k i)) = no_arr refl
 arr_view (primitive (arrow f)) = an_arr (lone f) arr_as_chain refl
 arr_view (primitive (timed k q i)) = no_arr refl
@@ -43,6 +45,7 @@ arr_view (primitive (fused f)) = an_arr f unchanged refl
 arr_view (joined j f g) = no_arr refl
 arr_view (sided d t) = no_arr refl
 arr_view (headed h i t) = no_arr refl
+arr_view (switching w t p u) = no_arr refl
 arr_view (staged x f g) = no_arr refl
 
 data IsConstant (t : Term) : Type 0 where
@@ -51,6 +54,7 @@ data IsConstant (t : Term) : Type 0 where
 
 constant_view : (t : Term) → IsConstant t
 constant_view (primitive (bare k)) = no_constant
+constant_view (primitive (never t)) = no_constant
 constant_view (primitive (with_value Constant i)) = a_constant i refl
 constant_view (primitive (with_value InitialPre i)) = no_constant
 constant_view (primitive (with_value Now i)) = no_constant
@@ -62,6 +66,7 @@ constant_view (primitive (fused f)) = no_constant
 constant_view (joined j f g) = no_constant
 constant_view (sided d t) = no_constant
 constant_view (headed h i t) = no_constant
+constant_view (switching w t p u) = no_constant
 constant_view (staged x f g) = no_constant
 
 -- ## Neighbours
@@ -162,11 +167,13 @@ stages (plan_primitive {p = bare Count}) = one_stage refl
 stages (plan_primitive {p = with_value k i}) = one_stage refl
 stages (plan_primitive {p = arrow f}) = one_stage refl
 stages (plan_primitive {p = timed k q i}) = one_stage refl
+stages (plan_primitive {p = never t}) = one_stage refl
 stages (plan_primitive {p = accumulated k i f}) = one_stage refl
 stages (plan_primitive {p = fused f}) = one_stage refl
 stages (plan_join h P Q) = one_stage h
 stages (plan_side P) = one_stage refl
 stages (plan_heading P) = one_stage refl
+stages (plan_switch P Q) = one_stage refl
 stages (plan_pipeline P S R) = some_stages _ _ refl P S R
 
 -- what stands after others, as stages
@@ -296,6 +303,11 @@ optimised (headed LoopPre i t) h =
     let p = optimised t h in
     let k = in_loop p.is in
     record { term = k.term; plans = plans (of_heading p.plans) k.law; is = k.is }
+optimised (switching w t p u) h =
+    let k = both_true (is_written t) (is_written u) h in
+    let a = optimised t k.0 in
+    let b = optimised u k.1 in
+    record { term = switching w a.term p b.term; plans = plans (of_switch a.plans b.plans) unchanged; is = plan_switch a.is b.is }
 optimised (staged x f g) h = absurd (no_truth h)
 
 -- ## Each law is applied where its left side stands alone
@@ -406,3 +418,8 @@ not_left_tightened = refl
 pub right_tightened_applied : (optimised (headed LoopPre two (joined InSequence g (sided First f))) refl).term ≡ staged whole (loop_pre two g) f
 unfolding optimised in_sequence one_after_another before_tail tail stages headed_by pushed appended merged arrs before_constant arr_view constant_view in_parallel side_by_side fanned_out both_on on_a_side in_loop before_loop looped compose_sides exchange in_planned decided
 right_tightened_applied = refl
+
+-- in the source of a switch, and in its body
+in_switch_applied : (optimised (switching Switch (joined InSequence identity f) unnamed (joined InSequence g identity)) refl).term ≡ switching Switch f unnamed g
+unfolding optimised in_sequence one_after_another before_tail tail stages headed_by pushed appended merged arrs before_constant arr_view constant_view in_parallel side_by_side fanned_out both_on on_a_side in_loop before_loop looped compose_sides exchange in_planned decided
+in_switch_applied = refl

@@ -1,21 +1,22 @@
 -- Terms whose parts are opened down to the forms that no law looks into.
 use Rattle.std.proofs.Common.{◌≡◌, Bool, true, false, IsTrue, List, [], ◌∷◌, refl, sym, ap, ◌∙◌, subst}
 use mathlib.Core.Path.{ap₂, subst₂}
-use Rattle.sf_value.specs.Values.{Data, number, first_of}
-use Rattle.std.specs.Prelude.{pos}
+use Rattle.sf_value.specs.Values.{Data, number, first_of, second_of}
+use Rattle.std.specs.Prelude.{Option, Some, None, pos}
 use Rattle.sf_value.specs.declared.fault.ValueFault.{ValueFault}
 use Rattle.sf_func.specs.Registries.{AnswersByName}
-use Rattle.sf_expr.specs.Expressions.{Expression}
+use Rattle.sf_expr.specs.Expressions.{Pattern, Expression}
 use Rattle.sf_expr.specs.Evaluation.{Evaluated, answer, failed, eval}
 use Rattle.sf_term.specs.declared.form.Join.{Join}
 use Rattle.sf_term.specs.declared.form.Join.TheVariants.{InSequence}
 use Rattle.sf_term.specs.declared.form.Side.{Side}
 use Rattle.sf_term.specs.declared.form.Heading.{Heading}
 use Rattle.sf_term.specs.declared.form.Heading.TheVariants.{LoopPre}
-use Rattle.sf_term.specs.Trees.{Primitive, Extent, Term, primitive, joined, sided, headed, staged}
-use Rattle.sf_mean.specs.Lives.{Step, input_of, Life, Environment, scope_around, with_inputs, relay, fed}
-use Rattle.sf_mean.specs.Formulas.{side_of, with_side, formula}
-use Rattle.sf_mean.specs.Meaning.{Readings, Outcome, gave, faulted, changed, combined, value_in, as_outcome, Cost, both_costs, over, over_stages, one_term, text_cost, left_life, right_life, join_value}
+use Rattle.sf_term.specs.declared.form.Switching.{Switching}
+use Rattle.sf_term.specs.Trees.{Primitive, Extent, Term, primitive, joined, sided, headed, switching, staged}
+use Rattle.sf_mean.specs.Lives.{Step, input_of, Life, Environment, scope_around, bind, with_inputs, relay, fed}
+use Rattle.sf_mean.specs.Formulas.{occurring, side_of, with_side, formula}
+use Rattle.sf_mean.specs.Meaning.{Readings, Outcome, gave, faulted, changed, combined, value_in, as_outcome, Cost, no_cost, both_costs, over, over_stages, one_term, text_cost, left_life, right_life, join_value, Standing, waits, fired, stands_after, switched_value}
 
 -- what stored functions answer, and what a form that no law looks into gives at a step
 pub record Leaves : Type 1 where
@@ -28,6 +29,7 @@ is_leaf (primitive p) = false
 is_leaf (joined j f g) = false
 is_leaf (sided d t) = false
 is_leaf (headed h i t) = false
+is_leaf (switching w t p u) = false
 is_leaf (staged x f g) = false
 
 mutual
@@ -65,6 +67,10 @@ mutual
     at_constant : {h : Heading} {i : Expression} {t : Term} {e : Environment} {x : ValueFault} {s : Step}
         → eval i (scope_around Q.functions e) ≡ failed x
         → At Q (headed h i t) e s [] (faulted x) (over (text_cost t))
+    at_switch : {w : Switching} {t u : Term} {p : Pattern} {e : Environment} {s : Step} {L : Life} {st : Standing} {o : Outcome} {c : Cost}
+        → Watches Q t e L st
+        → Turns Q w t p u e s L st o c
+        → At Q (switching w t p u) e s L o c
 
   pub data Then (Q : Leaves) : Outcome → Term → Environment → Life → Outcome → Cost → Type 0 where
     then_part : {t : Term} {e : Environment} {L : Life} {y : Data} {r : Readings} {o : Outcome} {c : Cost}
@@ -77,6 +83,42 @@ mutual
         → Rounds Q v t e L zs
         → Part Q t e (fed v (s ∷ L) zs) (gave z r) c
         → Rounds Q v t e (s ∷ L) (z ∷ zs)
+
+  -- where a switch stands after a life of its source
+  pub data Watches (Q : Leaves) : Term → Environment → Life → Standing → Type 0 where
+    watch_begins : {t : Term} {e : Environment} → Watches Q t e [] waits
+    then_watched : {t : Term} {e : Environment} {s : Step} {L : Life} {y : Data} {r : Readings} {c : Cost} {st : Standing}
+        → Watches Q t e L waits
+        → Part Q t e (s ∷ L) (gave y r) c
+        → stands_after s (occurring (second_of y)) ≡ st
+        → Watches Q t e (s ∷ L) st
+    fired_before : {t : Term} {e : Environment} {s : Step} {L M : Life} {v : Data}
+        → Watches Q t e L (fired v M)
+        → Watches Q t e (s ∷ L) (fired v (s ∷ M))
+
+  -- a switch's next step
+  pub data Turns (Q : Leaves) : Switching → Term → Pattern → Term → Environment → Step → Life → Standing → Outcome → Cost → Type 0 where
+    turn_waits : {w : Switching} {t u : Term} {p : Pattern} {e : Environment} {s : Step} {L : Life} {o o' : Outcome} {c c' : Cost}
+        → Part Q t e (s ∷ L) o c
+        → Switches Q w p u e s o o' c'
+        → Turns Q w t p u e s L waits o' (over (both_costs c c'))
+    turn_body : {w : Switching} {t u : Term} {p : Pattern} {e : Environment} {s : Step} {L M : Life} {v : Data} {o : Outcome} {c : Cost}
+        → Part Q u (bind p v e) (s ∷ M) o c
+        → Turns Q w t p u e s L (fired v M) o c
+
+  -- what comes after the source
+  pub data Switches (Q : Leaves) : Switching → Pattern → Term → Environment → Step → Outcome → Outcome → Cost → Type 0 where
+    switch_stops : {w : Switching} {u : Term} {p : Pattern} {e : Environment} {s : Step} {x : ValueFault} → Switches Q w p u e s (faulted x) (faulted x) no_cost
+    switch_goes : {w : Switching} {u : Term} {p : Pattern} {e : Environment} {s : Step} {y : Data} {r : Readings} {o : Outcome} {c : Cost}
+        → Bodies Q w p u e s (gave (first_of y) r) (occurring (second_of y)) o c
+        → Switches Q w p u e s (gave y r) o c
+
+  -- what comes of the payload, if there is one
+  pub data Bodies (Q : Leaves) : Switching → Pattern → Term → Environment → Step → Outcome → Option Data → Outcome → Cost → Type 0 where
+    no_body : {w : Switching} {u : Term} {p : Pattern} {e : Environment} {s : Step} {o : Outcome} → Bodies Q w p u e s o None o no_cost
+    body_begins : {w : Switching} {u : Term} {p : Pattern} {e : Environment} {s : Step} {o o' : Outcome} {v : Data} {c : Cost}
+        → Part Q u (bind p v e) (s ∷ []) o' c
+        → Bodies Q w p u e s o (Some v) (combined (switched_value w) o o') c
 
 abbrev pub Same : Outcome → Outcome → Cost → Cost → Type 0
 Same a b c d = (a ≡ b) × (c ≡ d)
@@ -91,6 +133,14 @@ the_fault y (failed x) = x
 
 pub no_truth : false ≡ true → ⊥
 no_truth e = cc
+
+-- a switch that had fired, one step later
+abbrev later_standing : Step → Standing → Standing
+later_standing s waits = waits
+later_standing s (fired v M) = fired v (s ∷ M)
+
+not_fired : {v : Data} {M : Life} → waits ≡ fired v M → ⊥
+not_fired e = cc
 
 pub no_fault : {v : Data} {x : ValueFault} → answer v ≡ failed x → ⊥
 no_fault e = cc
@@ -116,12 +166,14 @@ module _ (Q : Leaves) (one : OneLeaf Q) where
     once_at (at_leaf h A) (at_side B) = absurd (no_truth h)
     once_at (at_leaf h A) (at_loop B C D) = absurd (no_truth h)
     once_at (at_leaf h A) (at_constant B) = absurd (no_truth h)
+    once_at (at_leaf h A) (at_switch B C) = absurd (no_truth h)
     once_at at_primitive (at_leaf h A) = absurd (no_truth h)
     once_at (at_join B C D) (at_leaf h A) = absurd (no_truth h)
     once_at (at_stages B C D) (at_leaf h A) = absurd (no_truth h)
     once_at (at_side B) (at_leaf h A) = absurd (no_truth h)
     once_at (at_loop B C D) (at_leaf h A) = absurd (no_truth h)
     once_at (at_constant B) (at_leaf h A) = absurd (no_truth h)
+    once_at (at_switch B C) (at_leaf h A) = absurd (no_truth h)
     once_at at_primitive at_primitive = (refl, refl)
     once_at (at_join {j = j} {g = g} {e = e} {s = s} {L = L} A B C) (at_join {ys = zs} {o = q} {o' = b} {c' = d} A' B' C') =
         let e1 = onces A A' in
@@ -146,6 +198,9 @@ module _ (Q : Leaves) (one : OneLeaf Q) where
     once_at (at_loop h A B) (at_constant h') = absurd (no_fault (sym h ∙ h'))
     once_at (at_constant h) (at_loop h' A B) = absurd (no_fault (sym h' ∙ h))
     once_at (at_constant {x = x} h) (at_constant h') = (ap (λ v. faulted (the_fault x v)) (sym h ∙ h'), refl)
+    once_at (at_switch {w = w} {t = t} {u = u} {p = p} {e = e} {s = s} {L = L} A B) (at_switch {o = b} {c = d} A' B') =
+        let N : Standing → Type 0 = λ st. Turns Q w t p u e s L st b d in
+        once_turns B (subst N (sym (once_watches A A')) B')
 
     pub once_then : {t : Term} {e : Environment} {L : Life} {o a b : Outcome} {c d : Cost} → Then Q o t e L a c → Then Q o t e L b d → Same a b c d
     once_then (then_part A) (then_part B) = once A B
@@ -158,3 +213,26 @@ module _ (Q : Leaves) (one : OneLeaf Q) where
         let N : List Data → Type 0 = λ l. Part Q t e (fed v (s ∷ L) l) (gave z r) d in
         let e2 = once B (subst N (sym e1) B') in
         ap₂ (λ y ys. y ∷ ys) (ap value_in e2.0) e1
+
+    pub once_watches : {t : Term} {e : Environment} {L : Life} {a b : Standing} → Watches Q t e L a → Watches Q t e L b → a ≡ b
+    once_watches watch_begins watch_begins = refl
+    once_watches (then_watched {s = s} A B h) (then_watched A' B' h') = sym h ∙ ap (λ o. stands_after s (occurring (second_of (value_in o)))) (once B B').0 ∙ h'
+    once_watches (then_watched A B h) (fired_before A') = absurd (not_fired (once_watches A A'))
+    once_watches (fired_before A) (then_watched A' B' h') = absurd (not_fired (sym (once_watches A A')))
+    once_watches (fired_before {s = s} A) (fired_before A') = ap (later_standing s) (once_watches A A')
+
+    once_turns : {w : Switching} {t u : Term} {p : Pattern} {e : Environment} {s : Step} {L : Life} {st : Standing} {a b : Outcome} {c d : Cost} → Turns Q w t p u e s L st a c → Turns Q w t p u e s L st b d → Same a b c d
+    once_turns (turn_waits {w = w} {u = u} {p = p} {e = e} {s = s} A C) (turn_waits {o' = b} {c' = d} A' C') =
+        let e2 = once A A' in
+        let N : Outcome → Type 0 = λ q. Switches Q w p u e s q b d in
+        let e3 = once_switches C (subst N (sym e2.0) C') in
+        (e3.0, ap₂ (λ x y. over (both_costs x y)) e2.1 e3.1)
+    once_turns (turn_body A) (turn_body B) = once A B
+
+    once_switches : {w : Switching} {u : Term} {p : Pattern} {e : Environment} {s : Step} {o a b : Outcome} {c d : Cost} → Switches Q w p u e s o a c → Switches Q w p u e s o b d → Same a b c d
+    once_switches switch_stops switch_stops = (refl, refl)
+    once_switches (switch_goes A) (switch_goes B) = once_bodies A B
+
+    once_bodies : {w : Switching} {u : Term} {p : Pattern} {e : Environment} {s : Step} {o : Outcome} {q : Option Data} {a b : Outcome} {c d : Cost} → Bodies Q w p u e s o q a c → Bodies Q w p u e s o q b d → Same a b c d
+    once_bodies no_body no_body = (refl, refl)
+    once_bodies (body_begins {w = w} {o = o} A) (body_begins B) = let r = once A B in (ap (combined (switched_value w) o) r.0, r.1)

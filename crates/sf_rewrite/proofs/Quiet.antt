@@ -21,7 +21,7 @@ use Rattle.sf_term.specs.declared.form.Accumulation.{Accumulation}
 use Rattle.sf_term.specs.declared.form.Join.{Join}
 use Rattle.sf_term.specs.declared.form.Join.TheVariants.{InSequence, InParallel, FannedOut}
 use Rattle.sf_term.specs.declared.form.Heading.TheVariants.{LoopPre}
-use Rattle.sf_term.specs.Trees.{Chain, lone, chained as chained_functions, on_side, on_both, fanned, Primitive, bare, with_value, timed, arrow, accumulated, fused, Extent, Term, primitive, joined, sided, headed, staged}
+use Rattle.sf_term.specs.Trees.{Chain, lone, chained as chained_functions, on_side, on_both, fanned, Primitive, bare, never, with_value, timed, arrow, accumulated, fused, Extent, Term, primitive, joined, sided, headed, switching, staged}
 use Rattle.sf_mean.specs.Lives.{Step, step, wait_of, input_of, Life, Environment, scope_around, with_inputs, relay, fed}
 use Rattle.sf_mean.specs.Formulas.{timed_formula, coming, next_value, accumulation, displayed, side_of, with_side, apply_chain, value_formula, formula}
 use Rattle.sf_mean.specs.Meaning.{Outcome, gave, as_outcome, Cost, one_term, text_cost}
@@ -178,6 +178,7 @@ quiet_formula (bare Integral) h sc s L = absurd (no_truth h)
 quiet_formula (bare Edge) h sc s L = (_, refl)
 quiet_formula (bare NotYet) h sc s L = (_, refl)
 quiet_formula (bare Count) h sc s L = absurd (no_truth h)
+quiet_formula (never t) h sc s L = (_, refl)
 quiet_formula (with_value k i) h sc s L = next (eval i sc) (λ v. answer (value_formula k v s L)) (quiet_eval i h sc) (λ v. (value_formula k v s L, refl))
 quiet_formula (arrow f) h sc s L = quiet_apply f h (input_of s) sc
 quiet_formula (timed k q i) h sc s L = next (eval i sc) (λ v. answer (timed_formula k q v s L)) (quiet_eval i h sc) (λ v. (_, refl))
@@ -257,6 +258,7 @@ module _ (Q : Leaves) (one : OneLeaf Q) where
       let r = last_step (quiet_steps t h) e (step (wait_of s) (side_of d (input_of s))) (with_inputs (side_of d) L) in
       (with_side d (input_of s) r.0, at_side r.1)
   quiet_steps (headed LoopPre i t) h = let k = both_true (is_quiet_expression i) (is_quiet t) h in steps_loop i k.0 (quiet_steps t k.1)
+  quiet_steps (switching w t p u) h = absurd (no_truth h)
   quiet_steps (staged x f g) h = let k = both_true (is_quiet f) (is_quiet g) h in steps_stages (quiet_steps f k.0) (quiet_steps g k.1)
 
   -- what a quiet term gave

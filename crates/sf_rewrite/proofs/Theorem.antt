@@ -8,12 +8,12 @@ use Rattle.sf_mean.proofs.Once.{once_sample}
 use Rattle.sf_rewrite.specs.Quiet.{is_quiet}
 use Rattle.sf_rewrite.specs.Laws.{unchanged}
 use Rattle.sf_rewrite.specs.Plans.{Plans, plans, PlansParts, PlansAll, no_templates, one_more, PlansNetwork}
-use Rattle.sf_rewrite.specs.Plans.{of_primitive, of_join, of_side, of_heading}
+use Rattle.sf_rewrite.specs.Plans.{of_primitive, of_join, of_side, of_heading, of_switch}
 use Rattle.sf_rewrite.proofs.Parts.{OneLeaf}
 use Rattle.sf_rewrite.proofs.Quiet.{last_step, quiet_steps}
 use Rattle.sf_rewrite.proofs.Lowered.{lowered}
 use Rattle.sf_rewrite.proofs.Opening.{Leaf, closed_part}
-use Rattle.sf_rewrite.proofs.Main.{to_plan, from_plan, Alike, alike, Formed, same_primitive, same_join, same_side, same_heading, alike_closure, alike_empty, AlikeAll, none_alike, more_alike, keeps}
+use Rattle.sf_rewrite.proofs.Main.{to_plan, from_plan, Alike, alike, Formed, same_primitive, same_join, same_side, same_heading, same_switch, alike_closure, alike_empty, AlikeAll, none_alike, more_alike, keeps}
 
 mutual
   onto : {t u : Term} → Plans t u → Alike true t u
@@ -24,6 +24,7 @@ mutual
   onto_parts (of_join A B) = same_join (onto A) (onto B)
   onto_parts (of_side A) = same_side (onto A)
   onto_parts (of_heading A) = same_heading (onto A)
+  onto_parts (of_switch A B) = same_switch (onto A) (onto B)
 
 mutual
   from : {t u : Term} → Plans t u → Alike false u t
@@ -34,6 +35,7 @@ mutual
   from_parts (of_join A B) = same_join (from A) (from B)
   from_parts (of_side A) = same_side (from A)
   from_parts (of_heading A) = same_heading (from A)
+  from_parts (of_switch A B) = same_switch (from A) (from B)
 
 onto_all : {n m : Templates} → PlansAll n m → AlikeAll true n m
 onto_all no_templates = none_alike

@@ -1,19 +1,20 @@
 -- Plans take the types that their terms take.
-use Rattle.std.proofs.Common.{◌≡◌, List, ◌∷◌, map, Some, refl, sym, ap, subst}
+use Rattle.std.proofs.Common.{◌≡◌, List, ◌∷◌, map, refl, sym, ap, subst}
 use Rattle.std.proofs.lemmas.Option.{same_Some}
 use mathlib.Core.Path.{ap₂}
 use Rattle.sf_value.specs.Values.{Kind}
 use Rattle.sf_func.specs.Registries.{TypesByName}
-use Rattle.sf_expr.specs.Expressions.{Expression}
+use Rattle.sf_expr.specs.Expressions.{Pattern, Expression}
 use Rattle.sf_term.specs.declared.form.Join.{Join}
 use Rattle.sf_term.specs.declared.form.Side.{Side}
 use Rattle.sf_term.specs.declared.form.Heading.{Heading}
-use Rattle.sf_term.specs.Trees.{Chain, Extent, Term, joined, sided, headed, staged, Template, Templates}
-use Rattle.sf_mean.specs.Contexts.{Context, Bindings, Signature, signature_of, context_with}
-use Rattle.sf_mean.specs.Typing.{ChainTakes, lone_takes, chained_takes, on_first_takes, on_second_takes, on_both_takes, fanned_takes, bare_takes, value_takes, arrow_takes, fused_takes, Takes, takes, primitive_takes, sequence_takes, parallel_takes, fan_takes, first_takes, second_takes, loop_takes, stages_take}
+use Rattle.sf_term.specs.declared.form.Switching.{Switching}
+use Rattle.sf_term.specs.Trees.{Chain, Extent, Term, joined, sided, headed, switching, staged, Template, Templates}
+use Rattle.sf_mean.specs.Contexts.{Context, Bindings, Signature, signature_of, context_with, inside_pattern}
+use Rattle.sf_mean.specs.Typing.{ChainTakes, lone_takes, chained_takes, on_first_takes, on_second_takes, on_both_takes, fanned_takes, bare_takes, value_takes, arrow_takes, fused_takes, Takes, takes, primitive_takes, sequence_takes, parallel_takes, fan_takes, first_takes, second_takes, loop_takes, switch_takes, stages_take}
 use Rattle.sf_mean.proofs.Inferred.{input_fits, output_fits}
-use Rattle.sf_rewrite.specs.Laws.{arr, Laws, unchanged, in_turn, in_join, in_stages, in_side, in_heading, as_pipeline, within_pipeline, associate_right, associate_left, identity_before, identity_after, arr_as_chain, chain_as_arr, arr_composed, arr_on_side, arr_in_parallel, arr_fanned_out, sides_composed, exchanged, constant_after, left_tightened, right_tightened}
-use Rattle.sf_rewrite.specs.Plans.{Plans, plans, PlansParts, of_primitive, of_join, of_side, of_heading, PlansTemplate, PlansAll, no_templates, one_more}
+use Rattle.sf_rewrite.specs.Laws.{arr, Laws, unchanged, in_turn, in_join, in_stages, in_side, in_heading, in_switch, as_pipeline, within_pipeline, associate_right, associate_left, identity_before, identity_after, arr_as_chain, chain_as_arr, arr_composed, arr_on_side, arr_in_parallel, arr_fanned_out, sides_composed, exchanged, constant_after, left_tightened, right_tightened}
+use Rattle.sf_rewrite.specs.Plans.{Plans, plans, PlansParts, of_primitive, of_join, of_side, of_heading, of_switch, PlansTemplate, PlansAll, no_templates, one_more}
 
 abbrev Keeps : Context → Term → Term → Type 0
 Keeps Γ t u = (a b : Kind) → Takes Γ t a b → Takes Γ u a b
@@ -34,47 +35,52 @@ module _ {Γ : Context} where
   keeps_heading : {h : Heading} {i : Expression} {t t' : Term} → Keeps Γ t t' → Keeps Γ (headed h i t) (headed h i t')
   keeps_heading F a b (takes p q (loop_takes e f)) = takes p q (loop_takes e (F _ _ f))
 
+  keeps_switch : {w : Switching} {t t' u u' : Term} {p : Pattern} → Keeps Γ t t' → ((c : Kind) → Keeps (inside_pattern p c Γ) u u') → Keeps Γ (switching w t p u) (switching w t' p u')
+  keeps_switch F G a b (takes x y (switch_takes f h g)) = takes x y (switch_takes (F _ _ f) h (G _ _ _ g))
+
   -- the types of a fused function
   arr_chain : {f : Chain} {a b : Kind} → Takes Γ (arr f) a b → ChainTakes Γ f a b
   arr_chain (takes p q (primitive_takes (fused_takes f h))) = f
 
-  pub law_takes : {t u : Term} → Laws t u → Keeps Γ t u
-  law_takes unchanged a b k = k
-  law_takes (in_turn A B) a b k = law_takes B a b (law_takes A a b k)
-  law_takes (in_join A B) a b k = keeps_join (law_takes A) (law_takes B) a b k
-  law_takes (in_stages A B) a b k = keeps_stages (law_takes A) (law_takes B) a b k
-  law_takes (in_side A) a b k = keeps_side (law_takes A) a b k
-  law_takes (in_heading A) a b k = keeps_heading (law_takes A) a b k
-  law_takes as_pipeline a b (takes p q (sequence_takes f g)) = takes p q (stages_take f g)
-  law_takes within_pipeline a b (takes p q (stages_take f g)) = takes p q (stages_take f g)
-  law_takes associate_right a b (takes p q (stages_take (takes p' q' (stages_take f g)) h)) = takes p q (stages_take f (takes (output_fits f) q (stages_take g h)))
-  law_takes associate_left a b (takes p q (stages_take f (takes p' q' (stages_take g h)))) = takes p q (stages_take (takes p (input_fits h) (stages_take f g)) h)
-  law_takes identity_before a b (takes p q (stages_take {g = g} (takes p' q' (primitive_takes (bare_takes h k))) f)) = subst (λ a. Takes Γ g a b) (same_Some _ _ (sym h)) f
-  law_takes identity_after a b (takes p q (stages_take {f = f} T (takes p' q' (primitive_takes (bare_takes h k))))) = subst (Takes Γ f a) (same_Some _ _ h) T
-  law_takes arr_as_chain a b (takes p q (primitive_takes (arrow_takes f))) = takes p q (primitive_takes (fused_takes (lone_takes f) q))
-  law_takes chain_as_arr a b (takes p q (primitive_takes (fused_takes (lone_takes f) h))) = takes p q (primitive_takes (arrow_takes f))
-  law_takes arr_composed a b (takes p q (stages_take f g)) = takes p q (primitive_takes (fused_takes (chained_takes (arr_chain f) (arr_chain g)) q))
-  law_takes arr_on_side a b (takes p q (first_takes f)) = takes p q (primitive_takes (fused_takes (on_first_takes (arr_chain f)) q))
-  law_takes arr_on_side a b (takes p q (second_takes f)) = takes p q (primitive_takes (fused_takes (on_second_takes (arr_chain f)) q))
-  law_takes arr_in_parallel a b (takes p q (parallel_takes f g)) = takes p q (primitive_takes (fused_takes (on_both_takes (arr_chain f) (arr_chain g)) q))
-  law_takes arr_fanned_out a b (takes p q (fan_takes f g)) = takes p q (primitive_takes (fused_takes (fanned_takes (arr_chain f) (arr_chain g)) q))
-  law_takes sides_composed a b (takes p q (stages_take (takes p' q' (first_takes f)) (takes p'' q'' (first_takes g)))) = takes p q (first_takes (takes (input_fits f) (output_fits g) (stages_take f g)))
-  law_takes sides_composed a b (takes p q (stages_take (takes p' q' (second_takes f)) (takes p'' q'' (second_takes g)))) = takes p q (second_takes (takes (input_fits f) (output_fits g) (stages_take f g)))
-  law_takes (exchanged z) a b (takes p q (stages_take (takes p' q' (parallel_takes f g)) (takes p'' q'' (parallel_takes h k)))) =
-      takes p q (parallel_takes (takes (input_fits f) (output_fits h) (stages_take f h)) (takes (input_fits g) (output_fits k) (stages_take g k)))
-  law_takes (left_tightened z) a b (takes p q (loop_takes e (takes p' q' (stages_take (takes p'' q'' (first_takes f)) g)))) = takes p q (stages_take f (takes (output_fits f) q (loop_takes e g)))
-  law_takes right_tightened a b (takes p q (loop_takes e (takes p' q' (stages_take g (takes p'' q'' (first_takes h)))))) = takes p q (stages_take (takes p (input_fits h) (loop_takes e g)) h)
-  law_takes (constant_after z) a b (takes p q (stages_take f (takes p' q' (primitive_takes (value_takes e h k))))) = takes p q (primitive_takes (value_takes e h k))
+pub law_takes : {Γ : Context} {t u : Term} → Laws t u → Keeps Γ t u
+law_takes unchanged a b k = k
+law_takes (in_turn A B) a b k = law_takes B a b (law_takes A a b k)
+law_takes (in_join A B) a b k = keeps_join (law_takes A) (law_takes B) a b k
+law_takes (in_stages A B) a b k = keeps_stages (law_takes A) (law_takes B) a b k
+law_takes (in_side A) a b k = keeps_side (law_takes A) a b k
+law_takes (in_heading A) a b k = keeps_heading (law_takes A) a b k
+law_takes (in_switch A B) a b k = keeps_switch (law_takes A) (λ c. law_takes B) a b k
+law_takes as_pipeline a b (takes p q (sequence_takes f g)) = takes p q (stages_take f g)
+law_takes within_pipeline a b (takes p q (stages_take f g)) = takes p q (stages_take f g)
+law_takes associate_right a b (takes p q (stages_take (takes p' q' (stages_take f g)) h)) = takes p q (stages_take f (takes (output_fits f) q (stages_take g h)))
+law_takes associate_left a b (takes p q (stages_take f (takes p' q' (stages_take g h)))) = takes p q (stages_take (takes p (input_fits h) (stages_take f g)) h)
+law_takes {Γ = Γ} identity_before a b (takes p q (stages_take {g = g} (takes p' q' (primitive_takes (bare_takes h k))) f)) = subst (λ a. Takes Γ g a b) (same_Some _ _ (sym h)) f
+law_takes {Γ = Γ} identity_after a b (takes p q (stages_take {f = f} T (takes p' q' (primitive_takes (bare_takes h k))))) = subst (Takes Γ f a) (same_Some _ _ h) T
+law_takes arr_as_chain a b (takes p q (primitive_takes (arrow_takes f))) = takes p q (primitive_takes (fused_takes (lone_takes f) q))
+law_takes chain_as_arr a b (takes p q (primitive_takes (fused_takes (lone_takes f) h))) = takes p q (primitive_takes (arrow_takes f))
+law_takes arr_composed a b (takes p q (stages_take f g)) = takes p q (primitive_takes (fused_takes (chained_takes (arr_chain f) (arr_chain g)) q))
+law_takes arr_on_side a b (takes p q (first_takes f)) = takes p q (primitive_takes (fused_takes (on_first_takes (arr_chain f)) q))
+law_takes arr_on_side a b (takes p q (second_takes f)) = takes p q (primitive_takes (fused_takes (on_second_takes (arr_chain f)) q))
+law_takes arr_in_parallel a b (takes p q (parallel_takes f g)) = takes p q (primitive_takes (fused_takes (on_both_takes (arr_chain f) (arr_chain g)) q))
+law_takes arr_fanned_out a b (takes p q (fan_takes f g)) = takes p q (primitive_takes (fused_takes (fanned_takes (arr_chain f) (arr_chain g)) q))
+law_takes sides_composed a b (takes p q (stages_take (takes p' q' (first_takes f)) (takes p'' q'' (first_takes g)))) = takes p q (first_takes (takes (input_fits f) (output_fits g) (stages_take f g)))
+law_takes sides_composed a b (takes p q (stages_take (takes p' q' (second_takes f)) (takes p'' q'' (second_takes g)))) = takes p q (second_takes (takes (input_fits f) (output_fits g) (stages_take f g)))
+law_takes (exchanged z) a b (takes p q (stages_take (takes p' q' (parallel_takes f g)) (takes p'' q'' (parallel_takes h k)))) =
+    takes p q (parallel_takes (takes (input_fits f) (output_fits h) (stages_take f h)) (takes (input_fits g) (output_fits k) (stages_take g k)))
+law_takes (left_tightened z) a b (takes p q (loop_takes e (takes p' q' (stages_take (takes p'' q'' (first_takes f)) g)))) = takes p q (stages_take f (takes (output_fits f) q (loop_takes e g)))
+law_takes right_tightened a b (takes p q (loop_takes e (takes p' q' (stages_take g (takes p'' q'' (first_takes h)))))) = takes p q (stages_take (takes p (input_fits h) (loop_takes e g)) h)
+law_takes (constant_after z) a b (takes p q (stages_take f (takes p' q' (primitive_takes (value_takes e h k))))) = takes p q (primitive_takes (value_takes e h k))
 
-  mutual
-    pub plan_takes : {t u : Term} → Plans t u → Keeps Γ t u
-    plan_takes (plans A B) a b k = law_takes B a b (parts_take A a b k)
+mutual
+  pub plan_takes : {Γ : Context} {t u : Term} → Plans t u → Keeps Γ t u
+  plan_takes (plans A B) a b k = law_takes B a b (parts_take A a b k)
 
-    parts_take : {t u : Term} → PlansParts t u → Keeps Γ t u
-    parts_take of_primitive a b k = k
-    parts_take (of_join A B) a b k = keeps_join (plan_takes A) (plan_takes B) a b k
-    parts_take (of_side A) a b k = keeps_side (plan_takes A) a b k
-    parts_take (of_heading A) a b k = keeps_heading (plan_takes A) a b k
+  parts_take : {Γ : Context} {t u : Term} → PlansParts t u → Keeps Γ t u
+  parts_take of_primitive a b k = k
+  parts_take (of_join A B) a b k = keeps_join (plan_takes A) (plan_takes B) a b k
+  parts_take (of_side A) a b k = keeps_side (plan_takes A) a b k
+  parts_take (of_heading A) a b k = keeps_heading (plan_takes A) a b k
+  parts_take (of_switch A B) a b k = keeps_switch (plan_takes A) (λ c. plan_takes B) a b k
 
 -- ## The contexts that plans are typed under
 

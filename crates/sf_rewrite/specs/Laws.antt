@@ -1,6 +1,6 @@
 -- The laws of rewriting, as a relation on terms.
 use Rattle.std.specs.Prelude.{◌⊎◌, IsTrue}
-use Rattle.sf_expr.specs.Expressions.{Expression, Function}
+use Rattle.sf_expr.specs.Expressions.{Pattern, Expression, Function}
 use Rattle.sf_term.specs.declared.form.Bare.TheVariants.{Identity}
 use Rattle.sf_term.specs.declared.form.WithValue.TheVariants.{Constant}
 use Rattle.sf_term.specs.declared.form.Join.{Join}
@@ -9,7 +9,8 @@ use Rattle.sf_term.specs.declared.form.Side.{Side}
 use Rattle.sf_term.specs.declared.form.Side.TheVariants.{First}
 use Rattle.sf_term.specs.declared.form.Heading.{Heading}
 use Rattle.sf_term.specs.declared.form.Heading.TheVariants.{LoopPre}
-use Rattle.sf_term.specs.Trees.{Chain, lone, chained, on_side, on_both, fanned, bare, with_value, arrow, fused, Extent, whole, rest, Term, primitive, joined, sided, headed, staged}
+use Rattle.sf_term.specs.declared.form.Switching.{Switching}
+use Rattle.sf_term.specs.Trees.{Chain, lone, chained, on_side, on_both, fanned, bare, with_value, arrow, fused, Extent, whole, rest, Term, primitive, joined, sided, headed, switching, staged}
 use Rattle.sf_rewrite.specs.Quiet.{is_quiet_expression, is_quiet}
 
 -- `identity`
@@ -28,7 +29,7 @@ arr f = primitive (fused f)
 abbrev pub loop_pre : Expression → Term → Term
 loop_pre i t = headed LoopPre i t
 
--- A term is made into another by laws, in its text outside bodies. Both mean the same, and the second costs no more.
+-- A term is made into another by laws, in its text and in bodies. Both mean the same, and the second costs no more.
 pub data Laws : Term → Term → Type 0 where
   -- no law, one after another, and in the parts of a form
   unchanged : {t : Term} → Laws t t
@@ -37,6 +38,7 @@ pub data Laws : Term → Term → Type 0 where
   in_stages : {x : Extent} {f f' g g' : Term} → Laws f f' → Laws g g' → Laws (staged x f g) (staged x f' g')
   in_side : {d : Side} {t t' : Term} → Laws t t' → Laws (sided d t) (sided d t')
   in_heading : {h : Heading} {i : Expression} {t t' : Term} → Laws t t' → Laws (headed h i t) (headed h i t')
+  in_switch : {w : Switching} {t t' u u' : Term} {p : Pattern} → Laws t t' → Laws u u' → Laws (switching w t p u) (switching w t' p u')
   -- `>>>` is a pipeline of two stages; a pipeline that is a stage of another is written as the rest of one
   as_pipeline : {f g : Term} → Laws (joined InSequence f g) (staged whole f g)
   within_pipeline : {f g : Term} → Laws (staged whole f g) (staged rest f g)

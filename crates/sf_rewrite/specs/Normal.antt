@@ -1,16 +1,18 @@
 -- What a plan looks like when no law about pipelines is left to apply.
 use Rattle.std.specs.Prelude.{Bool, true, false, ◌&&◌, IsTrue}
-use Rattle.sf_expr.specs.Expressions.{Expression}
+use Rattle.sf_expr.specs.Expressions.{Pattern, Expression}
 use Rattle.sf_term.specs.declared.form.Bare.TheVariants.{Identity, LocalTime, Integral, Edge, NotYet, Count}
 use Rattle.sf_term.specs.declared.form.Join.{Join}
 use Rattle.sf_term.specs.declared.form.Join.TheVariants.{InSequence, InParallel, FannedOut}
 use Rattle.sf_term.specs.declared.form.Side.{Side}
 use Rattle.sf_term.specs.declared.form.Heading.{Heading}
-use Rattle.sf_term.specs.Trees.{Primitive, bare, with_value, timed, arrow, accumulated, fused, whole, rest, Term, primitive, joined, sided, headed, staged}
+use Rattle.sf_term.specs.declared.form.Switching.{Switching}
+use Rattle.sf_term.specs.Trees.{Primitive, bare, never, with_value, timed, arrow, accumulated, fused, whole, rest, Term, primitive, joined, sided, headed, switching, staged}
 
 -- `arr`, of one function or of functions made into one
 abbrev pub is_arr : Term → Bool
 is_arr (primitive (bare k)) = false
+is_arr (primitive (never t)) = false
 is_arr (primitive (with_value k i)) = false
 is_arr (primitive (arrow f)) = true
 is_arr (primitive (timed k q i)) = false
@@ -19,6 +21,7 @@ is_arr (primitive (fused f)) = true
 is_arr (joined j f g) = false
 is_arr (sided d t) = false
 is_arr (headed h i t) = false
+is_arr (switching w t p u) = false
 is_arr (staged x f g) = false
 
 -- the joins that stay as they are: all but `>>>`
@@ -35,6 +38,7 @@ is_stage (primitive (bare Integral)) = true
 is_stage (primitive (bare Edge)) = true
 is_stage (primitive (bare NotYet)) = true
 is_stage (primitive (bare Count)) = true
+is_stage (primitive (never t)) = true
 is_stage (primitive (with_value k i)) = true
 is_stage (primitive (arrow f)) = true
 is_stage (primitive (timed k q i)) = true
@@ -43,6 +47,7 @@ is_stage (primitive (fused f)) = true
 is_stage (joined j f g) = is_left j
 is_stage (sided d t) = true
 is_stage (headed h i t) = true
+is_stage (switching w t p u) = true
 is_stage (staged x f g) = false
 
 -- two neighbours, where it is said of each whether it is `arr`
@@ -52,12 +57,13 @@ may_meet true false = true
 may_meet false b = true
 
 mutual
-  -- A plan has no `>>>`. Its pipelines have two stages or more.
+  -- A plan has no `>>>`, and the bodies in it are plans. Its pipelines have two stages or more.
   pub data IsPlan : Term → Type 0 where
     plan_primitive : {p : Primitive} → IsPlan (primitive p)
     plan_join : {j : Join} {f g : Term} → IsTrue (is_left j) → IsPlan f → IsPlan g → IsPlan (joined j f g)
     plan_side : {d : Side} {t : Term} → IsPlan t → IsPlan (sided d t)
     plan_heading : {h : Heading} {i : Expression} {t : Term} → IsPlan t → IsPlan (headed h i t)
+    plan_switch : {w : Switching} {t u : Term} {p : Pattern} → IsPlan t → IsPlan u → IsPlan (switching w t p u)
     plan_pipeline : {f r : Term} → IsPlan f → IsTrue (is_stage f) → IsRest f r → IsPlan (staged whole f r)
 
   -- the rest of a pipeline after a stage: no two neighbours are `arr`
@@ -68,6 +74,7 @@ mutual
 -- a term of a network: no form of plans stands in it
 abbrev pub is_written : Term → Bool
 is_written (primitive (bare k)) = true
+is_written (primitive (never t)) = true
 is_written (primitive (with_value k i)) = true
 is_written (primitive (arrow f)) = true
 is_written (primitive (timed k q i)) = true
@@ -76,4 +83,5 @@ is_written (primitive (fused f)) = false
 is_written (joined j f g) = is_written f && is_written g
 is_written (sided d t) = is_written t
 is_written (headed h i t) = is_written t
+is_written (switching w t p u) = is_written t && is_written u
 is_written (staged x f g) = false

@@ -1,10 +1,11 @@
 -- The plans of networks.
 use Rattle.std.specs.Prelude.{◌≡◌, [], ◌∷◌}
-use Rattle.sf_expr.specs.Expressions.{Expression}
+use Rattle.sf_expr.specs.Expressions.{Pattern, Expression}
 use Rattle.sf_term.specs.declared.form.Join.{Join}
 use Rattle.sf_term.specs.declared.form.Side.{Side}
 use Rattle.sf_term.specs.declared.form.Heading.{Heading}
-use Rattle.sf_term.specs.Trees.{Primitive, Term, primitive, joined, sided, headed, Template, Templates}
+use Rattle.sf_term.specs.declared.form.Switching.{Switching}
+use Rattle.sf_term.specs.Trees.{Primitive, Term, primitive, joined, sided, headed, switching, Template, Templates}
 use Rattle.sf_mean.specs.Meaning.{Network}
 use Rattle.sf_rewrite.specs.Laws.{Laws}
 
@@ -18,6 +19,7 @@ mutual
     of_join : {j : Join} {f f' g g' : Term} → Plans f f' → Plans g g' → PlansParts (joined j f g) (joined j f' g')
     of_side : {d : Side} {t t' : Term} → Plans t t' → PlansParts (sided d t) (sided d t')
     of_heading : {h : Heading} {i : Expression} {t t' : Term} → Plans t t' → PlansParts (headed h i t) (headed h i t')
+    of_switch : {w : Switching} {t t' u u' : Term} {p : Pattern} → Plans t t' → Plans u u' → PlansParts (switching w t p u) (switching w t' p u')
 
 -- a template with the plan of its term
 pub record PlansTemplate (s t : Template) : Type 0 where

@@ -1,5 +1,5 @@
-//! Laws of plans, in functions without effect. A plan of a term is made by the twelve laws of `specs/Laws`, in its parts
-//! and in the terms of its templates.
+//! Laws of plans, in functions without effect. A plan of a term is made by the twelve laws of `specs/Laws`, in its parts,
+//! in the bodies of its switches and in the terms of its templates.
 ghost use Rattle.std.specs.Prelude.{◌≡◌, ◌≤◌, [], ◌∷◌, IsTrue};
 ghost use Rattle.sf_value.specs.Values.{Data, Kind};
 ghost use Rattle.sf_func.specs.Registries.{TypesByName};
@@ -38,7 +38,7 @@ pub fn quiet_law()
 {}
 
 /// Each term of a network has a plan without `>>>`, whose pipelines have no stage that is a pipeline or `identity`, and no
-/// two neighbouring stages that are both `arr`.
+/// two neighbouring stages that are both `arr`; and so have the bodies of its switches.
 pub fn normal_plan()
     ensures { (t : Term) → IsTrue (is_written t) → (u : Term) × Plans t u × IsPlan u }
 {}

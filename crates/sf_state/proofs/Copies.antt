@@ -12,14 +12,19 @@ use Rattle.sf_mean.specs.Meaning.{Network, Made}
 use Rattle.sf_prim.specs.declared.prim_state.PrimState.{PrimState}
 use Rattle.sf_prim.specs.Keeping.{Remembers}
 use Rattle.sf_state.specs.declared.state.State.{State}
-use Rattle.sf_state.specs.declared.state.State.TheVariants.{Unborn, Live' as Alive'}
+use Rattle.sf_state.specs.declared.state.State.TheVariants.{Unborn, Live' as Alive', Switch' as Watching'}
 use Rattle.sf_state.specs.declared.state.Live.{Live}
 use Rattle.sf_state.specs.declared.state.Live.{items_hidden-the_row-State-0}
 use Rattle.sf_state.specs.declared.state.Live.TheVariants.{Prim as LPrim, Join as LJoin, Pipeline as LPipeline, Wrap as LWrap}
 use Rattle.sf_state.specs.declared.state.Wrap.{Wrap}
 use Rattle.sf_state.specs.declared.state.Process.{Process as SProcess}
-use Rattle.sf_state.specs.declared.state.Env.{Env}
-use Rattle.sf_state.specs.Standing.{Wraps, Stands, unborn, alive, Settles, settles, ready, Lives, lives_primitive, lives_join, lives_pipeline, lives_wrap, IsPipeline, StagesStand, last_stands, stage_stands, IsProcess, IsNames, AllFollow, none_follow, more_follow}
+use Rattle.sf_state.specs.declared.state.Switch.{Switch}
+use Rattle.sf_state.specs.declared.env.Env.{Env}
+use Rattle.sf_state.specs.Standing.{Wraps, Stands, itself, took_over, StandsItself, unborn, alive, watching, Waits, waits_so, Settles, settles, ready, Lives, lives_primitive, lives_join, lives_pipeline, lives_wrap, IsPipeline, StagesStand, last_stands, stage_stands, IsProcess, is_closure, IsNames, AllFollow, none_follow, more_follow}
+
+-- a process with the same names, shared
+pub process_follows : (p : Plan) (q : SProcess) (names : Env) → ((e : Environment) → IsNames p q.names e → IsNames p names e) → (P : Process) → IsProcess p q P → IsProcess p (record { term = q.term; names = names }) P
+process_follows p q names f P (is_closure N) = is_closure (f _ N)
 
 module _ (φ : AnswersByName) (p : Plan) where
   -- b stands for all that a stands for
@@ -30,14 +35,41 @@ module _ (φ : AnswersByName) (p : Plan) where
   abbrev pub NodeFollows : Live → Live → Type 0
   NodeFollows l m = (P : Process) (L : Life) → Settles φ p l P L → Settles φ p m P L
 
+  -- where one stands itself for all that the other does, it stands for all that the other does
+  itself_follows : (a b : State) → ((P : Process) (L : Life) → StandsItself φ p a P L → StandsItself φ p b P L) → Follows a b
+  itself_follows a b f P L (itself A) = itself (f P L A)
+  itself_follows a b f P L (took_over S O A) = took_over S O (itself_follows a b f _ _ A)
+
   pub same_follows : (l m : Live) → m ≡ l → NodeFollows l m
   same_follows l m e P L S = subst (λ (l : Live). Settles φ p l P L) (sym e) S
 
   pub unborn_follows : (q r : SProcess) → ((P : Process) → IsProcess p q P → IsProcess p r P) → Follows (Unborn q) (Unborn r)
-  unborn_follows q r h P L (unborn Q) = unborn (h P Q)
+  unborn_follows q r h = itself_follows (Unborn q) (Unborn r) step
+    where
+      step : (P : Process) (L : Life) → StandsItself φ p (Unborn q) P L → StandsItself φ p (Unborn r) P L
+      step P L (unborn Q) = unborn (h P Q)
 
   pub alive_follows : {at at' : _} (names around : Env) (l m : Live) → ((e : Environment) → IsNames p names e → IsNames p around e) → NodeFollows l m → Follows (Alive' names at l) (Alive' around at' m)
-  alive_follows names around l m h f P L (alive N S) = alive (h _ N) (f _ _ S)
+  alive_follows {at} {at'} names around l m h f = itself_follows (Alive' names at l) (Alive' around at' m) step
+    where
+      step : (P : Process) (L : Life) → StandsItself φ p (Alive' names at l) P L → StandsItself φ p (Alive' around at' m) P L
+      step P L (alive N S) = alive (h _ N) (f _ _ S)
+
+  -- the same of switches that wait
+  abbrev pub SwitchFollows : Switch → Switch → Type 0
+  SwitchFollows s r = (P : Process) (L : Life) → Waits φ p s P L → Waits φ p r P L
+
+  pub same_waits : (s r : Switch) → r ≡ s → SwitchFollows s r
+  same_waits s r e P L S = subst (λ (s : Switch). Waits φ p s P L) (sym e) S
+
+  pub watching_follows : {at at' : _} (names around : Env) (s r : Switch) → ((e : Environment) → IsNames p names e → IsNames p around e) → SwitchFollows s r → Follows (Watching' names at s.form s.source s.pattern s.body) (Watching' around at' r.form r.source r.pattern r.body)
+  watching_follows {at} {at'} names around s r h f = itself_follows (Watching' names at s.form s.source s.pattern s.body) (Watching' around at' r.form r.source r.pattern r.body) step
+    where
+      step : (P : Process) (L : Life) → StandsItself φ p (Watching' names at s.form s.source s.pattern s.body) P L → StandsItself φ p (Watching' around at' r.form r.source r.pattern r.body) P L
+      step P L (watching N W) = watching (h _ N) (f _ _ W)
+
+  pub switch_follows : (s : Switch) (a : State) → Follows s.source a → SwitchFollows s (record { form = s.form; source = a; pattern = s.pattern; body = s.body })
+  switch_follows s a f P L (waits_so S O A) = waits_so S O (f _ _ A)
 
   pub prim_follows : (i i' : PrimState) → ((q : Primitive) (scope : Scope) (L : Life) → Remembers i q scope L → Remembers i' q scope L) → NodeFollows (LPrim i) (LPrim i')
   prim_follows i i' f P L (settles (ready h O (lives_primitive K))) = settles (ready h O (lives_primitive (f _ _ _ K)))

@@ -2,32 +2,36 @@
 use Rattle.std.specs.Prelude.{◌≡◌, ◌≢◌, List, [], ◌∷◌}
 use Rattle.sf_value.specs.Values.{Data}
 use Rattle.sf_func.specs.Registries.{AnswersByName}
-use Rattle.sf_expr.specs.Expressions.{Expression}
+use Rattle.sf_expr.specs.Expressions.{Pattern, Expression}
+use Rattle.sf_expr.specs.Patterns.{pattern_of}
+use Rattle.sf_expr.specs.declared.exprs.PatternId.{PatternId}
+use Rattle.sf_expr.specs.Arena.{placed_at}
 use Rattle.sf_expr.specs.Evaluation.{answer}
 use Rattle.sf_term.specs.declared.form.Join.{Join}
 use Rattle.sf_term.specs.declared.form.Join.TheVariants.{InSequence}
 use Rattle.sf_term.specs.declared.form.Side.TheVariants.{First as OnFirst, Second as OnSecond}
 use Rattle.sf_term.specs.declared.form.Heading.TheVariants.{LoopPre}
-use Rattle.sf_term.specs.Trees.{Primitive, whole, rest, Term, primitive, joined, sided, headed, staged}
-use Rattle.sf_mean.specs.Lives.{Step, Life, Process, closure, Environment, empty, scope_around, first_input, with_inputs, relay, fed_back, older, fed}
+use Rattle.sf_term.specs.declared.form.Switching.{Switching}
+use Rattle.sf_term.specs.Trees.{Primitive, whole, rest, Term, primitive, joined, sided, headed, switching, staged}
+use Rattle.sf_mean.specs.Lives.{Step, Life, Process, closure, Environment, scope_around, first_input, with_inputs, relay, fed_back, older, fed}
 use Rattle.sf_mean.specs.Formulas.{side_of}
-use Rattle.sf_mean.specs.Meaning.{Network, Made, value_made, make, left_life, right_life, Outputs, Loops}
+use Rattle.sf_mean.specs.Meaning.{Network, Made, value_made, make, left_life, right_life, waits, fired, body_of, Outputs, Loops, Since}
 use Rattle.sf_law.specs.declared.node.PlanId.{PlanId}
 use Rattle.sf_law.specs.declared.plan.Plan.{Plan}
-use Rattle.sf_law.specs.Arena.{plan_tree, network_of_plan}
+use Rattle.sf_law.specs.Arena.{plan_tree, plan_expressions, network_of_plan}
 use Rattle.sf_prim.specs.declared.prim_state.PrimState.{PrimState}
 use Rattle.sf_prim.specs.Keeping.{Remembers}
 use Rattle.sf_state.specs.declared.state.State.{State}
-use Rattle.sf_state.specs.declared.state.State.TheVariants.{Unborn, Live' as Alive'}
+use Rattle.sf_state.specs.declared.state.State.TheVariants.{Unborn, Live' as Alive', Switch' as Watching'}
 use Rattle.sf_state.specs.declared.state.Live.{Live}
 use Rattle.sf_state.specs.declared.state.Live.TheVariants.{Prim as LPrim, Join as LJoin, Pipeline' as LPipeline', Wrap as LWrap}
 use Rattle.sf_state.specs.declared.state.Live.{items-the_row-State}
 use Rattle.sf_state.specs.declared.state.Wrap.{Wrap}
 use Rattle.sf_state.specs.declared.state.Wrap.TheVariants.{First, Second, Loop}
 use Rattle.sf_state.specs.declared.state.Process.{Process as SProcess}
-use Rattle.sf_state.specs.declared.state.Process.TheVariants.{Closure as SClosure}
-use Rattle.sf_state.specs.declared.state.Env.{Env}
-use Rattle.sf_state.specs.declared.state.Env.TheVariants.{Empty as SEmpty}
+use Rattle.sf_state.specs.declared.state.Switch.{Switch}
+use Rattle.sf_state.specs.declared.env.Env.{Env}
+pub use Rattle.sf_state.specs.Names.{IsNames}
 
 -- What a form with one part keeps after a life; the part, and the life that the part has led.
 pub data Wraps (n : Network) : Wrap → Term → Environment → Made → Life → Term → Life → Type 0 where
@@ -45,22 +49,41 @@ pub data IsPipeline : Term → Term → Type 0 where
   is_stages : {f g : Term} → IsPipeline (staged whole f g) (staged rest f g)
   is_sequence : {f g : Term} → IsPipeline (joined InSequence f g) (staged rest f g)
 
--- what names stand for
-pub data IsNames (p : Plan) : Env → Environment → Type 0 where
-  is_empty : IsNames p SEmpty empty
+-- a term with the names around it
+abbrev pub closed_over : PlanId → Env → SProcess
+closed_over t names = record { term = t; names = names }
 
 -- what can be run
 pub data IsProcess (p : Plan) : SProcess → Process → Type 0 where
-  is_closure : {t : PlanId} {names : Env} {e : Environment} → IsNames p names e → IsProcess p (SClosure t names) (closure (plan_tree p t) e)
+  is_closure : {q : SProcess} {e : Environment} → IsNames p q.names e → IsProcess p q (closure (plan_tree p q.term) e)
 
 mutual
   -- Where functions answer this, a part of a network stands for a process and the life that it has led. No state stores
   -- the life.
   pub data Stands (φ : AnswersByName) (p : Plan) : State → Process → Life → Type 0 where
-    unborn : {q : SProcess} {P : Process} → IsProcess p q P → Stands φ p (Unborn q) P []
+    itself : {a : State} {P : Process} {L : Life} → StandsItself φ p a P L → Stands φ p a P L
+    -- what stands for the body of a switch that has fired stands for the switch
+    took_over : {a : State} {w : Switching} {t u : Term} {q : Pattern} {e : Environment} {v : Data} {L M : Life} {ys : List Data}
+        → Since (network_of_plan φ p) (closure t e) L (fired v M) → Outputs (network_of_plan φ p) (closure (switching w t q u) e) L ys
+        → Stands φ p a (body_of q u e v) M → Stands φ p a (closure (switching w t q u) e) L
+
+  -- a part stands for the process that it was made of
+  pub data StandsItself (φ : AnswersByName) (p : Plan) : State → Process → Life → Type 0 where
+    unborn : {q : SProcess} {P : Process} → IsProcess p q P → StandsItself φ p (Unborn q) P []
     -- with the names that are around its term
     alive : {at : _} {names : Env} {l : Live} {t : Term} {e : Environment} {L : Life}
-        → IsNames p names e → Settles φ p l (closure t e) L → Stands φ p (Alive' names at l) (closure t e) L
+        → IsNames p names e → Settles φ p l (closure t e) L → StandsItself φ p (Alive' names at l) (closure t e) L
+    watching : {at : _} {names : Env} {w : Switching} {a : State} {q : PatternId} {b : PlanId} {t : Term} {e : Environment} {L : Life}
+        → IsNames p names e → Waits φ p (record { form = w; source = a; pattern = q; body = b }) (closure t e) L
+        → StandsItself φ p (Watching' names at w a q b) (closure t e) L
+
+  -- a switch waits after a life, which its source has led
+  pub data Waits (φ : AnswersByName) (p : Plan) : Switch → Process → Life → Type 0 where
+    waits_so : {s : Switch} {t : Term} {e : Environment} {L : Life} {ys : List Data}
+        → Since (network_of_plan φ p) (closure t e) L waits
+        → Outputs (network_of_plan φ p) (closure (switching s.form t (pattern_of (placed_at (plan_expressions p) s.pattern)) (plan_tree p s.body)) e) L ys
+        → Stands φ p s.source (closure t e) L
+        → Waits φ p s (closure (switching s.form t (pattern_of (placed_at (plan_expressions p) s.pattern)) (plan_tree p s.body)) e) L
 
   -- a live part stands for a process and a life that has begun
   pub data Settles (φ : AnswersByName) (p : Plan) : Live → Process → Life → Type 0 where

@@ -4,11 +4,13 @@ ghost use Rattle.sf_func.specs.Registries.{AnswersByName};
 ghost use Rattle.sf_law.specs.declared.plan.Plan.{Plan};
 ghost use Rattle.sf_law.specs.Arena.{plan_tree};
 ghost use Rattle.sf_mean.specs.Lives.{closure, empty, Environment, Life, Process as ProcessOf};
-ghost use Rattle.sf_state.specs.Standing.{Stands, Settles, IsProcess, IsNames, AllFollow};
+ghost use Rattle.sf_state.specs.Standing.{Stands, Settles, Waits, IsProcess, AllFollow};
 
+use crate::env::Env;
+use sf_expr::PatternId;
 use sf_law::PlanId;
 use sf_prim::PrimState;
-use sf_term::Join;
+use sf_term::{Join, Switching};
 use sf_value::Value;
 use std::alloc::{AllocError, Global};
 use std::rc::Rc;
@@ -21,6 +23,22 @@ pub enum State {
     Unborn(Process),
     /// It has lived through some samples, with these names around it. Its node may be shared.
     Live(Env, Rc<Live>),
+    /// A switch that waits for its event, with these names around it. Its node may be shared.
+    Switch(Env, Rc<Switch>),
+}
+
+/// A switch that waits for its event: its source, and the body that takes over inside a pattern.
+#[derive(Drop)]
+#[cycle(state)]
+pub struct Switch {
+    /// Whose value stands at the event.
+    pub form: Switching,
+    /// What is watched: its values are pairs of a value and an event.
+    pub source: State,
+    /// The pattern that is bound to the event's payload.
+    pub pattern: PatternId,
+    /// The body.
+    pub body: PlanId,
 }
 
 /// A part that has lived, by its form.
@@ -48,18 +66,13 @@ pub enum Wrap {
     Loop(Value),
 }
 
-/// What can be run.
+/// What can be run: a term with the names around it.
 #[derive(Drop)]
-pub enum Process {
-    /// A term with the names around it.
-    Closure(PlanId, Env),
-}
-
-/// What names stand for.
-#[derive(Drop)]
-pub enum Env {
-    /// No names.
-    Empty,
+pub struct Process {
+    /// The term.
+    pub term: PlanId,
+    /// What the names around it stand for.
+    pub names: Env,
 }
 
 impl State {
@@ -67,7 +80,10 @@ impl State {
     pub fn unborn(term: PlanId) -> State
         ensures { (φ : AnswersByName) (p : Plan) → Stands φ p result (closure (plan_tree p term) empty) [] }
     {
-        State::Unborn(Process::Closure(term, Env::Empty))
+        State::Unborn(Process {
+            term,
+            names: Env::Empty,
+        })
     }
 
     /// The same state, over the same node: it needs no memory, and no step of one of the two changes the other. The
@@ -84,6 +100,11 @@ impl State {
                 let around = names.share()?;
                 let shared = node.clone()?;
                 Ok(State::Live(around, shared))
+            }
+            State::Switch(names, node) => {
+                let kept = names.share()?;
+                let watching = node.clone()?;
+                Ok(State::Switch(kept, watching))
             }
         }
     }
@@ -114,6 +135,21 @@ impl Live {
                 Ok(Live::Wrap(kept, inner))
             }
         }
+    }
+}
+
+impl Switch {
+    /// A copy of the node over the same source, which is shared.
+    pub fn clone_in(&self) -> Result<Switch, AllocError>
+        ensures { IfOk result (λ copy. (φ : AnswersByName) (p : Plan) (P : ProcessOf) (L : Life) → Waits φ p self.now P L → Waits φ p copy P L) }
+    {
+        let source = self.source.freeze()?;
+        Ok(Switch {
+            form: self.form,
+            source,
+            pattern: self.pattern,
+            body: self.body,
+        })
     }
 }
 
@@ -151,6 +187,19 @@ fn put_copy(alloc: Global, node: &mut Rc<Live>) -> Result<(), AllocError>
     Ok(())
 }
 
+/// Makes the node of a switch its owner's alone, likewise.
+#[inline(always)]
+pub fn unshare_switch(alloc: Global, node: &mut Rc<Switch>) -> Result<(), AllocError>
+    ensures { (φ : AnswersByName) (p : Plan) (P : ProcessOf) (L : Life) → Waits φ p node.old.value P L → Waits φ p node.new.value P L }
+{
+    if Rc::strong_count(node) == 1 {
+        return Ok(());
+    }
+    let own = Rc::new(alloc, node.clone_in()?)?;
+    *node = own;
+    Ok(())
+}
+
 impl Wrap {
     ghost use Rattle.sf_term.specs.Trees.{Term};
     ghost use Rattle.sf_mean.specs.Meaning.{Network, Made};
@@ -174,22 +223,10 @@ impl Process {
     fn share(&self) -> Result<Process, AllocError>
         ensures { IfOk result (λ same. (p : Plan) (P : ProcessOf) → IsProcess p self.now P → IsProcess p same P) }
     {
-        match self {
-            Process::Closure(term, names) => {
-                let around = names.share()?;
-                Ok(Process::Closure(*term, around))
-            }
-        }
-    }
-}
-
-impl Env {
-    /// The same names, shared. The error is too many owners of one name.
-    pub fn share(&self) -> Result<Env, AllocError>
-        ensures { IfOk result (λ names. (p : Plan) (e : Environment) → IsNames p self.now e → IsNames p names e) }
-    {
-        match self {
-            Env::Empty => Ok(Env::Empty),
-        }
+        let names = self.names.share()?;
+        Ok(Process {
+            term: self.term,
+            names,
+        })
     }
 }

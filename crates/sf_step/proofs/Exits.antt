@@ -1,16 +1,19 @@
 -- What each function of a sample answers, from what it calls.
-use Rattle.std.proofs.Common.{◌≡◌, ◌≢◌, ℕ, ◌+◌, ◌≤◌, List, [], ◌∷◌, ◌++◌, Result, Ok, Err, refl, sym, ap, ◌∙◌, subst, arith}
+use Rattle.std.proofs.Common.{◌≡◌, ◌≢◌, ℕ, ◌+◌, ◌≤◌, List, [], ◌∷◌, ◌++◌, Option, Result, Ok, Err, refl, sym, ap, ◌∙◌, subst, arith}
 use Rattle.std.specs.Prelude.{IsErrAnd}
 use Rattle.sf_value.specs.Values.{Data}
 use Rattle.sf_value.specs.declared.fault.ValueFault.{ValueFault}
 use Rattle.sf_value.specs.declared.fault.Fault.{Fault}
 use Rattle.sf_value.specs.declared.fault.Fault.TheVariants.{Memory}
 use Rattle.sf_expr.specs.Expressions.{Expression}
-use Rattle.sf_expr.specs.Evaluation.{Scope, functions_in, answer, failed as no_answer, ◌>>=◌, no_names, eval}
+use Rattle.sf_expr.specs.Evaluation.{Scope, functions_in, answer, failed as no_answer, ◌>>=◌, eval}
+use Rattle.sf_expr.specs.Arena.{expression}
 use Rattle.sf_code.specs.declared.code.Code.{Code}
-use Rattle.sf_code.specs.Worth.{IsCodeOf}
+use Rattle.sf_code.specs.Names.{scope_with}
 use Rattle.sf_operator.specs.Answers.{Evaluates}
 use Rattle.sf_expr.specs.declared.exprs.ExprId.{ExprId}
+use Rattle.sf_expr.specs.declared.exprs.PatternId.{PatternId}
+use Rattle.sf_term.specs.declared.form.Switching.{Switching}
 use Rattle.sf_operator.specs.declared.fault.EvalFault.{EvalFault}
 use Rattle.sf_operator.specs.declared.fault.EvalFault.TheVariants.{Value as EValue, Memory as EMemory}
 use Rattle.sf_term.specs.declared.form.Join.{Join}
@@ -18,34 +21,39 @@ use Rattle.sf_term.specs.declared.form.Join.TheVariants.{InSequence, InParallel,
 use Rattle.sf_term.specs.declared.form.Side.{Side}
 use Rattle.sf_term.specs.declared.form.Heading.{Heading}
 use Rattle.sf_law.specs.declared.node.PlanId.{PlanId}
-use Rattle.sf_law.specs.declared.node.PlanNode.TheVariants.{Primitive as NPrimitive, Joined as NJoined, Sided as NSided, Headed as NHeaded}
-use Rattle.sf_expr.specs.declared.exprs.Exprs.{Exprs}
+use Rattle.sf_law.specs.declared.node.PlanNode.TheVariants.{Primitive as NPrimitive, Joined as NJoined, Sided as NSided, Headed as NHeaded, Switching as NSwitching}
 use Rattle.sf_law.specs.declared.node.PlanPrimitive.{PlanPrimitive}
-use Rattle.sf_law.specs.Entries.{primitive_over, IsCodedPrimitive}
+use Rattle.sf_law.specs.Entries.{primitive_over, IsCodedPrimitive, IsCodedExpression}
 use Rattle.sf_func.specs.Registries.{AnswersByName}
 use Rattle.sf_law.specs.declared.plan.Plan.{Plan}
 use Rattle.sf_term.specs.Trees.{Primitive, Term, primitive, joined, sided, headed}
-use Rattle.sf_law.specs.Arena.{plan_tree, BuildsPlan, builds_primitive, builds_joined, builds_sided, builds_headed}
-use Rattle.sf_mean.specs.Lives.{Step, step, Life, Process, closure, Environment, empty, scope_around, first_input}
+use Rattle.sf_law.specs.Arena.{plan_tree, plan_expressions, BuildsPlan, builds_primitive, builds_joined, builds_sided, builds_headed, builds_switching}
+use Rattle.sf_mean.specs.Lives.{Step, step, Life, Process, closure, Environment, scope_around, first_input}
 use Rattle.sf_mean.specs.Formulas.{formula}
-use Rattle.sf_mean.specs.Meaning.{Network, Readings, Outcome, gave, faulted, as_outcome, Cost, count, height, both_costs, over, one_term, Made, nothing_made, value_made, make, left_life, right_life, join_value, Gives, gives, Outputs, not_begun, and_gave, of_constants, of_form, Form, of_primitive, of_join, goes_on}
+use Rattle.sf_mean.specs.Meaning.{Network, Readings, Outcome, gave, faulted, as_outcome, Cost, count, height, both_costs, over, one_term, Made, nothing_made, value_made, make, left_life, right_life, join_value, Gives, gives, Outputs, not_begun, and_gave, of_constants, of_form, Form, of_primitive, of_join, goes_on, at_start}
 use Rattle.sf_law.specs.Arena.{network_of_plan}
 use Rattle.sf_prim.specs.declared.prim_state.PrimState.{PrimState}
 use Rattle.sf_prim.specs.Keeping.{Remembers, Begins, begins, begins_with_fault, GoesOn, goes_on as goes_on_with, goes_on_with_fault}
 use Rattle.sf_state.specs.declared.state.State.{State}
 use Rattle.sf_state.specs.declared.state.State.TheVariants.{Unborn, Live' as Alive'}
 use Rattle.sf_state.specs.declared.state.Live.{Live}
+use Rattle.sf_state.specs.declared.state.Switch.{Switch}
 use Rattle.sf_state.specs.declared.state.Live.TheVariants.{Prim as LPrim, Join as LJoin, Wrap as LWrap}
 use Rattle.sf_state.specs.declared.state.Wrap.{Wrap}
-use Rattle.sf_state.specs.declared.state.Process.TheVariants.{Closure as SClosure}
-use Rattle.sf_state.specs.declared.state.Env.{Env}
-use Rattle.sf_state.specs.Standing.{Stands, unborn, alive, Settles, settles, Ready, ready, lives_primitive, lives_join, lives_wrap, Wraps, is_closure, IsNames, is_empty}
+use Rattle.sf_state.specs.Standing.{closed_over as SClosure}
+use Rattle.sf_state.specs.declared.env.Env.{Env}
+use Rattle.sf_state.specs.Names.{values_around}
+use Rattle.sf_state.specs.Standing.{Stands, itself, StandsItself, unborn, alive, Waits, waits_so, Settles, settles, Ready, ready, lives_primitive, lives_join, lives_wrap, Wraps, is_closure, IsNames}
+use Rattle.sf_state.proofs.Scopes.{functions_around, scope_is}
+use Rattle.sf_step.specs.declared.sample.Opened.{Opened}
+use Rattle.sf_step.specs.declared.sample.Opened.TheVariants as opened
 use Rattle.sf_step.specs.declared.meter.Meter.{Meter}
 use Rattle.sf_step.specs.Meters.{entered_of, height_of}
 use Rattle.sf_step.specs.Routing.{left_input, right_input, part_input, wrap_value, kept_after}
-use Rattle.sf_step.specs.Sampling.{Rel, fault_from, Ticks, Ticked, ticked, refused, readings, Spent, AtMost, Within, StopsFor, faults, large, memory, Answers, answers, fails, StateSteps, LiveSteps, left_or, kept, Opens, opens, opens_with_fault, opens_without_memory}
+use Rattle.sf_step.specs.Sampling.{Rel, fault_from, Ticks, Ticked, ticked, refused, readings, Spent, AtMost, Within, StopsFor, faults, large, memory, Answers, answers, fails, PartSteps, StateSteps, LiveSteps, left_or, kept, Opens, opens, opens_watching, opens_with_fault, opens_without_memory}
 use Rattle.sf_step.specs.Stepping.{EachCostsAtLeast, Steps, stepped, faulted_so, too_large, no_memory}
 use Rattle.sf_step.proofs.Parts.{counted, with_change, over_spent, one_spent, both_spent, fails_alike, over_fails, change_fails, then_fails, rest_fails, spent_within, answered, failed, memory_exit}
+use Rattle.sf_step.proofs.Switches.{lift_steps}
 use Rattle.sf_step.proofs.Forms.{left_and, right_and, left_none, right_none, single_gives, gave_outputs, form_alike, join_alike, wrap_alike, wraps_on, counts}
 
 -- a tick that went well
@@ -172,20 +180,17 @@ module _ (φ : AnswersByName) (p : Plan) where
   goes_on_fault : {q : Primitive} {scope : Scope} {s : Step} {L : Life} {i : PrimState} {x : ValueFault} → GoesOn q scope s L i (Err (EValue x)) → formula q scope s L ≡ no_answer x
   goes_on_fault (goes_on_with_fault h) = h
 
-  functions_around : (e : Environment) → functions_in (scope_around φ e) ≡ φ
-  functions_around empty = refl
-
   module _ (i i' : PrimState) (s : Step) (n : Meter) (inside : ℕ) where
     pub prim_steps : (v : Data) → ((q : Primitive) (scope : Scope) (L : Life) → functions_in scope ≡ φ → Remembers i q scope L → GoesOn q scope s L i' (Ok v)) → LiveSteps φ p (LPrim i) s (Ok (LPrim i', v)) n n inside
     prim_steps v hs m depth t P L (ready {m = made} h O (lives_primitive {q = q} {e = e} K)) =
-        let w = goes_on_parts (hs q (scope_around φ e) L (functions_around e) K) in
+        let w = goes_on_parts (hs q (scope_around φ e) L (functions_around φ e) K) in
         let F : Form net (primitive q) e made s L (gave v []) one_term = of_primitive (ap (λ o. as_outcome o []) w.0) in
         answers (gives O (of_form h F)) (one_spent t) (settles (ready h (and_gave O (of_form h F)) (lives_primitive w.1)))
 
     pub prim_fails : (n' : Meter) (g : Fault) (f : EvalFault) → g ≡ fault_from f → entered_of n' ≡ entered_of n → height_of n' ≡ height_of n → ((q : Primitive) (scope : Scope) (L : Life) → functions_in scope ≡ φ → Remembers i q scope L → GoesOn q scope s L i' (Err f))
         → LiveSteps φ p (LPrim i) s (Err g) n n' inside
     prim_fails n' g (EValue x) e en hn hs m depth t P L (ready {t = u} {e = names} h O (lives_primitive {q = q} {e = e'} K)) =
-        let w = goes_on_fault (hs q (scope_around φ e') L (functions_around e') K) in
+        let w = goes_on_fault (hs q (scope_around φ e') L (functions_around φ e') K) in
         let G : Gives net (closure (primitive q) e') (s ∷ L) (faulted x) one_term = gives O (of_form h (of_primitive (ap (λ o. as_outcome o []) w))) in
         fails (subst (λ (g : Fault). StopsFor (Gives net (closure (primitive q) e') (s ∷ L)) g m n' depth) (sym e) (faults G ((ticked_within t en hn).most _ _ G)))
     prim_fails n' g EMemory e en hn hs m depth t P L R = early_memory t en hn e
@@ -196,7 +201,7 @@ module _ (φ : AnswersByName) (p : Plan) where
   held : {A E : Type 0} {t : Term} {e : Environment} {s : Step} {L : Life} {R : Rel} {m n : Meter} {depth : ℕ} (at : _) (names : Env) (l : Live) (v : Data) (r : Result A E) (f : Fault) → IsNames p names e
       → Answers {A = Live × Data} (λ y. y.1) (λ y. Settles φ p y.0 (closure t e) (s ∷ L)) R (left_or r (l, v) f) m n depth
       → Answers {A = State × Data} (λ y. y.1) (λ y. Stands φ p y.0 (closure t e) (s ∷ L)) R (left_or r (Alive' names at l, v) f) m n depth
-  held at names l v (Ok u) f N h = let w = answered h in answers w.given w.spent (alive N w.holds)
+  held at names l v (Ok u) f N h = let w = answered h in answers w.given w.spent (itself (alive N w.holds))
   held at names l v (Err e) f N h = fails (failed h)
 
   -- the node that is stepped stands for all that the shared one stands for
@@ -207,23 +212,44 @@ module _ (φ : AnswersByName) (p : Plan) where
 
     pub state_steps : {A E : Type 0} {at : _} (at' : _) {m n n' : Meter} {depth inside : ℕ} (names : Env) (l' : Live) (s : Step) (v : Data) (r : Result A E) (f : Fault) → Ticks m n depth inside → LiveSteps φ p own s (left_or r (l', v) f) n n' inside
         → StateSteps φ p (Alive' names at l) s (left_or r (Alive' names at' l', v) f) m n' depth
-    state_steps at' names l' s v r f t h P L (alive N S) = held at' names l' v r f N (own_steps t h _ L (follows _ _ S))
+    state_steps {at = at} at' {m = m} {n' = n'} {depth = depth} names l' s v r f t h = lift_steps φ p (Alive' names at l) s (left_or r (Alive' names at' l', v) f) m n' depth go
+      where
+        go : (P : Process) (L : Life) → StandsItself φ p (Alive' names at l) P L → PartSteps φ p P L s (left_or r (Alive' names at' l', v) f) m n' depth
+        go P L (alive N S) = held at' names l' v r f N (own_steps t h _ L (follows _ _ S))
 
   -- ## The first sample
 
-  opened : {l : Live} {t : Term} {e : Environment} → Opens φ p t e (Ok l) → (x : Data) → Ready φ p l (closure t e) x []
-  opened (opens h) = h
+  opened_live : {l : Live} {t : Term} {e : Environment} → Opens φ p t e (Ok (opened.Live l)) → (x : Data) → Ready φ p l (closure t e) x []
+  opened_live (opens h) = h
+
+  opened_switch : {k : Switch} {t : Term} {e : Environment} → Opens φ p t e (Ok (opened.Switch k)) → Waits φ p k (closure t e) []
+  opened_switch (opens_watching W) = W
 
   module _ {m n : Meter} {depth inside : ℕ} (term : PlanId) (names : Env) (d : ℕ) (x : Data) (t : Ticks m n depth inside) where
-    module _ {n' : Meter} (l : Live) (ho : (e : Environment) → IsNames p names e → Opens φ p (plan_tree p term) e (Ok l)) where
+    -- what a part that isn't born answers, from what its term answers on its first step
+    starts : {n' : Meter} (r : Result (State × Data) Fault)
+        → ((e : Environment) → IsNames p names e → PartSteps φ p (closure (plan_tree p term) e) [] (step d x) r m n' depth)
+        → StateSteps φ p (Unborn (SClosure term names)) (step d x) r m n' depth
+    starts {n' = n'} r h = lift_steps φ p (Unborn (SClosure term names)) (step d x) r m n' depth go
+      where
+        go : (P : Process) (L : Life) → StandsItself φ p (Unborn (SClosure term names)) P L → PartSteps φ p P L (step d x) r m n' depth
+        go P L (unborn (is_closure {e = e} N)) = h e N
+
+    module _ {n' : Meter} (l : Live) (ho : (e : Environment) → IsNames p names e → Opens φ p (plan_tree p term) e (Ok (opened.Live l))) where
       pub start_steps : {at : _} (around : Env) (l' kept : Live) (v : Data) → around ≡ names → kept ≡ l' → LiveSteps φ p l (step d x) (Ok (l', v)) n n' inside
           → StateSteps φ p (Unborn (SClosure term names)) (step d x) (Ok (Alive' around at kept, v)) m n' depth
-      start_steps around l' kept v ea ek hs P L (unborn (is_closure {e = e} N)) =
-          let w = answered (hs m depth t _ [] (opened (ho e N) x)) in
-          answers w.given w.spent (alive (subst (λ (names : Env). IsNames p names e) (sym ea) N) (subst (λ (l : Live). Settles φ p l (closure (plan_tree p term) e) (step d x ∷ [])) (sym ek) w.holds))
+      start_steps {at = at} around l' kept v ea ek hs = starts (Ok (Alive' around at kept, v)) (λ e N.
+          let w = answered (hs m depth t _ [] (opened_live (ho e N) x)) in
+          answers w.given w.spent (itself (alive (subst (λ (names : Env). IsNames p names e) (sym ea) N) (subst (λ (l : Live). Settles φ p l (closure (plan_tree p term) e) (step d x ∷ [])) (sym ek) w.holds))))
 
-      pub start_fails : (f : Fault) → LiveSteps φ p l (step d x) (Err f) n n' inside → (P : Process) (L : Life) → Stands φ p (Unborn (SClosure term names)) P L → StopsFor (Gives net P (step d x ∷ L)) f m n' depth
-      start_fails f hs P L (unborn (is_closure {e = e} N)) = failed (hs m depth t _ [] (opened (ho e N) x))
+      pub start_fails : (f : Fault) → LiveSteps φ p l (step d x) (Err f) n n' inside → StateSteps φ p (Unborn (SClosure term names)) (step d x) (Err f) m n' depth
+      start_fails f hs = starts (Err f) (λ e N. fails (failed (hs m depth t _ [] (opened_live (ho e N) x))))
+
+    -- a switch starts as it steps
+    pub start_switches : {n' : Meter} (k : Switch) (r : Result (State × Data) Fault) → ((e : Environment) → IsNames p names e → Opens φ p (plan_tree p term) e (Ok (opened.Switch k)))
+        → ((m : Meter) (depth : ℕ) → Ticks m n depth inside → (t : Term) (e : Environment) → IsNames p names e → Waits φ p k (closure t e) [] → PartSteps φ p (closure t e) [] (step d x) r m n' depth)
+        → StateSteps φ p (Unborn (SClosure term names)) (step d x) r m n' depth
+    start_switches k r ho hs = starts r (λ e N. hs m depth t _ e N (opened_switch (ho e N)))
 
     module _ {n' : Meter} (en : entered_of n' ≡ entered_of n) (hn : height_of n' ≡ height_of n) where
       open_fails : (u : Term) (e : Environment) (f : Fault) → Opens φ p u e (Err f) → StopsFor (Gives net (closure u e) (step d x ∷ [])) f m n' depth
@@ -231,61 +257,74 @@ module _ (φ : AnswersByName) (p : Plan) where
       open_fails u e f opens_without_memory = memory (ticked_within t en hn)
 
       pub start_open_fails : (f g : Fault) → g ≡ f → ((e : Environment) → IsNames p names e → Opens φ p (plan_tree p term) e (Err f)) → StateSteps φ p (Unborn (SClosure term names)) (step d x) (Err g) m n' depth
-      start_open_fails f g eg ho P L (unborn (is_closure {e = e} N)) = fails (subst (λ (g : Fault). StopsFor (Gives net (closure (plan_tree p term) e) (step d x ∷ [])) g m n' depth) (sym eg) (open_fails _ e f (ho e N)))
+      start_open_fails f g eg ho = starts (Err g) (λ e N. fails (subst (λ (g : Fault). StopsFor (Gives net (closure (plan_tree p term) e) (step d x ∷ [])) g m n' depth) (sym eg) (open_fails _ e f (ho e N))))
 
   -- ## Before the first sample
 
-  prim_opens : (q : Primitive) (e : Environment) (names : Env) (i : PrimState) → IsNames p names e → Begins φ q (Ok i) → Opens φ p (primitive q) e (Ok (LPrim i))
-  prim_opens q e names i is_empty (begins K) = opens (λ x. ready refl not_begun (lives_primitive K))
+  prim_opens : (q : Primitive) (e : Environment) (i : PrimState) → Begins (scope_around φ e) q (Ok i) → Opens φ p (primitive q) e (Ok (opened.Live (LPrim i)))
+  prim_opens q e i (begins K) = opens (λ x. ready refl not_begun (lives_primitive K))
 
-  prim_opens_with_fault : (q : Primitive) (e : Environment) (names : Env) (f : EvalFault) → IsNames p names e → Begins φ q (Err f) → Opens φ p (primitive q) e (Err (fault_from f))
-  prim_opens_with_fault q e names (EValue x) is_empty (begins_with_fault h) = opens_with_fault (λ s. gives not_begun (of_form refl (of_primitive (ap (λ o. as_outcome o []) (h s)))))
-  prim_opens_with_fault q e names EMemory N h = opens_without_memory
+  prim_opens_with_fault : (q : Primitive) (e : Environment) (f : EvalFault) → Begins (scope_around φ e) q (Err f) → Opens φ p (primitive q) e (Err (fault_from f))
+  prim_opens_with_fault q e (EValue x) (begins_with_fault h) = opens_with_fault (λ s. gives not_begun (of_form refl (of_primitive (ap (λ o. as_outcome o []) (h s)))))
+  prim_opens_with_fault q e EMemory h = opens_without_memory
 
-  pub open_exit : (t : Term) (e : Environment) (r : Result Live Fault) → IsErrAnd r (λ e. e ≡ Memory) → Opens φ p t e r
+  pub open_exit : (t : Term) (e : Environment) (r : Result Opened Fault) → IsErrAnd r (λ e. e ≡ Memory) → Opens φ p t e r
   open_exit t e (Ok l) h = absurd h
   open_exit t e (Err f) h = subst (λ (f : Fault). Opens φ p t e (Err f)) (sym h) opens_without_memory
 
-  pub open_prim : (q : PlanPrimitive) (t : Term) (names : Env) (i : PrimState) → BuildsPlan p (NPrimitive q) t → ((xs : Exprs) → IsCodedPrimitive xs q → Begins φ (primitive_over xs q) (Ok i)) → (e : Environment) → IsNames p names e → Opens φ p t e (Ok (LPrim i))
-  open_prim q t names i (builds_primitive C) h e N = prim_opens _ e names i N (h _ C)
+  -- the scope around a part, as its names have it
+  abbrev scope_in : Env → Scope
+  scope_in names = scope_with (values_around (plan_expressions p) names) φ
 
-  pub open_prim_fails : (q : PlanPrimitive) (t : Term) (names : Env) (f : EvalFault) → BuildsPlan p (NPrimitive q) t → ((xs : Exprs) → IsCodedPrimitive xs q → Begins φ (primitive_over xs q) (Err f)) → (e : Environment) → IsNames p names e → Opens φ p t e (Err (fault_from f))
-  open_prim_fails q t names f (builds_primitive C) h e N = prim_opens_with_fault _ e names f N (h _ C)
+  pub open_prim : (q : PlanPrimitive) (t : Term) (names : Env) (i : PrimState) → BuildsPlan p (NPrimitive q) t → (IsCodedPrimitive (plan_expressions p) q → Begins (scope_in names) (primitive_over (plan_expressions p) q) (Ok i))
+      → (e : Environment) → IsNames p names e → Opens φ p t e (Ok (opened.Live (LPrim i)))
+  open_prim q t names i (builds_primitive C) h e N = prim_opens _ e i (subst (λ (s : Scope). Begins s (primitive_over (plan_expressions p) q) (Ok i)) (scope_is φ p names e N) (h C))
+
+  pub open_prim_fails : (q : PlanPrimitive) (t : Term) (names : Env) (f : EvalFault) → BuildsPlan p (NPrimitive q) t → (IsCodedPrimitive (plan_expressions p) q → Begins (scope_in names) (primitive_over (plan_expressions p) q) (Err f))
+      → (e : Environment) → IsNames p names e → Opens φ p t e (Err (fault_from f))
+  open_prim_fails q t names f (builds_primitive C) h e N = prim_opens_with_fault _ e f (subst (λ (s : Scope). Begins s (primitive_over (plan_expressions p) q) (Err f)) (scope_is φ p names e N) (h C))
 
   pub open_join : (j : Join) (a b : PlanId) (names one two : Env) → j ≢ InSequence
-      → ((e : Environment) → IsNames p names e → IsNames p one e) → ((e : Environment) → IsNames p names e → IsNames p two e) → (e : Environment) → IsNames p names e → Opens φ p (joined j (plan_tree p a) (plan_tree p b)) e (Ok (LJoin j (Unborn (SClosure a one)) (Unborn (SClosure b two))))
+      → ((e : Environment) → IsNames p names e → IsNames p one e) → ((e : Environment) → IsNames p names e → IsNames p two e) → (e : Environment) → IsNames p names e → Opens φ p (joined j (plan_tree p a) (plan_tree p b)) e (Ok (opened.Live (LJoin j (Unborn (SClosure a one)) (Unborn (SClosure b two)))))
   open_join j a b names one two side h g e N =
-      let A = subst (λ (K : Life). Stands φ p (Unborn (SClosure a one)) (closure (plan_tree p a) e) K) (sym (left_none j)) (unborn (is_closure (h e N))) in
-      let B = subst (λ (K : Life). Stands φ p (Unborn (SClosure b two)) (closure (plan_tree p b) e) K) (sym (right_none j)) (unborn (is_closure (g e N))) in
+      let A = subst (λ (K : Life). Stands φ p (Unborn (SClosure a one)) (closure (plan_tree p a) e) K) (sym (left_none j)) (itself (unborn (is_closure (h e N)))) in
+      let B = subst (λ (K : Life). Stands φ p (Unborn (SClosure b two)) (closure (plan_tree p b) e) K) (sym (right_none j)) (itself (unborn (is_closure (g e N)))) in
       let O = subst (λ (K : Life). Outputs net (closure (plan_tree p a) e) K []) (sym (left_none j)) not_begun in
       opens (λ x. ready refl not_begun (lives_join side O A B))
 
   -- a node of two parts opens as they do
-  pub open_joined : (j : Join) (a b : PlanId) (t : Term) (names : Env) (l : Live) → BuildsPlan p (NJoined j a b) t → ((e : Environment) → IsNames p names e → Opens φ p (joined j (plan_tree p a) (plan_tree p b)) e (Ok l))
-      → (e : Environment) → IsNames p names e → Opens φ p t e (Ok l)
+  pub open_joined : (j : Join) (a b : PlanId) (t : Term) (names : Env) (l : Live) → BuildsPlan p (NJoined j a b) t → ((e : Environment) → IsNames p names e → Opens φ p (joined j (plan_tree p a) (plan_tree p b)) e (Ok (opened.Live l)))
+      → (e : Environment) → IsNames p names e → Opens φ p t e (Ok (opened.Live l))
   open_joined j a b t names l builds_joined h = h
 
   pub open_wrap : (w : Wrap) (a : PlanId) (names inner : Env) → ((e : Environment) → IsNames p names e → IsNames p inner e)
-      → (t : Term) (e : Environment) (m : Made) → IsNames p names e → ((x : Data) → make net t e x ≡ answer m) → Wraps net w t e m [] (plan_tree p a) [] → Opens φ p t e (Ok (LWrap w (Unborn (SClosure a inner))))
-  open_wrap w a names inner g t e m N h W = opens (λ x. ready (h x) not_begun (lives_wrap W (unborn (is_closure (g e N)))))
+      → (t : Term) (e : Environment) (m : Made) → IsNames p names e → ((x : Data) → make net t e x ≡ answer m) → Wraps net w t e m [] (plan_tree p a) [] → Opens φ p t e (Ok (opened.Live (LWrap w (Unborn (SClosure a inner)))))
+  open_wrap w a names inner g t e m N h W = opens (λ x. ready (h x) not_begun (lives_wrap W (itself (unborn (is_closure (g e N))))))
 
-  pub open_sided : (d : Side) (a : PlanId) (t : Term) (names : Env) (w : Wrap) (r : Result Live Fault) → BuildsPlan p (NSided d a) t
+  pub open_sided : (d : Side) (a : PlanId) (t : Term) (names : Env) (w : Wrap) (r : Result Opened Fault) → BuildsPlan p (NSided d a) t
       → ((n : Network) (t : Term) (e : Environment) (m : Made) → Wraps n w (sided d t) e m [] t [])
       → ((φ : AnswersByName) (p : Plan) (t : Term) (e : Environment) (m : Made) → IsNames p names e → ((x : Data) → make (network_of_plan φ p) t e x ≡ answer m) → Wraps (network_of_plan φ p) w t e m [] (plan_tree p a) [] → Opens φ p t e r)
       → (e : Environment) → IsNames p names e → Opens φ p t e r
   open_sided d a t names w r builds_sided W h e N = h φ p _ e nothing_made N (λ x. refl) (W _ _ _ _)
 
-  pub open_headed : (i : Heading) (j : ExprId) (c : Code) (a : PlanId) (t : Term) (names : Env) (v : Data) (w : Wrap) (r : Result Live Fault) → BuildsPlan p (NHeaded i j c a) t
-      → ((j : Expression) → IsCodeOf j c → eval j (no_names φ) ≡ answer v)
+  pub open_headed : (i : Heading) (j : ExprId) (c : Option Code) (a : PlanId) (t : Term) (names : Env) (v : Data) (w : Wrap) (r : Result Opened Fault) → BuildsPlan p (NHeaded i j c a) t
+      → (IsCodedExpression (plan_expressions p) j c → eval (expression (plan_expressions p) j) (scope_in names) ≡ answer v)
       → ((n : Network) (j : Expression) (t : Term) (e : Environment) → Wraps n w (headed i j t) e (value_made v) [] t [])
       → ((φ : AnswersByName) (p : Plan) (t : Term) (e : Environment) (m : Made) → IsNames p names e → ((x : Data) → make (network_of_plan φ p) t e x ≡ answer m) → Wraps (network_of_plan φ p) w t e m [] (plan_tree p a) [] → Opens φ p t e r)
       → (e : Environment) → IsNames p names e → Opens φ p t e r
-  open_headed i j c a t names v w r (builds_headed C) g W h e is_empty = h φ p _ empty (value_made v) is_empty (λ x. ap (λ o. o >>= λ v. answer (value_made v)) (g _ C)) (W _ _ _ _)
+  open_headed i j c a t names v w r (builds_headed C) g W h e N =
+      h φ p _ e (value_made v) N (λ x. ap (λ s. eval (expression (plan_expressions p) j) s >>= λ v. answer (value_made v)) (sym (scope_is φ p names e N)) ∙ ap (λ o. o >>= λ v. answer (value_made v)) (g C)) (W _ _ _ _)
 
-  pub open_headed_fails : (i : Heading) (j : ExprId) (c : Code) (a : PlanId) (t : Term) (names : Env) (f : EvalFault) → BuildsPlan p (NHeaded i j c a) t
-      → ((j : Expression) → IsCodeOf j c → Evaluates (Err f) (eval j (no_names φ))) → (e : Environment) → IsNames p names e → Opens φ p t e (Err (fault_from f))
-  open_headed_fails i j c a t names (EValue x) (builds_headed C) g e is_empty = opens_with_fault (λ s. gives not_begun (of_constants (ap (λ o. o >>= λ v. answer (value_made v)) (g _ C))))
+  pub open_headed_fails : (i : Heading) (j : ExprId) (c : Option Code) (a : PlanId) (t : Term) (names : Env) (f : EvalFault) → BuildsPlan p (NHeaded i j c a) t
+      → (IsCodedExpression (plan_expressions p) j c → Evaluates (Err f) (eval (expression (plan_expressions p) j) (scope_in names))) → (e : Environment) → IsNames p names e → Opens φ p t e (Err (fault_from f))
+  open_headed_fails i j c a t names (EValue x) (builds_headed C) g e N =
+      opens_with_fault (λ s. gives not_begun (of_constants (ap (λ s. eval (expression (plan_expressions p) j) s >>= λ v. answer (value_made v)) (sym (scope_is φ p names e N)) ∙ ap (λ o. o >>= λ v. answer (value_made v)) (g C))))
   open_headed_fails i j c a t names EMemory B g e N = opens_without_memory
+
+  -- a switch waits at first, and its source isn't born
+  pub open_switch : (w : Switching) (a b : PlanId) (q : PatternId) (t : Term) (names around : Env) → BuildsPlan p (NSwitching w a q b) t → ((e : Environment) → IsNames p names e → IsNames p around e)
+      → (e : Environment) → IsNames p names e → Opens φ p t e (Ok (opened.Switch (record { form = w; source = Unborn (SClosure a around); pattern = q; body = b })))
+  open_switch w a b q t names around builds_switching g e N = opens_watching (waits_so at_start not_begun (itself (unborn (is_closure (g e N)))))
 
   -- ## A sample
 

@@ -4,9 +4,10 @@ use Rattle.sf_value.specs.Values.{Data}
 use Rattle.sf_expr.specs.Evaluation.{Evaluated, answer, failed as no_answer}
 use Rattle.sf_term.specs.declared.form.Join.{Join}
 use Rattle.sf_term.specs.declared.form.Join.TheVariants.{InSequence, InParallel, FannedOut}
-use Rattle.sf_term.specs.Trees.{Extent, whole, rest, Term, primitive, joined, sided, headed, staged}
+use Rattle.sf_term.specs.declared.form.Switching.{Switching}
+use Rattle.sf_term.specs.Trees.{Extent, whole, rest, Term, primitive, joined, sided, headed, switching, staged}
 use Rattle.sf_mean.specs.Lives.{Step, step, Life, Process, closure, Environment, first_input, fed}
-use Rattle.sf_mean.specs.Meaning.{Network, Readings, Outcome, gave, faulted, combined, value_in, Cost, count, height, both_costs, over_stages, text_cost, Made, make, left_life, right_life, join_value, Gives, gives, Outputs, and_gave, Sample, of_constants, of_form, Form, of_primitive, of_join, of_side, of_loop, of_stages, Next, goes_on, stops, and_looped}
+use Rattle.sf_mean.specs.Meaning.{Network, Readings, Outcome, gave, faulted, combined, value_in, Cost, count, height, both_costs, over_stages, text_cost, Made, make, left_life, right_life, join_value, Gives, gives, Outputs, and_gave, Sample, of_constants, of_form, Form, of_primitive, of_join, of_side, of_loop, of_switch, of_stages, Next, goes_on, stops, and_looped, Standing, SwitchTurn, while_waiting, as_body}
 use Rattle.sf_mean.proofs.Once.{once, onces, once_loops}
 use Rattle.sf_state.specs.declared.state.Wrap.{Wrap}
 use Rattle.sf_state.specs.Standing.{Wraps, wraps_first, wraps_second, wraps_loop}
@@ -125,6 +126,7 @@ module _ (n : Network) where
   text_counts (joined j f g) = (omega arith, omega arith)
   text_counts (sided d t) = (omega arith, omega arith)
   text_counts (headed h i t) = (omega arith, omega arith)
+  text_counts (switching w t q u) = (omega arith, omega arith)
   text_counts (staged x f g) = stages_count x (text_cost f) (text_cost g) (text_counts f)
 
   mutual
@@ -133,7 +135,12 @@ module _ (n : Network) where
     form_counts (of_join O G N) = (omega arith, omega arith)
     form_counts (of_side G) = (omega arith, omega arith)
     form_counts (of_loop O G) = (omega arith, omega arith)
+    form_counts (of_switch S T) = turn_counts T
     form_counts (of_stages {x = x} {c = c} {c' = c'} O G N) = stages_count x c c' (counts G)
+
+    turn_counts : {w : Switching} {P : Process} {B : Data → Process} {s : Step} {L : Life} {st : Standing} {o : Outcome} {k : Cost} → SwitchTurn n w P B s L st o k → (1 ≤ count k) × (1 ≤ height k)
+    turn_counts (while_waiting G C) = (omega arith, omega arith)
+    turn_counts (as_body G) = counts G
 
     sample_counts : {P : Process} {s : Step} {L : Life} {o : Outcome} {k : Cost} → Sample n P s L o k → (1 ≤ count k) × (1 ≤ height k)
     sample_counts (of_constants {t = t} h) = text_counts t

@@ -3,3 +3,4 @@ pub mod Forms
 pub mod Exits
 pub mod Stages
 pub mod Routes
+pub mod Switches

@@ -65,10 +65,10 @@ first_most l s = record { entered = let a = s.entered in omega arith; high = let
 both_most : {m n n' : Meter} {depth : ℕ} {k l : Cost} {r : Readings} → Spent m n depth k r → AtMost n n' depth l → AtMost m n' depth (both_costs k l)
 both_most s s' = record { entered = let a = s.entered in let b = s'.entered in omega arith; high = let a = s.high in let b = s'.high in omega arith }
 
-alike_within : {R S : Rel} {m n : Meter} {depth : ℕ} → Alike R S → Within R m n depth → Within S m n depth
+pub alike_within : {R S : Rel} {m n : Meter} {depth : ℕ} → Alike R S → Within R m n depth → Within S m n depth
 alike_within a w = record { most = λ o k G. w.most o k (a.back o k G) }
 
-over_within : {R : Rel} {m n n' : Meter} {depth inside : ℕ} → Ticks m n depth inside → Within R n n' inside → Within (Over R) m n' depth
+pub over_within : {R : Rel} {m n n' : Meter} {depth inside : ℕ} → Ticks m n depth inside → Within R n n' inside → Within (Over R) m n' depth
 over_within {R = R} {m = m} {n' = n'} {depth = depth} t w = record { most = go }
   where
     go : (o : Outcome) (k : Cost) → Over R o k → AtMost m n' depth k
@@ -80,7 +80,7 @@ change_within {R = R} {g = g} {m = m} {n = n} {depth = depth} w = record { most 
     go : (o : Outcome) (k : Cost) → Changed g R o k → AtMost m n depth k
     go o k (with_change G) = w.most _ _ G
 
-then_within : {R : Rel} {g : Data → Data → Data} {stop : Cost} {S : Data → Rel} {m n : Meter} {depth : ℕ} → Within R m n depth → Within (Then R g stop S) m n depth
+pub then_within : {R : Rel} {g : Data → Data → Data} {stop : Cost} {S : Data → Rel} {m n : Meter} {depth : ℕ} → Within R m n depth → Within (Then R g stop S) m n depth
 then_within {R = R} {g = g} {stop = stop} {S = S} {m = m} {n = n} {depth = depth} w = record { most = go }
   where
     go : (o : Outcome) (k : Cost) → Then R g stop S o k → AtMost m n depth k

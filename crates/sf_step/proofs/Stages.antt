@@ -20,13 +20,14 @@ use Rattle.sf_law.specs.Entries.{stages, pipeline}
 use Rattle.sf_law.specs.Arena.{plan_tree, network_of_plan, BuildsPlan, builds_pipeline}
 use Rattle.sf_state.specs.declared.state.State.{State}
 use Rattle.sf_state.specs.declared.state.State.TheVariants.{Unborn}
-use Rattle.sf_state.specs.declared.state.Process.TheVariants.{Closure as SClosure}
-use Rattle.sf_state.specs.declared.state.Env.{Env}
+use Rattle.sf_state.specs.Standing.{closed_over as SClosure}
+use Rattle.sf_state.specs.declared.env.Env.{Env}
 use Rattle.sf_state.specs.declared.state.Live.{items_hidden-the_row-State-0}
 use Rattle.sf_state.specs.declared.state.Live.TheVariants.{Pipeline as LPipeline}
-use Rattle.sf_state.specs.Standing.{is_closure, IsNames, Stands, unborn, alive, settles, Ready, ready, lives_pipeline, IsPipeline, is_stages, is_sequence, StagesStand, last_stands, stage_stands}
+use Rattle.sf_state.specs.Standing.{is_closure, IsNames, Stands, itself, took_over, unborn, alive, watching, waits_so, settles, Ready, ready, lives_pipeline, IsPipeline, is_stages, is_sequence, StagesStand, last_stands, stage_stands}
 use Rattle.sf_state.proofs.Copies.{pipeline_lives}
 use Rattle.sf_step.specs.declared.meter.Meter.{Meter}
+use Rattle.sf_step.specs.declared.sample.Opened.TheVariants as opened
 use Rattle.sf_step.specs.Sampling.{Rel, Ticks, StopsFor, Answers, answers, fails, StateSteps, LiveSteps, Opens, opens, AllBegin, none_begin, more_begin}
 use Rattle.sf_step.proofs.Parts.{Over, counted, Then, then_on, then_stop, Alike, over_spent, both_spent, fails_alike, over_fails, then_fails, rest_fails, answered, failed}
 use Rattle.sf_step.proofs.Forms.{single_gives, gave_outputs, form_alike, gives_form}
@@ -96,8 +97,10 @@ module _ (φ : AnswersByName) (p : Plan) where
   Gave P L = (ys : List Data) × Outputs net P L ys
 
   state_gave : {a : State} {P : Process} {L : Life} → Stands φ p a P L → Gave P L
-  state_gave (unborn Q) = ([], not_begun)
-  state_gave (alive N (settles (ready h O K))) = (_, O)
+  state_gave (itself (unborn Q)) = ([], not_begun)
+  state_gave (itself (alive N (settles (ready h O K)))) = (_, O)
+  state_gave (itself (watching N (waits_so S O A))) = (_, O)
+  state_gave (took_over S O A) = (_, O)
 
   stages_gave : {bs : List State} {u : Term} {e : Environment} {L : Life} → StagesStand φ p bs u e L → Gave (closure u e) L
   stages_gave (last_stands A) = state_gave A
@@ -220,16 +223,16 @@ module _ (φ : AnswersByName) (p : Plan) where
   begin_stand i [] bs e (more_begin A none_begin) = last_stands A
   begin_stand i (j ∷ ids) bs e (more_begin A B) = stage_stands not_begun A (begin_stand j ids _ e B)
 
-  open_pipeline : (ids : List PlanId) (w : Vec State Global) (e : Environment) → IsTrue (nat_le 2 (length ids)) → AllBegin φ p e ids w.items → Opens φ p (pipeline (map (λ j. plan_tree p j) ids)) e (Ok (LPipeline w))
+  open_pipeline : (ids : List PlanId) (w : Vec State Global) (e : Environment) → IsTrue (nat_le 2 (length ids)) → AllBegin φ p e ids w.items → Opens φ p (pipeline (map (λ j. plan_tree p j) ids)) e (Ok (opened.Live (LPipeline w)))
   open_pipeline [] w e two B = absurd cc
   open_pipeline (i ∷ []) w e two B = absurd cc
   open_pipeline (i ∷ j ∷ ids) w e two B = opens (λ x. ready refl not_begun (pipeline_lives φ p w is_stages (begin_stand i (j ∷ ids) w.items e B)))
 
-  pub open_staged : (v : Vec PlanId Global) (t : Term) (w : Vec State Global) (e : Environment) → BuildsPlan p (NPipeline v) t → AllBegin φ p e v.items w.items → Opens φ p t e (Ok (LPipeline w))
+  pub open_staged : (v : Vec PlanId Global) (t : Term) (w : Vec State Global) (e : Environment) → BuildsPlan p (NPipeline v) t → AllBegin φ p e v.items w.items → Opens φ p t e (Ok (opened.Live (LPipeline w)))
   open_staged v t w e (builds_pipeline two) B = open_pipeline v.items w e two B
 
   -- a sequence is a pipeline of two stages
-  pub open_sequence : (a b : PlanId) (w : Vec State Global) (e : Environment) → AllBegin φ p e (a ∷ b ∷ []) w.items → Opens φ p (joined InSequence (plan_tree p a) (plan_tree p b)) e (Ok (LPipeline w))
+  pub open_sequence : (a b : PlanId) (w : Vec State Global) (e : Environment) → AllBegin φ p e (a ∷ b ∷ []) w.items → Opens φ p (joined InSequence (plan_tree p a) (plan_tree p b)) e (Ok (opened.Live (LPipeline w)))
   open_sequence a b w e B = opens (λ x. ready refl not_begun (pipeline_lives φ p w is_sequence (begin_stand a (b ∷ []) w.items e B)))
 
   -- one more stage begins
@@ -240,4 +243,4 @@ module _ (φ : AnswersByName) (p : Plan) where
   pub begin_next : (ids : List PlanId) (k : ℕ) (names : Env) (bs cs : List State) (e : Environment) (d : PlanId) → AllBegin φ p e (take k ids) bs → k < length ids → IsNames p names e → cs ≡ bs ++ Unborn (SClosure (get_or ids k d) names) ∷ [] → AllBegin φ p e (take (k + 1) ids) cs
   begin_next ids k names bs cs e d B short N same =
       let more : k + 1 ≡ suc k = omega arith in
-      rw (ap (λ j. take j ids) more ∙ take-suc ids k d short, same) (begin_push _ _ _ _ e B (unborn (is_closure N)))
+      rw (ap (λ j. take j ids) more ∙ take-suc ids k d short, same) (begin_push _ _ _ _ e B (itself (unborn (is_closure N))))

@@ -1,5 +1,5 @@
 -- What the parts of a sample answer.
-use Rattle.std.specs.Prelude.{◌≡◌, ℕ, ◌+◌, ◌≤◌, max, List, [], ◌∷◌, ◌++◌, ◌⊎◌, Result, Ok, Err}
+use Rattle.std.specs.Prelude.{◌≡◌, ℕ, ◌+◌, ◌≤◌, max, List, [], ◌∷◌, ◌++◌, ◌⊎◌, Option, Some, None, Result, Ok, Err}
 use Rattle.sf_value.specs.Values.{Data}
 use Rattle.sf_value.specs.declared.fault.ValueFault.{ValueFault}
 use Rattle.sf_value.specs.declared.fault.Fault.{Fault}
@@ -15,7 +15,11 @@ use Rattle.sf_law.specs.declared.node.PlanId.{PlanId}
 use Rattle.sf_law.specs.Arena.{plan_tree, network_of_plan}
 use Rattle.sf_state.specs.declared.state.State.{State}
 use Rattle.sf_state.specs.declared.state.Live.{Live}
-use Rattle.sf_state.specs.Standing.{Stands, Settles, Ready}
+use Rattle.sf_state.specs.declared.state.Switch.{Switch}
+use Rattle.sf_state.specs.declared.env.Env.{Env}
+use Rattle.sf_state.specs.Standing.{IsNames, Stands, Settles, Waits, Ready}
+use Rattle.sf_step.specs.declared.sample.Opened.{Opened}
+use Rattle.sf_step.specs.declared.sample.Opened.TheVariants as opened
 use Rattle.sf_step.specs.declared.meter.Meter.{Meter}
 use Rattle.sf_step.specs.Meters.{entered_of, height_of}
 
@@ -78,19 +82,44 @@ pub data Answers {A : Type 0} (view : A → Data) (after : A → Type 0) (R : Re
       → R (gave (view a) r) k → Spent m n depth k r → after a → Answers view after R (Ok a) m n depth
   fails : {f : Fault} {m n : Meter} {depth : ℕ} → StopsFor R f m n depth → Answers view after R (Err f) m n depth
 
+-- what a process gives after a life is answered, and what is left stands for it
+abbrev pub PartSteps : AnswersByName → Plan → Process → Life → Step → Result (State × Data) Fault → Meter → Meter → ℕ → Type 0
+PartSteps φ p P L s result m n depth = Answers (λ y. y.1) (λ y. Stands φ p y.0 P (s ∷ L)) (Gives (network_of_plan φ p) P (s ∷ L)) result m n depth
+
 -- a part steps to the outcome of its process on the longer life
 abbrev pub StateSteps : AnswersByName → Plan → State → Step → Result (State × Data) Fault → Meter → Meter → ℕ → Type 0
-StateSteps φ p a s result m n depth = (P : Process) (L : Life) → Stands φ p a P L
-    → Answers (λ y. y.1) (λ y. Stands φ p y.0 P (s ∷ L)) (Gives (network_of_plan φ p) P (s ∷ L)) result m n depth
+StateSteps φ p a s result m n depth = (P : Process) (L : Life) → Stands φ p a P L → PartSteps φ p P L s result m n depth
 
 -- a live part that counted between m and n steps likewise, where its parts stand inside so many nodes
 abbrev pub LiveSteps : AnswersByName → Plan → Live → Step → Result (Live × Data) Fault → Meter → Meter → ℕ → Type 0
 LiveSteps φ p l s result n n' inside = (m : Meter) (depth : ℕ) → Ticks m n depth inside → (P : Process) (L : Life) → Ready φ p l P (first_input s L) L
     → Answers (λ y. y.1) (λ y. Settles φ p y.0 P (s ∷ L)) (Gives (network_of_plan φ p) P (s ∷ L)) result m n' depth
 
--- a live part before its first sample, or the fault of its constants
-pub data Opens (φ : AnswersByName) (p : Plan) (t : Term) (e : Environment) : Result Live Fault → Type 0 where
-  opens : {l : Live} → ((x : Data) → Ready φ p l (closure t e) x []) → Opens φ p t e (Ok l)
+-- what a step of a switch left in place, beside what takes over from it, or the fault that stands in the meter
+abbrev pub left_beside : {E : Type 0} → Result (Option State) E → Switch → Data → Fault → Result ((Option State × Switch) × Data) Fault
+left_beside (Ok o) s d f = Ok ((o, s), d)
+left_beside (Err e) s d f = Err f
+
+-- what takes over from a switch stands for it; without that, it waits
+abbrev pub StandsFor : AnswersByName → Plan → Option State → Switch → Process → Life → Type 0
+StandsFor φ p (Some a) s P L = Stands φ p a P L
+StandsFor φ p None s P L = Waits φ p s P L
+
+-- a switch with names around it, which counted between m and n, steps to the outcome of its process on the longer life, where
+-- its parts stand inside so many nodes
+abbrev pub SwitchSteps : AnswersByName → Plan → Env → Switch → Step → Result ((Option State × Switch) × Data) Fault → Meter → Meter → ℕ → Type 0
+SwitchSteps φ p names w s result n n' inside = (m : Meter) (depth : ℕ) → Ticks m n depth inside → (t : Term) (e : Environment) (L : Life) → IsNames p names e → Waits φ p w (closure t e) L
+    → Answers (λ y. y.1) (λ y. StandsFor φ p y.0.0 y.0.1 (closure t e) (s ∷ L)) (Gives (network_of_plan φ p) (closure t e) (s ∷ L)) result m n' depth
+
+-- the same where it hasn't counted, and stands inside so many nodes
+abbrev pub WatchSteps : AnswersByName → Plan → Env → Switch → Step → Result ((Option State × Switch) × Data) Fault → Meter → Meter → ℕ → Type 0
+WatchSteps φ p names w s result m n depth = (t : Term) (e : Environment) (L : Life) → IsNames p names e → Waits φ p w (closure t e) L
+    → Answers (λ y. y.1) (λ y. StandsFor φ p y.0.0 y.0.1 (closure t e) (s ∷ L)) (Gives (network_of_plan φ p) (closure t e) (s ∷ L)) result m n depth
+
+-- a part before its first sample, or the fault of its constants
+pub data Opens (φ : AnswersByName) (p : Plan) (t : Term) (e : Environment) : Result Opened Fault → Type 0 where
+  opens : {l : Live} → ((x : Data) → Ready φ p l (closure t e) x []) → Opens φ p t e (Ok (opened.Live l))
+  opens_watching : {s : Switch} → Waits φ p s (closure t e) [] → Opens φ p t e (Ok (opened.Switch s))
   opens_with_fault : {x : ValueFault} → ((s : Step) → Gives (network_of_plan φ p) (closure t e) (s ∷ []) (faulted x) (text_cost t)) → Opens φ p t e (Err (Value x))
   opens_without_memory : Opens φ p t e (Err Memory)
 

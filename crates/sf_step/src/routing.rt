@@ -1,14 +1,16 @@
 //! What values are taken apart into, and what forms with one part keep at first.
 ghost use Rattle.std.specs.Prelude.{◌≡◌, [], IfOk};
+ghost use Rattle.std.specs.Option.{option_map};
 ghost use Rattle.sf_value.specs.Values.{first_of, second_of};
 ghost use Rattle.sf_expr.specs.Expressions.{Expression};
 ghost use Rattle.sf_term.specs.Trees.{Term, sided, headed};
 ghost use Rattle.sf_mean.specs.Lives.{Environment};
-ghost use Rattle.sf_mean.specs.Meaning.{Network, Made, value_made};
+ghost use Rattle.sf_mean.specs.Formulas.{occurring};
+ghost use Rattle.sf_mean.specs.Meaning.{Network, Made, value_made, switched_value};
 ghost use Rattle.sf_state.specs.Standing.{Wraps};
 
 use sf_state::Wrap;
-use sf_term::{Heading, Side};
+use sf_term::{Heading, Side, Switching};
 use sf_value::{Form, Value};
 use std::alloc::{AllocError, Global};
 use std::mem;
@@ -48,6 +50,26 @@ pub(crate) fn parts(alloc: Global, pair: Value) -> Result<(Value, Value), AllocE
     let mut pair = pair;
     let (first, second) = halves(alloc, &mut pair)?;
     Ok((taken(alloc, first)?, taken(alloc, second)?))
+}
+
+/// The payload of an event that occurs, which may be shared; none of another value.
+pub(crate) fn payload_of(event: Value) -> Option<Rc<Value>>
+    ensures { option_map (λ x. x.value) result ≡ occurring event }
+{
+    match event.into_form() {
+        Form::Event(payload) => Some(payload),
+        _ => None,
+    }
+}
+
+/// The value at the step of a switch's event, from that of its source and that of its body.
+pub(crate) fn switched(form: Switching, old: Value, new: Value) -> Value
+    ensures { result ≡ switched_value form old new }
+{
+    match form {
+        Switching::Switch => new,
+        Switching::DSwitch => old,
+    }
 }
 
 // The value, moved where this is its only owner.

@@ -6,23 +6,23 @@ ghost use Rattle.sf_expr.specs.Evaluation.{answer};
 ghost use Rattle.sf_law.specs.declared.plan.Plan.{Plan as PlanOf};
 ghost use Rattle.sf_term.specs.Trees.{Term, joined as joined_term};
 ghost use Rattle.sf_law.specs.Arena.{plan_tree, network_of_plan};
-ghost use Rattle.sf_mean.specs.Lives.{step, Life, Process as ProcessOf, Environment};
+ghost use Rattle.sf_mean.specs.Lives.{step, closure, Life, Process as ProcessOf, Environment};
 ghost use Rattle.sf_mean.specs.Meaning.{Made, make};
-ghost use Rattle.sf_state.specs.Standing.{Stands, IsNames, Wraps};
+ghost use Rattle.sf_state.specs.Standing.{Stands, IsNames, Waits, Wraps, closed_over};
+ghost use Rattle.sf_step.specs.declared.meter.Meter.{Meter as MeterOf};
 ghost use Rattle.sf_step.specs.Contexts.{plan_in, dt_in};
 ghost use Rattle.sf_step.specs.Meters.{entered_of, height_of, fault_of as fault_in};
-ghost use Rattle.sf_step.specs.Sampling.{fault_from, Opens, AllBegin, StateSteps, LiveSteps, left_or};
+ghost use Rattle.sf_step.specs.Sampling.{fault_from, Opens, AllBegin, Ticks, PartSteps, StateSteps, LiveSteps, SwitchSteps, WatchSteps, left_or, left_beside};
 ghost use Rattle.sf_step.specs.Stepping.{Steps};
 
 use crate::context::SampleContext;
 use crate::meter::{Meter, Stop};
-use crate::routing::{halves, on_side, parts, unshare_half, with_head};
-use sf_code::evaluate;
+use crate::routing::{halves, on_side, parts, payload_of, switched, unshare_half, with_head};
 use sf_func::Holds;
 use sf_law::{Plan, PlanId, PlanNode};
 use sf_operator::EvalFault;
-use sf_prim::PrimState;
-use sf_state::{Env, Live, Process, State, Wrap, unshare};
+use sf_prim::{PrimState, constant};
+use sf_state::{Env, Live, NamesIn, Process, State, Switch, Wrap, unshare, unshare_switch};
 use sf_term::Join;
 use sf_value::{Fault, Value};
 use std::alloc::{AllocError, Global};
@@ -91,13 +91,21 @@ fn step_state<R: Holds>(
                 None => Err(meter.stop(Fault::Memory)),
             }
         }
-        State::Unborn(process) => match process {
-            Process::Closure(term, names) => {
-                let term = *term;
-                let names = mem::replace(names, Env::Empty);
-                start(context, state, term, names, depth, value, meter)
+        State::Switch(names, node) => {
+            let over = step_watching(context, names, node, depth, value, meter)?;
+            match over {
+                Some(body) => {
+                    *state = body;
+                    Ok(())
+                }
+                None => Ok(()),
             }
-        },
+        }
+        State::Unborn(process) => {
+            let term = process.term;
+            let names = mem::replace(&mut process.names, Env::Empty);
+            start(context, state, term, names, depth, value, meter)
+        }
     }
 }
 
@@ -115,12 +123,12 @@ fn start<R: Holds>(
     meter: &mut Meter,
 ) -> Result<(), Stop>
     ensures grows { entered_of meter.old ≤ entered_of meter.new }
-    ensures answers { StateSteps (R.answers context.now.functions.now) (plan_in context.now) (State.Unborn (Process.Closure term names)) (step (dt_in context.now) value.old)
+    ensures answers { StateSteps (R.answers context.now.functions.now) (plan_in context.now) (State.Unborn (closed_over term names)) (step (dt_in context.now) value.old)
         (left_or result (state.new, value.new) (fault_in meter.new)) meter.old meter.new depth }
 {
     let inside = meter.tick(depth)?;
     match open(context, term, &names) {
-        Ok(live) => {
+        Ok(Opened::Live(live)) => {
             let mut live = live;
             step_live(context, &mut live, inside, value, meter)?;
             let Ok(node) = Rc::new(context.alloc, live) else {
@@ -129,7 +137,113 @@ fn start<R: Holds>(
             *state = State::Live(names, node);
             Ok(())
         }
+        Ok(Opened::Switch(switch)) => {
+            start_switch(context, state, switch, names, inside, value, meter)
+        }
         Err(fault) => Err(meter.stop(fault)),
+    }
+}
+
+// The first sample of a switch with the names around it, which has been counted, likewise.
+#[cycle(step)]
+fn start_switch<R: Holds>(
+    context: &SampleContext<R>,
+    state: &mut State,
+    switch: Switch,
+    names: Env,
+    inside: u64,
+    value: &mut Value,
+    meter: &mut Meter,
+) -> Result<(), Stop>
+    ensures grows { entered_of meter.old ≤ entered_of meter.new }
+    ensures answers { (m : MeterOf) (depth : ℕ) → Ticks m meter.old depth inside → (t : Term) (e : Environment) → IsNames (plan_in context.now) names e →
+        Waits (R.answers context.now.functions.now) (plan_in context.now) switch (closure t e) [] →
+        PartSteps (R.answers context.now.functions.now) (plan_in context.now) (closure t e) [] (step (dt_in context.now) value.old)
+        (left_or result (state.new, value.new) (fault_in meter.new)) m meter.new depth }
+{
+    let mut switch = switch;
+    let over = step_switch(context, &mut switch, &names, inside, value, meter)?;
+    match over {
+        Some(body) => {
+            *state = body;
+            Ok(())
+        }
+        None => {
+            let Ok(node) = Rc::new(context.alloc, switch) else {
+                return Err(meter.stop(Fault::Memory));
+            };
+            *state = State::Switch(names, node);
+            Ok(())
+        }
+    }
+}
+
+// The next sample of a switch that waits and stands inside `depth` nodes: what takes over from it, if its event is there.
+#[cycle(step)]
+#[inline(never)]
+fn step_watching<R: Holds>(
+    context: &SampleContext<R>,
+    names: &Env,
+    node: &mut Rc<Switch>,
+    depth: u64,
+    value: &mut Value,
+    meter: &mut Meter,
+) -> Result<Option<State>, Stop>
+    ensures grows { entered_of meter.old ≤ entered_of meter.new }
+    ensures answers { WatchSteps (R.answers context.now.functions.now) (plan_in context.now) names.now node.old.value (step (dt_in context.now) value.old)
+        (left_beside result node.new.value value.new (fault_in meter.new)) meter.old meter.new depth }
+{
+    let inside = meter.tick(depth)?;
+    let Ok(()) = unshare_switch(context.alloc, node) else {
+        return Err(meter.stop(Fault::Memory));
+    };
+    match Rc::get_mut(node) {
+        Some(switch) => step_switch(context, switch, names, inside, value, meter),
+        None => Err(meter.stop(Fault::Memory)),
+    }
+}
+
+// The next sample of a switch that waits, which has been counted and whose parts stand inside `inside` nodes, likewise.
+#[cycle(step)]
+#[inline(never)]
+fn step_switch<R: Holds>(
+    context: &SampleContext<R>,
+    switch: &mut Switch,
+    names: &Env,
+    inside: u64,
+    value: &mut Value,
+    meter: &mut Meter,
+) -> Result<Option<State>, Stop>
+    ensures grows { entered_of meter.old ≤ entered_of meter.new }
+    ensures answers { SwitchSteps (R.answers context.now.functions.now) (plan_in context.now) names.now switch.old (step (dt_in context.now) value.old)
+        (left_beside result switch.new value.new (fault_in meter.new)) meter.old meter.new inside }
+{
+    let Ok(mut output) = value.clone_in(context.alloc) else {
+        return Err(meter.stop(Fault::Memory));
+    };
+    step_state(context, &mut switch.source, inside, value, meter)?;
+    let both = mem::replace(value, Value::int(0));
+    let Ok((shown, event)) = parts(context.alloc, both) else {
+        return Err(meter.stop(Fault::Memory));
+    };
+    match payload_of(event) {
+        None => {
+            *value = shown;
+            Ok(None)
+        }
+        Some(payload) => {
+            let Ok(around) = names.inside(context.alloc, switch.pattern, payload) else {
+                return Err(meter.stop(Fault::Memory));
+            };
+            let term = switch.body;
+            let mut body = State::Unborn(Process {
+                term,
+                names: around,
+            });
+            step_state(context, &mut body, inside, &mut output, meter)?;
+            *value = switched(switch.form, shown, output);
+            Ok(Some(body))
+        }
     }
 }
 
@@ -321,33 +435,66 @@ fn step_prim<R: Holds>(
     }
 }
 
+/// A part before its first sample.
+#[derive(Drop)]
+pub(crate) enum Opened {
+    /// One that goes on as it is.
+    Live(Live),
+    /// A switch.
+    Switch(Switch),
+}
+
 // A term before its first sample, with the names around it.
-fn open<R: Holds>(context: &SampleContext<R>, term: PlanId, names: &Env) -> Result<Live, Fault>
+fn open<R: Holds>(context: &SampleContext<R>, term: PlanId, names: &Env) -> Result<Opened, Fault>
     ensures { (e : Environment) → IsNames (plan_in context.now) names.now e →
         Opens (R.answers context.now.functions.now) (plan_in context.now) (plan_tree (plan_in context.now) term) e result }
 {
+    let exprs = context.plan.expressions();
+    let around = NamesIn {
+        expressions: exprs,
+        names,
+    };
     match context.plan.node(term) {
         PlanNode::Primitive(primitive) => {
-            match PrimState::born(context.alloc, primitive, context.functions) {
-                Ok(prim) => Ok(Live::Prim(prim)),
+            match PrimState::born(context.alloc, exprs, primitive, context.functions, &around) {
+                Ok(prim) => Ok(Opened::Live(Live::Prim(prim))),
                 Err(fault) => Err(fault_of(fault)),
             }
         }
-        PlanNode::Joined(join, left, right) => Ok(joined(
-            context.alloc,
-            *join,
-            *left,
-            *right,
-            names,
-        )?),
-        PlanNode::Sided(side, part) => around(on_side(*side), *part, names),
-        PlanNode::Headed(heading, _, code, part) => {
-            match evaluate(context.alloc, code, context.functions) {
-                Ok(head) => around(with_head(*heading, head), *part, names),
+        PlanNode::Joined(join, left, right) => {
+            let both = joined(context.alloc, *join, *left, *right, names)?;
+            Ok(Opened::Live(both))
+        }
+        PlanNode::Sided(side, part) => wrapped(on_side(*side), *part, names),
+        PlanNode::Headed(heading, value, code, part) => {
+            match constant(
+                context.alloc,
+                exprs,
+                *value,
+                code,
+                context.functions,
+                &around,
+            ) {
+                Ok(head) => wrapped(with_head(*heading, head), *part, names),
                 Err(fault) => Err(fault_of(fault)),
             }
         }
-        PlanNode::Pipeline(stages) => Ok(Live::Pipeline(begin_all(context.alloc, stages, names)?)),
+        PlanNode::Switching(form, source, pattern, body) => {
+            let shared = names.share()?;
+            Ok(Opened::Switch(Switch {
+                form: *form,
+                source: State::Unborn(Process {
+                    term: *source,
+                    names: shared,
+                }),
+                pattern: *pattern,
+                body: *body,
+            }))
+        }
+        PlanNode::Pipeline(stages) => {
+            let begun = begin_all(context.alloc, stages, names)?;
+            Ok(Opened::Live(Live::Pipeline(begun)))
+        }
     }
 }
 
@@ -360,15 +507,21 @@ fn joined(
     names: &Env,
 ) -> Result<Live, AllocError>
     ensures { IfOk result (λ live. (φ : AnswersByName) (p : PlanOf) (e : Environment) → IsNames p names.now e →
-        Opens φ p (joined_term join (plan_tree p left) (plan_tree p right)) e (Ok live)) }
+        Opens φ p (joined_term join (plan_tree p left) (plan_tree p right)) e (Ok (Opened.Live live))) }
 {
     match join {
         Join::InSequence => Ok(Live::Pipeline(begin_all(alloc, &[left, right], names)?)),
         _ => {
             let one = names.share()?;
             let two = names.share()?;
-            let first = State::Unborn(Process::Closure(left, one));
-            let second = State::Unborn(Process::Closure(right, two));
+            let first = State::Unborn(Process {
+                term: left,
+                names: one,
+            });
+            let second = State::Unborn(Process {
+                term: right,
+                names: two,
+            });
             Ok(Live::Join(join, first, second))
         }
     }
@@ -381,19 +534,26 @@ fn begin_all(alloc: Global, stages: &[PlanId], names: &Env) -> Result<Vec<State>
     let mut begun = Vec::with_capacity(alloc, stages.len())?;
     for stage in stages {
         let around = names.share()?;
-        begun.push(State::Unborn(Process::Closure(*stage, around)))?;
+        begun.push(State::Unborn(Process {
+            term: *stage,
+            names: around,
+        }))?;
     }
     Ok(begun)
 }
 
 // A form with one part, before its first sample.
-fn around(wrap: Wrap, part: PlanId, names: &Env) -> Result<Live, Fault>
+fn wrapped(wrap: Wrap, part: PlanId, names: &Env) -> Result<Opened, Fault>
     ensures { (φ : AnswersByName) (p : PlanOf) (t : Term) (e : Environment) (m : Made) → IsNames p names.now e →
         ((x : Data) → make (network_of_plan φ p) t e x ≡ answer m) → Wraps (network_of_plan φ p) wrap t e m [] (plan_tree p part) [] →
         Opens φ p t e result }
 {
     let inner = names.share()?;
-    Ok(Live::Wrap(wrap, State::Unborn(Process::Closure(part, inner))))
+    let part = State::Unborn(Process {
+        term: part,
+        names: inner,
+    });
+    Ok(Opened::Live(Live::Wrap(wrap, part)))
 }
 
 // The fault of an expression, as that of the sample.

@@ -1,5 +1,5 @@
 -- What builders keep of a program.
-use Rattle.std.proofs.Common.{◌≡◌, ℕ, zero, suc, max, ◌<◌, ◌≤◌, List, [], ◌∷◌, ◌++◌, length, get_or, map, Bool, true, false, cond, Result, Ok, Err, IfOk, OnOk, OnErr, refl, sym, ◌∙◌, ap, subst, arith, ◌⊎◌, inl, inr, All}
+use Rattle.std.proofs.Common.{◌≡◌, ◌↔◌, ℕ, zero, suc, max, ◌<◌, ◌≤◌, List, [], ◌∷◌, ◌++◌, length, get_or, map, Bool, true, false, cond, Result, Ok, Err, IfOk, OnOk, OnErr, refl, sym, ◌∙◌, ap, subst, arith, ◌⊎◌, inl, inr, All}
 use mathlib.Core.Path.{ap₂}
 use Rattle.std.proofs.lemmas.List.{map-append, get_or_past}
 use Rattle.std.proofs.lemmas.Bool.{cases_lt}
@@ -17,38 +17,43 @@ use Rattle.sf_expr.specs.declared.exprs.ConstantId.{ConstantId}
 use Rattle.sf_value.specs.Values.{Name}
 use Rattle.sf_expr.specs.declared.exprs.ExprNode.{ExprNode}
 use Rattle.sf_expr.specs.declared.exprs.Exprs.{Exprs}
-use Rattle.sf_expr.specs.Patterns.{PlacedPattern}
+use Rattle.sf_expr.specs.Patterns.{PlacedPattern, pattern_of}
 use Rattle.sf_expr.specs.Expressions.{Literal, Expression}
-use Rattle.sf_expr.specs.Arena.{expression, count_of, function_count, Holds, HoldsFunction as HoldsFunctionIn, function_at, pattern_at as pattern_at_in, body_at as body_at_in, node_at as value_node_at, spot_at as value_spot_at, Keeps as KeepsExpressions, Adds as AddsToExpressions, AddsName, AddsConstant, HoldsPattern, placed_at, next_pattern, AddsPattern, expression_of, AddsFunction as AddsFunctionIn, IsUnchanged as ExpressionsUnchanged}
-use Rattle.sf_expr.proofs.Entered.{below_holds, holds_below, below_function, function_below, pattern_below, below_pattern, few_expressions, adds_keeps as expressions_kept, unchanged_keeps as unchanged_expressions_kept}
+use Rattle.sf_expr.specs.Arena.{expression, count_of, function_count, constant_count, pattern_count, Holds, HoldsFunction as HoldsFunctionIn, function_at, pattern_at as pattern_at_in, body_at as body_at_in, node_at as value_node_at, spot_at as value_spot_at, Keeps as KeepsExpressions, Adds as AddsToExpressions, AddsName, AddsConstant, HoldsPattern, placed_at, next_pattern, AddsPattern, expression_of, AddsFunction as AddsFunctionIn, IsUnchanged as ExpressionsUnchanged}
+use Rattle.sf_expr.proofs.Entered.{below_holds, holds_below, below_function, function_below, constant_below, below_constant, pattern_below, below_pattern, few_expressions, adds_keeps as expressions_kept, unchanged_keeps as unchanged_expressions_kept}
 use Rattle.sf_term.specs.declared.refusal.BuildRefusal.{BuildRefusal}
+use Rattle.sf_term.specs.declared.refusal.BuildRefusal.TheVariants.{TooDeep}
 use Rattle.sf_term.specs.declared.node.TermId.{TermId}
 use Rattle.sf_term.specs.declared.node.Primitive.TheVariants as primitives
 use Rattle.sf_term.specs.declared.node.Node.{Node}
 use Rattle.sf_term.specs.declared.node.Node.TheVariants as nodes
 use Rattle.sf_term.specs.declared.program.Program.{Program}
-use Rattle.sf_term.specs.Trees.{Term, Template, term_depth}
+use Rattle.sf_term.specs.declared.form.Switching.{Switching}
+use Rattle.sf_term.specs.Trees.{Term, switching, Template, term_depth}
 use Rattle.sf_term.specs.Headers.{Header, bodies_end}
-use Rattle.sf_term.specs.Entries.{identity_term, term_over, needs_terms, needs_expressions, needs_functions, identity_entry, term_entry, term_made, terms_made, term_entered}
+use Rattle.sf_term.specs.Entries.{identity_term, term_over, needs_terms, needs_expressions, needs_functions, constants_needed, patterns_needed, identity_entry, term_entry, term_made, terms_made, term_entered}
 use Rattle.sf_term.specs.Arena.{term_number, expressions_of, term_count, expression_count, HoldsTerm, HoldsExpression, ProgramHoldsFunction, HoldsPatternIn, function_pattern_at, function_body_at, pattern_under, function_in, tree, expression_under, term_entry_of, term_node_at, expression_node_at, term_spot_at, expression_spot_at, term_of, headers_of, template_in, TermPartsBelow, HoldsTermParts, KeepsTrees, KeepsProgram, AddsTerm, AddsExpression, AddsProgramFunction, AddsTemplate, IsSameProgram}
 use Rattle.sf_term.proofs.Entered.{term-built, term-same}
 
 -- what a node needs is there where its parts are held
-pub parts_needed : (p : Program) (n : Node) → HoldsTermParts p n → (needs_terms n ≤ length (entries_of p.terms)) × (needs_expressions n ≤ count_of p.expressions) × (needs_functions n ≤ function_count p.expressions)
-unfolding HoldsTerm HoldsExpression ProgramHoldsFunction
-parts_needed p (nodes.Primitive (primitives.Bare k)) h = (omega arith, omega arith, omega arith)
-parts_needed p (nodes.Primitive (primitives.WithValue k e)) h = (omega arith, omega (arith, holds_below p.expressions e h), omega arith)
-parts_needed p (nodes.Primitive (primitives.Timed k q e)) h = (omega arith, omega (arith, holds_below p.expressions e h), omega arith)
-parts_needed p (nodes.Primitive (primitives.Arrow f)) h = (omega arith, omega arith, omega (arith, function_below p.expressions f h))
-parts_needed p (nodes.Primitive (primitives.Accumulated k e f)) h = (omega arith, omega (arith, holds_below p.expressions e h.0), omega (arith, function_below p.expressions f h.1))
-parts_needed p (nodes.Joined j a b) h = (omega arith, omega arith, omega arith)
-parts_needed p (nodes.Sided d a) h = (omega arith, omega arith, omega arith)
-parts_needed p (nodes.Headed q e a) h = (omega arith, omega (arith, holds_below p.expressions e h.0), omega arith)
+pub parts_needed : (p : Program) (n : Node) → HoldsTermParts p n → (needs_terms n ≤ length (entries_of p.terms)) × (needs_expressions n ≤ count_of p.expressions) × (needs_functions n ≤ function_count p.expressions) × (patterns_needed n ≤ pattern_count p.expressions) × (constants_needed n ≤ constant_count p.expressions)
+unfolding expressions_of HoldsTerm HoldsExpression ProgramHoldsFunction HoldsPatternIn
+parts_needed p (nodes.Primitive (primitives.Bare k)) h = (omega arith, omega arith, omega arith, omega arith, omega arith)
+parts_needed p (nodes.Primitive (primitives.Never n)) h = (omega arith, omega arith, omega arith, omega arith, omega (arith, constant_below p.expressions n h))
+parts_needed p (nodes.Primitive (primitives.WithValue k e)) h = (omega arith, omega (arith, holds_below p.expressions e h), omega arith, omega arith, omega arith)
+parts_needed p (nodes.Primitive (primitives.Timed k q e)) h = (omega arith, omega (arith, holds_below p.expressions e h), omega arith, omega arith, omega arith)
+parts_needed p (nodes.Primitive (primitives.Arrow f)) h = (omega arith, omega arith, omega (arith, function_below p.expressions f h), omega arith, omega arith)
+parts_needed p (nodes.Primitive (primitives.Accumulated k e f)) h = (omega arith, omega (arith, holds_below p.expressions e h.0), omega (arith, function_below p.expressions f h.1), omega arith, omega arith)
+parts_needed p (nodes.Joined j a b) h = (omega arith, omega arith, omega arith, omega arith, omega arith)
+parts_needed p (nodes.Sided d a) h = (omega arith, omega arith, omega arith, omega arith, omega arith)
+parts_needed p (nodes.Headed q e a) h = (omega arith, omega (arith, holds_below p.expressions e h.0), omega arith, omega arith, omega arith)
+parts_needed p (nodes.Switching w a q b) h = (omega (arith, h.0, h.2), omega arith, omega arith, omega (arith, pattern_below p.expressions q h.1), omega arith)
 
 -- a node stands for the term that is made over the terms before it
 pub node-made : (p : Program) (n : Node) → term_of p n ≡ term_over p.expressions (terms_made p.expressions (entries_of p.terms)) n
-unfolding tree expression_under function_pattern_at function_body_at tree_at
+unfolding expressions_of tree expression_under function_pattern_at function_body_at pattern_under tree_at
 node-made p (nodes.Primitive (primitives.Bare k)) = refl
+node-made p (nodes.Primitive (primitives.Never n)) = refl
 node-made p (nodes.Primitive (primitives.WithValue k e)) = refl
 node-made p (nodes.Primitive (primitives.Timed k q e)) = refl
 node-made p (nodes.Primitive (primitives.Arrow f)) = refl
@@ -56,6 +61,7 @@ node-made p (nodes.Primitive (primitives.Accumulated k e f)) = refl
 node-made p (nodes.Joined j a b) = refl
 node-made p (nodes.Sided d a) = refl
 node-made p (nodes.Headed h e a) = refl
+node-made p (nodes.Switching w a q b) = refl
 
 -- a node stands for the term at its id
 pub builds : (p : Program) (t : TermId) → tree p t ≡ term_of p (term_entry_of p t).node
@@ -77,6 +83,7 @@ parts_below p t = of_node (term_entry (entries_of p.terms) t.0).node (p.arena.in
     of_node (nodes.Joined j a b) h = (omega arith, omega arith)
     of_node (nodes.Sided d a) h = omega arith
     of_node (nodes.Headed q e a) h = omega arith
+    of_node (nodes.Switching w a q b) h = (omega arith, omega arith)
 
 -- the templates are the same where the trees are
 templates-same : (old new : Program) (hs : List Header) → bodies_end hs ≤ length (entries_of old.terms) → KeepsTrees old new → map (template_in new) hs ≡ map (template_in old) hs
@@ -141,7 +148,7 @@ unfolding HoldsTerm HoldsExpression ProgramHoldsFunction HoldsPatternIn tree ter
 grown_keeps old new k e = record {
   terms = λ t h. omega (arith, ap length e);
   nodes = λ t h. ap (λ es. (term_entry es t.0).node) e;
-  trees = λ t h. ap (λ es. term_entered new.expressions es t.0) e ∙ term-same old.expressions new.expressions (entries_of old.terms) t.0 k old.arena.closed old.arena.functions_closed;
+  trees = λ t h. ap (λ es. term_entered new.expressions es t.0) e ∙ term-same old.expressions new.expressions (entries_of old.terms) t.0 k old.arena.closed old.arena.functions_closed old.arena.patterns_closed old.arena.constants_closed;
   spots = λ t h. ap (λ es. (term_entry es t.0).spot) e;
   expressions = λ x h. k.holds x h;
   value_nodes = λ x h. k.nodes x h;
@@ -221,7 +228,7 @@ unchanged old new x terms headers = record {
   term_counted = ap length terms;
   expression_counted = x.count;
   nodes = λ t. ap (λ es. (term_entry es t.0).node) terms;
-  trees = λ t. ap (λ es. term_entered new.expressions es t.0) terms ∙ term-same old.expressions new.expressions (entries_of old.terms) t.0 (unchanged_expressions_kept old.expressions new.expressions x) old.arena.closed old.arena.functions_closed;
+  trees = λ t. ap (λ es. term_entered new.expressions es t.0) terms ∙ term-same old.expressions new.expressions (entries_of old.terms) t.0 (unchanged_expressions_kept old.expressions new.expressions x) old.arena.closed old.arena.functions_closed old.arena.patterns_closed old.arena.constants_closed;
   spots = λ t. ap (λ es. (term_entry es t.0).spot) terms;
   value_nodes = λ e. x.nodes e;
   values = λ e. x.trees e;
@@ -263,7 +270,7 @@ put_beside old new x terms headers = record {
   term_counted = ap length terms;
   expression_counted = x.count;
   nodes = λ t. ap (λ es. (term_entry es t.0).node) terms;
-  trees = λ t. ap (λ es. term_entered new.expressions es t.0) terms ∙ term-same old.expressions new.expressions (entries_of old.terms) t.0 x.kept old.arena.closed old.arena.functions_closed;
+  trees = λ t. ap (λ es. term_entered new.expressions es t.0) terms ∙ term-same old.expressions new.expressions (entries_of old.terms) t.0 x.kept old.arena.closed old.arena.functions_closed old.arena.patterns_closed old.arena.constants_closed;
   spots = λ t. ap (λ es. (term_entry es t.0).spot) terms;
   value_nodes = λ e. x.nodes e;
   values = λ e. x.trees e;
@@ -357,24 +364,27 @@ below_count_holds p t h = h
 
 -- the parts of a node are held
 pub parts_held : (p : Program) (t : TermId) → HoldsTermParts p (term_entry_of p t).node
-unfolding term_entry_of HoldsTerm HoldsExpression ProgramHoldsFunction
-parts_held p t = of_node (term_entry (entries_of p.terms) t.0).node (p.arena.in_order t.0) (p.arena.closed t.0) (p.arena.functions_closed t.0) within
+unfolding expressions_of term_entry_of HoldsTerm HoldsExpression ProgramHoldsFunction HoldsPatternIn
+parts_held p t = of_node (term_entry (entries_of p.terms) t.0).node (p.arena.in_order t.0) (p.arena.closed t.0) (p.arena.functions_closed t.0) (p.arena.patterns_closed t.0) (p.arena.constants_closed t.0) within
   where
     within : (needs_terms (term_entry (entries_of p.terms) t.0).node ≡ 0) ⊎ (t.0 < length (entries_of p.terms))
     within = elim (cases_lt t.0 (length (entries_of p.terms))) [ inl h ↦ inr h | inr h ↦ inl (ap (λ (n : Entry Node). needs_terms n.node) (get_or_past (entries_of p.terms) t.0 identity_entry h)) ]
 
-    of_node : (n : Node) → needs_terms n ≤ t.0 → needs_expressions n ≤ count_of p.expressions → needs_functions n ≤ function_count p.expressions → (needs_terms n ≡ 0) ⊎ (t.0 < length (entries_of p.terms)) → HoldsTermParts p n
-    of_node (nodes.Primitive (primitives.Bare k)) b x f w = tt
-    of_node (nodes.Primitive (primitives.WithValue k e)) b x f w = below_holds p.expressions e (omega arith)
-    of_node (nodes.Primitive (primitives.Timed k q e)) b x f w = below_holds p.expressions e (omega arith)
-    of_node (nodes.Primitive (primitives.Arrow g)) b x f w = below_function p.expressions g (omega arith)
-    of_node (nodes.Primitive (primitives.Accumulated k e g)) b x f w = (below_holds p.expressions e (omega arith), below_function p.expressions g (omega arith))
-    of_node (nodes.Joined j a c) b x f (inl z) = absurd (omega arith)
-    of_node (nodes.Joined j a c) b x f (inr h) = (omega arith, omega arith)
-    of_node (nodes.Sided d a) b x f (inl z) = absurd (omega arith)
-    of_node (nodes.Sided d a) b x f (inr h) = omega arith
-    of_node (nodes.Headed q e a) b x f (inl z) = absurd (omega arith)
-    of_node (nodes.Headed q e a) b x f (inr h) = (below_holds p.expressions e (omega arith), omega arith)
+    of_node : (n : Node) → needs_terms n ≤ t.0 → needs_expressions n ≤ count_of p.expressions → needs_functions n ≤ function_count p.expressions → patterns_needed n ≤ pattern_count p.expressions → constants_needed n ≤ constant_count p.expressions → (needs_terms n ≡ 0) ⊎ (t.0 < length (entries_of p.terms)) → HoldsTermParts p n
+    of_node (nodes.Primitive (primitives.Bare k)) b x f y l w = tt
+    of_node (nodes.Primitive (primitives.Never n)) b x f y l w = below_constant p.expressions n (omega arith)
+    of_node (nodes.Primitive (primitives.WithValue k e)) b x f y l w = below_holds p.expressions e (omega arith)
+    of_node (nodes.Primitive (primitives.Timed k q e)) b x f y l w = below_holds p.expressions e (omega arith)
+    of_node (nodes.Primitive (primitives.Arrow g)) b x f y l w = below_function p.expressions g (omega arith)
+    of_node (nodes.Primitive (primitives.Accumulated k e g)) b x f y l w = (below_holds p.expressions e (omega arith), below_function p.expressions g (omega arith))
+    of_node (nodes.Joined j a c) b x f y l (inl z) = absurd (omega arith)
+    of_node (nodes.Joined j a c) b x f y l (inr h) = (omega arith, omega arith)
+    of_node (nodes.Sided d a) b x f y l (inl z) = absurd (omega arith)
+    of_node (nodes.Sided d a) b x f y l (inr h) = omega arith
+    of_node (nodes.Headed q e a) b x f y l (inl z) = absurd (omega arith)
+    of_node (nodes.Headed q e a) b x f y l (inr h) = (below_holds p.expressions e (omega arith), omega arith)
+    of_node (nodes.Switching w a q c) b x f y l (inl z) = absurd (omega arith)
+    of_node (nodes.Switching w a q c) b x f y l (inr h) = (omega arith, below_pattern p.expressions q (omega arith), omega arith)
 
 bodies_within : (p : Program) (hs : List Header) → bodies_end hs ≤ length (entries_of p.terms) → (k : ℕ) (d : Header) → k < length hs → HoldsTerm p (get_or hs k d).body
 unfolding HoldsTerm
@@ -471,6 +481,27 @@ adds_after a b c id n e s u adds = record {
   expression_counted = omega (arith, adds.expression_counted, u.expression_counted);
 }
 
+-- a term that is added where the program shows the same
+term_after : (a b c : Program) (id : TermId) (n : Node) (t : Term) (s : Spot) → IsSameProgram a b → AddsTerm b c id n t s → AddsTerm a c id n t s
+term_after a b c id n t s u adds = record {
+  within = adds.within;
+  fresh = λ h. adds.fresh ((unchanged_keeps a b u).trees.terms id h);
+  node = adds.node;
+  is = adds.is;
+  spotted = adds.spotted;
+  shallow = adds.shallow;
+  kept = keeps_trans a b c (unchanged_keeps a b u) adds.kept;
+  term_counted = omega (arith, adds.term_counted, u.term_counted);
+  expression_counted = adds.expression_counted ∙ u.expression_counted;
+}
+
+-- something that is put beside the expressions, and then the term of a node that names it
+pub term_with : {I : Type 0} (a b c : Program) (r : Result TermId BuildRefusal) (m next : I) (n : I → Node) (t : Term) (s : Spot) → m ≡ next → IsSameProgram a b → term_of b (n m) ≡ t → IfOk r (λ id. AddsTerm b c id (n m) (term_of b (n m)) s) → IfOk r (λ id. AddsTerm a c id (n next) t s)
+term_with {I} a b c (Ok id) m next n t s there u is adds =
+    subst (λ (k : I). AddsTerm a c id (n k) t s) there
+    (subst (λ (w : Term). AddsTerm a c id (n m) w s) is (term_after a b c id _ _ s u adds))
+term_with {I} a b c (Err f) m next n t s there u is adds = tt
+
 -- something that is put beside the expressions, and then the expression of a node that names it
 pub adds_with : {I : Type 0} (a b c : Program) (r : Result ExprId BuildRefusal) (m next : I) (n : I → ExprNode) (e : Expression) (s : Spot) → m ≡ next → IsSameProgram a b → expression_of b.expressions (n m) ≡ e → IfOk r (λ id. AddsExpression b c id (n m) (expression_of b.expressions (n m)) s) → IfOk r (λ id. AddsExpression a c id (n next) e s)
 adds_with {I} a b c (Ok id) m next n e s there u is adds =
@@ -485,6 +516,37 @@ pattern_there a b c (Ok id) q p n e s put adds =
     subst (λ (k : PatternId). HoldsPattern c.expressions k × (placed_at c.expressions k ≡ p)) put.next
     (adds.kept.trees.holds_patterns q put.within, adds.kept.trees.placed q put.within ∙ put.is)
 pattern_there a b c (Err f) q p n e s put adds = tt
+
+-- and the pattern is there
+pub term_pattern_there : (a b c : Program) (r : Result TermId BuildRefusal) (q : PatternId) (p : PlacedPattern) (n : Node) (t : Term) (s : Spot) → AddsPattern a.expressions b.expressions q p → IfOk r (λ id. AddsTerm b c id n t s) → OnOk r (HoldsPatternIn c (next_pattern a.expressions) × (pattern_under c (next_pattern a.expressions) ≡ p))
+unfolding HoldsPatternIn pattern_under
+term_pattern_there a b c (Ok id) q p n t s put adds =
+    subst (λ (k : PatternId). HoldsPattern c.expressions k × (placed_at c.expressions k ≡ p)) put.next
+    (adds.kept.trees.holds_patterns q put.within, adds.kept.trees.placed q put.within ∙ put.is)
+term_pattern_there a b c (Err f) q p n t s put adds = tt
+
+-- the term of a switch, whose pattern is put beside the expressions
+switch_made : (a b : Program) (q : PatternId) (p : PlacedPattern) (w : Switching) (i j : TermId) → AddsPattern a.expressions b.expressions q p → entries_of b.terms ≡ entries_of a.terms → headers_of b ≡ headers_of a
+    → term_of b (nodes.Switching w i q j) ≡ switching w (tree a i) (pattern_of p) (tree a j)
+unfolding pattern_under
+switch_made a b q p w i j added terms headers =
+    let same = put_beside a b (pattern_beside _ _ _ _ added) terms headers in
+    rw (same.trees i, same.trees j, added.is) refl
+
+pub adds_switch : (a b c : Program) (r : Result TermId BuildRefusal) (q : PatternId) (p : PlacedPattern) (w : Switching) (i j : TermId) (s : Spot) → AddsPattern a.expressions b.expressions q p → entries_of b.terms ≡ entries_of a.terms → headers_of b ≡ headers_of a
+    → IfOk r (λ id. AddsTerm b c id (nodes.Switching w i q j) (term_of b (nodes.Switching w i q j)) s)
+    → IfOk r (λ id. AddsTerm a c id (nodes.Switching w i (next_pattern a.expressions) j) (switching w (tree a i) (pattern_of p) (tree a j)) s)
+adds_switch a b c r q p w i j s added terms headers adds =
+    term_with a b c r q (next_pattern a.expressions) (λ (q : PatternId). nodes.Switching w i q j) _ s added.next (put_beside a b (pattern_beside _ _ _ _ added) terms headers) (switch_made a b q p w i j added terms headers) adds
+
+-- it is too deep where its parts are
+pub switch_deep : (a b : Program) (r : Result TermId BuildRefusal) (q : PatternId) (p : PlacedPattern) (w : Switching) (i j : TermId) → AddsPattern a.expressions b.expressions q p → entries_of b.terms ≡ entries_of a.terms → headers_of b ≡ headers_of a
+    → (r ≡ Err TooDeep ↔ (term_count b < 100000) × (64 < term_depth (term_of b (nodes.Switching w i q j))))
+    → r ≡ Err TooDeep ↔ (term_count a < 100000) × (64 < term_depth (switching w (tree a i) (pattern_of p) (tree a j)))
+switch_deep a b r q p w i j added terms headers h =
+    let same = put_beside a b (pattern_beside _ _ _ _ added) terms headers in
+    let depth = ap term_depth (switch_made a b q p w i j added terms headers) in
+    (λ e. let g = h.0 e in (omega (arith, g.0, same.term_counted), omega (arith, g.1, depth)), λ g. h.1 (omega (arith, g.0, same.term_counted), omega (arith, g.1, depth)))
 
 pub unchanged_after : {A E : Type 0} (a b c : Program) (r : Result A E) → IsSameProgram a b → OnErr r (IsSameProgram b c) → OnErr r (IsSameProgram a c)
 unchanged_after a b c (Ok x) u e = tt

@@ -10,15 +10,15 @@ use Rattle.sf_expr.specs.declared.exprs.ExprNode.{ExprNode}
 use Rattle.sf_expr.specs.declared.exprs.Exprs.{Exprs}
 use Rattle.sf_expr.specs.Expressions.{Expression, Function, function}
 use Rattle.sf_expr.specs.Patterns.{PlacedPattern, pattern_of}
-use Rattle.sf_expr.specs.Arena.{expression, count_of, Holds, HoldsFunction as HoldsFunctionIn, HoldsPattern, placed_at, pattern_at as pattern_at_in, body_at as body_at_in, node_at as expression_node_in, spot_at as expression_spot_in}
+use Rattle.sf_expr.specs.Arena.{expression, count_of, literal_at, HoldsConstant, Holds, HoldsFunction as HoldsFunctionIn, HoldsPattern, placed_at, pattern_at as pattern_at_in, body_at as body_at_in, node_at as expression_node_in, spot_at as expression_spot_in}
 use Rattle.sf_term.specs.declared.node.TermId.{TermId}
 use Rattle.sf_term.specs.declared.node.Primitive.TheVariants as primitives
 use Rattle.sf_term.specs.declared.node.Node.{Node}
 use Rattle.sf_term.specs.declared.node.Node.TheVariants as nodes
 use Rattle.sf_term.specs.declared.program.Program.{Program}
-use Rattle.sf_term.specs.Trees.{Term, primitive, joined, sided, headed, bare, with_value, timed, arrow, accumulated, term_depth, Template, Templates}
+use Rattle.sf_term.specs.Trees.{Term, primitive, joined, sided, headed, switching, bare, never, with_value, timed, arrow, accumulated, term_depth, Template, Templates}
 use Rattle.sf_term.specs.Headers.{Header}
-use Rattle.sf_term.specs.Entries.{term_entry, term_entered}
+use Rattle.sf_term.specs.Entries.{absent_payload, term_entry, term_entered}
 
 -- the number of an id
 abbrev pub term_number : TermId → ℕ
@@ -91,6 +91,7 @@ expression_node_at p e = expression_node_in p.expressions e
 -- the term that a node with the ids of its parts stands for
 abbrev pub term_of : Program → Node → Term
 term_of p (nodes.Primitive (primitives.Bare k)) = primitive (bare k)
+term_of p (nodes.Primitive (primitives.Never n)) = primitive (never (absent_payload (literal_at (expressions_of p) n)))
 term_of p (nodes.Primitive (primitives.WithValue k e)) = primitive (with_value k (expression_under p e))
 term_of p (nodes.Primitive (primitives.Timed k q e)) = primitive (timed k q (expression_under p e))
 term_of p (nodes.Primitive (primitives.Arrow f)) = primitive (arrow (function_in p f))
@@ -98,6 +99,7 @@ term_of p (nodes.Primitive (primitives.Accumulated k e f)) = primitive (accumula
 term_of p (nodes.Joined j a b) = joined j (tree p a) (tree p b)
 term_of p (nodes.Sided d a) = sided d (tree p a)
 term_of p (nodes.Headed h e a) = headed h (expression_under p e) (tree p a)
+term_of p (nodes.Switching w a q b) = switching w (tree p a) (pattern_of (pattern_under p q)) (tree p b)
 
 -- where the term at an id stands in the text
 unfoldable pub term_spot_at : Program → TermId → Spot
@@ -129,10 +131,12 @@ TermPartsBelow (nodes.Primitive q) n = Unit {0}
 TermPartsBelow (nodes.Joined j a b) n = (term_number a < n) × (term_number b < n)
 TermPartsBelow (nodes.Sided d a) n = term_number a < n
 TermPartsBelow (nodes.Headed h e a) n = term_number a < n
+TermPartsBelow (nodes.Switching w a q b) n = (term_number a < n) × (term_number b < n)
 
 -- the parts of a node are held
 abbrev pub HoldsTermParts : Program → Node → Type 0
 HoldsTermParts p (nodes.Primitive (primitives.Bare k)) = Unit {0}
+HoldsTermParts p (nodes.Primitive (primitives.Never n)) = HoldsConstant (expressions_of p) n
 HoldsTermParts p (nodes.Primitive (primitives.WithValue k e)) = HoldsExpression p e
 HoldsTermParts p (nodes.Primitive (primitives.Timed k q e)) = HoldsExpression p e
 HoldsTermParts p (nodes.Primitive (primitives.Arrow f)) = ProgramHoldsFunction p f
@@ -140,6 +144,7 @@ HoldsTermParts p (nodes.Primitive (primitives.Accumulated k e f)) = HoldsExpress
 HoldsTermParts p (nodes.Joined j a b) = HoldsTerm p a × HoldsTerm p b
 HoldsTermParts p (nodes.Sided d a) = HoldsTerm p a
 HoldsTermParts p (nodes.Headed h e a) = HoldsExpression p e × HoldsTerm p a
+HoldsTermParts p (nodes.Switching w a q b) = HoldsTerm p a × HoldsPatternIn p q × HoldsTerm p b
 
 -- Terms, expressions, functions and patterns that a program held are there as they were.
 pub record KeepsTrees (old new : Program) : Type 0 where

@@ -1,7 +1,7 @@
 -- Networks as trees.
 use Rattle.std.specs.Prelude.{ℕ, suc, ◌+◌, max, ℤ, List}
 use Rattle.sf_value.specs.Values.{Name, Kind}
-use Rattle.sf_expr.specs.Expressions.{Expression, Function, depth as expression_depth, size as expression_size, function_depth, function_size}
+use Rattle.sf_expr.specs.Expressions.{Pattern, Expression, Function, pattern_depth, depth as expression_depth, size as expression_size, function_depth, function_size}
 use Rattle.sf_term.specs.declared.form.Bare.{Bare}
 use Rattle.sf_term.specs.declared.form.WithValue.{WithValue}
 use Rattle.sf_term.specs.declared.form.Accumulation.{Accumulation}
@@ -9,6 +9,7 @@ use Rattle.sf_term.specs.declared.form.Timing.{Timing}
 use Rattle.sf_term.specs.declared.form.Join.{Join}
 use Rattle.sf_term.specs.declared.form.Side.{Side}
 use Rattle.sf_term.specs.declared.form.Heading.{Heading}
+use Rattle.sf_term.specs.declared.form.Switching.{Switching}
 
 -- Functions made into one: one after another, on one part of a pair, each on its part of a pair, both on the input.
 pub data Chain : Type 0 where
@@ -18,9 +19,10 @@ pub data Chain : Type 0 where
   on_both : Chain → Chain → Chain
   fanned : Chain → Chain → Chain
 
--- primitives: without constants, with a value, with a time and a value, with a function, or with a value and a function; and, in plans alone, with functions made into one
+-- primitives: without constants, with a type, with a value, with a time and a value, with a function, or with a value and a function; and, in plans alone, with functions made into one
 pub data Primitive : Type 0 where
   bare : Bare → Primitive
+  never : Kind → Primitive
   with_value : WithValue → Expression → Primitive
   timed : Timing → ℤ → Expression → Primitive
   arrow : Function → Primitive
@@ -32,13 +34,15 @@ pub data Extent : Type 0 where
   whole : Extent
   rest : Extent
 
--- terms: primitives, two terms joined, a term on one side of a pair, a term with an expression at its head;
+-- terms: primitives, two terms joined, a term on one side of a pair, a term with an expression at its head, a term that gives
+-- way to another inside a pattern;
 -- and, in plans alone, a stage before the rest of its pipeline
 pub data Term : Type 0 where
   primitive : Primitive → Term
   joined : Join → Term → Term → Term
   sided : Side → Term → Term
   headed : Heading → Expression → Term → Term
+  switching : Switching → Term → Pattern → Term → Term
   staged : Extent → Term → Term → Term
 
 -- a template: its name, the types of its header and its term
@@ -55,6 +59,7 @@ Templates = List Template
 -- how many expressions and patterns stand one inside another in a primitive; the forms of plans are deeper than each text
 abbrev pub primitive_depth : Primitive → ℕ
 primitive_depth (bare k) = 0
+primitive_depth (never t) = 0
 primitive_depth (with_value k e) = expression_depth e
 primitive_depth (timed k q e) = expression_depth e
 primitive_depth (arrow f) = function_depth f
@@ -67,6 +72,7 @@ term_depth (primitive p) = suc (primitive_depth p)
 term_depth (joined j f g) = suc (max (term_depth f) (term_depth g))
 term_depth (sided d t) = suc (term_depth t)
 term_depth (headed h e t) = suc (max (expression_depth e) (term_depth t))
+term_depth (switching w t p u) = suc (max (max (term_depth t) (term_depth u)) (pattern_depth p))
 term_depth (staged x f g) = 65
 
 -- how many terms a term is made of
@@ -75,11 +81,13 @@ terms_in (primitive p) = 1
 terms_in (joined j f g) = suc (terms_in f + terms_in g)
 terms_in (sided d t) = suc (terms_in t)
 terms_in (headed h e t) = suc (terms_in t)
+terms_in (switching w t p u) = suc (terms_in t + terms_in u)
 terms_in (staged x f g) = suc (terms_in f + terms_in g)
 
 -- how many expressions stand in a term
 abbrev pub expressions_in : Term → ℕ
 expressions_in (primitive (bare k)) = 0
+expressions_in (primitive (never t)) = 0
 expressions_in (primitive (with_value k e)) = expression_size e
 expressions_in (primitive (timed k q e)) = expression_size e
 expressions_in (primitive (arrow f)) = function_size f
@@ -88,4 +96,5 @@ expressions_in (primitive (fused f)) = 0
 expressions_in (joined j f g) = expressions_in f + expressions_in g
 expressions_in (sided d t) = expressions_in t
 expressions_in (headed h e t) = expression_size e + expressions_in t
+expressions_in (switching w t p u) = expressions_in t + expressions_in u
 expressions_in (staged x f g) = expressions_in f + expressions_in g

@@ -68,6 +68,15 @@ pub enum Side {
     Second,
 }
 
+/// A term that gives way to another at its first event.
+#[derive(Clone, Copy, Debug, PartialEq, Eq)]
+pub enum Switching {
+    /// `switch(t, p => u)`: at the event, the value is that of `u`.
+    Switch,
+    /// `dSwitch(t, p => u)`: at the event, the value is still that of `t`.
+    DSwitch,
+}
+
 /// A term with an expression at its head.
 #[derive(Clone, Copy, Debug, PartialEq, Eq)]
 pub enum Heading {

@@ -1,7 +1,7 @@
 //! Nodes of an arena of terms.
 
-use crate::form::{Accumulation, Bare, Heading, Join, Side, Timing, WithValue};
-use sf_expr::{ExprId, FunctionId};
+use crate::form::{Accumulation, Bare, Heading, Join, Side, Switching, Timing, WithValue};
+use sf_expr::{ConstantId, ExprId, FunctionId, PatternId};
 
 /// A term in its program.
 #[derive(Clone, Copy, Debug, PartialEq, Eq)]
@@ -24,6 +24,8 @@ impl TermId {
 pub enum Primitive {
     /// A primitive without constants.
     Bare(Bare),
+    /// `never T`: no event, of payloads of a type, which stands among the constants.
+    Never(ConstantId),
     /// A primitive with a value.
     WithValue(WithValue, ExprId),
     /// `arr f`: what a function answers to the input.
@@ -45,4 +47,6 @@ pub enum Node {
     Sided(Side, TermId),
     /// A term with an expression at its head.
     Headed(Heading, ExprId, TermId),
+    /// A term, and the body that it gives way to, inside a pattern.
+    Switching(Switching, TermId, PatternId, TermId),
 }

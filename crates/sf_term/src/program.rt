@@ -11,9 +11,10 @@ ghost use Rattle.sf_term.specs.Headers.{bodies_end};
 ghost use Rattle.sf_arena.specs.Arenas.{entries_of};
 ghost use Rattle.sf_term.specs.Entries.{AreTerms};
 ghost use Rattle.sf_term.specs.Names.{HasNames};
-ghost use Rattle.sf_term.specs.Trees.{term_depth as depth_of};
+ghost use Rattle.sf_term.specs.declared.node.Node.TheVariants as terms;
+ghost use Rattle.sf_term.specs.Trees.{primitive as primitive_of, never as never_of, switching as switching_of, term_depth as depth_of};
 
-use crate::form::Bare;
+use crate::form::{Bare, Switching};
 use crate::names::has_names;
 use crate::node::{Node, Primitive, TermId};
 use crate::refusal::BuildRefusal;
@@ -81,12 +82,12 @@ impl Program {
         self.entry(id).depth
     }
 
-    #[tactic(auto, unfolding(crate::specs::Arena::expression_under, crate::specs::Arena::function_pattern_at, crate::specs::Arena::function_body_at))]
+    #[tactic(auto, unfolding(crate::specs::Arena::expression_under, crate::specs::Arena::function_pattern_at, crate::specs::Arena::function_body_at, crate::specs::Arena::pattern_under))]
     fn depth_with(&self, node: Node) -> u32
         ensures { result ≡ depth_of (term_of self.now node) }
     {
         match node {
-            Node::Primitive(Primitive::Bare(_)) => 1,
+            Node::Primitive(Primitive::Bare(_) | Primitive::Never(_)) => 1,
             Node::Primitive(Primitive::WithValue(_, value) | Primitive::Timed(_, _, value)) => {
                 1 + self.expressions.depth(value)
             }
@@ -101,6 +102,10 @@ impl Program {
             Node::Sided(_, part) => 1 + self.depth(part),
             Node::Headed(_, value, part) => {
                 1 + self.expressions.depth(value).max(self.depth(part))
+            }
+            Node::Switching(_, source, pattern, body) => {
+                let terms = self.depth(source).max(self.depth(body));
+                1 + terms.max(self.expressions.pattern_depth(pattern))
             }
         }
     }
@@ -466,6 +471,71 @@ impl Program {
         match self.terms.add(node, depth, spot) {
             Ok(number) => Ok(TermId(number as u32)),
             Err(refusal) => Err(BuildRefusal::from(refusal)),
+        }
+    }
+
+    /// Adds a term that gives way to another inside a pattern. Refused with `TooMany` where 100,000 terms are there, then
+    /// with `TooDeep` where more than 64 terms, patterns and expressions would stand one inside another, then with
+    /// `BadName` where a name of its pattern is no name of the language, and with `Memory`. A refused call changes
+    /// nothing.
+    #[tactic(auto, unfolding(crate::specs::Arena::expressions_of, crate::specs::Arena::term_count))]
+    pub fn switching(
+        &mut self,
+        form: Switching,
+        source: TermId,
+        pattern: Pat,
+        body: TermId,
+        spot: Spot,
+    ) -> Result<TermId, BuildRefusal>
+        requires source_held { HoldsTerm self.old source }
+        requires body_held { HoldsTerm self.old body }
+        ensures ok { let next = next_pattern (expressions_of self.old) in
+            let whole = switching_of form (tree self.old source) (pattern_of pattern) (tree self.old body) in
+            IfOk result (λ id. AddsTerm self.old self.new id (terms.Switching form source next body) whole spot) }
+        ensures placed { let next = next_pattern (expressions_of self.old) in
+            OnOk result (HoldsPatternIn self.new next × (pattern_under self.new next ≡ pattern)) }
+        ensures named { OnOk result (HasNames (pattern_of pattern)) }
+        ensures many { result ≡ Err BuildRefusal.TooMany ↔ 100000 ≤ term_count self.old }
+        ensures deep { let whole = switching_of form (tree self.old source) (pattern_of pattern) (tree self.old body) in
+            result ≡ Err BuildRefusal.TooDeep ↔ (term_count self.old < 100000) × (64 < depth_of whole) }
+        ensures bad_name { let whole = switching_of form (tree self.old source) (pattern_of pattern) (tree self.old body) in
+            result ≡ Err BuildRefusal.BadName ↔ (term_count self.old < 100000) × (depth_of whole ≤ 64) × ¬ HasNames (pattern_of pattern) }
+        ensures err { OnErr result (IsSameProgram self.old self.new) }
+    {
+        if 100_000 <= self.terms.len() {
+            return Err(BuildRefusal::TooMany);
+        }
+        let parts = self.depth(source).max(self.depth(body));
+        if 64 <= parts.max(pattern.depth()) {
+            return Err(BuildRefusal::TooDeep);
+        }
+        let well_named = has_names(&pattern);
+        if !well_named {
+            return Err(BuildRefusal::BadName);
+        }
+        match self.expressions.pattern_in(pattern) {
+            Ok(id) => self.add(Node::Switching(form, source, id, body), spot),
+            Err(_) => Err(BuildRefusal::Memory),
+        }
+    }
+
+    /// Adds `never` for payloads of a type to the terms. Refused with `TooMany` where 100,000 terms are there, and with
+    /// `Memory`. A refused call changes nothing.
+    #[tactic(auto, unfolding(crate::specs::Arena::term_count))]
+    pub fn never(&mut self, payload: Ty, spot: Spot) -> Result<TermId, BuildRefusal>
+        ensures ok { let next = next_constant (expressions_of self.old) in
+            IfOk result (λ id. AddsTerm self.old self.new id (Node.Primitive (Primitive.Never next)) (primitive_of (never_of payload)) spot) }
+        ensures many { result ≡ Err BuildRefusal.TooMany ↔ 100000 ≤ term_count self.old }
+        ensures not_deep { ¬ (result ≡ Err BuildRefusal.TooDeep) }
+        ensures no_name { ¬ (result ≡ Err BuildRefusal.BadName) }
+        ensures err { OnErr result (IsSameProgram self.old self.new) }
+    {
+        if 100_000 <= self.terms.len() {
+            return Err(BuildRefusal::TooMany);
+        }
+        match self.expressions.constant(Constant::no_event(payload)) {
+            Ok(constant) => self.add(Node::Primitive(Primitive::Never(constant)), spot),
+            Err(_) => Err(BuildRefusal::Memory),
         }
     }
 

@@ -12,9 +12,13 @@ use std::test::Fail;
 
 const DELAYS: &[u8] = b"network 1;\ntemplate main(): Int ~> Int = (iPre 7 >>> iPre 8);\n";
 
-/// Two delays.
-fn delays(alloc: Global, functions: &Registry) -> Result<Checked, Fail> {
-    let program = read_network(alloc, DELAYS)?;
+/// A delay until the third sample, when another one takes over.
+const SWITCH: &[u8] =
+    b"network 1;\ntemplate main(): Int ~> Int = switch((iPre 7 &&& after 2000 ()), _ => iPre 8);\n";
+
+/// A network that was checked.
+fn checked(alloc: Global, network: &[u8], functions: &Registry) -> Result<Checked, Fail> {
+    let program = read_network(alloc, network)?;
     match check(alloc, program, functions) {
         Ok(checked) => Ok(checked),
         Err(_) => Err(Fail::new("refused")),
@@ -26,6 +30,7 @@ fn owners(state: &State) -> usize {
     match state {
         State::Unborn(_) => 0,
         State::Live(_, node) => Rc::strong_count(node),
+        State::Switch(_, node) => Rc::strong_count(node),
     }
 }
 
@@ -111,12 +116,15 @@ fn table_owners(value: &Value) -> usize {
 fn a_frozen_state_and_a_copy_share(rt: HostRuntime) -> Result<(), Fail> {
     let alloc = rt.alloc();
     let functions = Registry::new(alloc);
-    let checked = delays(alloc, &functions)?;
-    // 8, 7, 5; a step that is refused for want of memory leaves the frozen state as it was
-    let (running, resumed, owners) = gives_again(alloc, &checked, &functions)?;
-    assert!(rt; is_or_refused(&running, 7) && is_or_refused(&resumed, 7));
-    assert!(rt; running.is_ok() || resumed.is_ok());
-    assert!(rt; running.is_err() || owners == (2, 1));
+    // The first gives 8, 7, 5, the second 7, 5, 8. A step that is refused for want of memory leaves the frozen state as it
+    // was.
+    for (network, second) in [(DELAYS, 7), (SWITCH, 5)] {
+        let checked = checked(alloc, network, &functions)?;
+        let (running, resumed, owners) = gives_again(alloc, &checked, &functions)?;
+        assert!(rt; is_or_refused(&running, second) && is_or_refused(&resumed, second));
+        assert!(rt; running.is_ok() || resumed.is_ok());
+        assert!(rt; running.is_err() || owners == (2, 1));
+    }
     let table = table(alloc)?;
     let copy = table.clone_in(alloc)?;
     assert_eq!(rt; (table_owners(&table), table_owners(&copy)), (2, 2));

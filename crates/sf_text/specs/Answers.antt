@@ -1,105 +1,20 @@
--- What the reading functions answer.
-use Rattle.std.specs.Prelude.{◌≡◌, ℕ, ◌+◌, List, [], ◌∷◌, ◌++◌, map, Result, Ok, Err}
+-- What the functions answer that read terms and templates.
+use Rattle.std.specs.Prelude.{◌≡◌, ◌+◌, List, [], ◌∷◌, ◌++◌, Result, Ok, Err}
 use Rattle.std.proofs.Common.{Bor}
-use Rattle.sf_value.specs.Values.{Name, Kind, event_kind, table_kind}
-use Rattle.sf_text.specs.declared.ty.Outer.{Outer}
-use Rattle.sf_text.specs.declared.ty.Outer.TheVariants as outers
-use Rattle.sf_text.specs.declared.part.Named.{Named}
-use Rattle.sf_text.specs.declared.part.Types.{Types}
-use Rattle.sf_value.specs.KindView.{key_kind_of}
-use Rattle.sf_value.specs.declared.ty.TyRefusal.{TyRefusal}
-use Rattle.sf_value.specs.declared.ty.TyRefusal.TheVariants as type_refusals
-use Rattle.sf_expr.specs.declared.exprs.ExprId.{ExprId}
-use Rattle.sf_expr.specs.declared.exprs.FunctionId.{FunctionId}
-use Rattle.sf_expr.specs.Expressions.{Pattern, Expression, size, Function, function, function_size}
-use Rattle.sf_expr.specs.Patterns.{PlacedPattern, pattern_of}
+use Rattle.sf_value.specs.Values.{Kind}
+use Rattle.sf_text.specs.declared.header.Types.{Types}
 use Rattle.sf_term.specs.declared.node.TermId.{TermId}
 use Rattle.sf_term.specs.declared.program.Program.{Program}
 use Rattle.sf_term.specs.Trees.{Term, Template, terms_in, expressions_in}
-use Rattle.sf_term.specs.Arena.{HoldsTerm, HoldsExpression, ProgramHoldsFunction, tree, expression_under, function_in, term_count, expression_count, templates_of, KeepsProgram}
-use Rattle.sf_term.specs.Names.{HasNames}
-use Rattle.sf_lex.specs.Tokens.{Tok, name_bytes, token_of}
+use Rattle.sf_term.specs.Arena.{HoldsTerm, tree, term_count, expression_count, templates_of, KeepsProgram}
+use Rattle.sf_lex.specs.Tokens.{Tok}
 use Rattle.sf_lex.specs.declared.token.PlacedToken.{PlacedToken}
-use Rattle.sf_term.specs.declared.refusal.BuildRefusal.{BuildRefusal}
-use Rattle.sf_term.specs.declared.refusal.BuildRefusal.TheVariants as refusals
-use Rattle.sf_refusal.specs.declared.rule.Rule.TheVariants.{Unexpected, TooDeep, WrittenTypeTooLarge, TooMany}
-use Rattle.sf_text.specs.declared.stop.Stop.{Stop}
-use Rattle.sf_text.specs.declared.stop.Stop.TheVariants.{At, Memory}
-use Rattle.sf_grammar.specs.Reading.{Read, got, Counts}
-use Rattle.sf_grammar.specs.Stopping.{Stopped}
-
--- tokens without their places
-abbrev pub toks : List PlacedToken → List Tok
-toks tokens = map (λ (p : PlacedToken). token_of p.token) tokens
-
--- reading stopped, where it was not for want of memory
-abbrev pub StopsReading : {A : Type 0} → Stop → Read A → Type 0
-StopsReading (At fault left) read = Stopped fault left read
-StopsReading Memory read = Unit {0}
-
--- what was read, seen so, and the tokens behind it
-abbrev pub ReadsAs : {X A : Type 0} → (X → A) → Result (X × Bor (List PlacedToken)) Stop → Read A → Type 0
-ReadsAs view (Ok x) read = read ≡ got (view x.0) (toks x.1.now)
-ReadsAs view (Err e) read = StopsReading e read
-
-abbrev pub named_bytes : Named → Name
-named_bytes n = name_bytes n.name
+use Rattle.sf_parse.specs.declared.stop.Stop.{Stop}
+use Rattle.sf_grammar.specs.Reading.{Read, got}
+use Rattle.sf_parse.specs.Answers.{toks, StopsReading}
 
 abbrev pub kinds_in : Types → Kind × Kind
 kinds_in s = (s.input, s.output)
-
--- the type that is made of one part
-abbrev pub outer_kind : Outer → Kind → Kind
-outer_kind outers.Event = event_kind
-outer_kind (outers.Table k) = table_kind (key_kind_of k)
-
--- the tokens behind
-abbrev pub ReadsRest : Result (Bor (List PlacedToken)) Stop → Read (Unit {0}) → Type 0
-ReadsRest (Ok rest) read = read ≡ got tt (toks rest.now)
-ReadsRest (Err e) read = StopsReading e read
-
--- an expression was read into the program
-pub record FoundExpression (old new : Program) (id : ExprId) (rest : List Tok) (read : Read Expression) : Type 0 where
-  pub value : Expression
-  pub is : read ≡ got value rest
-  pub held : HoldsExpression new id
-  pub tree : expression_under new id ≡ value
-  pub kept : KeepsProgram old new
-  pub terms : term_count new ≡ term_count old
-  pub expressions : expression_count new ≡ expression_count old + size value
-
-abbrev pub ReadsExpression : Program → Program → Result (ExprId × Bor (List PlacedToken)) Stop → Read Expression → Type 0
-ReadsExpression old new (Ok x) read = FoundExpression old new x.0 (toks x.1.now) read
-ReadsExpression old new (Err e) read = StopsReading e read
-
--- the pattern and the expression of a function were read, the expression into the program
-pub record FoundMapping (old new : Program) (p : Pattern) (id : ExprId) (rest : List Tok) (read : Read Function) : Type 0 where
-  pub value : Expression
-  pub is : read ≡ got (function p value) rest
-  pub names : HasNames p
-  pub held : HoldsExpression new id
-  pub tree : expression_under new id ≡ value
-  pub kept : KeepsProgram old new
-  pub terms : term_count new ≡ term_count old
-  pub expressions : expression_count new ≡ expression_count old + size value
-
-abbrev pub ReadsMapping : Program → Program → Result (PlacedPattern × ExprId × Bor (List PlacedToken)) Stop → Read Function → Type 0
-ReadsMapping old new (Ok x) read = FoundMapping old new (pattern_of x.0) x.1 (toks x.2.now) read
-ReadsMapping old new (Err e) read = StopsReading e read
-
--- a function was read into the program
-pub record FoundFunction (old new : Program) (id : FunctionId) (rest : List Tok) (read : Read Function) : Type 0 where
-  pub function : Function
-  pub is : read ≡ got function rest
-  pub held : ProgramHoldsFunction new id
-  pub meaning : function_in new id ≡ function
-  pub kept : KeepsProgram old new
-  pub terms : term_count new ≡ term_count old
-  pub expressions : expression_count new ≡ expression_count old + function_size function
-
-abbrev pub ReadsFunction : Program → Program → Result (FunctionId × Bor (List PlacedToken)) Stop → Read Function → Type 0
-ReadsFunction old new (Ok x) read = FoundFunction old new x.0 (toks x.1.now) read
-ReadsFunction old new (Err e) read = StopsReading e read
 
 -- a term was read into the program
 pub record FoundTerm (old new : Program) (id : TermId) (rest : List Tok) (read : Read Term) : Type 0 where
@@ -114,22 +29,6 @@ pub record FoundTerm (old new : Program) (id : TermId) (rest : List Tok) (read :
 abbrev pub ReadsTerm : Program → Program → Result (TermId × Bor (List PlacedToken)) Stop → Read Term → Type 0
 ReadsTerm old new (Ok x) read = FoundTerm old new x.0 (toks x.1.now) read
 ReadsTerm old new (Err e) read = StopsReading e read
-
--- how many terms and expressions a program has
-abbrev pub counts_of : Program → Counts
-counts_of p = record { terms = term_count p; expressions = expression_count p }
-
--- why a program took no more of what begins so many tokens before the end
-abbrev pub stop_for : BuildRefusal → ℕ → Stop
-stop_for refusals.TooMany left = At TooMany left
-stop_for refusals.TooDeep left = At TooDeep left
-stop_for refusals.BadName left = At Unexpected left
-stop_for refusals.Memory left = Memory
-
--- why a type was not made that begins so many tokens before the end
-abbrev pub stop_for_type : TyRefusal → ℕ → Stop
-stop_for_type type_refusals.TypeTooLarge left = At WrittenTypeTooLarge left
-stop_for_type type_refusals.Memory left = Memory
 
 -- a template was read into the program, behind the others
 pub record FoundTemplate (old new : Program) (rest : List Tok) (read : Read Template) : Type 0 where

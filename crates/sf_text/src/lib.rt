@@ -1,15 +1,11 @@
 //! Reads the text of a network.
 #![tactic(auto)]
 
-mod expression;
+mod header;
 mod network;
-mod part;
-mod pattern;
 mod place;
-mod stop;
 mod template;
 mod term;
-mod ty;
 
 pub use network::read_network;
 pub use sf_grammar::{one_network, one_place_a_token};

@@ -3,19 +3,19 @@ ghost use Rattle.std.specs.Prelude.{◌≡◌, ◌≢◌, ◌≤◌, ◌-◌, �
 ghost use Rattle.sf_term.specs.Arena.{templates_of, headers_of};
 ghost use Rattle.sf_term.specs.Trees.{Templates};
 ghost use Rattle.sf_refusal.specs.Refusals.{OrMemory};
-ghost use Rattle.sf_text.specs.Answers.{toks};
+ghost use Rattle.sf_parse.specs.Answers.{toks};
 ghost use Rattle.sf_grammar.specs.Spelling.{IsNetworkText};
 ghost use Rattle.sf_grammar.specs.Placing.{TemplatesPlaced, NetworkPlaced, IsPlacedIn};
-ghost use Rattle.sf_text.specs.Consuming.{places};
+ghost use Rattle.sf_parse.specs.Consuming.{places};
 ghost use Rattle.sf_text.specs.Progress.{Behind, ReadsTemplates, ReadsNetwork, IsBlankProgram};
 ghost use Rattle.sf_grammar.specs.Stopping.{BreaksText};
 
-use crate::part::opening;
+use crate::header::opening;
 use crate::place::refusal_at;
-use crate::stop::Stop;
 use crate::template::template;
 use sf_grammar::Version;
 use sf_lex::{PlacedToken, tokens};
+use sf_parse::Stop;
 use sf_refusal::Refusal;
 use sf_term::Program;
 use std::alloc::Global;

@@ -1,15 +1,16 @@
 //! Templates.
 ghost use Rattle.std.specs.Prelude.{IfOk};
-ghost use Rattle.sf_text.specs.Answers.{toks, ReadsTemplate, counts_of};
-ghost use Rattle.sf_text.specs.Consuming.{places, PlacesTemplate};
+ghost use Rattle.sf_parse.specs.Answers.{toks, counts_of};
+ghost use Rattle.sf_text.specs.Answers.{ReadsTemplate};
+ghost use Rattle.sf_parse.specs.Consuming.{places};
+ghost use Rattle.sf_text.specs.Consuming.{PlacesTemplate};
 ghost use Rattle.sf_grammar.specs.Reading.{parse_template};
 
-use crate::expression::refused;
-use crate::part::{heading, signature, symbol};
-use crate::stop::Stop;
+use crate::header::{heading, signature};
 use crate::term::term;
 use sf_grammar::Version;
 use sf_lex::{PlacedToken, Symbol};
+use sf_parse::{Stop, refused, symbol};
 use sf_term::Program;
 use std::alloc::Global;
 

@@ -2,19 +2,19 @@
 ghost use Rattle.std.specs.Prelude.{◌≡◌, ◌≤◌, IfOk, ◌∷◌};
 ghost use Rattle.sf_lex.specs.Tokens.{token_of};
 ghost use Rattle.sf_term.specs.Trees.{Term, primitive as primitive_form, bare as bare_form};
-ghost use Rattle.sf_text.specs.Answers.{toks, StopsReading, ReadsAs, ReadsTerm, counts_of};
+ghost use Rattle.sf_parse.specs.Answers.{toks, StopsReading, ReadsAs, counts_of};
+ghost use Rattle.sf_text.specs.Answers.{ReadsTerm};
 ghost use Rattle.sf_grammar.specs.Placing.{TermPlaced};
-ghost use Rattle.sf_text.specs.Consuming.{places, BehindOne, Consumes};
-ghost use Rattle.sf_grammar.specs.Reading.{begins_term, too_deep, term_read, parse_value, parse_timed, parse_arrow, parse_accumulated, parse_sided, parse_headed, parse_join, parse_joined, parse_form, parse_worded, parse_term};
+ghost use Rattle.sf_parse.specs.Consuming.{places, BehindOne, Consumes};
+ghost use Rattle.sf_grammar.specs.Reading.{begins_term, too_deep, term_read, parse_never, parse_value, parse_timed, parse_arrow, parse_accumulated, parse_sided, parse_headed, parse_switching, parse_join, parse_joined, parse_form, parse_worded, parse_term};
 
-use crate::expression::{expression, function, refused};
-use crate::part::{number, stop_at, symbol};
-use crate::stop::Stop;
 use sf_grammar::{Head, Version, head_of, join_of};
 use sf_lex::{PlacedToken, Symbol, Token};
+use sf_parse::{Stop, expression, function, inner_type, number, pattern, refused, stop_at, symbol};
 use sf_refusal::{Rule, Spot};
 use sf_term::{
-    Accumulation, Bare, Heading, Join, Node, Primitive, Program, Side, TermId, Timing, WithValue,
+    Accumulation, Bare, Heading, Join, Node, Primitive, Program, Side, Switching, TermId, Timing,
+    WithValue,
 };
 use std::alloc::Global;
 
@@ -51,6 +51,28 @@ fn bare<'a>(
     ensures placed { IfOk result (λ x. Consumes (TermPlaced version program.new x.0) (spot ∷ places rest.now) (places x.1.now)) }
 {
     match program.add(Node::Primitive(Primitive::Bare(kind)), spot) {
+        Ok(id) => Ok((id, rest)),
+        Err(refusal) => Err(refused(refusal, tokens)),
+    }
+}
+
+/// `never`, which is the first of these tokens, and the tokens behind its type.
+#[tactic(auto, unfolding(sf_grammar::specs::Reading::parse_never))]
+fn never<'a>(
+    alloc: Global,
+    version: Version,
+    tokens: &'a [PlacedToken<'a>],
+    rest: &'a [PlacedToken<'a>],
+    program: &mut Program,
+    spot: Spot,
+    left: u32,
+) -> Result<(TermId, &'a [PlacedToken<'a>]), Stop>
+    requires shallow { left ≤ 63 }
+    ensures reads { ReadsTerm program.old program.new result (parse_never left version (counts_of program.old) (toks tokens.now) (toks rest.now)) }
+    ensures placed { IfOk result (λ x. Consumes (TermPlaced version program.new x.0) (spot ∷ places rest.now) (places x.1.now)) }
+{
+    let (payload, rest) = inner_type(alloc, version, rest, rest, 0, left)?;
+    match program.never(payload, spot) {
         Ok(id) => Ok((id, rest)),
         Err(refusal) => Err(refused(refusal, tokens)),
     }
@@ -234,6 +256,7 @@ fn worded<'a>(
 {
     match head {
         Head::Bare(kind) => bare(version, tokens, rest, program, kind, spot),
+        Head::Never => never(alloc, version, tokens, rest, program, spot, left),
         Head::WithValue(kind) => with_value(
             alloc, version, tokens, rest, program, kind, spot, left,
         ),
@@ -244,6 +267,7 @@ fn worded<'a>(
         ),
         Head::Sided(side) => sided(alloc, version, tokens, rest, program, side, spot, left),
         Head::Headed(heading) => headed(alloc, version, tokens, rest, program, heading, spot, left),
+        Head::Switching(kind) => switching(alloc, version, tokens, rest, program, kind, spot, left),
     }
 }
 
@@ -294,6 +318,36 @@ fn headed<'a>(
     let (part, rest) = term(alloc, version, rest, program, left)?;
     let rest = symbol(rest, Symbol::Close)?;
     match program.add(Node::Headed(heading, value, part), spot) {
+        Ok(id) => Ok((id, rest)),
+        Err(refusal) => Err(refused(refusal, tokens)),
+    }
+}
+
+/// A term that gives way to another inside a pattern, whose word is the first of these tokens, and the tokens behind it.
+#[cycle(term)]
+#[tactic(auto, unfolding(sf_grammar::specs::Reading::parse_switching))]
+fn switching<'a>(
+    alloc: Global,
+    version: Version,
+    tokens: &'a [PlacedToken<'a>],
+    rest: &'a [PlacedToken<'a>],
+    program: &mut Program,
+    kind: Switching,
+    spot: Spot,
+    left: u32,
+) -> Result<(TermId, &'a [PlacedToken<'a>]), Stop>
+    requires shallow { left ≤ 63 }
+    ensures reads { ReadsTerm program.old program.new result (parse_switching left (parse_term left version) (counts_of program.old) kind (toks tokens.now) (toks rest.now)) }
+    ensures placed { IfOk result (λ x. Consumes (TermPlaced version program.new x.0) (spot ∷ places rest.now) (places x.1.now)) }
+{
+    let rest = symbol(rest, Symbol::Open)?;
+    let (source, rest) = term(alloc, version, rest, program, left)?;
+    let rest = symbol(rest, Symbol::Comma)?;
+    let (pattern, rest) = pattern(alloc, rest, left)?;
+    let rest = symbol(rest, Symbol::MapsTo)?;
+    let (body, rest) = term(alloc, version, rest, program, left)?;
+    let rest = symbol(rest, Symbol::Close)?;
+    match program.switching(kind, source, pattern, body, spot) {
         Ok(id) => Ok((id, rest)),
         Err(refusal) => Err(refused(refusal, tokens)),
     }

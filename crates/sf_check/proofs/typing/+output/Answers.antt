@@ -1,9 +1,9 @@
-use Rattle.std.proofs.Common.{◌∙◌, sym, refl, ap}
+use Rattle.std.proofs.Common.{◌∙◌, sym, refl, ap, Ok, Err}
 use Rattle.sf_value.specs.Values.{pair_kind}
 use Rattle.sf_check.specs.Breaking.{sequence_left, fan_right, parallel_input, side_input}
 use Rattle.sf_term.specs.Arena.{expressions_of}
 use Rattle.sf_check.specs.Contexts.{context_in}
-use Rattle.sf_check.proofs.Terms.{part_refused, err_answers, memory_answers, joined_there, sided_there, mismatch_refused, primitive_answers, sequence_answers, fan_answers, copy_reached, copy_takes, left_reached, right_reached, first_reached, second_reached, parallel_answers, first_answers, second_answers, start_answers, fed_refused, loop_reached, loop_answers}
+use Rattle.sf_check.proofs.Terms.{part_refused, err_answers, memory_answers, joined_there, sided_there, mismatch_refused, primitive_answers, sequence_answers, fan_answers, copy_reached, copy_takes, left_reached, right_reached, first_reached, second_reached, parallel_answers, first_answers, second_answers, start_answers, fed_refused, loop_reached, loop_answers, answers_under, source_reached, source_answers, pattern_answers, body_reached, body_answers, switch_answers}
 use Rattle.sf_check.proofs.typing.+output.Goals as goal
 
 pub output_of-returns-in-Primitive : goal.output_of-returns-in-Primitive
@@ -104,3 +104,47 @@ headed_output-returns t c =
 
 pub headed_output-returns-in_err-second : goal.headed_output-returns-in_err-second
 headed_output-returns-in_err-second t c = memory_answers _ _ c.args.term _ _ c.from_residual-in_err-second.ensures.1
+
+-- ## Switches
+
+pub switching_output-returns-in_err-clone_in : goal.switching_output-returns-in_err-clone_in
+switching_output-returns-in_err-clone_in t c = memory_answers _ _ c.args.term _ _ c.from_residual.ensures.1
+
+pub switching_output-returns-in_err-output : goal.switching_output-returns-in_err-output
+switching_output-returns-in_err-output t c =
+    err_answers _ _ _ _ _ _ c.from_residual-in_err-output.ensures.1 (part_refused _ _ _ _ _ c.requires.there.1 _ _ _ (source_reached c.args.context.now.program.now _ c.args.term _ _ c.spot-spot.ensures _ c.in_ok-clone_in.ensures.same _ _ _ _) c.in_err-output.ensures)
+
+pub switching_output-returns-in_err-value : goal.switching_output-returns-in_err-value
+switching_output-returns-in_err-value t c =
+    let wrong = c.in_err-value.ensures.err in
+    err_answers _ _ _ _ _ _ c.from_residual-in_err-value.ensures.1
+    (source_answers c.args.context.now.program.now _ c.args.term _ _ c.spot-spot.ensures _ _ _ _ c.requires.there.1 _ c.in_ok-clone_in.ensures.same _ c.in_ok-output.ensures _ wrong.0 wrong.1)
+
+pub switching_output-returns-in_err-inner : goal.switching_output-returns-in_err-inner
+switching_output-returns-in_err-inner t c =
+    err_answers _ _ _ _ _ _ c.from_residual-in_err-inner.ensures.1
+    (pattern_answers c.args.context.now.program.now _ c.args.term _ _ c.spot-spot.ensures _ _ _ _ c.requires.there.1 _ c.in_ok-clone_in.ensures.same _ c.in_ok-output.ensures _ _ c.in_ok-value.ensures.ok _ c.in_err-inner.ensures.refused)
+
+pub switching_output-returns-in_err-given : goal.switching_output-returns-in_err-given
+switching_output-returns-in_err-given t c =
+    let p = c.args.context.now.program.now in
+    let inner = c.in_ok-inner.ensures in
+    err_answers _ _ _ _ _ _ c.from_residual-in_err-given.ensures.1 (part_refused _ _ _ _ _ c.requires.there.1 _ _ _
+    (body_reached p _ c.args.term _ _ c.spot-spot.ensures _ _ _ _ c.requires.there.1 _ c.in_ok-clone_in.ensures.same _ c.in_ok-output.ensures _ _ c.in_ok-value.ensures.ok inner.bound)
+    (answers_under _ p _ _ _ _ (Err _) inner.program inner.context c.in_err-given.ensures))
+
+pub switching_output-returns-in_err-same : goal.switching_output-returns-in_err-same
+switching_output-returns-in_err-same t c =
+    let p = c.args.context.now.program.now in
+    let inner = c.in_ok-inner.ensures in
+    let body = answers_under _ p _ _ _ _ (Ok _) inner.program inner.context c.in_ok-given.ensures in
+    let other = c.in_err-same.ensures.err in
+    err_answers _ _ _ _ _ _ c.from_residual-in_err-same.ensures.1
+    (body_answers p _ c.args.term _ _ c.spot-spot.ensures _ _ _ _ c.requires.there.1 _ c.in_ok-clone_in.ensures.same _ c.in_ok-output.ensures _ _ c.in_ok-value.ensures.ok inner.bound _ body _ other.0 other.1)
+
+pub switching_output-returns : goal.switching_output-returns
+switching_output-returns t c =
+    let p = c.args.context.now.program.now in
+    let inner = c.in_ok-inner.ensures in
+    let body = answers_under _ p _ _ _ _ (Ok _) inner.program inner.context c.in_ok-given.ensures in
+    switch_answers p _ c.args.term _ _ c.spot-spot.ensures _ _ _ _ c.requires.there.1 _ c.in_ok-clone_in.ensures.same _ c.in_ok-output.ensures _ _ c.in_ok-value.ensures.ok inner.bound _ body c.requires.fits c.in_ok-same.ensures.ok

@@ -14,3 +14,6 @@ decreases-sided_output l = term_number l.term + term_number l.term
 
 abbrev pub decreases-headed_output : goal.decreases-headed_output
 decreases-headed_output l = term_number l.term + term_number l.term
+
+abbrev pub decreases-switching_output : goal.decreases-switching_output
+decreases-switching_output l = term_number l.term + term_number l.term

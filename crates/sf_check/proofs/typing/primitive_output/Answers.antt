@@ -1,7 +1,5 @@
-use Rattle.std.proofs.Common.{subst, sym}
 use Rattle.sf_term.specs.Arena.{expressions_of}
 use Rattle.sf_check.specs.Contexts.{context_in}
-use Rattle.sf_check.specs.Answering.{AnswersPrimitive}
 use Rattle.sf_check.proofs.Terms.{bare_answers, arrow_answers}
 use Rattle.sf_check.proofs.typing.primitive_output.Goals as goal
 

@@ -1,14 +1,17 @@
-use Rattle.std.proofs.Common.{◌≡◌, length, Ok, Err, refl, ap, ◌∙◌, subst, arith}
+use Rattle.std.proofs.Common.{◌≡◌, [], length, Ok, Err, refl, ap, ◌∙◌, subst, arith}
 use Rattle.std.specs.Vec.{with_items}
 use Rattle.std.proofs.lemmas.List.{with_items_is}
 use Rattle.sf_state.specs.declared.state.Wrap.TheVariants.{Loop}
 use Rattle.sf_term.specs.declared.form.Join.TheVariants.{InParallel, FannedOut}
-use Rattle.sf_mean.specs.Lives.{step}
+use Rattle.sf_value.specs.Values.{first_of, second_of}
+use Rattle.sf_mean.specs.Lives.{step, closure}
+use Rattle.sf_mean.specs.Meaning.{switched_value}
 use Rattle.sf_step.specs.Meters.{fault_of}
 use Rattle.sf_step.specs.Sampling.{fails}
-use Rattle.sf_step.proofs.Parts.{pass_exit}
+use Rattle.sf_step.proofs.Parts.{pass_exit, failed, memory_exit}
+use Rattle.sf_step.proofs.Switches.{comes_some, comes_none, source_fails, switch_memory, switch_waits_on, body_fails, body_takes_over, late_part, pass_beside, start_takes, start_waits, watching_goes, watching_stays, watching_fails}
 use Rattle.sf_step.proofs.Stages.{StagesStep, continues_first, continues_next, continues_fails, continues_last, pipeline_steps, pipeline_fails}
-use Rattle.sf_step.proofs.Exits.{ticked_by, tick_fails, first_memory, join_left_fails, join_right_fails, join_steps, other_join, wrap_fails, wrap_steps, early_memory, late_memory, state_steps, start_steps, start_fails, start_open_fails}
+use Rattle.sf_step.proofs.Exits.{ticked_by, tick_fails, first_memory, join_left_fails, join_right_fails, join_steps, other_join, wrap_fails, wrap_steps, early_memory, late_memory, state_steps, start_steps, start_fails, start_switches, start_open_fails}
 use Rattle.sf_step.proofs.sample.+step.Goals as goal
 
 -- ## step_state
@@ -27,6 +30,21 @@ step_state-returns-in-Some-clause-answers g t c = λ P L A.
 pub step_state-returns-in-None-clause-answers : goal.step_state-returns-in-None-clause-answers
 step_state-returns-in-None-clause-answers g t c = λ P L A. early_memory (g.R.Holds.answers c.args.context.now.functions.now) c.args.context.now.plan.now (ticked_by c.in_ok-inside-in-Live.ensures.ticked) c.stop-in-None.ensures.entered c.stop-in-None.ensures.height c.stop-in-None.ensures.fault
 
+pub step_state-returns-in_err-over-in-Switch-clause-answers : goal.step_state-returns-in_err-over-in-Switch-clause-answers
+step_state-returns-in_err-over-in-Switch-clause-answers g t c = λ P L A.
+    pass_exit _ _ c.from_residual-in_err-over-in-Switch.ensures.0 (failed (watching_fails (g.R.Holds.answers c.args.context.now.functions.now) c.args.context.now.plan.now _ c.in-Switch.names c.in-Switch.node.value (step c.args.context.now.dt c.args.value.now) c.args.meter.now c.step_watching.new.meter c.args.depth
+    _ c.in_err-over-in-Switch.ensures.answers P L (rw c.in-Switch.is at A)))
+
+pub step_state-returns-in-Some-over-clause-answers : goal.step_state-returns-in-Some-over-clause-answers
+step_state-returns-in-Some-over-clause-answers g t c = λ P L A.
+    watching_goes (g.R.Holds.answers c.args.context.now.functions.now) c.args.context.now.plan.now _ c.in-Switch.names c.in-Switch.node.value (step c.args.context.now.dt c.args.value.now) c.args.meter.now c.step_watching.new.meter c.args.depth
+    c.in_ok-over-in-Switch.over c.in-Some-over.body c.step_watching.new.node.value c.step_watching.new.value c.in-Some-over.is c.in_ok-over-in-Switch.ensures.answers P L (rw c.in-Switch.is at A)
+
+pub step_state-returns-in-None-over-clause-answers : goal.step_state-returns-in-None-over-clause-answers
+step_state-returns-in-None-over-clause-answers g t c = λ P L A.
+    watching_stays (g.R.Holds.answers c.args.context.now.functions.now) c.args.context.now.plan.now _ c.in-Switch.names c.in-Switch.node.value (step c.args.context.now.dt c.args.value.now) c.args.meter.now c.step_watching.new.meter c.args.depth
+    _ c.in_ok-over-in-Switch.over c.step_watching.new.node.value c.step_watching.new.value c.in-None-over.is c.in_ok-over-in-Switch.ensures.answers P L (rw c.in-Switch.is at A)
+
 -- ## start
 
 pub start-returns-in_err-inside-clause-answers : goal.start-returns-in_err-inside-clause-answers
@@ -37,21 +55,100 @@ start-returns-in-Err-clause-answers g t c =
     start_open_fails (g.R.Holds.answers c.args.context.now.functions.now) c.args.context.now.plan.now c.args.term c.args.names c.args.context.now.dt c.args.value.now (ticked_by c.in_ok-inside.ensures.ticked) c.stop-in-Err.ensures.entered c.stop-in-Err.ensures.height
     c.in-Err.fault _ c.stop-in-Err.ensures.fault c.in-Err.ensures
 
-pub start-returns-in_err-step_live-in-Ok-clause-answers : goal.start-returns-in_err-step_live-in-Ok-clause-answers
-start-returns-in_err-step_live-in-Ok-clause-answers g t c = λ P L A.
-    pass_exit _ _ c.from_residual-in_err-step_live-in-Ok.ensures.0 (start_fails (g.R.Holds.answers c.args.context.now.functions.now) c.args.context.now.plan.now c.args.term c.args.names c.args.context.now.dt c.args.value.now (ticked_by c.in_ok-inside.ensures.ticked) c.in-Ok.live c.in-Ok.ensures
-    _ c.in_err-step_live-in-Ok.ensures.answers P L A)
+pub start-returns-in_err-step_live-in-Ok-Live-clause-answers : goal.start-returns-in_err-step_live-in-Ok-Live-clause-answers
+start-returns-in_err-step_live-in-Ok-Live-clause-answers g t c = λ P L A.
+    pass_exit _ _ c.from_residual-in_err-step_live-in-Ok-Live.ensures.0 (failed (start_fails (g.R.Holds.answers c.args.context.now.functions.now) c.args.context.now.plan.now c.args.term c.args.names c.args.context.now.dt c.args.value.now (ticked_by c.in_ok-inside.ensures.ticked) c.in-Ok-Live.live (rw c.in-Ok-Live.field-0-is at c.in-Ok-Live.ensures)
+    _ c.in_err-step_live-in-Ok-Live.ensures.answers P L A))
 
 pub start-returns-in_default-clause-answers : goal.start-returns-in_default-clause-answers
-start-returns-in_default-clause-answers g t c = λ P L A.
-    fails (start_fails (g.R.Holds.answers c.args.context.now.functions.now) c.args.context.now.plan.now c.args.term c.args.names c.args.context.now.dt c.args.value.now (ticked_by c.in_ok-inside.ensures.ticked) c.in-Ok.live c.in-Ok.ensures
-    _ (late_memory (g.R.Holds.answers c.args.context.now.functions.now) c.args.context.now.plan.now c.in_ok-step_live-in-Ok.ensures.answers c.stop.ensures.entered c.stop.ensures.height c.stop.ensures.fault) P L A)
+start-returns-in_default-clause-answers g t c =
+    start_fails (g.R.Holds.answers c.args.context.now.functions.now) c.args.context.now.plan.now c.args.term c.args.names c.args.context.now.dt c.args.value.now (ticked_by c.in_ok-inside.ensures.ticked) c.in-Ok-Live.live (rw c.in-Ok-Live.field-0-is at c.in-Ok-Live.ensures)
+    _ (late_memory (g.R.Holds.answers c.args.context.now.functions.now) c.args.context.now.plan.now c.in_ok-step_live-in-Ok-Live.ensures.answers c.stop.ensures.entered c.stop.ensures.height c.stop.ensures.fault)
 
-pub start-returns-in-Ok-new-clause-answers : goal.start-returns-in-Ok-new-clause-answers
-start-returns-in-Ok-new-clause-answers g t c =
-    start_steps (g.R.Holds.answers c.args.context.now.functions.now) c.args.context.now.plan.now c.args.term c.args.names c.args.context.now.dt c.args.value.now (ticked_by c.in_ok-inside.ensures.ticked) c.in-Ok.live c.in-Ok.ensures
-    c.args.names c.step_live.new.live c.in-Ok-new.node.value c.step_live.new.value refl c.in-Ok-new.ensures.ok
-    c.in_ok-step_live-in-Ok.ensures.answers
+pub start-returns-in-Ok-clause-answers : goal.start-returns-in-Ok-clause-answers
+start-returns-in-Ok-clause-answers g t c =
+    start_steps (g.R.Holds.answers c.args.context.now.functions.now) c.args.context.now.plan.now c.args.term c.args.names c.args.context.now.dt c.args.value.now (ticked_by c.in_ok-inside.ensures.ticked) c.in-Ok-Live.live (rw c.in-Ok-Live.field-0-is at c.in-Ok-Live.ensures)
+    c.args.names c.step_live.new.live c.in-Ok.node.value c.step_live.new.value refl c.in-Ok.ensures.ok
+    c.in_ok-step_live-in-Ok-Live.ensures.answers
+
+pub start-returns-in-Ok-Switch-clause-answers : goal.start-returns-in-Ok-Switch-clause-answers
+start-returns-in-Ok-Switch-clause-answers g t c =
+    start_switches (g.R.Holds.answers c.args.context.now.functions.now) c.args.context.now.plan.now c.args.term c.args.names c.args.context.now.dt c.args.value.now (ticked_by c.in_ok-inside.ensures.ticked) c.in-Ok-Switch.switch _ (rw c.in-Ok-Switch.field-0-is at c.in-Ok-Switch.ensures) c.start_switch.ensures.answers
+
+-- ## start_switch
+
+pub start_switch-returns-in_err-over-clause-answers : goal.start_switch-returns-in_err-over-clause-answers
+start_switch-returns-in_err-over-clause-answers g t c = λ m depth t T e N W. pass_exit _ _ c.from_residual.ensures.0 (failed (c.in_err-over.ensures.answers m depth t T e [] N W))
+
+pub start_switch-returns-in_default-clause-answers : goal.start_switch-returns-in_default-clause-answers
+start_switch-returns-in_default-clause-answers g t c = λ m depth t T e N W. late_part (g.R.Holds.answers c.args.context.now.functions.now) c.args.context.now.plan.now (c.in_ok-over.ensures.answers m depth t T e [] N W) c.stop.ensures.entered c.stop.ensures.height c.stop.ensures.fault
+
+pub start_switch-returns-in-Some-clause-answers : goal.start_switch-returns-in-Some-clause-answers
+start_switch-returns-in-Some-clause-answers g t c =
+    start_takes (g.R.Holds.answers c.args.context.now.functions.now) c.args.context.now.plan.now c.args.switch c.args.names (step c.args.context.now.dt c.args.value.now) c.args.meter.now c.step_switch.new.meter c.args.inside c.in_ok-over.over c.step_switch.new.switch c.in-Some.body c.step_switch.new.value
+    c.in-Some.is c.in_ok-over.ensures.answers
+
+pub start_switch-returns-in-Ok-clause-answers : goal.start_switch-returns-in-Ok-clause-answers
+start_switch-returns-in-Ok-clause-answers g t c =
+    start_waits (g.R.Holds.answers c.args.context.now.functions.now) c.args.context.now.plan.now _ c.args.switch c.args.names (step c.args.context.now.dt c.args.value.now) c.args.meter.now c.step_switch.new.meter c.args.inside c.in_ok-over.over c.step_switch.new.switch c.in-Ok.node.value c.step_switch.new.value
+    c.in-None.is c.in-Ok.ensures.ok c.in_ok-over.ensures.answers
+
+-- ## step_watching
+
+pub step_watching-returns-in_err-inside-clause-answers : goal.step_watching-returns-in_err-inside-clause-answers
+step_watching-returns-in_err-inside-clause-answers g t c = λ T e L N W. pass_beside (g.R.Holds.answers c.args.context.now.functions.now) c.args.context.now.plan.now _ _ _ c.from_residual.ensures.0 (tick_fails (g.R.Holds.answers c.args.context.now.functions.now) c.args.context.now.plan.now (closure T e) _ c.in_err-inside.ensures.ticked)
+
+pub step_watching-returns-in_default-clause-answers : goal.step_watching-returns-in_default-clause-answers
+step_watching-returns-in_default-clause-answers g t c = λ T e L N W. early_memory (g.R.Holds.answers c.args.context.now.functions.now) c.args.context.now.plan.now (ticked_by c.in_ok-inside.ensures.ticked) c.stop.ensures.entered c.stop.ensures.height c.stop.ensures.fault
+
+pub step_watching-returns-in-None-clause-answers : goal.step_watching-returns-in-None-clause-answers
+step_watching-returns-in-None-clause-answers g t c = λ T e L N W. early_memory (g.R.Holds.answers c.args.context.now.functions.now) c.args.context.now.plan.now (ticked_by c.in_ok-inside.ensures.ticked) c.stop-in-None.ensures.entered c.stop-in-None.ensures.height c.stop-in-None.ensures.fault
+
+-- ## step_switch
+
+pub step_switch-returns-in_default-clause-answers : goal.step_switch-returns-in_default-clause-answers
+step_switch-returns-in_default-clause-answers g t c = λ m depth t T e L N W. early_memory (g.R.Holds.answers c.args.context.now.functions.now) c.args.context.now.plan.now t c.stop.ensures.entered c.stop.ensures.height c.stop.ensures.fault
+
+pub step_switch-returns-in_err-step_state-clause-answers : goal.step_switch-returns-in_err-step_state-clause-answers
+step_switch-returns-in_err-step_state-clause-answers g t c = λ m depth t T e L N W.
+    pass_beside (g.R.Holds.answers c.args.context.now.functions.now) c.args.context.now.plan.now _ _ _ c.from_residual.ensures.0 (source_fails (g.R.Holds.answers c.args.context.now.functions.now) c.args.context.now.plan.now c.args.names.now c.args.switch.now (step c.args.context.now.dt c.args.value.now) c.args.meter.now c.step_state.new.meter c.args.inside
+    _ c.in_err-step_state.ensures.answers m depth t T e L N W)
+
+pub step_switch-returns-in_default-parts-clause-answers : goal.step_switch-returns-in_default-parts-clause-answers
+step_switch-returns-in_default-parts-clause-answers g t c = λ m depth t T e L N W.
+    memory_exit c.stop-in_default-parts.ensures.fault (switch_memory (g.R.Holds.answers c.args.context.now.functions.now) c.args.context.now.plan.now c.args.names.now c.args.switch.now (step c.args.context.now.dt c.args.value.now) c.args.meter.now c.step_state.new.meter c.args.inside
+    c.step_state.new.state c.step_state.new.value c.in_ok-step_state.ensures.answers _ c.stop-in_default-parts.ensures.entered c.stop-in_default-parts.ensures.height m depth t T e L N W)
+
+pub step_switch-returns-in-None-clause-answers : goal.step_switch-returns-in-None-clause-answers
+step_switch-returns-in-None-clause-answers g t c =
+    let y = c.step_state.new.value in
+    let same = c.replace-both.ensures.value in
+    switch_waits_on (g.R.Holds.answers c.args.context.now.functions.now) c.args.context.now.plan.now c.args.names.now c.args.switch.now (step c.args.context.now.dt c.args.value.now) c.args.meter.now c.step_state.new.meter c.args.inside
+    c.step_state.new.state y c.in_ok-step_state.ensures.answers (comes_none _ c.payload_of.result c.in-Ok-parts.event y c.payload_of.ensures c.in-None.is (c.in-Ok-parts.ensures.1 ∙ ap second_of same))
+    c.in-Ok-parts.shown (c.in-Ok-parts.ensures.0 ∙ ap first_of same) _ refl
+
+pub step_switch-returns-in_default-inside-clause-answers : goal.step_switch-returns-in_default-inside-clause-answers
+step_switch-returns-in_default-inside-clause-answers g t c = λ m depth t T e L N W.
+    memory_exit c.stop-in_default-inside.ensures.fault (switch_memory (g.R.Holds.answers c.args.context.now.functions.now) c.args.context.now.plan.now c.args.names.now c.args.switch.now (step c.args.context.now.dt c.args.value.now) c.args.meter.now c.step_state.new.meter c.args.inside
+    c.step_state.new.state c.step_state.new.value c.in_ok-step_state.ensures.answers _ c.stop-in_default-inside.ensures.entered c.stop-in_default-inside.ensures.height m depth t T e L N W)
+
+pub step_switch-returns-in_err-step_state-in-Some-clause-answers : goal.step_switch-returns-in_err-step_state-in-Some-clause-answers
+step_switch-returns-in_err-step_state-in-Some-clause-answers g t c = λ m depth t T e L N W.
+    let y = c.step_state.new.value in
+    let same = c.replace-both.ensures.value in
+    pass_beside (g.R.Holds.answers c.args.context.now.functions.now) c.args.context.now.plan.now _ _ _ c.from_residual-in_err-step_state-in-Some.ensures.0 (body_fails (g.R.Holds.answers c.args.context.now.functions.now) c.args.context.now.plan.now c.args.names.now c.args.switch.now (step c.args.context.now.dt c.args.value.now) c.args.meter.now c.step_state.new.meter c.args.inside
+    c.step_state.new.state y c.in_ok-step_state.ensures.answers c.in-Some.payload.value (comes_some _ c.payload_of.result c.in-Some.payload c.in-Ok-parts.event y c.payload_of.ensures c.in-Some.is (c.in-Ok-parts.ensures.1 ∙ ap second_of same))
+    c.in-Ok-inside.around (c.in-Ok-inside.ensures c.args.context.now.plan.now) c.step_state-in-Some.new.meter _ (rw c.in-Ok.ensures at c.in_err-step_state-in-Some.ensures.answers) m depth t T e L N W)
+
+pub step_switch-returns-in_ok-step_state-in-Some-clause-answers : goal.step_switch-returns-in_ok-step_state-in-Some-clause-answers
+step_switch-returns-in_ok-step_state-in-Some-clause-answers g t c =
+    let y = c.step_state.new.value in
+    let same = c.replace-both.ensures.value in
+    body_takes_over (g.R.Holds.answers c.args.context.now.functions.now) c.args.context.now.plan.now c.args.names.now c.args.switch.now (step c.args.context.now.dt c.args.value.now) c.args.meter.now c.step_state.new.meter c.args.inside
+    c.step_state.new.state y c.in_ok-step_state.ensures.answers c.in-Some.payload.value (comes_some _ c.payload_of.result c.in-Some.payload c.in-Ok-parts.event y c.payload_of.ensures c.in-Some.is (c.in-Ok-parts.ensures.1 ∙ ap second_of same))
+    c.in-Ok-inside.around (c.in-Ok-inside.ensures c.args.context.now.plan.now) c.step_state-in-Some.new.meter
+    c.step_state-in-Some.new.state c.step_state-in-Some.new.value _ (c.switched.ensures ∙ ap (λ d. switched_value c.args.switch.now.form d c.step_state-in-Some.new.value) (c.in-Ok-parts.ensures.0 ∙ ap first_of same)) _
+    (rw c.in-Ok.ensures at c.in_ok-step_state-in-Some.ensures.answers)
 
 -- ## step_live
 

@@ -28,6 +28,15 @@ decreases-step_live g l = 5 * (100000 - entered_of l.meter.now) + 4
 abbrev pub decreases-step_pipeline : goal.decreases-step_pipeline
 decreases-step_pipeline g l = 5 * (100000 - entered_of l.meter.now) + 3
 
+abbrev pub decreases-start_switch : goal.decreases-start_switch
+decreases-start_switch g l = 5 * (100000 - entered_of l.meter.now) + 4
+
+abbrev pub decreases-step_watching : goal.decreases-step_watching
+decreases-step_watching g l = 5 * (100000 - entered_of l.meter.now)
+
+abbrev pub decreases-step_switch : goal.decreases-step_switch
+decreases-step_switch g l = 5 * (100000 - entered_of l.meter.now) + 3
+
 abbrev pub invariant-step_pipeline-loop-stage : goal.invariant-step_pipeline-loop-stage
 invariant-step_pipeline-loop-stage g l = record {
   grows : entered_of l.initial.meter ≤ entered_of l.meter;

@@ -1,8 +1,9 @@
 use Rattle.std.proofs.Common.{◌≡◌, length, string_bytes, Err, sym, ap, subst}
 use Rattle.sf_lex.specs.Words.{IsName}
-use Rattle.sf_text.specs.declared.stop.Stop.{Stop}
+use Rattle.sf_parse.specs.declared.stop.Stop.{Stop}
 use Rattle.sf_grammar.specs.Reading.{parse_template}
-use Rattle.sf_text.specs.Answers.{StopsReading, counts_of, toks, kinds_in, stop_for}
+use Rattle.sf_parse.specs.Answers.{StopsReading, counts_of, toks, stop_for}
+use Rattle.sf_text.specs.Answers.{kinds_in}
 use Rattle.sf_text.proofs.Found.{template_refused}
 use Rattle.sf_text.proofs.Placed.{signature_counted, template_read}
 use Rattle.sf_text.proofs.template.template.Goals as goal

@@ -16,5 +16,8 @@ decreases-sided l = 4 * l.left + 1
 abbrev pub decreases-headed : goal.decreases-headed
 decreases-headed l = 4 * l.left + 1
 
+abbrev pub decreases-switching : goal.decreases-switching
+decreases-switching l = 4 * l.left + 1
+
 abbrev pub decreases-joined : goal.decreases-joined
 decreases-joined l = 4 * l.left + 1

@@ -1,4 +1,4 @@
-use Rattle.sf_text.specs.Consuming.{places}
+use Rattle.sf_parse.specs.Consuming.{places}
 use Rattle.sf_text.proofs.Placed.{bare_read}
 use Rattle.sf_text.proofs.term.bare.Goals as goal
 

@@ -1,5 +1,5 @@
 use Rattle.std.proofs.Common.{Err, ap}
-use Rattle.sf_text.specs.Answers.{toks}
+use Rattle.sf_parse.specs.Answers.{toks}
 use Rattle.sf_text.proofs.Found.{term_refused, timed_ready}
 use Rattle.sf_text.proofs.Placed.{timed_read}
 use Rattle.sf_text.proofs.term.timed.Goals as goal

@@ -1,5 +1,5 @@
 use Rattle.std.proofs.Common.{Err, ap}
-use Rattle.sf_text.specs.Answers.{toks}
+use Rattle.sf_parse.specs.Answers.{toks}
 use Rattle.sf_text.proofs.Found.{term_refused, value_ready}
 use Rattle.sf_text.proofs.Placed.{with_value_read}
 use Rattle.sf_text.proofs.term.with_value.Goals as goal

@@ -3,19 +3,19 @@ use Rattle.sf_prim.specs.Keeping.{keeps_nothing, keeps_time, keeps_area, keeps_l
 use Rattle.sf_prim.proofs.prim_state.PrimState.bare.Goals as goal
 
 pub returns-in-Identity : goal.returns-in-Identity
-returns-in-Identity c = λ φ. rw c.in-Identity.is keeps_nothing
+returns-in-Identity c = λ s. rw c.in-Identity.is keeps_nothing
 
 pub returns-in-LocalTime : goal.returns-in-LocalTime
-returns-in-LocalTime c = λ φ. rw c.in-LocalTime.is (keeps_time refl)
+returns-in-LocalTime c = λ s. rw c.in-LocalTime.is (keeps_time refl)
 
 pub returns-in-Integral : goal.returns-in-Integral
-returns-in-Integral c = λ φ. rw c.in-Integral.is (keeps_area refl refl)
+returns-in-Integral c = λ s. rw c.in-Integral.is (keeps_area refl refl)
 
 pub returns-in-Edge : goal.returns-in-Edge
-returns-in-Edge c = λ φ. rw c.in-Edge.is (keeps_low refl)
+returns-in-Edge c = λ s. rw c.in-Edge.is (keeps_low refl)
 
 pub returns-in-NotYet : goal.returns-in-NotYet
-returns-in-NotYet c = λ φ. rw c.in-NotYet.is (keeps_begun refl)
+returns-in-NotYet c = λ s. rw c.in-NotYet.is (keeps_begun refl)
 
 pub returns-in-Count : goal.returns-in-Count
-returns-in-Count c = λ φ. rw c.in-Count.is (keeps_count refl)
+returns-in-Count c = λ s. rw c.in-Count.is (keeps_count refl)

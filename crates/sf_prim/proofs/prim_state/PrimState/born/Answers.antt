@@ -1,35 +1,39 @@
 use Rattle.std.proofs.Common.{w64}
 use Rattle.std.proofs.lemmas.Int.{to_z-of_z}
-use Rattle.sf_prim.specs.Keeping.{begins}
-use Rattle.sf_prim.proofs.Primitives.{begins_exit, timed_exit, timed_as, memory_exit, arrow_keeps, accumulated_keeps, accumulated_fails}
+use Rattle.sf_prim.specs.Keeping.{begins, keeps_no_event, keeps_function}
+use Rattle.sf_prim.proofs.Primitives.{begins_exit, timed_exit, timed_as, memory_exit, accumulated_keeps, accumulated_fails}
 use Rattle.sf_prim.proofs.prim_state.PrimState.born.Goals as goal
 
 pub returns-in-Bare : goal.returns-in-Bare
-returns-in-Bare g c = λ xs h. rw c.in-Bare.is (begins (c.bare.ensures _))
+returns-in-Bare g c = λ h. rw c.in-Bare.is (begins (c.bare.ensures _))
+
+pub returns-in-Never : goal.returns-in-Never
+returns-in-Never g c = λ h. rw c.in-Never.is (begins keeps_no_event)
 
 pub returns-in_err-value-in-WithValue : goal.returns-in_err-value-in-WithValue
-returns-in_err-value-in-WithValue g c = λ xs h. rw c.in-WithValue.is (begins_exit _ _ _ _ _ c.from_residual.ensures.1 (c.in_err-value-in-WithValue.ensures _ (rw c.in-WithValue.is at h)))
+returns-in_err-value-in-WithValue g c = λ h. rw c.in-WithValue.is (begins_exit _ _ _ _ _ c.from_residual.ensures.1 (c.in_err-value-in-WithValue.ensures (rw c.in-WithValue.is at h)))
 
 pub returns-in_ok-value-in-WithValue : goal.returns-in_ok-value-in-WithValue
-returns-in_ok-value-in-WithValue g c = λ xs h. rw c.in-WithValue.is (begins (c.with_value.ensures _ _ (c.in_ok-value-in-WithValue.ensures _ (rw c.in-WithValue.is at h))))
+returns-in_ok-value-in-WithValue g c = λ h. rw c.in-WithValue.is (begins (c.with_value.ensures _ _ (c.in_ok-value-in-WithValue.ensures (rw c.in-WithValue.is at h))))
 
 pub returns-in_err-value-in-Timed : goal.returns-in_err-value-in-Timed
-returns-in_err-value-in-Timed g c = λ xs h. rw c.in-Timed.is (timed_exit _ _ _ _ _ _ c.from_residual-in_err-value-in-Timed.ensures.1 (c.in_err-value-in-Timed.ensures _ (rw c.in-Timed.is at h)))
+returns-in_err-value-in-Timed g c = λ h. rw c.in-Timed.is (timed_exit _ _ _ _ _ _ c.from_residual-in_err-value-in-Timed.ensures.1 (c.in_err-value-in-Timed.ensures (rw c.in-Timed.is at h)))
 
 pub returns-in_ok-value-in-Timed : goal.returns-in_ok-value-in-Timed
-returns-in_ok-value-in-Timed g c = λ xs h. rw c.in-Timed.is (begins (timed_as _ _ _ _ (to_z-of_z w64 c.in-Timed.time search) (c.timed.ensures _ _ (c.in_ok-value-in-Timed.ensures _ (rw c.in-Timed.is at h)))))
+returns-in_ok-value-in-Timed g c = λ h. rw c.in-Timed.is (begins (timed_as _ _ _ _ (to_z-of_z w64 c.in-Timed.time search) (c.timed.ensures _ _ (c.in_ok-value-in-Timed.ensures (rw c.in-Timed.is at h)))))
 
 pub returns-in_ok-shared-in-Arrow : goal.returns-in_ok-shared-in-Arrow
-returns-in_ok-shared-in-Arrow g c = λ xs h. rw c.in-Arrow.is (begins (arrow_keeps _ _ c.in-Arrow.code _ c.in_ok-shared-in-Arrow.ensures.cases (rw c.in-Arrow.is at h)))
+returns-in_ok-shared-in-Arrow g c = λ h. rw c.in-Arrow.is (begins (keeps_function (c.in_ok-shared-in-Arrow.ensures (rw c.in-Arrow.is at h) (g.R.Holds.answers c.args.functions.now))))
 
 pub returns-in_err-shared-in-Arrow : goal.returns-in_err-shared-in-Arrow
-returns-in_err-shared-in-Arrow g c = λ xs h. memory_exit _ _ _ c.from_residual-in_err-shared-in-Arrow.ensures.1
+returns-in_err-shared-in-Arrow g c = λ h. memory_exit _ _ _ c.from_residual-in_err-shared-in-Arrow.ensures.1
 
 pub returns-in_err-value-in-Accumulated : goal.returns-in_err-value-in-Accumulated
-returns-in_err-value-in-Accumulated g c = λ xs h. rw c.in-Accumulated.is (accumulated_fails _ _ _ _ _ _ c.from_residual-in_err-value-in-Accumulated.ensures.1 (c.in_err-value-in-Accumulated.ensures _ (rw c.in-Accumulated.is at h).0))
+returns-in_err-value-in-Accumulated g c = λ h. rw c.in-Accumulated.is (accumulated_fails _ _ _ _ _ _ c.from_residual-in_err-value-in-Accumulated.ensures.1 (c.in_err-value-in-Accumulated.ensures (rw c.in-Accumulated.is at h).0))
 
 pub returns-in_err-shared-in-Accumulated : goal.returns-in_err-shared-in-Accumulated
-returns-in_err-shared-in-Accumulated g c = λ xs h. memory_exit _ _ _ c.from_residual-in_err-shared-in-Accumulated.ensures.1
+returns-in_err-shared-in-Accumulated g c = λ h. memory_exit _ _ _ c.from_residual-in_err-shared-in-Accumulated.ensures.1
 
 pub returns-in_ok-shared-in-Accumulated : goal.returns-in_ok-shared-in-Accumulated
-returns-in_ok-shared-in-Accumulated g c = λ xs h. rw c.in-Accumulated.is (begins (accumulated_keeps _ _ _ _ c.in-Accumulated.code c.in_ok-shared-in-Accumulated.ensures.cases (rw c.in-Accumulated.is at h).1 (c.in_ok-value-in-Accumulated.ensures _ (rw c.in-Accumulated.is at h).0)))
+returns-in_ok-shared-in-Accumulated g c = λ h.
+    rw c.in-Accumulated.is (begins (accumulated_keeps _ _ _ _ (c.in_ok-shared-in-Accumulated.ensures (rw c.in-Accumulated.is at h).1 (g.R.Holds.answers c.args.functions.now)) (c.in_ok-value-in-Accumulated.ensures (rw c.in-Accumulated.is at h).0)))

@@ -1,8 +1,11 @@
-use Rattle.sf_prim.proofs.Primitives.{identity_goes_on, constant_goes_on, previous_goes_on, arrow_goes_on, accumulated_goes_on, clock_goes_on, area_goes_on, timer_goes_on, edge_goes_on, not_yet_goes_on, count_goes_on, now_goes_on, hold_goes_on}
+use Rattle.sf_prim.proofs.Primitives.{identity_goes_on, never_goes_on, constant_goes_on, previous_goes_on, arrow_goes_on, accumulated_goes_on, clock_goes_on, area_goes_on, timer_goes_on, edge_goes_on, not_yet_goes_on, count_goes_on, now_goes_on, hold_goes_on}
 use Rattle.sf_prim.proofs.prim_state.PrimState.step.Goals as goal
 
 pub returns-in-Identity : goal.returns-in-Identity
 returns-in-Identity g c = λ q scope L same k. rw c.in-Identity.is (identity_goes_on q scope _ _ L (rw c.in-Identity.is at k))
+
+pub returns-in-Never : goal.returns-in-Never
+returns-in-Never g c = λ q scope L same k. rw c.in-Never.is (never_goes_on q scope _ L _ c.no_event.ensures (rw c.in-Never.is at k))
 
 pub returns-in-Constant : goal.returns-in-Constant
 returns-in-Constant g c = λ q scope L same k. constant_goes_on q scope _ L _ _ _ c.copy.ensures.ok c.copy.ensures.err (rw c.in-Constant.is at k)

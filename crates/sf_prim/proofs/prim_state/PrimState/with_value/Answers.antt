@@ -3,13 +3,13 @@ use Rattle.std.proofs.Common.{refl}
 use Rattle.sf_prim.proofs.prim_state.PrimState.with_value.Goals as goal
 
 pub returns-in-Constant : goal.returns-in-Constant
-returns-in-Constant c = λ φ e h. rw c.in-Constant.is (keeps_value h)
+returns-in-Constant c = λ s e h. rw c.in-Constant.is (keeps_value h)
 
 pub returns-in-InitialPre : goal.returns-in-InitialPre
-returns-in-InitialPre c = λ φ e h. rw c.in-InitialPre.is (keeps_previous h refl)
+returns-in-InitialPre c = λ s e h. rw c.in-InitialPre.is (keeps_previous h refl)
 
 pub returns-in-Now : goal.returns-in-Now
-returns-in-Now c = λ φ e h. rw c.in-Now.is (keeps_first h refl)
+returns-in-Now c = λ s e h. rw c.in-Now.is (keeps_first h refl)
 
 pub returns-in-Hold : goal.returns-in-Hold
-returns-in-Hold c = λ φ e h. rw c.in-Hold.is (keeps_last h refl)
+returns-in-Hold c = λ s e h. rw c.in-Hold.is (keeps_last h refl)

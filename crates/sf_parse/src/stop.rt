@@ -1,0 +1,22 @@
+//! Why reading stopped.
+ghost use Rattle.std.specs.Prelude.{◌≡◌};
+ghost use Rattle.sf_parse.specs.declared.stop.Stop.TheVariants.{Memory};
+
+use sf_refusal::Rule;
+use std::alloc::AllocError;
+
+/// Why reading stopped: a rule that is broken, and how many tokens there are from the one on that breaks it, or want of
+/// memory.
+#[derive(Clone, Copy, Debug, PartialEq, Eq)]
+pub enum Stop {
+    At(Rule, usize),
+    Memory,
+}
+
+impl From<AllocError> for Stop {
+    ghost from_gives = { λ _ e. e ≡ Memory };
+
+    fn from(_error: AllocError) -> Stop {
+        Stop::Memory
+    }
+}

@@ -1,6 +1,0 @@
-use Rattle.sf_text.specs.Consuming.{places}
-use Rattle.sf_text.proofs.Placed.{number_read}
-use Rattle.sf_text.proofs.expression.number.Goals as goal
-
-pub returns-in-Ok-clause-placed : goal.returns-in-Ok-clause-placed
-returns-in-Ok-clause-placed c = number_read (places c.args.rest.now) c.in-Ok.ensures.ok

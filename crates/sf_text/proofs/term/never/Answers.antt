@@ -1,0 +1,13 @@
+use Rattle.std.proofs.Common.{Err, ap}
+use Rattle.sf_parse.specs.Answers.{toks}
+use Rattle.sf_text.proofs.Found.{term_refused, never_ready}
+use Rattle.sf_text.proofs.Placed.{never_read}
+use Rattle.sf_text.proofs.term.never.Goals as goal
+
+pub returns-in-Err-clause-reads : goal.returns-in-Err-clause-reads
+returns-in-Err-clause-reads c =
+    term_refused c.args.tokens.now c.in-Err.refusal c.refused.result (never_ready c.args.version c.args.left (toks c.args.rest.now) c.requires.shallow c.in_ok-payload.ensures.reads) c.refused.ensures
+    (λ same. c.in-Err.ensures.many.0 (ap Err same)) (λ same. absurd (c.in-Err.ensures.not_deep (ap Err same))) (λ same. c.in-Err.ensures.no_name (ap Err same))
+
+pub returns-in-Ok-clause-placed : goal.returns-in-Ok-clause-placed
+returns-in-Ok-clause-placed c = never_read c.args.left c.args.rest.now c.in_ok-payload.rest.now c.in-Ok.ensures.ok c.in_ok-payload.ensures.reads c.in_ok-payload.ensures.behind
