@@ -40,6 +40,7 @@ NETWORKS = {
     "50 arr x => (x + 1)": ("Int ~> Int", chain("arr x => (x + 1)", 50), 99, 120, 0),
     "50 swaps of a pair": ("Int ~> (Int, Int)", f"({PAIRED} >>> {chain('arr (x, y) => (y, x)', 50)})", 101, 250, 2),
     "50 first iPre 0": ("Int ~> (Int, Int)", f"({PAIRED} >>> {chain('first iPre 0', 50)})", 151, 90, 3),
+    "50 fired switches": ("Int ~> Int", chain("switch((identity &&& now ()), _ => identity)", 50), 99, 60, 0),
     "running total": ("Int ~> Int", TIMED["total"], None, 2000, 4),
 }
 
