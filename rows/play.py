@@ -18,7 +18,7 @@ import threading
 HERE = os.path.dirname(os.path.abspath(__file__))
 EXAMPLES = os.path.join(HERE, "..", "examples")
 # A text or a comment, which has no forms, or a word or a symbol.
-TOKEN = re.compile(rb'"[^"\n]*"|#.*|[A-Za-z]\w*|-?\d+|[!=<>]=|~>|=>|>>>|\*{3}|&&&|\S')
+TOKEN = re.compile(rb'"[^"\n]*"|#.*|[A-Za-z]\w*|-?\d+|-->|[!=<>]=|~>|=>|>>>|\*{3}|&&&|\S')
 
 
 def text_of(given):

@@ -30,7 +30,7 @@ use Rattle.sf_term.specs.Headers.{Header}
 use Rattle.sf_term.specs.Trees.{Primitive, bare, never, with_value, timed, arrow, accumulated, fused, Term, primitive, joined, sided, headed, switching, staged, Template, Templates}
 use Rattle.sf_term.specs.Arena.{term_number, tree, term_node_at, term_entry_of, expressions_of, headers_of, template_in, templates_of, TermPartsBelow}
 use Rattle.sf_mean.specs.Contexts.{NameKind, value, Bindings, context_with, bindings_inside, with_value_of, values_in}
-use Rattle.sf_mean.specs.Typing.{PrimitiveTakes, bare_takes, never_takes, value_takes, timed_takes, accumulated_takes, arrow_takes, fused_takes, Takes, takes, FormTakes, primitive_takes, sequence_takes, parallel_takes, fan_takes, first_takes, second_takes, loop_takes, switch_takes, stages_take, Accepted}
+use Rattle.sf_mean.specs.Typing.{PrimitiveTakes, bare_takes, never_takes, value_takes, timed_takes, accumulated_takes, arrow_takes, fused_takes, Takes, takes, FormTakes, primitive_takes, sequence_takes, parallel_takes, fan_takes, first_takes, second_takes, loop_takes, initialized_takes, switch_takes, recurring_takes, stages_take, Accepted}
 use Rattle.sf_check.specs.Answering.{primitive_in}
 use Rattle.sf_check.specs.Calling.{IsCalledAlike, AreCalledAlike}
 use Rattle.sf_check.proofs.Made.{made, tree_made}
@@ -143,7 +143,9 @@ module _ (fs gs : TypesByName) where
       form_over bs k (first_takes t) = first_takes (takes_over bs k t)
       form_over bs k (second_takes t) = second_takes (takes_over bs k t)
       form_over bs k (loop_takes e t) = loop_takes (typed_around bs k.0 e) (takes_over bs k.1 t)
+      form_over bs k (initialized_takes e t) = initialized_takes (typed_around bs k.0 e) (takes_over bs k.1 t)
       form_over bs k (switch_takes {p = p} {c = c} t h u) = switch_takes (takes_over bs k.0 t) (bound_around bs h) (takes_over (bindings_inside p c bs) k.1 u)
+      form_over bs k (recurring_takes {p = p} {c = c} t h u) = recurring_takes (takes_over bs k.0 t) (bound_around bs h) (takes_over (bindings_inside p c bs) k.1 u)
       form_over bs k (stages_take f g) = absurd k
 
   -- ## Arenas of expressions

@@ -16,13 +16,17 @@ use Rattle.sf_operator.proofs.Refusing.{kind_answered}
 use Rattle.sf_expr.proofs.Answered.{bound_or, answered, function_answered}
 use Rattle.sf_expr.specs.declared.exprs.FunctionId.{FunctionId}
 use Rattle.sf_expr.specs.declared.exprs.PatternId.{PatternId}
+use Rattle.sf_term.specs.declared.form.Bare.{Bare}
+use Rattle.sf_term.specs.declared.form.Bare.TheVariants.{Pre}
 use Rattle.sf_term.specs.declared.form.WithValue.{WithValue}
 use Rattle.sf_term.specs.declared.form.Timing.{Timing}
 use Rattle.sf_term.specs.declared.form.Accumulation.{Accumulation}
 use Rattle.sf_term.specs.declared.form.Join.TheVariants.{InSequence, InParallel, FannedOut}
 use Rattle.sf_term.specs.declared.form.Side.TheVariants.{First, Second}
-use Rattle.sf_term.specs.declared.form.Heading.TheVariants.{LoopPre}
+use Rattle.sf_term.specs.declared.form.Heading.TheVariants.{LoopPre, Initialized}
+use Rattle.sf_term.specs.declared.form.Observation.{Observation}
 use Rattle.sf_term.specs.declared.form.Switching.{Switching}
+use Rattle.sf_term.specs.declared.form.Switching.TheVariants.{Basic, Recurring}
 use Rattle.sf_term.specs.declared.node.TermId.{TermId}
 use Rattle.sf_term.specs.declared.node.Primitive.{Primitive}
 use Rattle.sf_term.specs.declared.node.Primitive.TheVariants as primitives
@@ -33,14 +37,14 @@ use Rattle.sf_term.specs.Entries.{absent_payload}
 use Rattle.sf_term.specs.Arena.{term_number, tree, term_node_at, term_entry_of, term_spot_at, expressions_of, TermPartsBelow}
 use Rattle.sf_term.proofs.Kept.{parts_below}
 use Rattle.sf_mean.specs.Contexts.{Context, names_of_values, inside_pattern}
-use Rattle.sf_mean.specs.Typing.{bare_kind, value_kind, takes_time, timed_kind, accumulated_argument, accumulated_kind, PrimitiveTakes, bare_takes, never_takes, value_takes, timed_takes, accumulated_takes, arrow_takes, Takes, FormTakes, primitive_takes, sequence_takes, parallel_takes, fan_takes, first_takes, second_takes, loop_takes, switch_takes}
+use Rattle.sf_mean.specs.Typing.{bare_kind, value_kind, takes_time, timed_kind, accumulated_argument, accumulated_kind, PrimitiveTakes, bare_takes, never_takes, value_takes, timed_takes, accumulated_takes, arrow_takes, Takes, FormTakes, primitive_takes, sequence_takes, parallel_takes, fan_takes, first_takes, second_takes, loop_takes, initialized_takes}
 use Rattle.sf_operator.specs.Kinds.{same_kind}
 use Rattle.sf_operator.proofs.SameKinds.{same_is, is_same}
 use Rattle.sf_mean.proofs.Inferred.{PartsAre, two_parts, no_parts, parts_are, names_inside, output_fits}
-use Rattle.sf_check.specs.Breaking.{IsNoEventBeside, pattern_in, BindsInside, Exceeds, PrimitiveBreaks, argument_refused, accumulator_refused, made_refused, value_refused, bare_refused, never_refused, given_refused, timed_value_refused, time_outside, timed_refused, start_value_refused, accumulation_breaks, function_refused, FormBreaks, primitive_breaks, parallel_input, parallel_exceeds, fan_exceeds, side_input, first_exceeds, second_exceeds, start_refused, fed_exceeds, loop_differs, source_differs, pattern_refused, body_differs, Reaches, sequence_left, sequence_right, parallel_left, parallel_right, fan_left, fan_right, first_part, second_part, loop_part, switch_source, switch_body, TermBreaks, itself, within}
+use Rattle.sf_check.specs.Breaking.{IsNoEventBeside, pattern_in, BindsInside, Exceeds, PrimitiveBreaks, argument_refused, accumulator_refused, made_refused, value_refused, bare_refused, never_refused, given_refused, timed_value_refused, time_outside, timed_refused, start_value_refused, accumulation_breaks, function_refused, FormBreaks, primitive_breaks, parallel_input, parallel_exceeds, fan_exceeds, side_input, first_exceeds, second_exceeds, start_refused, fed_exceeds, loop_differs, initialized_differs, BodyWanted, after_source, beside_input, source_differs, recurring_input, pattern_refused, body_differs, Reaches, sequence_left, sequence_right, parallel_left, parallel_right, fan_left, fan_right, first_part, second_part, loop_part, initialized_part, switch_source, recurring_first, switch_body, TermBreaks, itself, within}
 use Rattle.sf_check.specs.Answering.{primitive_in}
 use Rattle.sf_check.proofs.Made.{made}
-use Rattle.sf_check.proofs.Terms.{form_ok}
+use Rattle.sf_check.proofs.Terms.{form_ok, wanted_takes}
 use Rattle.sf_check.proofs.Types.{primitive_fits}
 
 pub kinds_or : (t u : Kind) → (t ≡ u) ⊎ (t ≢ u)
@@ -86,8 +90,12 @@ accumulation_answered x Γ k v f a s fit t h = elim (kind_answered (accumulated_
   ]
 ]
 
+bare_answered : (x : Exprs) (Γ : Context) (k : Bare) (a : Kind) (s : Spot) → PrimitiveAnswered x Γ (primitives.Bare k) a s
+bare_answered x Γ Pre a s = inr (_, bare_refused refl)
+bare_answered x Γ k a s = elim (kind_answered (bare_kind k a) s) [ inl t ↦ inl (t.0, bare_takes t.1 t.2) | inr r ↦ inr (r.0, bare_refused r.1) ]
+
 primitive_answered : (x : Exprs) (Γ : Context) (q : Primitive) (a : Kind) (s : Spot) → NamesFit (names_of_values Γ) → Fits a → PrimitiveAnswered x Γ q a s
-primitive_answered x Γ (primitives.Bare k) a s fit f = elim (kind_answered (bare_kind k a) s) [ inl t ↦ inl (t.0, bare_takes t.1 t.2) | inr r ↦ inr (r.0, bare_refused r.1) ]
+primitive_answered x Γ (primitives.Bare k) a s fit f = bare_answered x Γ k a s
 primitive_answered x Γ (primitives.Never n) a s fit f = elim (kind_answered (Some (event_kind (absent_payload (literal_at x n)))) s) [ inl t ↦ inl (_, never_takes (subst Fits (sym (same_Some _ _ t.1)) t.2)) | inr r ↦ inr (r.0, never_refused r.1) ]
 primitive_answered x Γ (primitives.WithValue k v) a s fit f = elim (answered x (names_of_values Γ) fit v) [ inl t ↦ value_answered x Γ k v a s t.0 t.1 | inr r ↦ inr (_, value_refused r.1) ]
 primitive_answered x Γ (primitives.Timed k q v) a s fit f = elim (answered x (names_of_values Γ) fit v) [ inl t ↦ timed_answered x Γ k q v a s t.0 t.1 (takes_time k q) refl | inr r ↦ inr (_, timed_value_refused r.1) ]
@@ -187,35 +195,66 @@ module _ (p : Program) (Γ : Context) (names : NamesFit (names_of_values Γ)) wh
     ]
   ]
 
+  of_initialized : (t : TermId) (v : ExprId) (f : TermId) (a : Kind) → term_node_at p t ≡ nodes.Headed Initialized v f → Fits a → IsAnswered p Γ f a → IsAnswered p Γ t a
+  of_initialized t v f a is k F = elim (answered (expressions_of p) (names_of_values Γ) names v) [
+    | inr r ↦ broken t _ a is k (start_refused r.1)
+    | inl c ↦ elim F [
+      | inr r ↦ in_part t _ a is k (initialized_part c.1) r.1
+      | inl d ↦ elim (kinds_or d.0 c.0) [
+        | inr other ↦ broken t _ a is k (initialized_differs c.1 d.1 other)
+        | inl e ↦ taken t _ a is k d.0 (output_fits d.1) (initialized_takes (subst (HasType (names_of_values Γ) (expression (expressions_of p) v)) (sym e) c.1) d.1)
+      ]
+    ]
+  ]
+
   module _ (t : TermId) (w : Switching) (f : TermId) (q : PatternId) (g : TermId) (a : Kind) (is : term_node_at p t ≡ nodes.Switching w f q g) (k : Fits a) where
     -- what is bound inside the pattern for a type, and the answer for the body there
-    abbrev Body : Kind → Type 0
-    Body c = NamesFit (names_of_values (inside_pattern (pattern_in p q) c Γ)) → IsAnswered p (inside_pattern (pattern_in p q) c Γ) g a
+    abbrev Body : Kind → Kind → Type 0
+    Body c x = NamesFit (names_of_values (inside_pattern (pattern_in p q) c Γ)) → IsAnswered p (inside_pattern (pattern_in p q) c Γ) g x
 
-    of_body : (b c : Kind) → Takes Γ (tree p f) a (pair_kind b (event_kind c)) → BindsInside (pattern_in p q) c Γ → IsAnswered p (inside_pattern (pattern_in p q) c Γ) g a → IsAnswered p Γ t a
-    of_body b c F binds (inr r) = in_part t _ a is k (switch_body F binds) r.1
-    of_body b c F binds (inl d) = elim (kinds_or d.0 b) [
+    of_body : (x b c : Kind) → BodyWanted p Γ w f a x b c → BindsInside (pattern_in p q) c Γ → IsAnswered p (inside_pattern (pattern_in p q) c Γ) g x → IsAnswered p Γ t a
+    of_body x b c F binds (inr r) = in_part t _ a is k (switch_body F binds) r.1
+    of_body x b c F binds (inl d) = elim (kinds_or d.0 b) [
       | inr other ↦ broken t _ a is k (body_differs F binds d.1 other)
       | inl e ↦
-          let G = subst (Takes (inside_pattern (pattern_in p q) c Γ) (tree p g) a) e d.1 in
-          taken t _ a is k b (output_fits G) (switch_takes F binds G)
+          let G = subst (Takes (inside_pattern (pattern_in p q) c Γ) (tree p g) x) e d.1 in
+          taken t _ a is k b (output_fits G) (wanted_takes F refl binds G)
     ]
 
-    of_event : (b c : Kind) → Takes Γ (tree p f) a (pair_kind b (event_kind c)) → Body c → IsAnswered p Γ t a
-    of_event b c F G =
-        let fits = output_fits F in
-        elim (bound_or (names_of_values Γ) (placed_at (expressions_of p) q) c (term_spot_at p t) names (omega (arith, fits))) [
-          | inr r ↦ broken t _ a is k (pattern_refused F r.1)
-          | inl n ↦
-              let inner = names_inside Γ.functions Γ.bindings n.1.adds refl in
-              of_body b c F (subst (Binds (pattern_in p q) c (names_of_values Γ)) inner n.1) (G (subst (λ R. NamesFit R) inner n.2))
-        ]
+    of_event : (x b c : Kind) → BodyWanted p Γ w f a x b c → Fits c → Body c x → IsAnswered p Γ t a
+    of_event x b c F fits G = elim (bound_or (names_of_values Γ) (placed_at (expressions_of p) q) c (term_spot_at p t) names fits) [
+      | inr r ↦ broken t _ a is k (pattern_refused F r.1)
+      | inl n ↦
+          let inner = names_inside Γ.functions Γ.bindings n.1.adds refl in
+          of_body x b c F (subst (Binds (pattern_in p q) c (names_of_values Γ)) inner n.1) (G (subst (λ R. NamesFit R) inner n.2))
+    ]
 
-    of_switch : IsAnswered p Γ f a → ((c : Kind) → Body c) → IsAnswered p Γ t a
-    of_switch (inr r) G = in_part t _ a is k switch_source r.1
-    of_switch (inl d) G = elim (beside_or d.0) [
+  event_fits : (b c : Kind) → Fits (pair_kind b (event_kind c)) → Fits c
+  event_fits b c h = omega (arith, h)
+
+  value_fits : (b c : Kind) → Fits (pair_kind b (event_kind c)) → Fits b
+  value_fits b c h = omega (arith, h)
+
+  module _ (t : TermId) (w : Observation) (f : TermId) (q : PatternId) (g : TermId) (a : Kind) (k : Fits a) where
+    of_switch : (is : term_node_at p t ≡ nodes.Switching (Basic w) f q g) → IsAnswered p Γ f a → ((c : Kind) → Body t (Basic w) f q g a is k c a) → IsAnswered p Γ t a
+    of_switch is (inr r) G = in_part t _ a is k switch_source r.1
+    of_switch is (inl d) G = elim (beside_or d.0) [
       | inr none ↦ broken t _ a is k (source_differs d.1 none)
-      | inl e ↦ of_event e.0 e.1 (subst (Takes Γ (tree p f) a) e.2 d.1) (G e.1)
+      | inl e ↦
+          let F = subst (Takes Γ (tree p f) a) e.2 d.1 in
+          of_event t (Basic w) f q g a is k a e.0 e.1 (after_source F) (event_fits e.0 e.1 (output_fits F)) (G e.1)
+    ]
+
+    of_recurring : (is : term_node_at p t ≡ nodes.Switching (Recurring w) f q g) → ((x : Kind) → Fits x → IsAnswered p Γ f x) → ((c x : Kind) → Fits x → Body t (Recurring w) f q g a is k c x) → IsAnswered p Γ t a
+    of_recurring is F G = elim (beside_or a) [
+      | inr none ↦ broken t _ a is k (recurring_input none)
+      | inl e ↦ elim (F e.0 (value_fits e.0 e.1 (subst Fits e.2 k))) [
+        | inr r ↦ in_part t _ a is k (subst (λ a. Reaches p Γ (nodes.Switching (Recurring w) f q g) a Γ f e.0) (sym e.2) recurring_first) r.1
+        | inl d ↦
+            let W = subst (λ a. BodyWanted p Γ (Recurring w) f a e.0 d.0 e.1) (sym e.2) (beside_input d.1) in
+            let fits = subst Fits e.2 k in
+            of_event t (Recurring w) f q g a is k e.0 d.0 e.1 W (event_fits e.0 e.1 fits) (G e.1 e.0 (value_fits e.0 e.1 fits))
+      ]
     ]
 
 node_parts : (p : Program) (t : TermId) → TermPartsBelow (term_node_at p t) (term_number t)
@@ -235,7 +274,9 @@ answered_within p (suc fuel) Γ names t h a f = by_node (term_node_at p t) refl 
     by_node (nodes.Sided First j) is b parts = of_first p Γ names t j a is f (parts Γ names j b)
     by_node (nodes.Sided Second j) is b parts = of_second p Γ names t j a is f (parts Γ names j b)
     by_node (nodes.Headed LoopPre v j) is b parts = of_loop p Γ names t v j a is f (parts Γ names j b)
-    by_node (nodes.Switching w l q r) is b parts = of_switch p Γ names t w l q r a is f (parts Γ names l b.0 a f) (λ c fit. parts (inside_pattern (pattern_in p q) c Γ) fit r b.1 a f)
+    by_node (nodes.Headed Initialized v j) is b parts = of_initialized p Γ names t v j a is f (parts Γ names j b a f)
+    by_node (nodes.Switching (Basic w) l q r) is b parts = of_switch p Γ names t w l q r a f is (parts Γ names l b.0 a f) (λ c fit. parts (inside_pattern (pattern_in p q) c Γ) fit r b.1 a f)
+    by_node (nodes.Switching (Recurring w) l q r) is b parts = of_recurring p Γ names t w l q r a f is (parts Γ names l b.0) (λ c x h fit. parts (inside_pattern (pattern_in p q) c Γ) fit r b.1 x h)
 
 pub term_answered : (p : Program) (Γ : Context) → NamesFit (names_of_values Γ) → (t : TermId) (a : Kind) → Fits a → IsAnswered p Γ t a
 term_answered p Γ names t a f = answered_within p (suc (term_number t)) Γ names t (omega arith) a f

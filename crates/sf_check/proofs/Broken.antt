@@ -18,6 +18,7 @@ use Rattle.sf_refusal.specs.declared.refusal.Breach.{Breach}
 use Rattle.sf_refusal.specs.Refusals.{broken}
 use Rattle.sf_operator.proofs.Refusing.{kind_refused}
 use Rattle.sf_expr.proofs.Judged.{pattern_unbound, refused_untyped, refused_takes_none}
+use Rattle.sf_term.specs.declared.form.Switching.{Switching}
 use Rattle.sf_term.specs.declared.node.TermId.{TermId}
 use Rattle.sf_term.specs.declared.node.Primitive.{Primitive}
 use Rattle.sf_term.specs.declared.node.Node.{Node}
@@ -25,11 +26,13 @@ use Rattle.sf_term.specs.declared.program.Program.{Program}
 use Rattle.sf_term.specs.Headers.{Header}
 use Rattle.sf_term.specs.Trees.{Term}
 use Rattle.sf_term.specs.Arena.{tree, term_node_at, template_in, templates_of}
+use Rattle.sf_term.specs.declared.form.Bare.{Bare}
+use Rattle.sf_term.specs.declared.form.Bare.TheVariants.{Pre}
 use Rattle.sf_term.specs.declared.form.Accumulation.{Accumulation}
 use Rattle.sf_mean.specs.Contexts.{Context, names_of_values, inside_pattern}
-use Rattle.sf_mean.specs.Typing.{value_kind, timed_kind, accumulated_argument, accumulated_kind, PrimitiveTakes, bare_takes, never_takes, value_takes, timed_takes, accumulated_takes, arrow_takes, Takes, FormTakes, primitive_takes, sequence_takes, parallel_takes, fan_takes, first_takes, second_takes, loop_takes, switch_takes, IsTyped}
+use Rattle.sf_mean.specs.Typing.{bare_kind, value_kind, timed_kind, accumulated_argument, accumulated_kind, PrimitiveTakes, bare_takes, never_takes, value_takes, timed_takes, accumulated_takes, arrow_takes, Takes, FormTakes, primitive_takes, sequence_takes, parallel_takes, fan_takes, first_takes, second_takes, loop_takes, initialized_takes, switch_takes, recurring_takes, IsTyped}
 use Rattle.sf_check.specs.Answering.{primitive_in}
-use Rattle.sf_check.specs.Breaking.{pattern_in, BindsInside, Exceeds, PrimitiveBreaks, AccumulationBreaks, argument_refused, accumulator_refused, made_refused, value_refused, bare_refused, never_refused, given_refused, timed_value_refused, time_outside, timed_refused, start_value_refused, accumulation_breaks, function_refused, FormBreaks, primitive_breaks, parallel_input, parallel_exceeds, fan_exceeds, side_input, first_exceeds, second_exceeds, start_refused, fed_exceeds, loop_differs, source_differs, pattern_refused, body_differs, Reaches, sequence_left, sequence_right, parallel_left, parallel_right, fan_left, fan_right, first_part, second_part, loop_part, switch_source, switch_body, TermBreaks, itself, within, TemplateBreaks, breaks_within, breaks_header}
+use Rattle.sf_check.specs.Breaking.{BareRefused, pattern_in, BindsInside, Exceeds, PrimitiveBreaks, AccumulationBreaks, argument_refused, accumulator_refused, made_refused, value_refused, bare_refused, never_refused, given_refused, timed_value_refused, time_outside, timed_refused, start_value_refused, accumulation_breaks, function_refused, FormBreaks, primitive_breaks, parallel_input, parallel_exceeds, fan_exceeds, side_input, first_exceeds, second_exceeds, start_refused, fed_exceeds, loop_differs, initialized_differs, BodyWanted, after_source, beside_input, source_differs, recurring_input, pattern_refused, body_differs, Reaches, sequence_left, sequence_right, parallel_left, parallel_right, fan_left, fan_right, first_part, second_part, loop_part, initialized_part, switch_source, recurring_first, switch_body, TermBreaks, itself, within, TemplateBreaks, breaks_within, breaks_header}
 use Rattle.sf_check.proofs.Made.{made, tree_made}
 use Rattle.sf_check.proofs.Types.{argument_fits, expression_one, takes_one, beside_one, input_fits, output_fits, form_of}
 
@@ -46,10 +49,14 @@ accumulation_untyped {s = s} (argument_refused q) h F g fits = kind_refused _ s 
 accumulation_untyped {x = x} {R = R} {f = f} {u = u} (accumulator_refused h' fits' q) h F g fits = refused_takes_none q (subst (λ c. FunctionTakes R (function_at x f) c u) (same_Some _ _ (sym h ∙ h')) F)
 accumulation_untyped {s = s} {k = k} {t = t} (made_refused h' F' q) h F g fits = kind_refused _ s _ q (ap (accumulated_kind k t) (answer_one (same_Some _ _ (sym h' ∙ h)) F' F) ∙ g) fits
 
+bare_untyped : (k : Bare) (s : Spot) (a : Kind) (r : Breach) {b : Kind} → BareRefused k a s r → bare_kind k a ≡ Some b → Fits b → ⊥
+bare_untyped Pre s a r q e f = absurd cc
+bare_untyped k s a r q e f = kind_refused (bare_kind k a) s r q e f
+
 primitive_untyped : {x : Exprs} {Γ : Context} {s : Spot} {q : Primitive} {a b : Kind} {e : Breach} → PrimitiveBreaks x Γ s q a e → PrimitiveTakes Γ (primitive_in x q) a b → ⊥
 primitive_untyped (value_refused q) (value_takes h e f) = refused_untyped q h
 primitive_untyped (never_refused q) (never_takes f) = omega (arith, q.1, f)
-primitive_untyped {s = s} (bare_refused q) (bare_takes e f) = kind_refused _ s _ q e f
+primitive_untyped {s = s} (bare_refused {k = k} {a = a} {r = r} q) (bare_takes e f) = bare_untyped k s a r q e f
 primitive_untyped {s = s} (given_refused {k = k} {a = a} h q) (value_takes l e f) = kind_refused _ s _ q (ap (λ t. value_kind k t a) (expression_one h l) ∙ e) f
 primitive_untyped (timed_value_refused q) (timed_takes h w e f) = refused_untyped q h
 primitive_untyped (time_outside h out) (timed_takes l w e f) = let z = sym out ∙ w in absurd cc
@@ -71,6 +78,11 @@ inside_one : (Γ : Context) (q : Pattern) {u : Term} {a b c d v : Kind} → c �
 inside_one Γ q {u} {a} {b} same h k = takes_one (subst (λ c. Takes (inside_pattern q c Γ) u a b) same h) k
 
 module _ {p : Program} {Γ : Context} where
+  -- what is wanted of a switch's body is one
+  pub wanted_one : {w : Switching} {t : TermId} {x a b c d e f : Kind} → BodyWanted p Γ w t x a b c → BodyWanted p Γ w t x d e f → (a ≡ d) × (b ≡ e) × (c ≡ f)
+  wanted_one (after_source f) (after_source g) = let same = beside_one f g in (refl, same.0, same.1)
+  wanted_one (beside_input f) (beside_input g) = (refl, takes_one f g, refl)
+
   itself_untyped : {s : Spot} {n : Node} {a b : Kind} {e : Breach} → FormBreaks p Γ s n a e → FormTakes Γ (made p n) a b → Fits b → ⊥
   itself_untyped (primitive_breaks q) (primitive_takes h) fits = primitive_untyped q h
   itself_untyped (parallel_input none) (parallel_takes f g) fits = none _ _ refl
@@ -85,9 +97,14 @@ module _ {p : Program} {Γ : Context} where
   itself_untyped (loop_differs {t = t} {a = a} h g none) (loop_takes {b = b} k g') fits =
       let P : Kind → Type 0 = λ c. Takes Γ (tree p t) (pair_kind a c) (pair_kind b c) in
       none b (takes_one g (subst P (expression_one k h) g'))
+  itself_untyped (start_refused q) (initialized_takes h t) fits = refused_untyped q h
+  itself_untyped (initialized_differs h g other) (initialized_takes k t) fits = other (takes_one g t ∙ expression_one k h)
   itself_untyped (source_differs f none) (switch_takes f' binds g) fits = none _ _ (takes_one f f')
-  itself_untyped (pattern_refused f q) (switch_takes f' binds g) fits = pattern_none Γ q (beside_one f' f).1 binds
-  itself_untyped (body_differs {q = q} f binds g other) (switch_takes f' binds' g') fits = let same = beside_one f f' in other (inside_one Γ (pattern_in p q) same.1 g g' ∙ sym same.0)
+  itself_untyped (recurring_input none) (recurring_takes f binds g) fits = none _ _ refl
+  itself_untyped (pattern_refused (after_source f) q) (switch_takes f' binds g) fits = pattern_none Γ q (beside_one f' f).1 binds
+  itself_untyped (pattern_refused (beside_input f) q) (recurring_takes f' binds g) fits = pattern_none Γ q refl binds
+  itself_untyped (body_differs {q = q} (after_source f) binds g other) (switch_takes f' binds' g') fits = let same = beside_one f f' in other (inside_one Γ (pattern_in p q) same.1 g g' ∙ sym same.0)
+  itself_untyped (body_differs (beside_input f) binds g other) (recurring_takes f' binds' g') fits = other (takes_one g g' ∙ sym (takes_one f f'))
 
   reached_takes : {n : Node} {Δ : Context} {j : TermId} {a b c : Kind} → Reaches p Γ n a Δ j b → FormTakes Γ (made p n) a c → (d : Kind) × Takes Δ (tree p j) b d
   reached_takes sequence_left (sequence_takes f g) = (_, f)
@@ -103,10 +120,13 @@ module _ {p : Program} {Γ : Context} where
   reached_takes (loop_part {t = t} {a = a} h fits) (loop_takes {b = b} k g) =
       let P : Kind → Type 0 = λ c. Takes Γ (tree p t) (pair_kind a c) (pair_kind b c) in
       (_, subst P (expression_one k h) g)
+  reached_takes (initialized_part h) (initialized_takes k g) = (_, g)
   reached_takes switch_source (switch_takes f binds g) = (_, f)
-  reached_takes (switch_body {u = u} {q = q} {a = a} f binds) (switch_takes {b = b} f' binds' g) =
+  reached_takes recurring_first (recurring_takes f binds g) = (_, f)
+  reached_takes (switch_body {u = u} {q = q} {a = a} (after_source f) binds) (switch_takes {b = b} f' binds' g) =
       let P : Kind → Type 0 = λ c. Takes (inside_pattern (pattern_in p q) c Γ) (tree p u) a b in
       (b, subst P (beside_one f' f).1 g)
+  reached_takes (switch_body (beside_input f) binds) (recurring_takes f' binds' g) = (_, g)
 
 pub breaks_untyped : {p : Program} {Γ : Context} {i : TermId} {a b : Kind} {e : Breach} → TermBreaks p Γ i a e → Takes Γ (tree p i) a b → ⊥
 breaks_untyped {p} {i = i} (itself broken) h = itself_untyped broken (form_made p i h) (output_fits h)

@@ -1,6 +1,7 @@
 -- A network is refused in one way at most.
 use Rattle.std.proofs.Common.{◌≡◌, ◌<◌, ℕ, slice_get, refl, sym, ◌∙◌, ap, subst, arith}
 use Rattle.std.proofs.lemmas.Option.{same_Some}
+use mathlib.Core.Path.{subst₂}
 use Rattle.sf_value.specs.Values.{Kind, pair_kind}
 use Rattle.sf_func.specs.Registries.{TypesByName}
 use Rattle.sf_expr.specs.declared.exprs.Exprs.{Exprs}
@@ -22,14 +23,16 @@ use Rattle.sf_term.specs.declared.node.Node.{Node}
 use Rattle.sf_term.specs.declared.program.Program.{Program}
 use Rattle.sf_term.specs.Headers.{Header}
 use Rattle.sf_term.specs.Arena.{tree, expressions_of, headers_of, spots_of, template_in}
+use Rattle.sf_term.specs.declared.form.Bare.{Bare}
+use Rattle.sf_term.specs.declared.form.Bare.TheVariants.{Pre}
 use Rattle.sf_term.specs.declared.form.Accumulation.{Accumulation}
 use Rattle.sf_mean.specs.Contexts.{Context, names_of_values, inside_pattern}
-use Rattle.sf_mean.specs.Typing.{value_kind, timed_kind, accumulated_kind, Takes}
+use Rattle.sf_mean.specs.Typing.{bare_kind, value_kind, timed_kind, accumulated_kind, Takes}
 use Rattle.sf_check.specs.Names.{IsFirstRepeat}
-use Rattle.sf_check.specs.Breaking.{pattern_in, PrimitiveBreaks, AccumulationBreaks, argument_refused, accumulator_refused, made_refused, value_refused, bare_refused, never_refused, given_refused, timed_value_refused, time_outside, timed_refused, start_value_refused, accumulation_breaks, function_refused, FormBreaks, primitive_breaks, parallel_input, parallel_exceeds, fan_exceeds, side_input, first_exceeds, second_exceeds, start_refused, fed_exceeds, loop_differs, source_differs, pattern_refused, body_differs, Reaches, sequence_left, sequence_right, parallel_left, parallel_right, fan_left, fan_right, first_part, second_part, loop_part, switch_source, switch_body, TermBreaks, itself, within, TemplateBreaks, breaks_within, breaks_header, IsFirstBreak}
+use Rattle.sf_check.specs.Breaking.{BareRefused, pattern_in, PrimitiveBreaks, AccumulationBreaks, argument_refused, accumulator_refused, made_refused, value_refused, bare_refused, never_refused, given_refused, timed_value_refused, time_outside, timed_refused, start_value_refused, accumulation_breaks, function_refused, FormBreaks, primitive_breaks, parallel_input, parallel_exceeds, fan_exceeds, side_input, first_exceeds, second_exceeds, start_refused, fed_exceeds, loop_differs, initialized_differs, after_source, beside_input, source_differs, recurring_input, pattern_refused, body_differs, Reaches, sequence_left, sequence_right, parallel_left, parallel_right, fan_left, fan_right, first_part, second_part, loop_part, initialized_part, switch_source, recurring_first, switch_body, TermBreaks, itself, within, TemplateBreaks, breaks_within, breaks_header, IsFirstBreak}
 use Rattle.sf_check.specs.Refusing.{RefusesNetwork, name_refused, type_refused, main_missing}
-use Rattle.sf_check.proofs.Types.{argument_fits, expression_one, takes_one, beside_one, input_fits}
-use Rattle.sf_check.proofs.Broken.{answer_one, too_large, pattern_none, breaks_untyped, template_untyped}
+use Rattle.sf_check.proofs.Types.{argument_fits, expression_one, takes_one, input_fits}
+use Rattle.sf_check.proofs.Broken.{answer_one, too_large, pattern_none, wanted_one, breaks_untyped, template_untyped}
 use Rattle.sf_check.proofs.Templates.{template_at}
 
 -- ## One form
@@ -45,12 +48,16 @@ accumulation_once {s = s} (made_refused h F p) (argument_refused q) = absurd (ki
 accumulation_once {x = x} {R = R} {f = f} (made_refused {u = u} k F p) (accumulator_refused h fits q) = absurd (refused_takes_none q (subst (λ c. FunctionTakes R (function_at x f) c u) (same_Some _ _ (sym k ∙ h)) F))
 accumulation_once {s = s} {k = w} {t = t} {g = g} (made_refused h F q) (made_refused k G p) = kind_once _ s q (subst (λ u. KindRefused (accumulated_kind w t u) s g) (answer_one (same_Some _ _ (sym k ∙ h)) G F) p)
 
+bare_once : (k : Bare) (s : Spot) (a : Kind) (e f : Breach) → BareRefused k a s e → BareRefused k a s f → e ≡ f
+bare_once Pre s a e f h k = h ∙ sym k
+bare_once w s a e f h k = kind_once (bare_kind w a) s h k
+
 primitive_once : {x : Exprs} {Γ : Context} {s : Spot} {q : Primitive} {a : Kind} {e f : Breach} → PrimitiveBreaks x Γ s q a e → PrimitiveBreaks x Γ s q a f → e ≡ f
 primitive_once (value_refused h) (value_refused k) = refused_once h k
 primitive_once (value_refused h) (given_refused k q) = absurd (refused_untyped h k)
 primitive_once (given_refused k q) (value_refused h) = absurd (refused_untyped h k)
 primitive_once {s = s} {f = f} (given_refused {k = w} {a = a} h q) (given_refused k p) = kind_once _ s q (subst (λ t. KindRefused (value_kind w t a) s f) (expression_one k h) p)
-primitive_once {s = s} (bare_refused h) (bare_refused k) = kind_once _ s h k
+primitive_once {s = s} {e = e} {f = f} (bare_refused {k = w} {a = a} h) (bare_refused k) = bare_once w s a e f h k
 primitive_once (never_refused h) (never_refused k) = h.0 ∙ sym k.0
 primitive_once (timed_value_refused h) (timed_value_refused k) = refused_once h k
 primitive_once (timed_value_refused h) (time_outside k out) = absurd (refused_untyped h k)
@@ -92,14 +99,22 @@ module _ {p : Program} {Γ : Context} where
   itself_once (loop_differs k l none) (start_refused h) = absurd (refused_untyped h k)
   itself_once (loop_differs {a = a} k l none) (fed_exceeds h big) = absurd (too_large big (input_fits l) (ap (pair_kind a) (expression_one h k)))
   itself_once (loop_differs h k none) (loop_differs l m more) = refl
+  itself_once (start_refused h) (initialized_differs k l other) = absurd (refused_untyped h k)
+  itself_once (initialized_differs k l other) (start_refused h) = absurd (refused_untyped h k)
+  itself_once (initialized_differs h k other) (initialized_differs l m more) = refl
   itself_once (source_differs f none) (source_differs g more) = refl
-  itself_once (source_differs f none) (pattern_refused g q) = absurd (none _ _ (takes_one f g))
-  itself_once (source_differs f none) (body_differs g binds h other) = absurd (none _ _ (takes_one f g))
-  itself_once (pattern_refused g q) (source_differs f none) = absurd (none _ _ (takes_one f g))
-  itself_once {s} {f = e} (pattern_refused {q = q} f h) (pattern_refused g k) = pattern_once h (subst (λ c. PatternRefused (placed_at (expressions_of p) q) c s e) (beside_one g f).1 k)
-  itself_once (pattern_refused f q) (body_differs g binds h other) = absurd (pattern_none Γ q (beside_one g f).1 binds)
-  itself_once (body_differs g binds h other) (source_differs f none) = absurd (none _ _ (takes_one f g))
-  itself_once (body_differs g binds h other) (pattern_refused f q) = absurd (pattern_none Γ q (beside_one g f).1 binds)
+  itself_once (source_differs f none) (pattern_refused (after_source g) q) = absurd (none _ _ (takes_one f g))
+  itself_once (source_differs f none) (body_differs (after_source g) binds h other) = absurd (none _ _ (takes_one f g))
+  itself_once (recurring_input none) (recurring_input more) = refl
+  itself_once (recurring_input none) (pattern_refused (beside_input g) q) = absurd (none _ _ refl)
+  itself_once (recurring_input none) (body_differs (beside_input g) binds h other) = absurd (none _ _ refl)
+  itself_once (pattern_refused (after_source g) q) (source_differs f none) = absurd (none _ _ (takes_one f g))
+  itself_once (pattern_refused (beside_input g) q) (recurring_input none) = absurd (none _ _ refl)
+  itself_once {s} {f = e} (pattern_refused {q = q} f h) (pattern_refused g k) = pattern_once h (subst (λ c. PatternRefused (placed_at (expressions_of p) q) c s e) (wanted_one g f).2 k)
+  itself_once (pattern_refused f q) (body_differs g binds h other) = absurd (pattern_none Γ q (wanted_one g f).2 binds)
+  itself_once (body_differs (after_source g) binds h other) (source_differs f none) = absurd (none _ _ (takes_one f g))
+  itself_once (body_differs (beside_input g) binds h other) (recurring_input none) = absurd (none _ _ refl)
+  itself_once (body_differs g binds h other) (pattern_refused f q) = absurd (pattern_none Γ q (wanted_one g f).2 binds)
   itself_once (body_differs f binds g other) (body_differs h again k differs) = refl
 
   -- where the form itself breaks a rule, no part that is typed next does
@@ -120,14 +135,21 @@ module _ {p : Program} {Γ : Context} where
   itself_parts (loop_differs {t = t} {a = a} {d = d} h l none) (loop_part k fits) broken =
       let P : Kind → Type 0 = λ c. Takes Γ (tree p t) (pair_kind a c) d in
       breaks_untyped broken (subst P (expression_one h k) l)
+  itself_parts (start_refused h) (initialized_part k) broken = refused_untyped h k
+  itself_parts (initialized_differs h l other) (initialized_part k) broken = breaks_untyped broken l
   itself_parts (source_differs f none) switch_source broken = breaks_untyped broken f
-  itself_parts (source_differs f none) (switch_body g binds) broken = none _ _ (takes_one f g)
-  itself_parts (pattern_refused f q) switch_source broken = breaks_untyped broken f
-  itself_parts (pattern_refused f q) (switch_body g binds) broken = pattern_none Γ q (beside_one g f).1 binds
-  itself_parts (body_differs f binds g other) switch_source broken = breaks_untyped broken f
-  itself_parts (body_differs {u = u} {q = q} {a = a} {d = d} f binds g other) (switch_body h again) broken =
-      let P : Kind → Type 0 = λ c. Takes (inside_pattern (pattern_in p q) c Γ) (tree p u) a d in
-      breaks_untyped broken (subst P (beside_one f h).1 g)
+  itself_parts (source_differs f none) (switch_body (after_source g) binds) broken = none _ _ (takes_one f g)
+  itself_parts (recurring_input none) recurring_first broken = none _ _ refl
+  itself_parts (recurring_input none) (switch_body (beside_input g) binds) broken = none _ _ refl
+  itself_parts (pattern_refused (after_source f) q) switch_source broken = breaks_untyped broken f
+  itself_parts (pattern_refused (beside_input f) q) recurring_first broken = breaks_untyped broken f
+  itself_parts (pattern_refused f q) (switch_body g binds) broken = pattern_none Γ q (wanted_one g f).2 binds
+  itself_parts (body_differs (after_source f) binds g other) switch_source broken = breaks_untyped broken f
+  itself_parts (body_differs (beside_input f) binds g other) recurring_first broken = breaks_untyped broken f
+  itself_parts (body_differs {u = u} {q = q} {d = d} f binds g other) (switch_body h again) broken =
+      let P : Kind → Kind → Type 0 = λ a c. Takes (inside_pattern (pattern_in p q) c Γ) (tree p u) a d in
+      let same = wanted_one f h in
+      breaks_untyped broken (subst₂ P same.0 same.2 g)
 
   -- of the parts, one at most breaks a rule where it is typed next
   parts_once : {n : Node} {Δ Θ : Context} {i j : TermId} {a b c : Kind} {e f : Breach} → Reaches p Γ n a Δ i b → Reaches p Γ n a Θ j c → TermBreaks p Δ i b e → ((g : Breach) → TermBreaks p Δ i b g → e ≡ g) → TermBreaks p Θ j c f → e ≡ f
@@ -150,12 +172,17 @@ module _ {p : Program} {Γ : Context} where
   parts_once {f = f} (loop_part {t = t} {a = a} h fits) (loop_part k more) broken once other =
       let P : Kind → Type 0 = λ c. TermBreaks p Γ t (pair_kind a c) f in
       once f (subst P (expression_one k h) other)
+  parts_once (initialized_part h) (initialized_part k) broken once other = once _ other
   parts_once switch_source switch_source broken once other = once _ other
-  parts_once switch_source (switch_body h binds) broken once other = absurd (breaks_untyped broken h)
-  parts_once (switch_body h binds) switch_source broken once other = absurd (breaks_untyped other h)
-  parts_once {f = f} (switch_body {u = u} {q = q} {a = a} h binds) (switch_body k again) broken once other =
-      let P : Kind → Type 0 = λ c. TermBreaks p (inside_pattern (pattern_in p q) c Γ) u a f in
-      once f (subst P (beside_one k h).1 other)
+  parts_once switch_source (switch_body (after_source h) binds) broken once other = absurd (breaks_untyped broken h)
+  parts_once (switch_body (after_source h) binds) switch_source broken once other = absurd (breaks_untyped other h)
+  parts_once recurring_first recurring_first broken once other = once _ other
+  parts_once recurring_first (switch_body (beside_input h) binds) broken once other = absurd (breaks_untyped broken h)
+  parts_once (switch_body (beside_input h) binds) recurring_first broken once other = absurd (breaks_untyped other h)
+  parts_once {f = f} (switch_body {u = u} {q = q} h binds) (switch_body k again) broken once other =
+      let P : Kind → Kind → Type 0 = λ a c. TermBreaks p (inside_pattern (pattern_in p q) c Γ) u a f in
+      let same = wanted_one k h in
+      once f (subst₂ P same.0 same.2 other)
 
 -- ## Terms, templates, networks
 

@@ -1,6 +1,7 @@
 -- What is answered for terms, by their forms.
 use Rattle.std.proofs.Common.{◌≡◌, ℤ, true, false, Some, None, refl, sym, subst, ap, ◌∙◌, Result, Ok, Err, IfOk, IfErr, arith, IsErrAnd}
 use Rattle.std.proofs.lemmas.Option.{same_Some}
+use mathlib.Core.Path.{subst₂}
 use Rattle.sf_value.specs.Values.{Kind, pair_kind, event_kind}
 use Rattle.sf_func.specs.Registries.{TypesByName}
 use Rattle.sf_expr.specs.declared.exprs.ConstantId.{ConstantId}
@@ -14,15 +15,17 @@ use Rattle.sf_refusal.specs.declared.rule.Rule.TheVariants.{Mismatch, BadConstan
 use Rattle.sf_refusal.specs.declared.refusal.Breach.{Breach}
 use Rattle.sf_refusal.specs.declared.refusal.Refusal.{Refusal}
 use Rattle.sf_refusal.specs.declared.refusal.Refusal.TheVariants.{Memory}
-use Rattle.sf_refusal.specs.Refusals.{breach_of, broken, OrMemory, no_memory}
+use Rattle.sf_refusal.specs.Refusals.{breach_of, broken, OrMemory, because, no_memory}
 use Rattle.sf_refusal.proofs.Explained.{or_memory, breaks_at}
 use Rattle.sf_operator.specs.Kinds.{same_kind}
 use Rattle.sf_operator.specs.Breaches.{AnswersKind}
 use Rattle.sf_operator.proofs.Answering.{none_only}
 use Rattle.sf_operator.proofs.SameKinds.{same_is, is_same}
+use Rattle.sf_expr.specs.Expressions.{Pattern}
 use Rattle.sf_expr.specs.Refusals.{Refused, Judges, JudgesFunction, PatternRefused, PairRefused, AnswersPair}
 use Rattle.sf_expr.specs.Typing.{Names, Fits, HasType}
 use Rattle.sf_term.specs.declared.form.Bare.{Bare}
+use Rattle.sf_term.specs.declared.form.Bare.TheVariants.{Pre}
 use Rattle.sf_term.specs.declared.form.WithValue.{WithValue}
 use Rattle.sf_term.specs.declared.form.Timing.{Timing}
 use Rattle.sf_term.specs.declared.form.Accumulation.{Accumulation}
@@ -31,8 +34,12 @@ use Rattle.sf_term.specs.declared.form.Join.{Join}
 use Rattle.sf_term.specs.declared.form.Join.TheVariants.{InSequence, InParallel, FannedOut}
 use Rattle.sf_term.specs.declared.form.Side.{Side}
 use Rattle.sf_term.specs.declared.form.Side.TheVariants.{First, Second}
-use Rattle.sf_term.specs.declared.form.Heading.TheVariants.{LoopPre}
+use Rattle.sf_term.specs.declared.form.Heading.TheVariants.{LoopPre, Initialized}
+use Rattle.sf_term.specs.declared.form.Observation.{Observation}
+use Rattle.sf_term.specs.declared.form.Heading.{Heading}
 use Rattle.sf_term.specs.declared.form.Switching.{Switching}
+use Rattle.sf_term.specs.declared.form.Switching.TheVariants.{Basic, Recurring}
+use Rattle.sf_term.specs.Trees.{Term, switching}
 use Rattle.sf_term.specs.declared.node.TermId.{TermId}
 use Rattle.sf_term.specs.declared.node.Node.{Node}
 use Rattle.sf_term.specs.declared.node.Node.TheVariants as nodes
@@ -44,9 +51,9 @@ use Rattle.sf_term.specs.Trees.{never}
 use Rattle.sf_term.specs.Entries.{absent_payload}
 use Rattle.sf_term.specs.Arena.{tree, term_node_at, term_spot_at, expressions_of, templates_of}
 use Rattle.sf_mean.specs.Contexts.{Context, names_of_values, context_of, inside_pattern}
-use Rattle.sf_mean.specs.Typing.{bare_kind, value_kind, takes_time, timed_kind, accumulated_argument, accumulated_kind, PrimitiveTakes, bare_takes, never_takes, value_takes, timed_takes, accumulated_takes, arrow_takes, Takes, takes, FormTakes, primitive_takes, sequence_takes, parallel_takes, fan_takes, first_takes, second_takes, loop_takes, switch_takes}
-use Rattle.sf_check.specs.Breaking.{IsNoPairWith, IsNoEventBeside, pattern_in, BindsInside, Exceeds, PrimitiveBreaks, argument_refused, accumulator_refused, made_refused, value_refused, bare_refused, never_refused, given_refused, timed_value_refused, time_outside, timed_refused, start_value_refused, accumulation_breaks, function_refused, FormBreaks, primitive_breaks, parallel_exceeds, fan_exceeds, first_exceeds, second_exceeds, start_refused, fed_exceeds, loop_differs, source_differs, pattern_refused, body_differs, Reaches, sequence_right, fan_left, parallel_left, parallel_right, first_part, second_part, loop_part, switch_source, switch_body, TermBreaks, itself, within, TemplateBreaks, breaks_within, breaks_header}
-use Rattle.sf_check.specs.Answering.{primitive_in, AnswersPrimitive, AnswersTerm}
+use Rattle.sf_mean.specs.Typing.{value_kind, takes_time, timed_kind, accumulated_argument, accumulated_kind, PrimitiveTakes, bare_takes, never_takes, value_takes, timed_takes, accumulated_takes, arrow_takes, Takes, takes, FormTakes, primitive_takes, sequence_takes, parallel_takes, fan_takes, first_takes, second_takes, loop_takes, initialized_takes, switch_takes, recurring_takes}
+use Rattle.sf_check.specs.Breaking.{IsNoPairWith, IsNoEventBeside, pattern_in, BindsInside, Exceeds, PrimitiveBreaks, argument_refused, accumulator_refused, made_refused, value_refused, bare_refused, never_refused, given_refused, timed_value_refused, time_outside, timed_refused, start_value_refused, accumulation_breaks, function_refused, FormBreaks, primitive_breaks, parallel_exceeds, fan_exceeds, first_exceeds, second_exceeds, start_refused, fed_exceeds, loop_differs, initialized_differs, BodyWanted, after_source, beside_input, source_differs, recurring_input, pattern_refused, body_differs, Reaches, sequence_right, fan_left, parallel_left, parallel_right, first_part, second_part, loop_part, switch_source, recurring_first, switch_body, TermBreaks, itself, within, TemplateBreaks, breaks_within, breaks_header}
+use Rattle.sf_check.specs.Answering.{primitive_in, AnswersBare, AnswersPrimitive, AnswersTerm}
 use Rattle.sf_check.proofs.Made.{made, tree_made}
 use Rattle.sf_check.proofs.Types.{primitive_fits, output_fits}
 
@@ -88,6 +95,15 @@ joined_there p t {f = f} {g = g} e there = there ∙ ap (λ j. nodes.Joined j f 
 pub sided_there : (p : Program) (t : TermId) {d k : Side} {f : TermId} → d ≡ k → term_node_at p t ≡ nodes.Sided d f → term_node_at p t ≡ nodes.Sided k f
 sided_there p t {f = f} e there = there ∙ ap (λ d. nodes.Sided d f) e
 
+pub switching_there : (p : Program) (t : TermId) {w x : Switching} {f g : TermId} {q : PatternId} → w ≡ x → term_node_at p t ≡ nodes.Switching w f q g → term_node_at p t ≡ nodes.Switching x f q g
+switching_there p t {f = f} {g = g} {q = q} e there = there ∙ ap (λ w. nodes.Switching w f q g) e
+
+-- a switch takes inputs where its body gives what is wanted of it
+pub wanted_takes : {p : Program} {Γ : Context} {w : Switching} {f : TermId} {q : Pattern} {u : Term} {a x b c v : Kind} → BodyWanted p Γ w f a x b c → b ≡ v → BindsInside q c Γ → Takes (inside_pattern q c Γ) u x v
+    → FormTakes Γ (switching w (tree p f) q u) a v
+wanted_takes {p} {Γ} {f = f} {a = a} {c = c} (after_source F) same binds G = switch_takes (subst (λ b. Takes Γ (tree p f) a (pair_kind b (event_kind c))) same F) binds G
+wanted_takes {p} {Γ} {f = f} {x = x} (beside_input F) same binds G = recurring_takes (subst (Takes Γ (tree p f) x) same F) binds G
+
 -- ## The answers of each form
 
 module _ (p : Program) (Γ : Context) (t : TermId) (a : Kind) (s : Spot) (at : s ≡ term_spot_at p t) where
@@ -107,9 +123,6 @@ module _ (p : Program) (Γ : Context) (t : TermId) (a : Kind) (s : Spot) (at : s
   module _ (z : Kind) (copy : z ≡ a) where
     pub copy_reached : (f g : TermId) → Reaches p Γ (nodes.Joined FannedOut f g) a Γ f z
     copy_reached f g = subst (Reaches p Γ (nodes.Joined FannedOut f g) a Γ f) (sym copy) fan_left
-
-    pub source_reached : (w : Switching) (f : TermId) (q : PatternId) (g : TermId) → Reaches p Γ (nodes.Switching w f q g) a Γ f z
-    source_reached w f q g = subst (Reaches p Γ (nodes.Switching w f q g) a Γ f) (sym copy) switch_source
 
     pub copy_takes : (f : TermId) (b : Kind) → Takes Γ (tree p f) z b → Takes Γ (tree p f) a b
     copy_takes f b h = subst (λ a. Takes Γ (tree p f) a b) copy h
@@ -143,12 +156,24 @@ module _ (p : Program) (Γ : Context) (t : TermId) (a : Kind) (s : Spot) (at : s
     pub second_answers : (f : TermId) (b : Kind) (r : Result Kind Refusal) → term_node_at p t ≡ nodes.Sided Second f → Fits a → Takes Γ (tree p f) y b → AnswersPair x b s r → AnswersTerm p Γ t a r
     second_answers f b r is fit h = pairs_answer (nodes.Sided Second f) is x b r fit (second_takes h) (second_exceeds h)
 
+  -- the value of a head is refused
+  module _ (k : Heading) (v : ExprId) (f : TermId) (is : term_node_at p t ≡ nodes.Headed k v f) (x : Exprs) (of : x ≡ expressions_of p) where
+    pub start_answers : (r : Refusal) → Judges x (names_of_values Γ) v (Err r) → OrMemory (TermBreaks p Γ t a) r
+    start_answers r h = itself_refused p Γ t (nodes.Headed k v f) a is s r at (or_memory (λ b k. start_refused (subst (λ x. Refused x (names_of_values Γ) v b) of k)) h)
+
+  -- `-->`
+  module _ (v : ExprId) (f : TermId) (is : term_node_at p t ≡ nodes.Headed Initialized v f) (c : Kind) (typed : HasType (names_of_values Γ) (expression (expressions_of p) v) c) (d : Kind) (part : Takes Γ (tree p f) a d) where
+    pub initialized_refused : (e : Refusal) → same_kind d c ≡ false → e ≡ broken Mismatch s → OrMemory (TermBreaks p Γ t a) e
+    initialized_refused e other wrong =
+        let differs : d ≡ c → ⊥ = λ k. let same = ap (same_kind d) k ∙ other in let yes = is_same d in cc in
+        itself_refused p Γ t (nodes.Headed Initialized v f) a is s e at (breaks_at Mismatch wrong refl (initialized_differs typed part differs))
+
+    pub initialized_answers : Fits a → same_kind d c ≡ true → Takes Γ (tree p t) a d
+    initialized_answers fit same =
+        form_ok p Γ t (nodes.Headed Initialized v f) a is d fit (output_fits part) (initialized_takes (subst (HasType (names_of_values Γ) (expression (expressions_of p) v)) (sym (same_is d c same)) typed) part)
+
   -- `loopPre`
   module _ (v : ExprId) (f : TermId) (is : term_node_at p t ≡ nodes.Headed LoopPre v f) (x : Exprs) (of : x ≡ expressions_of p) where
-    -- the value is refused
-    pub start_answers : (r : Refusal) → Judges x (names_of_values Γ) v (Err r) → OrMemory (TermBreaks p Γ t a) r
-    start_answers r h = itself_refused p Γ t (nodes.Headed LoopPre v f) a is s r at (or_memory (λ b k. start_refused (subst (λ x. Refused x (names_of_values Γ) v b) of k)) h)
-
     module _ (c : Kind) (typed : HasType (names_of_values Γ) (expression x v) c) where
       typed_in : HasType (names_of_values Γ) (expression (expressions_of p) v) c
       typed_in = subst (λ x. HasType (names_of_values Γ) (expression x v) c) of typed
@@ -167,34 +192,47 @@ module _ (p : Program) (Γ : Context) (t : TermId) (a : Kind) (s : Spot) (at : s
       loop_answers w d (Err e) same fit k ok err = mismatch_refused (nodes.Headed LoopPre v f) is e err (loop_differs typed_in (subst (λ w. Takes Γ (tree p f) w d) same k))
 
   -- a switch
-  module _ (w : Switching) (f : TermId) (q : PatternId) (g : TermId) (is : term_node_at p t ≡ nodes.Switching w f q g) (z : Kind) (copy : z ≡ a) (d : Kind) (given : Takes Γ (tree p f) z d) where
-    source : Takes Γ (tree p f) a d
-    source = copy_takes z copy f d given
-
-    pub source_answers : (e : Refusal) → e ≡ broken Mismatch s → IsNoEventBeside d → OrMemory (TermBreaks p Γ t a) e
-    source_answers e wrong none = itself_refused p Γ t (nodes.Switching w f q g) a is s e at (breaks_at Mismatch wrong refl (source_differs source none))
-
-    module _ (b c : Kind) (beside : d ≡ pair_kind b (event_kind c)) where
-      source_beside : Takes Γ (tree p f) a (pair_kind b (event_kind c))
-      source_beside = subst (Takes Γ (tree p f) a) beside source
-
+  module _ (w : Switching) (f : TermId) (q : PatternId) (g : TermId) (is : term_node_at p t ≡ nodes.Switching w f q g) where
+    module _ (x b c : Kind) (wanted : BodyWanted p Γ w f a x b c) where
       pub pattern_answers : (e : Refusal) → OrMemory (PatternRefused (placed_at (expressions_of p) q) c s) e → OrMemory (TermBreaks p Γ t a) e
-      pattern_answers e h = itself_refused p Γ t (nodes.Switching w f q g) a is s e at (or_memory (λ r k. pattern_refused source_beside k) h)
+      pattern_answers e h = itself_refused p Γ t (nodes.Switching w f q g) a is s e at (or_memory (λ r k. pattern_refused wanted k) h)
 
       module _ (binds : BindsInside (pattern_in p q) c Γ) where
-        pub body_reached : Reaches p Γ (nodes.Switching w f q g) a (inside_pattern (pattern_in p q) c Γ) g a
-        body_reached = switch_body source_beside binds
+        pub body_reached : Reaches p Γ (nodes.Switching w f q g) a (inside_pattern (pattern_in p q) c Γ) g x
+        body_reached = switch_body wanted binds
 
-        module _ (v : Kind) (body : Takes (inside_pattern (pattern_in p q) c Γ) (tree p g) a v) where
+        module _ (v : Kind) (body : Takes (inside_pattern (pattern_in p q) c Γ) (tree p g) x v) where
           pub body_answers : (e : Refusal) → same_kind v b ≡ false → e ≡ broken Mismatch s → OrMemory (TermBreaks p Γ t a) e
           body_answers e other wrong =
               let differs : v ≡ b → ⊥ = λ k. let same = ap (same_kind v) k ∙ other in let yes = is_same v in cc in
-              itself_refused p Γ t (nodes.Switching w f q g) a is s e at (breaks_at Mismatch wrong refl (body_differs source_beside binds body differs))
+              itself_refused p Γ t (nodes.Switching w f q g) a is s e at (breaks_at Mismatch wrong refl (body_differs wanted binds body differs))
 
           pub switch_answers : Fits a → same_kind v b ≡ true → Takes Γ (tree p t) a v
-          switch_answers fit same =
-              let is_same_type : b ≡ v = sym (same_is v b same) in
-              form_ok p Γ t (nodes.Switching w f q g) a is v fit (output_fits body) (switch_takes (subst (λ b. Takes Γ (tree p f) a (pair_kind b (event_kind c))) is_same_type source_beside) binds body)
+          switch_answers fit same = form_ok p Γ t (nodes.Switching w f q g) a is v fit (output_fits body) (wanted_takes wanted (sym (same_is v b same)) binds body)
+
+  -- its event stands beside its first term's value
+  module _ (w : Observation) (f : TermId) (q : PatternId) (g : TermId) (z : Kind) (copy : z ≡ a) where
+    pub source_reached : Reaches p Γ (nodes.Switching (Basic w) f q g) a Γ f z
+    source_reached = subst (Reaches p Γ (nodes.Switching (Basic w) f q g) a Γ f) (sym copy) switch_source
+
+    module _ (d : Kind) (given : Takes Γ (tree p f) z d) where
+      pub source_answers : (e : Refusal) → term_node_at p t ≡ nodes.Switching (Basic w) f q g → e ≡ broken Mismatch s → IsNoEventBeside d → OrMemory (TermBreaks p Γ t a) e
+      source_answers e is wrong none = itself_refused p Γ t (nodes.Switching (Basic w) f q g) a is s e at (breaks_at Mismatch wrong refl (source_differs (copy_takes z copy f d given) none))
+
+      pub source_wants : (b c : Kind) → d ≡ pair_kind b (event_kind c) → BodyWanted p Γ (Basic w) f a a b c
+      source_wants b c beside = after_source (subst (Takes Γ (tree p f) a) beside (copy_takes z copy f d given))
+
+  -- its event stands beside its input
+  module _ (w : Observation) (f : TermId) (q : PatternId) (g : TermId) where
+    pub input_answers : (e : Refusal) → term_node_at p t ≡ nodes.Switching (Recurring w) f q g → e ≡ broken Mismatch s → IsNoEventBeside a → OrMemory (TermBreaks p Γ t a) e
+    input_answers e is wrong none = itself_refused p Γ t (nodes.Switching (Recurring w) f q g) a is s e at (breaks_at Mismatch wrong refl (recurring_input none))
+
+    module _ (x c : Kind) (beside : a ≡ pair_kind x (event_kind c)) (z : Kind) (copy : z ≡ x) where
+      pub first_term_reached : Reaches p Γ (nodes.Switching (Recurring w) f q g) a Γ f z
+      first_term_reached = subst₂ (λ a z. Reaches p Γ (nodes.Switching (Recurring w) f q g) a Γ f z) (sym beside) (sym copy) recurring_first
+
+      pub input_wants : (b y : Kind) → y ≡ x → Takes Γ (tree p f) z b → BodyWanted p Γ (Recurring w) f a y b c
+      input_wants b y again given = subst₂ (λ a y. BodyWanted p Γ (Recurring w) f a y b c) (sym beside) (sym again) (beside_input (subst (λ z. Takes Γ (tree p f) z b) copy given))
 
 -- ## A template
 
@@ -216,12 +254,13 @@ pub constant_refused : (x : Exprs) (Γ : Context) (k : WithValue) (v : ExprId) (
 constant_refused x Γ k v a s r h = or_memory (λ b q. value_refused q) h
 
 -- the answer for the types is that for the primitive
-pub bare_answers : (x : Exprs) (Γ : Context) (q : Primitive) (k : Bare) (a : Kind) (s : Spot) (r : Result Kind Refusal) → q ≡ primitives.Bare k → AnswersKind (bare_kind k a) s r → AnswersPrimitive x Γ q a s r
-bare_answers x Γ q k a s r is h = subst (λ q. AnswersPrimitive x Γ q a s r) (sym is) (each r h)
+pub bare_answers : (x : Exprs) (Γ : Context) (q : Primitive) (k : Bare) (a : Kind) (s : Spot) (r : Result Kind Refusal) → q ≡ primitives.Bare k → AnswersBare k a s r → AnswersPrimitive x Γ q a s r
+bare_answers x Γ q k a s r is h = subst (λ q. AnswersPrimitive x Γ q a s r) (sym is) (each k r h)
   where
-    each : (r : Result Kind Refusal) → AnswersKind (bare_kind k a) s r → AnswersPrimitive x Γ (primitives.Bare k) a s r
-    each (Ok b) h = bare_takes h.0 h.1
-    each (Err e) h = or_memory (λ b q. bare_refused q) h
+    each : (k : Bare) (r : Result Kind Refusal) → AnswersBare k a s r → AnswersPrimitive x Γ (primitives.Bare k) a s r
+    each Pre r h = subst (AnswersPrimitive x Γ (primitives.Bare Pre) a s) (sym h) (because (bare_refused refl))
+    each k (Ok b) h = bare_takes h.0 h.1
+    each k (Err e) h = or_memory (λ b q. bare_refused q) h
 
 pub never_answers : (x : Exprs) (Γ : Context) (n : ConstantId) (t a : Kind) (s : Spot) (r : Result Kind Refusal) → t ≡ absent_payload (literal_at x n) → AnswersKind (Some (event_kind t)) s r → AnswersPrimitive x Γ (primitives.Never n) a s r
 never_answers x Γ n t a s r is h = each r (subst (λ t. AnswersKind (Some (event_kind t)) s r) is h)

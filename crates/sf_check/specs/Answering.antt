@@ -1,11 +1,15 @@
 -- What is answered for primitives and terms.
-use Rattle.std.specs.Prelude.{Result, Ok, Err}
+use Rattle.std.specs.Prelude.{◌≡◌, Result, Ok, Err}
 use Rattle.sf_value.specs.Values.{Kind}
 use Rattle.sf_refusal.specs.declared.spot.Spot.{Spot}
+use Rattle.sf_refusal.specs.declared.rule.Rule.TheVariants.{BarePre}
 use Rattle.sf_refusal.specs.declared.refusal.Refusal.{Refusal}
-use Rattle.sf_refusal.specs.Refusals.{OrMemory}
+use Rattle.sf_refusal.specs.Refusals.{broken, OrMemory}
 use Rattle.sf_expr.specs.declared.exprs.Exprs.{Exprs}
 use Rattle.sf_expr.specs.Arena.{expression, function_at, literal_at}
+use Rattle.sf_operator.specs.Breaches.{AnswersKind}
+use Rattle.sf_term.specs.declared.form.Bare.{Bare}
+use Rattle.sf_term.specs.declared.form.Bare.TheVariants.{Pre}
 use Rattle.sf_term.specs.declared.node.TermId.{TermId}
 use Rattle.sf_term.specs.declared.node.Primitive.{Primitive as PrimitiveNode}
 use Rattle.sf_term.specs.declared.node.Primitive.TheVariants as nodes
@@ -14,7 +18,7 @@ use Rattle.sf_term.specs.Trees.{Primitive, bare, never, with_value, timed, arrow
 use Rattle.sf_term.specs.Entries.{absent_payload}
 use Rattle.sf_term.specs.Arena.{tree}
 use Rattle.sf_mean.specs.Contexts.{Context}
-use Rattle.sf_mean.specs.Typing.{PrimitiveTakes, Takes}
+use Rattle.sf_mean.specs.Typing.{bare_kind, PrimitiveTakes, Takes}
 use Rattle.sf_check.specs.Breaking.{PrimitiveBreaks, TermBreaks}
 
 -- the primitive that a node stands for
@@ -25,6 +29,11 @@ primitive_in x (nodes.WithValue k e) = with_value k (expression x e)
 primitive_in x (nodes.Timed k q e) = timed k q (expression x e)
 primitive_in x (nodes.Arrow f) = arrow (function_at x f)
 primitive_in x (nodes.Accumulated k e f) = accumulated k (expression x e) (function_at x f)
+
+-- the answer for a primitive without constants on inputs of a type, at a spot: `pre` is refused, whatever the type
+abbrev pub AnswersBare : Bare → Kind → Spot → Result Kind Refusal → Type 0
+AnswersBare Pre a s r = r ≡ Err (broken BarePre s)
+AnswersBare k a s r = AnswersKind (bare_kind k a) s r
 
 -- the answer for a primitive at a spot, under a context: the type that it takes inputs of a type to, or the rule that is broken
 abbrev pub AnswersPrimitive : Exprs → Context → PrimitiveNode → Kind → Spot → Result Kind Refusal → Type 0

@@ -2,7 +2,7 @@
 use Rattle.std.specs.Prelude.{◌≡◌, ◌≢◌, ◌<◌, ℕ, ℤ, false, IsTrue, Some, slice_get}
 use Rattle.sf_value.specs.Values.{Kind, pair_kind, event_kind, nodes as nodes_of, IsNoPair}
 use Rattle.sf_refusal.specs.declared.spot.Spot.{Spot}
-use Rattle.sf_refusal.specs.declared.rule.Rule.TheVariants.{Mismatch, BadConstant, TypeTooLarge}
+use Rattle.sf_refusal.specs.declared.rule.Rule.TheVariants.{Mismatch, BarePre, BadConstant, TypeTooLarge}
 use Rattle.sf_refusal.specs.declared.refusal.Breach.{Breach}
 use Rattle.sf_refusal.specs.Refusals.{breach_of}
 use Rattle.sf_func.specs.Registries.{TypesByName}
@@ -18,6 +18,7 @@ use Rattle.sf_expr.specs.Arena.{expression, function_at, literal_at, placed_at}
 use Rattle.sf_expr.specs.Refusals.{Refused, PatternRefused, FunctionRefused}
 use Rattle.sf_expr.specs.Typing.{Names, Fits, Binds, HasType, FunctionTakes}
 use Rattle.sf_term.specs.declared.form.Bare.{Bare}
+use Rattle.sf_term.specs.declared.form.Bare.TheVariants.{Pre}
 use Rattle.sf_term.specs.declared.form.WithValue.{WithValue}
 use Rattle.sf_term.specs.declared.form.Timing.{Timing}
 use Rattle.sf_term.specs.declared.form.Accumulation.{Accumulation}
@@ -25,8 +26,10 @@ use Rattle.sf_term.specs.declared.form.Join.TheVariants.{InSequence, InParallel,
 use Rattle.sf_term.specs.declared.form.Side.{Side}
 use Rattle.sf_term.specs.declared.form.Side.TheVariants.{First, Second}
 use Rattle.sf_term.specs.declared.form.Heading.{Heading}
-use Rattle.sf_term.specs.declared.form.Heading.TheVariants.{LoopPre}
+use Rattle.sf_term.specs.declared.form.Heading.TheVariants.{LoopPre, Initialized}
+use Rattle.sf_term.specs.declared.form.Observation.{Observation}
 use Rattle.sf_term.specs.declared.form.Switching.{Switching}
+use Rattle.sf_term.specs.declared.form.Switching.TheVariants.{Basic, Recurring}
 use Rattle.sf_term.specs.declared.node.TermId.{TermId}
 use Rattle.sf_term.specs.declared.node.Primitive.{Primitive}
 use Rattle.sf_term.specs.declared.node.Primitive.TheVariants as primitives
@@ -52,6 +55,11 @@ IsNoEventBeside d = (b c : Kind) → d ≢ pair_kind b (event_kind c)
 abbrev pub Exceeds : Kind → Type 0
 Exceeds t = 256 < nodes_of t
 
+-- Why a primitive without constants takes no inputs of a type, at a place: `pre` stands alone, or there is no type.
+abbrev pub BareRefused : Bare → Kind → Spot → Breach → Type 0
+BareRefused Pre a s r = r ≡ breach_of BarePre s
+BareRefused k a s r = KindRefused (bare_kind k a) s r
+
 -- On inputs of a type, an accumulation at a spot, with a value of a type, breaks a rule, at a place: of what its function
 -- would take, of the function itself, or of what it makes.
 pub data AccumulationBreaks (x : Exprs) (R : Names) (s : Spot) (k : Accumulation) (f : FunctionId) (t a : Kind) : Breach → Type 0 where
@@ -63,7 +71,7 @@ pub data AccumulationBreaks (x : Exprs) (R : Names) (s : Spot) (k : Accumulation
 -- has its own place.
 pub data PrimitiveBreaks (x : Exprs) (Γ : Context) (s : Spot) : Primitive → Kind → Breach → Type 0 where
   value_refused : {k : WithValue} {v : ExprId} {a : Kind} {r : Breach} → Refused x (names_of_values Γ) v r → PrimitiveBreaks x Γ s (primitives.WithValue k v) a r
-  bare_refused : {k : Bare} {a : Kind} {r : Breach} → KindRefused (bare_kind k a) s r → PrimitiveBreaks x Γ s (primitives.Bare k) a r
+  bare_refused : {k : Bare} {a : Kind} {r : Breach} → BareRefused k a s r → PrimitiveBreaks x Γ s (primitives.Bare k) a r
   never_refused : {n : ConstantId} {a : Kind} {r : Breach} → KindRefused (Some (event_kind (absent_payload (literal_at x n)))) s r → PrimitiveBreaks x Γ s (primitives.Never n) a r
   given_refused : {k : WithValue} {v : ExprId} {t a : Kind} {r : Breach} → HasType (names_of_values Γ) (expression x v) t → KindRefused (value_kind k t a) s r → PrimitiveBreaks x Γ s (primitives.WithValue k v) a r
   timed_value_refused : {k : Timing} {q : ℤ} {v : ExprId} {a : Kind} {r : Breach} → Refused x (names_of_values Γ) v r → PrimitiveBreaks x Γ s (primitives.Timed k q v) a r
@@ -83,6 +91,14 @@ pattern_in p q = pattern_of (placed_at (expressions_of p) q)
 abbrev pub BindsInside : Pattern → Kind → Context → Type 0
 BindsInside q c Γ = Binds q c (names_of_values Γ) (names_of_values (inside_pattern q c Γ))
 
+-- On inputs of a type, the first term of a switch keeps its rules. Its body then has inputs of a type, and is to give outputs of
+-- another, inside a pattern for payloads of a third.
+pub data BodyWanted (p : Program) (Γ : Context) : Switching → TermId → (whole input output payload : Kind) → Type 0 where
+  -- the event stands beside the first term's value
+  after_source : {w : Observation} {t : TermId} {a b c : Kind} → Takes Γ (tree p t) a (pair_kind b (event_kind c)) → BodyWanted p Γ (Basic w) t a a b c
+  -- the event stands beside the input
+  beside_input : {w : Observation} {t : TermId} {a b c : Kind} → Takes Γ (tree p t) a b → BodyWanted p Γ (Recurring w) t (pair_kind a (event_kind c)) a b c
+
 -- On inputs of a type, a form at a spot, with these parts, breaks a rule of its own, at a place. A pattern that is refused has
 -- its own place where a name is repeated.
 pub data FormBreaks (p : Program) (Γ : Context) (s : Spot) : Node → Kind → Breach → Type 0 where
@@ -96,12 +112,14 @@ pub data FormBreaks (p : Program) (Γ : Context) (s : Spot) : Node → Kind → 
   start_refused : {h : Heading} {v : ExprId} {t : TermId} {a : Kind} {r : Breach} → Refused (expressions_of p) (names_of_values Γ) v r → FormBreaks p Γ s (nodes.Headed h v t) a r
   fed_exceeds : {v : ExprId} {t : TermId} {a c : Kind} → HasType (names_of_values Γ) (expression (expressions_of p) v) c → Exceeds (pair_kind a c) → FormBreaks p Γ s (nodes.Headed LoopPre v t) a (breach_of TypeTooLarge s)
   loop_differs : {v : ExprId} {t : TermId} {a c d : Kind} → HasType (names_of_values Γ) (expression (expressions_of p) v) c → Takes Γ (tree p t) (pair_kind a c) d → IsNoPairWith c d → FormBreaks p Γ s (nodes.Headed LoopPre v t) a (breach_of Mismatch s)
-  source_differs : {w : Switching} {t u : TermId} {q : PatternId} {a d : Kind} → Takes Γ (tree p t) a d → IsNoEventBeside d → FormBreaks p Γ s (nodes.Switching w t q u) a (breach_of Mismatch s)
-  pattern_refused : {w : Switching} {t u : TermId} {q : PatternId} {a b c : Kind} {r : Breach}
-      → Takes Γ (tree p t) a (pair_kind b (event_kind c)) → PatternRefused (placed_at (expressions_of p) q) c s r → FormBreaks p Γ s (nodes.Switching w t q u) a r
-  body_differs : {w : Switching} {t u : TermId} {q : PatternId} {a b c d : Kind}
-      → Takes Γ (tree p t) a (pair_kind b (event_kind c)) → BindsInside (pattern_in p q) c Γ → Takes (inside_pattern (pattern_in p q) c Γ) (tree p u) a d → d ≢ b
-      → FormBreaks p Γ s (nodes.Switching w t q u) a (breach_of Mismatch s)
+  initialized_differs : {v : ExprId} {t : TermId} {a c d : Kind} → HasType (names_of_values Γ) (expression (expressions_of p) v) c → Takes Γ (tree p t) a d → d ≢ c → FormBreaks p Γ s (nodes.Headed Initialized v t) a (breach_of Mismatch s)
+  source_differs : {w : Observation} {t u : TermId} {q : PatternId} {a d : Kind} → Takes Γ (tree p t) a d → IsNoEventBeside d → FormBreaks p Γ s (nodes.Switching (Basic w) t q u) a (breach_of Mismatch s)
+  recurring_input : {w : Observation} {t u : TermId} {q : PatternId} {a : Kind} → IsNoEventBeside a → FormBreaks p Γ s (nodes.Switching (Recurring w) t q u) a (breach_of Mismatch s)
+  pattern_refused : {w : Switching} {t u : TermId} {q : PatternId} {x a b c : Kind} {r : Breach}
+      → BodyWanted p Γ w t x a b c → PatternRefused (placed_at (expressions_of p) q) c s r → FormBreaks p Γ s (nodes.Switching w t q u) x r
+  body_differs : {w : Switching} {t u : TermId} {q : PatternId} {x a b c d : Kind}
+      → BodyWanted p Γ w t x a b c → BindsInside (pattern_in p q) c Γ → Takes (inside_pattern (pattern_in p q) c Γ) (tree p u) a d → d ≢ b
+      → FormBreaks p Γ s (nodes.Switching w t q u) x (breach_of Mismatch s)
 
 -- In a form on inputs of a type, a part is typed next, under a context and on inputs of its own: what stands before it in the
 -- text keeps its rules.
@@ -115,9 +133,11 @@ pub data Reaches (p : Program) (Γ : Context) : Node → Kind → Context → Te
   first_part : {t : TermId} {a c : Kind} → Reaches p Γ (nodes.Sided First t) (pair_kind a c) Γ t a
   second_part : {t : TermId} {a c : Kind} → Reaches p Γ (nodes.Sided Second t) (pair_kind c a) Γ t a
   loop_part : {v : ExprId} {t : TermId} {a c : Kind} → HasType (names_of_values Γ) (expression (expressions_of p) v) c → Fits (pair_kind a c) → Reaches p Γ (nodes.Headed LoopPre v t) a Γ t (pair_kind a c)
-  switch_source : {w : Switching} {t u : TermId} {q : PatternId} {a : Kind} → Reaches p Γ (nodes.Switching w t q u) a Γ t a
-  switch_body : {w : Switching} {t u : TermId} {q : PatternId} {a b c : Kind}
-      → Takes Γ (tree p t) a (pair_kind b (event_kind c)) → BindsInside (pattern_in p q) c Γ → Reaches p Γ (nodes.Switching w t q u) a (inside_pattern (pattern_in p q) c Γ) u a
+  initialized_part : {v : ExprId} {t : TermId} {a c : Kind} → HasType (names_of_values Γ) (expression (expressions_of p) v) c → Reaches p Γ (nodes.Headed Initialized v t) a Γ t a
+  switch_source : {w : Observation} {t u : TermId} {q : PatternId} {a : Kind} → Reaches p Γ (nodes.Switching (Basic w) t q u) a Γ t a
+  recurring_first : {w : Observation} {t u : TermId} {q : PatternId} {a c : Kind} → Reaches p Γ (nodes.Switching (Recurring w) t q u) (pair_kind a (event_kind c)) Γ t a
+  switch_body : {w : Switching} {t u : TermId} {q : PatternId} {x a b c : Kind}
+      → BodyWanted p Γ w t x a b c → BindsInside (pattern_in p q) c Γ → Reaches p Γ (nodes.Switching w t q u) x (inside_pattern (pattern_in p q) c Γ) u a
 
 -- In the term at an id, on inputs of a type, this is the first rule, in the order of the text, that is broken: that of the
 -- form at the id itself, or one within the part that is typed next.

@@ -1,19 +1,20 @@
 //! The types of terms, under contexts.
 ghost use Rattle.std.specs.Prelude.{◌≡◌, ◌<◌, IfOk, IfErr, OnOk};
-ghost use Rattle.sf_value.specs.Values.{pair_kind, event_kind, IsNoPair};
+ghost use Rattle.sf_value.specs.Values.{Kind, pair_kind, event_kind, IsNoPair};
 ghost use Rattle.sf_refusal.specs.Refusals.{breach_of, broken, OrMemory};
 ghost use Rattle.sf_refusal.specs.declared.rule.Rule.TheVariants.{Mismatch};
 ghost use Rattle.sf_func.specs.Signatures.{signatures_in};
 ghost use Rattle.sf_expr.specs.Refusals.{Judges, JudgesFunction};
 ghost use Rattle.sf_expr.specs.Typing.{Fits};
-ghost use Rattle.sf_term.specs.declared.form.Switching.{Switching};
+ghost use Rattle.sf_term.specs.declared.form.Switching.{Switching as SwitchingOf};
+ghost use Rattle.sf_term.specs.declared.node.TermId.{TermId as TermIdOf};
 ghost use Rattle.sf_term.specs.Arena.{term_number, term_node_at, expressions_of, template_in, templates_of};
 ghost use Rattle.sf_mean.specs.Contexts.{names_of_values};
 ghost use Rattle.sf_operator.specs.Breaches.{AnswersKind};
-ghost use Rattle.sf_mean.specs.Typing.{bare_kind, value_kind, takes_time as a_time, timed_kind, accumulated_argument, accumulated_kind, IsTyped};
+ghost use Rattle.sf_mean.specs.Typing.{value_kind, takes_time as a_time, timed_kind, accumulated_argument, accumulated_kind, IsTyped};
 ghost use Rattle.sf_check.specs.Contexts.{program_in, context_in};
-ghost use Rattle.sf_check.specs.Answering.{AnswersPrimitive, AnswersTerm};
-ghost use Rattle.sf_check.specs.Breaking.{IsNoPairWith, IsNoEventBeside, TemplateBreaks, AreTyped, IsFirstBreak};
+ghost use Rattle.sf_check.specs.Answering.{AnswersBare, AnswersPrimitive, AnswersTerm};
+ghost use Rattle.sf_check.specs.Breaking.{IsNoPairWith, IsNoEventBeside, BodyWanted, TemplateBreaks, AreTyped, IsFirstBreak};
 
 use crate::context::TypingContext;
 use sf_expr::{
@@ -23,8 +24,8 @@ use sf_func::Signatures;
 use sf_operator::{event_type, pair_type as pair_of, payload, same};
 use sf_refusal::{Refusal, Rule, Spot};
 use sf_term::{
-    Accumulation, Bare, Heading, Join, Node, Primitive, Program, Side, Template, TermId, Timing,
-    WithValue,
+    Accumulation, Bare, Heading, Join, Node, Primitive, Program, Side, Switching, Template, TermId,
+    Timing, WithValue,
 };
 use sf_value::{Ty, same_type};
 use std::alloc::Global;
@@ -45,6 +46,7 @@ fn parts(alloc: Global, ty: &Ty, spot: Spot) -> Result<(Ty, Ty), Refusal>
 /// with `Mismatch` at the spot.
 fn value_and_payload(ty: &Ty, spot: Spot) -> Result<(&Ty, &Ty), Refusal>
     ensures ok { IfOk result (λ types. ty.now ≡ pair_kind types.0.now (event_kind types.1.now)) }
+    ensures fits { IfOk result (λ types. Fits types.0.now) }
     ensures err { IfErr result (λ r. (r ≡ broken Mismatch spot) × IsNoEventBeside ty.now) }
 {
     match ty.parts() {
@@ -66,10 +68,11 @@ fn constant_type(alloc: Global, context: &TypingContext, value: ExprId) -> Resul
     )
 }
 
-/// The type of the outputs of a primitive without constants on inputs of a type. Refused at the spot with `Mismatch`
-/// where it is none on such inputs, then with `TypeTooLarge`, and with `Memory`.
+/// The type of the outputs of a primitive without constants on inputs of a type. Refused at the spot with `BarePre` where it
+/// is `pre`, which stands behind `-->` alone, with `Mismatch` where it is none on such inputs, then with `TypeTooLarge`, and
+/// with `Memory`.
 fn bare_output(alloc: Global, kind: Bare, input: Ty, spot: Spot) -> Result<Ty, Refusal>
-    ensures { AnswersKind (bare_kind kind input) spot result }
+    ensures { AnswersBare kind input spot result }
 {
     match kind {
         Bare::Identity => Ok(input),
@@ -90,6 +93,7 @@ fn bare_output(alloc: Global, kind: Bare, input: Ty, spot: Spot) -> Result<Ty, R
             payload(&input, spot)?;
             event_type(alloc, &Ty::int(), spot)
         }
+        Bare::Pre => Err(Refusal::broken(Rule::BarePre, spot)),
     }
 }
 
@@ -124,6 +128,10 @@ fn given_output(
     match kind {
         WithValue::Constant => Ok(given),
         WithValue::InitialPre => {
+            same(input, &given, spot)?;
+            Ok(given)
+        }
+        WithValue::InitializedPre => {
             same(input, &given, spot)?;
             Ok(given)
         }
@@ -369,7 +377,7 @@ fn sided_output(
 
 /// The type of the outputs of a part whose second output is fed back, on inputs of a type.
 #[cycle(output)]
-fn headed_output(
+fn looped_output(
     alloc: Global,
     context: &TypingContext,
     term: TermId,
@@ -390,29 +398,87 @@ fn headed_output(
     loop_output(alloc, &output, &fed, spot)
 }
 
+/// The type of the outputs of a switch, by its body on inputs of a type: it gives, inside the pattern for payloads of a type,
+/// what is wanted of it.
+#[cycle(output)]
+fn body_output(
+    alloc: Global,
+    context: &TypingContext,
+    term: TermId,
+    pattern: PatternId,
+    payload: &Ty,
+    body: TermId,
+    input: Ty,
+    wanted: &Ty,
+) -> Result<Ty, Refusal>
+    requires fits { Fits input }
+    requires below { term_number body < term_number term }
+    ensures { (form : SwitchingOf) (first : TermIdOf) (a : Kind) → term_node_at (program_in context.now) term ≡ Node.Switching form first pattern body → Fits a →
+        BodyWanted (program_in context.now) (context_in context.now) form first a input wanted.now payload.now →
+        AnswersTerm (program_in context.now) (context_in context.now) term a result }
+{
+    let spot = context.program.spot(term);
+    let inner = (&*context).within(alloc, pattern, payload, spot)?;
+    let given = output_of(alloc, &inner, body, input)?;
+    same(&given, wanted, spot)?;
+    Ok(given)
+}
+
+/// The type of the outputs of a part whose first value another takes the place of, on inputs of a type.
+#[cycle(output)]
+fn initialized_output(
+    alloc: Global,
+    context: &TypingContext,
+    term: TermId,
+    value: ExprId,
+    part: TermId,
+    input: Ty,
+) -> Result<Ty, Refusal>
+    requires fits { Fits input }
+    requires there { term_node_at (program_in context.now) term ≡ Node.Headed Heading.Initialized value part }
+    requires below { term_number part < term_number term }
+    ensures { AnswersTerm (program_in context.now) (context_in context.now) term input result }
+{
+    let spot = context.program.spot(term);
+    let given = constant_type(alloc, context, value)?;
+    let output = output_of(alloc, context, part, input)?;
+    same(&output, &given, spot)?;
+    Ok(output)
+}
+
 /// The type of the outputs of a term that gives way to another inside a pattern, on inputs of a type.
 #[cycle(output)]
 fn switching_output(
     alloc: Global,
     context: &TypingContext,
     term: TermId,
-    source: TermId,
+    form: Switching,
+    first: TermId,
     pattern: PatternId,
     body: TermId,
     input: Ty,
 ) -> Result<Ty, Refusal>
     requires fits { Fits input }
-    requires there { (form : Switching) × (term_node_at (program_in context.now) term ≡ Node.Switching form source pattern body) }
-    requires below { (term_number source < term_number term) × (term_number body < term_number term) }
+    requires there { term_node_at (program_in context.now) term ≡ Node.Switching form first pattern body }
+    requires below { (term_number first < term_number term) × (term_number body < term_number term) }
     ensures { AnswersTerm (program_in context.now) (context_in context.now) term input result }
 {
     let spot = context.program.spot(term);
-    let output = output_of(alloc, context, source, input.clone_in(alloc)?)?;
-    let (value, payload) = value_and_payload(&output, spot)?;
-    let inner = (&*context).within(alloc, pattern, payload, spot)?;
-    let given = output_of(alloc, &inner, body, input)?;
-    same(&given, value, spot)?;
-    Ok(given)
+    match form {
+        Switching::Basic(_) => {
+            let output = output_of(alloc, context, first, input.clone_in(alloc)?)?;
+            let (value, payload) = value_and_payload(&output, spot)?;
+            body_output(alloc, context, term, pattern, payload, body, input, value)
+        }
+        Switching::Recurring(_) => {
+            let (value, payload) = value_and_payload(&input, spot)?;
+            let output = output_of(alloc, context, first, value.clone_in(alloc)?)?;
+            let same_input = value.clone_in(alloc)?;
+            body_output(
+                alloc, context, term, pattern, payload, body, same_input, &output,
+            )
+        }
+    }
 }
 
 /// The type of a term's outputs on inputs of a type, or the first rule that a form in it breaks.
@@ -430,10 +496,13 @@ fn output_of(alloc: Global, context: &TypingContext, term: TermId, input: Ty) ->
         }
         Node::Sided(side, part) => sided_output(alloc, context, term, side, part, input),
         Node::Headed(Heading::LoopPre, start, part) => {
-            headed_output(alloc, context, term, start, part, input)
+            looped_output(alloc, context, term, start, part, input)
         }
-        Node::Switching(_, source, pattern, body) => {
-            switching_output(alloc, context, term, source, pattern, body, input)
+        Node::Headed(Heading::Initialized, value, part) => {
+            initialized_output(alloc, context, term, value, part, input)
+        }
+        Node::Switching(form, first, pattern, body) => {
+            switching_output(alloc, context, term, form, first, pattern, body, input)
         }
     }
 }

@@ -7,7 +7,11 @@ use Rattle.sf_operator.specs.declared.operator.Operator.{Operator}
 use Rattle.sf_operator.specs.declared.operator.Mapping.{Mapping}
 use Rattle.sf_operator.specs.declared.operator.Mapping.TheVariants as mappings
 use Rattle.sf_operator.specs.declared.operator.Folding.{Folding}
-use Rattle.sf_term.specs.Trees.{bare, never, with_value, timed, arrow, accumulated, fused, Term, primitive, joined, sided, headed, switching, staged, Template, term_depth, terms_in, expressions_in}
+use Rattle.sf_term.specs.declared.form.Bare.TheVariants as bares
+use Rattle.sf_term.specs.declared.form.WithValue.{WithValue}
+use Rattle.sf_term.specs.declared.form.WithValue.TheVariants as values
+use Rattle.sf_term.specs.declared.form.Heading.TheVariants as headings
+use Rattle.sf_term.specs.Trees.{terms_with_value, bare, never, with_value, timed, arrow, accumulated, fused, Term, primitive, joined, sided, headed, switching, staged, Template, term_depth, terms_in, expressions_in}
 use Rattle.sf_lex.specs.declared.word.Keyword.TheVariants as words
 use Rattle.sf_lex.specs.declared.symbol.Symbol.TheVariants as symbols
 use Rattle.sf_lex.specs.Tokens.{Tok, keyword, name, number, text, symbol}
@@ -16,7 +20,7 @@ use Rattle.sf_grammar.specs.declared.head.Head.TheVariants as heads
 use Rattle.sf_grammar.specs.declared.head.ExpressionHead.TheVariants as expression_heads
 use Rattle.sf_grammar.specs.declared.head.Link.{Link}
 use Rattle.sf_grammar.specs.declared.head.Link.TheVariants as links
-use Rattle.sf_grammar.specs.Spelling.{unary_word, takes_brackets, operator_token, stands_between, mapping_word, maps_in_brackets, folding_word, spell_operand, spell_operands, spell_choice, spell_mapped, spell_folded, spell_called, spell_mapping, spell_keys, spell_type, spell_pattern, spell_literal, spell_expression, spell_function, spell_term, spell_signature, spell_template, bare_word, value_word, side_word, heading_word, timing_word, accumulation_word, switching_word, join_symbol, in_brackets, type_depth, WritesType, WritesExpression, WritesFunction, WritesTerm, HasWrittenTypes}
+use Rattle.sf_grammar.specs.Spelling.{stands_initially, head_makes, unary_word, takes_brackets, operator_token, stands_between, mapping_word, maps_in_brackets, folding_word, spell_operand, spell_operands, spell_choice, spell_mapped, spell_folded, spell_called, spell_mapping, spell_keys, spell_type, spell_pattern, spell_literal, spell_expression, spell_function, spell_term, spell_signature, spell_template, bare_word, value_word, side_word, heading_token, timing_word, accumulation_word, switching_word, join_symbol, in_brackets, type_depth, WritesType, WritesExpression, WritesFunction, WritesTerm, HasWrittenTypes}
 use Rattle.sf_grammar.specs.Reading.{parse_never, parse_timed, Read, got, ◌and_then◌, Counts, counts_with, counts_with_expression, parse_symbol, parse_keys, parse_outer_type, parse_inner_type, parse_pair_type, parse_pattern, parse_pattern_pair, parse_link, linked, parse_linked, bracketed_from, parse_none, parse_prefixed, parse_one_in_brackets, parse_two_in_brackets, parse_conditional, parse_mapping, parse_let, parse_one_and_function, parse_two_and_function, parse_called, expression_head, parse_expression, expression_read, parse_function, parse_join, parse_term, term_read, parse_joined, parse_value, parse_arrow, parse_accumulated, parse_sided, parse_headed, parse_body, parse_switching, parse_heading, parse_signature, parse_template}
 use Rattle.sf_grammar.proofs.Words.{head_again, join_again, link_again, link_token, LinksBetween, unary_again, IsInFront, operator_again, folding_again, keys_again, no_close}
 use Rattle.sf_grammar.proofs.Parts.{within, type_within, brackets_behind, three_behind, parts_again}
@@ -266,6 +270,44 @@ body_again : (v : Version) (p : Pattern) (f : Term) (d : ℕ) (c : Counts) (rest
 body_again v p f d c rest deep part =
     rw (append_assoc (spell_pattern p) (symbol symbols.MapsTo ∷ spell_term v f) rest, pattern_again p d (symbol symbols.MapsTo ∷ (spell_term v f ++ rest)) deep, part rest) refl
 
+-- an expression has a depth
+stands_deep : (e : Expression) → 1 ≤ expression_depth e
+stands_deep (variable x) = omega arith
+stands_deep (literal l) = omega arith
+stands_deep (paired e f) = omega arith
+stands_deep (applied o e) = omega arith
+stands_deep (operation e o f) = omega arith
+stands_deep (conditional e f g) = omega arith
+stands_deep (mapped e m p f) = omega arith
+stands_deep (folded e o f p g) = omega arith
+stands_deep (called g e) = omega arith
+
+-- a value behind its word
+value_again : (v : Version) (k : WithValue) (e : Expression) (d : ℕ) (c : Counts) (rest : List Tok) → stands_initially k ≡ false → parse_expression d v c (spell_expression v e ++ rest) ≡ got e rest → c.terms + terms_with_value k ≤ 100000
+    → parse_term (suc d) v c (keyword (value_word k) ∷ (spell_expression v e ++ rest)) ≡ got (primitive (with_value k e)) rest
+unfolding parse_term parse_value
+value_again v k e d c rest behind value few =
+    rw (head_again (heads.WithValue k) behind, value)
+    (within (c.terms + terms_with_value k) (primitive (with_value k e)) (keyword (value_word k) ∷ (spell_expression v e ++ rest)) rest few)
+
+pre_again : (v : Version) (d : ℕ) (c : Counts) (rest : List Tok) → 1 ≤ d → c.terms + 1 ≤ 100000 → parse_term d v c (keyword words.Pre ∷ rest) ≡ got (primitive (bare bares.Pre)) rest
+unfolding parse_term
+pre_again v zero c rest deep few = absurd (omega arith)
+pre_again v (suc d) c rest deep few = within (c.terms + 1) (primitive (bare bares.Pre)) (keyword words.Pre ∷ rest) rest few
+
+-- a value behind `-->`, in front of `pre`
+initialized_again : (v : Version) (e : Expression) (d : ℕ) (c : Counts) (rest : List Tok) → ((rest : List Tok) → parse_expression d v c (spell_expression v e ++ rest) ≡ got e rest) → 1 ≤ d → c.terms + 2 ≤ 100000
+    → parse_term (suc d) v c ((symbol symbols.Initially ∷ in_brackets (spell_expression v e) (symbol symbols.Comma) (keyword words.Pre ∷ [])) ++ rest) ≡ got (primitive (with_value values.InitializedPre e)) rest
+unfolding parse_term parse_headed
+initialized_again v e d c rest value deep few =
+    let behind : List Tok = keyword words.Pre ∷ symbol symbols.Close ∷ rest in
+    let start : List Tok = symbol symbols.Initially ∷ symbol symbols.Open ∷ (spell_expression v e ++ (symbol symbols.Comma ∷ behind)) in
+    ap (λ (r : List Tok). parse_term (suc d) v c (symbol symbols.Initially ∷ symbol symbols.Open ∷ r)) (brackets_behind (spell_expression v e) (keyword words.Pre ∷ []) rest (symbol symbols.Comma))
+    ∙ parts_again (parse_expression d v c) (parse_symbol symbols.Comma) (λ e. parse_term d v (counts_with_expression c e)) (λ e _ f rest. term_read c (head_makes headings.Initialized e f) start rest) e tt (primitive (bare bares.Pre))
+    (spell_expression v e ++ (symbol symbols.Comma ∷ behind)) (symbol symbols.Comma ∷ behind) behind rest (value (symbol symbols.Comma ∷ behind)) refl
+    (pre_again v d (counts_with_expression c e) (symbol symbols.Close ∷ rest) deep (omega (arith, few)))
+    ∙ within (c.terms + 2) (primitive (with_value values.InitializedPre e)) start rest few
+
 pub term_again : (v : Version) (t : Term) (d : ℕ) (c : Counts) (rest : List Tok) → d ≤ 64 → term_depth t ≤ d → c.terms + terms_in t ≤ 100000 → c.expressions + expressions_in t ≤ 100000 → WritesTerm v d t
     → parse_term d v c (spell_term v t ++ rest) ≡ got t rest
 unfolding parse_term parse_joined parse_never parse_value parse_timed parse_arrow parse_accumulated parse_sided parse_headed parse_switching
@@ -282,15 +324,22 @@ term_again v (sided s f) zero c rest small deep few_terms few_expressions known 
 term_again v (headed h e f) zero c rest small deep few_terms few_expressions known = absurd (omega arith)
 term_again v (switching w f p g) zero c rest small deep few_terms few_expressions known = absurd (omega arith)
 term_again v (primitive (bare b)) (suc d) c rest small deep few_terms few_expressions known =
-    rw (head_again (heads.Bare b)) (within (c.terms + 1) (primitive (bare b)) (keyword (bare_word b) ∷ rest) rest few_terms)
+    rw (head_again (heads.Bare b) tt) (within (c.terms + 1) (primitive (bare b)) (keyword (bare_word b) ∷ rest) rest few_terms)
 term_again v (primitive (never t)) (suc d) c rest small deep few_terms few_expressions known =
     rw (inner_type_again v t d (spell_type v t ++ rest) 0 rest known.shallow (omega (arith, known.few)) known.known)
     (within (c.terms + 1) (primitive (never t)) (keyword words.Never ∷ (spell_type v t ++ rest)) rest few_terms)
-term_again v (primitive (with_value k e)) (suc d) c rest small deep few_terms few_expressions known =
-    rw (head_again (heads.WithValue k), expression_again v e d c rest (omega arith) few_expressions known)
-    (within (c.terms + 1) (primitive (with_value k e)) (keyword (value_word k) ∷ (spell_expression v e ++ rest)) rest few_terms)
+term_again v (primitive (with_value values.Constant e)) (suc d) c rest small deep few_terms few_expressions known =
+    value_again v values.Constant e d c rest refl (expression_again v e d c rest (omega arith) few_expressions known) few_terms
+term_again v (primitive (with_value values.InitialPre e)) (suc d) c rest small deep few_terms few_expressions known =
+    value_again v values.InitialPre e d c rest refl (expression_again v e d c rest (omega arith) few_expressions known) few_terms
+term_again v (primitive (with_value values.Now e)) (suc d) c rest small deep few_terms few_expressions known =
+    value_again v values.Now e d c rest refl (expression_again v e d c rest (omega arith) few_expressions known) few_terms
+term_again v (primitive (with_value values.Hold e)) (suc d) c rest small deep few_terms few_expressions known =
+    value_again v values.Hold e d c rest refl (expression_again v e d c rest (omega arith) few_expressions known) few_terms
+term_again v (primitive (with_value values.InitializedPre e)) (suc d) c rest small deep few_terms few_expressions known =
+    initialized_again v e d c rest (λ rest. expression_again v e d c rest (omega arith) few_expressions known) (omega (arith, stands_deep e, deep)) few_terms
 term_again v (primitive (timed k q e)) (suc d) c rest small deep few_terms few_expressions known =
-    rw (head_again (heads.Timed k), expression_again v e d c rest (omega arith) few_expressions known)
+    rw (head_again (heads.Timed k) tt, expression_again v e d c rest (omega arith) few_expressions known)
     (within (c.terms + 1) (primitive (timed k q e)) (keyword (timing_word k) ∷ number q ∷ (spell_expression v e ++ rest)) rest few_terms)
 term_again v (primitive (arrow f)) (suc d) c rest small deep few_terms few_expressions known =
     rw (function_again v f d c rest (omega arith) few_expressions known)
@@ -299,7 +348,7 @@ term_again v (primitive (accumulated k e f)) (suc d) c rest small deep few_terms
     let behind : List Tok = spell_function v f ++ (symbol symbols.Close ∷ rest) in
     let start : List Tok = keyword (accumulation_word k) ∷ symbol symbols.Open ∷ (spell_expression v e ++ (symbol symbols.Comma ∷ behind)) in
     ap (λ (r : List Tok). parse_term (suc d) v c (keyword (accumulation_word k) ∷ symbol symbols.Open ∷ r)) (brackets_behind (spell_expression v e) (spell_function v f) rest (symbol symbols.Comma))
-    ∙ rw (head_again (heads.Accumulated k)) (parts_again (parse_expression d v c) (parse_symbol symbols.Comma) (λ e. parse_function d v (counts_with_expression c e)) (λ e _ f rest. term_read c (primitive (accumulated k e f)) start rest) e tt f
+    ∙ rw (head_again (heads.Accumulated k) tt) (parts_again (parse_expression d v c) (parse_symbol symbols.Comma) (λ e. parse_function d v (counts_with_expression c e)) (λ e _ f rest. term_read c (primitive (accumulated k e f)) start rest) e tt f
     (spell_expression v e ++ (symbol symbols.Comma ∷ behind)) (symbol symbols.Comma ∷ behind) behind rest
     (expression_again v e d c (symbol symbols.Comma ∷ behind) (omega arith) (omega arith) known.0) refl
     (function_again v f d (counts_with_expression c e) (symbol symbols.Close ∷ rest) (omega arith) (omega arith) known.1))
@@ -314,23 +363,24 @@ term_again v (joined j f g) (suc d) c rest small deep few_terms few_expressions 
     (term_again v g d (counts_with c f) (symbol symbols.Close ∷ rest) (omega arith) (omega arith) (omega arith) (omega arith) known.1)
     ∙ within (c.terms + terms_in (joined j f g)) (joined j f g) start rest few_terms
 term_again v (sided s f) (suc d) c rest small deep few_terms few_expressions known =
-    rw (head_again (heads.Sided s), term_again v f d c rest (omega arith) (omega arith) (omega arith) (omega arith) known)
+    rw (head_again (heads.Sided s) tt, term_again v f d c rest (omega arith) (omega arith) (omega arith) (omega arith) known)
     (within (c.terms + terms_in (sided s f)) (sided s f) (keyword (side_word s) ∷ (spell_term v f ++ rest)) rest few_terms)
 term_again v (headed h e f) (suc d) c rest small deep few_terms few_expressions known =
     let behind : List Tok = spell_term v f ++ (symbol symbols.Close ∷ rest) in
-    let start : List Tok = keyword (heading_word h) ∷ symbol symbols.Open ∷ (spell_expression v e ++ (symbol symbols.Comma ∷ behind)) in
-    ap (λ (r : List Tok). parse_term (suc d) v c (keyword (heading_word h) ∷ symbol symbols.Open ∷ r)) (brackets_behind (spell_expression v e) (spell_term v f) rest (symbol symbols.Comma))
-    ∙ rw (head_again (heads.Headed h)) (parts_again (parse_expression d v c) (parse_symbol symbols.Comma) (λ e. parse_term d v (counts_with_expression c e)) (λ e _ f rest. term_read c (headed h e f) start rest) e tt f
+    let start : List Tok = heading_token h ∷ symbol symbols.Open ∷ (spell_expression v e ++ (symbol symbols.Comma ∷ behind)) in
+    ap (λ (r : List Tok). parse_term (suc d) v c (heading_token h ∷ symbol symbols.Open ∷ r)) (brackets_behind (spell_expression v e) (spell_term v f) rest (symbol symbols.Comma))
+    ∙ rw (head_again (heads.Headed h) tt) (parts_again (parse_expression d v c) (parse_symbol symbols.Comma) (λ e. parse_term d v (counts_with_expression c e)) (λ e _ f rest. term_read c (head_makes h e f) start rest) e tt f
     (spell_expression v e ++ (symbol symbols.Comma ∷ behind)) (symbol symbols.Comma ∷ behind) behind rest
-    (expression_again v e d c (symbol symbols.Comma ∷ behind) (omega arith) (omega arith) known.0) refl
-    (term_again v f d (counts_with_expression c e) (symbol symbols.Close ∷ rest) (omega arith) (omega arith) (omega arith) (omega arith) known.1))
+    (expression_again v e d c (symbol symbols.Comma ∷ behind) (omega arith) (omega arith) known.1) refl
+    (term_again v f d (counts_with_expression c e) (symbol symbols.Close ∷ rest) (omega arith) (omega arith) (omega arith) (omega arith) known.2))
+    ∙ ap (λ (t : Term). term_read c t start rest) known.0
     ∙ within (c.terms + terms_in (headed h e f)) (headed h e f) start rest few_terms
 term_again v (switching w f p g) (suc d) c rest small deep few_terms few_expressions known =
     let body : List Tok = spell_mapping (spell_pattern p) (spell_term v g) in
     let behind : List Tok = body ++ (symbol symbols.Close ∷ rest) in
     let start : List Tok = keyword (switching_word w) ∷ symbol symbols.Open ∷ (spell_term v f ++ (symbol symbols.Comma ∷ behind)) in
     ap (λ (r : List Tok). parse_term (suc d) v c (keyword (switching_word w) ∷ symbol symbols.Open ∷ r)) (brackets_behind (spell_term v f) body rest (symbol symbols.Comma))
-    ∙ rw (head_again (heads.Switching w)) (parts_again (parse_term d v c) (parse_symbol symbols.Comma) (λ f. parse_body d (parse_term d v) (counts_with c f)) (λ f _ b rest. term_read c (switching w f b.0 b.1) start rest) f tt (p, g)
+    ∙ rw (head_again (heads.Switching w) tt) (parts_again (parse_term d v c) (parse_symbol symbols.Comma) (λ f. parse_body d (parse_term d v) (counts_with c f)) (λ f _ b rest. term_read c (switching w f b.0 b.1) start rest) f tt (p, g)
     (spell_term v f ++ (symbol symbols.Comma ∷ behind)) (symbol symbols.Comma ∷ behind) behind rest
     (term_again v f d c (symbol symbols.Comma ∷ behind) (omega arith) (omega arith) (omega arith) (omega arith) known.0) refl
     (body_again v p g d (counts_with c f) (symbol symbols.Close ∷ rest) (omega arith) (λ rest. term_again v g d (counts_with c f) rest (omega arith) (omega arith) (omega arith) (omega arith) known.1)))

@@ -7,14 +7,17 @@ use Rattle.sf_operator.specs.declared.operator.Operator.{Operator}
 use Rattle.sf_operator.specs.declared.operator.Mapping.{Mapping}
 use Rattle.sf_operator.specs.declared.operator.Mapping.TheVariants as mappings
 use Rattle.sf_operator.specs.declared.operator.Folding.{Folding}
+use Rattle.sf_term.specs.declared.form.Bare.TheVariants as bares
 use Rattle.sf_term.specs.declared.form.WithValue.{WithValue}
+use Rattle.sf_term.specs.declared.form.WithValue.TheVariants as values
 use Rattle.sf_term.specs.declared.form.Timing.{Timing}
 use Rattle.sf_term.specs.declared.form.Accumulation.{Accumulation}
 use Rattle.sf_term.specs.declared.form.Join.{Join}
 use Rattle.sf_term.specs.declared.form.Side.{Side}
 use Rattle.sf_term.specs.declared.form.Heading.{Heading}
+use Rattle.sf_term.specs.declared.form.Heading.TheVariants as headings
 use Rattle.sf_term.specs.declared.form.Switching.{Switching}
-use Rattle.sf_term.specs.Trees.{bare, never, with_value, timed, arrow, accumulated, Term, primitive, joined, sided, headed, switching, Template, term_depth, terms_in, expressions_in}
+use Rattle.sf_term.specs.Trees.{Primitive, terms_with_value, bare, never, with_value, timed, arrow, accumulated, Term, primitive, joined, sided, headed, switching, Template, term_depth, terms_in, expressions_in}
 use Rattle.sf_lex.specs.declared.word.Keyword.{Keyword}
 use Rattle.sf_lex.specs.declared.word.Keyword.TheVariants as words
 use Rattle.sf_lex.specs.declared.symbol.Symbol.{Symbol}
@@ -29,9 +32,9 @@ use Rattle.sf_grammar.specs.declared.head.ExpressionHead.{ExpressionHead}
 use Rattle.sf_grammar.specs.declared.head.ExpressionHead.TheVariants as expression_heads
 use Rattle.sf_grammar.specs.declared.head.Link.{Link}
 use Rattle.sf_grammar.specs.declared.head.Link.TheVariants as links
-use Rattle.sf_grammar.specs.Spelling.{version_number, mapping_word, folding_word, spell_keys, spell_type, spell_mapping, spell_pattern, spell_expression, spell_function, spell_term, spell_signature, spell_template, bare_word, value_word, side_word, heading_word, timing_word, accumulation_word, switching_word, join_symbol, type_depth, WritesType, IsWrittenType, WritesExpression, WritesFunction, WritesTerm, HasWrittenTypes}
-use Rattle.sf_grammar.specs.Reading.{parse_number, parse_never, parse_timed, Read, got, ◌and_then◌, Counts, counts_with, counts_with_expression, begins_type, begins_pattern, begins_expression, begins_term, type_head, word_kind, parse_keys, parse_outer_type, parse_headed_type, type_from, parse_inner_type, parse_pair_type, parse_pattern, parse_pattern_pair, link_of, link_from, parse_link, linked, parse_linked, behind_close, bracketed_from, parse_none, expression_head, parse_prefixed, parse_one_in_brackets, parse_two_in_brackets, parse_conditional, parse_mapping, parse_let, mapped_by, folded_by, parse_one_and_function, parse_two_and_function, parse_called, parse_worded_expression, parse_expression, expression_read, parse_function, parse_term, parse_joined, parse_value, parse_arrow, parse_accumulated, parse_sided, parse_headed, parse_body, parse_switching, parse_worded, head_of, join_of, parse_join, join_from, term_read, parse_parts, parse_opening, parse_heading, parse_signature, parse_template, template_of, parse_symbol, parse_name, parse_type, parse_keyword, parse_version}
-use Rattle.sf_grammar.proofs.Words.{head_takes, join_takes, link_token, LinksBetween, IsLinkToken, link_takes, BeginsWith, expression_head_takes, type_word, type_token, type_head_takes, IsWordKind, word_kind_is, close_takes}
+use Rattle.sf_grammar.specs.Spelling.{stands_initially, spell_value, head_makes, in_brackets, version_number, mapping_word, folding_word, spell_keys, spell_type, spell_mapping, spell_pattern, spell_expression, spell_function, spell_term, spell_signature, spell_template, value_word, side_word, heading_token, timing_word, accumulation_word, switching_word, join_symbol, type_depth, WritesType, IsWrittenType, WritesExpression, WritesFunction, WritesTerm, HasWrittenTypes}
+use Rattle.sf_grammar.specs.Reading.{parse_number, parse_never, parse_timed, Read, got, ◌and_then◌, Counts, counts_with, counts_with_expression, begins_type, begins_pattern, begins_expression, begins_term, type_head, word_kind, parse_keys, parse_outer_type, parse_headed_type, type_from, parse_inner_type, parse_pair_type, parse_pattern, parse_pattern_pair, link_of, link_from, parse_link, linked, parse_linked, behind_close, bracketed_from, parse_none, expression_head, parse_prefixed, parse_one_in_brackets, parse_two_in_brackets, parse_conditional, parse_mapping, parse_let, mapped_by, folded_by, parse_one_and_function, parse_two_and_function, parse_called, parse_worded_expression, parse_expression, expression_read, parse_function, parse_term, parse_joined, parse_value, parse_arrow, parse_accumulated, parse_sided, parse_headed, parse_body, parse_switching, parse_behind_head, head_of, join_of, parse_join, join_from, term_read, parse_parts, parse_opening, parse_heading, parse_signature, parse_template, template_of, parse_symbol, parse_name, parse_type, parse_keyword, parse_version}
+use Rattle.sf_grammar.proofs.Words.{IsHeadToken, head_takes, join_takes, link_token, LinksBetween, IsLinkToken, link_takes, BeginsWith, expression_head_takes, type_word, type_token, type_head_takes, IsWordKind, word_kind_is, close_takes}
 use Rattle.sf_grammar.proofs.Parts.{Same, bind_got, got_same, within_takes, deep_takes, met_takes, parts_takes, brackets_took, three_behind, symbol_takes, keyword_takes, name_takes, version_takes, TookKeys, keys_takes}
 
 pub record TookType (v : Version) (d met : ℕ) (tokens : List Tok) (k : Kind) (rest : List Tok) : Type 0 where
@@ -510,16 +513,20 @@ took_as v d c tokens s t r u same took =
 abbrev Takes : Version → ℕ → Type 0
 Takes v d = (c : Counts) (tokens : List Tok) (t : Term) (rest : List Tok) → c.expressions ≤ 100000 → parse_term d v c tokens ≡ got t rest → Took v d c tokens t rest
 
-value_takes : (v : Version) (d : ℕ) (c : Counts) (k : WithValue) (tokens : List Tok) (t : Term) (rest : List Tok)
+-- a value behind its word is spelled so
+value_spelled : (k : WithValue) (value : List Tok) → stands_initially k ≡ false → spell_value (stands_initially k) (value_word k) value ≡ keyword (value_word k) ∷ value
+value_spelled k value behind = rw behind refl
+
+value_takes : (v : Version) (d : ℕ) (c : Counts) (k : WithValue) (tokens : List Tok) (t : Term) (rest : List Tok) → stands_initially k ≡ false
     → parse_value d v c k (keyword (value_word k) ∷ tokens) tokens ≡ got t rest → Took v (suc d) c (keyword (value_word k) ∷ tokens) t rest
 unfolding parse_value
-value_takes v d c k tokens t rest is =
+value_takes v d c k tokens t rest so is =
     let start : List Tok = keyword (value_word k) ∷ tokens in
     bind_got (λ e behind. term_read c (primitive (with_value k e)) start behind) (parse_expression d v c tokens) t rest is (λ e behind at_e is_e.
-    within_takes (c.terms + 1) (primitive (with_value k e)) t start behind rest is_e (λ few_terms same.
+    within_takes (c.terms + terms_with_value k) (primitive (with_value k e)) t start behind rest is_e (λ few_terms same.
     let took : TookExpression v d c tokens e behind = expression_takes v d c tokens e behind at_e in
     took_as v (suc d) c start (primitive (with_value k e)) t behind rest same
-    (record { spelled = ap (λ r. keyword (value_word k) ∷ r) took.spelled; shallow = omega (arith, took.shallow); few_terms = few_terms; few_expressions = took.few; known = took.known })))
+    (record { spelled = ap (λ r. keyword (value_word k) ∷ r) took.spelled ∙ ap (λ r. r ++ behind) (sym (value_spelled k (spell_expression v e) so)); shallow = omega (arith, took.shallow); few_terms = few_terms; few_expressions = took.few; known = took.known })))
 
 never_takes : (v : Version) (d : ℕ) (c : Counts) (tokens : List Tok) (t : Term) (rest : List Tok) → c.expressions ≤ 100000
     → parse_never d v c (keyword words.Never ∷ tokens) tokens ≡ got t rest → Took v (suc d) c (keyword words.Never ∷ tokens) t rest
@@ -591,26 +598,40 @@ sided_takes v d c s tokens t rest part few is =
     took_as v (suc d) c start (sided s f) t behind rest same
     (record { spelled = ap (λ r. keyword (side_word s) ∷ r) took.spelled; shallow = omega (arith, took.shallow); few_terms = few_terms; few_expressions = took.few_expressions; known = took.known })))
 
+-- what a head makes: one primitive, or a term with the head
+pub data HeadMakes : Heading → Expression → Term → Term → Type 0 where
+  with_pre : {e : Expression} → HeadMakes headings.Initialized e (primitive (bare bares.Pre)) (primitive (with_value values.InitializedPre e))
+  stays_headed : {h : Heading} {e : Expression} {f : Term} → head_makes h e f ≡ headed h e f → HeadMakes h e f (headed h e f)
+
+initialized_view : (e : Expression) (p : Primitive) → HeadMakes headings.Initialized e (primitive p) (head_makes headings.Initialized e (primitive p))
+initialized_view e (bare bares.Pre) = with_pre
+initialized_view e _ = stays_headed refl
+
+pub head_view : (h : Heading) (e : Expression) (f : Term) → HeadMakes h e f (head_makes h e f)
+head_view headings.Initialized e (primitive p) = initialized_view e p
+head_view _ e f = stays_headed refl
+
+headed_took : (v : Version) (d : ℕ) (c : Counts) {h : Heading} {e : Expression} {f t : Term} {start r0 r1 r2 r3 rest : List Tok} → HeadMakes h e f t
+    → start ≡ (heading_token h ∷ in_brackets (spell_expression v e) (symbol symbols.Comma) (spell_term v f)) ++ rest → TookExpression v d c r0 e r1 → Took v d (counts_with_expression c e) r2 f r3 → c.terms + terms_in t ≤ 100000 → Took v (suc d) c start t rest
+headed_took v d c with_pre spelled one two few = record { spelled = spelled; shallow = omega (arith, one.shallow); few_terms = few; few_expressions = one.few; known = one.known }
+headed_took v d c (stays_headed k) spelled one two few =
+    record { spelled = spelled; shallow = omega (arith, one.shallow, two.shallow); few_terms = few; few_expressions = omega (arith, two.few_expressions); known = (k, one.known, two.known) }
+
 headed_takes : (v : Version) (d : ℕ) (c : Counts) (h : Heading) (tokens : List Tok) (t : Term) (rest : List Tok) → Takes v d
-    → parse_headed d v (parse_term d v) c h (keyword (heading_word h) ∷ tokens) tokens ≡ got t rest → Took v (suc d) c (keyword (heading_word h) ∷ tokens) t rest
+    → parse_headed d v (parse_term d v) c h (heading_token h ∷ tokens) tokens ≡ got t rest → Took v (suc d) c (heading_token h ∷ tokens) t rest
 unfolding parse_headed
 headed_takes v d c h tokens t rest part is =
-    let start : List Tok = keyword (heading_word h) ∷ tokens in
-    bind_got (λ _ r. parse_parts (parse_expression d v c) (parse_symbol symbols.Comma) (λ e. parse_term d v (counts_with_expression c e)) (λ e _ f rest. term_read c (headed h e f) start rest) r)
+    let start : List Tok = heading_token h ∷ tokens in
+    bind_got (λ _ r. parse_parts (parse_expression d v c) (parse_symbol symbols.Comma) (λ e. parse_term d v (counts_with_expression c e)) (λ e _ f rest. term_read c (head_makes h e f) start rest) r)
     (parse_symbol symbols.Open tokens) t rest is (λ u r0 opened is_u.
-    parts_takes (parse_expression d v c) (parse_symbol symbols.Comma) (λ e. parse_term d v (counts_with_expression c e)) (λ e _ f rest. term_read c (headed h e f) start rest) r0 t rest is_u
+    parts_takes (parse_expression d v c) (parse_symbol symbols.Comma) (λ e. parse_term d v (counts_with_expression c e)) (λ e _ f rest. term_read c (head_makes h e f) start rest) r0 t rest is_u
     (λ e m f r1 r2 r3 r4 at_e at_m at_f closed is_t.
-    within_takes (c.terms + terms_in (headed h e f)) (headed h e f) t start r4 rest is_t (λ few_terms same.
+    within_takes (c.terms + terms_in (head_makes h e f)) (head_makes h e f) t start r4 rest is_t (λ few_terms same.
     let one : TookExpression v d c r0 e r1 = expression_takes v d c r0 e r1 at_e in
     let two : Took v d (counts_with_expression c e) r2 f r3 = part (counts_with_expression c e) r2 f r3 one.few at_f in
-    took_as v (suc d) c start (headed h e f) t r4 rest same (record {
-      spelled = ap (λ r. keyword (heading_word h) ∷ r) (symbol_takes symbols.Open tokens u r0 opened
-          ∙ brackets_took (spell_expression v e) (spell_term v f) r0 r1 r2 r3 r4 (symbol symbols.Comma) one.spelled (symbol_takes symbols.Comma r1 m r2 at_m) two.spelled closed);
-      shallow = omega (arith, one.shallow, two.shallow);
-      few_terms = few_terms;
-      few_expressions = omega (arith, two.few_expressions);
-      known = (one.known, two.known);
-    }))))
+    took_as v (suc d) c start (head_makes h e f) t r4 rest same
+    (headed_took v d c (head_view h e f) (ap (λ r. heading_token h ∷ r) (symbol_takes symbols.Open tokens u r0 opened
+    ∙ brackets_took (spell_expression v e) (spell_term v f) r0 r1 r2 r3 r4 (symbol symbols.Comma) one.spelled (symbol_takes symbols.Comma r1 m r2 at_m) two.spelled closed)) one two few_terms))))
 
 -- what was taken of the body of a switch
 pub record TookBody (v : Version) (d : ℕ) (c : Counts) (tokens : List Tok) (b : Pattern × Term) (rest : List Tok) : Type 0 where
@@ -661,37 +682,6 @@ switching_takes v d c w tokens t rest part few is =
       known = (one.known, two.known);
     }))))
 
--- what begins with a word begins with the form's own
-by_word : (v : Version) (d : ℕ) (c : Counts) (k w : Keyword) (tokens : List Tok) (t : Term) (rest : List Tok) (read : List Tok → Read Term) → k ≡ w → read (keyword k ∷ tokens) ≡ got t rest
-    → (read (keyword w ∷ tokens) ≡ got t rest → Took v (suc d) c (keyword w ∷ tokens) t rest) → Took v (suc d) c (keyword k ∷ tokens) t rest
-by_word v d c k w tokens t rest read is reads takes =
-    subst (λ (u : Keyword). Took v (suc d) c (keyword u ∷ tokens) t rest) (sym is) (takes (subst (λ (u : Keyword). read (keyword u ∷ tokens) ≡ got t rest) is reads))
-
-worded_takes : (v : Version) (d : ℕ) (c : Counts) (h : Option Head) (k : Keyword) (tokens : List Tok) (t : Term) (rest : List Tok) → Takes v d → head_of k ≡ h → c.expressions ≤ 100000
-    → parse_worded d v (parse_term d v) c h (keyword k ∷ tokens) tokens ≡ got t rest → Took v (suc d) c (keyword k ∷ tokens) t rest
-worded_takes v d c (Some (heads.Bare b)) k tokens t rest part found few is =
-    let word : k ≡ bare_word b = head_takes k (heads.Bare b) found in
-    within_takes (c.terms + 1) (primitive (bare b)) t (keyword k ∷ tokens) tokens rest is (λ few_terms same.
-    took_as v (suc d) c (keyword k ∷ tokens) (primitive (bare b)) t tokens rest same
-    (record { spelled = ap (λ w. keyword w ∷ tokens) word; shallow = omega arith; few_terms = few_terms; few_expressions = omega arith; known = tt }))
-worded_takes v d c (Some heads.Never) k tokens t rest part found few is =
-    by_word v d c k words.Never tokens t rest (λ start. parse_never d v c start tokens) (head_takes k heads.Never found) is (never_takes v d c tokens t rest few)
-worded_takes v d c (Some (heads.WithValue w)) k tokens t rest part found few is =
-    by_word v d c k (value_word w) tokens t rest (λ start. parse_value d v c w start tokens) (head_takes k (heads.WithValue w) found) is (value_takes v d c w tokens t rest)
-worded_takes v d c (Some (heads.Timed w)) k tokens t rest part found few is =
-    by_word v d c k (timing_word w) tokens t rest (λ start. parse_timed d v c w start tokens) (head_takes k (heads.Timed w) found) is (timed_takes v d c w tokens t rest)
-worded_takes v d c (Some heads.Arrow) k tokens t rest part found few is =
-    by_word v d c k words.Arr tokens t rest (λ start. parse_arrow d v c start tokens) (head_takes k heads.Arrow found) is (arrow_takes v d c tokens t rest)
-worded_takes v d c (Some (heads.Accumulated a)) k tokens t rest part found few is =
-    by_word v d c k (accumulation_word a) tokens t rest (λ start. parse_accumulated d v c a start tokens) (head_takes k (heads.Accumulated a) found) is (accumulated_takes v d c a tokens t rest)
-worded_takes v d c (Some (heads.Sided s)) k tokens t rest part found few is =
-    by_word v d c k (side_word s) tokens t rest (λ start. parse_sided (parse_term d v) c s start tokens) (head_takes k (heads.Sided s) found) is (sided_takes v d c s tokens t rest part few)
-worded_takes v d c (Some (heads.Headed h)) k tokens t rest part found few is =
-    by_word v d c k (heading_word h) tokens t rest (λ start. parse_headed d v (parse_term d v) c h start tokens) (head_takes k (heads.Headed h) found) is (headed_takes v d c h tokens t rest part)
-worded_takes v d c (Some (heads.Switching w)) k tokens t rest part found few is =
-    by_word v d c k (switching_word w) tokens t rest (λ start. parse_switching d (parse_term d v) c w start tokens) (head_takes k (heads.Switching w) found) is (switching_takes v d c w tokens t rest part few)
-worded_takes v d c None k tokens t rest part found few is = cc
-
 join_from_takes : (o : Option Join) (s : Symbol) (tokens : List Tok) (j : Join) (rest : List Tok) → join_of s ≡ o → join_from o s tokens ≡ got j rest → symbol s ∷ tokens ≡ symbol (join_symbol j) ∷ rest
 join_from_takes (Some i) s tokens j rest found is =
     let same = got_same i j tokens rest is in
@@ -721,12 +711,45 @@ joined_takes v d c tokens t rest part few is =
       known = (one.known, two.known);
     })))
 
+-- what begins with a token begins with the form's own
+by_token : (v : Version) (d : ℕ) (c : Counts) (k w : Tok) (tokens : List Tok) (t : Term) (rest : List Tok) (read : List Tok → Read Term) → k ≡ w → read (k ∷ tokens) ≡ got t rest
+    → (read (w ∷ tokens) ≡ got t rest → Took v (suc d) c (w ∷ tokens) t rest) → Took v (suc d) c (k ∷ tokens) t rest
+by_token v d c k w tokens t rest read is reads takes =
+    subst (λ (u : Tok). Took v (suc d) c (u ∷ tokens) t rest) (sym is) (takes (subst (λ (u : Tok). read (u ∷ tokens) ≡ got t rest) is reads))
+
+behind_head_takes : (v : Version) (d : ℕ) (c : Counts) (h : Option Head) (k : Tok) (tokens : List Tok) (t : Term) (rest : List Tok) → Takes v d → head_of k ≡ h → c.expressions ≤ 100000
+    → parse_behind_head d v (parse_term d v) c h (k ∷ tokens) tokens ≡ got t rest → Took v (suc d) c (k ∷ tokens) t rest
+behind_head_takes v d c (Some (heads.Bare b)) k tokens t rest part found few is =
+    let head : IsHeadToken k (heads.Bare b) = head_takes k (heads.Bare b) found in
+    within_takes (c.terms + 1) (primitive (bare b)) t (k ∷ tokens) tokens rest is (λ few_terms same.
+    took_as v (suc d) c (k ∷ tokens) (primitive (bare b)) t tokens rest same
+    (record { spelled = ap (λ w. w ∷ tokens) head.token; shallow = omega arith; few_terms = few_terms; few_expressions = omega arith; known = tt }))
+behind_head_takes v d c (Some (heads.WithValue w)) k tokens t rest part found few is =
+    let head : IsHeadToken k (heads.WithValue w) = head_takes k (heads.WithValue w) found in
+    by_token v d c k (keyword (value_word w)) tokens t rest (λ start. parse_value d v c w start tokens) head.token is (value_takes v d c w tokens t rest head.begins)
+behind_head_takes v d c (Some (heads.Timed w)) k tokens t rest part found few is =
+    by_token v d c k (keyword (timing_word w)) tokens t rest (λ start. parse_timed d v c w start tokens) (head_takes k (heads.Timed w) found).token is (timed_takes v d c w tokens t rest)
+behind_head_takes v d c (Some heads.Never) k tokens t rest part found few is =
+    by_token v d c k (keyword words.Never) tokens t rest (λ start. parse_never d v c start tokens) (head_takes k heads.Never found).token is (never_takes v d c tokens t rest few)
+behind_head_takes v d c (Some heads.Arrow) k tokens t rest part found few is =
+    by_token v d c k (keyword words.Arr) tokens t rest (λ start. parse_arrow d v c start tokens) (head_takes k heads.Arrow found).token is (arrow_takes v d c tokens t rest)
+behind_head_takes v d c (Some (heads.Accumulated a)) k tokens t rest part found few is =
+    by_token v d c k (keyword (accumulation_word a)) tokens t rest (λ start. parse_accumulated d v c a start tokens) (head_takes k (heads.Accumulated a) found).token is (accumulated_takes v d c a tokens t rest)
+behind_head_takes v d c (Some heads.Joined) k tokens t rest part found few is =
+    by_token v d c k (symbol symbols.Open) tokens t rest (λ start. parse_joined (parse_term d v) c start tokens) (head_takes k heads.Joined found).token is (joined_takes v d c tokens t rest part few)
+behind_head_takes v d c (Some (heads.Sided s)) k tokens t rest part found few is =
+    by_token v d c k (keyword (side_word s)) tokens t rest (λ start. parse_sided (parse_term d v) c s start tokens) (head_takes k (heads.Sided s) found).token is (sided_takes v d c s tokens t rest part few)
+behind_head_takes v d c (Some (heads.Headed h)) k tokens t rest part found few is =
+    by_token v d c k (heading_token h) tokens t rest (λ start. parse_headed d v (parse_term d v) c h start tokens) (head_takes k (heads.Headed h) found).token is (headed_takes v d c h tokens t rest part)
+behind_head_takes v d c (Some (heads.Switching w)) k tokens t rest part found few is =
+    by_token v d c k (keyword (switching_word w)) tokens t rest (λ start. parse_switching d (parse_term d v) c w start tokens) (head_takes k (heads.Switching w) found).token is (switching_takes v d c w tokens t rest part few)
+behind_head_takes v d c None k tokens t rest part found few is = cc
+
 pub term_takes : (v : Version) (d : ℕ) → Takes v d
 unfolding parse_term
 term_takes v zero c tokens t rest few is = deep_takes begins_term tokens t rest is
-term_takes v (suc d) c (keyword k ∷ tokens) t rest few is = worded_takes v d c (head_of k) k tokens t rest (term_takes v d) refl few is
-term_takes v (suc d) c (symbol symbols.Open ∷ tokens) t rest few is = joined_takes v d c tokens t rest (term_takes v d) few is
-term_takes v (suc d) c _ t rest few is = cc
+term_takes v (suc d) c (k ∷ tokens) t rest few is = behind_head_takes v d c (head_of k) k tokens t rest (term_takes v d) refl few is
+term_takes v (suc d) c [] t rest few is = cc
 
 -- what was read in front of a header's types and between them and behind
 pub record TookSignature (v : Version) (tokens : List Tok) (s : Kind × Kind) (rest : List Tok) : Type 0 where

@@ -8,6 +8,7 @@ use Rattle.sf_term.specs.declared.form.Join.{Join}
 use Rattle.sf_term.specs.declared.form.Join.TheVariants as joins
 use Rattle.sf_term.specs.declared.form.Side.TheVariants as sides
 use Rattle.sf_term.specs.declared.form.Heading.TheVariants as headings
+use Rattle.sf_term.specs.declared.form.Observation.TheVariants as observations
 use Rattle.sf_term.specs.declared.form.Switching.TheVariants as switches
 use Rattle.sf_operator.specs.declared.operator.Unary.{Unary}
 use Rattle.sf_operator.specs.declared.operator.Unary.TheVariants as unaries
@@ -40,66 +41,91 @@ use Rattle.sf_grammar.specs.declared.head.ExpressionHead.{ExpressionHead}
 use Rattle.sf_grammar.specs.declared.head.ExpressionHead.TheVariants as expression_heads
 use Rattle.sf_grammar.specs.declared.head.Link.{Link}
 use Rattle.sf_grammar.specs.declared.head.Link.TheVariants as links
-use Rattle.sf_grammar.specs.Spelling.{bare_word, value_word, timing_word, accumulation_word, side_word, heading_word, switching_word, join_symbol, unary_word, takes_brackets, operator_token, stands_between, mapping_word, maps_in_brackets, folding_word, spell_operands, spell_type, spell_keys, type_depth, WritesKeys, WritesType, spell_expression}
+use Rattle.sf_grammar.specs.Spelling.{bare_word, value_word, stands_initially, timing_word, accumulation_word, side_word, heading_token, switching_word, join_symbol, unary_word, takes_brackets, operator_token, stands_between, mapping_word, maps_in_brackets, folding_word, spell_operands, spell_type, spell_keys, type_depth, WritesKeys, WritesType, spell_expression}
 use Rattle.sf_grammar.specs.Reading.{head_of, join_of, operator_of, link_of, expression_head, type_head, word_kind, got, parse_keys, behind_close}
 
--- the word of a form
-abbrev pub head_word : Head → Keyword
-head_word (heads.Bare b) = bare_word b
-head_word (heads.WithValue v) = value_word v
-head_word (heads.Timed k) = timing_word k
-head_word heads.Never = words.Never
-head_word heads.Arrow = words.Arr
-head_word (heads.Accumulated k) = accumulation_word k
-head_word (heads.Sided s) = side_word s
-head_word (heads.Headed h) = heading_word h
-head_word (heads.Switching w) = switching_word w
+-- the first token of a form
+abbrev pub head_token : Head → Tok
+head_token (heads.Bare b) = keyword (bare_word b)
+head_token (heads.WithValue v) = keyword (value_word v)
+head_token (heads.Timed k) = keyword (timing_word k)
+head_token heads.Never = keyword words.Never
+head_token heads.Arrow = keyword words.Arr
+head_token (heads.Accumulated k) = keyword (accumulation_word k)
+head_token heads.Joined = symbol symbols.Open
+head_token (heads.Sided s) = keyword (side_word s)
+head_token (heads.Headed h) = heading_token h
+head_token (heads.Switching w) = keyword (switching_word w)
 
-pub head_again : (h : Head) → head_of (head_word h) ≡ Some h
-head_again (heads.Bare bares.Identity) = refl
-head_again (heads.Bare bares.LocalTime) = refl
-head_again (heads.Bare bares.Integral) = refl
-head_again (heads.Bare bares.Edge) = refl
-head_again (heads.Bare bares.NotYet) = refl
-head_again (heads.Bare bares.Count) = refl
-head_again (heads.WithValue values.Constant) = refl
-head_again (heads.WithValue values.InitialPre) = refl
-head_again (heads.WithValue values.Now) = refl
-head_again (heads.WithValue values.Hold) = refl
-head_again (heads.Timed timings.After) = refl
-head_again heads.Never = refl
-head_again heads.Arrow = refl
-head_again (heads.Accumulated accumulations.AccumBy) = refl
-head_again (heads.Accumulated accumulations.AccumHoldBy) = refl
-head_again (heads.Accumulated accumulations.Scan) = refl
-head_again (heads.Sided sides.First) = refl
-head_again (heads.Sided sides.Second) = refl
-head_again (heads.Headed headings.LoopPre) = refl
-head_again (heads.Switching switches.Switch) = refl
-head_again (heads.Switching switches.DSwitch) = refl
+-- the form begins with that token: a value stands behind its word
+abbrev pub BeginsSo : Head → Type 0
+BeginsSo (heads.WithValue k) = stands_initially k ≡ false
+BeginsSo h = Unit {0}
 
-pub head_takes : (k : Keyword) (h : Head) → head_of k ≡ Some h → k ≡ head_word h
-head_takes words.Identity h e = let p : heads.Bare bares.Identity ≡ h = cc in rw (← p) refl
-head_takes words.LocalTime h e = let p : heads.Bare bares.LocalTime ≡ h = cc in rw (← p) refl
-head_takes words.Integral h e = let p : heads.Bare bares.Integral ≡ h = cc in rw (← p) refl
-head_takes words.Edge h e = let p : heads.Bare bares.Edge ≡ h = cc in rw (← p) refl
-head_takes words.NotYet h e = let p : heads.Bare bares.NotYet ≡ h = cc in rw (← p) refl
-head_takes words.Count h e = let p : heads.Bare bares.Count ≡ h = cc in rw (← p) refl
-head_takes words.Constant h e = let p : heads.WithValue values.Constant ≡ h = cc in rw (← p) refl
-head_takes words.IPre h e = let p : heads.WithValue values.InitialPre ≡ h = cc in rw (← p) refl
-head_takes words.Now h e = let p : heads.WithValue values.Now ≡ h = cc in rw (← p) refl
-head_takes words.Hold h e = let p : heads.WithValue values.Hold ≡ h = cc in rw (← p) refl
-head_takes words.Never h e = let p : heads.Never ≡ h = cc in rw (← p) refl
-head_takes words.After h e = let p : heads.Timed timings.After ≡ h = cc in rw (← p) refl
-head_takes words.Arr h e = let p : heads.Arrow ≡ h = cc in rw (← p) refl
-head_takes words.AccumBy h e = let p : heads.Accumulated accumulations.AccumBy ≡ h = cc in rw (← p) refl
-head_takes words.AccumHoldBy h e = let p : heads.Accumulated accumulations.AccumHoldBy ≡ h = cc in rw (← p) refl
-head_takes words.Sscan h e = let p : heads.Accumulated accumulations.Scan ≡ h = cc in rw (← p) refl
-head_takes words.First h e = let p : heads.Sided sides.First ≡ h = cc in rw (← p) refl
-head_takes words.Second h e = let p : heads.Sided sides.Second ≡ h = cc in rw (← p) refl
-head_takes words.LoopPre h e = let p : heads.Headed headings.LoopPre ≡ h = cc in rw (← p) refl
-head_takes words.Switch h e = let p : heads.Switching switches.Switch ≡ h = cc in rw (← p) refl
-head_takes words.DSwitch h e = let p : heads.Switching switches.DSwitch ≡ h = cc in rw (← p) refl
+pub head_again : (h : Head) → BeginsSo h → head_of (head_token h) ≡ Some h
+head_again (heads.Bare bares.Identity) begins = refl
+head_again (heads.Bare bares.LocalTime) begins = refl
+head_again (heads.Bare bares.Integral) begins = refl
+head_again (heads.Bare bares.Edge) begins = refl
+head_again (heads.Bare bares.NotYet) begins = refl
+head_again (heads.Bare bares.Count) begins = refl
+head_again (heads.Bare bares.Pre) begins = refl
+head_again (heads.WithValue values.Constant) begins = refl
+head_again (heads.WithValue values.InitialPre) begins = refl
+head_again (heads.WithValue values.InitializedPre) begins = cc
+head_again (heads.WithValue values.Now) begins = refl
+head_again (heads.WithValue values.Hold) begins = refl
+head_again (heads.Timed timings.After) begins = refl
+head_again heads.Never begins = refl
+head_again heads.Arrow begins = refl
+head_again (heads.Accumulated accumulations.AccumBy) begins = refl
+head_again (heads.Accumulated accumulations.AccumHoldBy) begins = refl
+head_again (heads.Accumulated accumulations.Scan) begins = refl
+head_again heads.Joined begins = refl
+head_again (heads.Sided sides.First) begins = refl
+head_again (heads.Sided sides.Second) begins = refl
+head_again (heads.Headed headings.LoopPre) begins = refl
+head_again (heads.Headed headings.Initialized) begins = refl
+head_again (heads.Switching (switches.Basic observations.Immediate)) begins = refl
+head_again (heads.Switching (switches.Basic observations.Delayed)) begins = refl
+head_again (heads.Switching (switches.Recurring observations.Immediate)) begins = refl
+head_again (heads.Switching (switches.Recurring observations.Delayed)) begins = refl
+
+-- a token is the first one of a form
+pub record IsHeadToken (t : Tok) (h : Head) : Type 0 where
+  pub token : t ≡ head_token h
+  pub begins : BeginsSo h
+
+head_as : (t : Tok) (g h : Head) → Some g ≡ Some h → t ≡ head_token g → BeginsSo g → IsHeadToken t h
+head_as t g h same token begins = let p : g ≡ h = cc in subst (IsHeadToken t) p (record { token = token; begins = begins })
+
+pub head_takes : (t : Tok) (h : Head) → head_of t ≡ Some h → IsHeadToken t h
+head_takes (keyword words.Identity) h e = head_as (keyword words.Identity) (heads.Bare bares.Identity) h e refl tt
+head_takes (keyword words.LocalTime) h e = head_as (keyword words.LocalTime) (heads.Bare bares.LocalTime) h e refl tt
+head_takes (keyword words.Integral) h e = head_as (keyword words.Integral) (heads.Bare bares.Integral) h e refl tt
+head_takes (keyword words.Edge) h e = head_as (keyword words.Edge) (heads.Bare bares.Edge) h e refl tt
+head_takes (keyword words.NotYet) h e = head_as (keyword words.NotYet) (heads.Bare bares.NotYet) h e refl tt
+head_takes (keyword words.Count) h e = head_as (keyword words.Count) (heads.Bare bares.Count) h e refl tt
+head_takes (keyword words.Pre) h e = head_as (keyword words.Pre) (heads.Bare bares.Pre) h e refl tt
+head_takes (keyword words.Constant) h e = head_as (keyword words.Constant) (heads.WithValue values.Constant) h e refl refl
+head_takes (keyword words.IPre) h e = head_as (keyword words.IPre) (heads.WithValue values.InitialPre) h e refl refl
+head_takes (keyword words.Now) h e = head_as (keyword words.Now) (heads.WithValue values.Now) h e refl refl
+head_takes (keyword words.Hold) h e = head_as (keyword words.Hold) (heads.WithValue values.Hold) h e refl refl
+head_takes (keyword words.After) h e = head_as (keyword words.After) (heads.Timed timings.After) h e refl tt
+head_takes (keyword words.Never) h e = head_as (keyword words.Never) heads.Never h e refl tt
+head_takes (keyword words.Arr) h e = head_as (keyword words.Arr) heads.Arrow h e refl tt
+head_takes (keyword words.AccumBy) h e = head_as (keyword words.AccumBy) (heads.Accumulated accumulations.AccumBy) h e refl tt
+head_takes (keyword words.AccumHoldBy) h e = head_as (keyword words.AccumHoldBy) (heads.Accumulated accumulations.AccumHoldBy) h e refl tt
+head_takes (keyword words.Sscan) h e = head_as (keyword words.Sscan) (heads.Accumulated accumulations.Scan) h e refl tt
+head_takes (symbol symbols.Open) h e = head_as (symbol symbols.Open) heads.Joined h e refl tt
+head_takes (keyword words.First) h e = head_as (keyword words.First) (heads.Sided sides.First) h e refl tt
+head_takes (keyword words.Second) h e = head_as (keyword words.Second) (heads.Sided sides.Second) h e refl tt
+head_takes (keyword words.LoopPre) h e = head_as (keyword words.LoopPre) (heads.Headed headings.LoopPre) h e refl tt
+head_takes (symbol symbols.Initially) h e = head_as (symbol symbols.Initially) (heads.Headed headings.Initialized) h e refl tt
+head_takes (keyword words.Switch) h e = head_as (keyword words.Switch) (heads.Switching (switches.Basic observations.Immediate)) h e refl tt
+head_takes (keyword words.DSwitch) h e = head_as (keyword words.DSwitch) (heads.Switching (switches.Basic observations.Delayed)) h e refl tt
+head_takes (keyword words.RSwitch) h e = head_as (keyword words.RSwitch) (heads.Switching (switches.Recurring observations.Immediate)) h e refl tt
+head_takes (keyword words.DrSwitch) h e = head_as (keyword words.DrSwitch) (heads.Switching (switches.Recurring observations.Delayed)) h e refl tt
 head_takes _ h e = cc
 
 pub join_again : (j : Join) → join_of (join_symbol j) ≡ Some j

@@ -32,7 +32,7 @@ use Rattle.sf_term.specs.Headers.{Header}
 use Rattle.sf_term.specs.Arena.{HoldsTerm, HoldsExpression, HoldsPatternIn, ProgramHoldsFunction, term_node_at, term_spot_at, expression_under, expression_node_at, expression_spot_at, function_pattern_at, function_body_at, pattern_under, headers_of, template_in, templates_of, tree}
 use Rattle.sf_lex.specs.Tokens.{Located, place_at}
 use Rattle.sf_grammar.specs.declared.ty.Version.{Version}
-use Rattle.sf_grammar.specs.Spelling.{takes_brackets, stands_between, maps_in_brackets, spell_expression, spell_signature, IsNetworkText, spell_term}
+use Rattle.sf_grammar.specs.Spelling.{stands_initially, takes_brackets, stands_between, maps_in_brackets, spell_expression, spell_signature, IsNetworkText, spell_term}
 
 -- the places of two parts in brackets, with a token between them
 abbrev pub around : Spot → List Spot → Spot → List Spot → Spot → List Spot
@@ -100,8 +100,10 @@ pub data TermPlaced (v : Version) (p : Program) : TermId → List Spot → Type 
   bare_placed : {id : TermId} {k : Bare} {at : Spot} → TermStands p id (nodes.Primitive (primitives.Bare k)) at → TermPlaced v p id (at ∷ [])
   never_placed : {id : TermId} {n : ConstantId} {xs : List Spot} {at : Spot} → TermStands p id (nodes.Primitive (primitives.Never n)) at
       → length (at ∷ xs) ≡ length (spell_term v (tree p id)) → TermPlaced v p id (at ∷ xs)
-  with_value_placed : {id : TermId} {k : WithValue} {e : ExprId} {xs : List Spot} {at : Spot} → TermStands p id (nodes.Primitive (primitives.WithValue k e)) at
+  with_value_placed : {id : TermId} {k : WithValue} {e : ExprId} {xs : List Spot} {at : Spot} → stands_initially k ≡ false → TermStands p id (nodes.Primitive (primitives.WithValue k e)) at
       → ExpressionPlaced v p e xs → TermPlaced v p id (at ∷ xs)
+  initialized_placed : {id : TermId} {k : WithValue} {e : ExprId} {xs : List Spot} {at : Spot} (opening comma word closing : Spot) → stands_initially k ≡ true → TermStands p id (nodes.Primitive (primitives.WithValue k e)) at
+      → ExpressionPlaced v p e xs → TermPlaced v p id (at ∷ around opening xs comma (word ∷ []) closing)
   timed_placed : {id : TermId} {k : Timing} {q : ℤ} {e : ExprId} {xs : List Spot} {at : Spot} (time : Spot) → TermStands p id (nodes.Primitive (primitives.Timed k q e)) at
       → ExpressionPlaced v p e xs → TermPlaced v p id (at ∷ time ∷ xs)
   arrow_placed : {id : TermId} {f : FunctionId} {xs : List Spot} {at : Spot} → TermStands p id (nodes.Primitive (primitives.Arrow f)) at

@@ -31,8 +31,9 @@ use Rattle.sf_term.specs.declared.form.Side.TheVariants as sides
 use Rattle.sf_term.specs.declared.form.Heading.{Heading}
 use Rattle.sf_term.specs.declared.form.Heading.TheVariants as headings
 use Rattle.sf_term.specs.declared.form.Switching.{Switching}
+use Rattle.sf_term.specs.declared.form.Observation.TheVariants as observations
 use Rattle.sf_term.specs.declared.form.Switching.TheVariants as switches
-use Rattle.sf_term.specs.Trees.{Term, primitive, joined, sided, headed, switching, bare, never, with_value, timed, arrow, accumulated, Template, terms_in, expressions_in}
+use Rattle.sf_term.specs.Trees.{Term, primitive, joined, sided, switching, bare, never, with_value, timed, arrow, accumulated, Template, terms_in, expressions_in}
 use Rattle.sf_lex.specs.declared.word.Keyword.{Keyword}
 use Rattle.sf_lex.specs.declared.word.Keyword.TheVariants as words
 use Rattle.sf_lex.specs.declared.symbol.Symbol.{Symbol}
@@ -43,6 +44,7 @@ use Rattle.sf_lex.specs.Tokens.{Tok, keyword, name, number, text, symbol}
 use Rattle.sf_refusal.specs.declared.rule.Rule.{Rule}
 use Rattle.sf_refusal.specs.declared.rule.Rule.TheVariants.{Unexpected, TooDeep, Version as NoVersion, WrittenTypeTooLarge, TooMany}
 use Rattle.sf_grammar.specs.declared.ty.Version.{Version}
+use Rattle.sf_grammar.specs.Spelling.{head_makes}
 use Rattle.sf_grammar.specs.declared.ty.Version.TheVariants as versions
 use Rattle.sf_grammar.specs.declared.ty.WordType.{WordType}
 use Rattle.sf_grammar.specs.declared.ty.WordType.TheVariants as word_types
@@ -414,29 +416,34 @@ parse_function left v c tokens = parse_mapping left (parse_expression left v) c 
 abbrev pub term_read : Counts → Term → List Tok → List Tok → Read Term
 term_read c t start rest = if nat_le (c.terms + terms_in t) 100000 then got t rest else stop TooMany start
 
--- the form that a word begins
-abbrev pub head_of : Keyword → Option Head
-head_of words.Identity = Some (heads.Bare bares.Identity)
-head_of words.LocalTime = Some (heads.Bare bares.LocalTime)
-head_of words.Integral = Some (heads.Bare bares.Integral)
-head_of words.Edge = Some (heads.Bare bares.Edge)
-head_of words.NotYet = Some (heads.Bare bares.NotYet)
-head_of words.Count = Some (heads.Bare bares.Count)
-head_of words.Constant = Some (heads.WithValue values.Constant)
-head_of words.IPre = Some (heads.WithValue values.InitialPre)
-head_of words.Now = Some (heads.WithValue values.Now)
-head_of words.Hold = Some (heads.WithValue values.Hold)
-head_of words.After = Some (heads.Timed timings.After)
-head_of words.Never = Some heads.Never
-head_of words.Arr = Some heads.Arrow
-head_of words.AccumBy = Some (heads.Accumulated accumulations.AccumBy)
-head_of words.AccumHoldBy = Some (heads.Accumulated accumulations.AccumHoldBy)
-head_of words.Sscan = Some (heads.Accumulated accumulations.Scan)
-head_of words.First = Some (heads.Sided sides.First)
-head_of words.Second = Some (heads.Sided sides.Second)
-head_of words.LoopPre = Some (heads.Headed headings.LoopPre)
-head_of words.Switch = Some (heads.Switching switches.Switch)
-head_of words.DSwitch = Some (heads.Switching switches.DSwitch)
+-- the form that a token begins
+abbrev pub head_of : Tok → Option Head
+head_of (keyword words.Identity) = Some (heads.Bare bares.Identity)
+head_of (keyword words.LocalTime) = Some (heads.Bare bares.LocalTime)
+head_of (keyword words.Integral) = Some (heads.Bare bares.Integral)
+head_of (keyword words.Edge) = Some (heads.Bare bares.Edge)
+head_of (keyword words.NotYet) = Some (heads.Bare bares.NotYet)
+head_of (keyword words.Count) = Some (heads.Bare bares.Count)
+head_of (keyword words.Pre) = Some (heads.Bare bares.Pre)
+head_of (keyword words.Constant) = Some (heads.WithValue values.Constant)
+head_of (keyword words.IPre) = Some (heads.WithValue values.InitialPre)
+head_of (keyword words.Now) = Some (heads.WithValue values.Now)
+head_of (keyword words.Hold) = Some (heads.WithValue values.Hold)
+head_of (keyword words.After) = Some (heads.Timed timings.After)
+head_of (keyword words.Never) = Some heads.Never
+head_of (keyword words.Arr) = Some heads.Arrow
+head_of (keyword words.AccumBy) = Some (heads.Accumulated accumulations.AccumBy)
+head_of (keyword words.AccumHoldBy) = Some (heads.Accumulated accumulations.AccumHoldBy)
+head_of (keyword words.Sscan) = Some (heads.Accumulated accumulations.Scan)
+head_of (keyword words.First) = Some (heads.Sided sides.First)
+head_of (keyword words.Second) = Some (heads.Sided sides.Second)
+head_of (keyword words.LoopPre) = Some (heads.Headed headings.LoopPre)
+head_of (symbol symbols.Open) = Some heads.Joined
+head_of (symbol symbols.Initially) = Some (heads.Headed headings.Initialized)
+head_of (keyword words.Switch) = Some (heads.Switching (switches.Basic observations.Immediate))
+head_of (keyword words.DSwitch) = Some (heads.Switching (switches.Basic observations.Delayed))
+head_of (keyword words.RSwitch) = Some (heads.Switching (switches.Recurring observations.Immediate))
+head_of (keyword words.DrSwitch) = Some (heads.Switching (switches.Recurring observations.Delayed))
 head_of _ = None
 
 abbrev pub join_of : Symbol → Option Join
@@ -476,11 +483,11 @@ parse_accumulated left v c k start tokens =
 unfoldable pub parse_sided : (Counts → List Tok → Read Term) → Counts → Side → List Tok → List Tok → Read Term
 parse_sided part c s start tokens = part c tokens and_then λ f rest. term_read c (sided s f) start rest
 
--- behind the word of a term with an expression at its head, where the expression and the term are read so
+-- behind the first token of a term with an expression at its head, where the expression and the term are read so
 unfoldable pub parse_headed : ℕ → Version → (Counts → List Tok → Read Term) → Counts → Heading → List Tok → List Tok → Read Term
 parse_headed left v part c h start tokens =
     parse_symbol symbols.Open tokens and_then λ _ rest.
-    parse_parts (parse_expression left v c) (parse_symbol symbols.Comma) (λ e. part (counts_with_expression c e)) (λ e _ f rest. term_read c (headed h e f) start rest) rest
+    parse_parts (parse_expression left v c) (parse_symbol symbols.Comma) (λ e. part (counts_with_expression c e)) (λ e _ f rest. term_read c (head_makes h e f) start rest) rest
 
 -- the body of a switch: a pattern of so much depth at most, and a term, where that is read so
 abbrev pub parse_body : ℕ → (Counts → List Tok → Read Term) → Counts → List Tok → Read (Pattern × Term)
@@ -496,19 +503,6 @@ parse_switching left part c w start tokens =
     parse_symbol symbols.Open tokens and_then λ _ rest.
     parse_parts (part c) (parse_symbol symbols.Comma) (λ f. parse_body left part (counts_with c f)) (λ f _ b rest. term_read c (switching w f b.0 b.1) start rest) rest
 
--- behind the word of a form
-abbrev pub parse_worded : ℕ → Version → (Counts → List Tok → Read Term) → Counts → Option Head → List Tok → List Tok → Read Term
-parse_worded left v part c (Some (heads.Bare b)) start tokens = term_read c (primitive (bare b)) start tokens
-parse_worded left v part c (Some heads.Never) start tokens = parse_never left v c start tokens
-parse_worded left v part c (Some (heads.WithValue k)) start tokens = parse_value left v c k start tokens
-parse_worded left v part c (Some (heads.Timed k)) start tokens = parse_timed left v c k start tokens
-parse_worded left v part c (Some heads.Arrow) start tokens = parse_arrow left v c start tokens
-parse_worded left v part c (Some (heads.Accumulated k)) start tokens = parse_accumulated left v c k start tokens
-parse_worded left v part c (Some (heads.Sided s)) start tokens = parse_sided part c s start tokens
-parse_worded left v part c (Some (heads.Headed h)) start tokens = parse_headed left v part c h start tokens
-parse_worded left v part c (Some (heads.Switching w)) start tokens = parse_switching left part c w start tokens
-parse_worded left v part c None start tokens = stop Unexpected start
-
 abbrev pub join_from : Option Join → Symbol → List Tok → Read Join
 join_from (Some j) s rest = got j rest
 join_from None s rest = stop Unexpected (symbol s ∷ rest)
@@ -521,16 +515,27 @@ parse_join tokens = stop Unexpected tokens
 unfoldable pub parse_joined : (Counts → List Tok → Read Term) → Counts → List Tok → List Tok → Read Term
 parse_joined part c start tokens = parse_parts (part c) parse_join (λ f. part (counts_with c f)) (λ f j g rest. term_read c (joined j f g) start rest) tokens
 
+-- behind the first token of a form
+abbrev pub parse_behind_head : ℕ → Version → (Counts → List Tok → Read Term) → Counts → Option Head → List Tok → List Tok → Read Term
+parse_behind_head left v part c (Some (heads.Bare b)) start tokens = term_read c (primitive (bare b)) start tokens
+parse_behind_head left v part c (Some (heads.WithValue k)) start tokens = parse_value left v c k start tokens
+parse_behind_head left v part c (Some (heads.Timed k)) start tokens = parse_timed left v c k start tokens
+parse_behind_head left v part c (Some heads.Never) start tokens = parse_never left v c start tokens
+parse_behind_head left v part c (Some heads.Arrow) start tokens = parse_arrow left v c start tokens
+parse_behind_head left v part c (Some (heads.Accumulated k)) start tokens = parse_accumulated left v c k start tokens
+parse_behind_head left v part c (Some heads.Joined) start tokens = parse_joined part c start tokens
+parse_behind_head left v part c (Some (heads.Sided s)) start tokens = parse_sided part c s start tokens
+parse_behind_head left v part c (Some (heads.Headed h)) start tokens = parse_headed left v part c h start tokens
+parse_behind_head left v part c (Some (heads.Switching w)) start tokens = parse_switching left part c w start tokens
+parse_behind_head left v part c None start tokens = stop Unexpected start
+
 -- a term by its first token
 abbrev pub parse_form : ℕ → Version → (Counts → List Tok → Read Term) → Counts → List Tok → Read Term
-parse_form left v part c (keyword k ∷ rest) = parse_worded left v part c (head_of k) (keyword k ∷ rest) rest
-parse_form left v part c (symbol symbols.Open ∷ rest) = parse_joined part c (symbol symbols.Open ∷ rest) rest
-parse_form left v part c tokens = stop Unexpected tokens
+parse_form left v part c (t ∷ rest) = parse_behind_head left v part c (head_of t) (t ∷ rest) rest
+parse_form left v part c [] = stop Unexpected []
 
 abbrev pub begins_term : Tok → Bool
-begins_term (keyword k) = is_some (head_of k)
-begins_term (symbol symbols.Open) = true
-begins_term _ = false
+begins_term t = is_some (head_of t)
 
 -- a term of so much depth at most
 unfoldable pub parse_term : ℕ → Version → Counts → List Tok → Read Term

@@ -31,6 +31,7 @@ use Rattle.sf_term.specs.declared.form.Side.TheVariants as sides
 use Rattle.sf_term.specs.declared.form.Heading.{Heading}
 use Rattle.sf_term.specs.declared.form.Heading.TheVariants as headings
 use Rattle.sf_term.specs.declared.form.Switching.{Switching}
+use Rattle.sf_term.specs.declared.form.Observation.TheVariants as observations
 use Rattle.sf_term.specs.declared.form.Switching.TheVariants as switches
 use Rattle.sf_term.specs.Trees.{bare, never, with_value, timed, arrow, accumulated, fused, Term, primitive, joined, sided, headed, switching, staged, Template, Templates, term_depth, terms_in, expressions_in}
 use Rattle.sf_lex.specs.declared.word.Keyword.{Keyword}
@@ -50,13 +51,23 @@ bare_word bares.Integral = words.Integral
 bare_word bares.Edge = words.Edge
 bare_word bares.NotYet = words.NotYet
 bare_word bares.Count = words.Count
+bare_word bares.Pre = words.Pre
 
 -- the word of a primitive with a value
 abbrev pub value_word : WithValue → Keyword
 value_word values.Constant = words.Constant
 value_word values.InitialPre = words.IPre
+value_word values.InitializedPre = words.Pre
 value_word values.Now = words.Now
 value_word values.Hold = words.Hold
+
+-- whether the value stands in front of that word, in brackets behind `-->`; else it stands behind the word
+abbrev pub stands_initially : WithValue → Bool
+stands_initially values.Constant = false
+stands_initially values.InitialPre = false
+stands_initially values.InitializedPre = true
+stands_initially values.Now = false
+stands_initially values.Hold = false
 
 -- the word of a primitive with a time and a value
 abbrev pub timing_word : Timing → Keyword
@@ -79,14 +90,17 @@ abbrev pub side_word : Side → Keyword
 side_word sides.First = words.First
 side_word sides.Second = words.Second
 
--- the word of a term with an expression at its head
-abbrev pub heading_word : Heading → Keyword
-heading_word headings.LoopPre = words.LoopPre
+-- the first token of a term with an expression at its head
+abbrev pub heading_token : Heading → Tok
+heading_token headings.LoopPre = keyword words.LoopPre
+heading_token headings.Initialized = symbol symbols.Initially
 
 -- the word of a term that gives way to another
 abbrev pub switching_word : Switching → Keyword
-switching_word switches.Switch = words.Switch
-switching_word switches.DSwitch = words.DSwitch
+switching_word (switches.Basic observations.Immediate) = words.Switch
+switching_word (switches.Basic observations.Delayed) = words.DSwitch
+switching_word (switches.Recurring observations.Immediate) = words.RSwitch
+switching_word (switches.Recurring observations.Delayed) = words.DrSwitch
 
 -- the word of an operator on one value
 abbrev pub unary_word : Unary → Keyword
@@ -243,18 +257,23 @@ spell_expression v (called g e) = spell_called g (spell_expression v e)
 abbrev pub spell_function : Version → Function → List Tok
 spell_function v (function p e) = spell_mapping (spell_pattern p) (spell_expression v e)
 
+-- a value, in front of a word or behind it
+abbrev pub spell_value : Bool → Keyword → List Tok → List Tok
+spell_value false word value = keyword word ∷ value
+spell_value true word value = symbol symbols.Initially ∷ in_brackets value (symbol symbols.Comma) (keyword word ∷ [])
+
 -- the forms of plans stand in no text
 abbrev pub spell_term : Version → Term → List Tok
 spell_term v (primitive (bare k)) = keyword (bare_word k) ∷ []
 spell_term v (primitive (never t)) = keyword words.Never ∷ spell_type v t
-spell_term v (primitive (with_value k e)) = keyword (value_word k) ∷ spell_expression v e
+spell_term v (primitive (with_value k e)) = spell_value (stands_initially k) (value_word k) (spell_expression v e)
 spell_term v (primitive (timed k q e)) = keyword (timing_word k) ∷ number q ∷ spell_expression v e
 spell_term v (primitive (arrow f)) = keyword words.Arr ∷ spell_function v f
 spell_term v (primitive (accumulated k e f)) = keyword (accumulation_word k) ∷ in_brackets (spell_expression v e) (symbol symbols.Comma) (spell_function v f)
 spell_term v (primitive (fused f)) = []
 spell_term v (joined j f g) = in_brackets (spell_term v f) (symbol (join_symbol j)) (spell_term v g)
 spell_term v (sided s f) = keyword (side_word s) ∷ spell_term v f
-spell_term v (headed h e f) = keyword (heading_word h) ∷ in_brackets (spell_expression v e) (symbol symbols.Comma) (spell_term v f)
+spell_term v (headed h e f) = heading_token h ∷ in_brackets (spell_expression v e) (symbol symbols.Comma) (spell_term v f)
 spell_term v (switching w f p g) = keyword (switching_word w) ∷ in_brackets (spell_term v f) (symbol symbols.Comma) (spell_mapping (spell_pattern p) (spell_term v g))
 spell_term v (staged x f g) = []
 
@@ -328,7 +347,12 @@ WritesExpression v d e = ⊤
 abbrev pub WritesFunction : Version → ℕ → Function → Type 0
 WritesFunction v d (function p e) = WritesExpression v d e
 
--- a text of the version has the types in a term, where so much depth is left
+-- what a head makes with an expression and a term: behind `-->`, `pre` and the expression are one primitive
+abbrev pub head_makes : Heading → Expression → Term → Term
+head_makes headings.Initialized e (primitive (bare bares.Pre)) = primitive (with_value values.InitializedPre e)
+head_makes h e f = headed h e f
+
+-- a text of the version has a term and the types in it, where so much depth is left
 abbrev pub WritesTerm : Version → ℕ → Term → Type 0
 WritesTerm v (suc d) (primitive (never t)) = IsWrittenType v d t
 WritesTerm v (suc d) (primitive (with_value k e)) = WritesExpression v d e
@@ -337,7 +361,7 @@ WritesTerm v (suc d) (primitive (arrow f)) = WritesFunction v d f
 WritesTerm v (suc d) (primitive (accumulated k e f)) = WritesExpression v d e × WritesFunction v d f
 WritesTerm v (suc d) (joined j f g) = WritesTerm v d f × WritesTerm v d g
 WritesTerm v (suc d) (sided s f) = WritesTerm v d f
-WritesTerm v (suc d) (headed h e f) = WritesExpression v d e × WritesTerm v d f
+WritesTerm v (suc d) (headed h e f) = (head_makes h e f ≡ headed h e f) × WritesExpression v d e × WritesTerm v d f
 WritesTerm v (suc d) (switching w f p g) = WritesTerm v d f × WritesTerm v d g
 WritesTerm v d t = ⊤
 
@@ -347,7 +371,7 @@ pub record HasWrittenTypes (v : Version) (t : Template) : Type 0 where
   pub output : IsWrittenType v 64 t.output
   pub body : WritesTerm v 64 t.body
 
--- at most 64 terms, expressions and patterns stand one inside another, there are at most 100,000 terms and 100,000 expressions, and a text of the version has the types that are written
+-- at most 64 terms, expressions and patterns stand one inside another, there are at most 100,000 terms and 100,000 expressions, and a text of the version has the terms and the types that are written
 pub record IsWithinLimits (v : Version) (p : Templates) : Type 0 where
   pub shallow : All (λ (t : Template). term_depth t.body ≤ 64) p
   pub typed : All (HasWrittenTypes v) p

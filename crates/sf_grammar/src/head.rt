@@ -5,9 +5,9 @@ ghost use Rattle.sf_grammar.specs.Reading.{expression_head, head_of, join_of, li
 
 use sf_expr::{Arithmetic, Comparison, Equality, Folding, Logic, Mapping, Merge, Operator, Unary};
 use sf_lex::{Keyword, Symbol, Token};
-use sf_term::{Accumulation, Bare, Heading, Join, Side, Switching, Timing, WithValue};
+use sf_term::{Accumulation, Bare, Heading, Join, Observation, Side, Switching, Timing, WithValue};
 
-/// A form that a word begins, by its shape.
+/// A form by its first token, by its shape.
 #[derive(Clone, Copy, Debug, PartialEq, Eq)]
 pub enum Head {
     /// A word alone.
@@ -22,9 +22,11 @@ pub enum Head {
     Arrow,
     /// A word, and behind it an expression and a function in brackets.
     Accumulated(Accumulation),
+    /// An opening bracket, and behind it two terms joined.
+    Joined,
     /// A word, and a term behind it.
     Sided(Side),
-    /// A word, and behind it an expression and a term in brackets.
+    /// A word or `-->`, and behind it an expression and a term in brackets.
     Headed(Heading),
     /// A word, and behind it a term, a pattern and another term in brackets.
     Switching(Switching),
@@ -64,32 +66,45 @@ pub enum Link {
     Operation(Operator),
 }
 
-/// The form that a word begins.
-pub fn head_of(word: Keyword) -> Option<Head>
-    ensures { result ≡ head_of word }
+/// The form that a token begins.
+pub fn head_of(token: &Token) -> Option<Head>
+    ensures { result ≡ head_of (token_of token.now) }
 {
-    match word {
-        Keyword::Identity => Some(Head::Bare(Bare::Identity)),
-        Keyword::LocalTime => Some(Head::Bare(Bare::LocalTime)),
-        Keyword::Integral => Some(Head::Bare(Bare::Integral)),
-        Keyword::Edge => Some(Head::Bare(Bare::Edge)),
-        Keyword::NotYet => Some(Head::Bare(Bare::NotYet)),
-        Keyword::Count => Some(Head::Bare(Bare::Count)),
-        Keyword::Constant => Some(Head::WithValue(WithValue::Constant)),
-        Keyword::IPre => Some(Head::WithValue(WithValue::InitialPre)),
-        Keyword::Now => Some(Head::WithValue(WithValue::Now)),
-        Keyword::Hold => Some(Head::WithValue(WithValue::Hold)),
-        Keyword::After => Some(Head::Timed(Timing::After)),
-        Keyword::Never => Some(Head::Never),
-        Keyword::Arr => Some(Head::Arrow),
-        Keyword::AccumBy => Some(Head::Accumulated(Accumulation::AccumBy)),
-        Keyword::AccumHoldBy => Some(Head::Accumulated(Accumulation::AccumHoldBy)),
-        Keyword::Sscan => Some(Head::Accumulated(Accumulation::Scan)),
-        Keyword::First => Some(Head::Sided(Side::First)),
-        Keyword::Second => Some(Head::Sided(Side::Second)),
-        Keyword::LoopPre => Some(Head::Headed(Heading::LoopPre)),
-        Keyword::Switch => Some(Head::Switching(Switching::Switch)),
-        Keyword::DSwitch => Some(Head::Switching(Switching::DSwitch)),
+    match token {
+        Token::Keyword(Keyword::Identity) => Some(Head::Bare(Bare::Identity)),
+        Token::Keyword(Keyword::LocalTime) => Some(Head::Bare(Bare::LocalTime)),
+        Token::Keyword(Keyword::Integral) => Some(Head::Bare(Bare::Integral)),
+        Token::Keyword(Keyword::Edge) => Some(Head::Bare(Bare::Edge)),
+        Token::Keyword(Keyword::NotYet) => Some(Head::Bare(Bare::NotYet)),
+        Token::Keyword(Keyword::Count) => Some(Head::Bare(Bare::Count)),
+        Token::Keyword(Keyword::Pre) => Some(Head::Bare(Bare::Pre)),
+        Token::Keyword(Keyword::Constant) => Some(Head::WithValue(WithValue::Constant)),
+        Token::Keyword(Keyword::IPre) => Some(Head::WithValue(WithValue::InitialPre)),
+        Token::Keyword(Keyword::Now) => Some(Head::WithValue(WithValue::Now)),
+        Token::Keyword(Keyword::Hold) => Some(Head::WithValue(WithValue::Hold)),
+        Token::Keyword(Keyword::After) => Some(Head::Timed(Timing::After)),
+        Token::Keyword(Keyword::Never) => Some(Head::Never),
+        Token::Keyword(Keyword::Arr) => Some(Head::Arrow),
+        Token::Keyword(Keyword::AccumBy) => Some(Head::Accumulated(Accumulation::AccumBy)),
+        Token::Keyword(Keyword::AccumHoldBy) => Some(Head::Accumulated(Accumulation::AccumHoldBy)),
+        Token::Keyword(Keyword::Sscan) => Some(Head::Accumulated(Accumulation::Scan)),
+        Token::Symbol(Symbol::Open) => Some(Head::Joined),
+        Token::Keyword(Keyword::First) => Some(Head::Sided(Side::First)),
+        Token::Keyword(Keyword::Second) => Some(Head::Sided(Side::Second)),
+        Token::Keyword(Keyword::LoopPre) => Some(Head::Headed(Heading::LoopPre)),
+        Token::Symbol(Symbol::Initially) => Some(Head::Headed(Heading::Initialized)),
+        Token::Keyword(Keyword::Switch) => Some(Head::Switching(Switching::Basic(
+            Observation::Immediate,
+        ))),
+        Token::Keyword(Keyword::DSwitch) => Some(Head::Switching(Switching::Basic(
+            Observation::Delayed,
+        ))),
+        Token::Keyword(Keyword::RSwitch) => Some(Head::Switching(Switching::Recurring(
+            Observation::Immediate,
+        ))),
+        Token::Keyword(Keyword::DrSwitch) => Some(Head::Switching(Switching::Recurring(
+            Observation::Delayed,
+        ))),
         _ => None,
     }
 }

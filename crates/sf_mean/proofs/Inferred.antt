@@ -15,12 +15,13 @@ use Rattle.sf_term.specs.declared.form.Join.{Join}
 use Rattle.sf_term.specs.declared.form.Join.TheVariants.{InSequence, InParallel, FannedOut}
 use Rattle.sf_term.specs.declared.form.Side.{Side}
 use Rattle.sf_term.specs.declared.form.Side.TheVariants.{First, Second}
-use Rattle.sf_term.specs.declared.form.Heading.TheVariants.{LoopPre}
-use Rattle.sf_term.specs.declared.form.Switching.{Switching}
+use Rattle.sf_term.specs.declared.form.Heading.TheVariants.{LoopPre, Initialized}
 use Rattle.sf_term.specs.Trees.{Chain, lone, chained, on_side, on_both, fanned, Primitive, bare, never, with_value, timed, arrow, accumulated, fused, Extent, Term, primitive, joined, sided, headed, switching, staged}
-use Rattle.sf_mean.specs.Contexts.{NameKind, value, Bindings, values_in, bindings_inside, Context, names_of_values, inside_pattern}
-use Rattle.sf_mean.specs.Typing.{ChainTakes, lone_takes, chained_takes, on_first_takes, on_second_takes, on_both_takes, fanned_takes, bare_kind, value_kind, accumulated_argument, accumulated_kind, takes_time, timed_kind, PrimitiveTakes, bare_takes, never_takes, value_takes, timed_takes, accumulated_takes, arrow_takes, fused_takes, Takes, takes, FormTakes, primitive_takes, sequence_takes, parallel_takes, fan_takes, first_takes, second_takes, loop_takes, switch_takes, stages_take}
-use Rattle.sf_mean.specs.Inference.{Finds, both_outputs, join_output, side_output, first_beside, heading_output, switch_output, chain_output, primitive_output, with_fitting, form_output, term_output}
+use Rattle.sf_term.specs.declared.form.Observation.{Observation}
+use Rattle.sf_term.specs.declared.form.Switching.TheVariants.{Basic, Recurring}
+use Rattle.sf_mean.specs.Contexts.{Bindings, values_in, bindings_inside, Context, names_of_values, inside_pattern}
+use Rattle.sf_mean.specs.Typing.{ChainTakes, lone_takes, chained_takes, on_first_takes, on_second_takes, on_both_takes, fanned_takes, bare_kind, value_kind, accumulated_argument, accumulated_kind, takes_time, timed_kind, PrimitiveTakes, bare_takes, never_takes, value_takes, timed_takes, accumulated_takes, arrow_takes, fused_takes, Takes, takes, FormTakes, primitive_takes, sequence_takes, parallel_takes, fan_takes, first_takes, second_takes, loop_takes, initialized_takes, switch_takes, recurring_takes, stages_take}
+use Rattle.sf_mean.specs.Inference.{Finds, both_outputs, join_output, side_output, first_beside, heading_output, body_output, switch_output, chain_output, primitive_output, with_fitting, form_output, term_output}
 
 -- ## Types of pairs
 
@@ -232,6 +233,14 @@ looped : (Γ : Context) (e : Expression) (t : Term) → ((a b : Kind) → term_o
 looped Γ e t F a b (Some c) h k = loops Γ e t F a b c h (found_went (term_output Γ t) (first_beside c) (pair_kind a c) b k)
 looped Γ e t F a b None h k = absurd cc
 
+initialized : (Γ : Context) (e : Expression) (t : Term) → ((a b : Kind) → term_output Γ t a ≡ Some b → Takes Γ t a b) → (a b : Kind) (o : Option Kind) → expression_type (names_of_values Γ) e ≡ o → heading_output Initialized o (term_output Γ t) a ≡ Some b → FormTakes Γ (headed Initialized e t) a b
+initialized Γ e t F a b (Some c) h k =
+    let made = found_is (term_output Γ t a) (λ b. only b c (Some b)) k in
+    let same = only_is made.0 c (Some made.0) made.2 in
+    let is : made.0 ≡ b = same_some same.1 in
+    initialized_takes (subst (HasType (names_of_values Γ) e) (sym same.0 ∙ is) (found_typed (names_of_values Γ) e c h)) (F a b (made.1 ∙ ap Some is))
+initialized Γ e t F a b None h k = absurd cc
+
 stages : (Γ : Context) (x : Extent) (f g : Term) {a b : Kind} → ((a b : Kind) → term_output Γ f a ≡ Some b → Takes Γ f a b) → ((a b : Kind) → term_output Γ g a ≡ Some b → Takes Γ g a b) → Went (term_output Γ f) (term_output Γ g) a b → FormTakes Γ (staged x f g) a b
 stages Γ x f g F G (went h k) = stages_take (F _ _ h) (G _ _ k)
 
@@ -244,33 +253,53 @@ names_inside fs bs (adds_both {p = p} {t = t} A B) e = names_inside fs (bindings
 part_fits : (b c : Kind) → Fits (pair_kind b (event_kind c)) → Fits c
 part_fits b c h = omega (arith, h)
 
-switches : (Γ : Context) (w : Switching) (t : Term) (p : Pattern) (u : Term) → ((a b : Kind) → term_output Γ t a ≡ Some b → Takes Γ t a b) → ((Δ : Context) (a b : Kind) → term_output Δ u a ≡ Some b → Takes Δ u a b)
-    → (a b : Kind) → switch_output Γ p (term_output Γ t a) (λ Δ. term_output Δ u) a ≡ Some b → FormTakes Γ (switching w t p u) a b
-switches Γ w t p u F G a b h =
+-- what is known of a switch's body
+bodies : (Γ : Context) (p : Pattern) (u : Term) (c a d b : Kind) → ((Δ : Context) (a b : Kind) → term_output Δ u a ≡ Some b → Takes Δ u a b)
+    → body_output Γ p (λ Δ. term_output Δ u) c a d ≡ Some b → (d ≡ b) × Binds p c (names_of_values Γ) (names_of_values (inside_pattern p c Γ)) × Takes (inside_pattern p c Γ) u a b
+bodies Γ p u c a d b G h =
     let R = names_of_values Γ in
-    let third : Kind → Kind → Names → Option Kind = λ k c S. found_then (term_output (inside_pattern p c Γ) u a) (λ b. only b k (Some b)) in
-    let second : Kind → Kind → Option Kind = λ k c. found_then (names_bound p c R) (third k c) in
-    let first : Kind × Kind → Option Kind = λ k. found_then (payload_of k.1) (second k.0) in
-    let both = found_is (found_then (term_output Γ t a) parts_of) first h in
-    let given = found_is (term_output Γ t a) parts_of both.1 in
-    let event = found_is (payload_of both.0.1) (second both.0.0) both.2 in
-    let names = found_is (names_bound p event.0 R) (third both.0.0 event.0) event.2 in
-    let body = found_is (term_output (inside_pattern p event.0 Γ) u a) (λ b. only b both.0.0 (Some b)) names.2 in
-    let same = only_is body.0 both.0.0 (Some body.0) body.2 in
-    let bound = bound_found p event.0 R names.0 names.1 in
+    let under : Names → Option Kind = λ S. found_then (term_output (inside_pattern p c Γ) u a) (λ e. only e d (Some e)) in
+    let names = found_is (names_bound p c R) under h in
+    let body = found_is (term_output (inside_pattern p c Γ) u a) (λ e. only e d (Some e)) names.2 in
+    let same = only_is body.0 d (Some body.0) body.2 in
+    let bound = bound_found p c R names.0 names.1 in
     let is : body.0 ≡ b = same_some same.1 in
+    (sym same.0 ∙ is, subst (Binds p c R) (names_inside Γ.functions Γ.bindings bound.binds.adds refl) bound.binds, G (inside_pattern p c Γ) a b (body.1 ∙ ap Some is))
+
+switches : (Γ : Context) (w : Observation) (t : Term) (p : Pattern) (u : Term) → ((a b : Kind) → term_output Γ t a ≡ Some b → Takes Γ t a b) → ((Δ : Context) (a b : Kind) → term_output Δ u a ≡ Some b → Takes Δ u a b)
+    → (a b : Kind) → switch_output Γ (Basic w) p (term_output Γ t) (λ Δ. term_output Δ u) a ≡ Some b → FormTakes Γ (switching (Basic w) t p u) a b
+switches Γ w t p u F G a b h =
+    let inner : Kind → Kind → Option Kind = λ d c. body_output Γ p (λ Δ. term_output Δ u) c a d in
+    let after : Kind × Kind → Option Kind = λ k. found_then (payload_of k.1) (inner k.0) in
+    let both = found_is (found_then (term_output Γ t a) parts_of) after h in
+    let given = found_is (term_output Γ t a) parts_of both.1 in
+    let event = found_is (payload_of both.0.1) (inner both.0.0) both.2 in
+    let body = bodies Γ p u event.0 a both.0.0 b G event.2 in
     let source : term_output Γ t a ≡ Some (pair_kind b (event_kind event.0)) =
-    given.1 ∙ ap Some (parts_is given.0 given.2 ∙ ap₂ pair_kind (sym same.0 ∙ is) (payload_is both.0.1 event.1)) in
-    switch_takes (F a (pair_kind b (event_kind event.0)) source)
-    (subst (Binds p event.0 R) (names_inside Γ.functions Γ.bindings bound.binds.adds refl) bound.binds)
-    (G (inside_pattern p event.0 Γ) a b (body.1 ∙ ap Some is))
+    given.1 ∙ ap Some (parts_is given.0 given.2 ∙ ap₂ pair_kind body.0 (payload_is both.0.1 event.1)) in
+    switch_takes (F a (pair_kind b (event_kind event.0)) source) body.1 body.2
+
+recurs : (Γ : Context) (w : Observation) (t : Term) (p : Pattern) (u : Term) → ((a b : Kind) → term_output Γ t a ≡ Some b → Takes Γ t a b) → ((Δ : Context) (a b : Kind) → term_output Δ u a ≡ Some b → Takes Δ u a b)
+    → (a b : Kind) → switch_output Γ (Recurring w) p (term_output Γ t) (λ Δ. term_output Δ u) a ≡ Some b → FormTakes Γ (switching (Recurring w) t p u) a b
+recurs Γ w t p u F G x b h =
+    let inner : Kind → Kind → Kind → Option Kind = λ a c d. body_output Γ p (λ Δ. term_output Δ u) c a d in
+    let after : Kind → Kind → Option Kind = λ a c. found_then (term_output Γ t a) (inner a c) in
+    let first : Kind × Kind → Option Kind = λ k. found_then (payload_of k.1) (after k.0) in
+    let parts = found_is (parts_of x) first h in
+    let event = found_is (payload_of parts.0.1) (after parts.0.0) parts.2 in
+    let source = found_is (term_output Γ t parts.0.0) (inner parts.0.0 event.0) event.2 in
+    let body = bodies Γ p u event.0 parts.0.0 source.0 b G source.2 in
+    let input : x ≡ pair_kind parts.0.0 (event_kind event.0) = parts_is x parts.1 ∙ ap (pair_kind parts.0.0) (payload_is parts.0.1 event.1) in
+    subst (λ a. FormTakes Γ (switching (Recurring w) t p u) a b) (sym input) (recurring_takes (F parts.0.0 b (source.1 ∙ ap Some body.0)) body.1 body.2)
 
 form_found : (Γ : Context) (t : Term) → (a b : Kind) → form_output Γ t a ≡ Some b → FormTakes Γ t a b
 form_found Γ (primitive p) a b h = primitive_takes (primitive_found p a b h)
 form_found Γ (joined j f g) a b h = joins Γ j f g (within Γ f (form_found Γ f)) (within Γ g (form_found Γ g)) (join_found j (term_output Γ f) (term_output Γ g) a b h)
 form_found Γ (sided d t) a b h = sides Γ d t (within Γ t (form_found Γ t)) (side_found d (term_output Γ t) a b h)
 form_found Γ (headed LoopPre e t) a b h = looped Γ e t (within Γ t (form_found Γ t)) a b (expression_type (names_of_values Γ) e) refl h
-form_found Γ (switching w t p u) a b h = switches Γ w t p u (within Γ t (form_found Γ t)) (λ Δ. within Δ u (form_found Δ u)) a b h
+form_found Γ (headed Initialized e t) a b h = initialized Γ e t (within Γ t (form_found Γ t)) a b (expression_type (names_of_values Γ) e) refl h
+form_found Γ (switching (Basic w) t p u) a b h = switches Γ w t p u (within Γ t (form_found Γ t)) (λ Δ. within Δ u (form_found Δ u)) a b h
+form_found Γ (switching (Recurring w) t p u) a b h = recurs Γ w t p u (within Γ t (form_found Γ t)) (λ Δ. within Δ u (form_found Δ u)) a b h
 form_found Γ (staged x f g) a b h = stages Γ x f g (within Γ f (form_found Γ f)) (within Γ g (form_found Γ g)) (found_went (term_output Γ f) (term_output Γ g) a b h)
 
 pub output_found : {Γ : Context} (t : Term) (a b : Kind) → term_output Γ t a ≡ Some b → Takes Γ t a b
@@ -279,26 +308,37 @@ output_found {Γ} t = within Γ t (form_found Γ t)
 pub output_fits : {Γ : Context} {t : Term} {a b : Kind} → Takes Γ t a b → Fits b
 output_fits (takes f g h) = g
 
+-- what is found of a switch's body
+body_found : (Γ : Context) {p : Pattern} (u : Term) (a : Kind) {b c : Kind} → Fits c → Binds p c (names_of_values Γ) (names_of_values (inside_pattern p c Γ)) → term_output (inside_pattern p c Γ) u a ≡ Some b
+    → body_output Γ p (λ Δ. term_output Δ u) c a b ≡ Some b
+body_found Γ {p} u a {b} {c} f B g =
+    let under : Names → Option Kind = λ S. found_then (term_output (inside_pattern p c Γ) u a) (λ d. only d b (Some d)) in
+    ap (λ o. found_then o under) (found_bound f B)
+    ∙ ap (λ o. found_then o (λ d. only d b (Some d))) g
+    ∙ ap (λ s. cond s (Some b) None) (is_same b)
+
 mutual
   pub takes_found : {Γ : Context} {t : Term} {a b : Kind} → Takes Γ t a b → term_output Γ t a ≡ Some b
-  takes_found {Γ} {t} {a} {b} (takes p q F) = inside_fitting (form_output Γ t) a b p q (form_is F)
+  takes_found {Γ} {t} {a} {b} (takes p q F) = inside_fitting (form_output Γ t) a b p q (form_is p F)
 
-  form_is : {Γ : Context} {t : Term} {a b : Kind} → FormTakes Γ t a b → form_output Γ t a ≡ Some b
-  form_is (primitive_takes P) = primitive_is P
-  form_is (sequence_takes F G) = rw (takes_found F) (takes_found G)
-  form_is (parallel_takes F G) = rw (takes_found F, takes_found G) refl
-  form_is (fan_takes F G) = rw (takes_found F, takes_found G) refl
-  form_is (first_takes F) = rw (takes_found F) refl
-  form_is (second_takes F) = rw (takes_found F) refl
-  form_is {Γ} (loop_takes {t = t} {a = a} {b = b} {c = c} E F) =
+  form_is : {Γ : Context} {t : Term} {a b : Kind} → Fits a → FormTakes Γ t a b → form_output Γ t a ≡ Some b
+  form_is f (primitive_takes P) = primitive_is P
+  form_is f (sequence_takes F G) = rw (takes_found F) (takes_found G)
+  form_is f (parallel_takes F G) = rw (takes_found F, takes_found G) refl
+  form_is f (fan_takes F G) = rw (takes_found F, takes_found G) refl
+  form_is f (first_takes F) = rw (takes_found F) refl
+  form_is f (second_takes F) = rw (takes_found F) refl
+  form_is {Γ} f (loop_takes {t = t} {a = a} {b = b} {c = c} E F) =
       ap (λ o. heading_output LoopPre o (term_output Γ t) a) (typed_found E) ∙ ap (λ o. found_then o (first_beside c)) (takes_found F) ∙ ap (λ s. cond s (Some b) None) (is_same c)
-  form_is {Γ} (switch_takes {t = t} {u = u} {p = p} {a = a} {b = b} {c = c} F B G) =
-      let body : Names → Option Kind = λ S. found_then (term_output (inside_pattern p c Γ) u a) (λ d. only d b (Some d)) in
-      ap (λ o. switch_output Γ p o (λ Δ. term_output Δ u) a) (takes_found F)
-      ∙ ap (λ o. found_then o body) (found_bound (part_fits b c (output_fits F)) B)
-      ∙ ap (λ o. found_then o (λ d. only d b (Some d))) (takes_found G)
-      ∙ ap (λ s. cond s (Some b) None) (is_same b)
-  form_is (stages_take F G) = rw (takes_found F) (takes_found G)
+  form_is {Γ} f (initialized_takes {t = t} {a = a} {b = b} E F) =
+      ap (λ o. heading_output Initialized o (term_output Γ t) a) (typed_found E) ∙ ap (λ o. found_then o (λ d. only d b (Some d))) (takes_found F) ∙ ap (λ s. cond s (Some b) None) (is_same b)
+  form_is {Γ} f (switch_takes {u = u} {p = p} {a = a} {b = b} {c = c} F B G) =
+      ap (λ o. found_then (found_then o parts_of) (λ k. found_then (payload_of k.1) (λ c. body_output Γ p (λ Δ. term_output Δ u) c a k.0))) (takes_found F)
+      ∙ body_found Γ u a (part_fits b c (output_fits F)) B (takes_found G)
+  form_is {Γ} f (recurring_takes {u = u} {p = p} {a = a} {b = b} {c = c} F B G) =
+      ap (λ o. found_then o (λ d. body_output Γ p (λ Δ. term_output Δ u) c a d)) (takes_found F)
+      ∙ body_found Γ u a (part_fits a c f) B (takes_found G)
+  form_is f (stages_take F G) = rw (takes_found F) (takes_found G)
 
 -- ## What follows for terms that take inputs
 

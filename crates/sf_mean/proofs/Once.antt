@@ -6,11 +6,11 @@ use Rattle.sf_value.specs.declared.fault.ValueFault.{ValueFault}
 use Rattle.sf_value.specs.declared.fault.ValueFault.TheVariants.{Overflow}
 use Rattle.sf_expr.specs.Evaluation.{Evaluated, answer, failed}
 use Rattle.sf_term.specs.declared.form.Join.TheVariants.{InSequence}
-use Rattle.sf_term.specs.declared.form.Switching.{Switching}
+use Rattle.sf_term.specs.declared.form.Observation.{Observation}
 use Rattle.sf_term.specs.Trees.{Term}
 use Rattle.sf_mean.specs.Lives.{Step, input_of, Life, Process, closure, Environment, relay, fed}
-use Rattle.sf_mean.specs.Formulas.{occurring, with_side}
-use Rattle.sf_mean.specs.Meaning.{Network, Outcome, gave, faulted, changed, combined, value_in, Cost, both_costs, over, Made, nothing_made, right_life, join_value, Standing, waits, fired, stands_after, switched_value, body_of, Gives, gives, Outputs, not_begun, and_gave, Sample, of_constants, of_form, Form, of_primitive, of_join, of_side, of_loop, of_switch, of_stages, over_stages, Next, goes_on, stops, Loops, no_loop, and_looped, Since, at_start, watched, had_fired, SwitchTurn, while_waiting, as_body, Switched, after_fault, after_value, Fires, no_event_yet, event_now}
+use Rattle.sf_mean.specs.Formulas.{at_first, occurring, with_side}
+use Rattle.sf_mean.specs.Meaning.{Network, Outcome, gave, faulted, changed, combined, value_in, Cost, both_costs, over, Made, nothing_made, right_life, join_value, Standing, waits, fired, stands_after, switched_value, body_of, Gives, gives, Outputs, not_begun, and_gave, Sample, of_constants, of_form, Form, of_primitive, of_join, of_side, of_loop, of_initialized, of_switch, of_recurring, of_stages, over_stages, event_beside, unless_faulted, without_event, Next, goes_on, stops, Loops, no_loop, and_looped, Since, at_start, watched, had_fired, SwitchTurn, while_waiting, as_body, Switched, after_fault, after_value, Fires, no_event_yet, event_now}
 
 -- two outcomes are one, at one cost
 abbrev pub Same : Outcome → Outcome → Cost → Cost → Type 0
@@ -62,9 +62,15 @@ module _ (n : Network) where
         let N : List Data → Type 0 = λ zs. Gives n (closure t e) (fed v (s ∷ L) zs) b d in
         let q = once B (subst N (sym (once_loops A A')) B') in
         (ap (changed first_of) q.0, ap over q.1)
+    once_form (of_initialized {v = v} {L = L} A) (of_initialized B) = let q = once A B in (ap (changed (at_first L v)) q.0, ap over q.1)
     once_form (of_switch {w = w} {t = t} {u = u} {p = p} {e = e} {s = s} {L = L} A B) (of_switch {o = b} {c = c} A' B') =
         let N : Standing → Type 0 = λ st. SwitchTurn n w (closure t e) (body_of p u e) s L st b c in
         once_turn B (subst N (sym (once_since A A')) B')
+    once_form (of_recurring {w = w} {u = u} {p = p} {e = e} {s = s} A B) (of_recurring {o' = b} {c' = d} A' B') =
+        let e1 = once A A' in
+        let N : Outcome → Type 0 = λ o. Fires n w (body_of p u e) (without_event s) o (unless_faulted o (event_beside s)) b d in
+        let e2 = once_fires B (subst N (sym e1.0) B') in
+        (e2.0, ap₂ (λ x y. over (both_costs x y)) e1.1 e2.1)
     once_form (of_stages {x = x} {g = g} {e = e} {s = s} {L = L} A B C) (of_stages {ys = zs} {o = q} {o' = b} {c' = d} A' B' C') =
         let e1 = onces A A' in
         let e2 = once B B' in
@@ -91,7 +97,7 @@ module _ (n : Network) where
     once_since (had_fired A) (watched A' B' h') = absurd (not_both (sym (once_since A A')))
     once_since (had_fired {s = s} A) (had_fired A') = ap (later_standing s) (once_since A A')
 
-    pub once_turn : {w : Switching} {P : Process} {B : Data → Process} {s : Step} {L : Life} {st : Standing} {a b : Outcome} {c d : Cost} → SwitchTurn n w P B s L st a c → SwitchTurn n w P B s L st b d → Same a b c d
+    pub once_turn : {w : Observation} {P : Process} {B : Data → Process} {s : Step} {L : Life} {st : Standing} {a b : Outcome} {c d : Cost} → SwitchTurn n w P B s L st a c → SwitchTurn n w P B s L st b d → Same a b c d
     once_turn (while_waiting {w = w} {B = B} {s = s} A C) (while_waiting {o' = b} {c' = d} A' C') =
         let e2 = once A A' in
         let N : Outcome → Type 0 = λ q. Switched n w B s q b d in
@@ -99,10 +105,10 @@ module _ (n : Network) where
         (e3.0, ap₂ (λ x y. over (both_costs x y)) e2.1 e3.1)
     once_turn (as_body A) (as_body B) = once A B
 
-    pub once_switched : {w : Switching} {B : Data → Process} {s : Step} {o a b : Outcome} {c d : Cost} → Switched n w B s o a c → Switched n w B s o b d → Same a b c d
+    pub once_switched : {w : Observation} {B : Data → Process} {s : Step} {o a b : Outcome} {c d : Cost} → Switched n w B s o a c → Switched n w B s o b d → Same a b c d
     once_switched after_fault after_fault = (refl, refl)
     once_switched (after_value A) (after_value B) = once_fires A B
 
-    pub once_fires : {w : Switching} {B : Data → Process} {s : Step} {o : Outcome} {q : Option Data} {a b : Outcome} {c d : Cost} → Fires n w B s o q a c → Fires n w B s o q b d → Same a b c d
+    pub once_fires : {w : Observation} {B : Data → Process} {s : Step} {o : Outcome} {q : Option Data} {a b : Outcome} {c d : Cost} → Fires n w B s o q a c → Fires n w B s o q b d → Same a b c d
     once_fires no_event_yet no_event_yet = (refl, refl)
     once_fires (event_now {w = w} {o = o} A) (event_now B) = let q = once A B in (ap (combined (switched_value w) o) q.0, q.1)

@@ -7,12 +7,14 @@ use Rattle.sf_expr.specs.Evaluation.{Evaluated, answer, failed, ◌>>=◌, eval}
 use Rattle.sf_term.specs.declared.form.Join.{Join}
 use Rattle.sf_term.specs.declared.form.Join.TheVariants.{InSequence, InParallel, FannedOut}
 use Rattle.sf_term.specs.declared.form.Side.{Side}
-use Rattle.sf_term.specs.declared.form.Heading.TheVariants.{LoopPre}
-use Rattle.sf_term.specs.declared.form.Switching.{Switching}
+use Rattle.sf_term.specs.declared.form.Heading.TheVariants.{LoopPre, Initialized}
+use Rattle.sf_term.specs.declared.form.Observation.{Observation}
+use Rattle.sf_term.specs.declared.form.Switching.TheVariants.{Basic, Recurring}
+use Rattle.sf_term.specs.declared.form.Heading.{Heading}
 use Rattle.sf_term.specs.Trees.{Extent, Term, primitive, joined, sided, headed, switching, staged}
 use Rattle.sf_mean.specs.Lives.{Step, step, wait_of, input_of, Life, Process, closure, Environment, scope_around, bind, with_inputs, fed, fed_back, older}
 use Rattle.sf_mean.specs.Formulas.{occurring, side_of}
-use Rattle.sf_mean.specs.Meaning.{Network, Outcome, gave, faulted, Cost, Made, value_made, left_life, right_life, Standing, waits, fired, stands_after, body_of, Gives, gives, Outputs, not_begun, and_gave, Sample, of_constants, of_form, Form, of_primitive, of_join, of_side, of_loop, of_switch, of_stages, goes_on, stops, Loops, no_loop, and_looped, Since, at_start, watched, had_fired, SwitchTurn, while_waiting, as_body, after_fault, after_value, Fires, no_event_yet, event_now}
+use Rattle.sf_mean.specs.Meaning.{Network, Outcome, gave, faulted, Cost, Made, value_made, left_life, right_life, Standing, waits, fired, stands_after, body_of, event_beside, or_earlier, last_event, kept_before, since_event, what_runs, unless_faulted, without_event, Gives, gives, Outputs, not_begun, and_gave, Sample, of_constants, of_form, Form, of_primitive, of_join, of_side, of_loop, of_initialized, of_switch, of_recurring, of_stages, goes_on, stops, Loops, no_loop, and_looped, Since, at_start, watched, had_fired, SwitchTurn, while_waiting, as_body, after_fault, after_value, Fires, no_event_yet, event_now}
 use Rattle.sf_mean.proofs.TypedProcesses.{made_in}
 
 data Known {A : Type 0} (q : Evaluated A) : Type 0 where
@@ -141,7 +143,7 @@ module _ (n : Network) where
   loop_lived k not_begun = looped no_loop (lived not_begun)
   loop_lived k (and_gave A B) = loop_at k B tt
 
-  no_fault : {i : Expression} {t : Term} {e : Environment} {x : ValueFault} {s : Step} {L : Life} {q : Outcome} {c : Cost} → eval i (scope_around n.functions e) ≡ failed x → Sample n (closure (headed LoopPre i t) e) s L q c → IsGave q → ⊥
+  no_fault : {h : Heading} {i : Expression} {t : Term} {e : Environment} {x : ValueFault} {s : Step} {L : Life} {q : Outcome} {c : Cost} → eval i (scope_around n.functions e) ≡ failed x → Sample n (closure (headed h i t) e) s L q c → IsGave q → ⊥
   no_fault k (of_constants h) z = z
   no_fault k (of_form h F) z = absurd (let e = sym (ap opened k) ∙ h in cc)
 
@@ -165,51 +167,103 @@ module _ (n : Network) where
       → Has (closure t e) (step (wait_of s) (pair (input_of s) (fed_back v zs))) (fed v L (older zs)) → Has (closure (headed LoopPre i t) e) s L
   with_loop k A B (has S) = has (of_form (ap opened k) (of_loop A (gives B S)))
 
-  constants_fail : {i : Expression} {t : Term} {e : Environment} {x : ValueFault} (s : Step) {L : Life} {ws : List Data} → eval i (scope_around n.functions e) ≡ failed x → Outputs n (closure (headed LoopPre i t) e) L ws → Has (closure (headed LoopPre i t) e) s L
+  constants_fail : {h : Heading} {i : Expression} {t : Term} {e : Environment} {x : ValueFault} (s : Step) {L : Life} {ws : List Data} → eval i (scope_around n.functions e) ≡ failed x → Outputs n (closure (headed h i t) e) L ws → Has (closure (headed h i t) e) s L
   constants_fail s k not_begun = has (of_constants (ap opened k))
   constants_fail s k (and_gave A B) = absurd (no_fault k B tt)
+
+  from_initialized : {i : Expression} {t : Term} {e : Environment} {m : Made} {s : Step} {L : Life} {q : Outcome} {c : Cost} → Form n (headed Initialized i t) e m s L q c → IsGave q → Lived (closure t e) (s ∷ L)
+  from_initialized (of_initialized {o = gave y r} B) h = whole B tt
+  from_initialized (of_initialized {o = faulted x} B) h = absurd h
+
+  initialized_at : {i : Expression} {t : Term} {e : Environment} {s : Step} {L : Life} {q : Outcome} {c : Cost} → Sample n (closure (headed Initialized i t) e) s L q c → IsGave q → Lived (closure t e) (s ∷ L)
+  initialized_at (of_constants h) i = absurd i
+  initialized_at (of_form h F) i = from_initialized F i
+
+  initialized_lived : {i : Expression} {t : Term} {e : Environment} {L : Life} {ws : List Data} → Outputs n (closure (headed Initialized i t) e) L ws → Lived (closure t e) L
+  initialized_lived not_begun = lived not_begun
+  initialized_lived (and_gave A B) = initialized_at B tt
+
+  with_initial : {i : Expression} {t : Term} {e : Environment} {v : Data} {s : Step} {L : Life} {us : List Data}
+      → eval i (scope_around n.functions e) ≡ answer v → Outputs n (closure t e) L us → Has (closure t e) s L → Has (closure (headed Initialized i t) e) s L
+  with_initial k A (has S) = has (of_form (ap opened k) (of_initialized (gives A S)))
 
   -- where a switch that gave a value so far stands: its source has lived, or its body has
   data Stood (P : Process) (B : Data → Process) (L : Life) : Type 0 where
     still_waits : Since n P L waits → Lived P L → Stood P B L
     had_event : {v : Data} {M : Life} → Since n P L (fired v M) → Lived (B v) M → Stood P B L
 
-  fires_stood : {w : Switching} {P : Process} {B : Data → Process} {s : Step} {L : Life} {y : Data} {r : _} {q : Option Data} {o : Outcome} {c d : Cost}
+  fires_stood : {w : Observation} {P : Process} {B : Data → Process} {s : Step} {L : Life} {y : Data} {r : _} {q : Option Data} {o : Outcome} {c d : Cost}
       → Since n P L waits → Gives n P (s ∷ L) (gave y r) c → occurring (second_of y) ≡ q → Fires n w B s (gave (first_of y) r) q o d → IsGave o → Stood P B (s ∷ L)
   fires_stood {s = s} S A e no_event_yet h = still_waits (watched S A (ap (stands_after s) e)) (whole A tt)
   fires_stood {s = s} S A e (event_now {o' = gave z k} G) h = had_event (watched S A (ap (stands_after s) e)) (whole G tt)
   fires_stood S A e (event_now {o' = faulted x} G) h = absurd h
 
-  turn_stood : {w : Switching} {P : Process} {B : Data → Process} {s : Step} {L : Life} {st : Standing} {o : Outcome} {c : Cost} → Since n P L st → SwitchTurn n w P B s L st o c → IsGave o → Stood P B (s ∷ L)
+  turn_stood : {w : Observation} {P : Process} {B : Data → Process} {s : Step} {L : Life} {st : Standing} {o : Outcome} {c : Cost} → Since n P L st → SwitchTurn n w P B s L st o c → IsGave o → Stood P B (s ∷ L)
   turn_stood S (while_waiting A after_fault) h = absurd h
   turn_stood S (while_waiting A (after_value F)) h = fires_stood S A refl F h
   turn_stood S (as_body A) h = had_event (had_fired S) (whole A h)
 
-  from_switch : {w : Switching} {t u : Term} {p : Pattern} {e : Environment} {m : Made} {s : Step} {L : Life} {o : Outcome} {c : Cost} → Form n (switching w t p u) e m s L o c → IsGave o → Stood (closure t e) (body_of p u e) (s ∷ L)
+  from_switch : {w : Observation} {t u : Term} {p : Pattern} {e : Environment} {m : Made} {s : Step} {L : Life} {o : Outcome} {c : Cost} → Form n (switching (Basic w) t p u) e m s L o c → IsGave o → Stood (closure t e) (body_of p u e) (s ∷ L)
   from_switch (of_switch S T) h = turn_stood S T h
 
-  switch_at : {w : Switching} {t u : Term} {p : Pattern} {e : Environment} {s : Step} {L : Life} {o : Outcome} {c : Cost} → Sample n (closure (switching w t p u) e) s L o c → IsGave o → Stood (closure t e) (body_of p u e) (s ∷ L)
+  switch_at : {w : Observation} {t u : Term} {p : Pattern} {e : Environment} {s : Step} {L : Life} {o : Outcome} {c : Cost} → Sample n (closure (switching (Basic w) t p u) e) s L o c → IsGave o → Stood (closure t e) (body_of p u e) (s ∷ L)
   switch_at (of_constants h) i = absurd i
   switch_at (of_form h F) i = from_switch F i
 
-  switch_stood : {w : Switching} {t u : Term} {p : Pattern} {e : Environment} {L : Life} {ws : List Data} → Outputs n (closure (switching w t p u) e) L ws → Stood (closure t e) (body_of p u e) L
+  switch_stood : {w : Observation} {t u : Term} {p : Pattern} {e : Environment} {L : Life} {ws : List Data} → Outputs n (closure (switching (Basic w) t p u) e) L ws → Stood (closure t e) (body_of p u e) L
   switch_stood not_begun = still_waits at_start (lived not_begun)
   switch_stood (and_gave A B) = switch_at B tt
 
-  payload_fires : (w : Switching) {B : Data → Process} {s : Step} (o : Outcome) (q : Option Data) → ((v : Data) → Has (B v) s []) → (a : Outcome) × ((c : Cost) × Fires n w B s o q a c)
+  payload_fires : (w : Observation) {B : Data → Process} {s : Step} (o : Outcome) (q : Option Data) → ((v : Data) → Has (B v) s []) → (a : Outcome) × ((c : Cost) × Fires n w B s o q a c)
   payload_fires w o None body = (_, (_, no_event_yet))
   payload_fires w o (Some v) body = elim (body v) [ has S ↦ (_, (_, event_now (gives not_begun S))) ]
 
-  switch_waits : {w : Switching} {t u : Term} {p : Pattern} {e : Environment} {s : Step} {L : Life} {ys : List Data}
-      → Since n (closure t e) L waits → Outputs n (closure t e) L ys → Has (closure t e) s L → ((v : Data) → Has (body_of p u e v) s []) → Has (closure (switching w t p u) e) s L
+  switch_waits : {w : Observation} {t u : Term} {p : Pattern} {e : Environment} {s : Step} {L : Life} {ys : List Data}
+      → Since n (closure t e) L waits → Outputs n (closure t e) L ys → Has (closure t e) s L → ((v : Data) → Has (body_of p u e v) s []) → Has (closure (switching (Basic w) t p u) e) s L
   switch_waits S A (has {o = faulted x} B) body = has (of_form refl (of_switch S (while_waiting (gives A B) after_fault)))
   switch_waits {w = w} S A (has {o = gave y r} B) body =
       let F = payload_fires w (gave (first_of y) r) (occurring (second_of y)) body in
       has (of_form refl (of_switch S (while_waiting (gives A B) (after_value F.1.1))))
 
-  switch_goes_on : {w : Switching} {t u : Term} {p : Pattern} {e : Environment} {s : Step} {L M : Life} {v : Data} {ys : List Data}
-      → Since n (closure t e) L (fired v M) → Outputs n (body_of p u e v) M ys → Has (body_of p u e v) s M → Has (closure (switching w t p u) e) s L
+  switch_goes_on : {w : Observation} {t u : Term} {p : Pattern} {e : Environment} {s : Step} {L M : Life} {v : Data} {ys : List Data}
+      → Since n (closure t e) L (fired v M) → Outputs n (body_of p u e v) M ys → Has (body_of p u e v) s M → Has (closure (switching (Basic w) t p u) e) s L
   switch_goes_on S A (has B) = has (of_form refl (of_switch S (as_body (gives A B))))
+
+  -- what runs in a recurring switch that gave a value so far has lived since the last event
+  ran_on : {w : Observation} (P : Process) {B : Data → Process} (s : Step) (M : Life) (r q : Option Data) {o o' : Outcome} {c d : Cost}
+      → Gives n (what_runs P B r) (with_inputs first_of (s ∷ M)) o c → Fires n w B (without_event s) o (unless_faulted o q) o' d → IsGave o' → Lived (what_runs P B (or_earlier q r)) (with_inputs first_of (s ∷ kept_before q M))
+  ran_on P s M r None {o = gave y k} G no_event_yet h = whole G tt
+  ran_on P s M r (Some v) {o = gave y k} G (event_now {o' = gave z j} H) h = whole H tt
+  ran_on P s M r (Some v) {o = gave y k} G (event_now {o' = faulted x} H) h = absurd h
+  ran_on P s M r q {o = faulted x} G no_event_yet h = absurd h
+
+  -- what runs in a recurring switch, and the life that it has led
+  abbrev Runs : Term → Pattern → Term → Environment → Life → Type 0
+  Runs t p u e L = Lived (what_runs (closure t e) (body_of p u e) (last_event L)) (with_inputs first_of (since_event L))
+
+  from_recurring : {w : Observation} {t u : Term} {p : Pattern} {e : Environment} {m : Made} {s : Step} {L : Life} {o : Outcome} {c : Cost} → Form n (switching (Recurring w) t p u) e m s L o c → IsGave o → Runs t p u e (s ∷ L)
+  from_recurring (of_recurring {t = t} {e = e} {s = s} {L = L} A B) h = ran_on (closure t e) s (since_event L) (last_event L) (event_beside s) A B h
+
+  recurring_at : {w : Observation} {t u : Term} {p : Pattern} {e : Environment} {s : Step} {L : Life} {o : Outcome} {c : Cost} → Sample n (closure (switching (Recurring w) t p u) e) s L o c → IsGave o → Runs t p u e (s ∷ L)
+  recurring_at (of_constants h) i = absurd i
+  recurring_at (of_form h F) i = from_recurring F i
+
+  recurring_runs : {w : Observation} {t u : Term} {p : Pattern} {e : Environment} {L : Life} {ws : List Data} → Outputs n (closure (switching (Recurring w) t p u) e) L ws → Runs t p u e L
+  recurring_runs not_begun = lived not_begun
+  recurring_runs (and_gave A B) = recurring_at B tt
+
+  run_has : {P : Process} (B : Data → Process) {s : Step} {M : Life} {ys : List Data} (q : Option Data) → (Outputs n P M ys → Has P s M) → ((v : Data) → Outputs n (B v) M ys → Has (B v) s M)
+      → Outputs n (what_runs P B q) M ys → Has (what_runs P B q) s M
+  run_has B None f g A = f A
+  run_has B (Some v) f g A = g v A
+
+  with_running : {w : Observation} {t u : Term} {p : Pattern} {e : Environment} {s : Step} {L : Life} {ys : List Data}
+      → Outputs n (what_runs (closure t e) (body_of p u e) (last_event L)) (with_inputs first_of (since_event L)) ys
+      → Has (what_runs (closure t e) (body_of p u e) (last_event L)) (without_event s) (with_inputs first_of (since_event L))
+      → ((v : Data) → Has (body_of p u e v) (without_event s) []) → Has (closure (switching (Recurring w) t p u) e) s L
+  with_running {w = w} {s = s} A (has {o = o} S) body =
+      let F = payload_fires w o (unless_faulted o (event_beside s)) body in
+      has (of_form refl (of_recurring (gives A S) F.1.1))
 
   pub total : (t : Term) (e : Environment) (s : Step) (L : Life) {ws : List Data} → Outputs n (closure t e) L ws → Has (closure t e) s L
   total (primitive p) e s L O = has (of_form refl (of_primitive refl))
@@ -222,10 +276,20 @@ module _ (n : Network) where
         | refused x k ↦ constants_fail s k O
         | answered v k ↦ elim (loop_lived k O) [ looped A R ↦ elim R [ lived B ↦ with_loop k A B (total t e _ _ B) ] ]
       ]
-  total (switching w t p u) e s L O =
+  total (headed Initialized i t) e s L O =
+      elim (known (eval i (scope_around n.functions e))) [
+        | refused x k ↦ constants_fail s k O
+        | answered v k ↦ elim (initialized_lived O) [ lived A ↦ with_initial k A (total t e s L A) ]
+      ]
+  total (switching (Basic w) t p u) e s L O =
       elim (switch_stood O) [
         | still_waits S R ↦ elim R [ lived A ↦ switch_waits S A (total t e s L A) (λ v. total u (bind p v e) s [] not_begun) ]
         | had_event {v = v} {M = M} S R ↦ elim R [ lived A ↦ switch_goes_on S A (total u (bind p v e) s M A) ]
+      ]
+  total (switching (Recurring w) t p u) e s L O =
+      elim (recurring_runs O) [
+        | lived A ↦
+            with_running A (run_has (body_of p u e) (last_event L) (λ A. total t e _ _ A) (λ v A. total u (bind p v e) _ _ A) A) (λ v. total u (bind p v e) _ [] not_begun)
       ]
   total (staged x f g) e s L O =
       elim (join_lived (as_joined O)) [ joined_so A B ↦ as_staged (with_left A B (total f e s L A) (λ y zs B'. total g e (step (wait_of s) y) _ B')) ]

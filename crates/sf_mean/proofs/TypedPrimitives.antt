@@ -9,9 +9,9 @@ use Rattle.sf_operator.specs.Operations.{payload_or}
 use Rattle.sf_operator.proofs.SameKinds.{only_is, found_is, payload_is}
 use Rattle.sf_operator.proofs.Yielding.{as_kind, yields_as, HasPayload, has_none, has_some, tested_yields}
 use Rattle.sf_term.specs.declared.form.Bare.{Bare}
-use Rattle.sf_term.specs.declared.form.Bare.TheVariants.{Identity, LocalTime, Integral, Edge, NotYet, Count}
+use Rattle.sf_term.specs.declared.form.Bare.TheVariants.{Identity, LocalTime, Integral, Edge, NotYet, Count, Pre}
 use Rattle.sf_term.specs.declared.form.WithValue.{WithValue}
-use Rattle.sf_term.specs.declared.form.WithValue.TheVariants.{Constant, InitialPre, Now, Hold}
+use Rattle.sf_term.specs.declared.form.WithValue.TheVariants.{Constant, InitialPre, InitializedPre, Now, Hold}
 use Rattle.sf_term.specs.declared.form.Timing.{Timing}
 use Rattle.sf_term.specs.declared.form.Timing.TheVariants.{After}
 use Rattle.sf_term.specs.declared.form.Accumulation.{Accumulation}
@@ -25,7 +25,7 @@ before_has : {v : Data} {a : Kind} {L : Life} → HasKind v a → LifeHas L a �
 before_has h no_steps = h
 before_has h (more_steps i l) = i
 
-first_has : {x y : Data} {a : Kind} (L : Life) → HasKind x a → HasKind y a → HasKind (at_first L x y) a
+pub first_has : {x y : Data} {a : Kind} (L : Life) → HasKind x a → HasKind y a → HasKind (at_first L x y) a
 first_has [] h k = h
 first_has (s ∷ L) h k = k
 
@@ -64,6 +64,7 @@ bare_typed Edge {a = a} s L e h l = yields_as (only_is a bool_kind (Some (event_
 bare_typed NotYet {a = a} s L e h l =
     let found = found_is (payload_of a) (λ p. Some a) e in
     yields_as found.2 (yields (first_has L (as_kind (sym (payload_is a found.1)) has_no_event) h))
+bare_typed Pre s L e h l = absurd cc
 bare_typed Count {a = a} s L e h l =
     let found = found_is (payload_of a) (λ p. Some (event_kind int_kind)) e in
     yields_as found.2 (counted_yields (occurring (input_of s)) (occurrences (s ∷ L)))
@@ -71,6 +72,9 @@ bare_typed Count {a = a} s L e h l =
 pub value_typed : (k : WithValue) {v : Data} {t a b : Kind} (s : Step) (L : Life) → value_kind k t a ≡ Some b → HasKind v t → HasKind (input_of s) a → LifeHas L a → HasKind (value_formula k v s L) b
 value_typed Constant s L e i h l = as_kind (same_Some _ _ e) i
 value_typed InitialPre {t = t} {a = a} s L e i h l =
+    let same = only_is a t (Some t) e in
+    as_kind (same.0 ∙ same_Some _ _ same.1) (before_has (as_kind (sym same.0) i) l)
+value_typed InitializedPre {t = t} {a = a} s L e i h l =
     let same = only_is a t (Some t) e in
     as_kind (same.0 ∙ same_Some _ _ same.1) (before_has (as_kind (sym same.0) i) l)
 value_typed Now s L e i h l = as_kind (same_Some _ _ e) (first_has L (has_event i) has_no_event)

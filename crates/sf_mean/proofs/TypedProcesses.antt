@@ -3,22 +3,22 @@ use Rattle.std.proofs.Common.{◌≡◌, List, [], ◌∷◌, Option, Some, None
 use Rattle.std.specs.Prelude.{⊤}
 use Rattle.sf_value.specs.Values.{Kind, pair_kind, event_kind, Data, pair, HasKind, has_pair, first_of, second_of, has_no_event}
 use Rattle.sf_func.specs.Registries.{TypesByName, AnswersByName, KeepTheirTypes}
-use Rattle.sf_expr.specs.Expressions.{Pattern, unnamed, named, both, Expression, Function}
+use Rattle.sf_expr.specs.Expressions.{Pattern, Expression, Function}
 use Rattle.sf_expr.specs.Evaluation.{Evaluated, answer, failed, ◌>>=◌, Scope, eval, apply}
 use Rattle.sf_expr.specs.Typing.{Names, AddsNames, adds_nothing, adds_name, adds_both, HasType, FunctionTakes}
 use Rattle.sf_expr.specs.Soundness.{Yields, yields, fails, ScopeHas, has_no_names, has_name}
 use Rattle.sf_term.specs.declared.form.Accumulation.{Accumulation}
 use Rattle.sf_term.specs.declared.form.Side.TheVariants.{First, Second}
-use Rattle.sf_term.specs.declared.form.Switching.{Switching}
-use Rattle.sf_term.specs.declared.form.Switching.TheVariants.{Switch, DSwitch}
+use Rattle.sf_term.specs.declared.form.Observation.{Observation}
+use Rattle.sf_term.specs.declared.form.Observation.TheVariants.{Immediate, Delayed}
 use Rattle.sf_term.specs.Trees.{Chain, Primitive, Term}
 use Rattle.sf_mean.specs.Lives.{Step, input_of, Life, Environment, scope_around, bind, Process, first_input as input_at_first}
-use Rattle.sf_mean.specs.Formulas.{timed_formula, occurring, coming, next_value, accumulation, displayed, value_formula, with_side, apply_chain, formula}
-use Rattle.sf_mean.specs.Meaning.{Network, Outcome, Cost, Made, value_made, make, Standing, waits, fired, stands_after, switched_value, Gives, gives, Outputs, not_begun, and_gave, Sample, of_constants, of_form, Form, of_primitive, of_join, of_side, of_loop, of_switch, of_stages, Next, goes_on, stops, Loops, no_loop, and_looped, Since, at_start, watched, had_fired, SwitchTurn, while_waiting, as_body, Switched, after_fault, after_value, Fires, no_event_yet, event_now}
+use Rattle.sf_mean.specs.Formulas.{timed_formula, coming, next_value, accumulation, displayed, value_formula, with_side, apply_chain, formula}
+use Rattle.sf_mean.specs.Meaning.{Network, Outcome, gave, faulted, Cost, Made, value_made, make, Standing, waits, fired, stands_after, switched_value, body_of, event_beside, or_earlier, last_event, kept_before, since_event, what_runs, unless_faulted, Gives, gives, Outputs, not_begun, and_gave, Sample, of_constants, of_form, Form, of_primitive, of_join, of_side, of_loop, of_initialized, of_switch, of_recurring, of_stages, Next, goes_on, stops, Loops, no_loop, and_looped, Since, at_start, watched, had_fired, SwitchTurn, while_waiting, as_body, Switched, after_fault, after_value, Fires, no_event_yet, event_now}
 use Rattle.sf_mean.specs.Contexts.{Bindings, bindings_inside, values_in, context_with, Context, names_of_values}
-use Rattle.sf_mean.specs.Typing.{ChainTakes, lone_takes, chained_takes, on_first_takes, on_second_takes, on_both_takes, fanned_takes, PrimitiveTakes, bare_takes, never_takes, value_takes, timed_takes, accumulated_takes, arrow_takes, fused_takes, Takes, takes, FormTakes, primitive_takes, sequence_takes, parallel_takes, fan_takes, first_takes, second_takes, loop_takes, switch_takes, stages_take}
+use Rattle.sf_mean.specs.Typing.{ChainTakes, lone_takes, chained_takes, on_first_takes, on_second_takes, on_both_takes, fanned_takes, PrimitiveTakes, bare_takes, never_takes, value_takes, timed_takes, accumulated_takes, arrow_takes, fused_takes, Takes, takes, FormTakes, primitive_takes, sequence_takes, parallel_takes, fan_takes, first_takes, second_takes, loop_takes, initialized_takes, switch_takes, recurring_takes, stages_take}
 use Rattle.sf_mean.specs.Soundness.{Have, have_nothing, have_more, LifeHas, no_steps, more_steps, EnvironmentHas, has_nothing, has_value, ProcessTakes, closure_takes, OutcomeHas}
-use Rattle.sf_mean.proofs.TypedPrimitives.{bare_typed, value_typed, timed_typed, event_comes, Comes, comes_none, comes_some, coming_typed, made_typed, shown_typed}
+use Rattle.sf_mean.proofs.TypedPrimitives.{first_has, bare_typed, value_typed, timed_typed, event_comes, Comes, comes_none, comes_some, coming_typed, made_typed, shown_typed}
 use Rattle.sf_mean.proofs.TypedLives.{first_is, second_is, with_inputs_has, fed_has, outcome_is, changed_has, combined_has, LifeIf, life_if, relay_if}
 
 -- expressions and functions have values of their types, or faults
@@ -68,9 +68,32 @@ after_has : {s : Step} {L : Life} {o : Option Data} {a c : Kind} → Comes o c �
 after_has comes_none l = tt
 after_has (comes_some h) (more_steps {s = s} i l) = (h, more_steps {s = s} i no_steps)
 
-switched_has_kind : (w : Switching) {v u : Data} {b : Kind} → HasKind v b → HasKind u b → HasKind (switched_value w v u) b
-switched_has_kind Switch h k = k
-switched_has_kind DSwitch h k = h
+switched_has_kind : (w : Observation) {v u : Data} {b : Kind} → HasKind v b → HasKind u b → HasKind (switched_value w v u) b
+switched_has_kind Immediate h k = k
+switched_has_kind Delayed h k = h
+
+-- the last event has a payload of the type of events beside the inputs
+or_earlier_comes : {p q : Option Data} {c : Kind} → Comes p c → Comes q c → Comes (or_earlier p q) c
+or_earlier_comes comes_none k = k
+or_earlier_comes (comes_some h) k = comes_some h
+
+last_comes : {L : Life} {a c : Kind} → LifeHas L (pair_kind a (event_kind c)) → Comes (last_event L) c
+last_comes no_steps = comes_none
+last_comes (more_steps i l) = or_earlier_comes (event_comes (second_is i)) (last_comes l)
+
+-- what is kept of a life has inputs of its type
+kept_has : (q : Option Data) {L : Life} {a : Kind} → LifeHas L a → LifeHas (kept_before q L) a
+kept_has None l = l
+kept_has (Some v) l = no_steps
+
+since_event_has : {L : Life} {a : Kind} → LifeHas L a → LifeHas (since_event L) a
+since_event_has no_steps = no_steps
+since_event_has (more_steps {s = s} i l) = more_steps {s = s} i (kept_has (event_beside s) (since_event_has l))
+
+-- the event that is looked at
+looked_at : (o : Outcome) {q : Option Data} {c : Kind} → Comes q c → Comes (unless_faulted o q) c
+looked_at (gave y r) k = k
+looked_at (faulted x) k = comes_none
 
 module _ (n : Network) (eval_is : EvalsTyped) (apply_is : AppliesTyped) where
   -- an accumulation has values of its type, or the fault of its function
@@ -109,6 +132,11 @@ module _ (n : Network) (eval_is : EvalsTyped) (apply_is : AppliesTyped) where
         (accumulation_is k scope in_scope part.2 (subst (λ c. FunctionTakes (names_of_values Γ) f c u) part.1 F) same i (more_steps {s = s} h l)))
     formula_is s (fused_takes F B) h l = chain_is (input_of s) F h
 
+  -- what runs in a recurring switch takes the first parts of its inputs
+  running_takes : {q : Option Data} {P : Process} (B : Data → Process) {a b c : Kind} → Comes q c → ProcessTakes n P a b → ((v : Data) → HasKind v c → ProcessTakes n (B v) a b) → ProcessTakes n (what_runs P B q) a b
+  running_takes B comes_none p body = p
+  running_takes B (comes_some h) p body = body _ h
+
   mutual
     pub gives_has : {P : Process} {L : Life} {o : Outcome} {c : Cost} {a b : Kind} → Gives n P L o c → ProcessTakes n P a b → LifeHas L a → OutcomeHas o b
     gives_has (gives A B) p l = sample_has B p l
@@ -145,8 +173,16 @@ module _ (n : Network) (eval_is : EvalsTyped) (apply_is : AppliesTyped) where
         let v = made_has (eval_is _ _ _ _ I (environment_scope n.functions fs K E)) q in
         let h : OutcomeHas o (pair_kind b d) = gives_has B (closure_takes K E T) (fed_has b v (more_steps {s = s} i l) (loops_have A (closure_takes K E T) v l)) in
         changed_has o (λ v. first_is) h
+    form_has {fs = fs} (of_initialized {v = v} {s = s} {L = L} {o = o} A) q K E (initialized_takes {b = b} I T) l =
+        let i : HasKind v b = made_has (eval_is _ _ _ _ I (environment_scope n.functions fs K E)) q in
+        let h : OutcomeHas o b = gives_has A (closure_takes K E T) l in
+        changed_has o (λ y k. first_has L i k) h
     form_has (of_switch S T) q K E (switch_takes A B U) (more_steps {s = s} i l) =
         turn_has T (closure_takes K E A) (λ v h. closure_takes K (bind_has B.adds h E) U) (more_steps {s = s} i l) (since_has S (closure_takes K E A) l)
+    form_has (of_recurring {u = u} {p = p} {e = e} {o = o} A B) q K E (recurring_takes {b = b} T N U) (more_steps {s = s} i l) =
+        let h : OutcomeHas o b =
+        gives_has A (running_takes (body_of p u e) (last_comes l) (closure_takes K E T) (λ v h. closure_takes K (bind_has N.adds h E) U)) (with_inputs_has first_of (λ v. first_is) (more_steps {s = s} i (since_event_has l))) in
+        fires_has B (λ v h. closure_takes K (bind_has N.adds h E) U) h (looked_at o (event_comes (second_is i))) (first_is i)
     form_has (of_stages {o = o} {o' = o'} A B C) q K E (stages_take {b = b} {c = d} F H) (more_steps {s = s} i l) =
         let h : OutcomeHas o b = gives_has B (closure_takes K E F) (more_steps {s = s} i l) in
         let j : OutcomeHas o' d = next_has C K E H (relay_if o h (more_steps {s = s} i l) (outputs_have A (closure_takes K E F) l)) in
@@ -165,15 +201,15 @@ module _ (n : Network) (eval_is : EvalsTyped) (apply_is : AppliesTyped) where
     since_has {a = a} {c = c} (watched A G h) p l = subst (λ st. StandingHas st a c) h (after_has (event_comes (second_is (gives_has G p l))) l)
     since_has (had_fired A) p (more_steps {s = s} i l) = let h = since_has A p l in (h.0, more_steps {s = s} i h.1)
 
-    turn_has : {w : Switching} {P : Process} {B : Data → Process} {s : Step} {L : Life} {st : Standing} {o : Outcome} {k : Cost} {a b c : Kind} → SwitchTurn n w P B s L st o k → ProcessTakes n P a (pair_kind b (event_kind c))
+    turn_has : {w : Observation} {P : Process} {B : Data → Process} {s : Step} {L : Life} {st : Standing} {o : Outcome} {k : Cost} {a b c : Kind} → SwitchTurn n w P B s L st o k → ProcessTakes n P a (pair_kind b (event_kind c))
         → ((v : Data) → HasKind v c → ProcessTakes n (B v) a b) → LifeHas (s ∷ L) a → StandingHas st a c → OutcomeHas o b
     turn_has (while_waiting A C) p body (more_steps {s = s} i l) h = switched_has C body (gives_has A p (more_steps {s = s} i l)) i
     turn_has (as_body A) p body (more_steps {s = s} i l) h = gives_has A (body _ h.0) (more_steps {s = s} i h.1)
 
-    switched_has : {w : Switching} {B : Data → Process} {s : Step} {o q : Outcome} {k : Cost} {a b c : Kind} → Switched n w B s o q k → ((v : Data) → HasKind v c → ProcessTakes n (B v) a b) → OutcomeHas o (pair_kind b (event_kind c)) → HasKind (input_of s) a → OutcomeHas q b
+    switched_has : {w : Observation} {B : Data → Process} {s : Step} {o q : Outcome} {k : Cost} {a b c : Kind} → Switched n w B s o q k → ((v : Data) → HasKind v c → ProcessTakes n (B v) a b) → OutcomeHas o (pair_kind b (event_kind c)) → HasKind (input_of s) a → OutcomeHas q b
     switched_has after_fault body h i = tt
     switched_has (after_value F) body h i = fires_has F body (first_is h) (event_comes (second_is h)) i
 
-    fires_has : {w : Switching} {B : Data → Process} {s : Step} {o : Outcome} {e : Option Data} {q : Outcome} {k : Cost} {a b c : Kind} → Fires n w B s o e q k → ((v : Data) → HasKind v c → ProcessTakes n (B v) a b) → OutcomeHas o b → Comes e c → HasKind (input_of s) a → OutcomeHas q b
+    fires_has : {w : Observation} {B : Data → Process} {s : Step} {o : Outcome} {e : Option Data} {q : Outcome} {k : Cost} {a b c : Kind} → Fires n w B s o e q k → ((v : Data) → HasKind v c → ProcessTakes n (B v) a b) → OutcomeHas o b → Comes e c → HasKind (input_of s) a → OutcomeHas q b
     fires_has no_event_yet body h k i = h
     fires_has (event_now {w = w} {s = s} {o = o} {o' = o'} A) body h (comes_some k) i = combined_has o o' (λ v u x y. switched_has_kind w x y) h (gives_has A (body _ k) (more_steps {s = s} i no_steps))

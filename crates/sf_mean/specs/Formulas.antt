@@ -6,9 +6,9 @@ use Rattle.sf_operator.specs.Operations.{truth_in, number_in, payload_in, payloa
 use Rattle.sf_expr.specs.Expressions.{Function}
 use Rattle.sf_expr.specs.Evaluation.{Evaluated, answer, ◌>>=◌, Scope, eval, apply}
 use Rattle.sf_term.specs.declared.form.Bare.{Bare}
-use Rattle.sf_term.specs.declared.form.Bare.TheVariants.{Identity, LocalTime, Integral, Edge, NotYet, Count}
+use Rattle.sf_term.specs.declared.form.Bare.TheVariants.{Identity, LocalTime, Integral, Edge, NotYet, Count, Pre}
 use Rattle.sf_term.specs.declared.form.WithValue.{WithValue}
-use Rattle.sf_term.specs.declared.form.WithValue.TheVariants.{Constant, InitialPre, Now, Hold}
+use Rattle.sf_term.specs.declared.form.WithValue.TheVariants.{Constant, InitialPre, InitializedPre, Now, Hold}
 use Rattle.sf_term.specs.declared.form.Timing.{Timing}
 use Rattle.sf_term.specs.declared.form.Timing.TheVariants.{After}
 use Rattle.sf_term.specs.declared.form.Accumulation.{Accumulation}
@@ -78,7 +78,7 @@ abbrev pub last_payload : Data → Life → Data
 last_payload v [] = v
 last_payload v (s ∷ L) = payload_or (occurring (input_of s)) (last_payload v L)
 
--- primitives without constants
+-- primitives without constants; `pre` alone has no value at the first step, and makes no sense there
 abbrev pub bare_formula : Bare → Step → Life → Evaluated Data
 bare_formula Identity s L = answer (input_of s)
 bare_formula LocalTime s L = tested (pos (time (s ∷ L)))
@@ -86,11 +86,13 @@ bare_formula Integral s L = tested (area (s ∷ L))
 bare_formula Edge s L = answer (risen (input_of s) (before (truth true) L))
 bare_formula NotYet s L = answer (at_first L no_event (input_of s))
 bare_formula Count s L = counted (occurring (input_of s)) (occurrences (s ∷ L))
+bare_formula Pre s L = answer (before (number (pos 0)) L)
 
 -- primitives with the value v
 abbrev pub value_formula : WithValue → Data → Step → Life → Data
 value_formula Constant v s L = v
 value_formula InitialPre v s L = before v L
+value_formula InitializedPre v s L = before v L
 value_formula Now v s L = at_first L (event v) no_event
 value_formula Hold v s L = last_payload v (s ∷ L)
 

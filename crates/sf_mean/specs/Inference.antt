@@ -9,8 +9,10 @@ use Rattle.sf_term.specs.declared.form.Join.TheVariants.{InSequence, InParallel,
 use Rattle.sf_term.specs.declared.form.Side.{Side}
 use Rattle.sf_term.specs.declared.form.Side.TheVariants.{First, Second}
 use Rattle.sf_term.specs.declared.form.Heading.{Heading}
-use Rattle.sf_term.specs.declared.form.Heading.TheVariants.{LoopPre}
+use Rattle.sf_term.specs.declared.form.Heading.TheVariants.{LoopPre, Initialized}
 use Rattle.sf_term.specs.Trees.{Chain, lone, chained, on_side, on_both, fanned, Primitive, bare, never, with_value, timed, arrow, accumulated, fused, Term, primitive, joined, sided, headed, switching, staged}
+use Rattle.sf_term.specs.declared.form.Switching.{Switching}
+use Rattle.sf_term.specs.declared.form.Switching.TheVariants.{Basic, Recurring}
 use Rattle.sf_mean.specs.Contexts.{Context, names_of_values, inside_pattern}
 use Rattle.sf_mean.specs.Typing.{bare_kind, value_kind, takes_time, timed_kind, accumulated_argument, accumulated_kind}
 
@@ -39,16 +41,22 @@ side_output Second f a = found_then (parts_of a) (λ p. both_outputs (Some p.0) 
 abbrev pub first_beside : Kind → Finds
 first_beside c a = found_then (parts_of a) (λ p. cond (same_kind c p.1) (Some p.0) None)
 
--- the output of a part whose second output is fed back, at first as a value of the type that was found
+-- the output of a part with a value of the type that was found: of one whose second output is fed back, or of one whose
+-- first value this one replaces
 abbrev pub heading_output : Heading → Option Kind → Finds → Finds
 heading_output LoopPre None f a = None
 heading_output LoopPre (Some c) f a = found_then (f (pair_kind a c)) (first_beside c)
+heading_output Initialized None f a = None
+heading_output Initialized (Some c) f a = found_then (f a) (λ b. only b c (Some b))
 
--- the output of a switch, whose source has an output and whose body is found under what its pattern binds
-abbrev pub switch_output : Context → Pattern → Option Kind → (Context → Finds) → Finds
-switch_output Γ p o body a =
-    found_then (found_then o parts_of) (λ k. found_then (payload_of k.1) (λ c.
-    found_then (names_bound p c (names_of_values Γ)) (λ R. found_then (body (inside_pattern p c Γ) a) (λ b. only b k.0 (Some b)))))
+-- the output of a switch's body, which is found under what its pattern binds for a payload, and has to be this one
+abbrev pub body_output : Context → Pattern → (Context → Finds) → (payload input output : Kind) → Option Kind
+body_output Γ p body c a b = found_then (names_bound p c (names_of_values Γ)) (λ R. found_then (body (inside_pattern p c Γ) a) (λ d. only d b (Some d)))
+
+-- the output of a switch: its event stands beside the value of its first term, or, where it recurs, beside the input
+abbrev pub switch_output : Context → Switching → Pattern → Finds → (Context → Finds) → Finds
+switch_output Γ (Basic w) p source body a = found_then (found_then (source a) parts_of) (λ k. found_then (payload_of k.1) (λ c. body_output Γ p body c a k.0))
+switch_output Γ (Recurring w) p source body x = found_then (parts_of x) (λ k. found_then (payload_of k.1) (λ c. found_then (source k.0) (λ b. body_output Γ p body c k.0 b)))
 
 -- the output of functions made into one
 abbrev pub chain_output : Context → Chain → Finds
@@ -79,7 +87,7 @@ form_output Γ (primitive p) a = primitive_output Γ p a
 form_output Γ (joined j f g) a = join_output j (with_fitting (form_output Γ f)) (with_fitting (form_output Γ g)) a
 form_output Γ (sided d t) a = side_output d (with_fitting (form_output Γ t)) a
 form_output Γ (headed h e t) a = heading_output h (expression_type (names_of_values Γ) e) (with_fitting (form_output Γ t)) a
-form_output Γ (switching w t p u) a = switch_output Γ p (with_fitting (form_output Γ t) a) (λ Δ. with_fitting (form_output Δ u)) a
+form_output Γ (switching w t p u) a = switch_output Γ w p (with_fitting (form_output Γ t)) (λ Δ. with_fitting (form_output Δ u)) a
 form_output Γ (staged x f g) a = join_output InSequence (with_fitting (form_output Γ f)) (with_fitting (form_output Γ g)) a
 
 -- the type of the outputs of a term for inputs of a type, if it takes them

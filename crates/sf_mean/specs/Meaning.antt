@@ -8,12 +8,13 @@ use Rattle.sf_expr.specs.Evaluation.{Evaluated, answer, failed, ◌>>=◌, eval}
 use Rattle.sf_term.specs.declared.form.Join.{Join}
 use Rattle.sf_term.specs.declared.form.Join.TheVariants.{InSequence, InParallel, FannedOut}
 use Rattle.sf_term.specs.declared.form.Side.{Side}
-use Rattle.sf_term.specs.declared.form.Heading.TheVariants.{LoopPre}
-use Rattle.sf_term.specs.declared.form.Switching.{Switching}
-use Rattle.sf_term.specs.declared.form.Switching.TheVariants.{Switch, DSwitch}
+use Rattle.sf_term.specs.declared.form.Heading.TheVariants.{LoopPre, Initialized}
+use Rattle.sf_term.specs.declared.form.Observation.{Observation}
+use Rattle.sf_term.specs.declared.form.Observation.TheVariants.{Immediate, Delayed}
+use Rattle.sf_term.specs.declared.form.Switching.TheVariants.{Basic, Recurring}
 use Rattle.sf_term.specs.Trees.{Primitive, Extent, whole, rest, Term, primitive, joined, sided, headed, switching, staged, Templates}
-use Rattle.sf_mean.specs.Lives.{Step, input_of, Life, Process, closure, Environment, scope_around, bind, with_inputs, relay, fed, first_input as input_at_first}
-use Rattle.sf_mean.specs.Formulas.{occurring, side_of, with_side, formula}
+use Rattle.sf_mean.specs.Lives.{Step, step, wait_of, input_of, Life, Process, closure, Environment, scope_around, bind, with_inputs, relay, fed, first_input as input_at_first}
+use Rattle.sf_mean.specs.Formulas.{at_first, occurring, side_of, with_side, formula}
 
 -- A network: its templates, and what its stored functions answer.
 pub record Network : Type 0 where
@@ -134,14 +135,52 @@ abbrev pub stands_after : Step → Option Data → Standing
 stands_after s None = waits
 stands_after s (Some v) = fired v (s ∷ [])
 
--- the value at the step of the event: that of the body, or still that of the source
-abbrev pub switched_value : Switching → Data → Data → Data
-switched_value Switch y z = z
-switched_value DSwitch y z = y
+-- the value at the step of an event: that of the body, or still that of what ran before
+abbrev pub switched_value : Observation → Data → Data → Data
+switched_value Immediate y z = z
+switched_value Delayed y z = y
 
 -- what takes over from a switch at an event
 abbrev pub body_of : Pattern → Term → Environment → Data → Process
 body_of p u e v = closure u (bind p v e)
+
+-- the payload of the event beside an input, if there is one
+abbrev pub event_beside : Step → Option Data
+event_beside s = occurring (second_of (input_of s))
+
+-- one payload, or where there is none another
+abbrev pub or_earlier : Option Data → Option Data → Option Data
+or_earlier None q = q
+or_earlier (Some v) q = Some v
+
+-- the payload of the last event beside the inputs of a life, if there was one
+abbrev pub last_event : Life → Option Data
+last_event [] = None
+last_event (s ∷ L) = or_earlier (event_beside s) (last_event L)
+
+-- the steps before that are kept, where there is this payload: none of them, if there is one
+abbrev pub kept_before : Option Data → Life → Life
+kept_before None L = L
+kept_before (Some v) L = []
+
+-- the steps of a life from its last event on, or all where there was none
+abbrev pub since_event : Life → Life
+since_event [] = []
+since_event (s ∷ L) = s ∷ kept_before (event_beside s) (since_event L)
+
+-- what runs in a recurring switch where the last event had this payload: P before the first, and then what B makes of it
+abbrev pub what_runs : Process → (Data → Process) → Option Data → Process
+what_runs P B None = P
+what_runs P B (Some v) = B v
+
+-- the event that is looked at after an outcome: none after a fault
+abbrev pub unless_faulted : Outcome → Option Data → Option Data
+unless_faulted (gave y r) q = q
+unless_faulted (faulted x) q = None
+
+-- a step without the event beside its input
+abbrev pub without_event : Step → Step
+without_event s = step (wait_of s) (first_of (input_of s))
 
 -- ## The meaning
 
@@ -188,11 +227,21 @@ mutual
         → Loops n v (closure t e) L zs
         → Gives n (closure t e) (fed v (s ∷ L) zs) o c
         → Form n (headed LoopPre i t) e (value_made v) s L (changed first_of o) (over c)
+    -- `-->`: the constant at the first step, then the part's values; the part is stepped at the first step too
+    of_initialized : {i : Expression} {t : Term} {e : Environment} {v : Data} {s : Step} {L : Life} {o : Outcome} {c : Cost}
+        → Gives n (closure t e) (s ∷ L) o c
+        → Form n (headed Initialized i t) e (value_made v) s L (changed (at_first L v) o) (over c)
     -- a switch gives what its standing says
-    of_switch : {w : Switching} {t u : Term} {p : Pattern} {e : Environment} {m : Made} {s : Step} {L : Life} {st : Standing} {o : Outcome} {c : Cost}
+    of_switch : {w : Observation} {t u : Term} {p : Pattern} {e : Environment} {m : Made} {s : Step} {L : Life} {st : Standing} {o : Outcome} {c : Cost}
         → Since n (closure t e) L st
         → SwitchTurn n w (closure t e) (body_of p u e) s L st o c
-        → Form n (switching w t p u) e m s L o c
+        → Form n (switching (Basic w) t p u) e m s L o c
+    -- a recurring switch: what runs lives the first parts of the inputs since the last event, through an event too; there the
+    -- body begins, on that step alone
+    of_recurring : {w : Observation} {t u : Term} {p : Pattern} {e : Environment} {m : Made} {s : Step} {L : Life} {o o' : Outcome} {c c' : Cost}
+        → Gives n (what_runs (closure t e) (body_of p u e) (last_event L)) (with_inputs first_of (s ∷ since_event L)) o c
+        → Fires n w (body_of p u e) (without_event s) o (unless_faulted o (event_beside s)) o' c'
+        → Form n (switching (Recurring w) t p u) e m s L o' (over (both_costs c c'))
     -- a stage before the others: they live on its values
     of_stages : {x : Extent} {f g : Term} {e : Environment} {m : Made} {s : Step} {L : Life} {ys : List Data} {o o' : Outcome} {c c' : Cost}
         → Outputs n (closure f e) L ys
@@ -229,25 +278,25 @@ mutual
         → Since n P (s ∷ L) (fired v (s ∷ M))
 
   -- A switch's next step, where B takes over. Once it has fired it counts nothing, and its body stands in its place.
-  pub data SwitchTurn (n : Network) : Switching → Process → (Data → Process) → Step → Life → Standing → Outcome → Cost → Type 0 where
-    while_waiting : {w : Switching} {P : Process} {B : Data → Process} {s : Step} {L : Life} {o o' : Outcome} {c c' : Cost}
+  pub data SwitchTurn (n : Network) : Observation → Process → (Data → Process) → Step → Life → Standing → Outcome → Cost → Type 0 where
+    while_waiting : {w : Observation} {P : Process} {B : Data → Process} {s : Step} {L : Life} {o o' : Outcome} {c c' : Cost}
         → Gives n P (s ∷ L) o c
         → Switched n w B s o o' c'
         → SwitchTurn n w P B s L waits o' (over (both_costs c c'))
-    as_body : {w : Switching} {P : Process} {B : Data → Process} {s : Step} {L M : Life} {v : Data} {o : Outcome} {c : Cost}
+    as_body : {w : Observation} {P : Process} {B : Data → Process} {s : Step} {L M : Life} {v : Data} {o : Outcome} {c : Cost}
         → Gives n (B v) (s ∷ M) o c
         → SwitchTurn n w P B s L (fired v M) o c
 
   -- What comes after the source of a switch: nothing after its fault, else what comes of the payload beside its value.
-  pub data Switched (n : Network) : Switching → (Data → Process) → Step → Outcome → Outcome → Cost → Type 0 where
-    after_fault : {w : Switching} {B : Data → Process} {s : Step} {x : ValueFault} → Switched n w B s (faulted x) (faulted x) no_cost
-    after_value : {w : Switching} {B : Data → Process} {s : Step} {y : Data} {r : Readings} {o : Outcome} {c : Cost}
+  pub data Switched (n : Network) : Observation → (Data → Process) → Step → Outcome → Outcome → Cost → Type 0 where
+    after_fault : {w : Observation} {B : Data → Process} {s : Step} {x : ValueFault} → Switched n w B s (faulted x) (faulted x) no_cost
+    after_value : {w : Observation} {B : Data → Process} {s : Step} {y : Data} {r : Readings} {o : Outcome} {c : Cost}
         → Fires n w B s (gave (first_of y) r) (occurring (second_of y)) o c
         → Switched n w B s (gave y r) o c
 
   -- Without a payload the source's outcome stays; with one the body lives from this step on.
-  pub data Fires (n : Network) : Switching → (Data → Process) → Step → Outcome → Option Data → Outcome → Cost → Type 0 where
-    no_event_yet : {w : Switching} {B : Data → Process} {s : Step} {o : Outcome} → Fires n w B s o None o no_cost
-    event_now : {w : Switching} {B : Data → Process} {s : Step} {o o' : Outcome} {v : Data} {c : Cost}
+  pub data Fires (n : Network) : Observation → (Data → Process) → Step → Outcome → Option Data → Outcome → Cost → Type 0 where
+    no_event_yet : {w : Observation} {B : Data → Process} {s : Step} {o : Outcome} → Fires n w B s o None o no_cost
+    event_now : {w : Observation} {B : Data → Process} {s : Step} {o o' : Outcome} {v : Data} {c : Cost}
         → Gives n (B v) (s ∷ []) o' c
         → Fires n w B s o (Some v) (combined (switched_value w) o o') c

@@ -5,7 +5,7 @@ use Rattle.sf_func.specs.Registries.{TypesByName, KeepTheirTypes}
 use Rattle.sf_term.specs.Trees.{Term}
 use Rattle.sf_mean.specs.Lives.{Step, input_of, Life, Environment, empty, known, Process, closure}
 use Rattle.sf_mean.specs.Meaning.{Network, Outcome, gave, faulted}
-use Rattle.sf_mean.specs.Contexts.{NameKind, value, Bindings, context_with}
+use Rattle.sf_mean.specs.Contexts.{value, Bindings, context_with}
 use Rattle.sf_mean.specs.Typing.{Takes}
 
 -- Each value of a list has a type.

@@ -1,23 +1,24 @@
 -- The types of terms under a context, and the networks that are accepted.
-use Rattle.std.specs.Prelude.{◌≡◌, ◌≢◌, ℕ, ◌<◌, Bool, ◌&&◌, IsTrue, ℤ, pos, int_le, Option, Some, slice_get}
+use Rattle.std.specs.Prelude.{◌≡◌, ◌≢◌, ℕ, ◌<◌, Bool, ◌&&◌, IsTrue, ℤ, pos, int_le, Option, Some, None, slice_get}
 use Rattle.sf_value.specs.Values.{Kind, unit_kind, bool_kind, int_kind, pair_kind, event_kind}
 use Rattle.sf_operator.specs.Kinds.{found_then, only, payload_of}
 use Rattle.sf_func.specs.Registries.{TypesByName}
 use Rattle.sf_expr.specs.Expressions.{Pattern, Expression, Function}
 use Rattle.sf_expr.specs.Typing.{Fits, Binds, HasType, FunctionTakes}
 use Rattle.sf_term.specs.declared.form.Bare.{Bare}
-use Rattle.sf_term.specs.declared.form.Bare.TheVariants.{Identity, LocalTime, Integral, Edge, NotYet, Count}
+use Rattle.sf_term.specs.declared.form.Bare.TheVariants.{Identity, LocalTime, Integral, Edge, NotYet, Count, Pre}
 use Rattle.sf_term.specs.declared.form.WithValue.{WithValue}
-use Rattle.sf_term.specs.declared.form.WithValue.TheVariants.{Constant, InitialPre, Now, Hold}
+use Rattle.sf_term.specs.declared.form.WithValue.TheVariants.{Constant, InitialPre, InitializedPre, Now, Hold}
 use Rattle.sf_term.specs.declared.form.Timing.{Timing}
 use Rattle.sf_term.specs.declared.form.Timing.TheVariants.{After}
 use Rattle.sf_term.specs.declared.form.Accumulation.{Accumulation}
 use Rattle.sf_term.specs.declared.form.Accumulation.TheVariants.{AccumBy, AccumHoldBy, Scan}
 use Rattle.sf_term.specs.declared.form.Join.TheVariants.{InSequence, InParallel, FannedOut}
 use Rattle.sf_term.specs.declared.form.Side.TheVariants.{First, Second}
-use Rattle.sf_term.specs.declared.form.Heading.TheVariants.{LoopPre}
-use Rattle.sf_term.specs.declared.form.Switching.{Switching}
+use Rattle.sf_term.specs.declared.form.Heading.TheVariants.{LoopPre, Initialized}
 use Rattle.sf_term.specs.Trees.{Chain, lone, chained, on_side, on_both, fanned, Primitive, bare, never, with_value, timed, arrow, accumulated, fused, Extent, Term, primitive, joined, sided, headed, switching, staged, Template, Templates}
+use Rattle.sf_term.specs.declared.form.Observation.{Observation}
+use Rattle.sf_term.specs.declared.form.Switching.TheVariants.{Basic, Recurring}
 use Rattle.sf_mean.specs.Networks.{main_of}
 use Rattle.sf_mean.specs.Contexts.{Context, names_of_values, context_of, inside_pattern}
 
@@ -30,7 +31,8 @@ pub data ChainTakes (Γ : Context) : Chain → Kind → Kind → Type 0 where
   on_both_takes : {f g : Chain} {a b c d : Kind} → ChainTakes Γ f a b → ChainTakes Γ g c d → ChainTakes Γ (on_both f g) (pair_kind a c) (pair_kind b d)
   fanned_takes : {f g : Chain} {a b c : Kind} → ChainTakes Γ f a b → ChainTakes Γ g a c → ChainTakes Γ (fanned f g) a (pair_kind b c)
 
--- the type of the outputs of a primitive without constants on inputs of a type, if it is one on such inputs
+-- the type of the outputs of a primitive without constants on inputs of a type, if it is one on such inputs; `pre` alone is
+-- one on none
 abbrev pub bare_kind : Bare → Kind → Option Kind
 bare_kind Identity a = Some a
 bare_kind LocalTime a = Some int_kind
@@ -38,11 +40,13 @@ bare_kind Integral a = only a int_kind (Some int_kind)
 bare_kind Edge a = only a bool_kind (Some (event_kind unit_kind))
 bare_kind NotYet a = found_then (payload_of a) (λ p. Some a)
 bare_kind Count a = found_then (payload_of a) (λ p. Some (event_kind int_kind))
+bare_kind Pre a = None
 
 -- the type of the outputs of a primitive with a value of a type on inputs of a type, if it is one on such inputs
 abbrev pub value_kind : WithValue → Kind → Kind → Option Kind
 value_kind Constant v a = Some v
 value_kind InitialPre v a = only a v (Some v)
+value_kind InitializedPre v a = only a v (Some v)
 value_kind Now v a = Some (event_kind v)
 value_kind Hold v a = found_then (payload_of a) (λ p. only p v (Some v))
 
@@ -92,8 +96,11 @@ mutual
     first_takes : {Γ : Context} {t : Term} {a b c : Kind} → Takes Γ t a b → FormTakes Γ (sided First t) (pair_kind a c) (pair_kind b c)
     second_takes : {Γ : Context} {t : Term} {a b c : Kind} → Takes Γ t a b → FormTakes Γ (sided Second t) (pair_kind c a) (pair_kind c b)
     loop_takes : {Γ : Context} {e : Expression} {t : Term} {a b c : Kind} → HasType (names_of_values Γ) e c → Takes Γ t (pair_kind a c) (pair_kind b c) → FormTakes Γ (headed LoopPre e t) a b
-    switch_takes : {Γ : Context} {w : Switching} {t u : Term} {p : Pattern} {a b c : Kind}
-        → Takes Γ t a (pair_kind b (event_kind c)) → Binds p c (names_of_values Γ) (names_of_values (inside_pattern p c Γ)) → Takes (inside_pattern p c Γ) u a b → FormTakes Γ (switching w t p u) a b
+    initialized_takes : {Γ : Context} {e : Expression} {t : Term} {a b : Kind} → HasType (names_of_values Γ) e b → Takes Γ t a b → FormTakes Γ (headed Initialized e t) a b
+    switch_takes : {Γ : Context} {w : Observation} {t u : Term} {p : Pattern} {a b c : Kind}
+        → Takes Γ t a (pair_kind b (event_kind c)) → Binds p c (names_of_values Γ) (names_of_values (inside_pattern p c Γ)) → Takes (inside_pattern p c Γ) u a b → FormTakes Γ (switching (Basic w) t p u) a b
+    recurring_takes : {Γ : Context} {w : Observation} {t u : Term} {p : Pattern} {a b c : Kind}
+        → Takes Γ t a b → Binds p c (names_of_values Γ) (names_of_values (inside_pattern p c Γ)) → Takes (inside_pattern p c Γ) u a b → FormTakes Γ (switching (Recurring w) t p u) (pair_kind a (event_kind c)) b
     stages_take : {Γ : Context} {x : Extent} {f g : Term} {a b c : Kind} → Takes Γ f a b → Takes Γ g b c → FormTakes Γ (staged x f g) a c
 
 -- a template's term takes its header's input to its header's output, under the headers of all templates, with functions of

@@ -17,7 +17,7 @@ use Rattle.sf_operator.specs.Answers.{Evaluates}
 use Rattle.sf_operator.specs.declared.fault.EvalFault.{EvalFault}
 use Rattle.sf_operator.specs.declared.fault.EvalFault.TheVariants.{Value, Memory}
 use Rattle.sf_term.specs.declared.form.WithValue.{WithValue}
-use Rattle.sf_term.specs.declared.form.WithValue.TheVariants.{Constant as VConstant, InitialPre, Now as VNow, Hold as VHold}
+use Rattle.sf_term.specs.declared.form.WithValue.TheVariants.{Constant as VConstant, InitialPre, InitializedPre, Now as VNow, Hold as VHold}
 use Rattle.sf_term.specs.declared.form.Timing.{Timing}
 use Rattle.sf_term.specs.declared.form.Timing.TheVariants.{After}
 use Rattle.sf_term.specs.declared.form.Accumulation.{Accumulation}
@@ -30,7 +30,7 @@ use Rattle.sf_prim.specs.declared.accumulator.Accumulator.{Accumulator}
 use Rattle.sf_prim.specs.declared.prim_state.PrimState.{PrimState}
 use Rattle.sf_prim.specs.declared.prim_state.PrimState.TheVariants.{Identity, Never, Constant, Previous, Arrow, Accumulated, Clock, Area, Timed, Edge, NotYet, Count, Now, Hold}
 use Rattle.sf_prim.specs.Gifts.{gift}
-use Rattle.sf_prim.specs.Keeping.{shown_after, time_after, last_time, has_steps, span, waited, is_up, count_after, counted_after, Remembers, keeps_nothing, keeps_no_event, keeps_value, keeps_previous, keeps_function, keeps_accumulation, keeps_time, keeps_area, keeps_timer, keeps_low, keeps_begun, keeps_count, keeps_first, keeps_last, Begins, begins_with_fault, begins_without_memory, GoesOn, goes_on, goes_on_with_fault, goes_on_without_memory}
+use Rattle.sf_prim.specs.Keeping.{shown_after, time_after, last_time, has_steps, span, waited, is_up, count_after, counted_after, Remembers, keeps_nothing, keeps_no_event, keeps_value, keeps_previous, keeps_initialized, keeps_pre, keeps_function, keeps_accumulation, keeps_time, keeps_area, keeps_timer, keeps_low, keeps_begun, keeps_count, keeps_first, keeps_last, Begins, begins_with_fault, begins_without_memory, GoesOn, goes_on, goes_on_with_fault, goes_on_without_memory}
 
 -- a primitive with a value gives what its formula makes of it
 value_gives : (k : WithValue) (e : Expression) (scope : Scope) (v : Data) (s : Step) (L : Life)
@@ -79,6 +79,9 @@ pub previous_goes_on : (q : Primitive) (scope : Scope) (d : _) (x : Data) (L : L
     → Remembers (Previous w) q scope L → GoesOn q scope (step d x) L (Previous x) (Ok w)
 previous_goes_on q scope d x L w (keeps_previous {e = e} {v = v} h g) =
     goes_on (value_gives InitialPre e scope v (step d x) L h ∙ ap answer (sym g)) (keeps_previous h refl)
+previous_goes_on q scope d x L w (keeps_initialized {e = e} {v = v} h g) =
+    goes_on (value_gives InitializedPre e scope v (step d x) L h ∙ ap answer (sym g)) (keeps_initialized h refl)
+previous_goes_on q scope d x L w (keeps_pre g) = goes_on (ap answer (sym g)) (keeps_pre refl)
 
 pub arrow_goes_on : (φ : AnswersByName) (c : Rc Code Global) (d : _) (x : Data) (r : Result Data EvalFault) → ((s : Scope) → functions_in s ≡ φ → (f : Function) → IsCodeOfFunctionIn s f c.value → Evaluates r (apply f x s))
     → (q : Primitive) (scope : Scope) (L : Life) → functions_in scope ≡ φ → Remembers (Arrow c) q scope L → GoesOn q scope (step d x) L (Arrow c) r

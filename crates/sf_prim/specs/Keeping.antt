@@ -11,8 +11,8 @@ use Rattle.sf_code.specs.declared.code.Code.{Code}
 use Rattle.sf_code.specs.Worth.{IsCodeOfFunctionIn}
 use Rattle.sf_operator.specs.declared.fault.EvalFault.{EvalFault}
 use Rattle.sf_operator.specs.declared.fault.EvalFault.TheVariants.{Value, Memory}
-use Rattle.sf_term.specs.declared.form.Bare.TheVariants.{Identity as BIdentity, LocalTime, Integral, Edge as BEdge, NotYet as BNotYet, Count as BCount}
-use Rattle.sf_term.specs.declared.form.WithValue.TheVariants.{Constant as VConstant, InitialPre, Now as VNow, Hold as VHold}
+use Rattle.sf_term.specs.declared.form.Bare.TheVariants.{Identity as BIdentity, LocalTime, Integral, Edge as BEdge, NotYet as BNotYet, Count as BCount, Pre}
+use Rattle.sf_term.specs.declared.form.WithValue.TheVariants.{Constant as VConstant, InitialPre, InitializedPre, Now as VNow, Hold as VHold}
 use Rattle.sf_term.specs.declared.form.Timing.TheVariants.{After}
 use Rattle.sf_term.specs.Trees.{Primitive, bare, never, with_value, timed, arrow, accumulated}
 use Rattle.sf_mean.specs.Lives.{Step, Life, time}
@@ -72,6 +72,9 @@ pub data Remembers : PrimState → Primitive → Scope → Life → Type 0 where
       → eval e scope ≡ answer v → Remembers (Constant v) (with_value VConstant e) scope L
   keeps_previous : {e : Expression} {scope : Scope} {v w : Data} {L : Life}
       → eval e scope ≡ answer v → w ≡ before v L → Remembers (Previous w) (with_value InitialPre e) scope L
+  keeps_initialized : {e : Expression} {scope : Scope} {v w : Data} {L : Life}
+      → eval e scope ≡ answer v → w ≡ before v L → Remembers (Previous w) (with_value InitializedPre e) scope L
+  keeps_pre : {scope : Scope} {w : Data} {L : Life} → w ≡ before (number (pos 0)) L → Remembers (Previous w) (bare Pre) scope L
   keeps_function : {c : Rc Code Global} {f : Function} {scope : Scope} {L : Life}
       → IsCodeOfFunctionIn scope f c.value → Remembers (Arrow c) (arrow f) scope L
   keeps_accumulation : {a : Accumulator} {e : Expression} {f : Function} {v : Data} {scope : Scope} {L : Life}

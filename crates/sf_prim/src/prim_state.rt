@@ -34,7 +34,7 @@ pub enum PrimState {
     Never,
     /// `constant e`, with the value of `e`.
     Constant(Value),
-    /// `iPre e`, with its next value.
+    /// `iPre e`, `-->(e, pre)` or `pre`, with its next value.
     Previous(Value),
     /// `arr f`, with the code of `f`, which it shares with its plan.
     Arrow(Rc<Code>),
@@ -117,6 +117,8 @@ impl PrimState {
             Bare::Edge => PrimState::Edge(false),
             Bare::NotYet => PrimState::NotYet(false),
             Bare::Count => PrimState::Count(0),
+            // it makes no sense at the first sample
+            Bare::Pre => PrimState::Previous(Value::int(0)),
         }
     }
 
@@ -127,6 +129,7 @@ impl PrimState {
         match form {
             WithValue::Constant => PrimState::Constant(value),
             WithValue::InitialPre => PrimState::Previous(value),
+            WithValue::InitializedPre => PrimState::Previous(value),
             WithValue::Now => PrimState::Now(Some(value)),
             WithValue::Hold => PrimState::Hold(value),
         }

@@ -29,6 +29,8 @@ pub enum Rule {
     DuplicateName,
     /// C4: types do not fit.
     Mismatch,
+    /// C5: `pre` isn't the second part of `-->`.
+    BarePre,
     /// C7: no template is named `main`.
     NoMain,
     /// C8: a number of a form is outside its range.
@@ -55,6 +57,7 @@ impl Rule {
             Rule::UnknownName => "C1",
             Rule::DuplicateName => "C2",
             Rule::Mismatch => "C4",
+            Rule::BarePre => "C5",
             Rule::NoMain => "C7",
             Rule::BadConstant => "C8",
             Rule::TypeTooLarge => "C9",
@@ -78,6 +81,7 @@ impl Rule {
             Rule::UnknownName => "UnknownName",
             Rule::DuplicateName => "DuplicateName",
             Rule::Mismatch => "Mismatch",
+            Rule::BarePre => "BarePre",
             Rule::NoMain => "NoMain",
             Rule::BadConstant => "BadConstant",
         }

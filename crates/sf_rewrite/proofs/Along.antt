@@ -6,13 +6,14 @@ use Rattle.sf_term.specs.declared.form.Join.{Join}
 use Rattle.sf_term.specs.declared.form.Join.TheVariants.{InParallel, FannedOut}
 use Rattle.sf_term.specs.declared.form.Side.{Side}
 use Rattle.sf_term.specs.declared.form.Heading.{Heading}
+use Rattle.sf_term.specs.declared.form.Observation.{Observation}
 use Rattle.sf_term.specs.declared.form.Switching.{Switching}
 use Rattle.sf_term.specs.Trees.{Extent, Term, joined, sided, headed, switching, staged}
 use Rattle.sf_mean.specs.Lives.{Step, Life, Environment, with_inputs, relay}
 use Rattle.sf_mean.specs.Formulas.{side_of}
 use Rattle.sf_mean.specs.Meaning.{Outcome, Cost, text_cost, Standing}
 use Rattle.sf_value.specs.Values.{first_of, second_of}
-use Rattle.sf_rewrite.proofs.Parts.{Leaves, Part, part, Parts, begins, then_gave, At, at_leaf, at_join, at_stages, at_side, at_loop, at_constant, at_switch, Then, then_part, then_stops, Rounds, no_round, one_round, Watches, watch_begins, then_watched, fired_before, Turns, turn_waits, turn_body, Switches, switch_stops, switch_goes, Bodies, no_body, body_begins, no_truth, OneLeaf}
+use Rattle.sf_rewrite.proofs.Parts.{Leaves, Part, part, Parts, begins, then_gave, At, at_leaf, at_join, at_stages, at_side, at_loop, at_initialized, at_constant, at_switch, at_recurring, Then, then_part, then_stops, Rounds, no_round, one_round, Watches, watch_begins, then_watched, fired_before, Turns, turn_waits, turn_body, Switches, switch_stops, switch_goes, Runs, runs_first, runs_body, Bodies, no_body, body_begins, no_truth, OneLeaf}
 use Rattle.sf_rewrite.proofs.Views.{Chained, Paired, Fanned, Sided, SplitStages, SplitFan, SplitSide, pairs, last_stages, make_stages, last_parallel, make_parallel, last_fan, make_fan, last_side, make_side}
 use Rattle.sf_rewrite.proofs.Lowered.{Below, Lowered, lowered, below_same, below_trans, below_over, below_both, below_stages}
 
@@ -41,17 +42,21 @@ module _ (Q : Leaves) (one : OneLeaf Q) where
   watches_along S (then_watched A B h) = elim (part_along S B) [ lowered B' k ↦ then_watched (watches_along S A) B' h ]
   watches_along S (fired_before A) = fired_before (watches_along S A)
 
-  bodies_along : {d : Bool} {u u' : Term} → Sound d u u' → {w : Switching} {p : Pattern} {e : Environment} {s : Step} {o : Outcome} {q : Option Data} {o' : Outcome} {c : Cost} → Bodies Q w p u e s o q o' c → Lowered d (Bodies Q w p u' e s o q o') c
+  bodies_along : {d : Bool} {u u' : Term} → Sound d u u' → {w : Observation} {p : Pattern} {e : Environment} {s : Step} {o : Outcome} {q : Option Data} {o' : Outcome} {c : Cost} → Bodies Q w p u e s o q o' c → Lowered d (Bodies Q w p u' e s o q o') c
   bodies_along {d = d} T no_body = lowered no_body (below_same d _)
   bodies_along T (body_begins A) = elim (part_along T A) [ lowered A' h ↦ lowered (body_begins A') h ]
 
-  switches_along : {d : Bool} {u u' : Term} → Sound d u u' → {w : Switching} {p : Pattern} {e : Environment} {s : Step} {o o' : Outcome} {c : Cost} → Switches Q w p u e s o o' c → Lowered d (Switches Q w p u' e s o o') c
+  switches_along : {d : Bool} {u u' : Term} → Sound d u u' → {w : Observation} {p : Pattern} {e : Environment} {s : Step} {o o' : Outcome} {c : Cost} → Switches Q w p u e s o o' c → Lowered d (Switches Q w p u' e s o o') c
   switches_along {d = d} T switch_stops = lowered switch_stops (below_same d _)
   switches_along T (switch_goes A) = elim (bodies_along T A) [ lowered A' h ↦ lowered (switch_goes A') h ]
 
-  turns_along : {d : Bool} {t t' u u' : Term} → Sound d t t' → Sound d u u' → {w : Switching} {p : Pattern} {e : Environment} {s : Step} {L : Life} {st : Standing} {o : Outcome} {c : Cost} → Turns Q w t p u e s L st o c → Lowered d (Turns Q w t' p u' e s L st o) c
+  turns_along : {d : Bool} {t t' u u' : Term} → Sound d t t' → Sound d u u' → {w : Observation} {p : Pattern} {e : Environment} {s : Step} {L : Life} {st : Standing} {o : Outcome} {c : Cost} → Turns Q w t p u e s L st o c → Lowered d (Turns Q w t' p u' e s L st o) c
   turns_along S T (turn_waits A B) = elim (part_along S A) [ lowered A' h ↦ elim (switches_along T B) [ lowered B' k ↦ lowered (turn_waits A' B') (below_over _ _ (below_both _ _ _ _ h k)) ] ]
   turns_along S T (turn_body A) = elim (part_along T A) [ lowered A' h ↦ lowered (turn_body A') h ]
+
+  runs_along : {d : Bool} {t t' u u' : Term} → Sound d t t' → Sound d u u' → {p : Pattern} {e : Environment} {q : Option Data} {L : Life} {o : Outcome} {c : Cost} → Runs Q t p u e q L o c → Lowered d (Runs Q t' p u' e q L o) c
+  runs_along S T (runs_first A) = elim (part_along S A) [ lowered A' h ↦ lowered (runs_first A') h ]
+  runs_along S T (runs_body A) = elim (part_along T A) [ lowered A' h ↦ lowered (runs_body A') h ]
 
   -- ## In parts
 
@@ -82,11 +87,14 @@ module _ (Q : Leaves) (one : OneLeaf Q) where
   pub sound_heading : {d : Bool} {h : Heading} {i : Expression} {t t' : Term} → Sound d t t' → Below d (text_cost t) (text_cost t') → Sound d (headed h i t) (headed h i t')
   sound_heading S b e s L ys o c P (at_leaf h B) = absurd (no_truth h)
   sound_heading S b e s L ys o c P (at_loop h A B) = elim (part_along S B) [ lowered B' k ↦ lowered (at_loop h (rounds_along S A) B') (below_over _ _ k) ]
+  sound_heading S b e s L ys o c P (at_initialized h A) = elim (part_along S A) [ lowered A' k ↦ lowered (at_initialized h A') (below_over _ _ k) ]
   sound_heading S b e s L ys o c P (at_constant h) = lowered (at_constant h) (below_over _ _ b)
 
   pub sound_switch : {d : Bool} {w : Switching} {t t' u u' : Term} {p : Pattern} → Sound d t t' → Sound d u u' → Sound d (switching w t p u) (switching w t' p u')
   sound_switch S T e s L ys o c P (at_leaf h B) = absurd (no_truth h)
   sound_switch S T e s L ys o c P (at_switch A B) = elim (turns_along S T B) [ lowered B' h ↦ lowered (at_switch (watches_along S A) B') h ]
+  sound_switch S T e s L ys o c P (at_recurring A B) =
+      elim (runs_along S T A) [ lowered A' h ↦ elim (bodies_along T B) [ lowered B' k ↦ lowered (at_recurring A' B') (below_over _ _ (below_both _ _ _ _ h k)) ] ]
 
   pub sound_turn : {d : Bool} {t u v : Term} → Sound d t u → Sound d u v → Sound d t v
   sound_turn S T e s L ys o c P A =

@@ -1,5 +1,5 @@
 -- Plans keep outcomes.
-use Rattle.std.proofs.Common.{◌≡◌, Bool, true, false, IsTrue, List, [], ◌∷◌, refl, sym, ap, ◌∙◌, subst, Option}
+use Rattle.std.proofs.Common.{◌≡◌, Bool, true, false, IsTrue, List, [], ◌∷◌, refl, sym, ap, ◌∙◌, subst, Option, Some, None}
 use Rattle.sf_value.specs.Values.{Name, Data, first_of, second_of}
 use Rattle.sf_value.specs.declared.fault.ValueFault.{ValueFault}
 use Rattle.sf_func.specs.Registries.{AnswersByName}
@@ -8,13 +8,14 @@ use Rattle.sf_expr.specs.Evaluation.{answer, failed, Scope, no_names, value_name
 use Rattle.sf_term.specs.declared.form.Join.{Join}
 use Rattle.sf_term.specs.declared.form.Side.{Side}
 use Rattle.sf_term.specs.declared.form.Heading.{Heading}
+use Rattle.sf_term.specs.declared.form.Observation.{Observation}
 use Rattle.sf_term.specs.declared.form.Switching.{Switching}
 use Rattle.sf_term.specs.Trees.{Primitive, Term, primitive, joined, sided, headed, switching, staged, Template, Templates}
 use Rattle.sf_mean.specs.Lives.{Step, input_of, Life, Process, closure, Environment, empty, known, scope_around, bind, first_input}
 use Rattle.sf_mean.specs.Formulas.{formula}
-use Rattle.sf_mean.specs.Meaning.{Network, Readings, Outcome, gave, faulted, as_outcome, Cost, one_term, text_cost, Made, make, Standing, body_of, Gives, gives, Outputs, not_begun, and_gave, Sample, of_constants, of_form, Form, of_primitive, of_join, of_side, of_loop, of_switch, of_stages, Next, goes_on, stops, Loops, no_loop, and_looped, Since, at_start, watched, had_fired, SwitchTurn, while_waiting, as_body, Switched, after_fault, after_value, Fires, no_event_yet, event_now}
+use Rattle.sf_mean.specs.Meaning.{Network, Readings, Outcome, gave, faulted, as_outcome, Cost, one_term, text_cost, last_event, Made, make, Standing, body_of, Gives, gives, Outputs, not_begun, and_gave, Sample, of_constants, of_form, Form, of_primitive, of_join, of_side, of_loop, of_initialized, of_switch, of_recurring, of_stages, what_runs, Next, goes_on, stops, Loops, no_loop, and_looped, Since, at_start, watched, had_fired, SwitchTurn, while_waiting, as_body, Switched, after_fault, after_value, Fires, no_event_yet, event_now}
 use Rattle.sf_rewrite.specs.Laws.{Laws}
-use Rattle.sf_rewrite.proofs.Parts.{Leaves, Part, part, Parts, begins, then_gave, At, at_leaf, at_primitive, at_join, at_stages, at_side, at_loop, at_constant, at_switch, Then, then_part, then_stops, Rounds, no_round, one_round, Watches, watch_begins, then_watched, fired_before, Turns, turn_waits, turn_body, Switches, switch_stops, switch_goes, Bodies, no_body, body_begins, is_leaf, no_truth, OneLeaf}
+use Rattle.sf_rewrite.proofs.Parts.{Leaves, Part, part, Parts, begins, then_gave, At, at_leaf, at_primitive, at_join, at_stages, at_side, at_loop, at_initialized, at_constant, at_switch, at_recurring, Then, then_part, then_stops, Rounds, no_round, one_round, Watches, watch_begins, then_watched, fired_before, Turns, turn_waits, turn_body, Switches, switch_stops, switch_goes, Runs, runs_first, runs_body, Bodies, no_body, body_begins, is_leaf, no_truth, OneLeaf}
 use Rattle.sf_rewrite.proofs.Lowered.{Below, Lowered, lowered, below_same, below_any, below_trans, below_over, below_both}
 use Rattle.sf_rewrite.proofs.Along.{Sound, parts_along}
 use Rattle.sf_rewrite.proofs.Sound.{texts, onward, back}
@@ -123,17 +124,21 @@ module _ (d : Bool) (n n' : Network) (all : AlikeAll d n.templates n'.templates)
     goes_body : (v : Data) {L : Life} {o : Outcome} {c : Cost} → Part Q u (bind p v e) L o c → Lowered d (Part (Leaf n') u' (bind p v e') L o) c
     goes_body v A = goes_part T (bind p v e) (bind p v e') (alike_bind p v E) A
 
-    goes_bodies : {w : Switching} {s : Step} {o : Outcome} {q : Option Data} {o' : Outcome} {c : Cost} → Bodies Q w p u e s o q o' c → Lowered d (Bodies (Leaf n') w p u' e' s o q o') c
+    goes_bodies : {w : Observation} {s : Step} {o : Outcome} {q : Option Data} {o' : Outcome} {c : Cost} → Bodies Q w p u e s o q o' c → Lowered d (Bodies (Leaf n') w p u' e' s o q o') c
     goes_bodies no_body = lowered no_body (below_same d _)
     goes_bodies (body_begins {v = v} A) = elim (goes_body v A) [ lowered A' h ↦ lowered (body_begins A') h ]
 
-    goes_switches : {w : Switching} {s : Step} {o o' : Outcome} {c : Cost} → Switches Q w p u e s o o' c → Lowered d (Switches (Leaf n') w p u' e' s o o') c
+    goes_switches : {w : Observation} {s : Step} {o o' : Outcome} {c : Cost} → Switches Q w p u e s o o' c → Lowered d (Switches (Leaf n') w p u' e' s o o') c
     goes_switches switch_stops = lowered switch_stops (below_same d _)
     goes_switches (switch_goes A) = elim (goes_bodies A) [ lowered A' h ↦ lowered (switch_goes A') h ]
 
-    goes_turns : {t t' : Term} → Goes t t' → {w : Switching} {s : Step} {L : Life} {st : Standing} {o : Outcome} {c : Cost} → Turns Q w t p u e s L st o c → Lowered d (Turns (Leaf n') w t' p u' e' s L st o) c
+    goes_turns : {t t' : Term} → Goes t t' → {w : Observation} {s : Step} {L : Life} {st : Standing} {o : Outcome} {c : Cost} → Turns Q w t p u e s L st o c → Lowered d (Turns (Leaf n') w t' p u' e' s L st o) c
     goes_turns S (turn_waits A B) = elim (goes_part S e e' E A) [ lowered A' h ↦ elim (goes_switches B) [ lowered B' k ↦ lowered (turn_waits A' B') (below_over _ _ (below_both _ _ _ _ h k)) ] ]
     goes_turns S (turn_body {v = v} A) = elim (goes_body v A) [ lowered A' h ↦ lowered (turn_body A') h ]
+
+    goes_runs : {t t' : Term} → Goes t t' → {q : Option Data} {L : Life} {o : Outcome} {c : Cost} → Runs Q t p u e q L o c → Lowered d (Runs (Leaf n') t' p u' e' q L o) c
+    goes_runs S (runs_first A) = elim (goes_part S e e' E A) [ lowered A' h ↦ lowered (runs_first A') h ]
+    goes_runs S (runs_body {v = v} A) = elim (goes_body v A) [ lowered A' h ↦ lowered (runs_body A') h ]
 
   -- a form that no law looks into
   go_leaf : {t u : Term} → IsTrue (is_leaf t) → IsTrue (is_leaf u) → Formed d t u → {e e' : Environment} → AlikeNames d e e' → {s : Step} {L : Life} {o : Outcome} {c : Cost} → BothStep t e s L o c → Lowered d (At (Leaf n') u e' s L o) c
@@ -162,11 +167,14 @@ module _ (d : Bool) (n n' : Network) (all : AlikeAll d n.templates n'.templates)
   go_heading : {h : Heading} {i : Expression} {t t' : Term} → Goes t t' → Below d (text_cost t) (text_cost t') → Goes (headed h i t) (headed h i t')
   go_heading S b e e' E s L ys o c P (at_leaf h B) = absurd (no_truth h)
   go_heading {i = i} S b e e' E s L ys o c P (at_loop h A B) = elim (goes_part S e e' E B) [ lowered B' k ↦ lowered (at_loop (ap (eval i) (sym (scopes same E)) ∙ h) (goes_rounds S e e' E A) B') (below_over _ _ k) ]
+  go_heading {i = i} S b e e' E s L ys o c P (at_initialized h A) = elim (goes_part S e e' E A) [ lowered A' k ↦ lowered (at_initialized (ap (eval i) (sym (scopes same E)) ∙ h) A') (below_over _ _ k) ]
   go_heading {i = i} S b e e' E s L ys o c P (at_constant h) = lowered (at_constant (ap (eval i) (sym (scopes same E)) ∙ h)) (below_over _ _ b)
 
   go_switch : {w : Switching} {t t' u u' : Term} {p : Pattern} → Goes t t' → Goes u u' → Goes (switching w t p u) (switching w t' p u')
   go_switch S T e e' E s L ys o c P (at_leaf h B) = absurd (no_truth h)
   go_switch {p = p} S T e e' E s L ys o c P (at_switch A B) = elim (goes_turns T p e e' E S B) [ lowered B' h ↦ lowered (at_switch (goes_watches S e e' E A) B') h ]
+  go_switch {p = p} S T e e' E s L ys o c P (at_recurring A B) =
+      elim (goes_runs T p e e' E S A) [ lowered A' h ↦ elim (goes_bodies T p e e' E B) [ lowered B' k ↦ lowered (at_recurring A' B') (below_over _ _ (below_both _ _ _ _ h k)) ] ]
 
   go_turn : {t u v w : Term} → Law d t u → Goes u v → Law d v w → Goes t w
   go_turn A S C e e' E s L ys o c P F =
@@ -215,6 +223,11 @@ module _ (d : Bool) (n n' : Network) (all : AlikeAll d n.templates n'.templates)
   opened_body : {u : Term} (p : Pattern) (e : Environment) {B : Data → Process} → B ≡ body_of p u e → (v : Data) {L : Life} {o : Outcome} {c : Cost} → ReadyNow (B v) L o c → Part Q u (bind p v e) L o c
   opened_body p e h v {L} {o} {c} A = let N : (Data → Process) → Type 0 = λ B. ReadyNow (B v) L o c in opened_part (subst N h A)
 
+  -- what runs in a recurring switch
+  opened_runs : {t u : Term} {p : Pattern} {e : Environment} (q : Option Data) {L : Life} {o : Outcome} {c : Cost} → ReadyNow (what_runs (closure t e) (body_of p u e) q) L o c → Runs Q t p u e q L o c
+  opened_runs None A = runs_first (opened_part A)
+  opened_runs (Some v) A = runs_body (opened_part A)
+
   meet : {P P' : Process} → AlikeProcess d P P' → {L : Life} {o : Outcome} {c : Cost} → ReadyNow P L o c → Lowered d (Gives n' P' L o) c
   meet (alike_closure {e = e} {e' = e'} T E) A = elim (goes_part (go T) e e' E (opened_part A)) [ lowered B h ↦ lowered (closed_part n' B) h ]
 
@@ -237,7 +250,9 @@ module _ (d : Bool) (n n' : Network) (all : AlikeAll d n.templates n'.templates)
     ready_form (of_join A B C) k = at_join (opened_all (ready_all A)) (opened_part (ready_gives B)) (ready_next C)
     ready_form (of_side A) k = at_side (opened_part (ready_gives A))
     ready_form (of_loop {i = i} {e = e} A B) k = at_loop (made_answer (eval i (scope_around n.functions e)) k) (ready_loops A) (opened_part (ready_gives B))
+    ready_form (of_initialized {i = i} {e = e} A) k = at_initialized (made_answer (eval i (scope_around n.functions e)) k) (opened_part (ready_gives A))
     ready_form (of_switch A B) k = at_switch (ready_watches A) (ready_turns B refl)
+    ready_form (of_recurring {L = L} A B) k = at_recurring (opened_runs (last_event L) (ready_gives A)) (ready_bodies B refl)
     ready_form (of_stages A B C) k = at_stages (opened_all (ready_all A)) (opened_part (ready_gives B)) (ready_next C)
 
     ready_gives : {P : Process} {L : Life} {o : Outcome} {c : Cost} → Gives n P L o c → ReadyNow P L o c
@@ -260,15 +275,15 @@ module _ (d : Bool) (n n' : Network) (all : AlikeAll d n.templates n'.templates)
     ready_watches (watched A B h) = then_watched (ready_watches A) (opened_part (ready_gives B)) h
     ready_watches (had_fired A) = fired_before (ready_watches A)
 
-    ready_turns : {w : Switching} {t u : Term} {p : Pattern} {e : Environment} {B : Data → Process} {s : Step} {L : Life} {st : Standing} {o : Outcome} {c : Cost} → SwitchTurn n w (closure t e) B s L st o c → B ≡ body_of p u e → Turns Q w t p u e s L st o c
+    ready_turns : {w : Observation} {t u : Term} {p : Pattern} {e : Environment} {B : Data → Process} {s : Step} {L : Life} {st : Standing} {o : Outcome} {c : Cost} → SwitchTurn n w (closure t e) B s L st o c → B ≡ body_of p u e → Turns Q w t p u e s L st o c
     ready_turns (while_waiting A C) h = turn_waits (opened_part (ready_gives A)) (ready_switches C h)
     ready_turns {p = p} {e = e} (as_body {v = v} A) h = turn_body (opened_body p e h v (ready_gives A))
 
-    ready_switches : {w : Switching} {u : Term} {p : Pattern} {e : Environment} {B : Data → Process} {s : Step} {o o' : Outcome} {c : Cost} → Switched n w B s o o' c → B ≡ body_of p u e → Switches Q w p u e s o o' c
+    ready_switches : {w : Observation} {u : Term} {p : Pattern} {e : Environment} {B : Data → Process} {s : Step} {o o' : Outcome} {c : Cost} → Switched n w B s o o' c → B ≡ body_of p u e → Switches Q w p u e s o o' c
     ready_switches after_fault h = switch_stops
     ready_switches (after_value A) h = switch_goes (ready_bodies A h)
 
-    ready_bodies : {w : Switching} {u : Term} {p : Pattern} {e : Environment} {B : Data → Process} {s : Step} {o : Outcome} {q : Option Data} {o' : Outcome} {c : Cost} → Fires n w B s o q o' c → B ≡ body_of p u e → Bodies Q w p u e s o q o' c
+    ready_bodies : {w : Observation} {u : Term} {p : Pattern} {e : Environment} {B : Data → Process} {s : Step} {o : Outcome} {q : Option Data} {o' : Outcome} {c : Cost} → Fires n w B s o q o' c → B ≡ body_of p u e → Bodies Q w p u e s o q o' c
     ready_bodies no_event_yet h = no_body
     ready_bodies {p = p} {e = e} (event_now {v = v} A) h = body_begins (opened_body p e h v (ready_gives A))
 

@@ -4,13 +4,13 @@ use Rattle.sf_value.specs.Values.{Data}
 use Rattle.sf_value.specs.declared.fault.ValueFault.{ValueFault}
 use Rattle.sf_expr.specs.Evaluation.{Evaluated, answer, failed, ◌>>=◌}
 use Rattle.sf_expr.specs.Expressions.{Pattern}
-use Rattle.sf_term.specs.declared.form.Switching.{Switching}
+use Rattle.sf_term.specs.declared.form.Observation.{Observation}
 use Rattle.sf_term.specs.Trees.{Term}
 use Rattle.sf_mean.specs.Lives.{Step, Life, closure, Environment}
-use Rattle.sf_mean.specs.Meaning.{Network, Outcome, Cost, Made, value_made, Standing, body_of, Gives, gives, Outputs, not_begun, and_gave, Sample, of_constants, of_form, of_primitive, of_join, of_side, of_loop, of_switch, of_stages, Next, goes_on, stops, Loops, no_loop, and_looped, Since, at_start, watched, had_fired, SwitchTurn, while_waiting, as_body, Switched, after_fault, after_value, Fires, no_event_yet, event_now}
+use Rattle.sf_mean.specs.Meaning.{Network, Outcome, Cost, Made, value_made, Standing, body_of, Gives, gives, Outputs, not_begun, and_gave, Sample, of_constants, of_form, of_primitive, of_join, of_side, of_loop, of_initialized, of_switch, of_recurring, of_stages, what_runs, Next, goes_on, stops, Loops, no_loop, and_looped, Since, at_start, watched, had_fired, SwitchTurn, while_waiting, as_body, Switched, after_fault, after_value, Fires, no_event_yet, event_now}
 use Rattle.sf_mean.proofs.Once.{fault_of}
 use Rattle.sf_mean.proofs.TypedProcesses.{made_in}
-use Rattle.sf_rewrite.proofs.Parts.{Leaves, Part, part, Parts, begins, then_gave, At, at_leaf, at_primitive, at_join, at_stages, at_side, at_loop, at_constant, at_switch, Then, then_part, then_stops, Rounds, no_round, one_round, Watches, watch_begins, then_watched, fired_before, Turns, turn_waits, turn_body, Switches, switch_stops, switch_goes, Bodies, no_body, body_begins}
+use Rattle.sf_rewrite.proofs.Parts.{Leaves, Part, part, Parts, begins, then_gave, At, at_leaf, at_primitive, at_join, at_stages, at_side, at_loop, at_initialized, at_constant, at_switch, at_recurring, Then, then_part, then_stops, Rounds, no_round, one_round, Watches, watch_begins, then_watched, fired_before, Turns, turn_waits, turn_body, Switches, switch_stops, switch_goes, Runs, runs_first, runs_body, Bodies, no_body, body_begins}
 
 -- a head's value, from what a form is made with
 abbrev made : Evaluated Data → Evaluated Made
@@ -37,8 +37,10 @@ module _ (n : Network) where
     closed (at_stages A B C) = of_form refl (of_stages (closed_all A) (closed_part B) (closed_then C))
     closed (at_side A) = of_form refl (of_side (closed_part A))
     closed (at_loop h A B) = of_form (ap made h) (of_loop (closed_rounds A) (closed_part B))
+    closed (at_initialized h A) = of_form (ap made h) (of_initialized (closed_part A))
     closed (at_constant h) = of_constants (ap made h)
     closed (at_switch A B) = of_form refl (of_switch (closed_watches A) (closed_turns B))
+    closed (at_recurring A B) = of_form refl (of_recurring (closed_runs A) (closed_bodies B))
 
     pub closed_part : {t : Term} {e : Environment} {L : Life} {o : Outcome} {c : Cost} → Part Leaf t e L o c → Gives n (closure t e) L o c
     closed_part (part A B) = gives (closed_all A) (closed B)
@@ -60,14 +62,18 @@ module _ (n : Network) where
     closed_watches (then_watched A B h) = watched (closed_watches A) (closed_part B) h
     closed_watches (fired_before A) = had_fired (closed_watches A)
 
-    closed_turns : {w : Switching} {t u : Term} {p : Pattern} {e : Environment} {s : Step} {L : Life} {st : Standing} {o : Outcome} {c : Cost} → Turns Leaf w t p u e s L st o c → SwitchTurn n w (closure t e) (body_of p u e) s L st o c
+    closed_turns : {w : Observation} {t u : Term} {p : Pattern} {e : Environment} {s : Step} {L : Life} {st : Standing} {o : Outcome} {c : Cost} → Turns Leaf w t p u e s L st o c → SwitchTurn n w (closure t e) (body_of p u e) s L st o c
     closed_turns (turn_waits A B) = while_waiting (closed_part A) (closed_switches B)
     closed_turns (turn_body A) = as_body (closed_part A)
 
-    closed_switches : {w : Switching} {u : Term} {p : Pattern} {e : Environment} {s : Step} {o o' : Outcome} {c : Cost} → Switches Leaf w p u e s o o' c → Switched n w (body_of p u e) s o o' c
+    closed_switches : {w : Observation} {u : Term} {p : Pattern} {e : Environment} {s : Step} {o o' : Outcome} {c : Cost} → Switches Leaf w p u e s o o' c → Switched n w (body_of p u e) s o o' c
     closed_switches switch_stops = after_fault
     closed_switches (switch_goes A) = after_value (closed_bodies A)
 
-    closed_bodies : {w : Switching} {u : Term} {p : Pattern} {e : Environment} {s : Step} {o : Outcome} {q : Option Data} {o' : Outcome} {c : Cost} → Bodies Leaf w p u e s o q o' c → Fires n w (body_of p u e) s o q o' c
+    closed_runs : {t u : Term} {p : Pattern} {e : Environment} {q : Option Data} {L : Life} {o : Outcome} {c : Cost} → Runs Leaf t p u e q L o c → Gives n (what_runs (closure t e) (body_of p u e) q) L o c
+    closed_runs (runs_first A) = closed_part A
+    closed_runs (runs_body A) = closed_part A
+
+    closed_bodies : {w : Observation} {u : Term} {p : Pattern} {e : Environment} {s : Step} {o : Outcome} {q : Option Data} {o' : Outcome} {c : Cost} → Bodies Leaf w p u e s o q o' c → Fires n w (body_of p u e) s o q o' c
     closed_bodies no_body = no_event_yet
     closed_bodies (body_begins A) = event_now (closed_part A)

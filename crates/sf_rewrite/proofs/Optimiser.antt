@@ -3,14 +3,15 @@ use Rattle.std.proofs.Common.{pos, ◌≡◌, Bool, true, false, IsTrue, refl, s
 use Rattle.sf_operator.specs.declared.operator.Operator.TheVariants.{Arithmetic}
 use Rattle.sf_operator.specs.declared.operator.Arithmetic.TheVariants.{Divide}
 use Rattle.sf_expr.specs.Expressions.{Expression, unnamed, literal, int_literal, operation, Function, function}
-use Rattle.sf_term.specs.declared.form.Bare.TheVariants.{Identity, LocalTime, Integral, Edge, NotYet, Count}
-use Rattle.sf_term.specs.declared.form.WithValue.TheVariants.{Constant, InitialPre, Now, Hold}
+use Rattle.sf_term.specs.declared.form.Bare.TheVariants.{Identity, LocalTime, Integral, Edge, NotYet, Count, Pre}
+use Rattle.sf_term.specs.declared.form.WithValue.TheVariants.{Constant, InitialPre, InitializedPre, Now, Hold}
 use Rattle.sf_term.specs.declared.form.Join.TheVariants.{InSequence, InParallel, FannedOut}
 use Rattle.sf_term.specs.declared.form.Side.{Side}
 use Rattle.sf_term.specs.declared.form.Side.TheVariants.{First, Second}
-use Rattle.sf_term.specs.declared.form.Heading.TheVariants.{LoopPre}
-use Rattle.sf_term.specs.declared.form.Switching.TheVariants.{Switch}
+use Rattle.sf_term.specs.declared.form.Heading.TheVariants.{LoopPre, Initialized}
+use Rattle.sf_term.specs.declared.form.Switching.TheVariants.{Basic, Recurring}
 use Rattle.sf_term.specs.Trees.{Chain, lone, chained, on_side, on_both, fanned, bare, never, with_value, timed, arrow, accumulated, fused, Extent, whole, rest, Term, primitive, joined, sided, headed, switching, staged}
+use Rattle.sf_term.specs.declared.form.Observation.TheVariants.{Immediate, Delayed}
 use Rattle.sf_rewrite.specs.Quiet.{is_quiet_expression, is_quiet}
 use Rattle.sf_rewrite.specs.Laws.{identity, constant, arr, loop_pre, Laws, unchanged, in_turn, in_join, in_stages, in_side, as_pipeline, within_pipeline, associate_right, associate_left, identity_before, identity_after, arr_as_chain, arr_composed, arr_on_side, arr_in_parallel, arr_fanned_out, sides_composed, exchanged, constant_after, left_tightened, right_tightened}
 use Rattle.sf_rewrite.specs.Plans.{Plans, plans, of_primitive, of_join, of_side, of_heading, of_switch}
@@ -57,6 +58,7 @@ constant_view (primitive (bare k)) = no_constant
 constant_view (primitive (never t)) = no_constant
 constant_view (primitive (with_value Constant i)) = a_constant i refl
 constant_view (primitive (with_value InitialPre i)) = no_constant
+constant_view (primitive (with_value InitializedPre i)) = no_constant
 constant_view (primitive (with_value Now i)) = no_constant
 constant_view (primitive (with_value Hold i)) = no_constant
 constant_view (primitive (arrow f)) = no_constant
@@ -164,6 +166,7 @@ stages (plan_primitive {p = bare Integral}) = one_stage refl
 stages (plan_primitive {p = bare Edge}) = one_stage refl
 stages (plan_primitive {p = bare NotYet}) = one_stage refl
 stages (plan_primitive {p = bare Count}) = one_stage refl
+stages (plan_primitive {p = bare Pre}) = one_stage refl
 stages (plan_primitive {p = with_value k i}) = one_stage refl
 stages (plan_primitive {p = arrow f}) = one_stage refl
 stages (plan_primitive {p = timed k q i}) = one_stage refl
@@ -303,6 +306,9 @@ optimised (headed LoopPre i t) h =
     let p = optimised t h in
     let k = in_loop p.is in
     record { term = k.term; plans = plans (of_heading p.plans) k.law; is = k.is }
+optimised (headed Initialized i t) h =
+    let p = optimised t h in
+    record { term = headed Initialized i p.term; plans = plans (of_heading p.plans) unchanged; is = plan_heading p.is }
 optimised (switching w t p u) h =
     let k = both_true (is_written t) (is_written u) h in
     let a = optimised t k.0 in
@@ -420,6 +426,10 @@ unfolding optimised in_sequence one_after_another before_tail tail stages headed
 right_tightened_applied = refl
 
 -- in the source of a switch, and in its body
-in_switch_applied : (optimised (switching Switch (joined InSequence identity f) unnamed (joined InSequence g identity)) refl).term ≡ switching Switch f unnamed g
+in_switch_applied : (optimised (switching (Basic Immediate) (joined InSequence identity f) unnamed (joined InSequence g identity)) refl).term ≡ switching (Basic Immediate) f unnamed g
 unfolding optimised in_sequence one_after_another before_tail tail stages headed_by pushed appended merged arrs before_constant arr_view constant_view in_parallel side_by_side fanned_out both_on on_a_side in_loop before_loop looped compose_sides exchange in_planned decided
 in_switch_applied = refl
+
+in_recurring_applied : (optimised (switching (Recurring Delayed) (joined InSequence identity f) unnamed (joined InSequence g identity)) refl).term ≡ switching (Recurring Delayed) f unnamed g
+unfolding optimised in_sequence one_after_another before_tail tail stages headed_by pushed appended merged arrs before_constant arr_view constant_view in_parallel side_by_side fanned_out both_on on_a_side in_loop before_loop looped compose_sides exchange in_planned decided
+in_recurring_applied = refl

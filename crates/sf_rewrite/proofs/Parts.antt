@@ -11,12 +11,13 @@ use Rattle.sf_term.specs.declared.form.Join.{Join}
 use Rattle.sf_term.specs.declared.form.Join.TheVariants.{InSequence}
 use Rattle.sf_term.specs.declared.form.Side.{Side}
 use Rattle.sf_term.specs.declared.form.Heading.{Heading}
-use Rattle.sf_term.specs.declared.form.Heading.TheVariants.{LoopPre}
-use Rattle.sf_term.specs.declared.form.Switching.{Switching}
+use Rattle.sf_term.specs.declared.form.Heading.TheVariants.{LoopPre, Initialized}
+use Rattle.sf_term.specs.declared.form.Observation.{Observation}
+use Rattle.sf_term.specs.declared.form.Switching.TheVariants.{Basic, Recurring}
 use Rattle.sf_term.specs.Trees.{Primitive, Extent, Term, primitive, joined, sided, headed, switching, staged}
 use Rattle.sf_mean.specs.Lives.{Step, input_of, Life, Environment, scope_around, bind, with_inputs, relay, fed}
-use Rattle.sf_mean.specs.Formulas.{occurring, side_of, with_side, formula}
-use Rattle.sf_mean.specs.Meaning.{Readings, Outcome, gave, faulted, changed, combined, value_in, as_outcome, Cost, no_cost, both_costs, over, over_stages, one_term, text_cost, left_life, right_life, join_value, Standing, waits, fired, stands_after, switched_value}
+use Rattle.sf_mean.specs.Formulas.{at_first, occurring, side_of, with_side, formula}
+use Rattle.sf_mean.specs.Meaning.{Readings, Outcome, gave, faulted, changed, combined, value_in, as_outcome, Cost, no_cost, both_costs, over, over_stages, one_term, text_cost, left_life, right_life, join_value, Standing, waits, fired, stands_after, switched_value, event_beside, last_event, since_event, unless_faulted, without_event}
 
 -- what stored functions answer, and what a form that no law looks into gives at a step
 pub record Leaves : Type 1 where
@@ -64,13 +65,21 @@ mutual
         → Rounds Q v t e L zs
         → Part Q t e (fed v (s ∷ L) zs) o c
         → At Q (headed LoopPre i t) e s L (changed first_of o) (over c)
+    at_initialized : {i : Expression} {t : Term} {e : Environment} {v : Data} {s : Step} {L : Life} {o : Outcome} {c : Cost}
+        → eval i (scope_around Q.functions e) ≡ answer v
+        → Part Q t e (s ∷ L) o c
+        → At Q (headed Initialized i t) e s L (changed (at_first L v) o) (over c)
     at_constant : {h : Heading} {i : Expression} {t : Term} {e : Environment} {x : ValueFault} {s : Step}
         → eval i (scope_around Q.functions e) ≡ failed x
         → At Q (headed h i t) e s [] (faulted x) (over (text_cost t))
-    at_switch : {w : Switching} {t u : Term} {p : Pattern} {e : Environment} {s : Step} {L : Life} {st : Standing} {o : Outcome} {c : Cost}
+    at_switch : {w : Observation} {t u : Term} {p : Pattern} {e : Environment} {s : Step} {L : Life} {st : Standing} {o : Outcome} {c : Cost}
         → Watches Q t e L st
         → Turns Q w t p u e s L st o c
-        → At Q (switching w t p u) e s L o c
+        → At Q (switching (Basic w) t p u) e s L o c
+    at_recurring : {w : Observation} {t u : Term} {p : Pattern} {e : Environment} {s : Step} {L : Life} {o o' : Outcome} {c c' : Cost}
+        → Runs Q t p u e (last_event L) (with_inputs first_of (s ∷ since_event L)) o c
+        → Bodies Q w p u e (without_event s) o (unless_faulted o (event_beside s)) o' c'
+        → At Q (switching (Recurring w) t p u) e s L o' (over (both_costs c c'))
 
   pub data Then (Q : Leaves) : Outcome → Term → Environment → Life → Outcome → Cost → Type 0 where
     then_part : {t : Term} {e : Environment} {L : Life} {y : Data} {r : Readings} {o : Outcome} {c : Cost}
@@ -97,26 +106,31 @@ mutual
         → Watches Q t e (s ∷ L) (fired v (s ∷ M))
 
   -- a switch's next step
-  pub data Turns (Q : Leaves) : Switching → Term → Pattern → Term → Environment → Step → Life → Standing → Outcome → Cost → Type 0 where
-    turn_waits : {w : Switching} {t u : Term} {p : Pattern} {e : Environment} {s : Step} {L : Life} {o o' : Outcome} {c c' : Cost}
+  pub data Turns (Q : Leaves) : Observation → Term → Pattern → Term → Environment → Step → Life → Standing → Outcome → Cost → Type 0 where
+    turn_waits : {w : Observation} {t u : Term} {p : Pattern} {e : Environment} {s : Step} {L : Life} {o o' : Outcome} {c c' : Cost}
         → Part Q t e (s ∷ L) o c
         → Switches Q w p u e s o o' c'
         → Turns Q w t p u e s L waits o' (over (both_costs c c'))
-    turn_body : {w : Switching} {t u : Term} {p : Pattern} {e : Environment} {s : Step} {L M : Life} {v : Data} {o : Outcome} {c : Cost}
+    turn_body : {w : Observation} {t u : Term} {p : Pattern} {e : Environment} {s : Step} {L M : Life} {v : Data} {o : Outcome} {c : Cost}
         → Part Q u (bind p v e) (s ∷ M) o c
         → Turns Q w t p u e s L (fired v M) o c
 
   -- what comes after the source
-  pub data Switches (Q : Leaves) : Switching → Pattern → Term → Environment → Step → Outcome → Outcome → Cost → Type 0 where
-    switch_stops : {w : Switching} {u : Term} {p : Pattern} {e : Environment} {s : Step} {x : ValueFault} → Switches Q w p u e s (faulted x) (faulted x) no_cost
-    switch_goes : {w : Switching} {u : Term} {p : Pattern} {e : Environment} {s : Step} {y : Data} {r : Readings} {o : Outcome} {c : Cost}
+  pub data Switches (Q : Leaves) : Observation → Pattern → Term → Environment → Step → Outcome → Outcome → Cost → Type 0 where
+    switch_stops : {w : Observation} {u : Term} {p : Pattern} {e : Environment} {s : Step} {x : ValueFault} → Switches Q w p u e s (faulted x) (faulted x) no_cost
+    switch_goes : {w : Observation} {u : Term} {p : Pattern} {e : Environment} {s : Step} {y : Data} {r : Readings} {o : Outcome} {c : Cost}
         → Bodies Q w p u e s (gave (first_of y) r) (occurring (second_of y)) o c
         → Switches Q w p u e s (gave y r) o c
 
+  -- what runs in a recurring switch, where the last event had this payload
+  pub data Runs (Q : Leaves) : Term → Pattern → Term → Environment → Option Data → Life → Outcome → Cost → Type 0 where
+    runs_first : {t u : Term} {p : Pattern} {e : Environment} {L : Life} {o : Outcome} {c : Cost} → Part Q t e L o c → Runs Q t p u e None L o c
+    runs_body : {t u : Term} {p : Pattern} {e : Environment} {L : Life} {v : Data} {o : Outcome} {c : Cost} → Part Q u (bind p v e) L o c → Runs Q t p u e (Some v) L o c
+
   -- what comes of the payload, if there is one
-  pub data Bodies (Q : Leaves) : Switching → Pattern → Term → Environment → Step → Outcome → Option Data → Outcome → Cost → Type 0 where
-    no_body : {w : Switching} {u : Term} {p : Pattern} {e : Environment} {s : Step} {o : Outcome} → Bodies Q w p u e s o None o no_cost
-    body_begins : {w : Switching} {u : Term} {p : Pattern} {e : Environment} {s : Step} {o o' : Outcome} {v : Data} {c : Cost}
+  pub data Bodies (Q : Leaves) : Observation → Pattern → Term → Environment → Step → Outcome → Option Data → Outcome → Cost → Type 0 where
+    no_body : {w : Observation} {u : Term} {p : Pattern} {e : Environment} {s : Step} {o : Outcome} → Bodies Q w p u e s o None o no_cost
+    body_begins : {w : Observation} {u : Term} {p : Pattern} {e : Environment} {s : Step} {o o' : Outcome} {v : Data} {c : Cost}
         → Part Q u (bind p v e) (s ∷ []) o' c
         → Bodies Q w p u e s o (Some v) (combined (switched_value w) o o') c
 
@@ -165,15 +179,19 @@ module _ (Q : Leaves) (one : OneLeaf Q) where
     once_at (at_leaf h A) (at_stages B C D) = absurd (no_truth h)
     once_at (at_leaf h A) (at_side B) = absurd (no_truth h)
     once_at (at_leaf h A) (at_loop B C D) = absurd (no_truth h)
+    once_at (at_leaf h A) (at_initialized B C) = absurd (no_truth h)
     once_at (at_leaf h A) (at_constant B) = absurd (no_truth h)
     once_at (at_leaf h A) (at_switch B C) = absurd (no_truth h)
+    once_at (at_leaf h A) (at_recurring B C) = absurd (no_truth h)
     once_at at_primitive (at_leaf h A) = absurd (no_truth h)
     once_at (at_join B C D) (at_leaf h A) = absurd (no_truth h)
     once_at (at_stages B C D) (at_leaf h A) = absurd (no_truth h)
     once_at (at_side B) (at_leaf h A) = absurd (no_truth h)
     once_at (at_loop B C D) (at_leaf h A) = absurd (no_truth h)
+    once_at (at_initialized B C) (at_leaf h A) = absurd (no_truth h)
     once_at (at_constant B) (at_leaf h A) = absurd (no_truth h)
     once_at (at_switch B C) (at_leaf h A) = absurd (no_truth h)
+    once_at (at_recurring B C) (at_leaf h A) = absurd (no_truth h)
     once_at at_primitive at_primitive = (refl, refl)
     once_at (at_join {j = j} {g = g} {e = e} {s = s} {L = L} A B C) (at_join {ys = zs} {o = q} {o' = b} {c' = d} A' B' C') =
         let e1 = onces A A' in
@@ -195,12 +213,26 @@ module _ (Q : Leaves) (one : OneLeaf Q) where
         let N : Data → List Data → Type 0 = λ x l. Part Q t e (fed x (s ∷ L) l) b d in
         let e2 = once B (subst₂ N ev (sym e1) B') in
         (ap (changed first_of) e2.0, ap over e2.1)
+    once_at (at_initialized {L = L} h A) (at_initialized {o = b} h' B) =
+        let q = once A B in
+        (ap₂ (λ x o. changed (at_first L x) o) (ap the_answer (sym h ∙ h')) q.0, ap over q.1)
+    once_at (at_initialized h A) (at_constant h') = absurd (no_fault (sym h ∙ h'))
+    once_at (at_constant h) (at_initialized h' A) = absurd (no_fault (sym h' ∙ h))
     once_at (at_loop h A B) (at_constant h') = absurd (no_fault (sym h ∙ h'))
     once_at (at_constant h) (at_loop h' A B) = absurd (no_fault (sym h' ∙ h))
     once_at (at_constant {x = x} h) (at_constant h') = (ap (λ v. faulted (the_fault x v)) (sym h ∙ h'), refl)
     once_at (at_switch {w = w} {t = t} {u = u} {p = p} {e = e} {s = s} {L = L} A B) (at_switch {o = b} {c = d} A' B') =
         let N : Standing → Type 0 = λ st. Turns Q w t p u e s L st b d in
         once_turns B (subst N (sym (once_watches A A')) B')
+    once_at (at_recurring {w = w} {u = u} {p = p} {e = e} {s = s} A B) (at_recurring {o' = b} {c' = d} A' B') =
+        let e1 = once_runs A A' in
+        let N : Outcome → Type 0 = λ o. Bodies Q w p u e (without_event s) o (unless_faulted o (event_beside s)) b d in
+        let e2 = once_bodies B (subst N (sym e1.0) B') in
+        (e2.0, ap₂ (λ x y. over (both_costs x y)) e1.1 e2.1)
+
+    once_runs : {t u : Term} {p : Pattern} {e : Environment} {q : Option Data} {L : Life} {a b : Outcome} {c d : Cost} → Runs Q t p u e q L a c → Runs Q t p u e q L b d → Same a b c d
+    once_runs (runs_first A) (runs_first B) = once A B
+    once_runs (runs_body A) (runs_body B) = once A B
 
     pub once_then : {t : Term} {e : Environment} {L : Life} {o a b : Outcome} {c d : Cost} → Then Q o t e L a c → Then Q o t e L b d → Same a b c d
     once_then (then_part A) (then_part B) = once A B
@@ -221,7 +253,7 @@ module _ (Q : Leaves) (one : OneLeaf Q) where
     once_watches (fired_before A) (then_watched A' B' h') = absurd (not_fired (sym (once_watches A A')))
     once_watches (fired_before {s = s} A) (fired_before A') = ap (later_standing s) (once_watches A A')
 
-    once_turns : {w : Switching} {t u : Term} {p : Pattern} {e : Environment} {s : Step} {L : Life} {st : Standing} {a b : Outcome} {c d : Cost} → Turns Q w t p u e s L st a c → Turns Q w t p u e s L st b d → Same a b c d
+    once_turns : {w : Observation} {t u : Term} {p : Pattern} {e : Environment} {s : Step} {L : Life} {st : Standing} {a b : Outcome} {c d : Cost} → Turns Q w t p u e s L st a c → Turns Q w t p u e s L st b d → Same a b c d
     once_turns (turn_waits {w = w} {u = u} {p = p} {e = e} {s = s} A C) (turn_waits {o' = b} {c' = d} A' C') =
         let e2 = once A A' in
         let N : Outcome → Type 0 = λ q. Switches Q w p u e s q b d in
@@ -229,10 +261,10 @@ module _ (Q : Leaves) (one : OneLeaf Q) where
         (e3.0, ap₂ (λ x y. over (both_costs x y)) e2.1 e3.1)
     once_turns (turn_body A) (turn_body B) = once A B
 
-    once_switches : {w : Switching} {u : Term} {p : Pattern} {e : Environment} {s : Step} {o a b : Outcome} {c d : Cost} → Switches Q w p u e s o a c → Switches Q w p u e s o b d → Same a b c d
+    once_switches : {w : Observation} {u : Term} {p : Pattern} {e : Environment} {s : Step} {o a b : Outcome} {c d : Cost} → Switches Q w p u e s o a c → Switches Q w p u e s o b d → Same a b c d
     once_switches switch_stops switch_stops = (refl, refl)
     once_switches (switch_goes A) (switch_goes B) = once_bodies A B
 
-    once_bodies : {w : Switching} {u : Term} {p : Pattern} {e : Environment} {s : Step} {o : Outcome} {q : Option Data} {a b : Outcome} {c d : Cost} → Bodies Q w p u e s o q a c → Bodies Q w p u e s o q b d → Same a b c d
+    once_bodies : {w : Observation} {u : Term} {p : Pattern} {e : Environment} {s : Step} {o : Outcome} {q : Option Data} {a b : Outcome} {c d : Cost} → Bodies Q w p u e s o q a c → Bodies Q w p u e s o q b d → Same a b c d
     once_bodies no_body no_body = (refl, refl)
     once_bodies (body_begins {w = w} {o = o} A) (body_begins B) = let r = once A B in (ap (combined (switched_value w) o) r.0, r.1)

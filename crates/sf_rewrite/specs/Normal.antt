@@ -1,7 +1,7 @@
 -- What a plan looks like when no law about pipelines is left to apply.
 use Rattle.std.specs.Prelude.{Bool, true, false, ◌&&◌, IsTrue}
 use Rattle.sf_expr.specs.Expressions.{Pattern, Expression}
-use Rattle.sf_term.specs.declared.form.Bare.TheVariants.{Identity, LocalTime, Integral, Edge, NotYet, Count}
+use Rattle.sf_term.specs.declared.form.Bare.TheVariants.{Identity, LocalTime, Integral, Edge, NotYet, Count, Pre}
 use Rattle.sf_term.specs.declared.form.Join.{Join}
 use Rattle.sf_term.specs.declared.form.Join.TheVariants.{InSequence, InParallel, FannedOut}
 use Rattle.sf_term.specs.declared.form.Side.{Side}
@@ -39,6 +39,7 @@ is_stage (primitive (bare Edge)) = true
 is_stage (primitive (bare NotYet)) = true
 is_stage (primitive (bare Count)) = true
 is_stage (primitive (never t)) = true
+is_stage (primitive (bare Pre)) = true
 is_stage (primitive (with_value k i)) = true
 is_stage (primitive (arrow f)) = true
 is_stage (primitive (timed k q i)) = true

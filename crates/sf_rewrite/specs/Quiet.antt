@@ -8,7 +8,7 @@ use Rattle.sf_operator.specs.declared.operator.Operator.TheVariants.{Arithmetic,
 use Rattle.sf_operator.specs.declared.operator.Merge.TheVariants.{Exclusive}
 use Rattle.sf_expr.specs.Expressions.{Expression, variable, literal, paired, applied, operation, conditional, mapped, folded, called, Function, function}
 use Rattle.sf_term.specs.declared.form.Bare.{Bare}
-use Rattle.sf_term.specs.declared.form.Bare.TheVariants.{Identity, LocalTime, Integral, Edge, NotYet, Count}
+use Rattle.sf_term.specs.declared.form.Bare.TheVariants.{Identity, LocalTime, Integral, Edge, NotYet, Count, Pre}
 use Rattle.sf_term.specs.Trees.{Chain, lone, chained, on_side, on_both, fanned, Primitive, bare, never, with_value, timed, arrow, accumulated, fused, Term, primitive, joined, sided, headed, switching, staged}
 
 -- an operator on a value that always makes one; a table may have more keys than there are numbers
@@ -55,6 +55,7 @@ is_quiet_bare Integral = false
 is_quiet_bare Edge = true
 is_quiet_bare NotYet = true
 is_quiet_bare Count = false
+is_quiet_bare Pre = true
 
 -- such a primitive, or one of a quiet expression or function
 abbrev pub is_quiet_primitive : Primitive → Bool

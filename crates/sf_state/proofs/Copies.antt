@@ -20,7 +20,7 @@ use Rattle.sf_state.specs.declared.state.Wrap.{Wrap}
 use Rattle.sf_state.specs.declared.state.Process.{Process as SProcess}
 use Rattle.sf_state.specs.declared.state.Switch.{Switch}
 use Rattle.sf_state.specs.declared.env.Env.{Env}
-use Rattle.sf_state.specs.Standing.{Wraps, Stands, itself, took_over, StandsItself, unborn, alive, watching, Waits, waits_so, Settles, settles, ready, Lives, lives_primitive, lives_join, lives_pipeline, lives_wrap, IsPipeline, StagesStand, last_stands, stage_stands, IsProcess, is_closure, IsNames, AllFollow, none_follow, more_follow}
+use Rattle.sf_state.specs.Standing.{Wraps, Stands, itself, took_over, StandsItself, unborn, alive, watching, Waits, waits_so, recurs_so, Settles, settles, ready, Lives, lives_primitive, lives_join, lives_pipeline, lives_wrap, IsPipeline, StagesStand, last_stands, stage_stands, IsProcess, is_closure, IsNames, AllFollow, none_follow, more_follow}
 
 -- a process with the same names, shared
 pub process_follows : (p : Plan) (q : SProcess) (names : Env) → ((e : Environment) → IsNames p q.names e → IsNames p names e) → (P : Process) → IsProcess p q P → IsProcess p (record { term = q.term; names = names }) P
@@ -62,14 +62,15 @@ module _ (φ : AnswersByName) (p : Plan) where
   pub same_waits : (s r : Switch) → r ≡ s → SwitchFollows s r
   same_waits s r e P L S = subst (λ (s : Switch). Waits φ p s P L) (sym e) S
 
-  pub watching_follows : {at at' : _} (names around : Env) (s r : Switch) → ((e : Environment) → IsNames p names e → IsNames p around e) → SwitchFollows s r → Follows (Watching' names at s.form s.source s.pattern s.body) (Watching' around at' r.form r.source r.pattern r.body)
-  watching_follows {at} {at'} names around s r h f = itself_follows (Watching' names at s.form s.source s.pattern s.body) (Watching' around at' r.form r.source r.pattern r.body) step
+  pub watching_follows : {at at' : _} (names around : Env) (s r : Switch) → ((e : Environment) → IsNames p names e → IsNames p around e) → SwitchFollows s r → Follows (Watching' names at s.form s.running s.pattern s.body) (Watching' around at' r.form r.running r.pattern r.body)
+  watching_follows {at} {at'} names around s r h f = itself_follows (Watching' names at s.form s.running s.pattern s.body) (Watching' around at' r.form r.running r.pattern r.body) step
     where
-      step : (P : Process) (L : Life) → StandsItself φ p (Watching' names at s.form s.source s.pattern s.body) P L → StandsItself φ p (Watching' around at' r.form r.source r.pattern r.body) P L
+      step : (P : Process) (L : Life) → StandsItself φ p (Watching' names at s.form s.running s.pattern s.body) P L → StandsItself φ p (Watching' around at' r.form r.running r.pattern r.body) P L
       step P L (watching N W) = watching (h _ N) (f _ _ W)
 
-  pub switch_follows : (s : Switch) (a : State) → Follows s.source a → SwitchFollows s (record { form = s.form; source = a; pattern = s.pattern; body = s.body })
-  switch_follows s a f P L (waits_so S O A) = waits_so S O (f _ _ A)
+  pub switch_follows : (s : Switch) (a : State) → Follows s.running a → SwitchFollows s (record { form = s.form; running = a; pattern = s.pattern; body = s.body })
+  switch_follows s a f P L (waits_so k S O A) = waits_so k S O (f _ _ A)
+  switch_follows s a f P L (recurs_so k O A) = recurs_so k O (f _ _ A)
 
   pub prim_follows : (i i' : PrimState) → ((q : Primitive) (scope : Scope) (L : Life) → Remembers i q scope L → Remembers i' q scope L) → NodeFollows (LPrim i) (LPrim i')
   prim_follows i i' f P L (settles (ready h O (lives_primitive K))) = settles (ready h O (lives_primitive (f _ _ _ K)))

@@ -1,9 +1,9 @@
 -- The names around a part are those of its environment.
-use Rattle.std.proofs.Common.{◌≡◌, ◌∷◌, refl, ap, sym, ◌∙◌, subst}
+use Rattle.std.proofs.Common.{◌≡◌, refl, ap, sym, ◌∙◌, subst}
 use Rattle.sf_value.specs.Values.{Data, first_of, second_of}
 use Rattle.sf_func.specs.Registries.{AnswersByName}
 use Rattle.sf_expr.specs.Expressions.{Pattern, unnamed, named, both}
-use Rattle.sf_expr.specs.Evaluation.{Scope, functions_in, value_name, bound_in}
+use Rattle.sf_expr.specs.Evaluation.{functions_in, bound_in}
 use Rattle.sf_expr.specs.Patterns.{pattern_of}
 use Rattle.sf_expr.specs.Arena.{placed_at}
 use Rattle.sf_code.specs.Names.{ValuesByName, scope_with}

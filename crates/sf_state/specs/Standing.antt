@@ -1,6 +1,6 @@
 -- What states stand for.
-use Rattle.std.specs.Prelude.{◌≡◌, ◌≢◌, List, [], ◌∷◌}
-use Rattle.sf_value.specs.Values.{Data}
+use Rattle.std.specs.Prelude.{◌≡◌, ◌≢◌, List, [], ◌∷◌, Some, None}
+use Rattle.sf_value.specs.Values.{Data, first_of}
 use Rattle.sf_func.specs.Registries.{AnswersByName}
 use Rattle.sf_expr.specs.Expressions.{Pattern, Expression}
 use Rattle.sf_expr.specs.Patterns.{pattern_of}
@@ -10,12 +10,14 @@ use Rattle.sf_expr.specs.Evaluation.{answer}
 use Rattle.sf_term.specs.declared.form.Join.{Join}
 use Rattle.sf_term.specs.declared.form.Join.TheVariants.{InSequence}
 use Rattle.sf_term.specs.declared.form.Side.TheVariants.{First as OnFirst, Second as OnSecond}
-use Rattle.sf_term.specs.declared.form.Heading.TheVariants.{LoopPre}
+use Rattle.sf_term.specs.declared.form.Heading.TheVariants.{LoopPre, Initialized as WithInitial}
+use Rattle.sf_term.specs.declared.form.Observation.{Observation}
 use Rattle.sf_term.specs.declared.form.Switching.{Switching}
+use Rattle.sf_term.specs.declared.form.Switching.TheVariants.{Basic, Recurring}
 use Rattle.sf_term.specs.Trees.{Primitive, whole, rest, Term, primitive, joined, sided, headed, switching, staged}
 use Rattle.sf_mean.specs.Lives.{Step, Life, Process, closure, Environment, scope_around, first_input, with_inputs, relay, fed_back, older, fed}
-use Rattle.sf_mean.specs.Formulas.{side_of}
-use Rattle.sf_mean.specs.Meaning.{Network, Made, value_made, make, left_life, right_life, waits, fired, body_of, Outputs, Loops, Since}
+use Rattle.sf_mean.specs.Formulas.{at_first, side_of}
+use Rattle.sf_mean.specs.Meaning.{Network, Made, value_made, make, left_life, right_life, waits, fired, body_of, last_event, since_event, what_runs, Outputs, Loops, Since}
 use Rattle.sf_law.specs.declared.node.PlanId.{PlanId}
 use Rattle.sf_law.specs.declared.plan.Plan.{Plan}
 use Rattle.sf_law.specs.Arena.{plan_tree, plan_expressions, network_of_plan}
@@ -27,7 +29,7 @@ use Rattle.sf_state.specs.declared.state.Live.{Live}
 use Rattle.sf_state.specs.declared.state.Live.TheVariants.{Prim as LPrim, Join as LJoin, Pipeline' as LPipeline', Wrap as LWrap}
 use Rattle.sf_state.specs.declared.state.Live.{items-the_row-State}
 use Rattle.sf_state.specs.declared.state.Wrap.{Wrap}
-use Rattle.sf_state.specs.declared.state.Wrap.TheVariants.{First, Second, Loop}
+use Rattle.sf_state.specs.declared.state.Wrap.TheVariants.{First, Second, Loop, Initialized}
 use Rattle.sf_state.specs.declared.state.Process.{Process as SProcess}
 use Rattle.sf_state.specs.declared.state.Switch.{Switch}
 use Rattle.sf_state.specs.declared.env.Env.{Env}
@@ -43,6 +45,9 @@ pub data Wraps (n : Network) : Wrap → Term → Environment → Made → Life �
   wraps_loop : {i : Expression} {t : Term} {e : Environment} {v : Data} {L : Life} {zs : List Data}
       → Loops n v (closure t e) L zs
       → Wraps n (Loop (fed_back v zs)) (headed LoopPre i t) e (value_made v) L t (fed v L (older zs))
+  -- it keeps the value before the first step alone
+  wraps_initialized : {i : Expression} {t : Term} {e : Environment} {v : Data} {L : Life}
+      → Wraps n (Initialized (at_first L (Some v) None)) (headed WithInitial i t) e (value_made v) L t L
 
 -- A term is a pipeline of these stages: a first one, and the rest.
 pub data IsPipeline : Term → Term → Type 0 where
@@ -62,10 +67,10 @@ mutual
   -- the life.
   pub data Stands (φ : AnswersByName) (p : Plan) : State → Process → Life → Type 0 where
     itself : {a : State} {P : Process} {L : Life} → StandsItself φ p a P L → Stands φ p a P L
-    -- what stands for the body of a switch that has fired stands for the switch
-    took_over : {a : State} {w : Switching} {t u : Term} {q : Pattern} {e : Environment} {v : Data} {L M : Life} {ys : List Data}
-        → Since (network_of_plan φ p) (closure t e) L (fired v M) → Outputs (network_of_plan φ p) (closure (switching w t q u) e) L ys
-        → Stands φ p a (body_of q u e v) M → Stands φ p a (closure (switching w t q u) e) L
+    -- what stands for the body of a basic switch that has fired stands for the switch
+    took_over : {a : State} {w : Observation} {t u : Term} {q : Pattern} {e : Environment} {v : Data} {L M : Life} {ys : List Data}
+        → Since (network_of_plan φ p) (closure t e) L (fired v M) → Outputs (network_of_plan φ p) (closure (switching (Basic w) t q u) e) L ys
+        → Stands φ p a (body_of q u e v) M → Stands φ p a (closure (switching (Basic w) t q u) e) L
 
   -- a part stands for the process that it was made of
   pub data StandsItself (φ : AnswersByName) (p : Plan) : State → Process → Life → Type 0 where
@@ -74,16 +79,24 @@ mutual
     alive : {at : _} {names : Env} {l : Live} {t : Term} {e : Environment} {L : Life}
         → IsNames p names e → Settles φ p l (closure t e) L → StandsItself φ p (Alive' names at l) (closure t e) L
     watching : {at : _} {names : Env} {w : Switching} {a : State} {q : PatternId} {b : PlanId} {t : Term} {e : Environment} {L : Life}
-        → IsNames p names e → Waits φ p (record { form = w; source = a; pattern = q; body = b }) (closure t e) L
+        → IsNames p names e → Waits φ p (record { form = w; running = a; pattern = q; body = b }) (closure t e) L
         → StandsItself φ p (Watching' names at w a q b) (closure t e) L
 
-  -- a switch waits after a life, which its source has led
+  -- a switch waits for an event after a life
   pub data Waits (φ : AnswersByName) (p : Plan) : Switch → Process → Life → Type 0 where
-    waits_so : {s : Switch} {t : Term} {e : Environment} {L : Life} {ys : List Data}
+    -- its first term has led the life
+    waits_so : {s : Switch} {w : Observation} {t : Term} {e : Environment} {L : Life} {ys : List Data}
+        → s.form ≡ Basic w
         → Since (network_of_plan φ p) (closure t e) L waits
-        → Outputs (network_of_plan φ p) (closure (switching s.form t (pattern_of (placed_at (plan_expressions p) s.pattern)) (plan_tree p s.body)) e) L ys
-        → Stands φ p s.source (closure t e) L
-        → Waits φ p s (closure (switching s.form t (pattern_of (placed_at (plan_expressions p) s.pattern)) (plan_tree p s.body)) e) L
+        → Outputs (network_of_plan φ p) (closure (switching (Basic w) t (pattern_of (placed_at (plan_expressions p) s.pattern)) (plan_tree p s.body)) e) L ys
+        → Stands φ p s.running (closure t e) L
+        → Waits φ p s (closure (switching (Basic w) t (pattern_of (placed_at (plan_expressions p) s.pattern)) (plan_tree p s.body)) e) L
+    -- what runs has led the life since the last event
+    recurs_so : {s : Switch} {w : Observation} {t : Term} {e : Environment} {L : Life} {ys : List Data}
+        → s.form ≡ Recurring w
+        → Outputs (network_of_plan φ p) (closure (switching (Recurring w) t (pattern_of (placed_at (plan_expressions p) s.pattern)) (plan_tree p s.body)) e) L ys
+        → Stands φ p s.running (what_runs (closure t e) (body_of (pattern_of (placed_at (plan_expressions p) s.pattern)) (plan_tree p s.body) e) (last_event L)) (with_inputs first_of (since_event L))
+        → Waits φ p s (closure (switching (Recurring w) t (pattern_of (placed_at (plan_expressions p) s.pattern)) (plan_tree p s.body)) e) L
 
   -- a live part stands for a process and a life that has begun
   pub data Settles (φ : AnswersByName) (p : Plan) : Live → Process → Life → Type 0 where

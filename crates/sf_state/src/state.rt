@@ -2,9 +2,12 @@
 ghost use Rattle.std.specs.Prelude.{[], IfOk};
 ghost use Rattle.sf_func.specs.Registries.{AnswersByName};
 ghost use Rattle.sf_law.specs.declared.plan.Plan.{Plan};
-ghost use Rattle.sf_law.specs.Arena.{plan_tree};
+ghost use Rattle.sf_expr.specs.Arena.{placed_at};
+ghost use Rattle.sf_expr.specs.Patterns.{pattern_of};
+ghost use Rattle.sf_law.specs.Arena.{plan_expressions, plan_tree};
 ghost use Rattle.sf_mean.specs.Lives.{closure, empty, Environment, Life, Process as ProcessOf};
-ghost use Rattle.sf_state.specs.Standing.{Stands, Settles, Waits, IsProcess, AllFollow};
+ghost use Rattle.sf_mean.specs.Meaning.{body_of};
+ghost use Rattle.sf_state.specs.Standing.{IsNames, Stands, Settles, Waits, IsProcess, AllFollow};
 
 use crate::env::Env;
 use sf_expr::PatternId;
@@ -23,18 +26,18 @@ pub enum State {
     Unborn(Process),
     /// It has lived through some samples, with these names around it. Its node may be shared.
     Live(Env, Rc<Live>),
-    /// A switch that waits for its event, with these names around it. Its node may be shared.
+    /// A switch that waits for an event, with these names around it. Its node may be shared.
     Switch(Env, Rc<Switch>),
 }
 
-/// A switch that waits for its event: its source, and the body that takes over inside a pattern.
+/// A switch that waits for an event: what runs until then, and the body that runs from then on inside a pattern.
 #[derive(Drop)]
 #[cycle(state)]
 pub struct Switch {
-    /// Whose value stands at the event.
+    /// Where its events stand, and whose value shows at one.
     pub form: Switching,
-    /// What is watched: its values are pairs of a value and an event.
-    pub source: State,
+    /// What runs: its first term, or in a recurring switch after an event its body.
+    pub running: State,
     /// The pattern that is bound to the event's payload.
     pub pattern: PatternId,
     /// The body.
@@ -64,6 +67,8 @@ pub enum Wrap {
     Second,
     /// `loopPre`, with the value that its part is fed with next, beside the input.
     Loop(Value),
+    /// `-->`, with the value of its head before the first sample.
+    Initialized(Option<Value>),
 }
 
 /// What can be run: a term with the names around it.
@@ -139,17 +144,30 @@ impl Live {
 }
 
 impl Switch {
-    /// A copy of the node over the same source, which is shared.
+    /// A copy of the node over the same state, which is shared.
     pub fn clone_in(&self) -> Result<Switch, AllocError>
         ensures { IfOk result (λ copy. (φ : AnswersByName) (p : Plan) (P : ProcessOf) (L : Life) → Waits φ p self.now P L → Waits φ p copy P L) }
     {
-        let source = self.source.freeze()?;
+        let running = self.running.freeze()?;
         Ok(Switch {
             form: self.form,
-            source,
+            running,
             pattern: self.pattern,
             body: self.body,
         })
+    }
+
+    /// Its body before the first sample, inside its pattern for the payload of an event, where these names are around the
+    /// switch. The error is a want of memory, or too many owners.
+    pub fn begin(&self, alloc: Global, names: &Env, payload: Rc<Value>) -> Result<State, AllocError>
+        ensures { IfOk result (λ begun. (φ : AnswersByName) (p : Plan) (e : Environment) → IsNames p names.now e →
+            Stands φ p begun (body_of (pattern_of (placed_at (plan_expressions p) self.now.pattern)) (plan_tree p self.now.body) e payload.value) []) }
+    {
+        let around = names.inside(alloc, self.pattern, payload)?;
+        Ok(State::Unborn(Process {
+            term: self.body,
+            names: around,
+        }))
     }
 }
 
@@ -214,6 +232,8 @@ impl Wrap {
             Wrap::First => Ok(Wrap::First),
             Wrap::Second => Ok(Wrap::Second),
             Wrap::Loop(value) => Ok(Wrap::Loop(value.clone_in(alloc)?)),
+            Wrap::Initialized(None) => Ok(Wrap::Initialized(None)),
+            Wrap::Initialized(Some(value)) => Ok(Wrap::Initialized(Some(value.clone_in(alloc)?))),
         }
     }
 }

@@ -14,6 +14,7 @@ use Rattle.sf_operator.specs.Answers.{Evaluates}
 use Rattle.sf_expr.specs.declared.exprs.ExprId.{ExprId}
 use Rattle.sf_expr.specs.declared.exprs.PatternId.{PatternId}
 use Rattle.sf_term.specs.declared.form.Switching.{Switching}
+use Rattle.sf_term.specs.declared.form.Switching.TheVariants.{Basic, Recurring}
 use Rattle.sf_operator.specs.declared.fault.EvalFault.{EvalFault}
 use Rattle.sf_operator.specs.declared.fault.EvalFault.TheVariants.{Value as EValue, Memory as EMemory}
 use Rattle.sf_term.specs.declared.form.Join.{Join}
@@ -43,7 +44,7 @@ use Rattle.sf_state.specs.declared.state.Wrap.{Wrap}
 use Rattle.sf_state.specs.Standing.{closed_over as SClosure}
 use Rattle.sf_state.specs.declared.env.Env.{Env}
 use Rattle.sf_state.specs.Names.{values_around}
-use Rattle.sf_state.specs.Standing.{Stands, itself, StandsItself, unborn, alive, Waits, waits_so, Settles, settles, Ready, ready, lives_primitive, lives_join, lives_wrap, Wraps, is_closure, IsNames}
+use Rattle.sf_state.specs.Standing.{Stands, itself, StandsItself, unborn, alive, Waits, waits_so, recurs_so, Settles, settles, Ready, ready, lives_primitive, lives_join, lives_wrap, Wraps, is_closure, IsNames}
 use Rattle.sf_state.proofs.Scopes.{functions_around, scope_is}
 use Rattle.sf_step.specs.declared.sample.Opened.{Opened}
 use Rattle.sf_step.specs.declared.sample.Opened.TheVariants as opened
@@ -321,10 +322,11 @@ module _ (φ : AnswersByName) (p : Plan) where
       opens_with_fault (λ s. gives not_begun (of_constants (ap (λ s. eval (expression (plan_expressions p) j) s >>= λ v. answer (value_made v)) (sym (scope_is φ p names e N)) ∙ ap (λ o. o >>= λ v. answer (value_made v)) (g C))))
   open_headed_fails i j c a t names EMemory B g e N = opens_without_memory
 
-  -- a switch waits at first, and its source isn't born
+  -- a switch waits at first, and its first term isn't born
   pub open_switch : (w : Switching) (a b : PlanId) (q : PatternId) (t : Term) (names around : Env) → BuildsPlan p (NSwitching w a q b) t → ((e : Environment) → IsNames p names e → IsNames p around e)
-      → (e : Environment) → IsNames p names e → Opens φ p t e (Ok (opened.Switch (record { form = w; source = Unborn (SClosure a around); pattern = q; body = b })))
-  open_switch w a b q t names around builds_switching g e N = opens_watching (waits_so at_start not_begun (itself (unborn (is_closure (g e N)))))
+      → (e : Environment) → IsNames p names e → Opens φ p t e (Ok (opened.Switch (record { form = w; running = Unborn (SClosure a around); pattern = q; body = b })))
+  open_switch (Basic w) a b q t names around builds_switching g e N = opens_watching (waits_so refl at_start not_begun (itself (unborn (is_closure (g e N)))))
+  open_switch (Recurring w) a b q t names around builds_switching g e N = opens_watching (recurs_so refl not_begun (itself (unborn (is_closure (g e N)))))
 
   -- ## A sample
 

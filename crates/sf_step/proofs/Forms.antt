@@ -4,13 +4,13 @@ use Rattle.sf_value.specs.Values.{Data}
 use Rattle.sf_expr.specs.Evaluation.{Evaluated, answer, failed as no_answer}
 use Rattle.sf_term.specs.declared.form.Join.{Join}
 use Rattle.sf_term.specs.declared.form.Join.TheVariants.{InSequence, InParallel, FannedOut}
-use Rattle.sf_term.specs.declared.form.Switching.{Switching}
+use Rattle.sf_term.specs.declared.form.Observation.{Observation}
 use Rattle.sf_term.specs.Trees.{Extent, whole, rest, Term, primitive, joined, sided, headed, switching, staged}
 use Rattle.sf_mean.specs.Lives.{Step, step, Life, Process, closure, Environment, first_input, fed}
-use Rattle.sf_mean.specs.Meaning.{Network, Readings, Outcome, gave, faulted, combined, value_in, Cost, count, height, both_costs, over_stages, text_cost, Made, make, left_life, right_life, join_value, Gives, gives, Outputs, and_gave, Sample, of_constants, of_form, Form, of_primitive, of_join, of_side, of_loop, of_switch, of_stages, Next, goes_on, stops, and_looped, Standing, SwitchTurn, while_waiting, as_body}
+use Rattle.sf_mean.specs.Meaning.{Network, Readings, Outcome, gave, faulted, combined, value_in, Cost, count, height, both_costs, over_stages, text_cost, Made, make, left_life, right_life, join_value, Gives, gives, Outputs, and_gave, Sample, of_constants, of_form, Form, of_primitive, of_join, of_side, of_loop, of_initialized, of_switch, of_recurring, of_stages, Next, goes_on, stops, and_looped, Standing, SwitchTurn, while_waiting, as_body}
 use Rattle.sf_mean.proofs.Once.{once, onces, once_loops}
 use Rattle.sf_state.specs.declared.state.Wrap.{Wrap}
-use Rattle.sf_state.specs.Standing.{Wraps, wraps_first, wraps_second, wraps_loop}
+use Rattle.sf_state.specs.Standing.{Wraps, wraps_first, wraps_second, wraps_loop, wraps_initialized}
 use Rattle.sf_step.specs.Routing.{left_input, right_input, part_input, wrap_value, kept_after}
 use Rattle.sf_step.specs.Sampling.{Rel}
 use Rattle.sf_step.proofs.Parts.{Single, single, Over, counted, Then, then_on, then_stop, Changed, with_change, Alike}
@@ -96,6 +96,8 @@ module _ (n : Network) where
   wrap_to d x wraps_first o k (counted (with_change G)) = of_side G
   wrap_to d x wraps_second o k (counted (with_change G)) = of_side G
   wrap_to d x (wraps_loop O) o k (counted (with_change G)) = of_loop O G
+  wrap_to {L = []} d x wraps_initialized o k (counted (with_change G)) = of_initialized G
+  wrap_to {L = s ∷ L} d x wraps_initialized o k (counted (with_change G)) = of_initialized G
 
   wrap_back : {w : Wrap} {t u : Term} {e : Environment} {m : Made} {L K : Life} (d : ℕ) (x : Data) → Wraps n w t e m L u K
       → (o : Outcome) (k : Cost) → Form n t e m (step d x) L o k → WrapRel w u e d x K o k
@@ -103,6 +105,8 @@ module _ (n : Network) where
   wrap_back d x wraps_second o k (of_side G) = counted (with_change G)
   wrap_back d x (wraps_loop {t = t} {e = e} {v = v} {L = L} O) o k (of_loop {o = q} {c = c} O' G) =
       counted (with_change (subst (λ (zs : List Data). Gives n (closure t e) (fed v (step d x ∷ L) zs) q c) (once_loops n O' O) G))
+  wrap_back {L = []} d x wraps_initialized o k (of_initialized G) = counted (with_change G)
+  wrap_back {L = s ∷ L} d x wraps_initialized o k (of_initialized G) = counted (with_change G)
 
   pub wrap_alike : {w : Wrap} {t u : Term} {e : Environment} {m : Made} {L K : Life} (d : ℕ) (x : Data) → Wraps n w t e m L u K
       → Alike (WrapRel w u e d x K) (Form n t e m (step d x) L)
@@ -114,6 +118,7 @@ module _ (n : Network) where
   wraps_on d x wraps_first G = wraps_first
   wraps_on d x wraps_second G = wraps_second
   wraps_on d x (wraps_loop O) G = wraps_loop (and_looped O G)
+  wraps_on d x wraps_initialized G = wraps_initialized
 
   -- ## Each outcome costs a term
 
@@ -135,10 +140,12 @@ module _ (n : Network) where
     form_counts (of_join O G N) = (omega arith, omega arith)
     form_counts (of_side G) = (omega arith, omega arith)
     form_counts (of_loop O G) = (omega arith, omega arith)
+    form_counts (of_initialized G) = (omega arith, omega arith)
     form_counts (of_switch S T) = turn_counts T
+    form_counts (of_recurring G F) = (omega arith, omega arith)
     form_counts (of_stages {x = x} {c = c} {c' = c'} O G N) = stages_count x c c' (counts G)
 
-    turn_counts : {w : Switching} {P : Process} {B : Data → Process} {s : Step} {L : Life} {st : Standing} {o : Outcome} {k : Cost} → SwitchTurn n w P B s L st o k → (1 ≤ count k) × (1 ≤ height k)
+    turn_counts : {w : Observation} {P : Process} {B : Data → Process} {s : Step} {L : Life} {st : Standing} {o : Outcome} {k : Cost} → SwitchTurn n w P B s L st o k → (1 ≤ count k) × (1 ≤ height k)
     turn_counts (while_waiting G C) = (omega arith, omega arith)
     turn_counts (as_body G) = counts G
 

@@ -2,5 +2,5 @@ pub mod Parts
 pub mod Forms
 pub mod Exits
 pub mod Stages
-pub mod Routes
 pub mod Switches
+pub mod Recurring

@@ -24,7 +24,7 @@ use Rattle.sf_state.specs.Standing.{closed_over as SClosure}
 use Rattle.sf_state.specs.declared.env.Env.{Env}
 use Rattle.sf_state.specs.declared.state.Live.{items_hidden-the_row-State-0}
 use Rattle.sf_state.specs.declared.state.Live.TheVariants.{Pipeline as LPipeline}
-use Rattle.sf_state.specs.Standing.{is_closure, IsNames, Stands, itself, took_over, unborn, alive, watching, waits_so, settles, Ready, ready, lives_pipeline, IsPipeline, is_stages, is_sequence, StagesStand, last_stands, stage_stands}
+use Rattle.sf_state.specs.Standing.{is_closure, IsNames, Stands, itself, took_over, unborn, alive, watching, waits_so, recurs_so, settles, Ready, ready, lives_pipeline, IsPipeline, is_stages, is_sequence, StagesStand, last_stands, stage_stands}
 use Rattle.sf_state.proofs.Copies.{pipeline_lives}
 use Rattle.sf_step.specs.declared.meter.Meter.{Meter}
 use Rattle.sf_step.specs.declared.sample.Opened.TheVariants as opened
@@ -99,7 +99,8 @@ module _ (φ : AnswersByName) (p : Plan) where
   state_gave : {a : State} {P : Process} {L : Life} → Stands φ p a P L → Gave P L
   state_gave (itself (unborn Q)) = ([], not_begun)
   state_gave (itself (alive N (settles (ready h O K)))) = (_, O)
-  state_gave (itself (watching N (waits_so S O A))) = (_, O)
+  state_gave (itself (watching N (waits_so own S O A))) = (_, O)
+  state_gave (itself (watching N (recurs_so own O A))) = (_, O)
   state_gave (took_over S O A) = (_, O)
 
   stages_gave : {bs : List State} {u : Term} {e : Environment} {L : Life} → StagesStand φ p bs u e L → Gave (closure u e) L

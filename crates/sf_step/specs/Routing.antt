@@ -1,9 +1,10 @@
 -- What the parts of a form take at one step, and what its value is made of.
+use Rattle.std.specs.Prelude.{None, unwrap_or}
 use Rattle.sf_value.specs.Values.{Data, pair, first_of, second_of}
 use Rattle.sf_term.specs.declared.form.Join.{Join}
 use Rattle.sf_term.specs.declared.form.Join.TheVariants.{InSequence, InParallel, FannedOut}
 use Rattle.sf_state.specs.declared.state.Wrap.{Wrap}
-use Rattle.sf_state.specs.declared.state.Wrap.TheVariants.{First, Second, Loop}
+use Rattle.sf_state.specs.declared.state.Wrap.TheVariants.{First, Second, Loop, Initialized}
 
 -- ## Joins
 
@@ -26,15 +27,18 @@ abbrev pub part_input : Wrap → Data → Data
 part_input First x = first_of x
 part_input Second x = second_of x
 part_input (Loop v) x = pair x v
+part_input (Initialized o) x = x
 
 -- the form's value, from its input and the part's output
 abbrev pub wrap_value : Wrap → Data → Data → Data
 wrap_value First x y = pair y (second_of x)
 wrap_value Second x y = pair (first_of x) y
 wrap_value (Loop v) x y = first_of y
+wrap_value (Initialized o) x y = unwrap_or o y
 
 -- what the form keeps, after the part's output
 abbrev pub kept_after : Wrap → Data → Wrap
 kept_after First y = First
 kept_after Second y = Second
 kept_after (Loop v) y = Loop (second_of y)
+kept_after (Initialized o) y = Initialized None

@@ -1,5 +1,5 @@
 //! What values are taken apart into, and what forms with one part keep at first.
-ghost use Rattle.std.specs.Prelude.{◌≡◌, [], IfOk};
+ghost use Rattle.std.specs.Prelude.{◌≡◌, [], IfOk, None, unwrap_or};
 ghost use Rattle.std.specs.Option.{option_map};
 ghost use Rattle.sf_value.specs.Values.{first_of, second_of};
 ghost use Rattle.sf_expr.specs.Expressions.{Expression};
@@ -10,7 +10,7 @@ ghost use Rattle.sf_mean.specs.Meaning.{Network, Made, value_made, switched_valu
 ghost use Rattle.sf_state.specs.Standing.{Wraps};
 
 use sf_state::Wrap;
-use sf_term::{Heading, Side, Switching};
+use sf_term::{Heading, Observation, Side};
 use sf_value::{Form, Value};
 use std::alloc::{AllocError, Global};
 use std::mem;
@@ -62,13 +62,23 @@ pub(crate) fn payload_of(event: Value) -> Option<Rc<Value>>
     }
 }
 
-/// The value at the step of a switch's event, from that of its source and that of its body.
-pub(crate) fn switched(form: Switching, old: Value, new: Value) -> Value
-    ensures { result ≡ switched_value form old new }
+/// The value at the step of a switch's event, from that of what ran before and that of its body.
+pub(crate) fn switched(shown: Observation, old: Value, new: Value) -> Value
+    ensures { result ≡ switched_value shown old new }
 {
-    match form {
-        Switching::Switch => new,
-        Switching::DSwitch => old,
+    match shown {
+        Observation::Immediate => new,
+        Observation::Delayed => old,
+    }
+}
+
+/// Puts the value of a head, which is kept before the first sample alone, in the place of the part's.
+pub(crate) fn put_first(first: &mut Option<Value>, value: &mut Value)
+    ensures value { value.new ≡ unwrap_or first.old value.old }
+    ensures first { first.new ≡ None }
+{
+    if let Some(initial) = first.take() {
+        *value = initial;
     }
 }
 
@@ -122,5 +132,6 @@ pub(crate) fn with_head(heading: Heading, value: Value) -> Wrap
 {
     match heading {
         Heading::LoopPre => Wrap::Loop(value),
+        Heading::Initialized => Wrap::Initialized(Some(value)),
     }
 }

@@ -1,5 +1,5 @@
 //! One sample.
-ghost use Rattle.std.specs.Prelude.{◌≡◌, ◌≤◌, ℕ, [], ◌∷◌, IfOk, Ok};
+ghost use Rattle.std.specs.Prelude.{◌≡◌, ◌≤◌, ℕ, [], ◌∷◌, None, IfOk, Ok};
 ghost use Rattle.sf_value.specs.Values.{Data};
 ghost use Rattle.sf_func.specs.Registries.{AnswersByName};
 ghost use Rattle.sf_expr.specs.Evaluation.{answer};
@@ -17,13 +17,15 @@ ghost use Rattle.sf_step.specs.Stepping.{Steps};
 
 use crate::context::SampleContext;
 use crate::meter::{Meter, Stop};
-use crate::routing::{halves, on_side, parts, payload_of, switched, unshare_half, with_head};
+use crate::routing::{
+    halves, on_side, parts, payload_of, put_first, switched, unshare_half, with_head,
+};
 use sf_func::Holds;
 use sf_law::{Plan, PlanId, PlanNode};
 use sf_operator::EvalFault;
 use sf_prim::{PrimState, constant};
 use sf_state::{Env, Live, NamesIn, Process, State, Switch, Wrap, unshare, unshare_switch};
-use sf_term::Join;
+use sf_term::{Join, Observation, Switching};
 use sf_value::{Fault, Value};
 use std::alloc::{AllocError, Global};
 use std::mem;
@@ -205,7 +207,7 @@ fn step_watching<R: Holds>(
 
 // The next sample of a switch that waits, which has been counted and whose parts stand inside `inside` nodes, likewise.
 #[cycle(step)]
-#[inline(never)]
+#[inline(always)]
 fn step_switch<R: Holds>(
     context: &SampleContext<R>,
     switch: &mut Switch,
@@ -218,31 +220,97 @@ fn step_switch<R: Holds>(
     ensures answers { SwitchSteps (R.answers context.now.functions.now) (plan_in context.now) names.now switch.old (step (dt_in context.now) value.old)
         (left_beside result switch.new value.new (fault_in meter.new)) meter.old meter.new inside }
 {
+    match switch.form {
+        Switching::Basic(shown) => {
+            step_basic(context, switch, shown, names, inside, value, meter)
+        }
+        Switching::Recurring(shown) => {
+            step_recurring(context, switch, shown, names, inside, value, meter)?;
+            Ok(None)
+        }
+    }
+}
+
+// The same of a basic switch: its event stands beside the value of its first term, and its body takes over.
+#[cycle(step)]
+#[inline(never)]
+fn step_basic<R: Holds>(
+    context: &SampleContext<R>,
+    switch: &mut Switch,
+    shown: Observation,
+    names: &Env,
+    inside: u64,
+    value: &mut Value,
+    meter: &mut Meter,
+) -> Result<Option<State>, Stop>
+    requires form { switch.old.form ≡ Switching.Basic shown }
+    ensures grows { entered_of meter.old ≤ entered_of meter.new }
+    ensures answers { SwitchSteps (R.answers context.now.functions.now) (plan_in context.now) names.now switch.old (step (dt_in context.now) value.old)
+        (left_beside result switch.new value.new (fault_in meter.new)) meter.old meter.new inside }
+{
     let Ok(mut output) = value.clone_in(context.alloc) else {
         return Err(meter.stop(Fault::Memory));
     };
-    step_state(context, &mut switch.source, inside, value, meter)?;
+    step_state(context, &mut switch.running, inside, value, meter)?;
     let both = mem::replace(value, Value::int(0));
-    let Ok((shown, event)) = parts(context.alloc, both) else {
+    let Ok((old, event)) = parts(context.alloc, both) else {
         return Err(meter.stop(Fault::Memory));
     };
     match payload_of(event) {
         None => {
-            *value = shown;
+            *value = old;
             Ok(None)
         }
         Some(payload) => {
-            let Ok(around) = names.inside(context.alloc, switch.pattern, payload) else {
+            let Ok(mut body) = switch.begin(context.alloc, names, payload) else {
                 return Err(meter.stop(Fault::Memory));
             };
-            let term = switch.body;
-            let mut body = State::Unborn(Process {
-                term,
-                names: around,
-            });
             step_state(context, &mut body, inside, &mut output, meter)?;
-            *value = switched(switch.form, shown, output);
+            *value = switched(shown, old, output);
             Ok(Some(body))
+        }
+    }
+}
+
+// The same of a recurring switch: its event stands beside its input, which goes without it to what runs. That is stepped at
+// an event too, before the body takes its place.
+#[cycle(step)]
+#[inline(never)]
+fn step_recurring<R: Holds>(
+    context: &SampleContext<R>,
+    switch: &mut Switch,
+    shown: Observation,
+    names: &Env,
+    inside: u64,
+    value: &mut Value,
+    meter: &mut Meter,
+) -> Result<(), Stop>
+    requires form { switch.old.form ≡ Switching.Recurring shown }
+    ensures grows { entered_of meter.old ≤ entered_of meter.new }
+    ensures answers { SwitchSteps (R.answers context.now.functions.now) (plan_in context.now) names.now switch.old (step (dt_in context.now) value.old)
+        (left_or result ((None, switch.new), value.new) (fault_in meter.new)) meter.old meter.new inside }
+{
+    let both = mem::replace(value, Value::int(0));
+    let Ok((input, event)) = parts(context.alloc, both) else {
+        return Err(meter.stop(Fault::Memory));
+    };
+    *value = input;
+    match payload_of(event) {
+        None => step_state(context, &mut switch.running, inside, value, meter),
+        Some(payload) => {
+            let Ok(mut begun) = value.clone_in(context.alloc) else {
+                return Err(meter.stop(Fault::Memory));
+            };
+            let ran = &mut switch.running;
+            step_state(context, ran, inside, value, meter)?;
+            let Ok(mut next) = switch.begin(context.alloc, names, payload) else {
+                return Err(meter.stop(Fault::Memory));
+            };
+            step_state(context, &mut next, inside, &mut begun, meter)?;
+            switch.running = next;
+            let old = mem::replace(value, Value::int(0));
+            *value = switched(shown, old, begun);
+            Ok(())
         }
     }
 }
@@ -414,6 +482,11 @@ fn step_wrap<R: Holds>(
             *next = fed;
             Ok(())
         }
+        Wrap::Initialized(first) => {
+            step_state(context, part, inside, value, meter)?;
+            put_first(first, value);
+            Ok(())
+        }
     }
 }
 
@@ -479,12 +552,12 @@ fn open<R: Holds>(context: &SampleContext<R>, term: PlanId, names: &Env) -> Resu
                 Err(fault) => Err(fault_of(fault)),
             }
         }
-        PlanNode::Switching(form, source, pattern, body) => {
+        PlanNode::Switching(form, first, pattern, body) => {
             let shared = names.share()?;
             Ok(Opened::Switch(Switch {
                 form: *form,
-                source: State::Unborn(Process {
-                    term: *source,
+                running: State::Unborn(Process {
+                    term: *first,
                     names: shared,
                 }),
                 pattern: *pattern,

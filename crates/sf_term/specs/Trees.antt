@@ -4,6 +4,7 @@ use Rattle.sf_value.specs.Values.{Name, Kind}
 use Rattle.sf_expr.specs.Expressions.{Pattern, Expression, Function, pattern_depth, depth as expression_depth, size as expression_size, function_depth, function_size}
 use Rattle.sf_term.specs.declared.form.Bare.{Bare}
 use Rattle.sf_term.specs.declared.form.WithValue.{WithValue}
+use Rattle.sf_term.specs.declared.form.WithValue.TheVariants.{Constant, InitialPre, InitializedPre, Now, Hold}
 use Rattle.sf_term.specs.declared.form.Accumulation.{Accumulation}
 use Rattle.sf_term.specs.declared.form.Timing.{Timing}
 use Rattle.sf_term.specs.declared.form.Join.{Join}
@@ -75,9 +76,27 @@ term_depth (headed h e t) = suc (max (expression_depth e) (term_depth t))
 term_depth (switching w t p u) = suc (max (max (term_depth t) (term_depth u)) (pattern_depth p))
 term_depth (staged x f g) = 65
 
+-- how many terms a primitive with a value is made of: in `-->(e, pre)`, `pre` is one too
+abbrev pub terms_with_value : WithValue → ℕ
+terms_with_value Constant = 1
+terms_with_value InitialPre = 1
+terms_with_value InitializedPre = 2
+terms_with_value Now = 1
+terms_with_value Hold = 1
+
+-- how many terms a primitive is made of
+abbrev pub terms_in_primitive : Primitive → ℕ
+terms_in_primitive (bare k) = 1
+terms_in_primitive (never t) = 1
+terms_in_primitive (with_value k e) = terms_with_value k
+terms_in_primitive (timed k q e) = 1
+terms_in_primitive (arrow f) = 1
+terms_in_primitive (accumulated k e f) = 1
+terms_in_primitive (fused f) = 1
+
 -- how many terms a term is made of
 abbrev pub terms_in : Term → ℕ
-terms_in (primitive p) = 1
+terms_in (primitive p) = terms_in_primitive p
 terms_in (joined j f g) = suc (terms_in f + terms_in g)
 terms_in (sided d t) = suc (terms_in t)
 terms_in (headed h e t) = suc (terms_in t)

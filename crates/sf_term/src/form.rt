@@ -15,6 +15,8 @@ pub enum Bare {
     NotYet,
     /// `count`: at an event, how many there were so far.
     Count,
+    /// `pre`: the input before. It stands behind `-->` alone, and makes one primitive with it.
+    Pre,
 }
 
 /// A primitive with a value.
@@ -24,6 +26,8 @@ pub enum WithValue {
     Constant,
     /// `iPre e`: the value first, then the input before.
     InitialPre,
+    /// `-->(e, pre)`: the same.
+    InitializedPre,
     /// `now e`: an event of the value at the first sample alone.
     Now,
     /// `hold e`: the last payload so far, or the value where there was none.
@@ -68,13 +72,22 @@ pub enum Side {
     Second,
 }
 
-/// A term that gives way to another at its first event.
+/// Whose value shows at the sample of a switch's event.
+#[derive(Clone, Copy, Debug, PartialEq, Eq)]
+pub enum Observation {
+    /// That of what begins there.
+    Immediate,
+    /// Still that of what ran before.
+    Delayed,
+}
+
+/// A term that gives way to another at an event, whose payload the other knows.
 #[derive(Clone, Copy, Debug, PartialEq, Eq)]
 pub enum Switching {
-    /// `switch(t, p => u)`: at the event, the value is that of `u`.
-    Switch,
-    /// `dSwitch(t, p => u)`: at the event, the value is still that of `t`.
-    DSwitch,
+    /// `switch(t, p => u)`, delayed `dSwitch`: at the first event beside the values of `t`, `u` takes over for good.
+    Basic(Observation),
+    /// `rSwitch(t, p => u)`, delayed `drSwitch`: at each event beside the inputs, `u` begins anew.
+    Recurring(Observation),
 }
 
 /// A term with an expression at its head.
@@ -82,4 +95,6 @@ pub enum Switching {
 pub enum Heading {
     /// `loopPre(e, t)`: the second output is the second input one sample later, and the value is the first one.
     LoopPre,
+    /// `-->(e, t)`: the value of `e` at the first sample, then those of `t`.
+    Initialized,
 }

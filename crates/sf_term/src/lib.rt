@@ -8,7 +8,9 @@ mod program;
 mod refusal;
 mod template;
 
-pub use form::{Accumulation, Bare, Heading, Join, Side, Switching, Timing, WithValue};
+pub use form::{
+    Accumulation, Bare, Heading, Join, Observation, Side, Switching, Timing, WithValue,
+};
 pub use node::{Node, Primitive, TermId};
 pub use program::Program;
 pub use refusal::BuildRefusal;

@@ -16,6 +16,10 @@ const DELAYS: &[u8] = b"network 1;\ntemplate main(): Int ~> Int = (iPre 7 >>> iP
 const SWITCH: &[u8] =
     b"network 1;\ntemplate main(): Int ~> Int = switch((iPre 7 &&& after 2000 ()), _ => iPre 8);\n";
 
+/// The same, where the event stands beside the input of the delay.
+const RECURRING: &[u8] =
+    b"network 1;\ntemplate main(): Int ~> Int = ((identity &&& after 2000 ()) >>> rSwitch(iPre 7, _ => iPre 8));\n";
+
 /// A network that was checked.
 fn checked(alloc: Global, network: &[u8], functions: &Registry) -> Result<Checked, Fail> {
     let program = read_network(alloc, network)?;
@@ -116,9 +120,9 @@ fn table_owners(value: &Value) -> usize {
 fn a_frozen_state_and_a_copy_share(rt: HostRuntime) -> Result<(), Fail> {
     let alloc = rt.alloc();
     let functions = Registry::new(alloc);
-    // The first gives 8, 7, 5, the second 7, 5, 8. A step that is refused for want of memory leaves the frozen state as it
+    // The first gives 8, 7, 5, the others 7, 5, 8. A step that is refused for want of memory leaves the frozen state as it
     // was.
-    for (network, second) in [(DELAYS, 7), (SWITCH, 5)] {
+    for (network, second) in [(DELAYS, 7), (SWITCH, 5), (RECURRING, 5)] {
         let checked = checked(alloc, network, &functions)?;
         let (running, resumed, owners) = gives_again(alloc, &checked, &functions)?;
         assert!(rt; is_or_refused(&running, second) && is_or_refused(&resumed, second));

@@ -1,10 +1,11 @@
 -- What was read into a program before more terms are built of it.
-use Rattle.std.proofs.Common.{◌≡◌, ℕ, ◌+◌, ◌<◌, ◌≤◌, List, length, refl, sym, ◌∙◌, ap, subst, arith, ℤ}
+use Rattle.std.proofs.Common.{◌≡◌, ℕ, suc, false, ◌+◌, ◌<◌, ◌≤◌, List, length, refl, sym, ◌∙◌, ap, subst, arith, ℤ}
 use Rattle.sf_value.specs.Values.{Name, Kind}
 use Rattle.sf_expr.specs.declared.exprs.ExprId.{ExprId}
 use Rattle.sf_expr.specs.declared.exprs.FunctionId.{FunctionId}
-use Rattle.sf_expr.specs.Expressions.{Pattern, Expression}
+use Rattle.sf_expr.specs.Expressions.{Pattern, Expression, depth as expression_depth, size}
 use Rattle.sf_term.specs.declared.form.WithValue.{WithValue}
+use Rattle.sf_term.specs.declared.form.WithValue.TheVariants as values
 use Rattle.sf_term.specs.declared.form.Timing.{Timing}
 use Rattle.sf_term.specs.declared.form.Accumulation.{Accumulation}
 use Rattle.sf_term.specs.declared.form.Join.{Join}
@@ -17,8 +18,8 @@ use Rattle.sf_term.specs.declared.program.Program.{Program}
 use Rattle.sf_term.specs.declared.refusal.BuildRefusal.{BuildRefusal}
 use Rattle.sf_term.specs.declared.refusal.BuildRefusal.TheVariants as refusals
 use Rattle.sf_lex.specs.Words.{IsName}
-use Rattle.sf_term.specs.Trees.{Term, primitive, never, with_value, timed, arrow, accumulated, joined, sided, headed, switching, term_depth, terms_in, expressions_in}
-use Rattle.sf_term.specs.Arena.{tree, expression_under as expression_in, function_in, term_count, expression_count, KeepsProgram, AddsTerm}
+use Rattle.sf_term.specs.Trees.{terms_with_value, Term, primitive, never, with_value, timed, arrow, accumulated, joined, sided, switching, term_depth, terms_in, expressions_in}
+use Rattle.sf_term.specs.Arena.{tree, term_of, term_node_at, expression_under as expression_in, function_in, term_count, expression_count, KeepsProgram, AddsTerm}
 use Rattle.sf_term.proofs.Kept.{few_program_expressions, keeps_trans}
 use Rattle.sf_refusal.specs.declared.spot.Spot.{Spot}
 use Rattle.sf_lex.specs.declared.symbol.Symbol.TheVariants as symbols
@@ -26,10 +27,13 @@ use Rattle.sf_lex.specs.declared.token.PlacedToken.{PlacedToken}
 use Rattle.sf_lex.specs.Tokens.{Tok}
 use Rattle.sf_grammar.specs.declared.ty.Version.{Version}
 use Rattle.sf_parse.specs.declared.stop.Stop.{Stop}
+use Rattle.sf_grammar.specs.Spelling.{stands_initially, head_makes}
 use Rattle.sf_grammar.specs.Reading.{parse_number, parse_never, parse_timed, Read, got, Counts, counts_with, counts_with_expression, parse_symbol, parse_inner_type, parse_pattern, parse_expression, parse_function, parse_value, parse_arrow, parse_accumulated, parse_sided, parse_headed, parse_switching, term_read, parse_join, parse_joined, parse_term}
 use Rattle.sf_parse.specs.Answers.{StopsReading, FoundExpression, FoundFunction, counts_of, stop_for, toks}
 use Rattle.sf_text.specs.Answers.{FoundTerm}
-use Rattle.sf_grammar.proofs.Takes.{TookPattern, TookFunction, Took, pattern_takes, function_takes, term_takes}
+use Rattle.sf_grammar.proofs.Takes.{HeadMakes, with_pre, stays_headed, head_view, TookPattern, TookFunction, Took, pattern_takes, function_takes, term_takes}
+use Rattle.sf_text.specs.Consuming.{headed_node}
+use Rattle.sf_text.proofs.Placed.{headed_makes}
 use Rattle.sf_parse.proofs.Found.{refused_as_read, read_within, expression_taken, behind_expression}
 
 -- a term whose parts were read, before it is added to the program
@@ -68,18 +72,23 @@ term_taken v old new id rest tokens d f = term_takes v d (counts_of old) tokens 
 behind_term : (old mid : Program) (f : Term) → term_count mid ≡ term_count old + terms_in f → expression_count mid ≡ expression_count old + expressions_in f → counts_of mid ≡ counts_with (counts_of old) f
 behind_term old mid f terms expressions = rw (terms, expressions) refl
 
+-- a value that stands behind its word makes one term with it
+one_term : (k : WithValue) → stands_initially k ≡ false → terms_with_value k ≡ 1
+one_term values.InitializedPre behind = absurd cc
+one_term _ behind = refl
+
 -- a primitive with a value
-pub value_ready : (v : Version) {old mid : Program} {start rest : List Tok} {e : ExprId} {k : WithValue} (d : ℕ) (tokens : List Tok) → d ≤ 63 → FoundExpression old mid e rest (parse_expression d v (counts_of old) tokens)
+pub value_ready : (v : Version) {old mid : Program} {start rest : List Tok} {e : ExprId} {k : WithValue} (d : ℕ) (tokens : List Tok) → d ≤ 63 → stands_initially k ≡ false → FoundExpression old mid e rest (parse_expression d v (counts_of old) tokens)
     → Ready old mid (primitive (with_value k (expression_in mid e))) start rest (parse_value d v (counts_of old) k start tokens)
 unfolding parse_value
-value_ready v {old} {mid} {start} {rest} {e} {k} d tokens small f =
+value_ready v {old} {mid} {start} {rest} {e} {k} d tokens small behind f =
     let took = expression_taken v old mid e rest tokens d f in
     record {
       term = primitive (with_value k f.value);
       is = rw f.is refl;
       same = ap (λ (i : Expression). primitive (with_value k i)) f.tree;
       shallow = omega (arith, took.shallow);
-      terms = omega (arith, f.terms);
+      terms = omega (arith, f.terms, one_term k behind);
       expressions = omega (arith, f.expressions);
     }
 
@@ -155,24 +164,35 @@ sided_ready v {old} {mid} {start} {rest} {a} {s} d tokens small f =
       expressions = omega (arith, f.expressions);
     }
 
--- a term with an expression at its head
-pub headed_ready : (v : Version) {old one two : Program} {start r0 r1 r2 r3 rest : List Tok} {e : ExprId} {a : TermId} {h : Heading} (d : ℕ) (tokens : List Tok) → d ≤ 63 → parse_symbol symbols.Open tokens ≡ got tt r0
+-- what a head makes: how deep it is, and how many terms and expressions it is made of
+record MadeSo (d : ℕ) (e : Expression) (f t : Term) : Type 0 where
+  pub shallow : expression_depth e ≤ d → term_depth f ≤ d → term_depth t ≤ suc d
+  pub terms : terms_in t ≡ suc (terms_in f)
+  pub expressions : expressions_in t ≡ size e + expressions_in f
+
+made_so : (d : ℕ) {h : Heading} {e : Expression} {f t : Term} → HeadMakes h e f t → MadeSo d e f t
+made_so d with_pre = record { shallow = λ p q. omega (arith, p); terms = refl; expressions = omega arith }
+made_so d (stays_headed k) = record { shallow = λ p q. omega (arith, p, q); terms = refl; expressions = refl }
+
+-- a term with an expression at its head, or what that is with `pre`
+pub headed_ready : (v : Version) {old one two : Program} {start r0 r1 r2 r3 rest : List Tok} {e : ExprId} {a : TermId} (h : Heading) {n : Node} (d : ℕ) (tokens : List Tok) → d ≤ 63 → n ≡ headed_node h e a (term_node_at two a) → parse_symbol symbols.Open tokens ≡ got tt r0
     → FoundExpression old one e r1 (parse_expression d v (counts_of old) r0) → parse_symbol symbols.Comma r1 ≡ got tt r2 → FoundTerm one two a r3 (parse_term d v (counts_of one) r2) → parse_symbol symbols.Close r3 ≡ got tt rest
-    → Ready old two (headed h (expression_in two e) (tree two a)) start rest (parse_headed d v (parse_term d v) (counts_of old) h start tokens)
+    → Ready old two (term_of two n) start rest (parse_headed d v (parse_term d v) (counts_of old) h start tokens)
 unfolding parse_headed
-headed_ready v {old} {one} {two} {start} {r0} {r1} {r2} {r3} {rest} {e} {a} {h} d tokens small opening f comma g closing =
+headed_ready v {old} {one} {two} {start} {r0} {r1} {r2} {r3} {rest} {e} {a} h d tokens small of_head opening f comma g closing =
     let second : parse_term d v (counts_with_expression (counts_of old) f.value) r2 ≡ got g.term r3 =
     subst (λ (c : Counts). parse_term d v c r2 ≡ got g.term r3) (behind_expression old one f.value f.terms f.expressions) g.is in
     let first_same : expression_in two e ≡ f.value = g.kept.trees.values e f.held ∙ f.tree in
     let took_f = expression_taken v old one e r1 r0 d f in
     let took_g = term_taken v one two a r3 r2 d g in
+    let made = made_so d (head_view h f.value g.term) in
     record {
-      term = headed h f.value g.term;
+      term = head_makes h f.value g.term;
       is = rw (opening, f.is, comma, second, closing) refl;
-      same = rw (first_same, g.tree) refl;
-      shallow = omega (arith, took_f.shallow, took_g.shallow);
-      terms = omega (arith, f.terms, g.terms);
-      expressions = omega (arith, f.expressions, g.expressions);
+      same = ap (term_of two) of_head ∙ headed_makes two h e a ∙ ap (λ (i : Expression). head_makes h i (tree two a)) first_same ∙ ap (head_makes h f.value) g.tree;
+      shallow = omega (arith, small, made.shallow took_f.shallow took_g.shallow);
+      terms = omega (arith, f.terms, g.terms, made.terms);
+      expressions = omega (arith, f.expressions, g.expressions, made.expressions);
     }
 
 -- a term that gives way to another inside a pattern

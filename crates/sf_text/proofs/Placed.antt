@@ -1,5 +1,5 @@
 -- Terms and templates stay where they stand, and stand at their first token.
-use Rattle.std.proofs.Common.{◌≡◌, ℕ, suc, List, [], ◌∷◌, ◌++◌, length, map, refl, sym, ◌∙◌, ap, append_assoc, subst, ℤ}
+use Rattle.std.proofs.Common.{◌≡◌, ℕ, suc, false, List, [], ◌∷◌, ◌++◌, length, map, refl, sym, ◌∙◌, ap, append_assoc, subst, ℤ}
 use mathlib.Core.Path.{ap₂}
 use Rattle.std.proofs.lemmas.List.{append-nil}
 use Rattle.sf_refusal.specs.declared.spot.Spot.{Spot}
@@ -9,37 +9,41 @@ use Rattle.sf_expr.specs.declared.exprs.FunctionId.{FunctionId}
 use Rattle.sf_expr.specs.declared.exprs.PatternId.{PatternId}
 use Rattle.sf_expr.specs.Patterns.{PlacedPattern}
 use Rattle.sf_term.specs.declared.form.Bare.{Bare}
+use Rattle.sf_term.specs.declared.form.Bare.TheVariants as bares
 use Rattle.sf_term.specs.declared.form.WithValue.{WithValue}
+use Rattle.sf_term.specs.declared.form.WithValue.TheVariants as values
 use Rattle.sf_term.specs.declared.form.Timing.{Timing}
 use Rattle.sf_term.specs.declared.form.Accumulation.{Accumulation}
 use Rattle.sf_term.specs.declared.form.Join.{Join}
 use Rattle.sf_term.specs.declared.form.Side.{Side}
 use Rattle.sf_term.specs.declared.form.Heading.{Heading}
+use Rattle.sf_term.specs.declared.form.Heading.TheVariants as headings
 use Rattle.sf_term.specs.declared.form.Switching.{Switching}
 use Rattle.sf_term.specs.declared.node.TermId.{TermId}
+use Rattle.sf_term.specs.declared.node.Primitive.{Primitive}
 use Rattle.sf_term.specs.declared.node.Primitive.TheVariants as primitives
 use Rattle.sf_term.specs.declared.node.Node.{Node}
 use Rattle.sf_term.specs.declared.node.Node.TheVariants as nodes
 use Rattle.sf_term.specs.declared.program.Program.{Program}
-use Rattle.sf_term.specs.Trees.{Term, primitive, never}
+use Rattle.sf_term.specs.Trees.{Term, headed, primitive, never}
 use Rattle.sf_term.specs.Headers.{Header}
-use Rattle.sf_term.specs.Arena.{KeepsTrees, KeepsProgram, HoldsPatternIn, pattern_under, AddsTerm, AddsTemplate, headers_of, template_in}
-use Rattle.sf_term.proofs.Kept.{keeps_trees_trans}
+use Rattle.sf_term.specs.Arena.{KeepsTrees, KeepsProgram, HoldsPatternIn, tree, term_of, term_node_at, expression_under, pattern_under, AddsTerm, AddsTemplate, headers_of, template_in}
+use Rattle.sf_term.proofs.Kept.{keeps_trees_trans, node_builds}
 use Rattle.sf_value.specs.Values.{Kind}
 use Rattle.sf_lex.specs.Tokens.{Tok, Located, seen, shown, place_at, symbol}
 use Rattle.sf_lex.specs.Cutting.{AreTokensOf}
 use Rattle.sf_lex.specs.declared.symbol.Symbol.TheVariants as symbols
 use Rattle.sf_grammar.specs.declared.ty.Version.{Version}
-use Rattle.sf_grammar.specs.Spelling.{spell_type, spell_signature, spell_term}
+use Rattle.sf_grammar.specs.Spelling.{stands_initially, head_makes, spell_type, spell_signature, spell_term}
 use Rattle.sf_grammar.specs.Reading.{got, parse_inner_type, parse_signature}
 use Rattle.sf_parse.specs.Answers.{toks}
 use Rattle.sf_grammar.proofs.Takes.{TookType, inner_type_takes, TookSignature, signature_takes}
 use Rattle.sf_lex.specs.declared.token.PlacedToken.{PlacedToken}
-use Rattle.sf_grammar.specs.Placing.{around, PatternPlaced, ExpressionPlaced, FunctionPlaced, TermStands, TermPlaced, bare_placed, never_placed, with_value_placed, timed_placed, arrow_placed, accumulated_placed, joined_placed, sided_placed, headed_placed, switching_placed, TemplatePlaced, TemplatesPlaced, none_placed, template_placed, NetworkPlaced, IsPlacedIn}
+use Rattle.sf_grammar.specs.Placing.{around, PatternPlaced, ExpressionPlaced, FunctionPlaced, TermStands, TermPlaced, bare_placed, never_placed, with_value_placed, initialized_placed, timed_placed, arrow_placed, accumulated_placed, joined_placed, sided_placed, headed_placed, switching_placed, TemplatePlaced, TemplatesPlaced, none_placed, template_placed, NetworkPlaced, IsPlacedIn}
 use Rattle.sf_text.specs.Progress.{IsSpelled}
 use Rattle.sf_text.proofs.Whole.{toks_same}
 use Rattle.sf_parse.specs.Consuming.{places, BehindOne, BehindSome, Consumes}
-use Rattle.sf_text.specs.Consuming.{HeadingPlaced, OpeningPlaced, PlacesTemplate}
+use Rattle.sf_text.specs.Consuming.{headed_node, HeadingPlaced, OpeningPlaced, PlacesTemplate}
 use Rattle.sf_parse.proofs.Placed.{pattern_stays, expression_keeps, function_keeps, behind_first, in_brackets_read, behind_opening, parted_read, parted, pattern_stands, front_counted}
 
 term_stays : (old new : Program) → KeepsTrees old new → (id : TermId) (n : Node) (at : Spot) → TermStands old id n at → TermStands new id n at
@@ -49,7 +53,9 @@ pub term_keeps : (v : Version) (old new : Program) → KeepsTrees old new → (i
 term_keeps v old new k id xs (bare_placed s) = bare_placed (term_stays old new k _ _ _ s)
 term_keeps v old new k id xs (never_placed s counted) =
     never_placed (term_stays old new k _ _ _ s) (counted ∙ ap (λ (t : Term). length (spell_term v t)) (sym (k.trees id s.held)))
-term_keeps v old new k id xs (with_value_placed s value) = with_value_placed (term_stays old new k _ _ _ s) (expression_keeps v old new k _ _ value)
+term_keeps v old new k id xs (with_value_placed behind s value) = with_value_placed behind (term_stays old new k _ _ _ s) (expression_keeps v old new k _ _ value)
+term_keeps v old new k id xs (initialized_placed opening comma word closing front s value) =
+    initialized_placed opening comma word closing front (term_stays old new k _ _ _ s) (expression_keeps v old new k _ _ value)
 term_keeps v old new k id xs (timed_placed time s value) = timed_placed time (term_stays old new k _ _ _ s) (expression_keeps v old new k _ _ value)
 term_keeps v old new k id xs (arrow_placed s function) = arrow_placed (term_stays old new k _ _ _ s) (function_keeps v old new k _ _ function)
 term_keeps v old new k id xs (accumulated_placed opening comma closing s value function) =
@@ -89,10 +95,10 @@ term_stands old new id n t spot a = record { held = a.within; node = a.node; spo
 pub bare_read : {v : Version} {old new : Program} {id : TermId} {k : Bare} {t : Term} {spot : Spot} (rest : List Spot) → AddsTerm old new id (nodes.Primitive (primitives.Bare k)) t spot → Consumes (TermPlaced v new id) (spot ∷ rest) rest
 bare_read {v} {old} {new} {id} {k} {t} {spot} rest added = record { front = spot ∷ []; split = refl; holds = bare_placed (term_stands old new id _ t spot added) }
 
-pub with_value_read : {v : Version} {mid new : Program} {id : TermId} {k : WithValue} {e : ExprId} {t : Term} {spot : Spot} {r0 rest : List Spot} → AddsTerm mid new id (nodes.Primitive (primitives.WithValue k e)) t spot
+pub with_value_read : {v : Version} {mid new : Program} {id : TermId} {k : WithValue} {e : ExprId} {t : Term} {spot : Spot} {r0 rest : List Spot} → stands_initially k ≡ false → AddsTerm mid new id (nodes.Primitive (primitives.WithValue k e)) t spot
     → Consumes (ExpressionPlaced v mid e) r0 rest → Consumes (TermPlaced v new id) (spot ∷ r0) rest
-with_value_read {v} {mid} {new} {id} {k} {e} {t} {spot} added value =
-    behind_first value (λ xs p. with_value_placed (term_stands mid new id _ t spot added) (expression_keeps v mid new added.kept.trees e xs p))
+with_value_read {v} {mid} {new} {id} {k} {e} {t} {spot} behind added value =
+    behind_first value (λ xs p. with_value_placed behind (term_stands mid new id _ t spot added) (expression_keeps v mid new added.kept.trees e xs p))
 
 pub timed_read : {v : Version} {mid new : Program} {id : TermId} {k : Timing} {q : ℤ} {e : ExprId} {t : Term} {spot : Spot} {r r0 rest : List Spot} → AddsTerm mid new id (nodes.Primitive (primitives.Timed k q e)) t spot
     → BehindOne r r0 → Consumes (ExpressionPlaced v mid e) r0 rest → Consumes (TermPlaced v new id) (spot ∷ r) rest
@@ -116,12 +122,56 @@ accumulated_read {v} {one} {two} {new} {id} {k} {e} {f} {t} {spot} {r} {r0} {r1}
     behind_opening opening (in_brackets_read value between function closing (λ comma closing xs ys p q.
     accumulated_placed opening.at comma closing (term_stands two new id _ t spot added) (expression_keeps v two new added.kept.trees e xs (expression_keeps v one two K e xs p)) (function_keeps v two new added.kept.trees f ys q)))
 
+-- a node is that of a head with a part of another node: `-->` with `pre`, or any other
+data HeadedNode : Heading → ExprId → TermId → Node → Node → Type 0 where
+  pre_node : {e : ExprId} {a : TermId} → HeadedNode headings.Initialized e a (nodes.Primitive (primitives.Bare bares.Pre)) (nodes.Primitive (primitives.WithValue values.InitializedPre e))
+  other_node : {h : Heading} {e : ExprId} {a : TermId} {n : Node} → HeadedNode h e a n (nodes.Headed h e a)
+
+primitive_view : (e : ExprId) (a : TermId) (q : Primitive) → HeadedNode headings.Initialized e a (nodes.Primitive q) (headed_node headings.Initialized e a (nodes.Primitive q))
+primitive_view e a (primitives.Bare bares.Pre) = pre_node
+primitive_view e a _ = other_node
+
+node_view : (h : Heading) (e : ExprId) (a : TermId) (n : Node) → HeadedNode h e a n (headed_node h e a n)
+node_view headings.Initialized e a (nodes.Primitive q) = primitive_view e a q
+node_view _ e a n = other_node
+
+-- it stands for what the head makes of the part
+node_makes : (p : Program) (h : Heading) (e : ExprId) (a : TermId) (n : Node) → tree p a ≡ term_of p n → term_of p (headed_node h e a n) ≡ head_makes h (expression_under p e) (tree p a)
+node_makes p headings.Initialized e a (nodes.Primitive (primitives.Bare bares.Pre)) is = ap (head_makes headings.Initialized (expression_under p e)) (sym is)
+node_makes p h e a n is = ap (headed h (expression_under p e)) is ∙ ap (head_makes h (expression_under p e)) (sym is)
+
+pub headed_makes : (p : Program) (h : Heading) (e : ExprId) (a : TermId) → term_of p (headed_node h e a (term_node_at p a)) ≡ head_makes h (expression_under p e) (tree p a)
+headed_makes p h e a = node_makes p h e a (term_node_at p a) (node_builds p a (term_node_at p a) refl)
+
+-- a primitive without constants has one place
+bare_places : {v : Version} {p : Program} {id : TermId} {k : Bare} {xs : List Spot} → term_node_at p id ≡ nodes.Primitive (primitives.Bare k) → TermPlaced v p id xs → (at : Spot) × (xs ≡ at ∷ [])
+bare_places is (bare_placed {at = at} s) = (at, refl)
+bare_places is (never_placed s counted) = absurd (let e = sym s.node ∙ is in cc)
+bare_places is (with_value_placed behind s value) = absurd (let e = sym s.node ∙ is in cc)
+bare_places is (initialized_placed opening comma word closing front s value) = absurd (let e = sym s.node ∙ is in cc)
+bare_places is (timed_placed time s value) = absurd (let e = sym s.node ∙ is in cc)
+bare_places is (arrow_placed s function) = absurd (let e = sym s.node ∙ is in cc)
+bare_places is (accumulated_placed opening comma closing s value function) = absurd (let e = sym s.node ∙ is in cc)
+bare_places is (joined_placed between closing s one two) = absurd (let e = sym s.node ∙ is in cc)
+bare_places is (sided_placed s part) = absurd (let e = sym s.node ∙ is in cc)
+bare_places is (headed_placed opening comma closing s value part) = absurd (let e = sym s.node ∙ is in cc)
+bare_places is (switching_placed opening comma leads closing s source pattern body) = absurd (let e = sym s.node ∙ is in cc)
+
+-- what a head makes stands so, with these places of the value and the part
+headed_placed_so : {v : Version} {two new : Program} {id a : TermId} {h : Heading} {e : ExprId} {n m : Node} {t : Term} {spot : Spot} {xs ys : List Spot} (opening comma closing : Spot) → HeadedNode h e a n m → term_node_at two a ≡ n
+    → AddsTerm two new id m t spot → ExpressionPlaced v new e xs → TermPlaced v two a ys → TermPlaced v new id (spot ∷ around opening xs comma ys closing)
+headed_placed_so {v} {two} {new} {id} {t = t} {spot = spot} {xs = xs} opening comma closing pre_node is added value part =
+    let one = bare_places is part in
+    subst (λ (ys : List Spot). TermPlaced v new id (spot ∷ around opening xs comma ys closing)) (sym one.1) (initialized_placed opening comma one.0 closing refl (term_stands two new id _ t spot added) value)
+headed_placed_so {v} {two} {new} {id} {a = a} {t = t} {spot = spot} {ys = ys} opening comma closing other_node is added value part =
+    headed_placed opening comma closing (term_stands two new id _ t spot added) value (term_keeps v two new added.kept.trees a ys part)
+
 -- an expression and a term in brackets
-pub headed_read : {v : Version} {one two new : Program} {id a : TermId} {h : Heading} {e : ExprId} {t : Term} {spot : Spot} {r r0 r1 r2 r3 rest : List Spot} → KeepsTrees one two → AddsTerm two new id (nodes.Headed h e a) t spot
+pub headed_read : {v : Version} {one two new : Program} {id a : TermId} (h : Heading) {e : ExprId} {n : Node} {t : Term} {spot : Spot} {r r0 r1 r2 r3 rest : List Spot} → KeepsTrees one two → n ≡ headed_node h e a (term_node_at two a) → AddsTerm two new id n t spot
     → BehindOne r r0 → Consumes (ExpressionPlaced v one e) r0 r1 → BehindOne r1 r2 → Consumes (TermPlaced v two a) r2 r3 → BehindOne r3 rest → Consumes (TermPlaced v new id) (spot ∷ r) rest
-headed_read {v} {one} {two} {new} {id} {a} {h} {e} {t} {spot} {r} {r0} {r1} {r2} {r3} {rest} k added opening value between part closing =
+headed_read {v} {one} {two} {new} {id} {a} h {e} {n} {t} {spot} k is added opening value between part closing =
     behind_opening opening (in_brackets_read value between part closing (λ comma closing xs ys p q.
-    headed_placed opening.at comma closing (term_stands two new id _ t spot added) (expression_keeps v two new added.kept.trees e xs (expression_keeps v one two k e xs p)) (term_keeps v two new added.kept.trees a ys q)))
+    headed_placed_so opening.at comma closing (subst (HeadedNode h e a (term_node_at two a)) (sym is) (node_view h e a (term_node_at two a))) refl added (expression_keeps v two new added.kept.trees e xs (expression_keeps v one two k e xs p)) q))
 
 -- a term, a pattern and another term in brackets
 pub switching_read : {v : Version} {one two new : Program} {id a b : TermId} {w : Switching} {p : PlacedPattern} {q : PatternId} {t : Term} {spot : Spot} {r r0 r1 r2 r3 r4 r5 rest : List Spot} → KeepsTrees one two → AddsTerm two new id (nodes.Switching w a q b) t spot

@@ -1,13 +1,16 @@
 //! Terms.
-ghost use Rattle.std.specs.Prelude.{◌≡◌, ◌≤◌, IfOk, ◌∷◌};
-ghost use Rattle.sf_lex.specs.Tokens.{token_of};
+ghost use Rattle.std.specs.Prelude.{◌≡◌, ◌≤◌, IfOk, ◌∷◌, false};
 ghost use Rattle.sf_term.specs.Trees.{Term, primitive as primitive_form, bare as bare_form};
 ghost use Rattle.sf_parse.specs.Answers.{toks, StopsReading, ReadsAs, counts_of};
 ghost use Rattle.sf_text.specs.Answers.{ReadsTerm};
 ghost use Rattle.sf_grammar.specs.Placing.{TermPlaced};
 ghost use Rattle.sf_parse.specs.Consuming.{places, BehindOne, Consumes};
-ghost use Rattle.sf_grammar.specs.Reading.{begins_term, too_deep, term_read, parse_never, parse_value, parse_timed, parse_arrow, parse_accumulated, parse_sided, parse_headed, parse_switching, parse_join, parse_joined, parse_form, parse_worded, parse_term};
+ghost use Rattle.sf_text.specs.Consuming.{headed_node, HasValueSo};
+ghost use Rattle.sf_grammar.specs.Reading.{begins_term, too_deep, term_read, parse_never, parse_value, parse_timed, parse_arrow, parse_accumulated, parse_sided, parse_headed, parse_switching, parse_join, parse_joined, parse_form, parse_behind_head, parse_term};
+ghost use Rattle.sf_term.specs.Arena.{HoldsExpression, HoldsTerm, HoldsTermParts, term_node_at};
+ghost use Rattle.sf_grammar.specs.Spelling.{stands_initially};
 
+use sf_expr::ExprId;
 use sf_grammar::{Head, Version, head_of, join_of};
 use sf_lex::{PlacedToken, Symbol, Token};
 use sf_parse::{Stop, expression, function, inner_type, number, pattern, refused, stop_at, symbol};
@@ -18,22 +21,12 @@ use sf_term::{
 };
 use std::alloc::Global;
 
-fn begins_term(token: &Token) -> bool
-    ensures { result ≡ begins_term (token_of token.now) }
-{
-    match token {
-        Token::Keyword(keyword) => head_of(*keyword).is_some(),
-        Token::Symbol(symbol) => *symbol == Symbol::Open,
-        _ => false,
-    }
-}
-
 /// A term would be 65 deep here.
 fn term_too_deep(tokens: &[PlacedToken]) -> Stop
     ensures { StopsReading {A = Term} result (too_deep begins_term (toks tokens.now)) }
 {
     match tokens {
-        [first, ..] if begins_term(&first.token) => stop_at(Rule::TooDeep, tokens),
+        [first, ..] if head_of(&first.token).is_some() => stop_at(Rule::TooDeep, tokens),
         _ => stop_at(Rule::Unexpected, tokens),
     }
 }
@@ -91,6 +84,7 @@ fn with_value<'a>(
     left: u32,
 ) -> Result<(TermId, &'a [PlacedToken<'a>]), Stop>
     requires shallow { left ≤ 63 }
+    requires behind { stands_initially kind ≡ false }
     ensures reads { ReadsTerm program.old program.new result (parse_value left version (counts_of program.old) kind (toks tokens.now) (toks rest.now)) }
     ensures placed { IfOk result (λ x. Consumes (TermPlaced version program.new x.0) (spot ∷ places rest.now) (places x.1.now)) }
 {
@@ -228,19 +222,15 @@ fn form<'a>(
         return Err(stop_at(Rule::Unexpected, tokens));
     };
     let spot = first.spot;
-    match &first.token {
-        Token::Keyword(keyword) => match head_of(*keyword) {
-            Some(head) => worded(alloc, version, tokens, rest, program, head, spot, left),
-            None => Err(stop_at(Rule::Unexpected, tokens)),
-        },
-        Token::Symbol(Symbol::Open) => joined(alloc, version, tokens, rest, program, spot, left),
-        _ => Err(stop_at(Rule::Unexpected, tokens)),
+    match head_of(&first.token) {
+        Some(head) => behind_head(alloc, version, tokens, rest, program, head, spot, left),
+        None => Err(stop_at(Rule::Unexpected, tokens)),
     }
 }
 
-/// A form whose word is the first of these tokens, and the tokens behind it.
+/// A form whose head is the first of these tokens, and the tokens behind it.
 #[cycle(term)]
-fn worded<'a>(
+fn behind_head<'a>(
     alloc: Global,
     version: Version,
     tokens: &'a [PlacedToken<'a>],
@@ -251,7 +241,8 @@ fn worded<'a>(
     left: u32,
 ) -> Result<(TermId, &'a [PlacedToken<'a>]), Stop>
     requires shallow { left ≤ 63 }
-    ensures reads { ReadsTerm program.old program.new result (parse_worded left version (parse_term left version) (counts_of program.old) (Some head) (toks tokens.now) (toks rest.now)) }
+    requires stands { HasValueSo head }
+    ensures reads { ReadsTerm program.old program.new result (parse_behind_head left version (parse_term left version) (counts_of program.old) (Some head) (toks tokens.now) (toks rest.now)) }
     ensures placed { IfOk result (λ x. Consumes (TermPlaced version program.new x.0) (spot ∷ places rest.now) (places x.1.now)) }
 {
     match head {
@@ -265,6 +256,7 @@ fn worded<'a>(
         Head::Accumulated(kind) => accumulated(
             alloc, version, tokens, rest, program, kind, spot, left,
         ),
+        Head::Joined => joined(alloc, version, tokens, rest, program, spot, left),
         Head::Sided(side) => sided(alloc, version, tokens, rest, program, side, spot, left),
         Head::Headed(heading) => headed(alloc, version, tokens, rest, program, heading, spot, left),
         Head::Switching(kind) => switching(alloc, version, tokens, rest, program, kind, spot, left),
@@ -295,7 +287,25 @@ fn sided<'a>(
     }
 }
 
-/// A term with an expression at its head, whose word is the first of these tokens, and the tokens behind it.
+/// The node of a head, a value and a part: behind `-->`, `pre` makes one primitive with the value.
+fn head_node(program: &Program, heading: Heading, value: ExprId, part: TermId) -> Node
+    requires value_held { HoldsExpression program.now value }
+    requires part_held { HoldsTerm program.now part }
+    ensures node { result ≡ headed_node heading value part (term_node_at program.now part) }
+    ensures held { HoldsTermParts program.now result }
+{
+    match heading {
+        Heading::LoopPre => Node::Headed(heading, value, part),
+        Heading::Initialized => match program.node(part) {
+            Node::Primitive(Primitive::Bare(Bare::Pre)) => {
+                Node::Primitive(Primitive::WithValue(WithValue::InitializedPre, value))
+            }
+            _ => Node::Headed(heading, value, part),
+        },
+    }
+}
+
+/// A term with an expression at its head, whose word or `-->` is the first of these tokens, and the tokens behind it.
 #[cycle(term)]
 #[tactic(auto, unfolding(sf_grammar::specs::Reading::parse_headed))]
 fn headed<'a>(
@@ -317,7 +327,8 @@ fn headed<'a>(
     let rest = symbol(rest, Symbol::Comma)?;
     let (part, rest) = term(alloc, version, rest, program, left)?;
     let rest = symbol(rest, Symbol::Close)?;
-    match program.add(Node::Headed(heading, value, part), spot) {
+    let node = head_node(&*program, heading, value, part);
+    match program.add(node, spot) {
         Ok(id) => Ok((id, rest)),
         Err(refusal) => Err(refused(refusal, tokens)),
     }

@@ -1,9 +1,9 @@
 use Rattle.std.proofs.Common.{◌∙◌, sym, refl, ap, Ok, Err}
 use Rattle.sf_value.specs.Values.{pair_kind}
-use Rattle.sf_check.specs.Breaking.{sequence_left, fan_right, parallel_input, side_input}
+use Rattle.sf_check.specs.Breaking.{initialized_part, sequence_left, fan_right, parallel_input, side_input}
 use Rattle.sf_term.specs.Arena.{expressions_of}
 use Rattle.sf_check.specs.Contexts.{context_in}
-use Rattle.sf_check.proofs.Terms.{part_refused, err_answers, memory_answers, joined_there, sided_there, mismatch_refused, primitive_answers, sequence_answers, fan_answers, copy_reached, copy_takes, left_reached, right_reached, first_reached, second_reached, parallel_answers, first_answers, second_answers, start_answers, fed_refused, loop_reached, loop_answers, answers_under, source_reached, source_answers, pattern_answers, body_reached, body_answers, switch_answers}
+use Rattle.sf_check.proofs.Terms.{part_refused, err_answers, memory_answers, joined_there, sided_there, mismatch_refused, primitive_answers, sequence_answers, fan_answers, copy_reached, copy_takes, left_reached, right_reached, first_reached, second_reached, parallel_answers, first_answers, second_answers, start_answers, initialized_refused, initialized_answers, fed_refused, loop_reached, loop_answers, answers_under, pattern_answers, body_reached, body_answers, switch_answers, source_reached, source_answers, source_wants, input_answers, first_term_reached, input_wants, switching_there}
 use Rattle.sf_check.proofs.typing.+output.Goals as goal
 
 pub output_of-returns-in-Primitive : goal.output_of-returns-in-Primitive
@@ -81,70 +81,119 @@ sided_output-returns t c =
 
 -- ## `loopPre`
 
-pub headed_output-returns-in_err-fed : goal.headed_output-returns-in_err-fed
-headed_output-returns-in_err-fed t c =
-    err_answers _ _ _ _ _ _ c.from_residual.ensures.1 (start_answers _ _ _ _ _ c.spot-spot.ensures _ _ c.requires.there _ refl _ c.in_err-fed.ensures)
+pub looped_output-returns-in_err-fed : goal.looped_output-returns-in_err-fed
+looped_output-returns-in_err-fed t c =
+    err_answers _ _ _ _ _ _ c.from_residual.ensures.1 (start_answers _ _ _ _ _ c.spot-spot.ensures _ _ _ c.requires.there _ refl _ c.in_err-fed.ensures)
 
-pub headed_output-returns-in_err-given : goal.headed_output-returns-in_err-given
-headed_output-returns-in_err-given t c =
+pub looped_output-returns-in_err-given : goal.looped_output-returns-in_err-given
+looped_output-returns-in_err-given t c =
     let fed = c.in_ok-second in
     err_answers _ _ _ _ _ _ c.from_residual-in_err-given.ensures.1 (fed_refused _ _ _ _ _ c.spot-spot.ensures _ _ c.requires.there _ refl _ c.in_ok-fed.ensures fed.second _ fed.ensures.same c.in_err-given.ensures)
 
-pub headed_output-returns-in_err-output : goal.headed_output-returns-in_err-output
-headed_output-returns-in_err-output t c =
+pub looped_output-returns-in_err-output : goal.looped_output-returns-in_err-output
+looped_output-returns-in_err-output t c =
     let fed = c.in_ok-second in
     let given = c.in_ok-given in
     err_answers _ _ _ _ _ _ c.from_residual-in_err-output.ensures.1 (part_refused _ _ _ _ _ c.requires.there _ _ _ (loop_reached _ _ _ _ _ c.spot-spot.ensures _ _ c.requires.there _ refl _ c.in_ok-fed.ensures given.given (given.ensures.0 ∙ ap (pair_kind c.args.input) fed.ensures.same) given.ensures.1) c.in_err-output.ensures)
 
-pub headed_output-returns : goal.headed_output-returns
-headed_output-returns t c =
+pub looped_output-returns : goal.looped_output-returns
+looped_output-returns t c =
     let fed = c.in_ok-second in
     let given = c.in_ok-given in
     loop_answers _ _ _ _ _ c.spot-spot.ensures _ _ c.requires.there _ refl _ c.in_ok-fed.ensures given.given _ _ (given.ensures.0 ∙ ap (pair_kind c.args.input) fed.ensures.same) c.requires.fits c.in_ok-output.ensures c.loop_output.ensures.ok c.loop_output.ensures.err
 
-pub headed_output-returns-in_err-second : goal.headed_output-returns-in_err-second
-headed_output-returns-in_err-second t c = memory_answers _ _ c.args.term _ _ c.from_residual-in_err-second.ensures.1
+pub looped_output-returns-in_err-second : goal.looped_output-returns-in_err-second
+looped_output-returns-in_err-second t c = memory_answers _ _ c.args.term _ _ c.from_residual-in_err-second.ensures.1
 
--- ## Switches
+-- ## `-->`
 
-pub switching_output-returns-in_err-clone_in : goal.switching_output-returns-in_err-clone_in
-switching_output-returns-in_err-clone_in t c = memory_answers _ _ c.args.term _ _ c.from_residual.ensures.1
+pub initialized_output-returns-in_err-given : goal.initialized_output-returns-in_err-given
+initialized_output-returns-in_err-given t c =
+    err_answers _ _ _ _ _ _ c.from_residual.ensures.1 (start_answers _ _ _ _ _ c.spot-spot.ensures _ _ _ c.requires.there _ refl _ c.in_err-given.ensures)
 
-pub switching_output-returns-in_err-output : goal.switching_output-returns-in_err-output
-switching_output-returns-in_err-output t c =
-    err_answers _ _ _ _ _ _ c.from_residual-in_err-output.ensures.1 (part_refused _ _ _ _ _ c.requires.there.1 _ _ _ (source_reached c.args.context.now.program.now _ c.args.term _ _ c.spot-spot.ensures _ c.in_ok-clone_in.ensures.same _ _ _ _) c.in_err-output.ensures)
+pub initialized_output-returns-in_err-output : goal.initialized_output-returns-in_err-output
+initialized_output-returns-in_err-output t c =
+    err_answers _ _ _ _ _ _ c.from_residual-in_err-output.ensures.1 (part_refused _ _ _ _ _ c.requires.there _ _ _ (initialized_part c.in_ok-given.ensures) c.in_err-output.ensures)
 
-pub switching_output-returns-in_err-value : goal.switching_output-returns-in_err-value
-switching_output-returns-in_err-value t c =
-    let wrong = c.in_err-value.ensures.err in
-    err_answers _ _ _ _ _ _ c.from_residual-in_err-value.ensures.1
-    (source_answers c.args.context.now.program.now _ c.args.term _ _ c.spot-spot.ensures _ _ _ _ c.requires.there.1 _ c.in_ok-clone_in.ensures.same _ c.in_ok-output.ensures _ wrong.0 wrong.1)
+pub initialized_output-returns-in_err-same : goal.initialized_output-returns-in_err-same
+initialized_output-returns-in_err-same t c =
+    let other = c.in_err-same.ensures.err in
+    err_answers _ _ _ _ _ _ c.from_residual-in_err-same.ensures.1 (initialized_refused _ _ _ _ _ c.spot-spot.ensures _ _ c.requires.there _ c.in_ok-given.ensures _ c.in_ok-output.ensures _ other.0 other.1)
 
-pub switching_output-returns-in_err-inner : goal.switching_output-returns-in_err-inner
-switching_output-returns-in_err-inner t c =
-    err_answers _ _ _ _ _ _ c.from_residual-in_err-inner.ensures.1
-    (pattern_answers c.args.context.now.program.now _ c.args.term _ _ c.spot-spot.ensures _ _ _ _ c.requires.there.1 _ c.in_ok-clone_in.ensures.same _ c.in_ok-output.ensures _ _ c.in_ok-value.ensures.ok _ c.in_err-inner.ensures.refused)
+pub initialized_output-returns : goal.initialized_output-returns
+initialized_output-returns t c =
+    initialized_answers _ _ _ _ _ c.spot-spot.ensures _ _ c.requires.there _ c.in_ok-given.ensures _ c.in_ok-output.ensures c.requires.fits c.in_ok-same.ensures.ok
 
-pub switching_output-returns-in_err-given : goal.switching_output-returns-in_err-given
-switching_output-returns-in_err-given t c =
+-- ## The bodies of switches
+
+pub body_output-returns-in_err-inner : goal.body_output-returns-in_err-inner
+body_output-returns-in_err-inner t c = λ w f a is fit wanted.
+    err_answers _ _ _ _ _ _ c.from_residual.ensures.1
+    (pattern_answers c.args.context.now.program.now _ c.args.term _ _ c.spot-spot.ensures _ _ _ _ is _ _ _ wanted _ c.in_err-inner.ensures.refused)
+
+pub body_output-returns-in_err-given : goal.body_output-returns-in_err-given
+body_output-returns-in_err-given t c = λ w f a is fit wanted.
     let p = c.args.context.now.program.now in
     let inner = c.in_ok-inner.ensures in
-    err_answers _ _ _ _ _ _ c.from_residual-in_err-given.ensures.1 (part_refused _ _ _ _ _ c.requires.there.1 _ _ _
-    (body_reached p _ c.args.term _ _ c.spot-spot.ensures _ _ _ _ c.requires.there.1 _ c.in_ok-clone_in.ensures.same _ c.in_ok-output.ensures _ _ c.in_ok-value.ensures.ok inner.bound)
+    err_answers _ _ _ _ _ _ c.from_residual-in_err-given.ensures.1 (part_refused _ _ _ _ _ is _ _ _
+    (body_reached p _ c.args.term _ _ c.spot-spot.ensures _ _ _ _ is _ _ _ wanted inner.bound)
     (answers_under _ p _ _ _ _ (Err _) inner.program inner.context c.in_err-given.ensures))
 
-pub switching_output-returns-in_err-same : goal.switching_output-returns-in_err-same
-switching_output-returns-in_err-same t c =
+pub body_output-returns-in_err-same : goal.body_output-returns-in_err-same
+body_output-returns-in_err-same t c = λ w f a is fit wanted.
     let p = c.args.context.now.program.now in
     let inner = c.in_ok-inner.ensures in
     let body = answers_under _ p _ _ _ _ (Ok _) inner.program inner.context c.in_ok-given.ensures in
     let other = c.in_err-same.ensures.err in
     err_answers _ _ _ _ _ _ c.from_residual-in_err-same.ensures.1
-    (body_answers p _ c.args.term _ _ c.spot-spot.ensures _ _ _ _ c.requires.there.1 _ c.in_ok-clone_in.ensures.same _ c.in_ok-output.ensures _ _ c.in_ok-value.ensures.ok inner.bound _ body _ other.0 other.1)
+    (body_answers p _ c.args.term _ _ c.spot-spot.ensures _ _ _ _ is _ _ _ wanted inner.bound _ body _ other.0 other.1)
 
-pub switching_output-returns : goal.switching_output-returns
-switching_output-returns t c =
+pub body_output-returns : goal.body_output-returns
+body_output-returns t c = λ w f a is fit wanted.
     let p = c.args.context.now.program.now in
     let inner = c.in_ok-inner.ensures in
     let body = answers_under _ p _ _ _ _ (Ok _) inner.program inner.context c.in_ok-given.ensures in
-    switch_answers p _ c.args.term _ _ c.spot-spot.ensures _ _ _ _ c.requires.there.1 _ c.in_ok-clone_in.ensures.same _ c.in_ok-output.ensures _ _ c.in_ok-value.ensures.ok inner.bound _ body c.requires.fits c.in_ok-same.ensures.ok
+    switch_answers p _ c.args.term _ _ c.spot-spot.ensures _ _ _ _ is _ _ _ wanted inner.bound _ body fit c.in_ok-same.ensures.ok
+
+-- ## Switches
+
+pub switching_output-returns-in_err-clone_in-in-Basic : goal.switching_output-returns-in_err-clone_in-in-Basic
+switching_output-returns-in_err-clone_in-in-Basic t c = memory_answers _ _ c.args.term _ _ c.from_residual.ensures.1
+
+pub switching_output-returns-in_err-output-in-Basic : goal.switching_output-returns-in_err-output-in-Basic
+switching_output-returns-in_err-output-in-Basic t c =
+    err_answers _ _ _ _ _ _ c.from_residual-in_err-output-in-Basic.ensures.1 (part_refused _ _ _ _ _ (switching_there _ _ c.in-Basic.is c.requires.there) _ _ _
+    (source_reached c.args.context.now.program.now _ c.args.term _ _ c.spot-spot.ensures _ _ _ _ _ c.in_ok-clone_in-in-Basic.ensures.same) c.in_err-output-in-Basic.ensures)
+
+pub switching_output-returns-in_err-value-in-Basic : goal.switching_output-returns-in_err-value-in-Basic
+switching_output-returns-in_err-value-in-Basic t c =
+    let wrong = c.in_err-value-in-Basic.ensures.err in
+    err_answers _ _ _ _ _ _ c.from_residual-in_err-value-in-Basic.ensures.1
+    (source_answers c.args.context.now.program.now _ c.args.term _ _ c.spot-spot.ensures _ _ _ _ _ c.in_ok-clone_in-in-Basic.ensures.same _ c.in_ok-output-in-Basic.ensures _ (switching_there _ _ c.in-Basic.is c.requires.there) wrong.0 wrong.1)
+
+pub switching_output-returns-in_ok-value-in-Basic : goal.switching_output-returns-in_ok-value-in-Basic
+switching_output-returns-in_ok-value-in-Basic t c =
+    c.body_output.ensures _ _ _ (switching_there _ _ c.in-Basic.is c.requires.there) c.requires.fits
+    (source_wants c.args.context.now.program.now _ c.args.term _ _ c.spot-spot.ensures _ _ c.args.pattern c.args.body _ c.in_ok-clone_in-in-Basic.ensures.same _ c.in_ok-output-in-Basic.ensures _ _ c.in_ok-value-in-Basic.ensures.ok)
+
+pub switching_output-returns-in_err-value-in-Recurring : goal.switching_output-returns-in_err-value-in-Recurring
+switching_output-returns-in_err-value-in-Recurring t c =
+    let wrong = c.in_err-value-in-Recurring.ensures.err in
+    err_answers _ _ _ _ _ _ c.from_residual-in_err-value-in-Recurring.ensures.1
+    (input_answers c.args.context.now.program.now _ c.args.term _ _ c.spot-spot.ensures _ _ _ _ _ (switching_there _ _ c.in-Recurring.is c.requires.there) wrong.0 wrong.1)
+
+pub switching_output-returns-in_err-clone_in-in-Recurring : goal.switching_output-returns-in_err-clone_in-in-Recurring
+switching_output-returns-in_err-clone_in-in-Recurring t c = memory_answers _ _ c.args.term _ _ c.from_residual-in_err-clone_in-in-Recurring.ensures.1
+
+pub switching_output-returns-in_err-output-in-Recurring : goal.switching_output-returns-in_err-output-in-Recurring
+switching_output-returns-in_err-output-in-Recurring t c =
+    err_answers _ _ _ _ _ _ c.from_residual-in_err-output-in-Recurring.ensures.1 (part_refused _ _ _ _ _ (switching_there _ _ c.in-Recurring.is c.requires.there) _ _ _
+    (first_term_reached c.args.context.now.program.now _ c.args.term _ _ c.spot-spot.ensures _ _ _ _ _ _ c.in_ok-value-in-Recurring.ensures.ok _ c.in_ok-clone_in-in-Recurring.ensures.same) c.in_err-output-in-Recurring.ensures)
+
+pub switching_output-returns-in_err-same_input-in-Recurring : goal.switching_output-returns-in_err-same_input-in-Recurring
+switching_output-returns-in_err-same_input-in-Recurring t c = memory_answers _ _ c.args.term _ _ c.from_residual-in_err-same_input-in-Recurring.ensures.1
+
+pub switching_output-returns-in_ok-same_input-in-Recurring : goal.switching_output-returns-in_ok-same_input-in-Recurring
+switching_output-returns-in_ok-same_input-in-Recurring t c =
+    c.body_output-in-Recurring.ensures _ _ _ (switching_there _ _ c.in-Recurring.is c.requires.there) c.requires.fits
+    (input_wants c.args.context.now.program.now _ c.args.term _ _ c.spot-spot.ensures _ _ c.args.pattern c.args.body _ _ c.in_ok-value-in-Recurring.ensures.ok _ c.in_ok-clone_in-in-Recurring.ensures.same _ _ c.in_ok-same_input-in-Recurring.ensures.same c.in_ok-output-in-Recurring.ensures)

@@ -5,6 +5,9 @@ use Rattle.sf_check.proofs.typing.given_output.Goals as goal
 pub returns-in_err-same-in-InitialPre : goal.returns-in_err-same-in-InitialPre
 returns-in_err-same-in-InitialPre c = mismatched _ _ _ c.from_residual.ensures.1 c.in_err-same-in-InitialPre.ensures.err.1 (rw c.in-InitialPre.is (none_only c.args.input.now c.args.given _ _ refl c.in_err-same-in-InitialPre.ensures.err.0))
 
+pub returns-in_err-same-in-InitializedPre : goal.returns-in_err-same-in-InitializedPre
+returns-in_err-same-in-InitializedPre c = mismatched _ _ _ c.from_residual-in_err-same-in-InitializedPre.ensures.1 c.in_err-same-in-InitializedPre.ensures.err.1 (rw c.in-InitializedPre.is (none_only c.args.input.now c.args.given _ _ refl c.in_err-same-in-InitializedPre.ensures.err.0))
+
 pub returns-in_err-payload-in-Hold : goal.returns-in_err-payload-in-Hold
 returns-in_err-payload-in-Hold c = mismatched _ _ _ c.from_residual-in_err-payload-in-Hold.ensures.1 c.in_err-payload-in-Hold.ensures.err.1 (rw c.in-Hold.is (none_found _ c.in_err-payload-in-Hold.ensures.err.0))
 

@@ -1,5 +1,9 @@
-use Rattle.sf_step.proofs.Routes.{head_wraps}
+use Rattle.sf_mean.specs.Meaning.{no_loop}
+use Rattle.sf_state.specs.Standing.{wraps_loop, wraps_initialized}
 use Rattle.sf_step.proofs.routing.with_head.Goals as goal
 
-pub returns : goal.returns
-returns c = λ n i t e. head_wraps c.args.heading c.args.value n i t e
+pub returns-in-LoopPre : goal.returns-in-LoopPre
+returns-in-LoopPre c = λ n i t e. rw c.in-LoopPre.is (wraps_loop no_loop)
+
+pub returns-in-Initialized : goal.returns-in-Initialized
+returns-in-Initialized c = λ n i t e. rw c.in-Initialized.is wraps_initialized

@@ -1,14 +1,14 @@
 use Rattle.std.proofs.Common.{◌≡◌, [], length, Ok, Err, refl, ap, ◌∙◌, subst, arith}
 use Rattle.std.specs.Vec.{with_items}
 use Rattle.std.proofs.lemmas.List.{with_items_is}
-use Rattle.sf_state.specs.declared.state.Wrap.TheVariants.{Loop}
+use Rattle.sf_state.specs.declared.state.Wrap.TheVariants.{Loop, Initialized}
 use Rattle.sf_term.specs.declared.form.Join.TheVariants.{InParallel, FannedOut}
 use Rattle.sf_value.specs.Values.{first_of, second_of}
 use Rattle.sf_mean.specs.Lives.{step, closure}
 use Rattle.sf_mean.specs.Meaning.{switched_value}
 use Rattle.sf_step.specs.Meters.{fault_of}
-use Rattle.sf_step.specs.Sampling.{fails}
 use Rattle.sf_step.proofs.Parts.{pass_exit, failed, memory_exit}
+use Rattle.sf_step.proofs.Recurring.{run_fails, run_memory, new_fails, new_runs, runs_alone}
 use Rattle.sf_step.proofs.Switches.{comes_some, comes_none, source_fails, switch_memory, switch_waits_on, body_fails, body_takes_over, late_part, pass_beside, start_takes, start_waits, watching_goes, watching_stays, watching_fails}
 use Rattle.sf_step.proofs.Stages.{StagesStep, continues_first, continues_next, continues_fails, continues_last, pipeline_steps, pipeline_fails}
 use Rattle.sf_step.proofs.Exits.{ticked_by, tick_fails, first_memory, join_left_fails, join_right_fails, join_steps, other_join, wrap_fails, wrap_steps, early_memory, late_memory, state_steps, start_steps, start_fails, start_switches, start_open_fails}
@@ -106,49 +106,97 @@ step_watching-returns-in-None-clause-answers g t c = λ T e L N W. early_memory 
 
 -- ## step_switch
 
-pub step_switch-returns-in_default-clause-answers : goal.step_switch-returns-in_default-clause-answers
-step_switch-returns-in_default-clause-answers g t c = λ m depth t T e L N W. early_memory (g.R.Holds.answers c.args.context.now.functions.now) c.args.context.now.plan.now t c.stop.ensures.entered c.stop.ensures.height c.stop.ensures.fault
+pub step_switch-returns-in_err-step_recurring-in-Recurring-clause-answers : goal.step_switch-returns-in_err-step_recurring-in-Recurring-clause-answers
+step_switch-returns-in_err-step_recurring-in-Recurring-clause-answers g t c = λ m depth t T e L N W.
+    pass_beside (g.R.Holds.answers c.args.context.now.functions.now) c.args.context.now.plan.now _ _ _ c.from_residual.ensures.0 (failed (c.in_err-step_recurring-in-Recurring.ensures.answers m depth t T e L N W))
 
-pub step_switch-returns-in_err-step_state-clause-answers : goal.step_switch-returns-in_err-step_state-clause-answers
-step_switch-returns-in_err-step_state-clause-answers g t c = λ m depth t T e L N W.
-    pass_beside (g.R.Holds.answers c.args.context.now.functions.now) c.args.context.now.plan.now _ _ _ c.from_residual.ensures.0 (source_fails (g.R.Holds.answers c.args.context.now.functions.now) c.args.context.now.plan.now c.args.names.now c.args.switch.now (step c.args.context.now.dt c.args.value.now) c.args.meter.now c.step_state.new.meter c.args.inside
+-- ## step_basic
+
+pub step_basic-returns-in_default-clause-answers : goal.step_basic-returns-in_default-clause-answers
+step_basic-returns-in_default-clause-answers g t c = λ m depth t T e L N W. early_memory (g.R.Holds.answers c.args.context.now.functions.now) c.args.context.now.plan.now t c.stop.ensures.entered c.stop.ensures.height c.stop.ensures.fault
+
+pub step_basic-returns-in_err-step_state-clause-answers : goal.step_basic-returns-in_err-step_state-clause-answers
+step_basic-returns-in_err-step_state-clause-answers g t c = λ m depth t T e L N W.
+    pass_beside (g.R.Holds.answers c.args.context.now.functions.now) c.args.context.now.plan.now _ _ _ c.from_residual.ensures.0 (source_fails (g.R.Holds.answers c.args.context.now.functions.now) c.args.context.now.plan.now c.args.names.now c.args.switch.now c.args.shown c.requires.form (step c.args.context.now.dt c.args.value.now) c.args.meter.now c.step_state.new.meter c.args.inside
     _ c.in_err-step_state.ensures.answers m depth t T e L N W)
 
-pub step_switch-returns-in_default-parts-clause-answers : goal.step_switch-returns-in_default-parts-clause-answers
-step_switch-returns-in_default-parts-clause-answers g t c = λ m depth t T e L N W.
-    memory_exit c.stop-in_default-parts.ensures.fault (switch_memory (g.R.Holds.answers c.args.context.now.functions.now) c.args.context.now.plan.now c.args.names.now c.args.switch.now (step c.args.context.now.dt c.args.value.now) c.args.meter.now c.step_state.new.meter c.args.inside
+pub step_basic-returns-in_default-parts-clause-answers : goal.step_basic-returns-in_default-parts-clause-answers
+step_basic-returns-in_default-parts-clause-answers g t c = λ m depth t T e L N W.
+    memory_exit c.stop-in_default-parts.ensures.fault (switch_memory (g.R.Holds.answers c.args.context.now.functions.now) c.args.context.now.plan.now c.args.names.now c.args.switch.now c.args.shown c.requires.form (step c.args.context.now.dt c.args.value.now) c.args.meter.now c.step_state.new.meter c.args.inside
     c.step_state.new.state c.step_state.new.value c.in_ok-step_state.ensures.answers _ c.stop-in_default-parts.ensures.entered c.stop-in_default-parts.ensures.height m depth t T e L N W)
 
-pub step_switch-returns-in-None-clause-answers : goal.step_switch-returns-in-None-clause-answers
-step_switch-returns-in-None-clause-answers g t c =
+pub step_basic-returns-in-None-clause-answers : goal.step_basic-returns-in-None-clause-answers
+step_basic-returns-in-None-clause-answers g t c =
     let y = c.step_state.new.value in
     let same = c.replace-both.ensures.value in
-    switch_waits_on (g.R.Holds.answers c.args.context.now.functions.now) c.args.context.now.plan.now c.args.names.now c.args.switch.now (step c.args.context.now.dt c.args.value.now) c.args.meter.now c.step_state.new.meter c.args.inside
+    switch_waits_on (g.R.Holds.answers c.args.context.now.functions.now) c.args.context.now.plan.now c.args.names.now c.args.switch.now c.args.shown c.requires.form (step c.args.context.now.dt c.args.value.now) c.args.meter.now c.step_state.new.meter c.args.inside
     c.step_state.new.state y c.in_ok-step_state.ensures.answers (comes_none _ c.payload_of.result c.in-Ok-parts.event y c.payload_of.ensures c.in-None.is (c.in-Ok-parts.ensures.1 ∙ ap second_of same))
-    c.in-Ok-parts.shown (c.in-Ok-parts.ensures.0 ∙ ap first_of same) _ refl
+    c.in-Ok-parts.old (c.in-Ok-parts.ensures.0 ∙ ap first_of same) _ refl
 
-pub step_switch-returns-in_default-inside-clause-answers : goal.step_switch-returns-in_default-inside-clause-answers
-step_switch-returns-in_default-inside-clause-answers g t c = λ m depth t T e L N W.
-    memory_exit c.stop-in_default-inside.ensures.fault (switch_memory (g.R.Holds.answers c.args.context.now.functions.now) c.args.context.now.plan.now c.args.names.now c.args.switch.now (step c.args.context.now.dt c.args.value.now) c.args.meter.now c.step_state.new.meter c.args.inside
-    c.step_state.new.state c.step_state.new.value c.in_ok-step_state.ensures.answers _ c.stop-in_default-inside.ensures.entered c.stop-in_default-inside.ensures.height m depth t T e L N W)
+pub step_basic-returns-in_default-begin-clause-answers : goal.step_basic-returns-in_default-begin-clause-answers
+step_basic-returns-in_default-begin-clause-answers g t c = λ m depth t T e L N W.
+    memory_exit c.stop-in_default-begin.ensures.fault (switch_memory (g.R.Holds.answers c.args.context.now.functions.now) c.args.context.now.plan.now c.args.names.now c.args.switch.now c.args.shown c.requires.form (step c.args.context.now.dt c.args.value.now) c.args.meter.now c.step_state.new.meter c.args.inside
+    c.step_state.new.state c.step_state.new.value c.in_ok-step_state.ensures.answers _ c.stop-in_default-begin.ensures.entered c.stop-in_default-begin.ensures.height m depth t T e L N W)
 
-pub step_switch-returns-in_err-step_state-in-Some-clause-answers : goal.step_switch-returns-in_err-step_state-in-Some-clause-answers
-step_switch-returns-in_err-step_state-in-Some-clause-answers g t c = λ m depth t T e L N W.
+pub step_basic-returns-in_err-step_state-in-Some-clause-answers : goal.step_basic-returns-in_err-step_state-in-Some-clause-answers
+step_basic-returns-in_err-step_state-in-Some-clause-answers g t c = λ m depth t T e L N W.
     let y = c.step_state.new.value in
     let same = c.replace-both.ensures.value in
-    pass_beside (g.R.Holds.answers c.args.context.now.functions.now) c.args.context.now.plan.now _ _ _ c.from_residual-in_err-step_state-in-Some.ensures.0 (body_fails (g.R.Holds.answers c.args.context.now.functions.now) c.args.context.now.plan.now c.args.names.now c.args.switch.now (step c.args.context.now.dt c.args.value.now) c.args.meter.now c.step_state.new.meter c.args.inside
+    pass_beside (g.R.Holds.answers c.args.context.now.functions.now) c.args.context.now.plan.now _ _ _ c.from_residual-in_err-step_state-in-Some.ensures.0 (body_fails (g.R.Holds.answers c.args.context.now.functions.now) c.args.context.now.plan.now c.args.names.now c.args.switch.now c.args.shown c.requires.form (step c.args.context.now.dt c.args.value.now) c.args.meter.now c.step_state.new.meter c.args.inside
     c.step_state.new.state y c.in_ok-step_state.ensures.answers c.in-Some.payload.value (comes_some _ c.payload_of.result c.in-Some.payload c.in-Ok-parts.event y c.payload_of.ensures c.in-Some.is (c.in-Ok-parts.ensures.1 ∙ ap second_of same))
-    c.in-Ok-inside.around (c.in-Ok-inside.ensures c.args.context.now.plan.now) c.step_state-in-Some.new.meter _ (rw c.in-Ok.ensures at c.in_err-step_state-in-Some.ensures.answers) m depth t T e L N W)
+    c.in-Ok-begin.body (c.in-Ok-begin.ensures (g.R.Holds.answers c.args.context.now.functions.now) c.args.context.now.plan.now) c.step_state-in-Some.new.meter _ (rw c.in-Ok.ensures at c.in_err-step_state-in-Some.ensures.answers) m depth t T e L N W)
 
-pub step_switch-returns-in_ok-step_state-in-Some-clause-answers : goal.step_switch-returns-in_ok-step_state-in-Some-clause-answers
-step_switch-returns-in_ok-step_state-in-Some-clause-answers g t c =
+pub step_basic-returns-in_ok-step_state-in-Some-clause-answers : goal.step_basic-returns-in_ok-step_state-in-Some-clause-answers
+step_basic-returns-in_ok-step_state-in-Some-clause-answers g t c =
     let y = c.step_state.new.value in
     let same = c.replace-both.ensures.value in
-    body_takes_over (g.R.Holds.answers c.args.context.now.functions.now) c.args.context.now.plan.now c.args.names.now c.args.switch.now (step c.args.context.now.dt c.args.value.now) c.args.meter.now c.step_state.new.meter c.args.inside
+    body_takes_over (g.R.Holds.answers c.args.context.now.functions.now) c.args.context.now.plan.now c.args.names.now c.args.switch.now c.args.shown c.requires.form (step c.args.context.now.dt c.args.value.now) c.args.meter.now c.step_state.new.meter c.args.inside
     c.step_state.new.state y c.in_ok-step_state.ensures.answers c.in-Some.payload.value (comes_some _ c.payload_of.result c.in-Some.payload c.in-Ok-parts.event y c.payload_of.ensures c.in-Some.is (c.in-Ok-parts.ensures.1 ∙ ap second_of same))
-    c.in-Ok-inside.around (c.in-Ok-inside.ensures c.args.context.now.plan.now) c.step_state-in-Some.new.meter
-    c.step_state-in-Some.new.state c.step_state-in-Some.new.value _ (c.switched.ensures ∙ ap (λ d. switched_value c.args.switch.now.form d c.step_state-in-Some.new.value) (c.in-Ok-parts.ensures.0 ∙ ap first_of same)) _
+    c.in-Ok-begin.body (c.in-Ok-begin.ensures (g.R.Holds.answers c.args.context.now.functions.now) c.args.context.now.plan.now) c.step_state-in-Some.new.meter
+    c.step_state-in-Some.new.state c.step_state-in-Some.new.value _ (c.switched.ensures ∙ ap (λ d. switched_value c.args.shown d c.step_state-in-Some.new.value) (c.in-Ok-parts.ensures.0 ∙ ap first_of same)) _
     (rw c.in-Ok.ensures at c.in_ok-step_state-in-Some.ensures.answers)
+
+-- ## step_recurring
+
+pub step_recurring-returns-in_default-clause-answers : goal.step_recurring-returns-in_default-clause-answers
+step_recurring-returns-in_default-clause-answers g t c = λ m depth t T e L N W. early_memory (g.R.Holds.answers c.args.context.now.functions.now) c.args.context.now.plan.now t c.stop.ensures.entered c.stop.ensures.height c.stop.ensures.fault
+
+pub step_recurring-returns-in-None-clause-answers : goal.step_recurring-returns-in-None-clause-answers
+step_recurring-returns-in-None-clause-answers g t c =
+    let same = c.replace-both.ensures.value in
+    runs_alone (g.R.Holds.answers c.args.context.now.functions.now) c.args.context.now.plan.now c.args.names.now c.args.switch.now c.args.shown c.requires.form c.args.context.now.dt c.args.value.now c.in-Ok.input (c.in-Ok.ensures.0 ∙ ap first_of same) c.args.meter.now c.step_state.new.meter c.args.inside
+    c.step_state.result c.step_state.new.state c.step_state.new.value (fault_of c.step_state.new.meter) (comes_none _ c.payload_of.result c.in-Ok.event c.args.value.now c.payload_of.ensures c.in-None.is (c.in-Ok.ensures.1 ∙ ap second_of same))
+    _ refl c.step_state.ensures.answers
+
+pub step_recurring-returns-in_default-clone_in-clause-answers : goal.step_recurring-returns-in_default-clone_in-clause-answers
+step_recurring-returns-in_default-clone_in-clause-answers g t c = λ m depth t T e L N W. early_memory (g.R.Holds.answers c.args.context.now.functions.now) c.args.context.now.plan.now t c.stop-in_default-clone_in.ensures.entered c.stop-in_default-clone_in.ensures.height c.stop-in_default-clone_in.ensures.fault
+
+pub step_recurring-returns-in_err-step_state-in-Some-clause-answers : goal.step_recurring-returns-in_err-step_state-in-Some-clause-answers
+step_recurring-returns-in_err-step_state-in-Some-clause-answers g t c = λ m depth t T e L N W.
+    let same = c.replace-both.ensures.value in
+    pass_exit _ _ c.from_residual.ensures.0 (run_fails (g.R.Holds.answers c.args.context.now.functions.now) c.args.context.now.plan.now c.args.names.now c.args.switch.now c.args.shown c.requires.form c.args.context.now.dt c.args.value.now c.in-Ok.input (c.in-Ok.ensures.0 ∙ ap first_of same) c.args.meter.now c.step_state-in-Some.new.meter c.args.inside
+    _ c.in_err-step_state-in-Some.ensures.answers m depth t T e L N W)
+
+pub step_recurring-returns-in_default-begin-clause-answers : goal.step_recurring-returns-in_default-begin-clause-answers
+step_recurring-returns-in_default-begin-clause-answers g t c = λ m depth t T e L N W.
+    let same = c.replace-both.ensures.value in
+    memory_exit c.stop-in_default-begin.ensures.fault (run_memory (g.R.Holds.answers c.args.context.now.functions.now) c.args.context.now.plan.now c.args.names.now c.args.switch.now c.args.shown c.requires.form c.args.context.now.dt c.args.value.now c.in-Ok.input (c.in-Ok.ensures.0 ∙ ap first_of same) c.args.meter.now c.step_state-in-Some.new.meter c.args.inside
+    c.step_state-in-Some.new.state c.step_state-in-Some.new.value c.in_ok-step_state-in-Some.ensures.answers _ c.stop-in_default-begin.ensures.entered c.stop-in_default-begin.ensures.height m depth t T e L N W)
+
+pub step_recurring-returns-in_err-step_state-in-Some-2-clause-answers : goal.step_recurring-returns-in_err-step_state-in-Some-2-clause-answers
+step_recurring-returns-in_err-step_state-in-Some-2-clause-answers g t c = λ m depth t T e L N W.
+    let same = c.replace-both.ensures.value in
+    pass_exit _ _ c.from_residual-in_err-step_state-in-Some-2.ensures.0 (new_fails (g.R.Holds.answers c.args.context.now.functions.now) c.args.context.now.plan.now c.args.names.now c.args.switch.now c.args.shown c.requires.form c.args.context.now.dt c.args.value.now c.in-Ok.input (c.in-Ok.ensures.0 ∙ ap first_of same) c.args.meter.now c.step_state-in-Some.new.meter c.args.inside
+    c.step_state-in-Some.new.state c.step_state-in-Some.new.value c.in_ok-step_state-in-Some.ensures.answers c.in-Some.payload.value (comes_some _ c.payload_of.result c.in-Some.payload c.in-Ok.event c.args.value.now c.payload_of.ensures c.in-Some.is (c.in-Ok.ensures.1 ∙ ap second_of same))
+    c.in-Ok-begin.next c.in-Ok-clone_in.begun c.in-Ok-clone_in.ensures (c.in-Ok-begin.ensures (g.R.Holds.answers c.args.context.now.functions.now) c.args.context.now.plan.now) c.step_state-in-Some-2.new.meter _ c.in_err-step_state-in-Some-2.ensures.answers m depth t T e L N W)
+
+pub step_recurring-returns-in_ok-step_state-in-Some-2-clause-answers : goal.step_recurring-returns-in_ok-step_state-in-Some-2-clause-answers
+step_recurring-returns-in_ok-step_state-in-Some-2-clause-answers g t c =
+    let same = c.replace-both.ensures.value in
+    new_runs (g.R.Holds.answers c.args.context.now.functions.now) c.args.context.now.plan.now c.args.names.now c.args.switch.now c.args.shown c.requires.form c.args.context.now.dt c.args.value.now c.in-Ok.input (c.in-Ok.ensures.0 ∙ ap first_of same) c.args.meter.now c.step_state-in-Some.new.meter c.args.inside
+    c.step_state-in-Some.new.state c.step_state-in-Some.new.value c.in_ok-step_state-in-Some.ensures.answers c.in-Some.payload.value (comes_some _ c.payload_of.result c.in-Some.payload c.in-Ok.event c.args.value.now c.payload_of.ensures c.in-Some.is (c.in-Ok.ensures.1 ∙ ap second_of same))
+    c.in-Ok-begin.next c.in-Ok-clone_in.begun c.in-Ok-clone_in.ensures (c.in-Ok-begin.ensures (g.R.Holds.answers c.args.context.now.functions.now) c.args.context.now.plan.now) c.step_state-in-Some-2.new.meter
+    c.step_state-in-Some-2.new.state c.step_state-in-Some-2.new.value _ (c.switched.ensures ∙ ap (λ d. switched_value c.args.shown d c.step_state-in-Some-2.new.value) c.replace-old.ensures.value) _ refl c.in_ok-step_state-in-Some-2.ensures.answers
 
 -- ## step_live
 
@@ -310,3 +358,13 @@ pub step_wrap-returns-in-Ok-parts-clause-answers : goal.step_wrap-returns-in-Ok-
 step_wrap-returns-in-Ok-parts-clause-answers g t c =
     wrap_steps (g.R.Holds.answers c.args.context.now.functions.now) c.args.context.now.plan.now c.args.wrap.now c.args.part.now c.args.meter.now c.step_state.new.meter c.args.inside c.args.context.now.dt c.args.value.now c.in-Ok-pair.both (rw c.in-Loop.is (rw (c.replace-input.ensures.value, c.replace-fed.ensures.value) at c.in-Ok-pair.ensures))
     c.step_state.new.state (Loop c.in-Ok-parts.fed) c.step_state.new.value c.in-Ok-parts.output (rw c.in-Loop.is (ap Loop c.in-Ok-parts.ensures.1)) (rw c.in-Loop.is c.in-Ok-parts.ensures.0) c.in_ok-step_state-in-Loop.ensures.answers
+
+pub step_wrap-returns-in_err-step_state-in-Initialized-clause-answers : goal.step_wrap-returns-in_err-step_state-in-Initialized-clause-answers
+step_wrap-returns-in_err-step_state-in-Initialized-clause-answers g t c = λ m depth t P L R.
+    pass_exit _ _ c.from_residual-in_err-step_state-in-Initialized.ensures.0 (wrap_fails (g.R.Holds.answers c.args.context.now.functions.now) c.args.context.now.plan.now c.args.wrap.now c.args.part.now c.args.meter.now c.step_state-in-Initialized.new.meter c.args.inside c.args.context.now.dt c.args.value.now _ (rw c.in-Initialized.is refl)
+    _ c.in_err-step_state-in-Initialized.ensures.answers m depth t P L R)
+
+pub step_wrap-returns-in_ok-step_state-in-Initialized-clause-answers : goal.step_wrap-returns-in_ok-step_state-in-Initialized-clause-answers
+step_wrap-returns-in_ok-step_state-in-Initialized-clause-answers g t c =
+    wrap_steps (g.R.Holds.answers c.args.context.now.functions.now) c.args.context.now.plan.now c.args.wrap.now c.args.part.now c.args.meter.now c.step_state-in-Initialized.new.meter c.args.inside c.args.context.now.dt c.args.value.now _ (rw c.in-Initialized.is refl)
+    c.step_state-in-Initialized.new.state (Initialized c.put_first.new.first) c.step_state-in-Initialized.new.value c.put_first.new.value (rw c.in-Initialized.is (ap Initialized c.put_first.ensures.first)) (rw c.in-Initialized.is c.put_first.ensures.value) c.in_ok-step_state-in-Initialized.ensures.answers

@@ -37,6 +37,12 @@ decreases-step_watching g l = 5 * (100000 - entered_of l.meter.now)
 abbrev pub decreases-step_switch : goal.decreases-step_switch
 decreases-step_switch g l = 5 * (100000 - entered_of l.meter.now) + 3
 
+abbrev pub decreases-step_basic : goal.decreases-step_basic
+decreases-step_basic g l = 5 * (100000 - entered_of l.meter.now) + 2
+
+abbrev pub decreases-step_recurring : goal.decreases-step_recurring
+decreases-step_recurring g l = 5 * (100000 - entered_of l.meter.now) + 2
+
 abbrev pub invariant-step_pipeline-loop-stage : goal.invariant-step_pipeline-loop-stage
 invariant-step_pipeline-loop-stage g l = record {
   grows : entered_of l.initial.meter ≤ entered_of l.meter;

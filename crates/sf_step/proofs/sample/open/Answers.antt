@@ -37,7 +37,7 @@ returns-in_err-shared-in-Switching g c = λ e N. open_exit (g.R.Holds.answers c.
 
 pub returns-in_ok-shared-in-Switching : goal.returns-in_ok-shared-in-Switching
 returns-in_ok-shared-in-Switching g c =
-    open_switch (g.R.Holds.answers c.args.context.now.functions.now) c.args.context.now.plan.now c.in-Switching.form c.in-Switching.source c.in-Switching.body c.in-Switching.pattern _ c.args.names.now c.in_ok-shared-in-Switching.shared
+    open_switch (g.R.Holds.answers c.args.context.now.functions.now) c.args.context.now.plan.now c.in-Switching.form c.in-Switching.first c.in-Switching.body c.in-Switching.pattern _ c.args.names.now c.in_ok-shared-in-Switching.shared
     (rw c.in-Switching.is at c.node.ensures.builds) (c.in_ok-shared-in-Switching.ensures c.args.context.now.plan.now)
 
 pub returns-in_err-begun-in-Pipeline : goal.returns-in_err-begun-in-Pipeline

@@ -8,7 +8,7 @@ use Rattle.sf_text.proofs.term.+term.Goals as goal
 pub headed-returns-in-Err-clause-reads : goal.headed-returns-in-Err-clause-reads
 headed-returns-in-Err-clause-reads t c =
     term_refused c.args.tokens.now c.in-Err.refusal c.refused.result
-    (headed_ready c.args.version c.args.left (toks c.args.rest.now) c.requires.shallow c.in_ok-rest.ensures.reads c.in_ok-value.ensures.reads c.in_ok-rest-2.ensures.reads c.in_ok-part.ensures.reads c.in_ok-rest-3.ensures.reads) c.refused.ensures
+    (headed_ready c.args.version c.args.heading c.args.left (toks c.args.rest.now) c.requires.shallow c.head_node-node.ensures.node c.in_ok-rest.ensures.reads c.in_ok-value.ensures.reads c.in_ok-rest-2.ensures.reads c.in_ok-part.ensures.reads c.in_ok-rest-3.ensures.reads) c.refused.ensures
     (λ same. c.in-Err.ensures.many.0 (ap Err same)) (λ same. (c.in-Err.ensures.deep.0 (ap Err same)).1) (λ same. c.in-Err.ensures.no_name (ap Err same))
 
 pub joined-returns-in-Err-clause-reads : goal.joined-returns-in-Err-clause-reads
@@ -30,7 +30,7 @@ switching-returns-in-Err-clause-reads t c =
 
 pub headed-returns-in-Ok-clause-placed : goal.headed-returns-in-Ok-clause-placed
 headed-returns-in-Ok-clause-placed t c =
-    headed_read c.in_ok-part.ensures.reads.kept.trees c.in-Ok.ensures.ok c.in_ok-rest.ensures.behind c.in_ok-value.ensures.placed c.in_ok-rest-2.ensures.behind c.in_ok-part.ensures.placed c.in_ok-rest-3.ensures.behind
+    headed_read c.args.heading c.in_ok-part.ensures.reads.kept.trees c.head_node-node.ensures.node c.in-Ok.ensures.ok c.in_ok-rest.ensures.behind c.in_ok-value.ensures.placed c.in_ok-rest-2.ensures.behind c.in_ok-part.ensures.placed c.in_ok-rest-3.ensures.behind
 
 pub joined-returns-in-Ok-clause-placed : goal.joined-returns-in-Ok-clause-placed
 joined-returns-in-Ok-clause-placed t c =
@@ -48,3 +48,9 @@ switching-returns-in-Ok-clause-placed t c =
 
 pub sided-returns-in-Ok-clause-placed : goal.sided-returns-in-Ok-clause-placed
 sided-returns-in-Ok-clause-placed t c = sided_read c.in-Ok.ensures.ok c.in_ok-part.ensures.placed
+
+pub headed-returns-in-Ok-clause-reads : goal.headed-returns-in-Ok-clause-reads
+headed-returns-in-Ok-clause-reads t c =
+    term_found
+    (headed_ready c.args.version c.args.heading c.args.left (toks c.args.rest.now) c.requires.shallow c.head_node-node.ensures.node c.in_ok-rest.ensures.reads c.in_ok-value.ensures.reads c.in_ok-rest-2.ensures.reads c.in_ok-part.ensures.reads c.in_ok-rest-3.ensures.reads)
+    (keeps_trans _ _ _ c.in_ok-value.ensures.reads.kept c.in_ok-part.ensures.reads.kept) (λ full. let many = c.in-Ok.ensures.many.1 full in cc) c.in-Ok.ensures.ok

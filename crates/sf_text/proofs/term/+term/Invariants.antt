@@ -7,8 +7,8 @@ decreases-term l = 4 * l.left
 abbrev pub decreases-form : goal.decreases-form
 decreases-form l = 4 * l.left + 3
 
-abbrev pub decreases-worded : goal.decreases-worded
-decreases-worded l = 4 * l.left + 2
+abbrev pub decreases-behind_head : goal.decreases-behind_head
+decreases-behind_head l = 4 * l.left + 2
 
 abbrev pub decreases-sided : goal.decreases-sided
 decreases-sided l = 4 * l.left + 1

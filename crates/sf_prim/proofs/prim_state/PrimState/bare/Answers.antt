@@ -1,5 +1,5 @@
 use Rattle.std.proofs.Common.{refl}
-use Rattle.sf_prim.specs.Keeping.{keeps_nothing, keeps_time, keeps_area, keeps_low, keeps_begun, keeps_count}
+use Rattle.sf_prim.specs.Keeping.{keeps_nothing, keeps_time, keeps_area, keeps_low, keeps_begun, keeps_count, keeps_pre}
 use Rattle.sf_prim.proofs.prim_state.PrimState.bare.Goals as goal
 
 pub returns-in-Identity : goal.returns-in-Identity
@@ -19,3 +19,6 @@ returns-in-NotYet c = λ s. rw c.in-NotYet.is (keeps_begun refl)
 
 pub returns-in-Count : goal.returns-in-Count
 returns-in-Count c = λ s. rw c.in-Count.is (keeps_count refl)
+
+pub returns-in-Pre : goal.returns-in-Pre
+returns-in-Pre c = λ s. rw (c.in-Pre.is, c.int.ensures) (keeps_pre refl)
