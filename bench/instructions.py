@@ -1,10 +1,11 @@
-"""Counts the instructions a node and the allocations a sample of `sfplay` on six networks, by valgrind, beside the most that is wanted.
+"""Counts the instructions a node and the allocations a sample of `sfplay` on some networks, by valgrind, beside the most that is wanted.
 
     python3 bench/instructions.py [--exe PATH]
 
 Each network is played on 1,000 and on 3,000 lines, so that the difference is free of what the start costs, and it doesn't
 depend on how busy the machine is. The instructions of a node are those of a sample less those of the network `identity`,
 which are the cost of a line in and out, by the nodes that a sample enters. A running total is shown by the whole sample.
+What may be frozen at a sample is held as it was before, so each of its nodes that changes is copied: 200 instructions more.
 Without valgrind nothing is counted, and the status is 0.
 """
 
@@ -41,6 +42,8 @@ NETWORKS = {
     "50 swaps of a pair": ("Int ~> (Int, Int)", f"({PAIRED} >>> {chain('arr (x, y) => (y, x)', 50)})", 101, 250, 2),
     "50 first iPre 0": ("Int ~> (Int, Int)", f"({PAIRED} >>> {chain('first iPre 0', 50)})", 151, 90, 3),
     "50 fired switches": ("Int ~> Int", chain("switch((identity &&& now ()), _ => identity)", 50), 99, 60, 0),
+    "50 run processes": ("Int ~> Int", chain("kSwitch(identity, now (), k, _ => run k)", 50), 99, 60, 0),
+    "50 iPre 0 to freeze": ("Int ~> Int", f"kSwitch({chain('iPre 0', 50)}, never Int, k, _ => identity)", 101, 260, None),
     "running total": ("Int ~> Int", TIMED["total"], None, 2000, 4),
 }
 

@@ -1,5 +1,6 @@
-"""Plays five networks, a delay of numbers, a loop over pairs, one of texts, events and tables with functions inside, one that calls
-stored functions and one that switches, on three lines with each growth of memory refused in turn.
+"""Plays six networks, a delay of numbers, a loop over pairs, one of texts, events and tables with functions inside, one that calls
+stored functions, one that switches and one that freezes a process and runs it twice, on three lines with each growth of memory
+refused in turn.
 
     python3 rows/refuse_growths.py --exe PATH
 
@@ -30,6 +31,8 @@ RUNS = [
      ["(1,none)", "(2,event -7)", "(-5,none)"], ["(3,1)", "(7,1)", "(7,-1)"]),
     ('Int ~> (Int, Int) = dSwitch(((identity &&& constant 0) &&& arr x => if (x > 1) then event (x, "") else none (Int, Text)),'
      ' (start, _) => (iPre start &&& arr x => (x - start)))', ["1", "2", "3"], ["(1,0)", "(2,0)", "(2,1)"]),
+    ("Int ~> Int = kSwitch(iPre 7, arr (x, _) => gate(event x, (x > 1)), k, c => ((run k &&& run k) >>> arr (u, v) => ((u + v) * c)))",
+     ["1", "2", "3"], ["7", "4", "8"]),
 ]
 TIMES = [0, 16, 32]
 

@@ -27,10 +27,10 @@ use Rattle.sf_term.specs.declared.node.Node.{Node}
 use Rattle.sf_term.specs.declared.node.Node.TheVariants as terms
 use Rattle.sf_term.specs.declared.program.Program.{Program}
 use Rattle.sf_term.specs.Headers.{Header}
-use Rattle.sf_term.specs.Trees.{Primitive, bare, never, with_value, timed, arrow, accumulated, fused, Term, primitive, joined, sided, headed, switching, staged, Template, Templates}
+use Rattle.sf_term.specs.Trees.{Primitive, bare, never, with_value, timed, arrow, accumulated, fused, Term, primitive, run, joined, sided, headed, switching, keeping, staged, Template, Templates}
 use Rattle.sf_term.specs.Arena.{term_number, tree, term_node_at, term_entry_of, expressions_of, headers_of, template_in, templates_of, TermPartsBelow}
-use Rattle.sf_mean.specs.Contexts.{NameKind, value, Bindings, context_with, bindings_inside, with_value_of, values_in}
-use Rattle.sf_mean.specs.Typing.{PrimitiveTakes, bare_takes, never_takes, value_takes, timed_takes, accumulated_takes, arrow_takes, fused_takes, Takes, takes, FormTakes, primitive_takes, sequence_takes, parallel_takes, fan_takes, first_takes, second_takes, loop_takes, initialized_takes, switch_takes, recurring_takes, stages_take, Accepted}
+use Rattle.sf_mean.specs.Contexts.{NameKind, value, process, Bindings, context_with, bindings_inside, with_name_of, values_in}
+use Rattle.sf_mean.specs.Typing.{PrimitiveTakes, bare_takes, never_takes, value_takes, timed_takes, accumulated_takes, arrow_takes, fused_takes, Takes, takes, FormTakes, primitive_takes, run_takes, sequence_takes, parallel_takes, fan_takes, first_takes, second_takes, loop_takes, initialized_takes, switch_takes, recurring_takes, keeping_takes, stages_take, Accepted}
 use Rattle.sf_check.specs.Answering.{primitive_in}
 use Rattle.sf_check.specs.Calling.{IsCalledAlike, AreCalledAlike}
 use Rattle.sf_check.proofs.Made.{made, tree_made}
@@ -66,10 +66,12 @@ module _ (fs gs : TypesByName) where
 
   abbrev pub TermAlike : Term → Type 0
   TermAlike (primitive p) = PrimitiveAlike p
+  TermAlike (run k) = Unit {0}
   TermAlike (joined j f g) = TermAlike f × TermAlike g
   TermAlike (sided d t) = TermAlike t
   TermAlike (headed h e t) = Alike e × TermAlike t
   TermAlike (switching w t p u) = TermAlike t × TermAlike u
+  TermAlike (keeping w t q k p u) = TermAlike t × TermAlike q × TermAlike u
   TermAlike (staged x f g) = ⊥
 
   adds_functions : {p : Pattern} {t : Kind} {R S : Names} → AddsNames p t R S → functions_of S ≡ functions_of R
@@ -95,19 +97,21 @@ module _ (fs gs : TypesByName) where
   function_over q k (function_takes fits B h) = function_takes fits (binds_with gs B) (typed_over (adds_functions B.adds ∙ q) k h)
 
   -- names that are bound have the same types with the other functions
-  functions_beside : (x : Name) (k : NameKind) (R : Names) → functions_of (with_value_of x k R) ≡ functions_of R
+  functions_beside : (x : Name) (k : NameKind) (R : Names) → functions_of (with_name_of x k R) ≡ functions_of R
   functions_beside x (value t) R = refl
+  functions_beside x (process a b) R = refl
 
   functions_around : (bs : Bindings) → functions_of (values_in fs bs) ≡ fs
   functions_around [] = refl
   functions_around (b ∷ bs) = functions_beside b.0 b.1 (values_in fs bs) ∙ functions_around bs
 
-  types_beside : (x : Name) (k : NameKind) (R : Names) → with_types gs (with_value_of x k R) ≡ with_value_of x k (with_types gs R)
+  types_beside : (x : Name) (k : NameKind) (R : Names) → with_types gs (with_name_of x k R) ≡ with_name_of x k (with_types gs R)
   types_beside x (value t) R = refl
+  types_beside x (process a b) R = refl
 
   types_around : (bs : Bindings) → with_types gs (values_in fs bs) ≡ values_in gs bs
   types_around [] = refl
-  types_around (b ∷ bs) = types_beside b.0 b.1 (values_in fs bs) ∙ ap (with_value_of b.0 b.1) (types_around bs)
+  types_around (b ∷ bs) = types_beside b.0 b.1 (values_in fs bs) ∙ ap (with_name_of b.0 b.1) (types_around bs)
 
   module _ (bs : Bindings) where
     typed_around : {e : Expression} {t : Kind} → Alike e → HasType (values_in fs bs) e t → HasType (values_in gs bs) e t
@@ -137,6 +141,7 @@ module _ (fs gs : TypesByName) where
 
       form_over : (bs : Bindings) {t : Term} {a b : Kind} → TermAlike t → FormTakes (context_with fs bs ts) t a b → FormTakes (context_with gs bs ts) t a b
       form_over bs k (primitive_takes T) = primitive_takes (primitive_over bs k T)
+      form_over bs k (run_takes h) = run_takes h
       form_over bs k (sequence_takes f g) = sequence_takes (takes_over bs k.0 f) (takes_over bs k.1 g)
       form_over bs k (parallel_takes f g) = parallel_takes (takes_over bs k.0 f) (takes_over bs k.1 g)
       form_over bs k (fan_takes f g) = fan_takes (takes_over bs k.0 f) (takes_over bs k.1 g)
@@ -146,6 +151,9 @@ module _ (fs gs : TypesByName) where
       form_over bs k (initialized_takes e t) = initialized_takes (typed_around bs k.0 e) (takes_over bs k.1 t)
       form_over bs k (switch_takes {p = p} {c = c} t h u) = switch_takes (takes_over bs k.0 t) (bound_around bs h) (takes_over (bindings_inside p c bs) k.1 u)
       form_over bs k (recurring_takes {p = p} {c = c} t h u) = recurring_takes (takes_over bs k.0 t) (bound_around bs h) (takes_over (bindings_inside p c bs) k.1 u)
+      form_over bs k (keeping_takes {k = x} {p = p} {a = a} {b = b} {c = c} t q h u) =
+          let inner : Bindings = (x, process a b) ∷ bs in
+          keeping_takes (takes_over bs k.0 t) (takes_over bs k.1 q) (bound_around inner h) (takes_over (bindings_inside p c inner) k.2 u)
       form_over bs k (stages_take f g) = absurd k
 
   -- ## Arenas of expressions
@@ -189,10 +197,12 @@ module _ (fs gs : TypesByName) where
   module _ (p : Program) (all : AreCalledAlike (expressions_of p) fs gs) where
     made_alike : (n : Node) (k : ℕ) → TermPartsBelow n k → ((j : TermId) → term_number j < k → TermAlike (tree p j)) → TermAlike (made p n)
     made_alike (terms.Primitive q) k b parts = node_alike (expressions_of p) all q
+    made_alike (terms.Run x s) k b parts = tt
     made_alike (terms.Joined j f g) k b parts = (parts f b.0, parts g b.1)
     made_alike (terms.Sided d f) k b parts = parts f b
     made_alike (terms.Headed h v f) k b parts = (expression_alike (expressions_of p) all v, parts f b)
     made_alike (terms.Switching w f q g) k b parts = (parts f b.0, parts g b.1)
+    made_alike (terms.Keeping w f o x s q g) k b parts = (parts f b.0, parts o b.1, parts g b.2)
 
     term_parts : (t : TermId) → TermPartsBelow (term_node_at p t) (term_number t)
     unfolding term_node_at term_entry_of

@@ -1,20 +1,23 @@
 -- A term takes inputs of a type, or breaks a rule on them.
-use Rattle.std.proofs.Common.{ℤ, ◌≡◌, ◌≢◌, ℕ, zero, suc, ◌<◌, Bool, true, false, Option, ◌⊎◌, inl, inr, refl, sym, ap, subst, ◌∙◌, arith, Some}
+use Rattle.std.proofs.Common.{ℤ, ◌≡◌, ◌≢◌, ℕ, zero, suc, ◌<◌, Bool, true, false, cond, Option, ◌⊎◌, inl, inr, refl, sym, ap, subst, ◌∙◌, arith, Some, None}
+use Rattle.std.specs.Prelude.{bytes_eq}
 use Rattle.std.proofs.lemmas.Option.{same_Some}
 use Rattle.std.proofs.lemmas.Bool.{cases_lt}
-use Rattle.sf_value.specs.Values.{Kind, pair_kind, event_kind, nodes as nodes_of}
+use Rattle.sf_value.specs.Values.{Name, Kind, pair_kind, event_kind, nodes as nodes_of}
 use Rattle.sf_refusal.specs.declared.spot.Spot.{Spot}
-use Rattle.sf_refusal.specs.declared.rule.Rule.TheVariants.{TypeTooLarge}
+use Rattle.sf_refusal.specs.declared.rule.Rule.TheVariants.{UnknownName, Mismatch, TypeTooLarge}
 use Rattle.sf_refusal.specs.declared.refusal.Breach.{Breach}
 use Rattle.sf_refusal.specs.Refusals.{breach_of}
 use Rattle.sf_expr.specs.declared.exprs.ExprId.{ExprId}
 use Rattle.sf_expr.specs.declared.exprs.Exprs.{Exprs}
 use Rattle.sf_expr.specs.Arena.{expression, literal_at, placed_at}
-use Rattle.sf_expr.specs.Typing.{Fits, Binds, HasType}
+use Rattle.sf_expr.specs.Expressions.{Pattern, unnamed, named, both}
+use Rattle.sf_expr.specs.Typing.{Fits, type_of_name, Binds, HasType}
 use Rattle.sf_expr.specs.Inference.{NamesFit}
 use Rattle.sf_operator.proofs.Refusing.{kind_answered}
 use Rattle.sf_expr.proofs.Answered.{bound_or, answered, function_answered}
 use Rattle.sf_expr.specs.declared.exprs.FunctionId.{FunctionId}
+use Rattle.sf_expr.specs.declared.exprs.NameId.{NameId}
 use Rattle.sf_expr.specs.declared.exprs.PatternId.{PatternId}
 use Rattle.sf_term.specs.declared.form.Bare.{Bare}
 use Rattle.sf_term.specs.declared.form.Bare.TheVariants.{Pre}
@@ -36,16 +39,18 @@ use Rattle.sf_term.specs.declared.program.Program.{Program}
 use Rattle.sf_term.specs.Entries.{absent_payload}
 use Rattle.sf_term.specs.Arena.{term_number, tree, term_node_at, term_entry_of, term_spot_at, expressions_of, TermPartsBelow}
 use Rattle.sf_term.proofs.Kept.{parts_below}
-use Rattle.sf_mean.specs.Contexts.{Context, names_of_values, inside_pattern}
-use Rattle.sf_mean.specs.Typing.{bare_kind, value_kind, takes_time, timed_kind, accumulated_argument, accumulated_kind, PrimitiveTakes, bare_takes, never_takes, value_takes, timed_takes, accumulated_takes, arrow_takes, Takes, FormTakes, primitive_takes, sequence_takes, parallel_takes, fan_takes, first_takes, second_takes, loop_takes, initialized_takes}
-use Rattle.sf_operator.specs.Kinds.{same_kind}
-use Rattle.sf_operator.proofs.SameKinds.{same_is, is_same}
+use Rattle.sf_mean.specs.Contexts.{NameKind, value, process, process_named, Bindings, bindings_inside, Context, names_of_values, inside_pattern, inside_process}
+use Rattle.sf_mean.specs.Typing.{bare_kind, value_kind, takes_time, timed_kind, accumulated_argument, accumulated_kind, PrimitiveTakes, bare_takes, never_takes, value_takes, timed_takes, accumulated_takes, arrow_takes, Takes, FormTakes, primitive_takes, run_takes, sequence_takes, parallel_takes, fan_takes, first_takes, second_takes, loop_takes, initialized_takes, keeping_takes}
+use Rattle.sf_operator.specs.Kinds.{same_kind, payload_of}
+use Rattle.sf_operator.proofs.SameKinds.{same_is, is_same, payload_is}
 use Rattle.sf_mean.proofs.Inferred.{PartsAre, two_parts, no_parts, parts_are, names_inside, output_fits}
-use Rattle.sf_check.specs.Breaking.{IsNoEventBeside, pattern_in, BindsInside, Exceeds, PrimitiveBreaks, argument_refused, accumulator_refused, made_refused, value_refused, bare_refused, never_refused, given_refused, timed_value_refused, time_outside, timed_refused, start_value_refused, accumulation_breaks, function_refused, FormBreaks, primitive_breaks, parallel_input, parallel_exceeds, fan_exceeds, side_input, first_exceeds, second_exceeds, start_refused, fed_exceeds, loop_differs, initialized_differs, BodyWanted, after_source, beside_input, source_differs, recurring_input, pattern_refused, body_differs, Reaches, sequence_left, sequence_right, parallel_left, parallel_right, fan_left, fan_right, first_part, second_part, loop_part, initialized_part, switch_source, recurring_first, switch_body, TermBreaks, itself, within}
+use Rattle.sf_check.specs.Breaking.{IsNoEventBeside, kind_named, ProcessRefused, pattern_in, name_in, keeping_inside, BindsInside, Exceeds, PrimitiveBreaks, argument_refused, accumulator_refused, made_refused, value_refused, bare_refused, never_refused, given_refused, timed_value_refused, time_outside, timed_refused, start_value_refused, accumulation_breaks, function_refused, FormBreaks, primitive_breaks, no_process, process_differs, parallel_input, parallel_exceeds, fan_exceeds, side_input, first_exceeds, second_exceeds, start_refused, fed_exceeds, loop_differs, initialized_differs, BodyWanted, after_source, beside_input, BodyBreaks, pattern_refused, body_differs, source_differs, recurring_input, switch_body_breaks, observed_exceeds, observer_differs, keeping_body_breaks, Reaches, sequence_left, sequence_right, parallel_left, parallel_right, fan_left, fan_right, first_part, second_part, loop_part, initialized_part, switch_source, recurring_first, switch_body, keeping_source, keeping_observer, keeping_body, TermBreaks, itself, within}
 use Rattle.sf_check.specs.Answering.{primitive_in}
 use Rattle.sf_check.proofs.Made.{made}
 use Rattle.sf_check.proofs.Terms.{form_ok, wanted_takes}
-use Rattle.sf_check.proofs.Types.{primitive_fits}
+use Rattle.sf_check.specs.Laws.{ContextFits}
+use Rattle.sf_check.proofs.Types.{primitive_fits, no_event}
+use Rattle.sf_check.proofs.Contexts.{process_is}
 
 pub kinds_or : (t u : Kind) → (t ≡ u) ⊎ (t ≢ u)
 kinds_or t u = each (same_kind t u) refl
@@ -108,7 +113,37 @@ primitive_answered x Γ (primitives.Arrow g) a s fit f = elim (function_answered
 abbrev pub IsAnswered : Program → Context → TermId → Kind → Type 0
 IsAnswered p Γ t a = ((b : Kind) × Takes Γ (tree p t) a b) ⊎ ((e : Breach) × TermBreaks p Γ t a e)
 
-module _ (p : Program) (Γ : Context) (names : NamesFit (names_of_values Γ)) where
+-- the answer for a body inside a pattern for a type, where what stands around it fits
+abbrev pub Body : Program → PatternId → TermId → Kind → Kind → Context → Type 0
+Body p q g c x Δ = ContextFits (inside_pattern (pattern_in p q) c Δ) → IsAnswered p (inside_pattern (pattern_in p q) c Δ) g x
+
+-- a pattern's names stand for no processes
+process_inside : (q : Pattern) (c : Kind) (bs : Bindings) (x : Name) {k : Kind × Kind} → process_named x (bindings_inside q c bs) ≡ Some k → process_named x bs ≡ Some k
+process_inside unnamed c bs x h = h
+process_inside (named y) c bs x {k} h = each (bytes_eq x y) h
+  where
+    each : (b : Bool) → cond b None (process_named x bs) ≡ Some k → process_named x bs ≡ Some k
+    each true h = absurd cc
+    each false h = h
+process_inside (both q r) (pair_kind c d) bs x h = process_inside q c bs x (process_inside r d (bindings_inside q c bs) x h)
+process_inside (both q r) c bs x h = h
+
+-- what stands around a term inside the name of a process fits too
+kept_fits : (Γ : Context) (x : Name) (a b : Kind) → Fits b → ContextFits Γ → ContextFits (inside_process x a b Γ)
+kept_fits Γ x a b fits around = (λ y t. value_test y t (bytes_eq y x), λ y c d. process_test y c d (bytes_eq y x))
+  where
+    value_test : (y : Name) (t : Kind) (s : Bool) → cond s None (type_of_name y (names_of_values Γ)) ≡ Some t → Fits t
+    value_test y t true h = absurd cc
+    value_test y t false h = around.0 y t h
+
+    process_test : (y : Name) (c d : Kind) (s : Bool) → cond s (Some (a, b)) (process_named y Γ.bindings) ≡ Some (c, d) → Fits d
+    process_test y c d true h = subst (λ (k : Kind × Kind). Fits k.1) (same_Some (a, b) (c, d) h) fits
+    process_test y c d false h = around.1 y c d h
+
+module _ (p : Program) (Γ : Context) (around : ContextFits Γ) where
+  names : NamesFit (names_of_values Γ)
+  names = around.0
+
   module _ (t : TermId) (n : Node) (a : Kind) (is : term_node_at p t ≡ n) (fits : Fits a) where
     broken : {e : Breach} → FormBreaks p Γ (term_spot_at p t) n a e → IsAnswered p Γ t a
     broken {e} h = inr (e, itself (subst (λ m. FormBreaks p Γ (term_spot_at p t) m a e) (sym is) h))
@@ -207,27 +242,34 @@ module _ (p : Program) (Γ : Context) (names : NamesFit (names_of_values Γ)) wh
     ]
   ]
 
-  module _ (t : TermId) (w : Switching) (f : TermId) (q : PatternId) (g : TermId) (a : Kind) (is : term_node_at p t ≡ nodes.Switching w f q g) (k : Fits a) where
-    -- what is bound inside the pattern for a type, and the answer for the body there
-    abbrev Body : Kind → Kind → Type 0
-    Body c x = NamesFit (names_of_values (inside_pattern (pattern_in p q) c Γ)) → IsAnswered p (inside_pattern (pattern_in p q) c Γ) g x
-
-    of_body : (x b c : Kind) → BodyWanted p Γ w f a x b c → BindsInside (pattern_in p q) c Γ → IsAnswered p (inside_pattern (pattern_in p q) c Γ) g x → IsAnswered p Γ t a
-    of_body x b c F binds (inr r) = in_part t _ a is k (switch_body F binds) r.1
-    of_body x b c F binds (inl d) = elim (kinds_or d.0 b) [
-      | inr other ↦ broken t _ a is k (body_differs F binds d.1 other)
+  -- a form gives way to a body inside a pattern
+  module _ (t : TermId) (n : Node) (a : Kind) (is : term_node_at p t ≡ n) (k : Fits a) (Δ : Context) (q : PatternId) (g : TermId) (x b c : Kind)
+      (breaks : (r : Breach) → BodyBreaks p Δ (term_spot_at p t) q g x b c r → FormBreaks p Γ (term_spot_at p t) n a r)
+      (reached : BindsInside (pattern_in p q) c Δ → Reaches p Γ n a (inside_pattern (pattern_in p q) c Δ) g x)
+      (form : BindsInside (pattern_in p q) c Δ → Takes (inside_pattern (pattern_in p q) c Δ) (tree p g) x b → FormTakes Γ (made p n) a b) where
+    of_body : BindsInside (pattern_in p q) c Δ → IsAnswered p (inside_pattern (pattern_in p q) c Δ) g x → IsAnswered p Γ t a
+    of_body binds (inr r) = in_part t n a is k (reached binds) r.1
+    of_body binds (inl d) = elim (kinds_or d.0 b) [
+      | inr other ↦ broken t n a is k (breaks _ (body_differs binds d.1 other))
       | inl e ↦
-          let G = subst (Takes (inside_pattern (pattern_in p q) c Γ) (tree p g) x) e d.1 in
-          taken t _ a is k b (output_fits G) (wanted_takes F refl binds G)
+          let G = subst (Takes (inside_pattern (pattern_in p q) c Δ) (tree p g) x) e d.1 in
+          taken t n a is k b (output_fits G) (form binds G)
     ]
 
-    of_event : (x b c : Kind) → BodyWanted p Γ w f a x b c → Fits c → Body c x → IsAnswered p Γ t a
-    of_event x b c F fits G = elim (bound_or (names_of_values Γ) (placed_at (expressions_of p) q) c (term_spot_at p t) names fits) [
-      | inr r ↦ broken t _ a is k (pattern_refused F r.1)
-      | inl n ↦
-          let inner = names_inside Γ.functions Γ.bindings n.1.adds refl in
-          of_body x b c F (subst (Binds (pattern_in p q) c (names_of_values Γ)) inner n.1) (G (subst (λ R. NamesFit R) inner n.2))
+    of_event : ContextFits Δ → Fits c → Body p q g c x Δ → IsAnswered p Γ t a
+    of_event inside fits G = elim (bound_or (names_of_values Δ) (placed_at (expressions_of p) q) c (term_spot_at p t) inside.0 fits) [
+      | inr r ↦ broken t n a is k (breaks _ (pattern_refused r.1))
+      | inl m ↦
+          let inner = names_inside Δ.functions Δ.bindings m.1.adds refl in
+          of_body (subst (Binds (pattern_in p q) c (names_of_values Δ)) inner m.1) (G (subst (λ R. NamesFit R) inner m.2, λ y a b h. inside.1 y a b (process_inside (pattern_in p q) c Δ.bindings y h)))
     ]
+
+  of_switch_event : (t : TermId) (w : Switching) (f : TermId) (q : PatternId) (g : TermId) (a : Kind) → term_node_at p t ≡ nodes.Switching w f q g → Fits a
+      → (x b c : Kind) → BodyWanted p Γ w f a x b c → Fits c → Body p q g c x Γ → IsAnswered p Γ t a
+  of_switch_event t w f q g a is k x b c F = of_event t (nodes.Switching w f q g) a is k Γ q g x b c (λ r h. switch_body_breaks F h) (switch_body F) (wanted_takes F) around
+
+  payload_fits : (c : Kind) → Fits (event_kind c) → Fits c
+  payload_fits c h = omega (arith, h)
 
   event_fits : (b c : Kind) → Fits (pair_kind b (event_kind c)) → Fits c
   event_fits b c h = omega (arith, h)
@@ -236,16 +278,16 @@ module _ (p : Program) (Γ : Context) (names : NamesFit (names_of_values Γ)) wh
   value_fits b c h = omega (arith, h)
 
   module _ (t : TermId) (w : Observation) (f : TermId) (q : PatternId) (g : TermId) (a : Kind) (k : Fits a) where
-    of_switch : (is : term_node_at p t ≡ nodes.Switching (Basic w) f q g) → IsAnswered p Γ f a → ((c : Kind) → Body t (Basic w) f q g a is k c a) → IsAnswered p Γ t a
+    of_switch : (is : term_node_at p t ≡ nodes.Switching (Basic w) f q g) → IsAnswered p Γ f a → ((c : Kind) → Body p q g c a Γ) → IsAnswered p Γ t a
     of_switch is (inr r) G = in_part t _ a is k switch_source r.1
     of_switch is (inl d) G = elim (beside_or d.0) [
       | inr none ↦ broken t _ a is k (source_differs d.1 none)
       | inl e ↦
           let F = subst (Takes Γ (tree p f) a) e.2 d.1 in
-          of_event t (Basic w) f q g a is k a e.0 e.1 (after_source F) (event_fits e.0 e.1 (output_fits F)) (G e.1)
+          of_switch_event t (Basic w) f q g a is k a e.0 e.1 (after_source F) (event_fits e.0 e.1 (output_fits F)) (G e.1)
     ]
 
-    of_recurring : (is : term_node_at p t ≡ nodes.Switching (Recurring w) f q g) → ((x : Kind) → Fits x → IsAnswered p Γ f x) → ((c x : Kind) → Fits x → Body t (Recurring w) f q g a is k c x) → IsAnswered p Γ t a
+    of_recurring : (is : term_node_at p t ≡ nodes.Switching (Recurring w) f q g) → ((x : Kind) → Fits x → IsAnswered p Γ f x) → ((c x : Kind) → Fits x → Body p q g c x Γ) → IsAnswered p Γ t a
     of_recurring is F G = elim (beside_or a) [
       | inr none ↦ broken t _ a is k (recurring_input none)
       | inl e ↦ elim (F e.0 (value_fits e.0 e.1 (subst Fits e.2 k))) [
@@ -253,30 +295,64 @@ module _ (p : Program) (Γ : Context) (names : NamesFit (names_of_values Γ)) wh
         | inl d ↦
             let W = subst (λ a. BodyWanted p Γ (Recurring w) f a e.0 d.0 e.1) (sym e.2) (beside_input d.1) in
             let fits = subst Fits e.2 k in
-            of_event t (Recurring w) f q g a is k e.0 d.0 e.1 W (event_fits e.0 e.1 fits) (G e.1 e.0 (value_fits e.0 e.1 fits))
+            of_switch_event t (Recurring w) f q g a is k e.0 d.0 e.1 W (event_fits e.0 e.1 fits) (G e.1 e.0 (value_fits e.0 e.1 fits))
       ]
     ]
+
+  module _ (t : TermId) (w : Observation) (f o : TermId) (m : NameId) (n : Spot) (q : PatternId) (g : TermId) (a : Kind) (is : term_node_at p t ≡ nodes.Keeping w f o m n q g) (k : Fits a) where
+    of_seen : (b d : Kind) → Takes Γ (tree p f) a b → Takes Γ (tree p o) (pair_kind a b) d → ((c : Kind) → Body p q g c a (keeping_inside p m a b Γ)) → (e : Option Kind) → payload_of d ≡ e → IsAnswered p Γ t a
+    of_seen b d F O G None e = broken t _ a is k (observer_differs F O (no_event d e))
+    of_seen b d F O G (Some c) e =
+        let E = subst (Takes Γ (tree p o) (pair_kind a b)) (payload_is d e) O in
+        of_event t (nodes.Keeping w f o m n q g) a is k (keeping_inside p m a b Γ) q g a b c (λ r h. keeping_body_breaks F E h) (keeping_body F E) (keeping_takes F E)
+        (kept_fits Γ (name_in p m) a b (output_fits F) around) (payload_fits c (output_fits E)) (G c)
+
+    of_keeping : IsAnswered p Γ f a → ((x : Kind) → Fits x → IsAnswered p Γ o x) → ((b c : Kind) → Body p q g c a (keeping_inside p m a b Γ)) → IsAnswered p Γ t a
+    of_keeping (inr r) O G = in_part t _ a is k keeping_source r.1
+    of_keeping (inl b) O G = elim (cases_lt 256 (nodes_of (pair_kind a b.0))) [
+      | inl big ↦ broken t _ a is k (observed_exceeds b.1 big)
+      | inr fits ↦ elim (O (pair_kind a b.0) fits) [
+        | inr r ↦ in_part t _ a is k (keeping_observer b.1 fits) r.1
+        | inl d ↦ of_seen b.0 d.0 b.1 d.1 (G b.0) (payload_of d.0) refl
+      ]
+    ]
+
+  of_run : (t : TermId) (m : NameId) (n : Spot) (a : Kind) → term_node_at p t ≡ nodes.Run m n → Fits a → IsAnswered p Γ t a
+  of_run t m n a is k = each (kind_named (name_in p m) Γ.bindings) refl
+    where
+      each : (o : Option NameKind) → kind_named (name_in p m) Γ.bindings ≡ o → IsAnswered p Γ t a
+      each None e = broken t _ a is k (no_process (subst (λ o. ProcessRefused o n (breach_of UnknownName n)) (sym e) refl))
+      each (Some (value u)) e = broken t _ a is k (no_process (subst (λ o. ProcessRefused o n (breach_of Mismatch n)) (sym e) refl))
+      each (Some (process b c)) e = elim (kinds_or a b) [
+        | inr other ↦ broken t _ a is k (process_differs e other)
+        | inl same ↦
+            let named : kind_named (name_in p m) Γ.bindings ≡ Some (process a c) = e ∙ ap (λ b. Some (process b c)) (sym same) in
+            taken t _ a is k c (around.1 (name_in p m) b c (process_is (name_in p m) Γ.bindings e)) (run_takes (process_is (name_in p m) Γ.bindings named))
+      ]
 
 node_parts : (p : Program) (t : TermId) → TermPartsBelow (term_node_at p t) (term_number t)
 unfolding term_node_at term_entry_of
 node_parts p t = parts_below p t
 
-answered_within : (p : Program) (fuel : ℕ) (Γ : Context) → NamesFit (names_of_values Γ) → (t : TermId) → term_number t < fuel → (a : Kind) → Fits a → IsAnswered p Γ t a
-answered_within p zero Γ names t h a f = absurd (omega arith)
-answered_within p (suc fuel) Γ names t h a f = by_node (term_node_at p t) refl (node_parts p t) (λ Δ fit j k. answered_within p fuel Δ fit j (omega arith))
+answered_within : (p : Program) (fuel : ℕ) (Γ : Context) → ContextFits Γ → (t : TermId) → term_number t < fuel → (a : Kind) → Fits a → IsAnswered p Γ t a
+answered_within p zero Γ around t h a f = absurd (omega arith)
+answered_within p (suc fuel) Γ around t h a f = by_node (term_node_at p t) refl (node_parts p t) (λ Δ fit j k. answered_within p fuel Δ fit j (omega arith))
   where
     by_node : (n : Node) → term_node_at p t ≡ n → TermPartsBelow n (term_number t)
-        → ((Δ : Context) → NamesFit (names_of_values Δ) → (j : TermId) → term_number j < term_number t → (b : Kind) → Fits b → IsAnswered p Δ j b) → IsAnswered p Γ t a
-    by_node (nodes.Primitive q) is b parts = of_primitive p Γ names t q a is f
-    by_node (nodes.Joined InSequence l r) is b parts = of_sequence p Γ names t l r a is f (parts Γ names l b.0 a f) (parts Γ names r b.1)
-    by_node (nodes.Joined InParallel l r) is b parts = of_parallel p Γ names t l r a is f (parts Γ names l b.0) (parts Γ names r b.1)
-    by_node (nodes.Joined FannedOut l r) is b parts = of_fan p Γ names t l r a is f (parts Γ names l b.0 a f) (parts Γ names r b.1 a f)
-    by_node (nodes.Sided First j) is b parts = of_first p Γ names t j a is f (parts Γ names j b)
-    by_node (nodes.Sided Second j) is b parts = of_second p Γ names t j a is f (parts Γ names j b)
-    by_node (nodes.Headed LoopPre v j) is b parts = of_loop p Γ names t v j a is f (parts Γ names j b)
-    by_node (nodes.Headed Initialized v j) is b parts = of_initialized p Γ names t v j a is f (parts Γ names j b a f)
-    by_node (nodes.Switching (Basic w) l q r) is b parts = of_switch p Γ names t w l q r a f is (parts Γ names l b.0 a f) (λ c fit. parts (inside_pattern (pattern_in p q) c Γ) fit r b.1 a f)
-    by_node (nodes.Switching (Recurring w) l q r) is b parts = of_recurring p Γ names t w l q r a f is (parts Γ names l b.0) (λ c x h fit. parts (inside_pattern (pattern_in p q) c Γ) fit r b.1 x h)
+        → ((Δ : Context) → ContextFits Δ → (j : TermId) → term_number j < term_number t → (b : Kind) → Fits b → IsAnswered p Δ j b) → IsAnswered p Γ t a
+    by_node (nodes.Primitive q) is b parts = of_primitive p Γ around t q a is f
+    by_node (nodes.Run k n) is b parts = of_run p Γ around t k n a is f
+    by_node (nodes.Joined InSequence l r) is b parts = of_sequence p Γ around t l r a is f (parts Γ around l b.0 a f) (parts Γ around r b.1)
+    by_node (nodes.Joined InParallel l r) is b parts = of_parallel p Γ around t l r a is f (parts Γ around l b.0) (parts Γ around r b.1)
+    by_node (nodes.Joined FannedOut l r) is b parts = of_fan p Γ around t l r a is f (parts Γ around l b.0 a f) (parts Γ around r b.1 a f)
+    by_node (nodes.Sided First j) is b parts = of_first p Γ around t j a is f (parts Γ around j b)
+    by_node (nodes.Sided Second j) is b parts = of_second p Γ around t j a is f (parts Γ around j b)
+    by_node (nodes.Headed LoopPre v j) is b parts = of_loop p Γ around t v j a is f (parts Γ around j b)
+    by_node (nodes.Headed Initialized v j) is b parts = of_initialized p Γ around t v j a is f (parts Γ around j b a f)
+    by_node (nodes.Switching (Basic w) l q r) is b parts = of_switch p Γ around t w l q r a f is (parts Γ around l b.0 a f) (λ c fit. parts (inside_pattern (pattern_in p q) c Γ) fit r b.1 a f)
+    by_node (nodes.Switching (Recurring w) l q r) is b parts = of_recurring p Γ around t w l q r a f is (parts Γ around l b.0) (λ c x h fit. parts (inside_pattern (pattern_in p q) c Γ) fit r b.1 x h)
+    by_node (nodes.Keeping w l o k n q r) is b parts =
+        of_keeping p Γ around t w l o k n q r a is f (parts Γ around l b.0 a f) (parts Γ around o b.1) (λ d c fit. parts (inside_pattern (pattern_in p q) c (keeping_inside p k a d Γ)) fit r b.2 a f)
 
-pub term_answered : (p : Program) (Γ : Context) → NamesFit (names_of_values Γ) → (t : TermId) (a : Kind) → Fits a → IsAnswered p Γ t a
-term_answered p Γ names t a f = answered_within p (suc (term_number t)) Γ names t (omega arith) a f
+pub term_answered : (p : Program) (Γ : Context) → ContextFits Γ → (t : TermId) (a : Kind) → Fits a → IsAnswered p Γ t a
+term_answered p Γ around t a f = answered_within p (suc (term_number t)) Γ around t (omega arith) a f

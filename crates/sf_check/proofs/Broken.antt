@@ -1,10 +1,11 @@
 -- Where a rule is broken, there is no type.
 use Rattle.std.proofs.Common.{◌≡◌, Some, refl, sym, subst, ap, ◌∙◌, arith}
 use Rattle.std.proofs.lemmas.Option.{same_Some}
-use mathlib.Core.Path.{ap₂}
-use Rattle.sf_value.specs.Values.{Kind, pair_kind, nodes as nodes_of}
+use mathlib.Core.Path.{ap₂, subst₂}
+use Rattle.sf_value.specs.Values.{Name, Kind, pair_kind, event_kind, nodes as nodes_of}
 use Rattle.sf_func.specs.Registries.{TypesByName}
 use Rattle.sf_expr.specs.declared.exprs.FunctionId.{FunctionId}
+use Rattle.sf_expr.specs.declared.exprs.PatternId.{PatternId}
 use Rattle.sf_expr.specs.Expressions.{Pattern, Function}
 use Rattle.sf_expr.specs.Patterns.{PlacedPattern, pattern_of}
 use Rattle.sf_expr.specs.Arena.{function_at}
@@ -29,12 +30,13 @@ use Rattle.sf_term.specs.Arena.{tree, term_node_at, template_in, templates_of}
 use Rattle.sf_term.specs.declared.form.Bare.{Bare}
 use Rattle.sf_term.specs.declared.form.Bare.TheVariants.{Pre}
 use Rattle.sf_term.specs.declared.form.Accumulation.{Accumulation}
-use Rattle.sf_mean.specs.Contexts.{Context, names_of_values, inside_pattern}
-use Rattle.sf_mean.specs.Typing.{bare_kind, value_kind, timed_kind, accumulated_argument, accumulated_kind, PrimitiveTakes, bare_takes, never_takes, value_takes, timed_takes, accumulated_takes, arrow_takes, Takes, FormTakes, primitive_takes, sequence_takes, parallel_takes, fan_takes, first_takes, second_takes, loop_takes, initialized_takes, switch_takes, recurring_takes, IsTyped}
+use Rattle.sf_mean.specs.Contexts.{Context, names_of_values, inside_pattern, Bindings, process_named}
+use Rattle.sf_mean.specs.Typing.{bare_kind, value_kind, timed_kind, accumulated_argument, accumulated_kind, PrimitiveTakes, bare_takes, never_takes, value_takes, timed_takes, accumulated_takes, arrow_takes, Takes, FormTakes, primitive_takes, run_takes, sequence_takes, parallel_takes, fan_takes, first_takes, second_takes, loop_takes, initialized_takes, switch_takes, recurring_takes, keeping_takes, IsTyped}
 use Rattle.sf_check.specs.Answering.{primitive_in}
-use Rattle.sf_check.specs.Breaking.{BareRefused, pattern_in, BindsInside, Exceeds, PrimitiveBreaks, AccumulationBreaks, argument_refused, accumulator_refused, made_refused, value_refused, bare_refused, never_refused, given_refused, timed_value_refused, time_outside, timed_refused, start_value_refused, accumulation_breaks, function_refused, FormBreaks, primitive_breaks, parallel_input, parallel_exceeds, fan_exceeds, side_input, first_exceeds, second_exceeds, start_refused, fed_exceeds, loop_differs, initialized_differs, BodyWanted, after_source, beside_input, source_differs, recurring_input, pattern_refused, body_differs, Reaches, sequence_left, sequence_right, parallel_left, parallel_right, fan_left, fan_right, first_part, second_part, loop_part, initialized_part, switch_source, recurring_first, switch_body, TermBreaks, itself, within, TemplateBreaks, breaks_within, breaks_header}
+use Rattle.sf_check.specs.Breaking.{kind_named, ProcessRefused, BareRefused, pattern_in, name_in, keeping_inside, BindsInside, Exceeds, PrimitiveBreaks, AccumulationBreaks, argument_refused, accumulator_refused, made_refused, value_refused, bare_refused, never_refused, given_refused, timed_value_refused, time_outside, timed_refused, start_value_refused, accumulation_breaks, function_refused, FormBreaks, primitive_breaks, no_process, process_differs, parallel_input, parallel_exceeds, fan_exceeds, side_input, first_exceeds, second_exceeds, start_refused, fed_exceeds, loop_differs, initialized_differs, BodyWanted, after_source, beside_input, BodyBreaks, pattern_refused, body_differs, source_differs, recurring_input, switch_body_breaks, observed_exceeds, observer_differs, keeping_body_breaks, Reaches, sequence_left, sequence_right, parallel_left, parallel_right, fan_left, fan_right, first_part, second_part, loop_part, initialized_part, switch_source, recurring_first, switch_body, keeping_source, keeping_observer, keeping_body, TermBreaks, itself, within, TemplateBreaks, breaks_within, breaks_header}
 use Rattle.sf_check.proofs.Made.{made, tree_made}
 use Rattle.sf_check.proofs.Types.{argument_fits, expression_one, takes_one, beside_one, input_fits, output_fits, form_of}
+use Rattle.sf_check.proofs.Contexts.{is_process}
 
 pub too_large : {t u : Kind} → Exceeds t → Fits u → t ≡ u → ⊥
 too_large big fits e = let n = ap nodes_of e in omega (arith, big, fits, n)
@@ -77,6 +79,20 @@ pattern_none Γ {q} refused same binds = pattern_unbound refused (subst (λ d. B
 inside_one : (Γ : Context) (q : Pattern) {u : Term} {a b c d v : Kind} → c ≡ d → Takes (inside_pattern q c Γ) u a b → Takes (inside_pattern q d Γ) u a v → b ≡ v
 inside_one Γ q {u} {a} {b} same h k = takes_one (subst (λ c. Takes (inside_pattern q c Γ) u a b) same h) k
 
+-- a body that breaks a rule of its form doesn't give what is wanted of it
+body_untyped : {p : Program} {Δ : Context} {s : Spot} {q : PatternId} {u : TermId} {a b c d v : Kind} {e : Breach}
+    → BodyBreaks p Δ s q u a b c e → d ≡ c → v ≡ b → BindsInside (pattern_in p q) d Δ → Takes (inside_pattern (pattern_in p q) d Δ) (tree p u) a v → ⊥
+body_untyped {Δ = Δ} (pattern_refused refused) same out binds g = pattern_none Δ refused same binds
+body_untyped {p = p} {Δ = Δ} {q = q} (body_differs binds' g' other) same out binds g = other (inside_one Δ (pattern_in p q) (sym same) g' g ∙ out)
+
+-- where a name is that of no process, it has no process's types
+no_kept : (bs : Bindings) (k : Name) (s : Spot) (e : Breach) {t : Kind × Kind} → ProcessRefused (kind_named k bs) s e → process_named k bs ≡ Some t → ⊥
+no_kept bs k s e {t} refused named = subst (λ o. ProcessRefused o s e) (is_process k bs named) refused
+
+-- what a source gives to inputs of a type is of one type, and so is what an observer beside it does
+pub seen_one : {Γ : Context} {s o : Term} {a b c d v : Kind} → Takes Γ s a b → Takes Γ o (pair_kind a b) d → Takes Γ s a c → Takes Γ o (pair_kind a c) v → (b ≡ c) × (d ≡ v)
+seen_one {Γ} {o = o} {a = a} {d = d} F O G P = let same = takes_one F G in (same, takes_one (subst (λ b. Takes Γ o (pair_kind a b) d) same O) P)
+
 module _ {p : Program} {Γ : Context} where
   -- what is wanted of a switch's body is one
   pub wanted_one : {w : Switching} {t : TermId} {x a b c d e f : Kind} → BodyWanted p Γ w t x a b c → BodyWanted p Γ w t x d e f → (a ≡ d) × (b ≡ e) × (c ≡ f)
@@ -101,12 +117,20 @@ module _ {p : Program} {Γ : Context} where
   itself_untyped (initialized_differs h g other) (initialized_takes k t) fits = other (takes_one g t ∙ expression_one k h)
   itself_untyped (source_differs f none) (switch_takes f' binds g) fits = none _ _ (takes_one f f')
   itself_untyped (recurring_input none) (recurring_takes f binds g) fits = none _ _ refl
-  itself_untyped (pattern_refused (after_source f) q) (switch_takes f' binds g) fits = pattern_none Γ q (beside_one f' f).1 binds
-  itself_untyped (pattern_refused (beside_input f) q) (recurring_takes f' binds g) fits = pattern_none Γ q refl binds
-  itself_untyped (body_differs {q = q} (after_source f) binds g other) (switch_takes f' binds' g') fits = let same = beside_one f f' in other (inside_one Γ (pattern_in p q) same.1 g g' ∙ sym same.0)
-  itself_untyped (body_differs (beside_input f) binds g other) (recurring_takes f' binds' g') fits = other (takes_one g g' ∙ sym (takes_one f f'))
+  itself_untyped (switch_body_breaks (after_source f) h) (switch_takes f' binds g) fits = let same = beside_one f' f in body_untyped h same.1 same.0 binds g
+  itself_untyped (switch_body_breaks (beside_input f) h) (recurring_takes f' binds g) fits = body_untyped h refl (takes_one f' f) binds g
+  itself_untyped (no_process {k = k} {n = n} {r = r} refused) (run_takes named) fits = no_kept Γ.bindings (name_in p k) n r refused named
+  itself_untyped (process_differs {k = k} named other) (run_takes kept) fits = let is = sym (is_process (name_in p k) Γ.bindings kept) ∙ named in other cc
+  itself_untyped (observed_exceeds {a = a} f big) (keeping_takes f' o binds g) fits = too_large big (input_fits o) (ap (pair_kind a) (takes_one f f'))
+  itself_untyped (observer_differs f o none) (keeping_takes f' o' binds g) fits = none _ (seen_one f o f' o').1
+  itself_untyped (keeping_body_breaks {u = u} {k = k} {q = q} {a = a} {c = c} f o h) (keeping_takes {c = d} f' o' binds g) fits =
+      let same = seen_one f' o' f o in
+      let event : d ≡ c = let is = same.1 in cc in
+      let P : Kind → Type 0 = λ b. BindsInside (pattern_in p q) d (keeping_inside p k a b Γ) × Takes (inside_pattern (pattern_in p q) d (keeping_inside p k a b Γ)) (tree p u) a b in
+      let inside = subst P same.0 (binds, g) in
+      body_untyped h event refl inside.0 inside.1
 
-  reached_takes : {n : Node} {Δ : Context} {j : TermId} {a b c : Kind} → Reaches p Γ n a Δ j b → FormTakes Γ (made p n) a c → (d : Kind) × Takes Δ (tree p j) b d
+  reached_takes : {n : Node} {a : Kind} {Δ : Context} {j : TermId} {b c : Kind} → Reaches p Γ n a Δ j b → FormTakes Γ (made p n) a c → (d : Kind) × Takes Δ (tree p j) b d
   reached_takes sequence_left (sequence_takes f g) = (_, f)
   reached_takes (sequence_right {g = g} f) (sequence_takes {c = c} f' h) =
       let P : Kind → Type 0 = λ b. Takes Γ (tree p g) b c in
@@ -127,6 +151,15 @@ module _ {p : Program} {Γ : Context} where
       let P : Kind → Type 0 = λ c. Takes (inside_pattern (pattern_in p q) c Γ) (tree p u) a b in
       (b, subst P (beside_one f' f).1 g)
   reached_takes (switch_body (beside_input f) binds) (recurring_takes f' binds' g) = (_, g)
+  reached_takes keeping_source (keeping_takes f o binds g) = (_, f)
+  reached_takes (keeping_observer {o = o} {a = a} f fits) (keeping_takes {c = c} f' o' binds g) =
+      let P : Kind → Type 0 = λ b. Takes Γ (tree p o) (pair_kind a b) (event_kind c) in
+      (_, subst P (takes_one f' f) o')
+  reached_takes (keeping_body {u = u} {k = k} {q = q} {a = a} {b = b} {c = c} f o binds) (keeping_takes {c = d} f' o' binds' g) =
+      let same = seen_one f' o' f o in
+      let event : d ≡ c = let is = same.1 in cc in
+      let P : Kind → Kind → Type 0 = λ b c. Takes (inside_pattern (pattern_in p q) c (keeping_inside p k a b Γ)) (tree p u) a b in
+      (b, subst₂ P same.0 event g)
 
 pub breaks_untyped : {p : Program} {Γ : Context} {i : TermId} {a b : Kind} {e : Breach} → TermBreaks p Γ i a e → Takes Γ (tree p i) a b → ⊥
 breaks_untyped {p} {i = i} (itself broken) h = itself_untyped broken (form_made p i h) (output_fits h)

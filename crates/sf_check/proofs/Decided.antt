@@ -99,7 +99,7 @@ module _ (p : Program) where
 
   module _ (fs : TypesByName) where
     template_decided : (h : Header) → Fits h.input → IsTyped fs (templates_of p) (template_in p h) ⊎ ((b : Breach) × TemplateBreaks fs p h b)
-    template_decided h fits = elim (term_answered p (context_of fs (templates_of p)) (λ y t e. absurd (none-some t e)) h.body h.input fits) [
+    template_decided h fits = elim (term_answered p (context_of fs (templates_of p)) (λ y t e. absurd (none-some t e), λ y a b e. absurd (none-some (a, b) e)) h.body h.input fits) [
       | inr r ↦ inr (r.0, breaks_within r.1)
       | inl t ↦ elim (kinds_or t.0 h.output) [
         | inl e ↦ inl (subst (Takes (context_of fs (templates_of p)) (tree p h.body) h.input) e t.1)

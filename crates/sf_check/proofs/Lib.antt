@@ -1,4 +1,5 @@
 pub mod Types
+pub mod Contexts
 pub mod Made
 pub mod Broken
 pub mod Terms

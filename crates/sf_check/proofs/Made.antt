@@ -9,19 +9,21 @@ use Rattle.sf_term.specs.declared.node.Primitive.TheVariants as primitives
 use Rattle.sf_term.specs.declared.node.Node.{Node}
 use Rattle.sf_term.specs.declared.node.Node.TheVariants as nodes
 use Rattle.sf_term.specs.declared.program.Program.{Program}
-use Rattle.sf_term.specs.Trees.{Term, primitive, joined, sided, headed, switching, with_value, timed, arrow, accumulated}
+use Rattle.sf_term.specs.Trees.{Term, primitive, run, joined, sided, headed, switching, keeping, with_value, timed, arrow, accumulated}
 use Rattle.sf_term.specs.Arena.{tree, term_node_at, expressions_of, pattern_under, term_of}
 use Rattle.sf_term.proofs.Kept.{node_builds, expression_in, function_at_in}
-use Rattle.sf_check.specs.Breaking.{pattern_in}
+use Rattle.sf_check.specs.Breaking.{pattern_in, name_in}
 use Rattle.sf_check.specs.Answering.{primitive_in}
 
 -- the term that a node makes of its parts
 abbrev pub made : Program → Node → Term
 made p (nodes.Primitive q) = primitive (primitive_in (expressions_of p) q)
+made p (nodes.Run k s) = run (name_in p k)
 made p (nodes.Joined j f g) = joined j (tree p f) (tree p g)
 made p (nodes.Sided d f) = sided d (tree p f)
 made p (nodes.Headed h v f) = headed h (expression (expressions_of p) v) (tree p f)
 made p (nodes.Switching w f q g) = switching w (tree p f) (pattern_in p q) (tree p g)
+made p (nodes.Keeping w f o k s q g) = keeping w (tree p f) (tree p o) (name_in p k) (pattern_in p q) (tree p g)
 
 placed_in : (p : Program) (q : PatternId) → placed_at (expressions_of p) q ≡ pattern_under p q
 unfolding expressions_of pattern_under
@@ -37,7 +39,9 @@ tree_made p t n e = node_builds p t n e ∙ by n
     by (nodes.Primitive (primitives.Arrow f)) = ap (λ f. primitive (arrow f)) (sym (function_at_in p f))
     by (nodes.Primitive (primitives.Timed k q v)) = ap (λ e. primitive (timed k q e)) (sym (expression_in p v))
     by (nodes.Primitive (primitives.Accumulated k v f)) = ap₂ (λ e g. primitive (accumulated k e g)) (sym (expression_in p v)) (sym (function_at_in p f))
+    by (nodes.Run k s) = refl
     by (nodes.Joined j f g) = refl
     by (nodes.Sided d f) = refl
     by (nodes.Headed h v f) = ap (λ e. headed h e (tree p f)) (sym (expression_in p v))
     by (nodes.Switching w f q g) = ap (λ r. switching w (tree p f) (pattern_of r) (tree p g)) (sym (placed_in p q))
+    by (nodes.Keeping w f o k s q g) = ap (λ r. keeping w (tree p f) (tree p o) (name_in p k) (pattern_of r) (tree p g)) (sym (placed_in p q))

@@ -1,8 +1,8 @@
 -- A network is refused in one way at most.
-use Rattle.std.proofs.Common.{◌≡◌, ◌<◌, ℕ, slice_get, refl, sym, ◌∙◌, ap, subst, arith}
+use Rattle.std.proofs.Common.{◌≡◌, ◌<◌, ℕ, Option, Some, None, slice_get, refl, sym, ◌∙◌, ap, subst, arith}
 use Rattle.std.proofs.lemmas.Option.{same_Some}
 use mathlib.Core.Path.{subst₂}
-use Rattle.sf_value.specs.Values.{Kind, pair_kind}
+use Rattle.sf_value.specs.Values.{Kind, pair_kind, event_kind}
 use Rattle.sf_func.specs.Registries.{TypesByName}
 use Rattle.sf_expr.specs.declared.exprs.Exprs.{Exprs}
 use Rattle.sf_refusal.specs.declared.spot.Spot.{Spot}
@@ -12,6 +12,7 @@ use Rattle.sf_refusal.specs.Refusals.{breach_of, broken}
 use Rattle.sf_operator.specs.Breaches.{KindRefused}
 use Rattle.sf_operator.proofs.Refusing.{kind_refused, kind_once}
 use Rattle.sf_expr.specs.declared.exprs.FunctionId.{FunctionId}
+use Rattle.sf_expr.specs.declared.exprs.PatternId.{PatternId}
 use Rattle.sf_expr.specs.Arena.{function_at, placed_at}
 use Rattle.sf_expr.specs.Typing.{Names, FunctionTakes}
 use Rattle.sf_expr.specs.Refusals.{PatternRefused, FunctionRefused}
@@ -26,13 +27,13 @@ use Rattle.sf_term.specs.Arena.{tree, expressions_of, headers_of, spots_of, temp
 use Rattle.sf_term.specs.declared.form.Bare.{Bare}
 use Rattle.sf_term.specs.declared.form.Bare.TheVariants.{Pre}
 use Rattle.sf_term.specs.declared.form.Accumulation.{Accumulation}
-use Rattle.sf_mean.specs.Contexts.{Context, names_of_values, inside_pattern}
+use Rattle.sf_mean.specs.Contexts.{NameKind, value, process, Context, names_of_values, inside_pattern}
 use Rattle.sf_mean.specs.Typing.{bare_kind, value_kind, timed_kind, accumulated_kind, Takes}
 use Rattle.sf_check.specs.Names.{IsFirstRepeat}
-use Rattle.sf_check.specs.Breaking.{BareRefused, pattern_in, PrimitiveBreaks, AccumulationBreaks, argument_refused, accumulator_refused, made_refused, value_refused, bare_refused, never_refused, given_refused, timed_value_refused, time_outside, timed_refused, start_value_refused, accumulation_breaks, function_refused, FormBreaks, primitive_breaks, parallel_input, parallel_exceeds, fan_exceeds, side_input, first_exceeds, second_exceeds, start_refused, fed_exceeds, loop_differs, initialized_differs, after_source, beside_input, source_differs, recurring_input, pattern_refused, body_differs, Reaches, sequence_left, sequence_right, parallel_left, parallel_right, fan_left, fan_right, first_part, second_part, loop_part, initialized_part, switch_source, recurring_first, switch_body, TermBreaks, itself, within, TemplateBreaks, breaks_within, breaks_header, IsFirstBreak}
+use Rattle.sf_check.specs.Breaking.{kind_named, ProcessRefused, BareRefused, pattern_in, name_in, keeping_inside, BindsInside, PrimitiveBreaks, AccumulationBreaks, argument_refused, accumulator_refused, made_refused, value_refused, bare_refused, never_refused, given_refused, timed_value_refused, time_outside, timed_refused, start_value_refused, accumulation_breaks, function_refused, FormBreaks, primitive_breaks, no_process, process_differs, parallel_input, parallel_exceeds, fan_exceeds, side_input, first_exceeds, second_exceeds, start_refused, fed_exceeds, loop_differs, initialized_differs, after_source, beside_input, BodyBreaks, pattern_refused, body_differs, source_differs, recurring_input, switch_body_breaks, observed_exceeds, observer_differs, keeping_body_breaks, Reaches, sequence_left, sequence_right, parallel_left, parallel_right, fan_left, fan_right, first_part, second_part, loop_part, initialized_part, switch_source, recurring_first, switch_body, keeping_source, keeping_observer, keeping_body, TermBreaks, itself, within, TemplateBreaks, breaks_within, breaks_header, IsFirstBreak}
 use Rattle.sf_check.specs.Refusing.{RefusesNetwork, name_refused, type_refused, main_missing}
 use Rattle.sf_check.proofs.Types.{argument_fits, expression_one, takes_one, input_fits}
-use Rattle.sf_check.proofs.Broken.{answer_one, too_large, pattern_none, wanted_one, breaks_untyped, template_untyped}
+use Rattle.sf_check.proofs.Broken.{answer_one, too_large, pattern_none, wanted_one, seen_one, breaks_untyped, template_untyped}
 use Rattle.sf_check.proofs.Templates.{template_at}
 
 -- ## One form
@@ -75,6 +76,24 @@ primitive_once {x = x} {Γ = Γ} {s = s} {f = f} (accumulation_breaks {k = w} {f
     accumulation_once q (subst (λ t. AccumulationBreaks x (names_of_values Γ) s w z t a f) (expression_one k h) p)
 primitive_once (function_refused h) (function_refused k) = function_refused_once h k
 
+module _ {p : Program} {Δ : Context} {s : Spot} {q : PatternId} {u : TermId} {a b c : Kind} where
+  -- a body breaks one rule of its form at most
+  body_once : {x v d : Kind} {e f : Breach} → d ≡ c → BodyBreaks p Δ s q u a b c e → BodyBreaks p Δ s q u x v d f → e ≡ f
+  body_once {f = f} same (pattern_refused h) (pattern_refused k) = pattern_once h (subst (λ c. PatternRefused (placed_at (expressions_of p) q) c s f) same k)
+  body_once same (pattern_refused h) (body_differs binds g other) = absurd (pattern_none Δ h same binds)
+  body_once same (body_differs binds g other) (pattern_refused h) = absurd (pattern_none Δ h (sym same) binds)
+  body_once same (body_differs binds g other) (body_differs again h more) = refl
+
+  -- and then none within it
+  body_part : {e f : Breach} → BodyBreaks p Δ s q u a b c e → BindsInside (pattern_in p q) c Δ → TermBreaks p (inside_pattern (pattern_in p q) c Δ) u a f → ⊥
+  body_part (pattern_refused h) binds broken = pattern_none Δ h refl binds
+  body_part (body_differs again g other) binds broken = breaks_untyped broken g
+
+no_process_once : (o : Option NameKind) (s : Spot) (e f : Breach) → ProcessRefused o s e → ProcessRefused o s f → e ≡ f
+no_process_once None s e f h k = h ∙ sym k
+no_process_once (Some (value t)) s e f h k = h ∙ sym k
+no_process_once (Some (process a b)) s e f h k = absurd h
+
 module _ {p : Program} {Γ : Context} where
   itself_once : {s : Spot} {n : Node} {a : Kind} {e f : Breach} → FormBreaks p Γ s n a e → FormBreaks p Γ s n a f → e ≡ f
   itself_once (primitive_breaks h) (primitive_breaks k) = primitive_once h k
@@ -103,23 +122,35 @@ module _ {p : Program} {Γ : Context} where
   itself_once (initialized_differs k l other) (start_refused h) = absurd (refused_untyped h k)
   itself_once (initialized_differs h k other) (initialized_differs l m more) = refl
   itself_once (source_differs f none) (source_differs g more) = refl
-  itself_once (source_differs f none) (pattern_refused (after_source g) q) = absurd (none _ _ (takes_one f g))
-  itself_once (source_differs f none) (body_differs (after_source g) binds h other) = absurd (none _ _ (takes_one f g))
+  itself_once (source_differs f none) (switch_body_breaks (after_source g) h) = absurd (none _ _ (takes_one f g))
+  itself_once (switch_body_breaks (after_source g) h) (source_differs f none) = absurd (none _ _ (takes_one f g))
   itself_once (recurring_input none) (recurring_input more) = refl
-  itself_once (recurring_input none) (pattern_refused (beside_input g) q) = absurd (none _ _ refl)
-  itself_once (recurring_input none) (body_differs (beside_input g) binds h other) = absurd (none _ _ refl)
-  itself_once (pattern_refused (after_source g) q) (source_differs f none) = absurd (none _ _ (takes_one f g))
-  itself_once (pattern_refused (beside_input g) q) (recurring_input none) = absurd (none _ _ refl)
-  itself_once {s} {f = e} (pattern_refused {q = q} f h) (pattern_refused g k) = pattern_once h (subst (λ c. PatternRefused (placed_at (expressions_of p) q) c s e) (wanted_one g f).2 k)
-  itself_once (pattern_refused f q) (body_differs g binds h other) = absurd (pattern_none Γ q (wanted_one g f).2 binds)
-  itself_once (body_differs (after_source g) binds h other) (source_differs f none) = absurd (none _ _ (takes_one f g))
-  itself_once (body_differs (beside_input g) binds h other) (recurring_input none) = absurd (none _ _ refl)
-  itself_once (body_differs g binds h other) (pattern_refused f q) = absurd (pattern_none Γ q (wanted_one g f).2 binds)
-  itself_once (body_differs f binds g other) (body_differs h again k differs) = refl
+  itself_once (recurring_input none) (switch_body_breaks (beside_input g) h) = absurd (none _ _ refl)
+  itself_once (switch_body_breaks (beside_input g) h) (recurring_input none) = absurd (none _ _ refl)
+  itself_once (switch_body_breaks f h) (switch_body_breaks g k) = body_once (wanted_one g f).2 h k
+  itself_once {e = e} {f = f} (no_process {k = k} {n = n} h) (no_process l) = no_process_once (kind_named (name_in p k) Γ.bindings) n e f h l
+  itself_once (no_process {n = n} {r = r} h) (process_differs named other) = absurd (subst (λ o. ProcessRefused o n r) named h)
+  itself_once (process_differs named other) (no_process {n = n} {r = r} h) = absurd (subst (λ o. ProcessRefused o n r) named h)
+  itself_once (process_differs named other) (process_differs kept more) = refl
+  itself_once (observed_exceeds f big) (observed_exceeds g more) = refl
+  itself_once (observed_exceeds {a = a} f big) (observer_differs g o none) = absurd (too_large big (input_fits o) (ap (pair_kind a) (takes_one f g)))
+  itself_once (observed_exceeds {a = a} f big) (keeping_body_breaks g o h) = absurd (too_large big (input_fits o) (ap (pair_kind a) (takes_one f g)))
+  itself_once (observer_differs g o none) (observed_exceeds {a = a} f big) = absurd (too_large big (input_fits o) (ap (pair_kind a) (takes_one f g)))
+  itself_once (observer_differs f o none) (observer_differs g i more) = refl
+  itself_once (observer_differs f o none) (keeping_body_breaks g i h) = absurd (none _ (seen_one f o g i).1)
+  itself_once (keeping_body_breaks g o h) (observed_exceeds {a = a} f big) = absurd (too_large big (input_fits o) (ap (pair_kind a) (takes_one f g)))
+  itself_once (keeping_body_breaks g i h) (observer_differs f o none) = absurd (none _ (seen_one f o g i).1)
+  itself_once {s = s} {f = e} (keeping_body_breaks {u = u} {k = k} {q = q} {a = a} {c = c} f o h) (keeping_body_breaks {c = d} g i l) =
+      let same = seen_one g i f o in
+      let event : d ≡ c = let is = same.1 in cc in
+      let P : Kind → Type 0 = λ b. BodyBreaks p (keeping_inside p k a b Γ) s q u a b d e in
+      body_once event h (subst P same.0 l)
 
   -- where the form itself breaks a rule, no part that is typed next does
-  itself_parts : {s : Spot} {n : Node} {Δ : Context} {j : TermId} {a b : Kind} {e f : Breach} → FormBreaks p Γ s n a e → Reaches p Γ n a Δ j b → TermBreaks p Δ j b f → ⊥
+  itself_parts : {s : Spot} {n : Node} {a : Kind} {Δ : Context} {j : TermId} {b : Kind} {e f : Breach} → FormBreaks p Γ s n a e → Reaches p Γ n a Δ j b → TermBreaks p Δ j b f → ⊥
   itself_parts (primitive_breaks h) reached broken = elim reached [ ]
+  itself_parts (no_process h) reached broken = elim reached [ ]
+  itself_parts (process_differs named other) reached broken = elim reached [ ]
   itself_parts (parallel_input none) parallel_left broken = none _ _ refl
   itself_parts (parallel_input none) (parallel_right h) broken = none _ _ refl
   itself_parts (parallel_exceeds h k big) parallel_left broken = breaks_untyped broken h
@@ -141,18 +172,34 @@ module _ {p : Program} {Γ : Context} where
   itself_parts (source_differs f none) (switch_body (after_source g) binds) broken = none _ _ (takes_one f g)
   itself_parts (recurring_input none) recurring_first broken = none _ _ refl
   itself_parts (recurring_input none) (switch_body (beside_input g) binds) broken = none _ _ refl
-  itself_parts (pattern_refused (after_source f) q) switch_source broken = breaks_untyped broken f
-  itself_parts (pattern_refused (beside_input f) q) recurring_first broken = breaks_untyped broken f
-  itself_parts (pattern_refused f q) (switch_body g binds) broken = pattern_none Γ q (wanted_one g f).2 binds
-  itself_parts (body_differs (after_source f) binds g other) switch_source broken = breaks_untyped broken f
-  itself_parts (body_differs (beside_input f) binds g other) recurring_first broken = breaks_untyped broken f
-  itself_parts (body_differs {u = u} {q = q} {d = d} f binds g other) (switch_body h again) broken =
-      let P : Kind → Kind → Type 0 = λ a c. Takes (inside_pattern (pattern_in p q) c Γ) (tree p u) a d in
-      let same = wanted_one f h in
-      breaks_untyped broken (subst₂ P same.0 same.2 g)
+  itself_parts (switch_body_breaks (after_source f) h) switch_source broken = breaks_untyped broken f
+  itself_parts (switch_body_breaks (beside_input f) h) recurring_first broken = breaks_untyped broken f
+  itself_parts {f = e} (switch_body_breaks {u = u} {q = q} f h) (switch_body g binds) broken =
+      let P : Kind → Kind → Type 0 = λ a c. BindsInside (pattern_in p q) c Γ × TermBreaks p (inside_pattern (pattern_in p q) c Γ) u a e in
+      let same = wanted_one g f in
+      let inside = subst₂ P same.0 same.2 (binds, broken) in
+      body_part h inside.0 inside.1
+  itself_parts (observed_exceeds f big) keeping_source broken = breaks_untyped broken f
+  itself_parts (observed_exceeds {a = a} f big) (keeping_observer g fits) broken = too_large big fits (ap (pair_kind a) (takes_one f g))
+  itself_parts (observed_exceeds {a = a} f big) (keeping_body g o binds) broken = too_large big (input_fits o) (ap (pair_kind a) (takes_one f g))
+  itself_parts (observer_differs f o none) keeping_source broken = breaks_untyped broken f
+  itself_parts (observer_differs {o = q} {a = a} {d = d} f o none) (keeping_observer g fits) broken =
+      let P : Kind → Type 0 = λ b. Takes Γ (tree p q) (pair_kind a b) d in
+      breaks_untyped broken (subst P (takes_one f g) o)
+  itself_parts (observer_differs f o none) (keeping_body g i binds) broken = none _ (seen_one f o g i).1
+  itself_parts (keeping_body_breaks f o h) keeping_source broken = breaks_untyped broken f
+  itself_parts (keeping_body_breaks {o = q} {a = a} {c = c} f o h) (keeping_observer g fits) broken =
+      let P : Kind → Type 0 = λ b. Takes Γ (tree p q) (pair_kind a b) (event_kind c) in
+      breaks_untyped broken (subst P (takes_one f g) o)
+  itself_parts {f = e} (keeping_body_breaks {u = u} {k = k} {q = q} {a = a} {c = c} f o h) (keeping_body {c = d} g i binds) broken =
+      let same = seen_one g i f o in
+      let event : d ≡ c = let is = same.1 in cc in
+      let P : Kind → Kind → Type 0 = λ b c. BindsInside (pattern_in p q) c (keeping_inside p k a b Γ) × TermBreaks p (inside_pattern (pattern_in p q) c (keeping_inside p k a b Γ)) u a e in
+      let inside = subst₂ P same.0 event (binds, broken) in
+      body_part h inside.0 inside.1
 
   -- of the parts, one at most breaks a rule where it is typed next
-  parts_once : {n : Node} {Δ Θ : Context} {i j : TermId} {a b c : Kind} {e f : Breach} → Reaches p Γ n a Δ i b → Reaches p Γ n a Θ j c → TermBreaks p Δ i b e → ((g : Breach) → TermBreaks p Δ i b g → e ≡ g) → TermBreaks p Θ j c f → e ≡ f
+  parts_once : {n : Node} {a : Kind} {Δ Θ : Context} {i j : TermId} {b c : Kind} {e f : Breach} → Reaches p Γ n a Δ i b → Reaches p Γ n a Θ j c → TermBreaks p Δ i b e → ((g : Breach) → TermBreaks p Δ i b g → e ≡ g) → TermBreaks p Θ j c f → e ≡ f
   parts_once sequence_left sequence_left broken once other = once _ other
   parts_once sequence_left (sequence_right h) broken once other = absurd (breaks_untyped broken h)
   parts_once (sequence_right h) sequence_left broken once other = absurd (breaks_untyped other h)
@@ -183,6 +230,25 @@ module _ {p : Program} {Γ : Context} where
       let P : Kind → Kind → Type 0 = λ a c. TermBreaks p (inside_pattern (pattern_in p q) c Γ) u a f in
       let same = wanted_one k h in
       once f (subst₂ P same.0 same.2 other)
+  parts_once keeping_source keeping_source broken once other = once _ other
+  parts_once keeping_source (keeping_observer f fits) broken once other = absurd (breaks_untyped broken f)
+  parts_once keeping_source (keeping_body f o binds) broken once other = absurd (breaks_untyped broken f)
+  parts_once (keeping_observer f fits) keeping_source broken once other = absurd (breaks_untyped other f)
+  parts_once {f = f} (keeping_observer {o = o} {a = a} g fits) (keeping_observer h more) broken once other =
+      let P : Kind → Type 0 = λ b. TermBreaks p Γ o (pair_kind a b) f in
+      once f (subst P (takes_one h g) other)
+  parts_once (keeping_observer {o = o} {a = a} f fits) (keeping_body {c = c} g i binds) broken once other =
+      let P : Kind → Type 0 = λ b. Takes Γ (tree p o) (pair_kind a b) (event_kind c) in
+      absurd (breaks_untyped broken (subst P (takes_one g f) i))
+  parts_once (keeping_body f i binds) keeping_source broken once other = absurd (breaks_untyped other f)
+  parts_once (keeping_body {o = o} {a = a} {c = c} g i binds) (keeping_observer f fits) broken once other =
+      let P : Kind → Type 0 = λ b. Takes Γ (tree p o) (pair_kind a b) (event_kind c) in
+      absurd (breaks_untyped other (subst P (takes_one g f) i))
+  parts_once {f = e} (keeping_body {u = u} {k = k} {q = q} {a = a} {c = c} f o binds) (keeping_body {c = d} g i again) broken once other =
+      let same = seen_one g i f o in
+      let event : d ≡ c = let is = same.1 in cc in
+      let P : Kind → Kind → Type 0 = λ b c. TermBreaks p (inside_pattern (pattern_in p q) c (keeping_inside p k a b Γ)) u a e in
+      once e (subst₂ P same.0 event other)
 
 -- ## Terms, templates, networks
 

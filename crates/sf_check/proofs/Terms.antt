@@ -1,5 +1,5 @@
 -- What is answered for terms, by their forms.
-use Rattle.std.proofs.Common.{◌≡◌, ℤ, true, false, Some, None, refl, sym, subst, ap, ◌∙◌, Result, Ok, Err, IfOk, IfErr, arith, IsErrAnd}
+use Rattle.std.proofs.Common.{◌≡◌, ◌≢◌, ◌⊎◌, inl, inr, ℤ, true, false, Some, None, refl, sym, subst, ap, ◌∙◌, Result, Ok, Err, IfOk, IfErr, arith, IsErrAnd}
 use Rattle.std.proofs.lemmas.Option.{same_Some}
 use mathlib.Core.Path.{subst₂}
 use Rattle.sf_value.specs.Values.{Kind, pair_kind, event_kind}
@@ -8,6 +8,7 @@ use Rattle.sf_expr.specs.declared.exprs.ConstantId.{ConstantId}
 use Rattle.sf_expr.specs.declared.exprs.ExprId.{ExprId}
 use Rattle.sf_expr.specs.declared.exprs.Exprs.{Exprs}
 use Rattle.sf_expr.specs.declared.exprs.FunctionId.{FunctionId}
+use Rattle.sf_expr.specs.declared.exprs.NameId.{NameId}
 use Rattle.sf_expr.specs.declared.exprs.PatternId.{PatternId}
 use Rattle.sf_expr.specs.Arena.{expression, literal_at, placed_at}
 use Rattle.sf_refusal.specs.declared.spot.Spot.{Spot}
@@ -17,10 +18,10 @@ use Rattle.sf_refusal.specs.declared.refusal.Refusal.{Refusal}
 use Rattle.sf_refusal.specs.declared.refusal.Refusal.TheVariants.{Memory}
 use Rattle.sf_refusal.specs.Refusals.{breach_of, broken, OrMemory, because, no_memory}
 use Rattle.sf_refusal.proofs.Explained.{or_memory, breaks_at}
-use Rattle.sf_operator.specs.Kinds.{same_kind}
+use Rattle.sf_operator.specs.Kinds.{same_kind, payload_of}
 use Rattle.sf_operator.specs.Breaches.{AnswersKind}
 use Rattle.sf_operator.proofs.Answering.{none_only}
-use Rattle.sf_operator.proofs.SameKinds.{same_is, is_same}
+use Rattle.sf_operator.proofs.SameKinds.{same_is, is_same, payload_is}
 use Rattle.sf_expr.specs.Expressions.{Pattern}
 use Rattle.sf_expr.specs.Refusals.{Refused, Judges, JudgesFunction, PatternRefused, PairRefused, AnswersPair}
 use Rattle.sf_expr.specs.Typing.{Names, Fits, HasType}
@@ -50,12 +51,17 @@ use Rattle.sf_term.specs.Headers.{Header}
 use Rattle.sf_term.specs.Trees.{never}
 use Rattle.sf_term.specs.Entries.{absent_payload}
 use Rattle.sf_term.specs.Arena.{tree, term_node_at, term_spot_at, expressions_of, templates_of}
-use Rattle.sf_mean.specs.Contexts.{Context, names_of_values, context_of, inside_pattern}
-use Rattle.sf_mean.specs.Typing.{value_kind, takes_time, timed_kind, accumulated_argument, accumulated_kind, PrimitiveTakes, bare_takes, never_takes, value_takes, timed_takes, accumulated_takes, arrow_takes, Takes, takes, FormTakes, primitive_takes, sequence_takes, parallel_takes, fan_takes, first_takes, second_takes, loop_takes, initialized_takes, switch_takes, recurring_takes}
-use Rattle.sf_check.specs.Breaking.{IsNoPairWith, IsNoEventBeside, pattern_in, BindsInside, Exceeds, PrimitiveBreaks, argument_refused, accumulator_refused, made_refused, value_refused, bare_refused, never_refused, given_refused, timed_value_refused, time_outside, timed_refused, start_value_refused, accumulation_breaks, function_refused, FormBreaks, primitive_breaks, parallel_exceeds, fan_exceeds, first_exceeds, second_exceeds, start_refused, fed_exceeds, loop_differs, initialized_differs, BodyWanted, after_source, beside_input, source_differs, recurring_input, pattern_refused, body_differs, Reaches, sequence_right, fan_left, parallel_left, parallel_right, first_part, second_part, loop_part, switch_source, recurring_first, switch_body, TermBreaks, itself, within, TemplateBreaks, breaks_within, breaks_header}
-use Rattle.sf_check.specs.Answering.{primitive_in, AnswersBare, AnswersPrimitive, AnswersTerm}
+use Rattle.sf_mean.specs.Contexts.{process, Context, names_of_values, context_of, inside_pattern}
+use Rattle.sf_mean.specs.Typing.{value_kind, takes_time, timed_kind, accumulated_argument, accumulated_kind, PrimitiveTakes, bare_takes, never_takes, value_takes, timed_takes, accumulated_takes, arrow_takes, Takes, takes, FormTakes, primitive_takes, run_takes, sequence_takes, parallel_takes, fan_takes, first_takes, second_takes, loop_takes, initialized_takes, switch_takes, recurring_takes, keeping_takes}
+use Rattle.sf_check.specs.Breaking.{IsNoPairWith, IsNoEventBeside, kind_named, ProcessRefused, pattern_in, name_in, keeping_inside, BindsInside, Exceeds, PrimitiveBreaks, argument_refused, accumulator_refused, made_refused, value_refused, bare_refused, never_refused, given_refused, timed_value_refused, time_outside, timed_refused, start_value_refused, accumulation_breaks, function_refused, FormBreaks, primitive_breaks, no_process, process_differs, parallel_exceeds, fan_exceeds, first_exceeds, second_exceeds, start_refused, fed_exceeds, loop_differs, initialized_differs, BodyWanted, after_source, beside_input, BodyBreaks, pattern_refused, body_differs, source_differs, recurring_input, switch_body_breaks, observed_exceeds, observer_differs, keeping_body_breaks, Reaches, sequence_right, fan_left, parallel_left, parallel_right, first_part, second_part, loop_part, switch_source, recurring_first, switch_body, keeping_source, keeping_observer, keeping_body, TermBreaks, itself, within, TemplateBreaks, breaks_within, breaks_header}
+use Rattle.sf_check.specs.Answering.{primitive_in, AnswersBare, AnswersPrimitive, AnswersTerm, AnswersBody}
 use Rattle.sf_check.proofs.Made.{made, tree_made}
-use Rattle.sf_check.proofs.Types.{primitive_fits, output_fits}
+use Rattle.sf_check.proofs.Types.{primitive_fits, output_fits, no_event}
+use Rattle.sf_check.proofs.Contexts.{process_is}
+
+-- types that are told apart are different
+other_kind : (t u : Kind) → same_kind t u ≡ false → t ≢ u
+other_kind t u other = λ e. let same = ap (same_kind t) e ∙ other in let yes = is_same t in cc
 
 -- ## Answers of one form
 
@@ -99,10 +105,34 @@ pub switching_there : (p : Program) (t : TermId) {w x : Switching} {f g : TermId
 switching_there p t {f = f} {g = g} {q = q} e there = there ∙ ap (λ w. nodes.Switching w f q g) e
 
 -- a switch takes inputs where its body gives what is wanted of it
-pub wanted_takes : {p : Program} {Γ : Context} {w : Switching} {f : TermId} {q : Pattern} {u : Term} {a x b c v : Kind} → BodyWanted p Γ w f a x b c → b ≡ v → BindsInside q c Γ → Takes (inside_pattern q c Γ) u x v
-    → FormTakes Γ (switching w (tree p f) q u) a v
-wanted_takes {p} {Γ} {f = f} {a = a} {c = c} (after_source F) same binds G = switch_takes (subst (λ b. Takes Γ (tree p f) a (pair_kind b (event_kind c))) same F) binds G
-wanted_takes {p} {Γ} {f = f} {x = x} (beside_input F) same binds G = recurring_takes (subst (Takes Γ (tree p f) x) same F) binds G
+pub wanted_takes : {p : Program} {Γ : Context} {w : Switching} {f : TermId} {q : Pattern} {u : Term} {a x b c : Kind} → BodyWanted p Γ w f a x b c → BindsInside q c Γ → Takes (inside_pattern q c Γ) u x b → FormTakes Γ (switching w (tree p f) q u) a b
+wanted_takes (after_source F) binds G = switch_takes F binds G
+wanted_takes (beside_input F) binds G = recurring_takes F binds G
+
+-- ## The answer for a body
+
+module _ (p : Program) (Δ : Context) (s : Spot) (q : PatternId) (u : TermId) (x b c : Kind) where
+  -- the body breaks a rule of the form, or one within
+  abbrev pub Stops : Breach → Type 0
+  Stops r = BodyBreaks p Δ s q u x b c r ⊎ (BindsInside (pattern_in p q) c Δ × TermBreaks p (inside_pattern (pattern_in p q) c Δ) u x r)
+
+  pub err_body : (r : Result Kind Refusal) (e : Refusal) → IsErrAnd r (λ y. y ≡ e) → OrMemory Stops e → AnswersBody p Δ s q u x b c r
+  err_body (Ok d) e h stops = absurd h
+  err_body (Err y) e h stops = subst (OrMemory Stops) (sym h) stops
+
+  pub pattern_stops : (e : Refusal) → OrMemory (PatternRefused (placed_at (expressions_of p) q) c s) e → OrMemory Stops e
+  pattern_stops e h = or_memory (λ r k. inl (pattern_refused k)) h
+
+  module _ (binds : BindsInside (pattern_in p q) c Δ) where
+    pub within_stops : (e : Refusal) → OrMemory (TermBreaks p (inside_pattern (pattern_in p q) c Δ) u x) e → OrMemory Stops e
+    within_stops e h = or_memory (λ r k. inr (binds, k)) h
+
+    module _ (v : Kind) (body : Takes (inside_pattern (pattern_in p q) c Δ) (tree p u) x v) where
+      pub other_stops : (e : Refusal) → same_kind v b ≡ false → e ≡ broken Mismatch s → OrMemory Stops e
+      other_stops e other wrong = breaks_at Mismatch wrong refl (inl (body_differs binds body (other_kind v b other)))
+
+      pub body_answered : same_kind v b ≡ true → AnswersBody p Δ s q u x b c (Ok v)
+      body_answered same = (same_is v b same, binds, subst (Takes (inside_pattern (pattern_in p q) c Δ) (tree p u) x) (same_is v b same) body)
 
 -- ## The answers of each form
 
@@ -165,8 +195,7 @@ module _ (p : Program) (Γ : Context) (t : TermId) (a : Kind) (s : Spot) (at : s
   module _ (v : ExprId) (f : TermId) (is : term_node_at p t ≡ nodes.Headed Initialized v f) (c : Kind) (typed : HasType (names_of_values Γ) (expression (expressions_of p) v) c) (d : Kind) (part : Takes Γ (tree p f) a d) where
     pub initialized_refused : (e : Refusal) → same_kind d c ≡ false → e ≡ broken Mismatch s → OrMemory (TermBreaks p Γ t a) e
     initialized_refused e other wrong =
-        let differs : d ≡ c → ⊥ = λ k. let same = ap (same_kind d) k ∙ other in let yes = is_same d in cc in
-        itself_refused p Γ t (nodes.Headed Initialized v f) a is s e at (breaks_at Mismatch wrong refl (initialized_differs typed part differs))
+        itself_refused p Γ t (nodes.Headed Initialized v f) a is s e at (breaks_at Mismatch wrong refl (initialized_differs typed part (other_kind d c other)))
 
     pub initialized_answers : Fits a → same_kind d c ≡ true → Takes Γ (tree p t) a d
     initialized_answers fit same =
@@ -191,24 +220,22 @@ module _ (p : Program) (Γ : Context) (t : TermId) (a : Kind) (s : Spot) (at : s
           form_ok p Γ t (nodes.Headed LoopPre v f) a is b fit (omega (arith, fits)) (loop_takes typed_in (subst (Takes Γ (tree p f) (pair_kind a c)) ok h))
       loop_answers w d (Err e) same fit k ok err = mismatch_refused (nodes.Headed LoopPre v f) is e err (loop_differs typed_in (subst (λ w. Takes Γ (tree p f) w d) same k))
 
+  -- a form gives way to a body inside a pattern: its answer is that for the body
+  module _ (n : Node) (is : term_node_at p t ≡ n) (Δ : Context) (q : PatternId) (u : TermId) (x b c : Kind)
+      (breaks : (r : Breach) → BodyBreaks p Δ s q u x b c r → FormBreaks p Γ s n a r)
+      (reached : BindsInside (pattern_in p q) c Δ → Reaches p Γ n a (inside_pattern (pattern_in p q) c Δ) u x)
+      (form : BindsInside (pattern_in p q) c Δ → Takes (inside_pattern (pattern_in p q) c Δ) (tree p u) x b → FormTakes Γ (made p n) a b) where
+    stopped : (r : Breach) → Stops p Δ s q u x b c r → TermBreaks p Γ t a r
+    stopped r (inl h) = breaks_itself p Γ t n a is s at (breaks r h)
+    stopped r (inr h) = within (subst (λ m. Reaches p Γ m a (inside_pattern (pattern_in p q) c Δ) u x) (sym is) (reached h.0)) h.1
+
+    pub by_body : (r : Result Kind Refusal) → Fits a → AnswersBody p Δ s q u x b c r → AnswersTerm p Γ t a r
+    by_body (Ok d) fit h = subst (Takes Γ (tree p t) a) (sym h.0) (form_ok p Γ t n a is b fit (output_fits h.2) (form h.1 h.2))
+    by_body (Err e) fit h = or_memory stopped h
+
   -- a switch
-  module _ (w : Switching) (f : TermId) (q : PatternId) (g : TermId) (is : term_node_at p t ≡ nodes.Switching w f q g) where
-    module _ (x b c : Kind) (wanted : BodyWanted p Γ w f a x b c) where
-      pub pattern_answers : (e : Refusal) → OrMemory (PatternRefused (placed_at (expressions_of p) q) c s) e → OrMemory (TermBreaks p Γ t a) e
-      pattern_answers e h = itself_refused p Γ t (nodes.Switching w f q g) a is s e at (or_memory (λ r k. pattern_refused wanted k) h)
-
-      module _ (binds : BindsInside (pattern_in p q) c Γ) where
-        pub body_reached : Reaches p Γ (nodes.Switching w f q g) a (inside_pattern (pattern_in p q) c Γ) g x
-        body_reached = switch_body wanted binds
-
-        module _ (v : Kind) (body : Takes (inside_pattern (pattern_in p q) c Γ) (tree p g) x v) where
-          pub body_answers : (e : Refusal) → same_kind v b ≡ false → e ≡ broken Mismatch s → OrMemory (TermBreaks p Γ t a) e
-          body_answers e other wrong =
-              let differs : v ≡ b → ⊥ = λ k. let same = ap (same_kind v) k ∙ other in let yes = is_same v in cc in
-              itself_refused p Γ t (nodes.Switching w f q g) a is s e at (breaks_at Mismatch wrong refl (body_differs wanted binds body differs))
-
-          pub switch_answers : Fits a → same_kind v b ≡ true → Takes Γ (tree p t) a v
-          switch_answers fit same = form_ok p Γ t (nodes.Switching w f q g) a is v fit (output_fits body) (wanted_takes wanted (sym (same_is v b same)) binds body)
+  pub switch_answers : (w : Switching) (f : TermId) (q : PatternId) (g : TermId) (x b c : Kind) (r : Result Kind Refusal) → term_node_at p t ≡ nodes.Switching w f q g → BodyWanted p Γ w f a x b c → Fits a → AnswersBody p Γ s q g x b c r → AnswersTerm p Γ t a r
+  switch_answers w f q g x b c r is wanted = by_body (nodes.Switching w f q g) is Γ q g x b c (λ r h. switch_body_breaks wanted h) (switch_body wanted) (wanted_takes wanted) r
 
   -- its event stands beside its first term's value
   module _ (w : Observation) (f : TermId) (q : PatternId) (g : TermId) (z : Kind) (copy : z ≡ a) where
@@ -233,6 +260,51 @@ module _ (p : Program) (Γ : Context) (t : TermId) (a : Kind) (s : Spot) (at : s
 
       pub input_wants : (b y : Kind) → y ≡ x → Takes Γ (tree p f) z b → BodyWanted p Γ (Recurring w) f a y b c
       input_wants b y again given = subst₂ (λ a y. BodyWanted p Γ (Recurring w) f a y b c) (sym beside) (sym again) (beside_input (subst (λ z. Takes Γ (tree p f) z b) copy given))
+
+  -- a switch that keeps its source
+  module _ (w : Observation) (f o : TermId) (k : NameId) (n : Spot) (q : PatternId) (g : TermId) (is : term_node_at p t ≡ nodes.Keeping w f o k n q g) (z : Kind) (copy : z ≡ a) where
+    pub kept_reached : Reaches p Γ (nodes.Keeping w f o k n q g) a Γ f z
+    kept_reached = subst (Reaches p Γ (nodes.Keeping w f o k n q g) a Γ f) (sym copy) keeping_source
+
+    module _ (b : Kind) (given : Takes Γ (tree p f) z b) where
+      kept_given : Takes Γ (tree p f) a b
+      kept_given = copy_takes z copy f b given
+
+      pub watched_answers : (e : Refusal) → AnswersKind (Some (pair_kind a b)) s (Err e) → OrMemory (TermBreaks p Γ t a) e
+      watched_answers e h = itself_refused p Γ t (nodes.Keeping w f o k n q g) a is s e at (or_memory (λ r h. subst (FormBreaks p Γ s (nodes.Keeping w f o k n q g) a) (sym h.0) (observed_exceeds kept_given h.1)) h)
+
+      module _ (v : Kind) (watched : AnswersKind (Some (pair_kind a b)) s (Ok v)) where
+        pub observer_reached : Reaches p Γ (nodes.Keeping w f o k n q g) a Γ o v
+        observer_reached =
+            let same = same_Some _ _ watched.0 in
+            subst (Reaches p Γ (nodes.Keeping w f o k n q g) a Γ o) same (keeping_observer kept_given (subst Fits (sym same) watched.1))
+
+        module _ (d : Kind) (seen : Takes Γ (tree p o) v d) where
+          observer_seen : Takes Γ (tree p o) (pair_kind a b) d
+          observer_seen = subst (λ v. Takes Γ (tree p o) v d) (sym (same_Some _ _ watched.0)) seen
+
+          pub observer_answers : (e : Refusal) → payload_of d ≡ None → e ≡ broken Mismatch s → OrMemory (TermBreaks p Γ t a) e
+          observer_answers e none wrong = itself_refused p Γ t (nodes.Keeping w f o k n q g) a is s e at (breaks_at Mismatch wrong refl (observer_differs kept_given observer_seen (no_event d none)))
+
+          pub keeping_answers : (y c : Kind) (r : Result Kind Refusal) → payload_of d ≡ Some c → y ≡ a → Fits a → AnswersBody p (keeping_inside p k a b Γ) s q g y b c r → AnswersTerm p Γ t a r
+          keeping_answers y c r event same fit h =
+              let O = subst (Takes Γ (tree p o) (pair_kind a b)) (payload_is d event) observer_seen in
+              by_body (nodes.Keeping w f o k n q g) is (keeping_inside p k a b Γ) q g a b c (λ r h. keeping_body_breaks kept_given O h) (keeping_body kept_given O) (keeping_takes kept_given O) r fit
+              (subst (λ y. AnswersBody p (keeping_inside p k a b Γ) s q g y b c r) same h)
+
+  -- `run`
+  module _ (k : NameId) (n : Spot) (is : term_node_at p t ≡ nodes.Run k n) where
+    pub no_process_answers : (e : Refusal) → OrMemory (ProcessRefused (kind_named (name_in p k) Γ.bindings) n) e → OrMemory (TermBreaks p Γ t a) e
+    no_process_answers e h = itself_refused p Γ t (nodes.Run k n) a is s e at (or_memory (λ r h. no_process h) h)
+
+    module _ (b c : Kind) (kept : kind_named (name_in p k) Γ.bindings ≡ Some (process b c)) where
+      pub other_process_answers : (e : Refusal) → same_kind a b ≡ false → e ≡ broken Mismatch s → OrMemory (TermBreaks p Γ t a) e
+      other_process_answers e other wrong = itself_refused p Γ t (nodes.Run k n) a is s e at (breaks_at Mismatch wrong refl (process_differs kept (other_kind a b other)))
+
+      pub process_answers : (d : Kind) → Fits a → Fits c → same_kind a b ≡ true → d ≡ c → Takes Γ (tree p t) a d
+      process_answers d fit fits same is' =
+          let named : kind_named (name_in p k) Γ.bindings ≡ Some (process a c) = kept ∙ ap (λ b. Some (process b c)) (sym (same_is a b same)) in
+          subst (Takes Γ (tree p t) a) (sym is') (form_ok p Γ t (nodes.Run k n) a is c fit fits (run_takes (process_is (name_in p k) Γ.bindings named)))
 
 -- ## A template
 
@@ -325,6 +397,9 @@ judged_under x y R S v r e f h = subst (λ (R : Names). Judges y R v r) f (subst
 
 pub function_judged_under : (x y : Exprs) (R S : Names) (f : FunctionId) (a : Kind) (s : Spot) (r : Result Kind Refusal) → x ≡ y → R ≡ S → JudgesFunction x R f a s r → JudgesFunction y S f a s r
 function_judged_under x y R S f a s r e g h = subst (λ (R : Names). JudgesFunction y R f a s r) g (subst (λ (x : Exprs). JudgesFunction x R f a s r) e h)
+
+pub body_under : (p q : Program) (Γ Δ : Context) (s : Spot) (w : PatternId) (u : TermId) (a b c : Kind) (r : Result Kind Refusal) → p ≡ q → Γ ≡ Δ → AnswersBody p Γ s w u a b c r → AnswersBody q Δ s w u a b c r
+body_under p q Γ Δ s w u a b c r e f h = subst (λ (Γ : Context). AnswersBody q Γ s w u a b c r) f (subst (λ (p : Program). AnswersBody p Γ s w u a b c r) e h)
 
 pub answers_under : (p q : Program) (Γ Δ : Context) (t : TermId) (a : Kind) (r : Result Kind Refusal) → p ≡ q → Γ ≡ Δ → AnswersTerm p Γ t a r → AnswersTerm q Δ t a r
 answers_under p q Γ Δ t a r e f h = subst (λ (Γ : Context). AnswersTerm q Γ t a r) f (subst (λ (p : Program). AnswersTerm p Γ t a r) e h)

@@ -1,16 +1,15 @@
 -- The one type that expressions and terms can have, and its bound.
-use Rattle.std.proofs.Common.{◌≡◌, ◌≢◌, refl, ap, ◌∙◌, subst, sym}
+use Rattle.std.proofs.Common.{◌≡◌, ◌≢◌, None, ap, ◌∙◌, sym}
+use Rattle.std.proofs.lemmas.Option.{none-some}
 use Rattle.sf_value.specs.Values.{Kind, pair_kind, event_kind}
-use Rattle.sf_func.specs.Registries.{TypesByName}
-use Rattle.sf_expr.specs.Expressions.{Pattern, Expression, Function}
-use Rattle.sf_expr.specs.Typing.{Names, only_functions, typed_name, with_types, Fits, AddsNames, adds_nothing, adds_name, adds_both, Binds, HasType, variable_has, literal_has, pair_has, applied_has, operation_has, conditional_has, mapped_has, folded_has, called_has, FunctionTakes, function_takes}
+use Rattle.sf_operator.specs.Kinds.{payload_of}
+use Rattle.sf_expr.specs.Expressions.{Expression, Function}
+use Rattle.sf_expr.specs.Typing.{Names, Fits, HasType, variable_has, literal_has, pair_has, applied_has, operation_has, conditional_has, mapped_has, folded_has, called_has, FunctionTakes, function_takes}
 pub use Rattle.sf_expr.proofs.Judged.{one_type as expression_one}
-use Rattle.sf_expr.proofs.Bound.{binds_with}
-use Rattle.sf_term.specs.Trees.{Primitive, Term, Templates}
-use Rattle.sf_mean.specs.Contexts.{Context, context_with, values_in, bindings_inside, inside_pattern}
+use Rattle.sf_term.specs.Trees.{Primitive, Term}
+use Rattle.sf_mean.specs.Contexts.{Context}
 use Rattle.sf_mean.specs.Typing.{Takes, PrimitiveTakes, bare_takes, never_takes, value_takes, timed_takes, accumulated_takes, arrow_takes, fused_takes}
-use Rattle.sf_check.specs.Contexts.{bindings_of}
-use Rattle.sf_check.specs.Breaking.{IsNoPairWith}
+use Rattle.sf_check.specs.Breaking.{IsNoPairWith, IsNoEvent}
 pub use Rattle.sf_mean.proofs.Inferred.{takes_one, input_fits, output_fits, form_of}
 
 expression_fits : {R : Names} {e : Expression} {t : Kind} → HasType R e t → Fits t
@@ -40,25 +39,9 @@ primitive_fits f (accumulated_takes v h k e g) = g
 primitive_fits f (arrow_takes h) = function_fits h
 primitive_fits f (fused_takes h g) = g
 
--- expressions are typed under the names and the functions that a context has
-pub names_seen_through : (fs : TypesByName) (R : Names) → values_in fs (bindings_of R) ≡ with_types fs R
-names_seen_through fs (only_functions gs) = refl
-names_seen_through fs (typed_name x t R) = ap (typed_name x t) (names_seen_through fs R)
-
--- names that a pattern adds are those that it has inside
-pub bindings_added : {p : Pattern} {t : Kind} {R S : Names} → AddsNames p t R S → bindings_of S ≡ bindings_inside p t (bindings_of R)
-bindings_added adds_nothing = refl
-bindings_added adds_name = refl
-bindings_added (adds_both {q = q} {u = u} A B) = bindings_added B ∙ ap (bindings_inside q u) (bindings_added A)
-
-pub context_inside : (fs : TypesByName) (ts : Templates) {p : Pattern} {t : Kind} {R S : Names} → Binds p t R S → context_with fs (bindings_of S) ts ≡ inside_pattern p t (context_with fs (bindings_of R) ts)
-context_inside fs ts B = ap (λ bs. context_with fs bs ts) (bindings_added B.adds)
-
-pub binds_seen_through : (fs : TypesByName) {p : Pattern} {t : Kind} {R S : Names} → Binds p t R S → Binds p t (values_in fs (bindings_of R)) (values_in fs (bindings_inside p t (bindings_of R)))
-binds_seen_through fs {p} {t} {R} {S} B =
-    let T = with_types fs R in
-    let inner : with_types fs S ≡ values_in fs (bindings_inside p t (bindings_of R)) = sym (names_seen_through fs S) ∙ ap (values_in fs) (bindings_added B.adds) in
-    subst (λ T. Binds p t T (values_in fs (bindings_inside p t (bindings_of R)))) (sym (names_seen_through fs R)) (subst (Binds p t T) inner (binds_with fs B))
+-- a type without a payload is none of events
+pub no_event : (d : Kind) → payload_of d ≡ None → IsNoEvent d
+no_event d none = λ c e. none-some c (sym none ∙ ap payload_of e)
 
 -- what is given beside an event is of one type, and so is the event's payload
 pub beside_one : {Γ : Context} {t : Term} {a b c v w : Kind} → Takes Γ t a (pair_kind b (event_kind c)) → Takes Γ t a (pair_kind v (event_kind w)) → (b ≡ v) × (c ≡ w)

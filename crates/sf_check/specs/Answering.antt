@@ -1,10 +1,11 @@
--- What is answered for primitives and terms.
-use Rattle.std.specs.Prelude.{◌≡◌, Result, Ok, Err}
+-- What is answered for primitives, terms and bodies.
+use Rattle.std.specs.Prelude.{◌≡◌, ◌⊎◌, Result, Ok, Err}
 use Rattle.sf_value.specs.Values.{Kind}
 use Rattle.sf_refusal.specs.declared.spot.Spot.{Spot}
 use Rattle.sf_refusal.specs.declared.rule.Rule.TheVariants.{BarePre}
 use Rattle.sf_refusal.specs.declared.refusal.Refusal.{Refusal}
 use Rattle.sf_refusal.specs.Refusals.{broken, OrMemory}
+use Rattle.sf_expr.specs.declared.exprs.PatternId.{PatternId}
 use Rattle.sf_expr.specs.declared.exprs.Exprs.{Exprs}
 use Rattle.sf_expr.specs.Arena.{expression, function_at, literal_at}
 use Rattle.sf_operator.specs.Breaches.{AnswersKind}
@@ -17,9 +18,9 @@ use Rattle.sf_term.specs.declared.program.Program.{Program}
 use Rattle.sf_term.specs.Trees.{Primitive, bare, never, with_value, timed, arrow, accumulated}
 use Rattle.sf_term.specs.Entries.{absent_payload}
 use Rattle.sf_term.specs.Arena.{tree}
-use Rattle.sf_mean.specs.Contexts.{Context}
+use Rattle.sf_mean.specs.Contexts.{Context, inside_pattern}
 use Rattle.sf_mean.specs.Typing.{bare_kind, PrimitiveTakes, Takes}
-use Rattle.sf_check.specs.Breaking.{PrimitiveBreaks, TermBreaks}
+use Rattle.sf_check.specs.Breaking.{pattern_in, BindsInside, PrimitiveBreaks, BodyBreaks, TermBreaks}
 
 -- the primitive that a node stands for
 abbrev pub primitive_in : Exprs → PrimitiveNode → Primitive
@@ -44,3 +45,9 @@ AnswersPrimitive x Γ q a s (Err e) = OrMemory (PrimitiveBreaks x Γ s q a) e
 abbrev pub AnswersTerm : Program → Context → TermId → Kind → Result Kind Refusal → Type 0
 AnswersTerm p Γ t a (Ok b) = Takes Γ (tree p t) a b
 AnswersTerm p Γ t a (Err e) = OrMemory (TermBreaks p Γ t a) e
+
+-- The answer for the body of a form at a spot, under a context, inside a pattern for payloads of a type: the type of outputs
+-- that is wanted of it on inputs of a type, or the first rule that is broken, of the form or within the body.
+abbrev pub AnswersBody : Program → Context → Spot → PatternId → TermId → (input output payload : Kind) → Result Kind Refusal → Type 0
+AnswersBody p Δ s q u a b c (Ok d) = (d ≡ b) × BindsInside (pattern_in p q) c Δ × Takes (inside_pattern (pattern_in p q) c Δ) (tree p u) a b
+AnswersBody p Δ s q u a b c (Err e) = OrMemory (λ r. BodyBreaks p Δ s q u a b c r ⊎ (BindsInside (pattern_in p q) c Δ × TermBreaks p (inside_pattern (pattern_in p q) c Δ) u a r)) e

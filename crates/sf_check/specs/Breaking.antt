@@ -1,20 +1,21 @@
 -- Where rules of types are broken, under a context.
-use Rattle.std.specs.Prelude.{◌≡◌, ◌≢◌, ◌<◌, ℕ, ℤ, false, IsTrue, Some, slice_get}
-use Rattle.sf_value.specs.Values.{Kind, pair_kind, event_kind, nodes as nodes_of, IsNoPair}
+use Rattle.std.specs.Prelude.{◌≡◌, ◌≢◌, ◌<◌, ℕ, ℤ, false, cond, IsTrue, [], ◌∷◌, Option, Some, None, bytes_eq, slice_get}
+use Rattle.sf_value.specs.Values.{Name, Kind, pair_kind, event_kind, nodes as nodes_of, IsNoPair}
 use Rattle.sf_refusal.specs.declared.spot.Spot.{Spot}
-use Rattle.sf_refusal.specs.declared.rule.Rule.TheVariants.{Mismatch, BarePre, BadConstant, TypeTooLarge}
+use Rattle.sf_refusal.specs.declared.rule.Rule.TheVariants.{UnknownName, Mismatch, BarePre, BadConstant, TypeTooLarge}
 use Rattle.sf_refusal.specs.declared.refusal.Breach.{Breach}
 use Rattle.sf_refusal.specs.Refusals.{breach_of}
 use Rattle.sf_func.specs.Registries.{TypesByName}
 use Rattle.sf_operator.specs.Breaches.{KindRefused}
 use Rattle.sf_expr.specs.declared.exprs.ConstantId.{ConstantId}
 use Rattle.sf_expr.specs.declared.exprs.ExprId.{ExprId}
+use Rattle.sf_expr.specs.declared.exprs.NameId.{NameId}
 use Rattle.sf_expr.specs.declared.exprs.PatternId.{PatternId}
 use Rattle.sf_expr.specs.declared.exprs.FunctionId.{FunctionId}
 use Rattle.sf_expr.specs.declared.exprs.Exprs.{Exprs}
 use Rattle.sf_expr.specs.Expressions.{Pattern}
 use Rattle.sf_expr.specs.Patterns.{pattern_of}
-use Rattle.sf_expr.specs.Arena.{expression, function_at, literal_at, placed_at}
+use Rattle.sf_expr.specs.Arena.{expression, function_at, name_at, literal_at, placed_at}
 use Rattle.sf_expr.specs.Refusals.{Refused, PatternRefused, FunctionRefused}
 use Rattle.sf_expr.specs.Typing.{Names, Fits, Binds, HasType, FunctionTakes}
 use Rattle.sf_term.specs.declared.form.Bare.{Bare}
@@ -40,7 +41,7 @@ use Rattle.sf_term.specs.Entries.{absent_payload}
 use Rattle.sf_term.specs.Headers.{Header}
 use Rattle.sf_term.specs.Trees.{Template}
 use Rattle.sf_term.specs.Arena.{tree, term_node_at, term_spot_at, expressions_of, headers_of, templates_of}
-use Rattle.sf_mean.specs.Contexts.{Context, names_of_values, context_of, inside_pattern}
+use Rattle.sf_mean.specs.Contexts.{NameKind, value, process, Bindings, Context, names_of_values, context_of, inside_pattern, inside_process}
 use Rattle.sf_mean.specs.Typing.{bare_kind, value_kind, takes_time, timed_kind, accumulated_argument, accumulated_kind, Takes, IsTyped}
 
 -- a type is none of pairs with this second part
@@ -51,9 +52,24 @@ IsNoPairWith u a = (t : Kind) → a ≢ pair_kind t u
 abbrev pub IsNoEventBeside : Kind → Type 0
 IsNoEventBeside d = (b c : Kind) → d ≢ pair_kind b (event_kind c)
 
+-- a type is none of events
+abbrev pub IsNoEvent : Kind → Type 0
+IsNoEvent d = (c : Kind) → d ≢ event_kind c
+
 -- a type has more than 256 nodes
 abbrev pub Exceeds : Kind → Type 0
 Exceeds t = 256 < nodes_of t
+
+-- what a name stands for, if it is bound
+abbrev pub kind_named : Name → Bindings → Option NameKind
+kind_named x [] = None
+kind_named x (b ∷ bs) = cond (bytes_eq x b.0) (Some b.1) (kind_named x bs)
+
+-- why a name is that of no process, at its place: it isn't bound, or stands for a value
+abbrev pub ProcessRefused : Option NameKind → Spot → Breach → Type 0
+ProcessRefused None at r = r ≡ breach_of UnknownName at
+ProcessRefused (Some (value t)) at r = r ≡ breach_of Mismatch at
+ProcessRefused (Some (process a b)) at r = ⊥
 
 -- Why a primitive without constants takes no inputs of a type, at a place: `pre` stands alone, or there is no type.
 abbrev pub BareRefused : Bare → Kind → Spot → Breach → Type 0
@@ -87,6 +103,14 @@ pub data PrimitiveBreaks (x : Exprs) (Γ : Context) (s : Spot) : Primitive → K
 abbrev pub pattern_in : Program → PatternId → Pattern
 pattern_in p q = pattern_of (placed_at (expressions_of p) q)
 
+-- the name at an id
+abbrev pub name_in : Program → NameId → Name
+name_in p k = name_at (expressions_of p) k
+
+-- inside a term that keeps a process from a type to a type under a name
+abbrev pub keeping_inside : Program → NameId → (from to : Kind) → Context → Context
+keeping_inside p k a b Γ = inside_process (name_in p k) a b Γ
+
 -- a pattern binds its names inside, for a type
 abbrev pub BindsInside : Pattern → Kind → Context → Type 0
 BindsInside q c Γ = Binds q c (names_of_values Γ) (names_of_values (inside_pattern q c Γ))
@@ -99,10 +123,18 @@ pub data BodyWanted (p : Program) (Γ : Context) : Switching → TermId → (who
   -- the event stands beside the input
   beside_input : {w : Observation} {t : TermId} {a b c : Kind} → Takes Γ (tree p t) a b → BodyWanted p Γ (Recurring w) t (pair_kind a (event_kind c)) a b c
 
--- On inputs of a type, a form at a spot, with these parts, breaks a rule of its own, at a place. A pattern that is refused has
--- its own place where a name is repeated.
+-- Under a context, the body of a form at a spot, which is to take inputs of a type to outputs of another inside a pattern for
+-- payloads of a third, breaks a rule of the form, at a place. A pattern that is refused has its own place where a name is
+-- repeated.
+pub data BodyBreaks (p : Program) (Δ : Context) (s : Spot) (q : PatternId) (u : TermId) (a b c : Kind) : Breach → Type 0 where
+  pattern_refused : {r : Breach} → PatternRefused (placed_at (expressions_of p) q) c s r → BodyBreaks p Δ s q u a b c r
+  body_differs : {d : Kind} → BindsInside (pattern_in p q) c Δ → Takes (inside_pattern (pattern_in p q) c Δ) (tree p u) a d → d ≢ b → BodyBreaks p Δ s q u a b c (breach_of Mismatch s)
+
+-- On inputs of a type, a form at a spot, with these parts, breaks a rule of its own, at a place.
 pub data FormBreaks (p : Program) (Γ : Context) (s : Spot) : Node → Kind → Breach → Type 0 where
   primitive_breaks : {q : Primitive} {a : Kind} {e : Breach} → PrimitiveBreaks (expressions_of p) Γ s q a e → FormBreaks p Γ s (nodes.Primitive q) a e
+  no_process : {k : NameId} {n : Spot} {a : Kind} {r : Breach} → ProcessRefused (kind_named (name_in p k) Γ.bindings) n r → FormBreaks p Γ s (nodes.Run k n) a r
+  process_differs : {k : NameId} {n : Spot} {a b c : Kind} → kind_named (name_in p k) Γ.bindings ≡ Some (process b c) → a ≢ b → FormBreaks p Γ s (nodes.Run k n) a (breach_of Mismatch s)
   parallel_input : {f g : TermId} {a : Kind} → IsNoPair a → FormBreaks p Γ s (nodes.Joined InParallel f g) a (breach_of Mismatch s)
   parallel_exceeds : {f g : TermId} {a b c d : Kind} → Takes Γ (tree p f) a b → Takes Γ (tree p g) c d → Exceeds (pair_kind b d) → FormBreaks p Γ s (nodes.Joined InParallel f g) (pair_kind a c) (breach_of TypeTooLarge s)
   fan_exceeds : {f g : TermId} {a b c : Kind} → Takes Γ (tree p f) a b → Takes Γ (tree p g) a c → Exceeds (pair_kind b c) → FormBreaks p Γ s (nodes.Joined FannedOut f g) a (breach_of TypeTooLarge s)
@@ -115,11 +147,14 @@ pub data FormBreaks (p : Program) (Γ : Context) (s : Spot) : Node → Kind → 
   initialized_differs : {v : ExprId} {t : TermId} {a c d : Kind} → HasType (names_of_values Γ) (expression (expressions_of p) v) c → Takes Γ (tree p t) a d → d ≢ c → FormBreaks p Γ s (nodes.Headed Initialized v t) a (breach_of Mismatch s)
   source_differs : {w : Observation} {t u : TermId} {q : PatternId} {a d : Kind} → Takes Γ (tree p t) a d → IsNoEventBeside d → FormBreaks p Γ s (nodes.Switching (Basic w) t q u) a (breach_of Mismatch s)
   recurring_input : {w : Observation} {t u : TermId} {q : PatternId} {a : Kind} → IsNoEventBeside a → FormBreaks p Γ s (nodes.Switching (Recurring w) t q u) a (breach_of Mismatch s)
-  pattern_refused : {w : Switching} {t u : TermId} {q : PatternId} {x a b c : Kind} {r : Breach}
-      → BodyWanted p Γ w t x a b c → PatternRefused (placed_at (expressions_of p) q) c s r → FormBreaks p Γ s (nodes.Switching w t q u) x r
-  body_differs : {w : Switching} {t u : TermId} {q : PatternId} {x a b c d : Kind}
-      → BodyWanted p Γ w t x a b c → BindsInside (pattern_in p q) c Γ → Takes (inside_pattern (pattern_in p q) c Γ) (tree p u) a d → d ≢ b
-      → FormBreaks p Γ s (nodes.Switching w t q u) x (breach_of Mismatch s)
+  switch_body_breaks : {w : Switching} {t u : TermId} {q : PatternId} {x a b c : Kind} {r : Breach}
+      → BodyWanted p Γ w t x a b c → BodyBreaks p Γ s q u a b c r → FormBreaks p Γ s (nodes.Switching w t q u) x r
+  observed_exceeds : {w : Observation} {t o u : TermId} {k : NameId} {n : Spot} {q : PatternId} {a b : Kind}
+      → Takes Γ (tree p t) a b → Exceeds (pair_kind a b) → FormBreaks p Γ s (nodes.Keeping w t o k n q u) a (breach_of TypeTooLarge s)
+  observer_differs : {w : Observation} {t o u : TermId} {k : NameId} {n : Spot} {q : PatternId} {a b d : Kind}
+      → Takes Γ (tree p t) a b → Takes Γ (tree p o) (pair_kind a b) d → IsNoEvent d → FormBreaks p Γ s (nodes.Keeping w t o k n q u) a (breach_of Mismatch s)
+  keeping_body_breaks : {w : Observation} {t o u : TermId} {k : NameId} {n : Spot} {q : PatternId} {a b c : Kind} {r : Breach}
+      → Takes Γ (tree p t) a b → Takes Γ (tree p o) (pair_kind a b) (event_kind c) → BodyBreaks p (keeping_inside p k a b Γ) s q u a b c r → FormBreaks p Γ s (nodes.Keeping w t o k n q u) a r
 
 -- In a form on inputs of a type, a part is typed next, under a context and on inputs of its own: what stands before it in the
 -- text keeps its rules.
@@ -138,6 +173,12 @@ pub data Reaches (p : Program) (Γ : Context) : Node → Kind → Context → Te
   recurring_first : {w : Observation} {t u : TermId} {q : PatternId} {a c : Kind} → Reaches p Γ (nodes.Switching (Recurring w) t q u) (pair_kind a (event_kind c)) Γ t a
   switch_body : {w : Switching} {t u : TermId} {q : PatternId} {x a b c : Kind}
       → BodyWanted p Γ w t x a b c → BindsInside (pattern_in p q) c Γ → Reaches p Γ (nodes.Switching w t q u) x (inside_pattern (pattern_in p q) c Γ) u a
+  keeping_source : {w : Observation} {t o u : TermId} {k : NameId} {n : Spot} {q : PatternId} {a : Kind} → Reaches p Γ (nodes.Keeping w t o k n q u) a Γ t a
+  keeping_observer : {w : Observation} {t o u : TermId} {k : NameId} {n : Spot} {q : PatternId} {a b : Kind}
+      → Takes Γ (tree p t) a b → Fits (pair_kind a b) → Reaches p Γ (nodes.Keeping w t o k n q u) a Γ o (pair_kind a b)
+  keeping_body : {w : Observation} {t o u : TermId} {k : NameId} {n : Spot} {q : PatternId} {a b c : Kind}
+      → Takes Γ (tree p t) a b → Takes Γ (tree p o) (pair_kind a b) (event_kind c) → BindsInside (pattern_in p q) c (keeping_inside p k a b Γ)
+      → Reaches p Γ (nodes.Keeping w t o k n q u) a (inside_pattern (pattern_in p q) c (keeping_inside p k a b Γ)) u a
 
 -- In the term at an id, on inputs of a type, this is the first rule, in the order of the text, that is broken: that of the
 -- form at the id itself, or one within the part that is typed next.

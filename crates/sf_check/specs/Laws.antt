@@ -1,7 +1,7 @@
 -- What holds of refusals.
 use Rattle.std.specs.Prelude.{◌≡◌, ◌⊎◌, ℕ, Some, slice_get}
 use Rattle.sf_refusal.specs.declared.refusal.Breach.{Breach}
-use Rattle.sf_value.specs.Values.{Kind}
+use Rattle.sf_value.specs.Values.{Name, Kind}
 use Rattle.sf_func.specs.Registries.{TypesByName}
 use Rattle.sf_expr.specs.Typing.{Fits}
 use Rattle.sf_expr.specs.Inference.{NamesFit}
@@ -9,7 +9,7 @@ use Rattle.sf_term.specs.declared.node.TermId.{TermId}
 use Rattle.sf_term.specs.declared.program.Program.{Program}
 use Rattle.sf_term.specs.Trees.{Template}
 use Rattle.sf_term.specs.Arena.{tree, templates_of}
-use Rattle.sf_mean.specs.Contexts.{Context, names_of_values}
+use Rattle.sf_mean.specs.Contexts.{Context, names_of_values, process_named}
 use Rattle.sf_mean.specs.Typing.{Takes, Accepted}
 use Rattle.sf_check.specs.Breaking.{TermBreaks}
 use Rattle.sf_check.specs.Refusing.{RefusesNetwork}
@@ -30,7 +30,10 @@ EachNetworkAnswered = (fs : TypesByName) (p : Program) → HeadersFit p → Acce
 abbrev pub RefusedOrAccepted : Type 0
 RefusedOrAccepted = (fs : TypesByName) (p : Program) (b : Breach) → RefusesNetwork fs p b → Accepted fs (templates_of p) → ⊥
 
--- Under a context whose names have types of at most 256 nodes, a term takes inputs of a type to outputs of another, or breaks
--- a rule on them.
+-- The types of the values and processes that names stand for have at most 256 nodes.
+abbrev pub ContextFits : Context → Type 0
+ContextFits Γ = NamesFit (names_of_values Γ) × ((x : Name) (a b : Kind) → process_named x Γ.bindings ≡ Some (a, b) → Fits b)
+
+-- Under such a context, a term takes inputs of a type to outputs of another, or breaks a rule on them.
 abbrev pub EachTermAnswered : Type 0
-EachTermAnswered = (p : Program) (Γ : Context) (t : TermId) (a : Kind) → NamesFit (names_of_values Γ) → Fits a → ((b : Kind) × Takes Γ (tree p t) a b) ⊎ ((c : Breach) × TermBreaks p Γ t a c)
+EachTermAnswered = (p : Program) (Γ : Context) (t : TermId) (a : Kind) → ContextFits Γ → Fits a → ((b : Kind) × Takes Γ (tree p t) a b) ⊎ ((c : Breach) × TermBreaks p Γ t a c)

@@ -70,10 +70,11 @@ fn check_with(
 /// The first rule that is broken, with its place, and the program: the names of templates are looked at first
 /// (`DuplicateName`), then each template in the order of the text, then `main` (`NoMain`). In a template a form's own rule
 /// is looked at after its parts, but before a part what is needed to type it: that the input is of pairs, the value of a
-/// loop, that a switch's source gives a value and an event, the names of a pattern and then whether it fits
-/// (`UnknownName`, `DuplicateName`, `Mismatch`, `TypeTooLarge`). So a call's argument comes first, then `UnknownName` at
-/// the function's name, then `Mismatch` and `TypeTooLarge` at the call. The header's output comes last (`Mismatch` at the
-/// template's term). `Memory` says nothing of the network.
+/// loop, that a switch's source gives a value and an event, or its observer an event on pairs that are not too large, the
+/// names of a pattern and then whether it fits (`UnknownName`, `DuplicateName`, `Mismatch`, `TypeTooLarge`). So a call's
+/// argument comes first, then `UnknownName` at the function's name, then `Mismatch` and `TypeTooLarge` at the call; the name
+/// of a process (`UnknownName`, and `Mismatch` where it stands for a value, at the name) comes before its input (`Mismatch`).
+/// The header's output comes last (`Mismatch` at the template's term). `Memory` says nothing of the network.
 pub fn check(
     alloc: Global,
     program: Program,

@@ -1,31 +1,38 @@
 //! What terms are typed under.
-ghost use Rattle.std.specs.Prelude.{◌≡◌, IfOk, IfErr, OnOk};
+ghost use Rattle.std.specs.Prelude.{◌≡◌, Some, None, IfOk, IfErr, IfSome, IfNone, OnOk};
 ghost use Rattle.sf_func.specs.Signatures.{signatures_in};
 ghost use Rattle.sf_refusal.specs.Refusals.{OrMemory};
 ghost use Rattle.sf_expr.specs.Arena.{placed_at};
 ghost use Rattle.sf_expr.specs.Refusals.{PatternRefused};
+ghost use Rattle.sf_expr.specs.Scopes.{names_of};
 ghost use Rattle.sf_term.specs.Arena.{expressions_of, templates_of};
-ghost use Rattle.sf_mean.specs.Contexts.{context_of, inside_pattern};
-ghost use Rattle.sf_check.specs.Breaking.{pattern_in, BindsInside};
+ghost use Rattle.sf_mean.specs.Contexts.{process, context_of, inside_pattern};
+ghost use Rattle.sf_check.specs.Processes.{process_among, processes_from, names_among, others_in};
+ghost use Rattle.sf_check.specs.Breaking.{pattern_in, name_in, kind_named, keeping_inside, ProcessRefused, BindsInside};
 
-use sf_expr::{PatternId, TypeScope};
+use crate::named_process::NamedProcess;
+use sf_expr::{NameId, PatternId, TypeScope};
 use sf_func::Signatures;
-use sf_refusal::{Refusal, Spot};
+use sf_refusal::{Refusal, Rule, Spot};
 use sf_term::Program;
 use sf_value::Ty;
-use std::alloc::Global;
+use smallvec::SmallVec;
+use std::alloc::{AllocError, Global};
 
-/// What a term is typed under: the program that it stands in, whose templates have headers, the names around it that
-/// stand for values, with their types, and the types of stored functions.
+/// What a term is typed under: the program that it stands in, whose templates have headers, the names around it, those that
+/// stand for values with their types, the processes that the others stand for, the innermost last, and the types of stored
+/// functions.
 #[derive(Drop)]
 pub(crate) struct TypingContext<'a> {
     pub(crate) program: &'a Program,
     pub(crate) names: TypeScope<'a>,
+    pub(crate) processes: SmallVec<Option<NamedProcess<'a>>, 2>,
     pub(crate) functions: &'a Signatures,
+    ghost kept: { others_in (names_of names) ≡ names_among (processes_from processes.items) },
 }
 
 impl<'a> TypingContext<'a> {
-    ghost use Rattle.sf_check.specs.Contexts.{program_in, context_in};
+    ghost use Rattle.sf_check.specs.Contexts.{processes_in, program_in, context_in};
 
     /// What the body of a template is typed under: no names stand around it.
     pub(crate) fn of_body(
@@ -39,8 +46,19 @@ impl<'a> TypingContext<'a> {
         TypingContext {
             program,
             names: TypeScope::new(alloc),
+            processes: SmallVec::new(alloc),
             functions,
         }
+    }
+
+    /// The same processes, for as long as they are looked at here.
+    fn same_processes<'b>(
+        &'b self,
+        alloc: Global,
+    ) -> Result<SmallVec<Option<NamedProcess<'b>>, 2>, AllocError>
+        ensures { IfOk result (λ copy. processes_from copy.items ≡ processes_in self.now) }
+    {
+        SmallVec::from_slice(alloc, self.processes.as_slice())
     }
 
     /// What a term inside a pattern for a type is typed under: the names of the pattern stand around it too. Refused with
@@ -60,10 +78,69 @@ impl<'a> TypingContext<'a> {
     {
         let pattern = self.program.expressions().placed(pattern);
         let names = self.names.within(alloc, pattern, ty, at)?;
+        let processes = self.same_processes(alloc)?;
         Ok(TypingContext {
             program: self.program,
             names,
+            processes,
             functions: self.functions,
         })
+    }
+
+    /// What a term is typed under for which a name stands for a process from a type to a type.
+    pub(crate) fn keeping<'b>(
+        &'b self,
+        alloc: Global,
+        name: NameId,
+        from: &'b Ty,
+        to: &'b Ty,
+    ) -> Result<TypingContext<'b>, AllocError>
+        ensures program { IfOk result (λ inner. program_in inner ≡ program_in self.now) }
+        ensures context { IfOk result (λ inner. context_in inner ≡ keeping_inside (program_in self.now) name from.now to.now (context_in self.now)) }
+    {
+        let name = self.program.expressions().name_of(name);
+        let names = self.names.with_other(alloc, name)?;
+        let mut processes = self.same_processes(alloc)?;
+        processes.push(Some(NamedProcess { name, from, to }))?;
+        Ok(TypingContext {
+            program: self.program,
+            names,
+            processes,
+            functions: self.functions,
+        })
+    }
+
+    /// The innermost process that was given a name.
+    fn kept(&self, name: &str) -> Option<NamedProcess<'a>>
+        ensures found { IfSome result (λ k. process_among name.now (processes_in self.now) ≡ Some (k.from.now, k.to.now)) }
+        ensures absent { IfNone result (process_among name.now (processes_in self.now) ≡ None) }
+    {
+        let mut rest = self.processes.as_slice();
+        while let [before @ .., last] = rest {
+            if let Some(kept) = last
+                && name == kept.name
+            {
+                return Some(*kept);
+            }
+            rest = before;
+        }
+        None
+    }
+
+    /// The process that a name stands for. Refused at `at` with `UnknownName` where the name is not there, and with
+    /// `Mismatch` where it stands for a value.
+    pub(crate) fn process(&self, name: NameId, at: Spot) -> Result<NamedProcess<'a>, Refusal>
+        ensures found { IfOk result (λ k. kind_named (name_in (program_in self.now) name) (context_in self.now).bindings ≡ Some (process k.from.now k.to.now)) }
+        ensures refused { IfErr result (OrMemory (ProcessRefused (kind_named (name_in (program_in self.now) name) (context_in self.now).bindings) at)) }
+    {
+        let name = self.program.expressions().name_of(name);
+        match self.names.stands_for(name) {
+            None => Err(Refusal::broken(Rule::UnknownName, at)),
+            Some(Some(_)) => Err(Refusal::broken(Rule::Mismatch, at)),
+            Some(None) => match self.kept(name) {
+                Some(kept) => Ok(kept),
+                None => Err(Refusal::broken(Rule::Mismatch, at)),
+            },
+        }
     }
 }

@@ -6,6 +6,7 @@ mod checked;
 mod checker;
 mod context;
 mod laws;
+mod named_process;
 mod names;
 mod typing;
 

@@ -6,26 +6,25 @@ ghost use Rattle.sf_refusal.specs.declared.rule.Rule.TheVariants.{Mismatch};
 ghost use Rattle.sf_func.specs.Signatures.{signatures_in};
 ghost use Rattle.sf_expr.specs.Refusals.{Judges, JudgesFunction};
 ghost use Rattle.sf_expr.specs.Typing.{Fits};
-ghost use Rattle.sf_term.specs.declared.form.Switching.{Switching as SwitchingOf};
-ghost use Rattle.sf_term.specs.declared.node.TermId.{TermId as TermIdOf};
 ghost use Rattle.sf_term.specs.Arena.{term_number, term_node_at, expressions_of, template_in, templates_of};
 ghost use Rattle.sf_mean.specs.Contexts.{names_of_values};
 ghost use Rattle.sf_operator.specs.Breaches.{AnswersKind};
 ghost use Rattle.sf_mean.specs.Typing.{value_kind, takes_time as a_time, timed_kind, accumulated_argument, accumulated_kind, IsTyped};
 ghost use Rattle.sf_check.specs.Contexts.{program_in, context_in};
-ghost use Rattle.sf_check.specs.Answering.{AnswersBare, AnswersPrimitive, AnswersTerm};
-ghost use Rattle.sf_check.specs.Breaking.{IsNoPairWith, IsNoEventBeside, BodyWanted, TemplateBreaks, AreTyped, IsFirstBreak};
+ghost use Rattle.sf_check.specs.Answering.{AnswersBare, AnswersPrimitive, AnswersTerm, AnswersBody};
+ghost use Rattle.sf_check.specs.Breaking.{IsNoPairWith, IsNoEventBeside, TemplateBreaks, AreTyped, IsFirstBreak};
 
 use crate::context::TypingContext;
 use sf_expr::{
-    ConstantForm, ConstantId, ExprId, FunctionId, PatternId, function_type, pair_type, type_of,
+    ConstantForm, ConstantId, ExprId, FunctionId, NameId, PatternId, function_type, pair_type,
+    type_of,
 };
 use sf_func::Signatures;
 use sf_operator::{event_type, pair_type as pair_of, payload, same};
 use sf_refusal::{Refusal, Rule, Spot};
 use sf_term::{
-    Accumulation, Bare, Heading, Join, Node, Primitive, Program, Side, Switching, Template, TermId,
-    Timing, WithValue,
+    Accumulation, Bare, Heading, Join, Node, Observation, Primitive, Program, Side, Switching,
+    Template, TermId, Timing, WithValue,
 };
 use sf_value::{Ty, same_type};
 use std::alloc::Global;
@@ -398,26 +397,22 @@ fn looped_output(
     loop_output(alloc, &output, &fed, spot)
 }
 
-/// The type of the outputs of a switch, by its body on inputs of a type: it gives, inside the pattern for payloads of a type,
-/// what is wanted of it.
+/// The type of the outputs of a body, on inputs of a type, which gives what is wanted of it inside the pattern for payloads of
+/// a type.
 #[cycle(output)]
 fn body_output(
     alloc: Global,
     context: &TypingContext,
-    term: TermId,
     pattern: PatternId,
     payload: &Ty,
     body: TermId,
     input: Ty,
     wanted: &Ty,
+    spot: Spot,
 ) -> Result<Ty, Refusal>
-    requires fits { Fits input }
-    requires below { term_number body < term_number term }
-    ensures { (form : SwitchingOf) (first : TermIdOf) (a : Kind) → term_node_at (program_in context.now) term ≡ Node.Switching form first pattern body → Fits a →
-        BodyWanted (program_in context.now) (context_in context.now) form first a input wanted.now payload.now →
-        AnswersTerm (program_in context.now) (context_in context.now) term a result }
+    requires { Fits input }
+    ensures { AnswersBody (program_in context.now) (context_in context.now) spot pattern body input wanted.now payload.now result }
 {
-    let spot = context.program.spot(term);
     let inner = (&*context).within(alloc, pattern, payload, spot)?;
     let given = output_of(alloc, &inner, body, input)?;
     same(&given, wanted, spot)?;
@@ -468,17 +463,68 @@ fn switching_output(
         Switching::Basic(_) => {
             let output = output_of(alloc, context, first, input.clone_in(alloc)?)?;
             let (value, payload) = value_and_payload(&output, spot)?;
-            body_output(alloc, context, term, pattern, payload, body, input, value)
+            body_output(alloc, context, pattern, payload, body, input, value, spot)
         }
         Switching::Recurring(_) => {
             let (value, payload) = value_and_payload(&input, spot)?;
             let output = output_of(alloc, context, first, value.clone_in(alloc)?)?;
             let same_input = value.clone_in(alloc)?;
             body_output(
-                alloc, context, term, pattern, payload, body, same_input, &output,
+                alloc, context, pattern, payload, body, same_input, &output, spot,
             )
         }
     }
+}
+
+/// The type of the outputs of a term that gives way to another inside a pattern at the event that an observer sees, and is
+/// then known by a name, on inputs of a type.
+#[cycle(output)]
+fn keeping_output(
+    alloc: Global,
+    context: &TypingContext,
+    term: TermId,
+    form: Observation,
+    source: TermId,
+    observer: TermId,
+    name: NameId,
+    place: Spot,
+    pattern: PatternId,
+    body: TermId,
+    input: Ty,
+) -> Result<Ty, Refusal>
+    requires fits { Fits input }
+    requires there { term_node_at (program_in context.now) term ≡ Node.Keeping form source observer name place pattern body }
+    requires below { (term_number source < term_number term) × (term_number observer < term_number term) × (term_number body < term_number term) }
+    ensures { AnswersTerm (program_in context.now) (context_in context.now) term input result }
+{
+    let spot = context.program.spot(term);
+    let value = output_of(alloc, context, source, input.clone_in(alloc)?)?;
+    let watched = pair_of(alloc, &input, &value, spot)?;
+    let seen = output_of(alloc, context, observer, watched)?;
+    let payload = payload(&seen, spot)?;
+    let inner = (&*context).keeping(alloc, name, &input, &value)?;
+    let same_input = input.clone_in(alloc)?;
+    body_output(
+        alloc, &inner, pattern, payload, body, same_input, &value, spot,
+    )
+}
+
+/// The type of the outputs of the process of a name on inputs of a type.
+fn process_output(
+    alloc: Global,
+    context: &TypingContext,
+    term: TermId,
+    name: NameId,
+    place: Spot,
+    input: &Ty,
+) -> Result<Ty, Refusal>
+    requires fits { Fits input.now }
+    requires there { term_node_at (program_in context.now) term ≡ Node.Run name place }
+    ensures { AnswersTerm (program_in context.now) (context_in context.now) term input.now result }
+{
+    let process = context.process(name, place)?;
+    same(input, process.from, context.program.spot(term))?;
+    Ok(process.to.clone_in(alloc)?)
 }
 
 /// The type of a term's outputs on inputs of a type, or the first rule that a form in it breaks.
@@ -491,6 +537,7 @@ fn output_of(alloc: Global, context: &TypingContext, term: TermId, input: Ty) ->
         Node::Primitive(primitive) => {
             primitive_output(alloc, context, primitive, input, context.program.spot(term))
         }
+        Node::Run(name, place) => process_output(alloc, context, term, name, place, &input),
         Node::Joined(join, left, right) => {
             joined_output(alloc, context, term, join, left, right, input)
         }
@@ -504,6 +551,9 @@ fn output_of(alloc: Global, context: &TypingContext, term: TermId, input: Ty) ->
         Node::Switching(form, first, pattern, body) => {
             switching_output(alloc, context, term, form, first, pattern, body, input)
         }
+        Node::Keeping(form, source, observer, name, place, pattern, body) => keeping_output(
+            alloc, context, term, form, source, observer, name, place, pattern, body, input,
+        ),
     }
 }
 

@@ -20,7 +20,7 @@ GivesOutcome n m L o k = Gives n (closure m.body empty) L o k
 
 -- no outcome at the end of a history has a cost within the limits of a sample
 abbrev pub IsTooLarge : Network → Template → Life → Type 0
-IsTooLarge n m L = (o : Outcome) (k : Cost) → GivesOutcome n m L o k → count k ≤ 100000 → height k ≤ 800 → ⊥
+IsTooLarge n m L = (o : Outcome) (k : Cost) → GivesOutcome n m L o k → count k ≤ 1000000 → height k ≤ 1600 → ⊥
 
 -- a sample or its fault, as an engine answers it
 abbrev pub answer_of : Result Sample Fault → Result Sample EngineError

@@ -1,5 +1,5 @@
 -- Each expression has a type or is refused, and so has each function.
-use Rattle.std.proofs.Common.{◌≡◌, ◌≢◌, ℕ, zero, suc, ◌<◌, Bool, true, false, ◌||◌, IsTrue, Contains, cond, List, [], ◌∷◌, ◌++◌, ◌⊎◌, inl, inr, Some, None, refl, sym, subst, arith, append_assoc, append-nil}
+use Rattle.std.proofs.Common.{◌≡◌, ◌≢◌, ℕ, zero, suc, ◌<◌, Bool, true, false, ◌||◌, IsTrue, Contains, cond, List, [], ◌∷◌, ◌++◌, ◌⊎◌, inl, inr, Some, None, refl, sym, ap, ◌∙◌, subst, arith, append_assoc, append-nil}
 use Rattle.std.specs.Prelude.{Option, bytes_eq}
 use Rattle.std.specs.Bool.{Decides}
 use Rattle.std.proofs.lemmas.Bool.{cases_lt}
@@ -26,14 +26,15 @@ use Rattle.sf_expr.specs.Patterns.{PlacedPattern, placed_unnamed, placed_name, p
 use Rattle.sf_expr.specs.Entries.{has_narrow}
 use Rattle.sf_expr.specs.Arena.{id_number, expression, node_at, name_at, literal_at, spot_at, entry_of, pattern_at, body_at, function_at, placed_at, PartsBelow}
 use Rattle.sf_func.specs.Registries.{types_named}
-use Rattle.sf_expr.specs.Typing.{Names, typed_name, Fits, type_of_name, functions_of, literal_kind, AllDifferent, AddsNames, adds_nothing, adds_name, adds_both, Binds, HasType, mapped_has, folded_has, called_has, FunctionTakes, function_takes}
+use Rattle.sf_expr.specs.Typing.{Names, typed_name, Fits, type_of_name, named_in, functions_of, literal_kind, AllDifferent, AddsNames, adds_nothing, adds_name, adds_both, Binds, HasType, mapped_has, folded_has, called_has, FunctionTakes, function_takes}
 use Rattle.sf_expr.specs.Inference.{is_valued, is_among, names_with, NamesFit}
-use Rattle.sf_expr.specs.Refusals.{Refused, unknown_name, literal_too_large, first_part, second_part, pair_too_large, left_operand, right_operand, no_operation, operand, no_application, condition, then_branch, else_branch, no_choice, PatternRefused, repeats, fits_not, of_mapped, no_argument, mapped_part, no_mapping, first_folded, second_folded, no_folded_argument, folded_part, no_folding, called_part, no_call, IsRepeated, FunctionRefused, by_pattern, by_body}
+use Rattle.sf_expr.specs.Refusals.{Refused, no_variable, literal_too_large, first_part, second_part, pair_too_large, left_operand, right_operand, no_operation, operand, no_application, condition, then_branch, else_branch, no_choice, PatternRefused, repeats, fits_not, of_mapped, no_argument, mapped_part, no_mapping, first_folded, second_folded, no_folded_argument, folded_part, no_folding, called_part, no_call, IsRepeated, FunctionRefused, by_pattern, by_body}
 use Rattle.sf_expr.proofs.Entered.{node_builds, parts_below, narrow_node, literal_valued}
 use Rattle.sf_expr.proofs.Typed.{is_constant, is_mapped, is_folded, is_called}
 use Rattle.sf_expr.proofs.Judged.{literal_has_type, unit_typed, truth_typed, int_typed, name_typed, pair_has_type, operation_has_type, applied_has_type, conditional_has_type}
 use Rattle.sf_operator.proofs.Refusing.{kind_answered}
 use Rattle.sf_expr.proofs.Called.{call_answered}
+use Rattle.sf_expr.proofs.Naming.{type_meant, type_named, name_answered}
 use Rattle.sf_expr.proofs.Apart.{apart_push, name_repeated, repeated_first, repeated_second}
 use Rattle.sf_expr.proofs.Inferred.{not_among, with_adds, adds_with}
 
@@ -128,9 +129,11 @@ module _ (x : Exprs) (R : Names) (fit : NamesFit R) where
     | inr q ↦ inl (literal_kind (literal_at x n), literal_has_type x R i (literal_at x n) (is_constant (node_builds x i _ e)) h q)
   ]
 
-  of_name : (i : ExprId) (n : _) → node_at x i ≡ nodes.Name n → (o : Option Kind) → type_of_name (name_at x n) R ≡ o → IsAnswered x R i
-  of_name i n e (Some t) h = inl (t, name_typed x R i n t (node_builds x i _ e) h (fit _ t h))
-  of_name i n e None h = inr (_, unknown_name e h)
+  of_name : (i : ExprId) (n : _) → node_at x i ≡ nodes.Name n → IsAnswered x R i
+  of_name i n e = elim (name_answered (named_in (name_at x n) R) (spot_at x i)) [
+    | inl t ↦ let is : type_of_name (name_at x n) R ≡ Some t.0 = type_named (name_at x n) R ∙ ap type_meant t.1 in inl (t.0, name_typed x R i n t.0 (node_builds x i _ e) is (fit _ t.0 is))
+    | inr r ↦ inr (r.0, no_variable e r.1)
+  ]
 
   of_pair : (i a b : ExprId) → node_at x i ≡ nodes.Pair a b → IsAnswered x R a → IsAnswered x R b → IsAnswered x R i
   of_pair i a b e (inr r) B = inr (r.0, first_part e r.1)
@@ -214,7 +217,7 @@ answered_within x (suc fuel) R fit i h = by_node (node_at x i) refl (node_parts 
     by_node (nodes.Truth t) e p w parts = inl (bool_kind, truth_typed x R i t (node_builds x i _ e))
     by_node (nodes.Constant n) e p w parts = of_constant x R fit i n e (literal_valued x n)
     by_node (nodes.Int z) e p w parts = of_int x R fit i z e w
-    by_node (nodes.Name n) e p w parts = of_name x R fit i n e (type_of_name (name_at x n) R) refl
+    by_node (nodes.Name n) e p w parts = of_name x R fit i n e
     by_node (nodes.Pair a b) e p w parts = of_pair x R fit i a b e (parts R fit a p.0) (parts R fit b p.1)
     by_node (nodes.Applied o a) e p w parts = of_applied x R fit i a o e (parts R fit a p)
     by_node (nodes.Operation a op b) e p w parts = of_operation x R fit i a b op e (parts R fit a p.0) (parts R fit b p.1)

@@ -1,15 +1,15 @@
 -- Scopes, and names to which one is put behind the others.
-use Rattle.std.proofs.Common.{◌≡◌, Bool, true, cond, [], ◌∷◌, ◌++◌, Option, Some, ◌∙◌, ap, sym, subst, fold, Result, Ok, Err, OnOk, IfErr, refl}
+use Rattle.std.proofs.Common.{◌≡◌, cond, [], ◌∷◌, ◌++◌, Option, Some, None, ◌∙◌, ap, sym, subst, fold, Result, Ok, Err, OnOk, IfErr, refl}
 use Rattle.sf_value.specs.Values.{Kind, pair_kind, IsNoPair}
 use Rattle.sf_refusal.specs.declared.spot.Spot.{Spot}
 use Rattle.sf_refusal.specs.declared.refusal.Refusal.{Refusal}
 use Rattle.sf_refusal.specs.Refusals.{OrMemory}
 use Rattle.sf_refusal.proofs.Explained.{or_memory}
-use Rattle.sf_expr.specs.Expressions.{Pattern, unnamed, named, both}
+use Rattle.sf_expr.specs.Expressions.{Pattern, both}
 use Rattle.sf_expr.specs.Refusals.{BindRefused}
 use Rattle.sf_expr.specs.Patterns.{PlacedPattern, placed_both, pattern_of}
 use Rattle.sf_func.specs.Registries.{TypesByName}
-use Rattle.sf_expr.specs.Typing.{Names, only_functions, typed_name, type_of_name, functions_of, with_types, AddsNames, adds_nothing, adds_name, adds_both, Binds}
+use Rattle.sf_expr.specs.Typing.{Names, only_functions, typed_name, untyped_name, type_of_name, functions_of, with_types, AddsNames, adds_nothing, adds_name, adds_both, Binds}
 use Rattle.std.proofs.lemmas.List.Sums.{fold-append}
 use Rattle.std.specs.Prelude.{bytes_eq}
 use Rattle.sf_value.specs.Values.{Name}
@@ -33,11 +33,13 @@ names_pushed old new n e = ap (λ ns. fold with_name (only_functions []) ns) e �
 pub functions_with : (fs : TypesByName) (R : Names) → functions_of (with_types fs R) ≡ fs
 functions_with fs (only_functions gs) = refl
 functions_with fs (typed_name y t R) = functions_with fs R
+functions_with fs (untyped_name y R) = functions_with fs R
 
 -- and has the same type
 pub type_with : (fs : TypesByName) (x : Name) (R : Names) → type_of_name x (with_types fs R) ≡ type_of_name x R
 type_with fs x (only_functions gs) = refl
 type_with fs x (typed_name y t R) = ap (λ (o : Option Kind). cond (bytes_eq x y) (Some t) o) (type_with fs x R)
+type_with fs x (untyped_name y R) = ap (λ (o : Option Kind). cond (bytes_eq x y) None o) (type_with fs x R)
 
 pub adds_with_types : (fs : TypesByName) {p : Pattern} {t : Kind} {R S : Names} → AddsNames p t R S → AddsNames p t (with_types fs R) (with_types fs S)
 adds_with_types fs adds_nothing = adds_nothing

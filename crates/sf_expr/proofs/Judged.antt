@@ -20,15 +20,14 @@ use Rattle.sf_refusal.specs.declared.spot.Spot.{Spot}
 use Rattle.sf_refusal.specs.declared.rule.Rule.TheVariants.{TypeTooLarge}
 use Rattle.sf_refusal.specs.declared.refusal.Breach.{Breach}
 use Rattle.sf_refusal.specs.declared.refusal.Refusal.{Refusal}
-use Rattle.sf_refusal.specs.declared.refusal.Refusal.TheVariants.{Memory}
-use Rattle.sf_refusal.specs.Refusals.{breach_of, OrMemory, no_memory}
+use Rattle.sf_refusal.specs.Refusals.{breach_of, OrMemory}
 use Rattle.sf_refusal.proofs.Explained.{or_memory}
 use Rattle.sf_expr.specs.Expressions.{Pattern, names_in, Literal, unit_literal, truth_literal, int_literal, Expression, variable, literal, paired, applied, operation, conditional, mapped, folded, called, function}
 use Rattle.sf_expr.specs.Patterns.{PlacedPattern, pattern_of}
 use Rattle.sf_expr.specs.Arena.{expression, node_at, name_at, literal_at, spot_at, placed_at, Builds}
 use Rattle.sf_expr.specs.Inference.{is_valued}
-use Rattle.sf_expr.specs.Typing.{Names, Fits, type_of_name, functions_of, call_kind, literal_kind, AllDifferent, AddsNames, adds_nothing, adds_name, adds_both, Binds, HasType, variable_has, literal_has, pair_has, applied_has, operation_has, conditional_has, mapped_has, folded_has, called_has, FunctionTakes, function_takes}
-use Rattle.sf_expr.specs.Refusals.{Types, TypesFunction, Refused, unknown_name, literal_too_large, first_part, second_part, pair_too_large, left_operand, right_operand, no_operation, operand, no_application, condition, then_branch, else_branch, no_choice, PatternRefused, repeats, fits_not, of_mapped, no_argument, mapped_part, no_mapping, first_folded, second_folded, no_folded_argument, folded_part, no_folding, called_part, no_call, CallRefused, AnswersCall, PartRefused, by_pattern, by_body, JudgesPart, Judges, RepeatRefused, BindRefused, AnswersPair}
+use Rattle.sf_expr.specs.Typing.{Names, Fits, type_of_name, named_in, functions_of, call_kind, literal_kind, AllDifferent, AddsNames, adds_nothing, adds_name, adds_both, Binds, HasType, variable_has, literal_has, pair_has, applied_has, operation_has, conditional_has, mapped_has, folded_has, called_has, FunctionTakes, function_takes}
+use Rattle.sf_expr.specs.Refusals.{Types, TypesFunction, Refused, no_variable, literal_too_large, first_part, second_part, pair_too_large, left_operand, right_operand, no_operation, operand, no_application, condition, then_branch, else_branch, no_choice, PatternRefused, repeats, fits_not, of_mapped, no_argument, mapped_part, no_mapping, first_folded, second_folded, no_folded_argument, folded_part, no_folding, called_part, no_call, CallRefused, AnswersCall, NameRefused, AnswersName, PartRefused, by_pattern, by_body, JudgesPart, Judges, RepeatRefused, BindRefused, AnswersPair}
 use Rattle.sf_expr.proofs.Apart.{repeated_apart}
 use Rattle.sf_expr.proofs.Entered.{node_builds}
 use Rattle.sf_expr.proofs.Literals.{valued_has}
@@ -36,6 +35,7 @@ use Rattle.sf_operator.proofs.Refusing.{kind_refused}
 use Rattle.std.proofs.lemmas.Option.{same_Some}
 use Rattle.sf_expr.proofs.Typed.{is_unit, is_truth, is_constant, is_int, is_name, is_pair, is_applied, is_operation, is_conditional, is_mapped, is_folded, is_called}
 use Rattle.sf_expr.proofs.Called.{call_refused}
+use Rattle.sf_expr.proofs.Naming.{type_meant, type_named, name_refused}
 
 -- one of two by a truth, over types that are the same
 pub same_choice : {c d t v u w : Kind} → c ≡ d → t ≡ v → u ≡ w → conditional_kind c t u ≡ conditional_kind d v w
@@ -202,8 +202,8 @@ pattern_unbound {R = R} {S = S} (fits_not apart none) b = none R S b.adds
 mutual
   -- what is refused has no type
   pub refused_untyped : {x : Exprs} {R : Names} {i : ExprId} {r : Breach} {t : Kind} → Refused x R i r → HasType R (expression x i) t → ⊥
-  refused_untyped {x} {R} {i} (unknown_name {n = n} e q) h =
-      let some = variable_typed (expression x i) _ (is_name (node_builds x i _ e)) h in cc
+  refused_untyped {x} {R} {i} (no_variable {n = n} e q) h =
+      name_refused (named_in (name_at x n) R) (spot_at x i) _ q (sym (type_named (name_at x n) R) ∙ variable_typed (expression x i) _ (is_name (node_builds x i _ e)) h)
   refused_untyped {x} {R} {i} (literal_too_large {n = n} e q) h =
       let fits = literal_typed (expression x i) (literal_at x n) (is_constant (node_builds x i _ e)) h in omega arith
   refused_untyped {x} {R} {i} (first_part {a = a} {b = b} e q) h =
@@ -285,9 +285,6 @@ on : (x : Exprs) (R : Names) (i : ExprId) (answer : Result Kind Refusal) (r : Re
 on x R i (Ok t) r e h = absurd e
 on x R i (Err f) r e h = subst (λ (g : Refusal). OrMemory (Refused x R i) g) (sym e) h
 
-pub memory_judged : (x : Exprs) (R : Names) (i : ExprId) (answer : Result Kind Refusal) → IsErrAnd answer (λ e. e ≡ Memory) → Judges x R i answer
-memory_judged x R i answer e = on x R i answer Memory e no_memory
-
 pub first_judged : (x : Exprs) (R : Names) (i a b : ExprId) (answer : Result Kind Refusal) (r : Refusal) → node_at x i ≡ nodes.Pair a b → IsErrAnd answer (λ e. e ≡ r) → Judges x R a (Err r) → Judges x R i answer
 first_judged x R i a b answer r e q h = on x R i answer r q (or_memory (λ s k. first_part e k) h)
 
@@ -328,6 +325,10 @@ int_typed x R i z b h = literal_has_type x R i (int_literal z) (is_int b) h (ome
 
 pub name_typed : (x : Exprs) (R : Names) (i : ExprId) (n : NameId) (t : Kind) → Builds x (nodes.Name n) (expression x i) → type_of_name (name_at x n) R ≡ Some t → Fits t → HasType R (expression x i) t
 name_typed x R i n t b e f = subst (λ (e : Expression). HasType R e t) (sym (is_name b)) (variable_has e f)
+
+pub name_judged : (x : Exprs) (R : Names) (i : ExprId) (n : NameId) (s : Spot) (r : Result Kind Refusal) → node_at x i ≡ nodes.Name n → s ≡ spot_at x i → AnswersName (named_in (name_at x n) R) s r → Judges x R i r
+name_judged x R i n s (Ok t) e at answer = name_typed x R i n t (node_builds x i _ e) (type_named (name_at x n) R ∙ ap type_meant answer.0) answer.1
+name_judged x R i n s (Err r) e at answer = or_memory (λ b q. no_variable e (subst (λ (s : Spot). NameRefused (named_in (name_at x n) R) s b) at q)) answer
 
 pub pair_has_type : (x : Exprs) (R : Names) (i a b : ExprId) (t u : Kind) → Builds x (nodes.Pair a b) (expression x i) → HasType R (expression x a) t → HasType R (expression x b) u → Fits (pair_kind t u) → HasType R (expression x i) (pair_kind t u)
 pair_has_type x R i a b t u q h k f = subst (λ (e : Expression). HasType R e (pair_kind t u)) (sym (is_pair q)) (pair_has h k f)

@@ -5,6 +5,7 @@ pub mod Entered
 pub mod Typed
 pub mod Apart
 pub mod Called
+pub mod Naming
 pub mod Judged
 pub mod Inferred
 pub mod Answered

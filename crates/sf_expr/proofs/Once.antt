@@ -18,18 +18,19 @@ use Rattle.sf_expr.specs.declared.exprs.PatternId.{PatternId}
 use Rattle.sf_expr.specs.declared.exprs.ExprNode.{ExprNode}
 use Rattle.sf_expr.specs.declared.exprs.ExprNode.TheVariants as nodes
 use Rattle.sf_expr.specs.declared.exprs.Exprs.{Exprs}
-use Rattle.sf_refusal.specs.declared.rule.Rule.TheVariants.{UnknownName, DuplicateName, TypeTooLarge}
+use Rattle.sf_refusal.specs.declared.rule.Rule.TheVariants.{DuplicateName, TypeTooLarge}
 use Rattle.sf_refusal.specs.declared.refusal.Breach.{Breach}
 use Rattle.sf_refusal.specs.Refusals.{breach_of}
 use Rattle.sf_expr.specs.Expressions.{Expression, names_in}
 use Rattle.sf_expr.specs.Patterns.{PlacedPattern, pattern_of, spots_in}
 use Rattle.sf_expr.specs.Arena.{expression, node_at, name_at, spot_at, placed_at}
-use Rattle.sf_expr.specs.Typing.{Names, functions_of, Fits, AllDifferent, Binds, HasType, function_takes}
-use Rattle.sf_expr.specs.Refusals.{Refused, unknown_name, literal_too_large, first_part, second_part, pair_too_large, left_operand, right_operand, no_operation, operand, no_application, condition, then_branch, else_branch, no_choice, PatternRefused, repeats, fits_not, of_mapped, no_argument, mapped_part, no_mapping, first_folded, second_folded, no_folded_argument, folded_part, no_folding, called_part, no_call, CallRefused, IsRepeated, PartRefused, by_pattern, by_body}
+use Rattle.sf_expr.specs.Typing.{Names, named_in, functions_of, Fits, AllDifferent, Binds, HasType, function_takes}
+use Rattle.sf_expr.specs.Refusals.{Refused, no_variable, literal_too_large, first_part, second_part, pair_too_large, left_operand, right_operand, no_operation, operand, no_application, condition, then_branch, else_branch, no_choice, PatternRefused, repeats, fits_not, of_mapped, no_argument, mapped_part, no_mapping, first_folded, second_folded, no_folded_argument, folded_part, no_folding, called_part, no_call, CallRefused, NameRefused, IsRepeated, PartRefused, by_pattern, by_body}
 use Rattle.sf_operator.proofs.Refusing.{kind_refused, kind_once}
 use mathlib.Core.Path.{ap₂}
 use Rattle.sf_expr.proofs.Apart.{repeated_apart}
 use Rattle.sf_expr.proofs.Called.{call_refused_once}
+use Rattle.sf_expr.proofs.Naming.{name_refused_once}
 use Rattle.sf_expr.proofs.Judged.{same_choice, same_argument, same_folded, one_type, one_scope, bound_once, pattern_unbound, refused_untyped, refused_takes_none}
 
 -- ## Patterns
@@ -77,7 +78,7 @@ same_folded_takes o left right v w g = same_argument o (one_type left v) (one_ty
 
 -- A refusal of an expression at a place, by its node.
 data RefusedAt (x : Exprs) (R : Names) (s : Spot) : ExprNode → Breach → Type 0 where
-  at_name : {n : NameId} → RefusedAt x R s (nodes.Name n) (breach_of UnknownName s)
+  at_name : {n : NameId} {r : Breach} → NameRefused (named_in (name_at x n) R) s r → RefusedAt x R s (nodes.Name n) r
   at_constant : {n : ConstantId} → RefusedAt x R s (nodes.Constant n) (breach_of TypeTooLarge s)
   at_first : {a b : ExprId} {r : Breach} → Refused x R a r → RefusedAt x R s (nodes.Pair a b) r
   at_second : {a b : ExprId} {t : Kind} {r : Breach} → HasType R (expression x a) t → Refused x R b r → RefusedAt x R s (nodes.Pair a b) r
@@ -105,7 +106,7 @@ data RefusedAt (x : Exprs) (R : Names) (s : Spot) : ExprNode → Breach → Type
 
 module _ {x : Exprs} {R : Names} where
   by_node : {i : ExprId} {r : Breach} → Refused x R i r → RefusedAt x R (spot_at x i) (node_at x i) r
-  by_node {i} (unknown_name e h) = subst (λ n. RefusedAt x R (spot_at x i) n (breach_of UnknownName (spot_at x i))) (sym e) at_name
+  by_node {i} {r} (no_variable e h) = subst (λ n. RefusedAt x R (spot_at x i) n r) (sym e) (at_name h)
   by_node {i} (literal_too_large e h) = subst (λ n. RefusedAt x R (spot_at x i) n (breach_of TypeTooLarge (spot_at x i))) (sym e) at_constant
   by_node {i} {r} (first_part e h) = subst (λ n. RefusedAt x R (spot_at x i) n r) (sym e) (at_first h)
   by_node {i} {r} (second_part e t h) = subst (λ n. RefusedAt x R (spot_at x i) n r) (sym e) (at_second t h)
@@ -134,8 +135,8 @@ module _ {x : Exprs} {R : Names} where
   here : {i : ExprId} {n : ExprNode} {r : Breach} → node_at x i ≡ n → Refused x R i r → RefusedAt x R (spot_at x i) n r
   here {i} {r = r} e h = subst (λ n. RefusedAt x R (spot_at x i) n r) e (by_node h)
 
-  name_once : {n : NameId} {s : Spot} {q : Breach} → RefusedAt x R s (nodes.Name n) q → breach_of UnknownName s ≡ q
-  name_once at_name = refl
+  name_once : {n : NameId} {s : Spot} {r q : Breach} → NameRefused (named_in (name_at x n) R) s r → RefusedAt x R s (nodes.Name n) q → r ≡ q
+  name_once {n} {s} h (at_name k) = name_refused_once (named_in (name_at x n) R) s h k
 
   constant_once : {n : ConstantId} {s : Spot} {q : Breach} → RefusedAt x R s (nodes.Constant n) q → breach_of TypeTooLarge s ≡ q
   constant_once at_constant = refl
@@ -292,7 +293,7 @@ module _ {x : Exprs} {R : Names} where
 
 mutual
   pub refused_once : {x : Exprs} {R : Names} {i : ExprId} {r q : Breach} → Refused x R i r → Refused x R i q → r ≡ q
-  refused_once (unknown_name e h) k = name_once (here e k)
+  refused_once (no_variable e h) k = name_once h (here e k)
   refused_once (literal_too_large e h) k = constant_once (here e k)
   refused_once (first_part e h) k = first_once h (λ l. refused_once h l) (here e k)
   refused_once (second_part e t h) k = second_once t h (λ l. refused_once h l) (here e k)

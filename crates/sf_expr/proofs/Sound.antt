@@ -10,9 +10,9 @@ use Rattle.sf_operator.proofs.SameKinds.{only_is, found_is, conditional_is}
 use Rattle.sf_operator.proofs.Yielding.{unary_yields, operator_yields, decision_yields}
 use Rattle.sf_operator.proofs.Forming.{and_yields, mapping_yields, folding_yields}
 use Rattle.sf_expr.specs.Expressions.{Pattern, Expression, Function}
-use Rattle.sf_expr.specs.Evaluation.{Evaluated, known, Scope, functions_in, value_of, bound_in, unless_decided, granted, eval, apply}
+use Rattle.sf_expr.specs.Evaluation.{Evaluated, nonsense, known, Scope, functions_in, value_of, bound_in, unless_decided, granted, eval, apply}
 use Rattle.sf_expr.specs.Typing.{Names, type_of_name, functions_of, AddsNames, adds_nothing, adds_name, adds_both, HasType, variable_has, literal_has, pair_has, applied_has, operation_has, conditional_has, mapped_has, folded_has, called_has, FunctionTakes, function_takes}
-use Rattle.sf_expr.specs.Soundness.{Yields, yields, fails, ScopeHas, has_no_names, has_name}
+use Rattle.sf_expr.specs.Soundness.{Yields, yields, fails, ScopeHas, has_no_names, has_name, has_other}
 
 -- what is decided, and what is answered where nothing is
 unless_yields : {t : Kind} (o : Option Data) {q : Evaluated Data} → ((d : Data) → o ≡ Some d → HasKind d t) → Yields t q → Yields t (unless_decided o q)
@@ -32,6 +32,11 @@ value_has x {t} (has_name {x = y} {v = v} {t = u} {s = s} {R = R} p q) e = by_te
     by_test : (c : Bool) → cond c (Some u) (type_of_name x R) ≡ Some t → (type_of_name x R ≡ Some t → HasKind (value_of x s) t) → HasKind (cond c v (value_of x s)) t
     by_test true e f = let same : u ≡ t = cc in subst (λ (k : Kind). HasKind v k) same p
     by_test false e f = f e
+value_has x {t} (has_other {x = y} {s = s} {R = R} q) e = by_test (bytes_eq x y) e (value_has x q)
+  where
+    by_test : (c : Bool) → cond c None (type_of_name x R) ≡ Some t → (type_of_name x R ≡ Some t → HasKind (value_of x s) t) → HasKind (cond c nonsense (value_of x s)) t
+    by_test true e f = absurd cc
+    by_test false e f = f e
 
 -- the names of a pattern have the types of the parts
 pub bound_has : {p : Pattern} {t : Kind} {R S : Names} {d : Data} {s : Scope} → AddsNames p t R S → HasKind d t → ScopeHas s R → ScopeHas (bound_in p d s) S
@@ -47,6 +52,7 @@ granted_yields None h = fails
 call_yields : {s : Scope} {R : Names} (g : Name) {fs : FunctionTypes} {d : Data} → ScopeHas s R → types_named g (functions_of R) ≡ Some fs → HasKind d fs.from → Yields fs.to (granted (functions_in s g d))
 call_yields g {fs} {d} (has_no_names {f = f} keeps) e h = granted_yields (f g d) (λ a q. keeps g fs e d a h q)
 call_yields g (has_name p k) e h = call_yields g k e h
+call_yields g (has_other k) e h = call_yields g k e h
 
 -- a typed expression yields its type
 pub expression_yields : {R : Names} {s : Scope} {e : Expression} {t : Kind} → HasType R e t → ScopeHas s R → Yields t (eval e s)

@@ -8,20 +8,24 @@ use Rattle.sf_operator.specs.Operations.{truth_in, unary_value, decided, operate
 use Rattle.sf_operator.specs.FunctionForms.{mapped_value, folded_value}
 use Rattle.sf_expr.specs.Expressions.{Pattern, unnamed, named, both, Literal, unit_literal, truth_literal, int_literal, text_literal, none_literal, Expression, variable, literal, paired, applied, operation, conditional, mapped, folded, called, Function, function}
 
--- The names that an expression may use with their values, the innermost first, and last the functions that it may call.
+-- The names around an expression, the innermost first: those that it may use with their values, and others, which stand for
+-- no value; and last the functions that it may call.
 pub data Scope : Type 0 where
   no_names : AnswersByName → Scope
   value_name : Name → Data → Scope → Scope
+  other_name : Name → Scope → Scope
 
 -- the functions of a scope
 abbrev pub functions_in : Scope → AnswersByName
 functions_in (no_names f) = f
 functions_in (value_name x d scope) = functions_in scope
+functions_in (other_name x scope) = functions_in scope
 
 -- the value of a name
 abbrev pub value_of : Name → Scope → Data
 value_of x (no_names f) = nonsense
 value_of x (value_name y d scope) = cond (bytes_eq x y) d (value_of x scope)
+value_of x (other_name y scope) = cond (bytes_eq x y) nonsense (value_of x scope)
 
 -- the scope inside a pattern that a value was bound to
 abbrev pub bound_in : Pattern → Data → Scope → Scope

@@ -23,7 +23,7 @@ use Rattle.sf_operator.specs.Breaches.{KindRefused}
 use Rattle.sf_expr.specs.Expressions.{Pattern, names_in, Expression, Function, function}
 use Rattle.sf_expr.specs.Patterns.{PlacedPattern, pattern_of, spots_in}
 use Rattle.sf_expr.specs.Arena.{expression, node_at, name_at, literal_at, spot_at, placed_at, pattern_at, body_at}
-use Rattle.sf_expr.specs.Typing.{Names, Fits, type_of_name, functions_of, call_kind, literal_kind, AllDifferent, AddsNames, Binds, HasType, FunctionTakes}
+use Rattle.sf_expr.specs.Typing.{Names, Fits, named_in, functions_of, call_kind, literal_kind, AllDifferent, AddsNames, Binds, HasType, FunctionTakes}
 
 -- The answer for an expression: its type, or a refusal, where it has none. Want of memory says nothing of it.
 abbrev pub Types : Names → Expression → Result Kind Refusal → Type 0
@@ -68,10 +68,21 @@ abbrev pub AnswersCall : Option FunctionTypes → Kind → Spot → Spot → Res
 AnswersCall o t name at (Ok u) = (call_kind o t ≡ Some u) × Fits u
 AnswersCall o t name at (Err r) = OrMemory (CallRefused o t name at) r
 
+-- why there is no type of what a name stands for, at its place: it isn't there, or stands for no value
+abbrev pub NameRefused : Option (Option Kind) → Spot → Breach → Type 0
+NameRefused None at b = b ≡ breach_of UnknownName at
+NameRefused (Some None) at b = b ≡ breach_of Mismatch at
+NameRefused (Some (Some t)) at b = ⊥
+
+-- the answer for the type of what a name stands for
+abbrev pub AnswersName : Option (Option Kind) → Spot → Result Kind Refusal → Type 0
+AnswersName o at (Ok t) = (o ≡ Some (Some t)) × Fits t
+AnswersName o at (Err r) = OrMemory (NameRefused o at) r
+
 mutual
   -- The first rule that an expression breaks, and where: parts are looked at from left to right, and then the form itself.
   pub data Refused (x : Exprs) : Names → ExprId → Breach → Type 0 where
-    unknown_name : {R : Names} {i : ExprId} {n : NameId} → node_at x i ≡ nodes.Name n → type_of_name (name_at x n) R ≡ None → Refused x R i (breach_of UnknownName (spot_at x i))
+    no_variable : {R : Names} {i : ExprId} {n : NameId} {r : Breach} → node_at x i ≡ nodes.Name n → NameRefused (named_in (name_at x n) R) (spot_at x i) r → Refused x R i r
     literal_too_large : {R : Names} {i : ExprId} {n : ConstantId} → node_at x i ≡ nodes.Constant n → 256 < nodes_of (literal_kind (literal_at x n)) → Refused x R i (breach_of TypeTooLarge (spot_at x i))
     first_part : {R : Names} {i a b : ExprId} {r : Breach} → node_at x i ≡ nodes.Pair a b → Refused x R a r → Refused x R i r
     second_part : {R : Names} {i a b : ExprId} {t : Kind} {r : Breach} → node_at x i ≡ nodes.Pair a b → HasType R (expression x a) t → Refused x R b r → Refused x R i r

@@ -11,25 +11,36 @@ use Rattle.sf_operator.specs.Kinds.{found_then, unary_kind, binary_kind, conditi
 use Rattle.sf_expr.specs.Expressions.{Pattern, unnamed, named, both, names_in, Literal, unit_literal, truth_literal, int_literal, text_literal, none_literal, Expression, variable, literal, paired, applied, operation, conditional, mapped, folded, called, Function, function}
 use Rattle.sf_expr.specs.Evaluation.{literal_value}
 
--- The names that an expression may use with their types, the innermost first, and last the types of the functions that it may call.
+-- The names around an expression, the innermost first: those that it may use with their types, and others, which stand for
+-- no value; and last the types of the functions that it may call.
 pub data Names : Type 0 where
   only_functions : TypesByName → Names
   typed_name : Name → Kind → Names → Names
+  untyped_name : Name → Names → Names
 
 -- the type of a name
 abbrev pub type_of_name : Name → Names → Option Kind
 type_of_name x (only_functions fs) = None
 type_of_name x (typed_name y t R) = cond (bytes_eq x y) (Some t) (type_of_name x R)
+type_of_name x (untyped_name y R) = cond (bytes_eq x y) None (type_of_name x R)
+
+-- what a name stands for, if it is there: a value of a type, or none
+abbrev pub named_in : Name → Names → Option (Option Kind)
+named_in x (only_functions fs) = None
+named_in x (typed_name y t R) = cond (bytes_eq x y) (Some (Some t)) (named_in x R)
+named_in x (untyped_name y R) = cond (bytes_eq x y) (Some None) (named_in x R)
 
 -- the types of the functions
 abbrev pub functions_of : Names → TypesByName
 functions_of (only_functions fs) = fs
 functions_of (typed_name x t R) = functions_of R
+functions_of (untyped_name x R) = functions_of R
 
 -- the names with their types, with functions of these types
 abbrev pub with_types : TypesByName → Names → Names
 with_types fs (only_functions gs) = only_functions fs
 with_types fs (typed_name x t R) = typed_name x t (with_types fs R)
+with_types fs (untyped_name x R) = untyped_name x (with_types fs R)
 
 -- the type of what a function makes of a value of a type, if it is there and takes such values
 abbrev pub call_kind : Option FunctionTypes → Kind → Option Kind

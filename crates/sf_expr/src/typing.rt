@@ -1,12 +1,12 @@
 //! The types of expressions.
-ghost use Rattle.std.specs.Prelude.{◌≡◌, ◌++◌, [], ◌↔◌, IsTrue, Some, OnOk, IfOk, IfSome, IfNone, IfErr, Contains};
-ghost use Rattle.sf_expr.specs.Typing.{Fits, AddsNames, Binds, AllDifferent, only_functions, type_of_name, with_types, literal_kind};
+ghost use Rattle.std.specs.Prelude.{◌≡◌, ◌++◌, [], ◌↔◌, IsTrue, Some, None, OnOk, IfOk, IfSome, IfNone, IfErr, Contains};
+ghost use Rattle.sf_expr.specs.Typing.{Fits, AddsNames, Binds, AllDifferent, only_functions, untyped_name, named_in, with_types, literal_kind};
 ghost use Rattle.sf_expr.specs.Expressions.{names_in};
 ghost use Rattle.sf_expr.specs.Inference.{is_valued};
 ghost use Rattle.sf_expr.specs.Arena.{expression, function_at};
 ghost use Rattle.sf_expr.specs.Patterns.{pattern_of};
-ghost use Rattle.sf_expr.specs.Scopes.{names_of, names_seen};
-ghost use Rattle.sf_expr.specs.Refusals.{Types, TypesFunction, Judges, JudgesFunction, AnswersPair, AnswersCall, BindRefused, RepeatRefused, PatternRefused, JudgesPart};
+ghost use Rattle.sf_expr.specs.Scopes.{names_of, names_seen, type_in, kind_seen};
+ghost use Rattle.sf_expr.specs.Refusals.{Types, TypesFunction, Judges, JudgesFunction, AnswersPair, AnswersCall, AnswersName, BindRefused, RepeatRefused, PatternRefused, JudgesPart};
 ghost use Rattle.sf_operator.specs.Breaches.{AnswersKind};
 ghost use Rattle.sf_refusal.specs.Refusals.{OrMemory};
 ghost use Rattle.sf_func.specs.Registries.{types_named};
@@ -26,7 +26,8 @@ use sf_value::Ty;
 use smallvec::SmallVec;
 use std::alloc::{AllocError, Global};
 
-/// The names that an expression may use, with their types, the innermost last.
+/// The names around an expression, the innermost last: those that stand for values with their types, and others, which
+/// stand for none.
 #[derive(Drop)]
 pub struct TypeScope<'a> {
     names: SmallVec<Option<TypedName<'a>>, 4>,
@@ -53,22 +54,43 @@ impl<'a> TypeScope<'a> {
         })
     }
 
-    /// The type of a name; none where it is not there.
-    fn ty(&self, name: &str) -> Option<&'a Ty>
-        ensures found { IfSome result (λ t. type_of_name name.now (names_of self.now) ≡ Some t.now) }
-        ensures fits { IfSome result (λ t. Fits t.now) }
-        ensures absent { IfNone result (type_of_name name.now (names_of self.now) ≡ None) }
+    /// A name with its type, the innermost of that name; none where it is not there.
+    #[tactic(auto, using(crate::proofs::Naming::named_before))]
+    fn find(&self, name: &str) -> Option<TypedName<'a>>
+        ensures found { IfSome result (λ n. named_in name.now (names_of self.now) ≡ Some (kind_seen n)) }
+        ensures absent { IfNone result (named_in name.now (names_of self.now) ≡ None) }
     {
         let mut rest = self.names.as_slice();
         while let [before @ .., last] = rest {
             if let Some(typed) = last
                 && name == typed.name
             {
-                return Some(typed.ty);
+                return Some(*typed);
             }
             rest = before;
         }
         None
+    }
+
+    /// What a name stands for, the innermost of that name: a value of a type, or no value; none where it is not there.
+    pub fn stands_for(&self, name: &str) -> Option<Option<&'a Ty>>
+        ensures found { IfSome result (λ t. named_in name.now (names_of self.now) ≡ Some (type_in t)) }
+        ensures absent { IfNone result (named_in name.now (names_of self.now) ≡ None) }
+    {
+        Some(self.find(name)?.ty)
+    }
+
+    /// The names with one behind them that stands for no value.
+    pub fn with_other<'b>(
+        &'b self,
+        alloc: Global,
+        name: &'b str,
+    ) -> Result<TypeScope<'b>, AllocError>
+        ensures { IfOk result (λ names. names_of names ≡ untyped_name name.now (names_of self.now)) }
+    {
+        let mut scope = self.shorter(alloc)?;
+        scope.names.push(Some(TypedName { name, ty: None }))?;
+        Ok(scope)
     }
 
     /// Puts the names of a pattern behind the names that are there, with the types of the parts of a type. Refused with
@@ -83,6 +105,7 @@ impl<'a> TypeScope<'a> {
             (PatForm::Unnamed, _) => Ok(()),
             (PatForm::Name(name, _), _) => {
                 let name = name.as_str();
+                let ty = Some(ty);
                 self.names.push(Some(TypedName { name, ty }))?;
                 Ok(())
             }
@@ -184,6 +207,20 @@ fn call_type(
     }
 }
 
+/// The type of what a name stands for. Refused at `at` with `UnknownName` where it is not there and with `Mismatch` where
+/// it stands for no value, and with `Memory`.
+fn name_type(alloc: Global, names: &TypeScope, name: &str, at: Spot) -> Result<Ty, Refusal>
+    ensures { AnswersName (named_in name.now (names_of names.now)) at result }
+{
+    match names.find(name) {
+        Some(typed) => match typed.ty {
+            Some(ty) => Ok(ty.clone_in(alloc)?),
+            None => Err(Refusal::broken(Rule::Mismatch, at)),
+        },
+        None => Err(Refusal::broken(Rule::UnknownName, at)),
+    }
+}
+
 /// The type of an expression, or the first refusal, parts first.
 #[cycle(judge)]
 fn judge(
@@ -202,10 +239,7 @@ fn judge(
         ExprNode::Constant(constant) => {
             constant_type(alloc, exprs.constant_at(constant), exprs.spot(id))
         }
-        ExprNode::Name(name) => match names.ty(exprs.name_of(name)) {
-            Some(ty) => Ok(ty.clone_in(alloc)?),
-            None => Err(Refusal::broken(Rule::UnknownName, exprs.spot(id))),
-        },
+        ExprNode::Name(name) => name_type(alloc, names, exprs.name_of(name), exprs.spot(id)),
         ExprNode::Pair(first, second) => {
             let first = judge(alloc, exprs, first, names, functions)?;
             let second = judge(alloc, exprs, second, names, functions)?;
@@ -286,7 +320,8 @@ fn judge_part(
 /// The type of an expression, where names and functions have these types, or why it has none.
 ///
 /// Both operands are typed before a mismatch in either is answered, and the argument of a call before its function is
-/// looked for. The place is that of an unknown name, else that of the first token of the form whose rule is broken.
+/// looked for. A name that is not there is refused with `UnknownName`, one that stands for no value with `Mismatch`. The
+/// place is that of such a name, else that of the first token of the form whose rule is broken.
 #[tactic(auto, using(crate::proofs::Judged::judged_types))]
 pub fn type_of(
     alloc: Global,

@@ -11,7 +11,7 @@ use Rattle.sf_term.specs.declared.form.Bare.TheVariants as bares
 use Rattle.sf_term.specs.declared.form.WithValue.{WithValue}
 use Rattle.sf_term.specs.declared.form.WithValue.TheVariants as values
 use Rattle.sf_term.specs.declared.form.Heading.TheVariants as headings
-use Rattle.sf_term.specs.Trees.{terms_with_value, bare, never, with_value, timed, arrow, accumulated, fused, Term, primitive, joined, sided, headed, switching, staged, Template, term_depth, terms_in, expressions_in}
+use Rattle.sf_term.specs.Trees.{terms_with_value, bare, never, with_value, timed, arrow, accumulated, fused, Term, primitive, run, joined, sided, headed, switching, keeping, staged, Template, term_depth, terms_in, expressions_in}
 use Rattle.sf_lex.specs.declared.word.Keyword.TheVariants as words
 use Rattle.sf_lex.specs.declared.symbol.Symbol.TheVariants as symbols
 use Rattle.sf_lex.specs.Tokens.{Tok, keyword, name, number, text, symbol}
@@ -20,8 +20,8 @@ use Rattle.sf_grammar.specs.declared.head.Head.TheVariants as heads
 use Rattle.sf_grammar.specs.declared.head.ExpressionHead.TheVariants as expression_heads
 use Rattle.sf_grammar.specs.declared.head.Link.{Link}
 use Rattle.sf_grammar.specs.declared.head.Link.TheVariants as links
-use Rattle.sf_grammar.specs.Spelling.{stands_initially, head_makes, unary_word, takes_brackets, operator_token, stands_between, mapping_word, maps_in_brackets, folding_word, spell_operand, spell_operands, spell_choice, spell_mapped, spell_folded, spell_called, spell_mapping, spell_keys, spell_type, spell_pattern, spell_literal, spell_expression, spell_function, spell_term, spell_signature, spell_template, bare_word, value_word, side_word, heading_token, timing_word, accumulation_word, switching_word, join_symbol, in_brackets, type_depth, WritesType, WritesExpression, WritesFunction, WritesTerm, HasWrittenTypes}
-use Rattle.sf_grammar.specs.Reading.{parse_never, parse_timed, Read, got, ◌and_then◌, Counts, counts_with, counts_with_expression, parse_symbol, parse_keys, parse_outer_type, parse_inner_type, parse_pair_type, parse_pattern, parse_pattern_pair, parse_link, linked, parse_linked, bracketed_from, parse_none, parse_prefixed, parse_one_in_brackets, parse_two_in_brackets, parse_conditional, parse_mapping, parse_let, parse_one_and_function, parse_two_and_function, parse_called, expression_head, parse_expression, expression_read, parse_function, parse_join, parse_term, term_read, parse_joined, parse_value, parse_arrow, parse_accumulated, parse_sided, parse_headed, parse_body, parse_switching, parse_heading, parse_signature, parse_template}
+use Rattle.sf_grammar.specs.Spelling.{stands_initially, head_makes, unary_word, takes_brackets, operator_token, stands_between, mapping_word, maps_in_brackets, folding_word, spell_operand, spell_operands, spell_choice, spell_mapped, spell_folded, spell_called, spell_mapping, spell_keys, spell_type, spell_pattern, spell_literal, spell_expression, spell_function, spell_term, spell_signature, spell_template, bare_word, value_word, side_word, heading_token, timing_word, accumulation_word, switching_word, keeping_word, join_symbol, in_brackets, type_depth, WritesType, WritesExpression, WritesFunction, WritesTerm, HasWrittenTypes}
+use Rattle.sf_grammar.specs.Reading.{parse_never, parse_timed, Read, got, ◌and_then◌, Counts, counts_with, counts_with_expression, parse_symbol, parse_keys, parse_outer_type, parse_inner_type, parse_pair_type, parse_pattern, parse_pattern_pair, parse_link, linked, parse_linked, bracketed_from, parse_none, parse_prefixed, parse_one_in_brackets, parse_two_in_brackets, parse_conditional, parse_mapping, parse_let, parse_one_and_function, parse_two_and_function, parse_called, expression_head, parse_expression, expression_read, parse_function, parse_join, parse_term, term_read, parse_joined, parse_value, parse_arrow, parse_accumulated, parse_sided, parse_headed, parse_body, parse_switching, parse_run, parse_keeping, parse_heading, parse_signature, parse_template}
 use Rattle.sf_grammar.proofs.Words.{head_again, join_again, link_again, link_token, LinksBetween, unary_again, IsInFront, operator_again, folding_again, keys_again, no_close}
 use Rattle.sf_grammar.proofs.Parts.{within, type_within, brackets_behind, three_behind, parts_again}
 
@@ -310,7 +310,7 @@ initialized_again v e d c rest value deep few =
 
 pub term_again : (v : Version) (t : Term) (d : ℕ) (c : Counts) (rest : List Tok) → d ≤ 64 → term_depth t ≤ d → c.terms + terms_in t ≤ 100000 → c.expressions + expressions_in t ≤ 100000 → WritesTerm v d t
     → parse_term d v c (spell_term v t ++ rest) ≡ got t rest
-unfolding parse_term parse_joined parse_never parse_value parse_timed parse_arrow parse_accumulated parse_sided parse_headed parse_switching
+unfolding parse_term parse_joined parse_never parse_value parse_timed parse_arrow parse_accumulated parse_sided parse_headed parse_switching parse_run parse_keeping
 term_again v (primitive (bare b)) zero c rest small deep few_terms few_expressions known = absurd (omega arith)
 term_again v (primitive (never t)) zero c rest small deep few_terms few_expressions known = absurd (omega arith)
 term_again v (primitive (with_value k e)) zero c rest small deep few_terms few_expressions known = absurd (omega arith)
@@ -323,6 +323,8 @@ term_again v (joined j f g) zero c rest small deep few_terms few_expressions kno
 term_again v (sided s f) zero c rest small deep few_terms few_expressions known = absurd (omega arith)
 term_again v (headed h e f) zero c rest small deep few_terms few_expressions known = absurd (omega arith)
 term_again v (switching w f p g) zero c rest small deep few_terms few_expressions known = absurd (omega arith)
+term_again v (run k) zero c rest small deep few_terms few_expressions known = absurd (omega arith)
+term_again v (keeping w f g k p u) zero c rest small deep few_terms few_expressions known = absurd (omega arith)
 term_again v (primitive (bare b)) (suc d) c rest small deep few_terms few_expressions known =
     rw (head_again (heads.Bare b) tt) (within (c.terms + 1) (primitive (bare b)) (keyword (bare_word b) ∷ rest) rest few_terms)
 term_again v (primitive (never t)) (suc d) c rest small deep few_terms few_expressions known =
@@ -385,6 +387,21 @@ term_again v (switching w f p g) (suc d) c rest small deep few_terms few_express
     (term_again v f d c (symbol symbols.Comma ∷ behind) (omega arith) (omega arith) (omega arith) (omega arith) known.0) refl
     (body_again v p g d (counts_with c f) (symbol symbols.Close ∷ rest) (omega arith) (λ rest. term_again v g d (counts_with c f) rest (omega arith) (omega arith) (omega arith) (omega arith) known.1)))
     ∙ within (c.terms + terms_in (switching w f p g)) (switching w f p g) start rest few_terms
+term_again v (run k) (suc d) c rest small deep few_terms few_expressions known = within (c.terms + 1) (run k) (keyword words.Run ∷ name k ∷ rest) rest few_terms
+term_again v (keeping w f g k p u) (suc d) c rest small deep few_terms few_expressions known =
+    let mapping : List Tok = spell_mapping (spell_pattern p) (spell_term v u) in
+    let closing : List Tok = symbol symbols.Close ∷ rest in
+    let third : List Tok = symbol symbols.Comma ∷ (mapping ++ closing) in
+    let second : List Tok = symbol symbols.Comma ∷ name k ∷ third in
+    let first : List Tok = symbol symbols.Comma ∷ (spell_term v g ++ second) in
+    rw (
+      brackets_behind (spell_term v f) (spell_term v g ++ (symbol symbols.Comma ∷ name k ∷ symbol symbols.Comma ∷ mapping)) rest (symbol symbols.Comma),
+      append_assoc (spell_term v g) (symbol symbols.Comma ∷ name k ∷ symbol symbols.Comma ∷ mapping) closing,
+      head_again (heads.Keeping w) tt,
+      term_again v f d c first (omega arith) (omega arith) (omega arith) (omega arith) known.0,
+      term_again v g d (counts_with c f) second (omega arith) (omega arith) (omega arith) (omega arith) known.1,
+      body_again v p u d (counts_with (counts_with c f) g) closing (omega arith) (λ rest. term_again v u d (counts_with (counts_with c f) g) rest (omega arith) (omega arith) (omega arith) (omega arith) known.2),
+    ) (within (c.terms + terms_in (keeping w f g k p u)) (keeping w f g k p u) (keyword (keeping_word w) ∷ symbol symbols.Open ∷ (spell_term v f ++ first)) rest few_terms)
 
 pub signature_again : (v : Version) (t : Template) (rest : List Tok) → HasWrittenTypes v t → parse_signature v (spell_signature v t ++ rest) ≡ got (t.input, t.output) rest
 unfolding parse_signature

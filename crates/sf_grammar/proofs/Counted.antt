@@ -24,10 +24,10 @@ use Rattle.sf_term.proofs.Kept.{node_builds}
 use Rattle.sf_lex.specs.declared.word.Keyword.TheVariants as words
 use Rattle.sf_lex.specs.declared.symbol.Symbol.TheVariants as symbols
 use Rattle.sf_refusal.specs.declared.spot.Spot.{Spot}
-use Rattle.sf_lex.specs.Tokens.{Tok, keyword, symbol}
+use Rattle.sf_lex.specs.Tokens.{Tok, keyword, name, symbol}
 use Rattle.sf_grammar.specs.declared.ty.Version.{Version}
 use Rattle.sf_grammar.specs.Spelling.{value_word, in_brackets, operator_token, join_symbol, spell_mapping, spell_pattern, spell_expression, spell_function, spell_term, spell_heading, spell_signature, spell_template}
-use Rattle.sf_grammar.specs.Placing.{around, PatternPlaced, unnamed_placed, name_placed, both_placed, ExpressionPlaced, unit_placed, truth_placed, number_placed, constant_placed, variable_placed, pair_placed, prefixed_placed, one_in_brackets_placed, operation_placed, two_in_brackets_placed, conditional_placed, let_placed, one_and_function_placed, two_and_function_placed, called_placed, FunctionPlaced, function_placed, TermPlaced, bare_placed, never_placed, with_value_placed, initialized_placed, timed_placed, arrow_placed, accumulated_placed, joined_placed, sided_placed, headed_placed, switching_placed, TemplatePlaced}
+use Rattle.sf_grammar.specs.Placing.{around, PatternPlaced, unnamed_placed, name_placed, both_placed, ExpressionPlaced, unit_placed, truth_placed, number_placed, constant_placed, variable_placed, pair_placed, prefixed_placed, one_in_brackets_placed, operation_placed, two_in_brackets_placed, conditional_placed, let_placed, one_and_function_placed, two_and_function_placed, called_placed, FunctionPlaced, function_placed, TermPlaced, bare_placed, never_placed, with_value_placed, initialized_placed, timed_placed, arrow_placed, accumulated_placed, joined_placed, sided_placed, headed_placed, switching_placed, run_placed, keeping_placed, TemplatePlaced}
 
 around_counted : (xs ys : List Spot) (us vs : List Tok) (opening between closing : Spot) (t : Tok) → length xs ≡ length us → length ys ≡ length vs → length (around opening xs between ys closing) ≡ length (in_brackets us t vs)
 around_counted xs ys us vs opening between closing t one two =
@@ -166,6 +166,14 @@ term_counted v p t xs (switching_placed {a = a} {b = b} {q = q} {xs = us} {ps = 
     rw (node_builds p t _ s.node)
     (ap suc (around_counted us (ps ++ (leads ∷ vs)) (spell_term v (tree p a)) (spell_mapping names body) opening comma closing (symbol symbols.Comma) (term_counted v p a us one)
     (between_counted ps vs names body leads (symbol symbols.MapsTo) (pattern_counted (pattern_under p q) ps pattern.placed) (term_counted v p b vs two))))
+term_counted v p t xs (run_placed s) = rw (node_builds p t _ s.node) refl
+term_counted v p t xs (keeping_placed {a = a} {b = b} {c = c} {k = k} {q = q} {xs = us} {ys = vs} {ps = ps} {zs = zs} {place = place} opening comma second third leads closing s one two pattern three) =
+    let names : List Tok = spell_pattern (pattern_of (pattern_under p q)) in
+    let body : List Tok = spell_term v (tree p c) in
+    let mapping = between_counted ps zs names body leads (symbol symbols.MapsTo) (pattern_counted (pattern_under p q) ps pattern.placed) (term_counted v p c zs three) in
+    rw (node_builds p t _ s.node)
+    (ap suc (around_counted us (vs ++ (second ∷ place ∷ third ∷ (ps ++ (leads ∷ zs)))) (spell_term v (tree p a)) (spell_term v (tree p b) ++ (symbol symbols.Comma ∷ name (name_at (expressions_of p) k) ∷ symbol symbols.Comma ∷ spell_mapping names body)) opening comma closing (symbol symbols.Comma) (term_counted v p a us one)
+    (between_counted vs (place ∷ third ∷ (ps ++ (leads ∷ zs))) (spell_term v (tree p b)) (name (name_at (expressions_of p) k) ∷ symbol symbols.Comma ∷ spell_mapping names body) second (symbol symbols.Comma) (term_counted v p b vs two) (ap suc (ap suc mapping)))))
 
 pub template_counted : (v : Version) (p : Program) (h : Header) (xs : List Spot) → TemplatePlaced v p h xs → length xs ≡ length (spell_template v (template_in p h))
 template_counted v p h xs t =

@@ -16,8 +16,9 @@ use Rattle.sf_term.specs.declared.form.Join.{Join}
 use Rattle.sf_term.specs.declared.form.Side.{Side}
 use Rattle.sf_term.specs.declared.form.Heading.{Heading}
 use Rattle.sf_term.specs.declared.form.Heading.TheVariants as headings
+use Rattle.sf_term.specs.declared.form.Observation.{Observation}
 use Rattle.sf_term.specs.declared.form.Switching.{Switching}
-use Rattle.sf_term.specs.Trees.{Primitive, terms_with_value, bare, never, with_value, timed, arrow, accumulated, Term, primitive, joined, sided, headed, switching, Template, term_depth, terms_in, expressions_in}
+use Rattle.sf_term.specs.Trees.{Primitive, terms_with_value, bare, never, with_value, timed, arrow, accumulated, Term, primitive, run, joined, sided, headed, switching, keeping, Template, term_depth, terms_in, expressions_in}
 use Rattle.sf_lex.specs.declared.word.Keyword.{Keyword}
 use Rattle.sf_lex.specs.declared.word.Keyword.TheVariants as words
 use Rattle.sf_lex.specs.declared.symbol.Symbol.{Symbol}
@@ -32,8 +33,8 @@ use Rattle.sf_grammar.specs.declared.head.ExpressionHead.{ExpressionHead}
 use Rattle.sf_grammar.specs.declared.head.ExpressionHead.TheVariants as expression_heads
 use Rattle.sf_grammar.specs.declared.head.Link.{Link}
 use Rattle.sf_grammar.specs.declared.head.Link.TheVariants as links
-use Rattle.sf_grammar.specs.Spelling.{stands_initially, spell_value, head_makes, in_brackets, version_number, mapping_word, folding_word, spell_keys, spell_type, spell_mapping, spell_pattern, spell_expression, spell_function, spell_term, spell_signature, spell_template, value_word, side_word, heading_token, timing_word, accumulation_word, switching_word, join_symbol, type_depth, WritesType, IsWrittenType, WritesExpression, WritesFunction, WritesTerm, HasWrittenTypes}
-use Rattle.sf_grammar.specs.Reading.{parse_number, parse_never, parse_timed, Read, got, ◌and_then◌, Counts, counts_with, counts_with_expression, begins_type, begins_pattern, begins_expression, begins_term, type_head, word_kind, parse_keys, parse_outer_type, parse_headed_type, type_from, parse_inner_type, parse_pair_type, parse_pattern, parse_pattern_pair, link_of, link_from, parse_link, linked, parse_linked, behind_close, bracketed_from, parse_none, expression_head, parse_prefixed, parse_one_in_brackets, parse_two_in_brackets, parse_conditional, parse_mapping, parse_let, mapped_by, folded_by, parse_one_and_function, parse_two_and_function, parse_called, parse_worded_expression, parse_expression, expression_read, parse_function, parse_term, parse_joined, parse_value, parse_arrow, parse_accumulated, parse_sided, parse_headed, parse_body, parse_switching, parse_behind_head, head_of, join_of, parse_join, join_from, term_read, parse_parts, parse_opening, parse_heading, parse_signature, parse_template, template_of, parse_symbol, parse_name, parse_type, parse_keyword, parse_version}
+use Rattle.sf_grammar.specs.Spelling.{stands_initially, spell_value, head_makes, in_brackets, version_number, mapping_word, folding_word, spell_keys, spell_type, spell_mapping, spell_pattern, spell_expression, spell_function, spell_term, spell_signature, spell_template, value_word, side_word, heading_token, timing_word, accumulation_word, switching_word, keeping_word, join_symbol, type_depth, WritesType, IsWrittenType, WritesExpression, WritesFunction, WritesTerm, HasWrittenTypes}
+use Rattle.sf_grammar.specs.Reading.{parse_number, parse_never, parse_timed, Read, got, ◌and_then◌, Counts, counts_with, counts_with_expression, begins_type, begins_pattern, begins_expression, begins_term, type_head, word_kind, parse_keys, parse_outer_type, parse_headed_type, type_from, parse_inner_type, parse_pair_type, parse_pattern, parse_pattern_pair, link_of, link_from, parse_link, linked, parse_linked, behind_close, bracketed_from, parse_none, expression_head, parse_prefixed, parse_one_in_brackets, parse_two_in_brackets, parse_conditional, parse_mapping, parse_let, mapped_by, folded_by, parse_one_and_function, parse_two_and_function, parse_called, parse_worded_expression, parse_expression, expression_read, parse_function, parse_term, parse_joined, parse_value, parse_arrow, parse_accumulated, parse_sided, parse_headed, parse_body, parse_switching, parse_run, parse_keeping, parse_behind_head, head_of, join_of, parse_join, join_from, term_read, parse_parts, parse_opening, parse_heading, parse_signature, parse_template, template_of, parse_symbol, parse_name, parse_type, parse_keyword, parse_version}
 use Rattle.sf_grammar.proofs.Words.{IsHeadToken, head_takes, join_takes, link_token, LinksBetween, IsLinkToken, link_takes, BeginsWith, expression_head_takes, type_word, type_token, type_head_takes, IsWordKind, word_kind_is, close_takes}
 use Rattle.sf_grammar.proofs.Parts.{Same, bind_got, got_same, within_takes, deep_takes, met_takes, parts_takes, brackets_took, three_behind, symbol_takes, keyword_takes, name_takes, version_takes, TookKeys, keys_takes}
 
@@ -682,6 +683,48 @@ switching_takes v d c w tokens t rest part few is =
       known = (one.known, two.known);
     }))))
 
+run_takes : (v : Version) (d : ℕ) (c : Counts) (tokens : List Tok) (t : Term) (rest : List Tok) → c.expressions ≤ 100000
+    → parse_run c (keyword words.Run ∷ tokens) tokens ≡ got t rest → Took v (suc d) c (keyword words.Run ∷ tokens) t rest
+unfolding parse_run
+run_takes v d c tokens t rest few is =
+    let start : List Tok = keyword words.Run ∷ tokens in
+    bind_got (λ k r. term_read c (run k) start r) (parse_name tokens) t rest is (λ k behind at_k is_k.
+    within_takes (c.terms + 1) (run k) t start behind rest is_k (λ few_terms same.
+    took_as v (suc d) c start (run k) t behind rest same
+    (record { spelled = ap (λ r. keyword words.Run ∷ r) (name_takes tokens k behind at_k); shallow = omega arith; few_terms = few_terms; few_expressions = omega arith; known = tt })))
+
+-- two terms, a name and the body that knows the first by it, in brackets
+keeping_takes : (v : Version) (d : ℕ) (c : Counts) (w : Observation) (tokens : List Tok) (t : Term) (rest : List Tok) → Takes v d → c.expressions ≤ 100000
+    → parse_keeping d (parse_term d v) c w (keyword (keeping_word w) ∷ tokens) tokens ≡ got t rest → Took v (suc d) c (keyword (keeping_word w) ∷ tokens) t rest
+unfolding parse_keeping
+keeping_takes v d c w tokens t rest part few is =
+    let start : List Tok = keyword (keeping_word w) ∷ tokens in
+    let body : Term → Term → List Tok → Read (Pattern × Term) = λ f g. parse_body d (parse_term d v) (counts_with (counts_with c f) g) in
+    let whole : Term → Term → List Tok → Read Term = λ f g r. parse_parts parse_name (parse_symbol symbols.Comma) (λ _. body f g) (λ k _ b rest. term_read c (keeping w f g k b.0 b.1) start rest) r in
+    let others : Term → List Tok → Read Term = λ f r. parse_term d v (counts_with c f) r and_then λ g r. parse_symbol symbols.Comma r and_then λ _ r. whole f g r in
+    bind_got (λ _ r. parse_term d v c r and_then λ f r. parse_symbol symbols.Comma r and_then λ _ r. others f r) (parse_symbol symbols.Open tokens) t rest is (λ u r0 opened is_u.
+    bind_got (λ f r. parse_symbol symbols.Comma r and_then λ _ r. others f r) (parse_term d v c r0) t rest is_u (λ f r1 at_f is_f.
+    bind_got (λ _ r. others f r) (parse_symbol symbols.Comma r1) t rest is_f (λ m r2 at_m is_m.
+    bind_got (λ g r. parse_symbol symbols.Comma r and_then λ _ r. whole f g r) (parse_term d v (counts_with c f) r2) t rest is_m (λ g r3 at_g is_g.
+    bind_got (λ _ r. whole f g r) (parse_symbol symbols.Comma r3) t rest is_g (λ n r4 at_n is_n.
+    parts_takes parse_name (parse_symbol symbols.Comma) (λ _. body f g) (λ k _ b rest. term_read c (keeping w f g k b.0 b.1) start rest) r4 t rest is_n
+    (λ k x b r5 r6 r7 r8 at_k at_x at_b closed is_t.
+    within_takes (c.terms + terms_in (keeping w f g k b.0 b.1)) (keeping w f g k b.0 b.1) t start r8 rest is_t (λ few_terms same.
+    let one : Took v d c r0 f r1 = part c r0 f r1 few at_f in
+    let two : Took v d (counts_with c f) r2 g r3 = part (counts_with c f) r2 g r3 one.few_expressions at_g in
+    let three : TookBody v d (counts_with (counts_with c f) g) r6 b r7 = body_takes v d (counts_with (counts_with c f) g) r6 b r7 part two.few_expressions at_b in
+    let mapping : List Tok = symbol symbols.Comma ∷ name k ∷ symbol symbols.Comma ∷ spell_mapping (spell_pattern b.0) (spell_term v b.1) in
+    let behind : r2 ≡ (spell_term v g ++ mapping) ++ r7 =
+    rw (two.spelled, symbol_takes symbols.Comma r3 n r4 at_n, name_takes r4 k r5 at_k, symbol_takes symbols.Comma r5 x r6 at_x, three.spelled, append_assoc (spell_term v g) mapping r7) refl in
+    took_as v (suc d) c start (keeping w f g k b.0 b.1) t r8 rest same (record {
+      spelled = ap (λ r. keyword (keeping_word w) ∷ r) (symbol_takes symbols.Open tokens u r0 opened
+          ∙ brackets_took (spell_term v f) (spell_term v g ++ mapping) r0 r1 r2 r7 r8 (symbol symbols.Comma) one.spelled (symbol_takes symbols.Comma r1 m r2 at_m) behind closed);
+      shallow = omega (arith, one.shallow, two.shallow, three.pattern, three.shallow);
+      few_terms = few_terms;
+      few_expressions = omega (arith, three.few_expressions);
+      known = (one.known, two.known, three.known);
+    }))))))))
+
 join_from_takes : (o : Option Join) (s : Symbol) (tokens : List Tok) (j : Join) (rest : List Tok) → join_of s ≡ o → join_from o s tokens ≡ got j rest → symbol s ∷ tokens ≡ symbol (join_symbol j) ∷ rest
 join_from_takes (Some i) s tokens j rest found is =
     let same = got_same i j tokens rest is in
@@ -743,6 +786,10 @@ behind_head_takes v d c (Some (heads.Headed h)) k tokens t rest part found few i
     by_token v d c k (heading_token h) tokens t rest (λ start. parse_headed d v (parse_term d v) c h start tokens) (head_takes k (heads.Headed h) found).token is (headed_takes v d c h tokens t rest part)
 behind_head_takes v d c (Some (heads.Switching w)) k tokens t rest part found few is =
     by_token v d c k (keyword (switching_word w)) tokens t rest (λ start. parse_switching d (parse_term d v) c w start tokens) (head_takes k (heads.Switching w) found).token is (switching_takes v d c w tokens t rest part few)
+behind_head_takes v d c (Some heads.Run) k tokens t rest part found few is =
+    by_token v d c k (keyword words.Run) tokens t rest (λ start. parse_run c start tokens) (head_takes k heads.Run found).token is (run_takes v d c tokens t rest few)
+behind_head_takes v d c (Some (heads.Keeping w)) k tokens t rest part found few is =
+    by_token v d c k (keyword (keeping_word w)) tokens t rest (λ start. parse_keeping d (parse_term d v) c w start tokens) (head_takes k (heads.Keeping w) found).token is (keeping_takes v d c w tokens t rest part few)
 behind_head_takes v d c None k tokens t rest part found few is = cc
 
 pub term_takes : (v : Version) (d : ℕ) → Takes v d

@@ -41,7 +41,7 @@ use Rattle.sf_grammar.specs.declared.head.ExpressionHead.{ExpressionHead}
 use Rattle.sf_grammar.specs.declared.head.ExpressionHead.TheVariants as expression_heads
 use Rattle.sf_grammar.specs.declared.head.Link.{Link}
 use Rattle.sf_grammar.specs.declared.head.Link.TheVariants as links
-use Rattle.sf_grammar.specs.Spelling.{bare_word, value_word, stands_initially, timing_word, accumulation_word, side_word, heading_token, switching_word, join_symbol, unary_word, takes_brackets, operator_token, stands_between, mapping_word, maps_in_brackets, folding_word, spell_operands, spell_type, spell_keys, type_depth, WritesKeys, WritesType, spell_expression}
+use Rattle.sf_grammar.specs.Spelling.{bare_word, value_word, stands_initially, timing_word, accumulation_word, side_word, heading_token, switching_word, keeping_word, join_symbol, unary_word, takes_brackets, operator_token, stands_between, mapping_word, maps_in_brackets, folding_word, spell_operands, spell_type, spell_keys, type_depth, WritesKeys, WritesType, spell_expression}
 use Rattle.sf_grammar.specs.Reading.{head_of, join_of, operator_of, link_of, expression_head, type_head, word_kind, got, parse_keys, behind_close}
 
 -- the first token of a form
@@ -56,6 +56,8 @@ head_token heads.Joined = symbol symbols.Open
 head_token (heads.Sided s) = keyword (side_word s)
 head_token (heads.Headed h) = heading_token h
 head_token (heads.Switching w) = keyword (switching_word w)
+head_token heads.Run = keyword words.Run
+head_token (heads.Keeping w) = keyword (keeping_word w)
 
 -- the form begins with that token: a value stands behind its word
 abbrev pub BeginsSo : Head → Type 0
@@ -90,6 +92,9 @@ head_again (heads.Switching (switches.Basic observations.Immediate)) begins = re
 head_again (heads.Switching (switches.Basic observations.Delayed)) begins = refl
 head_again (heads.Switching (switches.Recurring observations.Immediate)) begins = refl
 head_again (heads.Switching (switches.Recurring observations.Delayed)) begins = refl
+head_again heads.Run begins = refl
+head_again (heads.Keeping observations.Immediate) begins = refl
+head_again (heads.Keeping observations.Delayed) begins = refl
 
 -- a token is the first one of a form
 pub record IsHeadToken (t : Tok) (h : Head) : Type 0 where
@@ -126,6 +131,9 @@ head_takes (keyword words.Switch) h e = head_as (keyword words.Switch) (heads.Sw
 head_takes (keyword words.DSwitch) h e = head_as (keyword words.DSwitch) (heads.Switching (switches.Basic observations.Delayed)) h e refl tt
 head_takes (keyword words.RSwitch) h e = head_as (keyword words.RSwitch) (heads.Switching (switches.Recurring observations.Immediate)) h e refl tt
 head_takes (keyword words.DrSwitch) h e = head_as (keyword words.DrSwitch) (heads.Switching (switches.Recurring observations.Delayed)) h e refl tt
+head_takes (keyword words.Run) h e = head_as (keyword words.Run) heads.Run h e refl tt
+head_takes (keyword words.KSwitch) h e = head_as (keyword words.KSwitch) (heads.Keeping observations.Immediate) h e refl tt
+head_takes (keyword words.DkSwitch) h e = head_as (keyword words.DkSwitch) (heads.Keeping observations.Delayed) h e refl tt
 head_takes _ h e = cc
 
 pub join_again : (j : Join) → join_of (join_symbol j) ≡ Some j

@@ -22,6 +22,7 @@ use Rattle.sf_term.specs.declared.form.Accumulation.{Accumulation}
 use Rattle.sf_term.specs.declared.form.Join.{Join}
 use Rattle.sf_term.specs.declared.form.Side.{Side}
 use Rattle.sf_term.specs.declared.form.Heading.{Heading}
+use Rattle.sf_term.specs.declared.form.Observation.{Observation}
 use Rattle.sf_term.specs.declared.form.Switching.{Switching}
 use Rattle.sf_term.specs.declared.node.TermId.{TermId}
 use Rattle.sf_term.specs.declared.node.Primitive.TheVariants as primitives
@@ -118,6 +119,9 @@ pub data TermPlaced (v : Version) (p : Program) : TermId → List Spot → Type 
       → ExpressionPlaced v p e xs → TermPlaced v p a ys → TermPlaced v p id (at ∷ around opening xs comma ys closing)
   switching_placed : {id a b : TermId} {w : Switching} {q : PatternId} {xs ps ys : List Spot} {at : Spot} (opening comma leads closing : Spot) → TermStands p id (nodes.Switching w a q b) at
       → TermPlaced v p a xs → PatternStands p q ps → TermPlaced v p b ys → TermPlaced v p id (at ∷ around opening xs comma (ps ++ (leads ∷ ys)) closing)
+  run_placed : {id : TermId} {k : NameId} {at place : Spot} → TermStands p id (nodes.Run k place) at → TermPlaced v p id (at ∷ place ∷ [])
+  keeping_placed : {id a b c : TermId} {w : Observation} {k : NameId} {q : PatternId} {xs ys ps zs : List Spot} {at place : Spot} (opening comma second third leads closing : Spot) → TermStands p id (nodes.Keeping w a b k place q c) at
+      → TermPlaced v p a xs → TermPlaced v p b ys → PatternStands p q ps → TermPlaced v p c zs → TermPlaced v p id (at ∷ around opening xs comma (ys ++ (second ∷ place ∷ third ∷ (ps ++ (leads ∷ zs)))) closing)
 
 -- a template whose tokens have these places, in a text of the version: its name stands at the second, and its body behind as many as spell its types
 pub record TemplatePlaced (v : Version) (p : Program) (h : Header) (places : List Spot) : Type 0 where

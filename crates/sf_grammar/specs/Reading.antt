@@ -31,9 +31,10 @@ use Rattle.sf_term.specs.declared.form.Side.TheVariants as sides
 use Rattle.sf_term.specs.declared.form.Heading.{Heading}
 use Rattle.sf_term.specs.declared.form.Heading.TheVariants as headings
 use Rattle.sf_term.specs.declared.form.Switching.{Switching}
+use Rattle.sf_term.specs.declared.form.Observation.{Observation}
 use Rattle.sf_term.specs.declared.form.Observation.TheVariants as observations
 use Rattle.sf_term.specs.declared.form.Switching.TheVariants as switches
-use Rattle.sf_term.specs.Trees.{Term, primitive, joined, sided, switching, bare, never, with_value, timed, arrow, accumulated, Template, terms_in, expressions_in}
+use Rattle.sf_term.specs.Trees.{Term, primitive, run, joined, sided, switching, keeping, bare, never, with_value, timed, arrow, accumulated, Template, terms_in, expressions_in}
 use Rattle.sf_lex.specs.declared.word.Keyword.{Keyword}
 use Rattle.sf_lex.specs.declared.word.Keyword.TheVariants as words
 use Rattle.sf_lex.specs.declared.symbol.Symbol.{Symbol}
@@ -444,6 +445,9 @@ head_of (keyword words.Switch) = Some (heads.Switching (switches.Basic observati
 head_of (keyword words.DSwitch) = Some (heads.Switching (switches.Basic observations.Delayed))
 head_of (keyword words.RSwitch) = Some (heads.Switching (switches.Recurring observations.Immediate))
 head_of (keyword words.DrSwitch) = Some (heads.Switching (switches.Recurring observations.Delayed))
+head_of (keyword words.Run) = Some heads.Run
+head_of (keyword words.KSwitch) = Some (heads.Keeping observations.Immediate)
+head_of (keyword words.DkSwitch) = Some (heads.Keeping observations.Delayed)
 head_of _ = None
 
 abbrev pub join_of : Symbol → Option Join
@@ -503,6 +507,20 @@ parse_switching left part c w start tokens =
     parse_symbol symbols.Open tokens and_then λ _ rest.
     parse_parts (part c) (parse_symbol symbols.Comma) (λ f. parse_body left part (counts_with c f)) (λ f _ b rest. term_read c (switching w f b.0 b.1) start rest) rest
 
+-- behind `run`
+unfoldable pub parse_run : Counts → List Tok → List Tok → Read Term
+parse_run c start tokens = parse_name tokens and_then λ k rest. term_read c (run k) start rest
+
+-- behind the word of a term that gives way to another, which knows it by a name, where all are read so
+unfoldable pub parse_keeping : ℕ → (Counts → List Tok → Read Term) → Counts → Observation → List Tok → List Tok → Read Term
+parse_keeping left part c w start tokens =
+    parse_symbol symbols.Open tokens and_then λ _ rest.
+    part c rest and_then λ f rest.
+    parse_symbol symbols.Comma rest and_then λ _ rest.
+    part (counts_with c f) rest and_then λ g rest.
+    parse_symbol symbols.Comma rest and_then λ _ rest.
+    parse_parts parse_name (parse_symbol symbols.Comma) (λ _. parse_body left part (counts_with (counts_with c f) g)) (λ k _ b rest. term_read c (keeping w f g k b.0 b.1) start rest) rest
+
 abbrev pub join_from : Option Join → Symbol → List Tok → Read Join
 join_from (Some j) s rest = got j rest
 join_from None s rest = stop Unexpected (symbol s ∷ rest)
@@ -527,6 +545,8 @@ parse_behind_head left v part c (Some heads.Joined) start tokens = parse_joined 
 parse_behind_head left v part c (Some (heads.Sided s)) start tokens = parse_sided part c s start tokens
 parse_behind_head left v part c (Some (heads.Headed h)) start tokens = parse_headed left v part c h start tokens
 parse_behind_head left v part c (Some (heads.Switching w)) start tokens = parse_switching left part c w start tokens
+parse_behind_head left v part c (Some heads.Run) start tokens = parse_run c start tokens
+parse_behind_head left v part c (Some (heads.Keeping w)) start tokens = parse_keeping left part c w start tokens
 parse_behind_head left v part c None start tokens = stop Unexpected start
 
 -- a term by its first token

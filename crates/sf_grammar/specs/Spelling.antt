@@ -31,9 +31,10 @@ use Rattle.sf_term.specs.declared.form.Side.TheVariants as sides
 use Rattle.sf_term.specs.declared.form.Heading.{Heading}
 use Rattle.sf_term.specs.declared.form.Heading.TheVariants as headings
 use Rattle.sf_term.specs.declared.form.Switching.{Switching}
+use Rattle.sf_term.specs.declared.form.Observation.{Observation}
 use Rattle.sf_term.specs.declared.form.Observation.TheVariants as observations
 use Rattle.sf_term.specs.declared.form.Switching.TheVariants as switches
-use Rattle.sf_term.specs.Trees.{bare, never, with_value, timed, arrow, accumulated, fused, Term, primitive, joined, sided, headed, switching, staged, Template, Templates, term_depth, terms_in, expressions_in}
+use Rattle.sf_term.specs.Trees.{bare, never, with_value, timed, arrow, accumulated, fused, Term, primitive, run, joined, sided, headed, switching, keeping, staged, Template, Templates, term_depth, terms_in, expressions_in}
 use Rattle.sf_lex.specs.declared.word.Keyword.{Keyword}
 use Rattle.sf_lex.specs.declared.word.Keyword.TheVariants as words
 use Rattle.sf_lex.specs.declared.symbol.Symbol.{Symbol}
@@ -101,6 +102,11 @@ switching_word (switches.Basic observations.Immediate) = words.Switch
 switching_word (switches.Basic observations.Delayed) = words.DSwitch
 switching_word (switches.Recurring observations.Immediate) = words.RSwitch
 switching_word (switches.Recurring observations.Delayed) = words.DrSwitch
+
+-- the word of a term that gives way to another, which knows it by a name
+abbrev pub keeping_word : Observation → Keyword
+keeping_word observations.Immediate = words.KSwitch
+keeping_word observations.Delayed = words.DkSwitch
 
 -- the word of an operator on one value
 abbrev pub unary_word : Unary → Keyword
@@ -210,6 +216,10 @@ spell_mapped m value pattern body = keyword (mapping_word m) ∷ spell_mapped_so
 abbrev pub spell_folded : Folding → List Tok → List Tok → List Tok → List Tok → List Tok
 spell_folded o first second pattern body = keyword (folding_word o) ∷ in_brackets first (symbol symbols.Comma) (second ++ (symbol symbols.Comma ∷ spell_mapping pattern body))
 
+-- two terms in brackets, a name, and the pattern and the body that knows the first by that name
+abbrev pub spell_keeping : Observation → List Tok → List Tok → Name → List Tok → List Tok → List Tok
+spell_keeping w source observer k pattern body = keyword (keeping_word w) ∷ in_brackets source (symbol symbols.Comma) (observer ++ (symbol symbols.Comma ∷ name k ∷ symbol symbols.Comma ∷ spell_mapping pattern body))
+
 -- a call of a stored function by its name, and its argument
 abbrev pub spell_called : Name → List Tok → List Tok
 spell_called g argument = keyword words.Call ∷ name g ∷ spell_operand true argument
@@ -275,6 +285,8 @@ spell_term v (joined j f g) = in_brackets (spell_term v f) (symbol (join_symbol 
 spell_term v (sided s f) = keyword (side_word s) ∷ spell_term v f
 spell_term v (headed h e f) = heading_token h ∷ in_brackets (spell_expression v e) (symbol symbols.Comma) (spell_term v f)
 spell_term v (switching w f p g) = keyword (switching_word w) ∷ in_brackets (spell_term v f) (symbol symbols.Comma) (spell_mapping (spell_pattern p) (spell_term v g))
+spell_term v (run k) = keyword words.Run ∷ name k ∷ []
+spell_term v (keeping w f g k p u) = spell_keeping w (spell_term v f) (spell_term v g) k (spell_pattern p) (spell_term v u)
 spell_term v (staged x f g) = []
 
 abbrev pub spell_heading : Template → List Tok
@@ -363,6 +375,7 @@ WritesTerm v (suc d) (joined j f g) = WritesTerm v d f × WritesTerm v d g
 WritesTerm v (suc d) (sided s f) = WritesTerm v d f
 WritesTerm v (suc d) (headed h e f) = (head_makes h e f ≡ headed h e f) × WritesExpression v d e × WritesTerm v d f
 WritesTerm v (suc d) (switching w f p g) = WritesTerm v d f × WritesTerm v d g
+WritesTerm v (suc d) (keeping w f g k p u) = WritesTerm v d f × WritesTerm v d g × WritesTerm v d u
 WritesTerm v d t = ⊤
 
 -- a text of the version has the types of a template

@@ -30,6 +30,10 @@ pub enum Head {
     Headed(Heading),
     /// A word, and behind it a term, a pattern and another term in brackets.
     Switching(Switching),
+    /// `run`, and a name behind it.
+    Run,
+    /// A word, and behind it two terms, a name, a pattern and a third term in brackets.
+    Keeping(Observation),
 }
 
 /// An expression that a word begins, by its shape.
@@ -105,6 +109,9 @@ pub fn head_of(token: &Token) -> Option<Head>
         Token::Keyword(Keyword::DrSwitch) => Some(Head::Switching(Switching::Recurring(
             Observation::Delayed,
         ))),
+        Token::Keyword(Keyword::Run) => Some(Head::Run),
+        Token::Keyword(Keyword::KSwitch) => Some(Head::Keeping(Observation::Immediate)),
+        Token::Keyword(Keyword::DkSwitch) => Some(Head::Keeping(Observation::Delayed)),
         _ => None,
     }
 }

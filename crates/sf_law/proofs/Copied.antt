@@ -8,7 +8,7 @@ use Rattle.sf_expr.specs.declared.exprs.FunctionId.{FunctionId}
 use Rattle.sf_expr.specs.Expressions.{function}
 use Rattle.sf_expr.specs.Patterns.{pattern_of}
 use Rattle.sf_expr.specs.declared.exprs.PatternId.{PatternId}
-use Rattle.sf_expr.specs.Arena.{expression, function_at, pattern_at, placed_at, body_at, IsCopy}
+use Rattle.sf_expr.specs.Arena.{expression, function_at, name_at, pattern_at, placed_at, body_at, IsCopy}
 use Rattle.sf_term.specs.declared.node.TermId.{TermId}
 use Rattle.sf_term.specs.declared.node.Node.{Node}
 use Rattle.sf_term.specs.declared.node.Node.TheVariants as ast
@@ -17,7 +17,7 @@ use Rattle.sf_term.specs.declared.node.Primitive.TheVariants as ast_primitives
 use Rattle.sf_term.specs.declared.form.Timing.{Timing}
 use Rattle.sf_code.specs.declared.code.Code.{Code}
 use Rattle.sf_term.specs.declared.program.Program.{Program}
-use Rattle.sf_term.specs.Trees.{Term, Template, Templates, primitive, joined, sided, headed, never, switching, with_value, timed, arrow, accumulated}
+use Rattle.sf_term.specs.Trees.{Term, Template, Templates, primitive, run, joined, sided, headed, never, switching, keeping, with_value, timed, arrow, accumulated}
 use Rattle.sf_term.specs.Headers.{Header as TermHeader}
 use Rattle.sf_term.specs.Entries.{absent_payload}
 use Rattle.sf_term.specs.Arena.{term_count, tree as term, expression_under, pattern_under, function_in, expressions_of as program_expressions, term_of, TermPartsBelow, headers_of as program_headers, template_in as term_template}
@@ -29,8 +29,8 @@ use Rattle.sf_law.specs.declared.node.PlanPrimitive.{PlanPrimitive}
 use Rattle.sf_law.specs.declared.node.PlanPrimitive.TheVariants as plan_primitives
 use Rattle.sf_law.specs.declared.plan.Plan.{Plan}
 use Rattle.sf_law.specs.Entries.{primitive_over, parts_end, is_whole}
-use Rattle.sf_law.specs.Arena.{plan_expressions, node_count, plan_tree, plan_headers, plan_template, network_of_plan, BuildsPlan, builds_primitive, builds_joined, builds_sided, builds_headed, builds_switching, KeepsPlan, AddsNode}
-use Rattle.sf_law.specs.Copies.{plan_id, CopiesPrimitive, copies_bare, copies_never, copies_with_value, copies_timed, copies_accumulated, copies_arrow, CopiesNode, copies_primitive, copies_joined, copies_sided, copies_headed, copies_switching, plan_header, ShowsTerms}
+use Rattle.sf_law.specs.Arena.{plan_expressions, node_count, plan_tree, plan_headers, plan_template, network_of_plan, BuildsPlan, builds_primitive, builds_run, builds_joined, builds_sided, builds_headed, builds_switching, builds_keeping, KeepsPlan, AddsNode}
+use Rattle.sf_law.specs.Copies.{plan_id, CopiesPrimitive, copies_bare, copies_never, copies_with_value, copies_timed, copies_accumulated, copies_arrow, CopiesNode, copies_primitive, copies_run, copies_joined, copies_sided, copies_headed, copies_switching, copies_keeping, plan_header, ShowsTerms}
 use Rattle.sf_law.proofs.Kept.{tree_past}
 
 -- a primitive with an equal time is copied
@@ -44,18 +44,22 @@ ShowsBelow p q i = (t : TermId) → t.0 < i → plan_tree q (plan_id t) ≡ term
 -- a node's parts are below a number where the program's are
 pub parts_fit : (n : Node) (m : PlanNode) (i : ℕ) → CopiesNode n m → TermPartsBelow n i → parts_end m ≤ i
 parts_fit _ _ i (copies_primitive c) h = omega arith
+parts_fit _ _ i copies_run h = omega arith
 parts_fit _ _ i copies_joined h = omega (arith, h.0, h.1)
 parts_fit _ _ i copies_sided h = omega arith
 parts_fit _ _ i copies_headed h = omega arith
 parts_fit _ _ i copies_switching h = omega (arith, h.0, h.1)
+parts_fit _ _ i copies_keeping h = omega (arith, h.0, h.1, h.2)
 
 -- no program has a pipeline
 pub no_pipeline : (n : Node) (m : PlanNode) → CopiesNode n m → IsTrue (is_whole m)
 no_pipeline _ _ (copies_primitive c) = refl
+no_pipeline _ _ copies_run = refl
 no_pipeline _ _ copies_joined = refl
 no_pipeline _ _ copies_sided = refl
 no_pipeline _ _ copies_headed = refl
 no_pipeline _ _ copies_switching = refl
+no_pipeline _ _ copies_keeping = refl
 
 module _ (p : Program) (q : Plan) (copy : IsCopy (program_expressions p) (plan_expressions q)) where
   value_same : (e : ExprId) → expression (plan_expressions q) e ≡ expression_under p e
@@ -81,11 +85,18 @@ module _ (p : Program) (q : Plan) (copy : IsCopy (program_expressions p) (plan_e
   -- the same node stands for the same term
   same_term : (n : Node) (m : PlanNode) (u : Term) (i : ℕ) → CopiesNode n m → TermPartsBelow n i → ShowsBelow p q i → BuildsPlan q m u → u ≡ term_of p n
   same_term _ _ _ i (copies_primitive {q = a} {r = b} c) below shows (builds_primitive k) = same_primitive a b c
+  same_term _ _ _ i (copies_run {k}) below shows builds_run = ap run (copy.names k)
   same_term _ _ _ i (copies_joined {j} {a} {b}) below shows builds_joined = ap₂ (λ f g. joined j f g) (shows a below.0) (shows b below.1)
   same_term _ _ _ i (copies_sided {d} {a}) below shows builds_sided = ap (λ f. sided d f) (shows a below)
   same_term _ _ _ i (copies_headed {h = k} {e} {c} {a}) below shows (builds_headed w) = ap₂ (λ v f. headed k v f) (value_same e) (shows a below)
   same_term _ _ _ i (copies_switching {w = k} {a} {b} {q = r}) below shows builds_switching =
       ap₂ (λ f g. switching k f (pattern_of (placed_at (plan_expressions q) r)) g) (shows a below.0) (shows b below.1) ∙ ap (λ z. switching k (term p a) (pattern_of z) (term p b)) (pattern_same r)
+  same_term _ _ _ i (copies_keeping {w} {a} {o} {b} {k} {q = r}) below shows builds_keeping =
+      let name = name_at (plan_expressions q) k in
+      let pattern = pattern_of (placed_at (plan_expressions q) r) in
+      ap₂ (λ f g. keeping w f g name pattern (plan_tree q (plan_id b))) (shows a below.0) (shows o below.1)
+      ∙ ap (λ u. keeping w (term p a) (term p o) name pattern u) (shows b below.2)
+      ∙ ap₂ (λ x z. keeping w (term p a) (term p o) x (pattern_of z) (term p b)) (copy.names k) (pattern_same r)
 
 -- one more term is shown
 pub shows_next : (p : Program) (old new : Plan) (n : Node) (m : PlanNode) (t : TermId) (a : PlanId) (i : ℕ) → IsCopy (program_expressions p) (plan_expressions old) → node_count old ≡ i → t.0 ≡ i → ShowsBelow p old i

@@ -12,17 +12,19 @@ use Rattle.sf_law.specs.declared.node.PlanNode.{PlanNode}
 use Rattle.sf_law.specs.declared.node.PlanNode.TheVariants as nodes
 use Rattle.sf_law.specs.declared.plan.Plan.{Plan}
 use Rattle.sf_law.specs.Entries.{IsCoded, plan_over, parts_end, is_whole, identity_node, node_among, plan_terms, plan_term}
-use Rattle.sf_law.specs.Arena.{node_count, plan_node_at, plan_tree, BuildsPlan, builds_primitive, builds_joined, builds_sided, builds_headed, builds_switching, builds_pipeline, KeepsPlan, AddsNode}
+use Rattle.sf_law.specs.Arena.{node_count, plan_node_at, plan_tree, BuildsPlan, builds_primitive, builds_run, builds_joined, builds_sided, builds_headed, builds_switching, builds_keeping, builds_pipeline, KeepsPlan, AddsNode}
 use Rattle.sf_law.proofs.Placed.{term-built}
 
 -- a node stands for the term that is made of it
 made : (p : Plan) (n : PlanNode) → IsTrue (is_whole n) → IsCoded p.expressions n → BuildsPlan p n (plan_over p.expressions (plan_terms p.expressions p.nodes.items) n)
 unfolding plan_tree tree_at
 made p (nodes.Primitive q) w k = builds_primitive k
+made p (nodes.Run i) w k = builds_run
 made p (nodes.Joined j a b) w k = builds_joined
 made p (nodes.Sided d a) w k = builds_sided
 made p (nodes.Headed h e c a) w k = builds_headed k
 made p (nodes.Switching s a q b) w k = builds_switching
+made p (nodes.Keeping s a o i q b) w k = builds_keeping
 made p (nodes.Pipeline v) w k = builds_pipeline w
 
 -- a node stands for the term at its id

@@ -1,13 +1,13 @@
 -- The nodes of a plan, of which one more is put behind.
-use Rattle.std.proofs.Common.{◌≡◌, ℕ, suc, ◌≤◌, List, [], ◌∷◌, ◌++◌, length, map, Bool, true, false, cond, IsTrue, refl, sym, ap, subst, arith}
+use Rattle.std.proofs.Common.{◌≡◌, ℕ, suc, ◌≤◌, List, [], ◌∷◌, ◌++◌, length, map, Bool, true, false, cond, IsTrue, refl, sym, ◌∙◌, ap, subst, arith}
 use mathlib.Core.Path.{ap₂}
 use Rattle.std.proofs.lemmas.List.{get_or_append_left}
 use Rattle.sf_arena.specs.Items.{Added}
 use Rattle.sf_arena.proofs.Grown.{each_item, tree_made}
 use Rattle.sf_expr.specs.declared.exprs.Exprs.{Exprs}
 use Rattle.sf_expr.specs.Patterns.{pattern_of}
-use Rattle.sf_expr.specs.Arena.{expression, placed_at}
-use Rattle.sf_term.specs.Trees.{Term, joined, sided, headed, switching}
+use Rattle.sf_expr.specs.Arena.{expression, name_at, placed_at}
+use Rattle.sf_term.specs.Trees.{Term, joined, sided, headed, switching, keeping}
 use Rattle.sf_term.specs.Entries.{identity_term, term_among}
 use Rattle.sf_law.specs.declared.node.PlanId.{PlanId}
 use Rattle.sf_law.specs.declared.node.PlanNode.{PlanNode}
@@ -24,10 +24,16 @@ all-parts ts more (a ∷ ids) h = ap₂ (λ t us. t ∷ us) (part ts more a.0 (o
 -- a node's term depends on its parts alone
 local : (x : Exprs) (ts more : List Term) (n : PlanNode) → parts_end n ≤ length ts → plan_over x (ts ++ more) n ≡ plan_over x ts n
 local x ts more (nodes.Primitive q) h = refl
+local x ts more (nodes.Run k) h = refl
 local x ts more (nodes.Joined j a b) h = ap₂ (λ s t. joined j s t) (part ts more a.0 (omega arith)) (part ts more b.0 (omega arith))
 local x ts more (nodes.Sided d a) h = ap (λ t. sided d t) (part ts more a.0 h)
 local x ts more (nodes.Headed k e c a) h = ap (λ t. headed k (expression x e) t) (part ts more a.0 h)
 local x ts more (nodes.Switching w a q b) h = ap₂ (λ s t. switching w s (pattern_of (placed_at x q)) t) (part ts more a.0 (omega arith)) (part ts more b.0 (omega arith))
+local x ts more (nodes.Keeping w a o k q b) h =
+    let name = name_at x k in
+    let pattern = pattern_of (placed_at x q) in
+    ap₂ (λ s r. keeping w s r name pattern (term_among (ts ++ more) b.0)) (part ts more a.0 (omega arith)) (part ts more o.0 (omega arith))
+    ∙ ap (λ t. keeping w (term_among ts a.0) (term_among ts o.0) name pattern t) (part ts more b.0 (omega arith))
 local x ts more (nodes.Pipeline v) h = ap pipeline (all-parts ts more v.items h)
 
 -- nothing is an arena

@@ -5,16 +5,18 @@ use Rattle.sf_func.specs.Registries.{AnswersByName}
 use Rattle.sf_expr.specs.declared.exprs.ExprId.{ExprId}
 use Rattle.sf_expr.specs.declared.exprs.Exprs.{Exprs}
 use Rattle.sf_expr.specs.Expressions.{Expression}
+use Rattle.sf_expr.specs.declared.exprs.NameId.{NameId}
 use Rattle.sf_expr.specs.declared.exprs.PatternId.{PatternId}
 use Rattle.sf_expr.specs.Patterns.{pattern_of}
-use Rattle.sf_expr.specs.Arena.{expression, placed_at}
+use Rattle.sf_expr.specs.Arena.{expression, name_at, placed_at}
 use Rattle.sf_term.specs.declared.form.Join.{Join}
 use Rattle.sf_term.specs.declared.form.Side.{Side}
 use Rattle.sf_term.specs.declared.form.Heading.{Heading}
+use Rattle.sf_term.specs.declared.form.Observation.{Observation}
 use Rattle.sf_term.specs.declared.form.Switching.{Switching}
 use Rattle.sf_code.specs.declared.code.Code.{Code}
 use Rattle.sf_code.specs.Worth.{IsCodeOf}
-use Rattle.sf_term.specs.Trees.{Term, primitive, joined, sided, headed, switching, Template, Templates}
+use Rattle.sf_term.specs.Trees.{Term, primitive, run, joined, sided, headed, switching, keeping, Template, Templates}
 use Rattle.sf_mean.specs.Meaning.{Network}
 use Rattle.sf_law.specs.declared.node.PlanId.{PlanId}
 use Rattle.sf_law.specs.declared.node.PlanNode.{PlanNode}
@@ -75,10 +77,12 @@ plan_main p = p.main
 -- A node with the ids of its parts stands for a term with their trees; the code that it has is that of its expression or its function.
 pub data BuildsPlan (p : Plan) : PlanNode → Term → Type 0 where
   builds_primitive : {q : PlanPrimitive} → IsCodedPrimitive (plan_expressions p) q → BuildsPlan p (nodes.Primitive q) (primitive (primitive_over (plan_expressions p) q))
+  builds_run : {k : NameId} → BuildsPlan p (nodes.Run k) (run (name_at (plan_expressions p) k))
   builds_joined : {j : Join} {a b : PlanId} → BuildsPlan p (nodes.Joined j a b) (joined j (plan_tree p a) (plan_tree p b))
   builds_sided : {d : Side} {a : PlanId} → BuildsPlan p (nodes.Sided d a) (sided d (plan_tree p a))
   builds_headed : {h : Heading} {e : ExprId} {c : Option Code} {a : PlanId} → IfSome c (λ i. IsCodeOf (plan_expression_at p e) i) → BuildsPlan p (nodes.Headed h e c a) (headed h (plan_expression_at p e) (plan_tree p a))
   builds_switching : {w : Switching} {a b : PlanId} {q : PatternId} → BuildsPlan p (nodes.Switching w a q b) (switching w (plan_tree p a) (pattern_of (placed_at (plan_expressions p) q)) (plan_tree p b))
+  builds_keeping : {w : Observation} {a o b : PlanId} {k : NameId} {q : PatternId} → BuildsPlan p (nodes.Keeping w a o k q b) (keeping w (plan_tree p a) (plan_tree p o) (name_at (plan_expressions p) k) (pattern_of (placed_at (plan_expressions p) q)) (plan_tree p b))
   builds_pipeline : {v : Vec PlanId Global} → IsTrue (nat_le 2 (length v.items)) → BuildsPlan p (nodes.Pipeline v) (pipeline (trees_at p v.items))
 
 -- Terms that a plan held are there as they were, over the same expressions.

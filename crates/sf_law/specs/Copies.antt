@@ -5,6 +5,7 @@ use Rattle.std.specs.declared.alloc.Global.{Global}
 use Rattle.sf_expr.specs.declared.exprs.ConstantId.{ConstantId}
 use Rattle.sf_expr.specs.declared.exprs.ExprId.{ExprId}
 use Rattle.sf_expr.specs.declared.exprs.FunctionId.{FunctionId}
+use Rattle.sf_expr.specs.declared.exprs.NameId.{NameId}
 use Rattle.sf_expr.specs.declared.exprs.PatternId.{PatternId}
 use Rattle.sf_term.specs.declared.form.Bare.{Bare}
 use Rattle.sf_term.specs.declared.form.WithValue.{WithValue}
@@ -13,6 +14,7 @@ use Rattle.sf_term.specs.declared.form.Accumulation.{Accumulation}
 use Rattle.sf_term.specs.declared.form.Join.{Join}
 use Rattle.sf_term.specs.declared.form.Side.{Side}
 use Rattle.sf_term.specs.declared.form.Heading.{Heading}
+use Rattle.sf_term.specs.declared.form.Observation.{Observation}
 use Rattle.sf_term.specs.declared.form.Switching.{Switching}
 use Rattle.sf_term.specs.declared.node.TermId.{TermId}
 use Rattle.sf_term.specs.declared.node.Node.{Node}
@@ -48,9 +50,11 @@ pub data CopiesPrimitive : Primitive → PlanPrimitive → Type 0 where
 -- A plan's node is a program's, whatever its code: of the same form, with the same id of its expression and the ids of the same numbers.
 pub data CopiesNode : Node → PlanNode → Type 0 where
   copies_primitive : {q : Primitive} {r : PlanPrimitive} → CopiesPrimitive q r → CopiesNode (terms.Primitive q) (plans.Primitive r)
+  copies_run : {k : NameId} {s : _} → CopiesNode (terms.Run k s) (plans.Run k)
   copies_joined : {j : Join} {a b : TermId} → CopiesNode (terms.Joined j a b) (plans.Joined j (plan_id a) (plan_id b))
   copies_sided : {d : Side} {a : TermId} → CopiesNode (terms.Sided d a) (plans.Sided d (plan_id a))
   copies_switching : {w : Switching} {a b : TermId} {q : PatternId} → CopiesNode (terms.Switching w a q b) (plans.Switching w (plan_id a) q (plan_id b))
+  copies_keeping : {w : Observation} {a o b : TermId} {k : NameId} {s : _} {q : PatternId} → CopiesNode (terms.Keeping w a o k s q b) (plans.Keeping w (plan_id a) (plan_id o) k q (plan_id b))
   copies_headed : {h : Heading} {e : ExprId} {c : Option Code} {a : TermId} → CopiesNode (terms.Headed h e a) (plans.Headed h e c (plan_id a))
 
 -- a template with the id of the same number

@@ -3,13 +3,13 @@ use Rattle.std.specs.Prelude.{ℕ, suc, ◌≤◌, max, Bool, true, nat_le, IsTr
 use Rattle.sf_expr.specs.declared.exprs.ExprId.{ExprId}
 use Rattle.sf_expr.specs.declared.exprs.Exprs.{Exprs}
 use Rattle.sf_expr.specs.Patterns.{pattern_of}
-use Rattle.sf_expr.specs.Arena.{expression, function_at, literal_at, placed_at}
+use Rattle.sf_expr.specs.Arena.{expression, function_at, name_at, literal_at, placed_at}
 use Rattle.sf_arena.specs.Folded.{trees, tree_at}
 use Rattle.sf_term.specs.declared.form.Bare.TheVariants.{Identity}
 use Rattle.sf_code.specs.declared.code.Code.{Code}
 use Rattle.sf_code.specs.Worth.{IsCodeOf, IsCodeOfFunction}
 use Rattle.sf_term.specs.Entries.{identity_term, absent_payload, term_among}
-use Rattle.sf_term.specs.Trees.{Extent, whole, rest, Primitive, Term, primitive, joined, sided, headed, switching, staged, bare, never, with_value, timed, arrow, accumulated}
+use Rattle.sf_term.specs.Trees.{Extent, whole, rest, Primitive, Term, primitive, run, joined, sided, headed, switching, keeping, staged, bare, never, with_value, timed, arrow, accumulated}
 use Rattle.sf_law.specs.declared.node.PlanId.{PlanId}
 use Rattle.sf_law.specs.declared.node.PlanNode.{PlanNode}
 use Rattle.sf_law.specs.declared.node.PlanNode.TheVariants as nodes
@@ -51,19 +51,23 @@ IsCodedExpression x e c = IfSome c (λ i. IsCodeOf (expression x e) i)
 -- the code that a node has is that of its expression or its function
 abbrev pub IsCoded : Exprs → PlanNode → Type 0
 IsCoded x (nodes.Primitive q) = IsCodedPrimitive x q
+IsCoded x (nodes.Run k) = ⊤
 IsCoded x (nodes.Joined j a b) = ⊤
 IsCoded x (nodes.Sided d a) = ⊤
 IsCoded x (nodes.Headed h e c a) = IfSome c (λ i. IsCodeOf (expression x e) i)
 IsCoded x (nodes.Switching w a q b) = ⊤
+IsCoded x (nodes.Keeping w a o k q b) = ⊤
 IsCoded x (nodes.Pipeline v) = ⊤
 
 -- the term of a node, over the terms before it
 abbrev pub plan_over : Exprs → List Term → PlanNode → Term
 plan_over x ts (nodes.Primitive q) = primitive (primitive_over x q)
+plan_over x ts (nodes.Run k) = run (name_at x k)
 plan_over x ts (nodes.Joined j a b) = joined j (term_among ts a.0) (term_among ts b.0)
 plan_over x ts (nodes.Sided d a) = sided d (term_among ts a.0)
 plan_over x ts (nodes.Headed h e c a) = headed h (expression x e) (term_among ts a.0)
 plan_over x ts (nodes.Switching w a q b) = switching w (term_among ts a.0) (pattern_of (placed_at x q)) (term_among ts b.0)
+plan_over x ts (nodes.Keeping w a o k q b) = keeping w (term_among ts a.0) (term_among ts o.0) (name_at x k) (pattern_of (placed_at x q)) (term_among ts b.0)
 plan_over x ts (nodes.Pipeline v) = pipeline (map (λ (a : PlanId). term_among ts a.0) v.items)
 
 -- the least number above ids
@@ -74,19 +78,23 @@ ids_end (a ∷ bs) = max (suc a.0) (ids_end bs)
 -- the least number above the ids of a node's parts
 abbrev pub parts_end : PlanNode → ℕ
 parts_end (nodes.Primitive q) = 0
+parts_end (nodes.Run k) = 0
 parts_end (nodes.Joined j a b) = suc (max a.0 b.0)
 parts_end (nodes.Sided d a) = suc a.0
 parts_end (nodes.Headed h e c a) = suc a.0
 parts_end (nodes.Switching w a q b) = suc (max a.0 b.0)
+parts_end (nodes.Keeping w a o k q b) = suc (max (max a.0 o.0) b.0)
 parts_end (nodes.Pipeline v) = ids_end v.items
 
 -- a pipeline has two stages or more
 abbrev pub is_whole : PlanNode → Bool
 is_whole (nodes.Primitive q) = true
+is_whole (nodes.Run k) = true
 is_whole (nodes.Joined j a b) = true
 is_whole (nodes.Sided d a) = true
 is_whole (nodes.Headed h e c a) = true
 is_whole (nodes.Switching w a q b) = true
+is_whole (nodes.Keeping w a o k q b) = true
 is_whole (nodes.Pipeline v) = nat_le 2 (length v.items)
 
 -- the identity

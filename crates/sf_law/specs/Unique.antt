@@ -61,8 +61,10 @@ IsCodedPrimitive-prop x (primitives.Accumulated k e d f c) = λ a b i. (code-pro
 
 pub IsCoded-prop : (x : Exprs) (n : PlanNode) → IsProp (IsCoded x n)
 IsCoded-prop x (nodes.Primitive q) = IsCodedPrimitive-prop x q
+IsCoded-prop x (nodes.Run k) = Unit-prop
 IsCoded-prop x (nodes.Joined j a b) = Unit-prop
 IsCoded-prop x (nodes.Sided d a) = Unit-prop
 IsCoded-prop x (nodes.Headed h e c a) = code-prop (expression x e) c
 IsCoded-prop x (nodes.Switching w a q b) = Unit-prop
+IsCoded-prop x (nodes.Keeping w a o k q b) = Unit-prop
 IsCoded-prop x (nodes.Pipeline v) = Unit-prop

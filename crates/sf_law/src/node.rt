@@ -1,7 +1,7 @@
 //! Nodes of an arena of plans.
 use sf_code::Code;
-use sf_expr::{ConstantId, ExprId, FunctionId, PatternId};
-use sf_term::{Accumulation, Bare, Heading, Join, Side, Switching, Timing, WithValue};
+use sf_expr::{ConstantId, ExprId, FunctionId, NameId, PatternId};
+use sf_term::{Accumulation, Bare, Heading, Join, Observation, Side, Switching, Timing, WithValue};
 use std::rc::Rc;
 
 /// A term in its plan.
@@ -31,6 +31,8 @@ pub enum PlanPrimitive {
 pub enum PlanNode {
     /// A primitive.
     Primitive(PlanPrimitive),
+    /// The process of a name.
+    Run(NameId),
     /// Two terms joined, the first and the second.
     Joined(Join, PlanId, PlanId),
     /// A term on one part of a pair.
@@ -40,6 +42,8 @@ pub enum PlanNode {
     Headed(Heading, ExprId, Option<Code>, PlanId),
     /// A term that waits for its event, and the body that takes over inside a pattern.
     Switching(Switching, PlanId, PatternId, PlanId),
+    /// A term and its observer, and the body that takes over inside a name and a pattern.
+    Keeping(Observation, PlanId, PlanId, NameId, PatternId, PlanId),
     /// Two or more stages, each before the others.
     Pipeline(Vec<PlanId>),
 }

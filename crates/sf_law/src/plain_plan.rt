@@ -69,6 +69,7 @@ fn plan_node(alloc: Global, exprs: &Exprs, node: Node) -> Result<PlanNode, Alloc
             let primitive = plan_primitive(alloc, exprs, primitive)?;
             Ok(PlanNode::Primitive(primitive))
         }
+        Node::Run(name, _) => Ok(PlanNode::Run(name)),
         Node::Joined(join, first, second) => {
             Ok(PlanNode::Joined(join, plan_id(first), plan_id(second)))
         }
@@ -80,6 +81,12 @@ fn plan_node(alloc: Global, exprs: &Exprs, node: Node) -> Result<PlanNode, Alloc
         Node::Switching(form, source, pattern, body) => {
             let source = plan_id(source);
             Ok(PlanNode::Switching(form, source, pattern, plan_id(body)))
+        }
+        Node::Keeping(shown, source, observer, name, _, pattern, body) => {
+            let source = plan_id(source);
+            let observer = plan_id(observer);
+            let body = plan_id(body);
+            Ok(PlanNode::Keeping(shown, source, observer, name, pattern, body))
         }
     }
 }

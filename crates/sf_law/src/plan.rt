@@ -3,6 +3,7 @@ ghost use Rattle.std.specs.Prelude.{◌≡◌, [], ◌∷◌, ◌++◌, ◌≤�
 ghost use Rattle.sf_term.specs.declared.form.Bare.TheVariants.{Identity as identity_form};
 ghost use Rattle.sf_law.specs.declared.node.PlanPrimitive.TheVariants.{Bare as bare_node};
 ghost use Rattle.sf_law.specs.declared.node.PlanNode.TheVariants.{Primitive as primitive_node};
+ghost use Rattle.sf_term.specs.Trees.{primitive, bare};
 ghost use Rattle.sf_law.specs.Headers.{PlanHeader};
 ghost use Rattle.sf_law.specs.Entries.{ArePlanNodes, IsCoded, is_whole, parts_end};
 ghost use Rattle.sf_law.specs.Unique.{IsCoded-prop};
@@ -107,6 +108,13 @@ impl Plan {
             Some(node) => node,
             None => &self.identity,
         }
+    }
+
+    /// An id that the plan does not hold, at which the identity stands.
+    pub fn passing(&self) -> PlanId
+        ensures { plan_tree self.now result ≡ primitive (bare identity_form) }
+    {
+        PlanId(self.nodes.len())
     }
 
     /// The expressions.

@@ -2,7 +2,7 @@
 use Rattle.std.proofs.Common.{ℤ, ◌≡◌, arith, Bool, true, false, cond, Some, None, refl, sym, ap, subst, ◌∙◌}
 use Rattle.std.specs.Prelude.{Option, nat_le}
 use mathlib.Core.Path.{ap₂}
-use Rattle.sf_value.specs.Values.{Kind, unit_kind, bool_kind, int_kind, text_kind, pair_kind, event_kind, table_kind, nodes, IsNoPair}
+use Rattle.sf_value.specs.Values.{Name, Kind, unit_kind, bool_kind, int_kind, text_kind, pair_kind, event_kind, table_kind, nodes, IsNoPair}
 use Rattle.sf_operator.specs.Kinds.{same_kind, only, parts_of, payload_of}
 use Rattle.sf_operator.proofs.SameKinds.{same_is, is_same, found_is, only_is, parts_is, payload_is}
 use Rattle.sf_func.specs.Registries.{TypesByName}
@@ -16,12 +16,12 @@ use Rattle.sf_term.specs.declared.form.Join.TheVariants.{InSequence, InParallel,
 use Rattle.sf_term.specs.declared.form.Side.{Side}
 use Rattle.sf_term.specs.declared.form.Side.TheVariants.{First, Second}
 use Rattle.sf_term.specs.declared.form.Heading.TheVariants.{LoopPre, Initialized}
-use Rattle.sf_term.specs.Trees.{Chain, lone, chained, on_side, on_both, fanned, Primitive, bare, never, with_value, timed, arrow, accumulated, fused, Extent, Term, primitive, joined, sided, headed, switching, staged}
+use Rattle.sf_term.specs.Trees.{Chain, lone, chained, on_side, on_both, fanned, Primitive, bare, never, with_value, timed, arrow, accumulated, fused, Extent, Term, primitive, run, joined, sided, headed, switching, keeping, staged}
 use Rattle.sf_term.specs.declared.form.Observation.{Observation}
 use Rattle.sf_term.specs.declared.form.Switching.TheVariants.{Basic, Recurring}
-use Rattle.sf_mean.specs.Contexts.{Bindings, values_in, bindings_inside, Context, names_of_values, inside_pattern}
-use Rattle.sf_mean.specs.Typing.{ChainTakes, lone_takes, chained_takes, on_first_takes, on_second_takes, on_both_takes, fanned_takes, bare_kind, value_kind, accumulated_argument, accumulated_kind, takes_time, timed_kind, PrimitiveTakes, bare_takes, never_takes, value_takes, timed_takes, accumulated_takes, arrow_takes, fused_takes, Takes, takes, FormTakes, primitive_takes, sequence_takes, parallel_takes, fan_takes, first_takes, second_takes, loop_takes, initialized_takes, switch_takes, recurring_takes, stages_take}
-use Rattle.sf_mean.specs.Inference.{Finds, both_outputs, join_output, side_output, first_beside, heading_output, body_output, switch_output, chain_output, primitive_output, with_fitting, form_output, term_output}
+use Rattle.sf_mean.specs.Contexts.{Bindings, values_in, bindings_inside, Context, names_of_values, inside_pattern, inside_process, process_named}
+use Rattle.sf_mean.specs.Typing.{ChainTakes, lone_takes, chained_takes, on_first_takes, on_second_takes, on_both_takes, fanned_takes, bare_kind, value_kind, accumulated_argument, accumulated_kind, takes_time, timed_kind, PrimitiveTakes, bare_takes, never_takes, value_takes, timed_takes, accumulated_takes, arrow_takes, fused_takes, Takes, takes, FormTakes, primitive_takes, run_takes, sequence_takes, parallel_takes, fan_takes, first_takes, second_takes, loop_takes, initialized_takes, switch_takes, keeping_takes, recurring_takes, stages_take}
+use Rattle.sf_mean.specs.Inference.{Finds, both_outputs, join_output, side_output, first_beside, heading_output, body_output, switch_output, keeping_output, process_output, chain_output, primitive_output, with_fitting, form_output, term_output}
 
 -- ## Types of pairs
 
@@ -219,14 +219,14 @@ sides Γ d t F (on_the_second h) = second_takes (F _ _ h)
 loops : (Γ : Context) (e : Expression) (t : Term) → ((a b : Kind) → term_output Γ t a ≡ Some b → Takes Γ t a b) → (a b c : Kind) → expression_type (names_of_values Γ) e ≡ Some c → Went (term_output Γ t) (first_beside c) (pair_kind a c) b → FormTakes Γ (headed LoopPre e t) a b
 loops Γ e t F a b c h (went {b = d} k g) = each (parts_are d) k g
   where
-    beside : (v w : Kind) → term_output Γ t (pair_kind a c) ≡ Some (pair_kind v w) → (s : Bool) → same_kind c w ≡ s → cond s (Some v) None ≡ Some b → FormTakes Γ (headed LoopPre e t) a b
-    beside v w k true q g =
+    observed_life : (v w : Kind) → term_output Γ t (pair_kind a c) ≡ Some (pair_kind v w) → (s : Bool) → same_kind c w ≡ s → cond s (Some v) None ≡ Some b → FormTakes Γ (headed LoopPre e t) a b
+    observed_life v w k true q g =
         let is : v ≡ b = cc in
         subst (FormTakes Γ (headed LoopPre e t) a) is (loop_takes (found_typed (names_of_values Γ) e c h) (F (pair_kind a c) (pair_kind v c) (k ∙ ap (λ d. Some (pair_kind v d)) (sym (same_is c w q)))))
-    beside v w k false q g = absurd cc
+    observed_life v w k false q g = absurd cc
 
     each : {d : Kind} {parts : Option (Kind × Kind)} → PartsAre d parts → term_output Γ t (pair_kind a c) ≡ Some d → found_then parts (λ p. cond (same_kind c p.1) (Some p.0) None) ≡ Some b → FormTakes Γ (headed LoopPre e t) a b
-    each (two_parts {t = v} {u = w}) k g = beside v w k (same_kind c w) refl g
+    each (two_parts {t = v} {u = w}) k g = observed_life v w k (same_kind c w) refl g
     each (no_parts n) k g = absurd cc
 
 looped : (Γ : Context) (e : Expression) (t : Term) → ((a b : Kind) → term_output Γ t a ≡ Some b → Takes Γ t a b) → (a b : Kind) (o : Option Kind) → expression_type (names_of_values Γ) e ≡ o → heading_output LoopPre o (term_output Γ t) a ≡ Some b → FormTakes Γ (headed LoopPre e t) a b
@@ -252,6 +252,9 @@ names_inside fs bs (adds_both {p = p} {t = t} A B) e = names_inside fs (bindings
 
 part_fits : (b c : Kind) → Fits (pair_kind b (event_kind c)) → Fits c
 part_fits b c h = omega (arith, h)
+
+event_part_fits : (c : Kind) → Fits (event_kind c) → Fits c
+event_part_fits c h = omega (arith, h)
 
 -- what is known of a switch's body
 bodies : (Γ : Context) (p : Pattern) (u : Term) (c a d b : Kind) → ((Δ : Context) (a b : Kind) → term_output Δ u a ≡ Some b → Takes Δ u a b)
@@ -292,14 +295,45 @@ recurs Γ w t p u F G x b h =
     let input : x ≡ pair_kind parts.0.0 (event_kind event.0) = parts_is x parts.1 ∙ ap (pair_kind parts.0.0) (payload_is parts.0.1 event.1) in
     subst (λ a. FormTakes Γ (switching (Recurring w) t p u) a b) (sym input) (recurring_takes (F parts.0.0 b (source.1 ∙ ap Some body.0)) body.1 body.2)
 
+keepings : (Γ : Context) (w : Observation) (t q : Term) (k : Name) (p : Pattern) (u : Term) → ((a b : Kind) → term_output Γ t a ≡ Some b → Takes Γ t a b) → ((a b : Kind) → term_output Γ q a ≡ Some b → Takes Γ q a b)
+    → ((Δ : Context) (a b : Kind) → term_output Δ u a ≡ Some b → Takes Δ u a b)
+    → (a b : Kind) → keeping_output Γ k p (term_output Γ t) (term_output Γ q) (λ Δ. term_output Δ u) a ≡ Some b → FormTakes Γ (keeping w t q k p u) a b
+keepings Γ w t q k p u F H G a b h =
+    let inner : Kind → Kind → Option Kind = λ d c. body_output (inside_process k a d Γ) p (λ Δ. term_output Δ u) c a d in
+    let after : Kind → Kind → Option Kind = λ d e. found_then (payload_of e) (inner d) in
+    let given = found_is (term_output Γ t a) (λ d. found_then (term_output Γ q (pair_kind a d)) (after d)) h in
+    let seen = found_is (term_output Γ q (pair_kind a given.0)) (after given.0) given.2 in
+    let event = found_is (payload_of seen.0) (inner given.0) seen.2 in
+    let body = bodies (inside_process k a given.0 Γ) p u event.0 a given.0 b G event.2 in
+    kept given.0 event.0 body.0 given.1 (seen.1 ∙ ap Some (payload_is seen.0 event.1)) body.1 body.2
+  where
+    kept : (d c : Kind) → d ≡ b → term_output Γ t a ≡ Some d → term_output Γ q (pair_kind a d) ≡ Some (event_kind c)
+        → Binds p c (names_of_values (inside_process k a d Γ)) (names_of_values (inside_pattern p c (inside_process k a d Γ))) → Takes (inside_pattern p c (inside_process k a d Γ)) u a b
+        → FormTakes Γ (keeping w t q k p u) a b
+    kept d c same h i binds body =
+        let S : Kind → Type 0 = λ d. term_output Γ t a ≡ Some d in
+        let Q : Kind → Type 0 = λ d. term_output Γ q (pair_kind a d) ≡ Some (event_kind c) in
+        let B : Kind → Type 0 = λ d. Binds p c (names_of_values (inside_process k a d Γ)) (names_of_values (inside_pattern p c (inside_process k a d Γ))) in
+        let T : Kind → Type 0 = λ d. Takes (inside_pattern p c (inside_process k a d Γ)) u a b in
+        keeping_takes (F a b (subst S same h)) (H (pair_kind a b) (event_kind c) (subst Q same i)) (subst B same binds) (subst T same body)
+
+runs : (Γ : Context) (k : Name) (a b : Kind) (o : Option (Kind × Kind)) → process_named k Γ.bindings ≡ o → process_output o a ≡ Some b → FormTakes Γ (run k) a b
+runs Γ k a b (Some s) h e =
+    let same = only_is a s.0 (Some s.1) e in
+    let is : s.1 ≡ b = same_some same.1 in
+    run_takes (h ∙ ap Some (ap₂ (λ x y. (x, y)) (sym same.0) is))
+runs Γ k a b None h e = absurd cc
+
 form_found : (Γ : Context) (t : Term) → (a b : Kind) → form_output Γ t a ≡ Some b → FormTakes Γ t a b
 form_found Γ (primitive p) a b h = primitive_takes (primitive_found p a b h)
+form_found Γ (run k) a b h = runs Γ k a b (process_named k Γ.bindings) refl h
 form_found Γ (joined j f g) a b h = joins Γ j f g (within Γ f (form_found Γ f)) (within Γ g (form_found Γ g)) (join_found j (term_output Γ f) (term_output Γ g) a b h)
 form_found Γ (sided d t) a b h = sides Γ d t (within Γ t (form_found Γ t)) (side_found d (term_output Γ t) a b h)
 form_found Γ (headed LoopPre e t) a b h = looped Γ e t (within Γ t (form_found Γ t)) a b (expression_type (names_of_values Γ) e) refl h
 form_found Γ (headed Initialized e t) a b h = initialized Γ e t (within Γ t (form_found Γ t)) a b (expression_type (names_of_values Γ) e) refl h
 form_found Γ (switching (Basic w) t p u) a b h = switches Γ w t p u (within Γ t (form_found Γ t)) (λ Δ. within Δ u (form_found Δ u)) a b h
 form_found Γ (switching (Recurring w) t p u) a b h = recurs Γ w t p u (within Γ t (form_found Γ t)) (λ Δ. within Δ u (form_found Δ u)) a b h
+form_found Γ (keeping w t q k p u) a b h = keepings Γ w t q k p u (within Γ t (form_found Γ t)) (within Γ q (form_found Γ q)) (λ Δ. within Δ u (form_found Δ u)) a b h
 form_found Γ (staged x f g) a b h = stages Γ x f g (within Γ f (form_found Γ f)) (within Γ g (form_found Γ g)) (found_went (term_output Γ f) (term_output Γ g) a b h)
 
 pub output_found : {Γ : Context} (t : Term) (a b : Kind) → term_output Γ t a ≡ Some b → Takes Γ t a b
@@ -323,6 +357,7 @@ mutual
 
   form_is : {Γ : Context} {t : Term} {a b : Kind} → Fits a → FormTakes Γ t a b → form_output Γ t a ≡ Some b
   form_is f (primitive_takes P) = primitive_is P
+  form_is f (run_takes {a = a} {b = b} h) = ap (λ o. process_output o a) h ∙ ap (λ s. cond s (Some b) None) (is_same a)
   form_is f (sequence_takes F G) = rw (takes_found F) (takes_found G)
   form_is f (parallel_takes F G) = rw (takes_found F, takes_found G) refl
   form_is f (fan_takes F G) = rw (takes_found F, takes_found G) refl
@@ -338,6 +373,10 @@ mutual
   form_is {Γ} f (recurring_takes {u = u} {p = p} {a = a} {b = b} {c = c} F B G) =
       ap (λ o. found_then o (λ d. body_output Γ p (λ Δ. term_output Δ u) c a d)) (takes_found F)
       ∙ body_found Γ u a (part_fits a c f) B (takes_found G)
+  form_is {Γ} f (keeping_takes {t = t} {q = q} {u = u} {k = k} {p = p} {a = a} {b = b} {c = c} F H B G) =
+      ap (λ o. found_then o (λ d. found_then (term_output Γ q (pair_kind a d)) (λ e. found_then (payload_of e) (λ c. body_output (inside_process k a d Γ) p (λ Δ. term_output Δ u) c a d)))) (takes_found F)
+      ∙ ap (λ o. found_then o (λ e. found_then (payload_of e) (λ c. body_output (inside_process k a b Γ) p (λ Δ. term_output Δ u) c a b))) (takes_found H)
+      ∙ body_found (inside_process k a b Γ) u a (event_part_fits c (output_fits H)) B (takes_found G)
   form_is f (stages_take F G) = rw (takes_found F) (takes_found G)
 
 -- ## What follows for terms that take inputs

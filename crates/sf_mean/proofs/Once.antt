@@ -1,16 +1,16 @@
 -- One outcome at most.
 use Rattle.std.proofs.Common.{◌≡◌, List, ◌∷◌, refl, sym, ap, ◌∙◌, subst, Option}
 use mathlib.Core.Path.{ap₂, subst₂}
-use Rattle.sf_value.specs.Values.{Data, first_of, second_of}
+use Rattle.sf_value.specs.Values.{Data, pair, first_of, second_of}
 use Rattle.sf_value.specs.declared.fault.ValueFault.{ValueFault}
 use Rattle.sf_value.specs.declared.fault.ValueFault.TheVariants.{Overflow}
 use Rattle.sf_expr.specs.Evaluation.{Evaluated, answer, failed}
 use Rattle.sf_term.specs.declared.form.Join.TheVariants.{InSequence}
 use Rattle.sf_term.specs.declared.form.Observation.{Observation}
 use Rattle.sf_term.specs.Trees.{Term}
-use Rattle.sf_mean.specs.Lives.{Step, input_of, Life, Process, closure, Environment, relay, fed}
+use Rattle.sf_mean.specs.Lives.{Step, input_of, Life, Process, closure, Environment, relay, observed_life, fed}
 use Rattle.sf_mean.specs.Formulas.{at_first, occurring, with_side}
-use Rattle.sf_mean.specs.Meaning.{Network, Outcome, gave, faulted, changed, combined, value_in, Cost, both_costs, over, Made, nothing_made, right_life, join_value, Standing, waits, fired, stands_after, switched_value, body_of, Gives, gives, Outputs, not_begun, and_gave, Sample, of_constants, of_form, Form, of_primitive, of_join, of_side, of_loop, of_initialized, of_switch, of_recurring, of_stages, over_stages, event_beside, unless_faulted, without_event, Next, goes_on, stops, Loops, no_loop, and_looped, Since, at_start, watched, had_fired, SwitchTurn, while_waiting, as_body, Switched, after_fault, after_value, Fires, no_event_yet, event_now}
+use Rattle.sf_mean.specs.Meaning.{Network, Outcome, gave, faulted, changed, combined, value_in, Cost, both_costs, over, over_first, Made, nothing_made, right_life, join_value, Watched, itself, observed, Takeover, Standing, waits, fired, stands_after, switched_value, body_of, whenever, body_with, Gives, gives, Outputs, not_begun, and_gave, Sample, of_constants, of_form, of_resumed, Form, of_primitive, of_run, of_join, of_side, of_loop, of_initialized, of_switch, of_keeping, of_recurring, of_stages, over_stages, event_beside, unless_faulted, without_event, Next, goes_on, stops, Loops, no_loop, and_looped, Sees, beside_values, by_observer, Since, at_start, watched, had_fired, SwitchTurn, while_waiting, as_body, Switched, after_fault, after_value, Fires, no_event_yet, event_now}
 
 -- two outcomes are one, at one cost
 abbrev pub Same : Outcome → Outcome → Cost → Cost → Type 0
@@ -27,9 +27,9 @@ fault_of (failed f) = f
 -- a switch that had fired, one step later
 abbrev later_standing : Step → Standing → Standing
 later_standing s waits = waits
-later_standing s (fired v M) = fired v (s ∷ M)
+later_standing s (fired Q M) = fired Q (s ∷ M)
 
-not_both : {v : Data} {M : Life} → waits ≡ fired v M → ⊥
+pub not_both : {Q : Process} {M : Life} → waits ≡ fired Q M → ⊥
 not_both h = cc
 
 module _ (n : Network) where
@@ -48,9 +48,11 @@ module _ (n : Network) where
     once_sample (of_form {t = t} {e = e} {s = s} {L = L} {m = m} h F) (of_form {o = b} {c = d} h' F') =
         let N : Made → Type 0 = λ m. Form n t e m s L b d in
         once_form F (subst N (ap (answered nothing_made) (sym h' ∙ h)) F')
+    once_sample (of_resumed A) (of_resumed B) = once A B
 
     pub once_form : {t : Term} {e : Environment} {m : Made} {s : Step} {L : Life} {a b : Outcome} {c d : Cost} → Form n t e m s L a c → Form n t e m s L b d → Same a b c d
     once_form (of_primitive h) (of_primitive h') = (sym h ∙ h', refl)
+    once_form (of_run {L = L} A) (of_run B) = let q = once A B in (q.0, ap (over_first L) q.1)
     once_form (of_join {j = j} {g = g} {e = e} {s = s} {L = L} A B C) (of_join {ys = zs} {o = q} {o' = b} {c' = d} A' B' C') =
         let e1 = onces A A' in
         let e2 = once B B' in
@@ -64,7 +66,10 @@ module _ (n : Network) where
         (ap (changed first_of) q.0, ap over q.1)
     once_form (of_initialized {v = v} {L = L} A) (of_initialized B) = let q = once A B in (ap (changed (at_first L v)) q.0, ap over q.1)
     once_form (of_switch {w = w} {t = t} {u = u} {p = p} {e = e} {s = s} {L = L} A B) (of_switch {o = b} {c = c} A' B') =
-        let N : Standing → Type 0 = λ st. SwitchTurn n w (closure t e) (body_of p u e) s L st b c in
+        let N : Standing → Type 0 = λ st. SwitchTurn n w (itself (closure t e)) (whenever (body_of p u e)) s L st b c in
+        once_turn B (subst N (sym (once_since A A')) B')
+    once_form (of_keeping {w = w} {t = t} {q = q} {u = u} {k = k} {p = p} {e = e} {s = s} {L = L} A B) (of_keeping {o = b} {c = c} A' B') =
+        let N : Standing → Type 0 = λ st. SwitchTurn n w (observed (closure t e) q e) (body_with k (closure t e) p u e) s L st b c in
         once_turn B (subst N (sym (once_since A A')) B')
     once_form (of_recurring {w = w} {u = u} {p = p} {e = e} {s = s} A B) (of_recurring {o' = b} {c' = d} A' B') =
         let e1 = once A A' in
@@ -90,17 +95,26 @@ module _ (n : Network) where
         let q = once B (subst N (sym e1) B') in
         ap₂ (λ y ys. y ∷ ys) (ap value_in q.0) e1
 
-    pub once_since : {P : Process} {L : Life} {a b : Standing} → Since n P L a → Since n P L b → a ≡ b
+    pub once_sees : {W : Watched} {s : Step} {L : Life} {a b : Outcome} {c d : Cost} → Sees n W s L a c → Sees n W s L b d → Same a b c d
+    once_sees (beside_values A) (beside_values B) = once A B
+    once_sees (by_observer {q = t} {e = e} {s = s} {L = L} A B C) (by_observer {ys = zs} {o = q} {o' = b} {c' = d} A' B' C') =
+        let e1 = onces A A' in
+        let e2 = once B B' in
+        let N : Outcome → List Data → Type 0 = λ q l. Next n q t e (observed_life (s ∷ L) (value_in q ∷ l)) b d in
+        let e3 = once_next C (subst₂ N (sym e2.0) (sym e1) C') in
+        (ap₂ (combined pair) e2.0 e3.0, ap₂ both_costs e2.1 e3.1)
+
+    pub once_since : {W : Watched} {B : Takeover} {L : Life} {a b : Standing} → Since n W B L a → Since n W B L b → a ≡ b
     once_since at_start at_start = refl
-    once_since (watched {s = s} A B h) (watched A' B' h') = sym h ∙ ap (λ o. stands_after s (occurring (second_of (value_in o)))) (once B B').0 ∙ h'
+    once_since (watched {B = T} {s = s} {L = L} A B h) (watched A' B' h') = sym h ∙ ap (λ o. stands_after T s L (occurring (second_of (value_in o)))) (once_sees B B').0 ∙ h'
     once_since (watched A B h) (had_fired A') = absurd (not_both (once_since A A'))
     once_since (had_fired A) (watched A' B' h') = absurd (not_both (sym (once_since A A')))
     once_since (had_fired {s = s} A) (had_fired A') = ap (later_standing s) (once_since A A')
 
-    pub once_turn : {w : Observation} {P : Process} {B : Data → Process} {s : Step} {L : Life} {st : Standing} {a b : Outcome} {c d : Cost} → SwitchTurn n w P B s L st a c → SwitchTurn n w P B s L st b d → Same a b c d
-    once_turn (while_waiting {w = w} {B = B} {s = s} A C) (while_waiting {o' = b} {c' = d} A' C') =
-        let e2 = once A A' in
-        let N : Outcome → Type 0 = λ q. Switched n w B s q b d in
+    pub once_turn : {w : Observation} {W : Watched} {B : Takeover} {s : Step} {L : Life} {st : Standing} {a b : Outcome} {c d : Cost} → SwitchTurn n w W B s L st a c → SwitchTurn n w W B s L st b d → Same a b c d
+    once_turn (while_waiting {w = w} {B = B} {s = s} {L = L} A C) (while_waiting {o' = b} {c' = d} A' C') =
+        let e2 = once_sees A A' in
+        let N : Outcome → Type 0 = λ q. Switched n w (B s L) s q b d in
         let e3 = once_switched C (subst N (sym e2.0) C') in
         (e3.0, ap₂ (λ x y. over (both_costs x y)) e2.1 e3.1)
     once_turn (as_body A) (as_body B) = once A B

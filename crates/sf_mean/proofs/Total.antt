@@ -1,8 +1,9 @@
 -- Where each life before gives a value, there is an outcome.
-use Rattle.std.proofs.Common.{◌≡◌, List, [], ◌∷◌, Option, Some, None, refl, sym, ap, ◌∙◌, subst}
-use Rattle.sf_value.specs.Values.{Data, pair, first_of, second_of}
+use Rattle.std.proofs.Common.{ℕ, ◌≡◌, Bool, true, false, cond, List, [], ◌∷◌, Option, Some, None, refl, sym, ap, ◌∙◌, subst}
+use Rattle.std.specs.Prelude.{bytes_eq}
+use Rattle.sf_value.specs.Values.{Name, Data, pair, first_of, second_of}
 use Rattle.sf_value.specs.declared.fault.ValueFault.{ValueFault}
-use Rattle.sf_expr.specs.Expressions.{Pattern, Expression}
+use Rattle.sf_expr.specs.Expressions.{Pattern, unnamed, named, both, Expression}
 use Rattle.sf_expr.specs.Evaluation.{Evaluated, answer, failed, ◌>>=◌, eval}
 use Rattle.sf_term.specs.declared.form.Join.{Join}
 use Rattle.sf_term.specs.declared.form.Join.TheVariants.{InSequence, InParallel, FannedOut}
@@ -11,11 +12,13 @@ use Rattle.sf_term.specs.declared.form.Heading.TheVariants.{LoopPre, Initialized
 use Rattle.sf_term.specs.declared.form.Observation.{Observation}
 use Rattle.sf_term.specs.declared.form.Switching.TheVariants.{Basic, Recurring}
 use Rattle.sf_term.specs.declared.form.Heading.{Heading}
-use Rattle.sf_term.specs.Trees.{Extent, Term, primitive, joined, sided, headed, switching, staged}
-use Rattle.sf_mean.specs.Lives.{Step, step, wait_of, input_of, Life, Process, closure, Environment, scope_around, bind, with_inputs, fed, fed_back, older}
+use Rattle.sf_term.specs.Trees.{Extent, Term, primitive, run, joined, sided, headed, switching, keeping, staged}
+use Rattle.sf_mean.specs.Lives.{Step, step, wait_of, input_of, Life, Process, closure, resumed, Environment, empty, known as known_name, running, process_of, passing, scope_around, bind, after, frozen, with_inputs, observed_life, fed, fed_back, older}
 use Rattle.sf_mean.specs.Formulas.{occurring, side_of}
-use Rattle.sf_mean.specs.Meaning.{Network, Outcome, gave, faulted, Cost, Made, value_made, left_life, right_life, Standing, waits, fired, stands_after, body_of, event_beside, or_earlier, last_event, kept_before, since_event, what_runs, unless_faulted, without_event, Gives, gives, Outputs, not_begun, and_gave, Sample, of_constants, of_form, Form, of_primitive, of_join, of_side, of_loop, of_initialized, of_switch, of_recurring, of_stages, goes_on, stops, Loops, no_loop, and_looped, Since, at_start, watched, had_fired, SwitchTurn, while_waiting, as_body, after_fault, after_value, Fires, no_event_yet, event_now}
+use Rattle.sf_mean.specs.Meaning.{Network, Outcome, gave, faulted, Cost, Made, value_made, process_made, left_life, right_life, Watched, itself, observed, Takeover, Standing, waits, fired, stands_after, body_of, whenever, body_with, event_beside, or_earlier, last_event, kept_before, since_event, what_runs, unless_faulted, without_event, Gives, gives, Outputs, not_begun, and_gave, Sample, of_constants, of_form, of_resumed, Form, of_primitive, of_run, of_join, of_side, of_loop, of_initialized, of_switch, of_keeping, of_recurring, of_stages, goes_on, stops, Loops, no_loop, and_looped, Sees, beside_values, by_observer, Since, at_start, watched, had_fired, SwitchTurn, while_waiting, as_body, after_fault, after_value, Fires, no_event_yet, event_now}
+use Rattle.sf_mean.specs.Soundness.{HasLived, closed, was_frozen, HaveLived, none_lived, value_beside, process_lived}
 use Rattle.sf_mean.proofs.TypedProcesses.{made_in}
+use Rattle.sf_mean.proofs.Once.{not_both}
 
 data Known {A : Type 0} (q : Evaluated A) : Type 0 where
   answered : (a : A) → q ≡ answer a → Known q
@@ -28,6 +31,16 @@ known (failed x) = refused x refl
 abbrev IsGave : Outcome → Type 0
 IsGave (gave y r) = Unit {0}
 IsGave (faulted x) = ⊥
+
+-- the process of what was made
+abbrev process_in : Process → Made → Process
+process_in P (process_made Q) = Q
+process_in P m = P
+
+-- the process that took over
+abbrev process_fired : Process → Standing → Process
+process_fired P (fired Q M) = Q
+process_fired P waits = P
 
 -- the newest step of the left part
 abbrev newest_left : Join → Step → Step
@@ -187,47 +200,85 @@ module _ (n : Network) where
       → eval i (scope_around n.functions e) ≡ answer v → Outputs n (closure t e) L us → Has (closure t e) s L → Has (closure (headed Initialized i t) e) s L
   with_initial k A (has S) = has (of_form (ap opened k) (of_initialized (gives A S)))
 
-  -- where a switch that gave a value so far stands: its source has lived, or its body has
-  data Stood (P : Process) (B : Data → Process) (L : Life) : Type 0 where
-    still_waits : Since n P L waits → Lived P L → Stood P B L
-    had_event : {v : Data} {M : Life} → Since n P L (fired v M) → Lived (B v) M → Stood P B L
+  -- ## Switches
 
-  fires_stood : {w : Observation} {P : Process} {B : Data → Process} {s : Step} {L : Life} {y : Data} {r : _} {q : Option Data} {o : Outcome} {c d : Cost}
-      → Since n P L waits → Gives n P (s ∷ L) (gave y r) c → occurring (second_of y) ≡ q → Fires n w B s (gave (first_of y) r) q o d → IsGave o → Stood P B (s ∷ L)
-  fires_stood {s = s} S A e no_event_yet h = still_waits (watched S A (ap (stands_after s) e)) (whole A tt)
-  fires_stood {s = s} S A e (event_now {o' = gave z k} G) h = had_event (watched S A (ap (stands_after s) e)) (whole G tt)
+  -- what a switch watches gave values
+  data Watching : Watched → Life → Type 0 where
+    itself_lived : {P : Process} {L : Life} {ys : List Data} → Outputs n P L ys → Watching (itself P) L
+    both_lived : {P : Process} {q : Term} {e : Environment} {L : Life} {ys zs : List Data} → Outputs n P L ys → Outputs n (closure q e) (observed_life L ys) zs → Watching (observed P q e) L
+
+  -- the process that is watched
+  abbrev source_of : Watched → Process
+  source_of (itself P) = P
+  source_of (observed P q e) = P
+
+  sees_watching : {W : Watched} {s : Step} {L : Life} {o : Outcome} {c : Cost} → Sees n W s L o c → IsGave o → Watching W (s ∷ L)
+  sees_watching (beside_values A) h = elim (whole A h) [ lived B ↦ itself_lived B ]
+  sees_watching (by_observer {o = gave y r} {o' = gave z k} A (gives A' B) (goes_on D)) h = elim (whole D tt) [ lived C ↦ both_lived (and_gave A B) C ]
+  sees_watching (by_observer {o = gave y r} {o' = faulted x} A B D) h = absurd h
+  sees_watching (by_observer {o = faulted x} A B D) h = absurd h
+
+  sees_source : {W : Watched} {s : Step} {L : Life} {o : Outcome} {c : Cost} → Sees n W s L o c → Lived (source_of W) L
+  sees_source (beside_values (gives A B)) = lived A
+  sees_source (by_observer A B D) = lived A
+
+  nothing_watched : (W : Watched) → Watching W []
+  nothing_watched (itself P) = itself_lived not_begun
+  nothing_watched (observed P q e) = both_lived {ys = []} not_begun not_begun
+
+  -- where a switch that gave a value so far stands: what it watches has lived, or what took over has
+  data Stood (W : Watched) (B : Takeover) (L : Life) : Type 0 where
+    still_waits : Since n W B L waits → Watching W L → Stood W B L
+    had_event : {Q : Process} {M : Life} → Since n W B L (fired Q M) → Lived Q M → Stood W B L
+
+  fires_stood : {w : Observation} {W : Watched} {B : Takeover} {s : Step} {L : Life} {y : Data} {r : _} {q : Option Data} {o : Outcome} {c d : Cost}
+      → Since n W B L waits → Sees n W s L (gave y r) c → occurring (second_of y) ≡ q → Fires n w (B s L) s (gave (first_of y) r) q o d → IsGave o → Stood W B (s ∷ L)
+  fires_stood {B = B} {s = s} {L = L} S A e no_event_yet h = still_waits (watched S A (ap (stands_after B s L) e)) (sees_watching A tt)
+  fires_stood {B = B} {s = s} {L = L} S A e (event_now {o' = gave z k} G) h = had_event (watched S A (ap (stands_after B s L) e)) (whole G tt)
   fires_stood S A e (event_now {o' = faulted x} G) h = absurd h
 
-  turn_stood : {w : Observation} {P : Process} {B : Data → Process} {s : Step} {L : Life} {st : Standing} {o : Outcome} {c : Cost} → Since n P L st → SwitchTurn n w P B s L st o c → IsGave o → Stood P B (s ∷ L)
+  turn_stood : {w : Observation} {W : Watched} {B : Takeover} {s : Step} {L : Life} {st : Standing} {o : Outcome} {c : Cost} → Since n W B L st → SwitchTurn n w W B s L st o c → IsGave o → Stood W B (s ∷ L)
   turn_stood S (while_waiting A after_fault) h = absurd h
   turn_stood S (while_waiting A (after_value F)) h = fires_stood S A refl F h
   turn_stood S (as_body A) h = had_event (had_fired S) (whole A h)
 
-  from_switch : {w : Observation} {t u : Term} {p : Pattern} {e : Environment} {m : Made} {s : Step} {L : Life} {o : Outcome} {c : Cost} → Form n (switching (Basic w) t p u) e m s L o c → IsGave o → Stood (closure t e) (body_of p u e) (s ∷ L)
+  from_switch : {w : Observation} {t u : Term} {p : Pattern} {e : Environment} {m : Made} {s : Step} {L : Life} {o : Outcome} {c : Cost} → Form n (switching (Basic w) t p u) e m s L o c → IsGave o → Stood (itself (closure t e)) (whenever (body_of p u e)) (s ∷ L)
   from_switch (of_switch S T) h = turn_stood S T h
 
-  switch_at : {w : Observation} {t u : Term} {p : Pattern} {e : Environment} {s : Step} {L : Life} {o : Outcome} {c : Cost} → Sample n (closure (switching (Basic w) t p u) e) s L o c → IsGave o → Stood (closure t e) (body_of p u e) (s ∷ L)
+  switch_at : {w : Observation} {t u : Term} {p : Pattern} {e : Environment} {s : Step} {L : Life} {o : Outcome} {c : Cost} → Sample n (closure (switching (Basic w) t p u) e) s L o c → IsGave o → Stood (itself (closure t e)) (whenever (body_of p u e)) (s ∷ L)
   switch_at (of_constants h) i = absurd i
   switch_at (of_form h F) i = from_switch F i
 
-  switch_stood : {w : Observation} {t u : Term} {p : Pattern} {e : Environment} {L : Life} {ws : List Data} → Outputs n (closure (switching (Basic w) t p u) e) L ws → Stood (closure t e) (body_of p u e) L
-  switch_stood not_begun = still_waits at_start (lived not_begun)
+  switch_stood : {w : Observation} {t u : Term} {p : Pattern} {e : Environment} {L : Life} {ws : List Data} → Outputs n (closure (switching (Basic w) t p u) e) L ws → Stood (itself (closure t e)) (whenever (body_of p u e)) L
+  switch_stood not_begun = still_waits at_start (itself_lived not_begun)
   switch_stood (and_gave A B) = switch_at B tt
+
+  from_keeping : {w : Observation} {t q u : Term} {k : Name} {p : Pattern} {e : Environment} {m : Made} {s : Step} {L : Life} {o : Outcome} {c : Cost} → Form n (keeping w t q k p u) e m s L o c → IsGave o → Stood (observed (closure t e) q e) (body_with k (closure t e) p u e) (s ∷ L)
+  from_keeping (of_keeping S T) h = turn_stood S T h
+
+  keeping_at : {w : Observation} {t q u : Term} {k : Name} {p : Pattern} {e : Environment} {s : Step} {L : Life} {o : Outcome} {c : Cost} → Sample n (closure (keeping w t q k p u) e) s L o c → IsGave o → Stood (observed (closure t e) q e) (body_with k (closure t e) p u e) (s ∷ L)
+  keeping_at (of_constants h) i = absurd i
+  keeping_at (of_form h F) i = from_keeping F i
+
+  keeping_stood : {w : Observation} {t q u : Term} {k : Name} {p : Pattern} {e : Environment} {L : Life} {ws : List Data} → Outputs n (closure (keeping w t q k p u) e) L ws → Stood (observed (closure t e) q e) (body_with k (closure t e) p u e) L
+  keeping_stood {t = t} {q = q} {e = e} not_begun = still_waits at_start (nothing_watched (observed (closure t e) q e))
+  keeping_stood (and_gave A B) = keeping_at B tt
 
   payload_fires : (w : Observation) {B : Data → Process} {s : Step} (o : Outcome) (q : Option Data) → ((v : Data) → Has (B v) s []) → (a : Outcome) × ((c : Cost) × Fires n w B s o q a c)
   payload_fires w o None body = (_, (_, no_event_yet))
   payload_fires w o (Some v) body = elim (body v) [ has S ↦ (_, (_, event_now (gives not_begun S))) ]
 
-  switch_waits : {w : Observation} {t u : Term} {p : Pattern} {e : Environment} {s : Step} {L : Life} {ys : List Data}
-      → Since n (closure t e) L waits → Outputs n (closure t e) L ys → Has (closure t e) s L → ((v : Data) → Has (body_of p u e v) s []) → Has (closure (switching (Basic w) t p u) e) s L
-  switch_waits S A (has {o = faulted x} B) body = has (of_form refl (of_switch S (while_waiting (gives A B) after_fault)))
-  switch_waits {w = w} S A (has {o = gave y r} B) body =
-      let F = payload_fires w (gave (first_of y) r) (occurring (second_of y)) body in
-      has (of_form refl (of_switch S (while_waiting (gives A B) (after_value F.1.1))))
+  -- a switch that waits has a turn where it sees something, and what may take over has a first sample
+  data Turns (w : Observation) (W : Watched) (B : Takeover) (s : Step) (L : Life) (st : Standing) : Type 0 where
+    turns : {o : Outcome} {c : Cost} → SwitchTurn n w W B s L st o c → Turns w W B s L st
 
-  switch_goes_on : {w : Observation} {t u : Term} {p : Pattern} {e : Environment} {s : Step} {L M : Life} {v : Data} {ys : List Data}
-      → Since n (closure t e) L (fired v M) → Outputs n (body_of p u e v) M ys → Has (body_of p u e v) s M → Has (closure (switching (Basic w) t p u) e) s L
-  switch_goes_on S A (has B) = has (of_form refl (of_switch S (as_body (gives A B))))
+  waiting_turns : (w : Observation) {W : Watched} {B : Takeover} {s : Step} {L : Life} (o : Outcome) {c : Cost} → Sees n W s L o c → ((v : Data) → Has (B s L v) s []) → Turns w W B s L waits
+  waiting_turns w (faulted x) A body = turns (while_waiting A after_fault)
+  waiting_turns w (gave y r) A body =
+      let F = payload_fires w (gave (first_of y) r) (occurring (second_of y)) body in
+      turns (while_waiting A (after_value F.1.1))
+
+  -- ## Processes
 
   -- what runs in a recurring switch that gave a value so far has lived since the last event
   ran_on : {w : Observation} (P : Process) {B : Data → Process} (s : Step) (M : Life) (r q : Option Data) {o o' : Outcome} {c d : Cost}
@@ -265,37 +316,158 @@ module _ (n : Network) where
       let F = payload_fires w o (unless_faulted o (event_beside s)) body in
       has (of_form refl (of_recurring (gives A S) F.1.1))
 
-  pub total : (t : Term) (e : Environment) (s : Step) (L : Life) {ws : List Data} → Outputs n (closure t e) L ws → Has (closure t e) s L
-  total (primitive p) e s L O = has (of_form refl (of_primitive refl))
-  total (joined j f g) e s L O =
-      elim (join_lived O) [ joined_so A B ↦ with_left A B (total f e (newest_left j s) (left_life j L) A) (λ y zs B'. total g e (newest_right j s y) _ B') ]
-  total (sided d t) e s L O =
-      elim (side_lived O) [ lived A ↦ with_part A (total t e _ _ A) ]
-  total (headed LoopPre i t) e s L O =
+  -- a process has an outcome wherever the lives before give values
+  abbrev pub Goes : Process → Type 0
+  Goes P = (s : Step) (L : Life) (ws : List Data) → Outputs n P L ws → Has P s L
+
+  -- and so has each process of an environment
+  pub data AllGo : Environment → Type 0 where
+    go_nothing : AllGo empty
+    go_value : {x : Name} {d : Data} {e : Environment} → AllGo e → AllGo (known_name x d e)
+    go_process : {x : Name} {P : Process} {e : Environment} → Goes P → AllGo e → AllGo (running x P e)
+
+  bound_go : (p : Pattern) (v : Data) {e : Environment} → AllGo e → AllGo (bind p v e)
+  bound_go unnamed v E = E
+  bound_go (named x) v E = go_value E
+  bound_go (both p q) v E = bound_go q (second_of v) (bound_go p (first_of v) E)
+
+  passing_goes : Goes passing
+  passing_goes s L ws O = has (of_form refl (of_primitive refl))
+
+  process_goes : (k : Name) {e : Environment} → AllGo e → Goes (process_of k e)
+  process_goes k go_nothing = passing_goes
+  process_goes k (go_value {x = x} {e = e} E) = by_test (bytes_eq k x) (process_goes k E)
+    where
+      by_test : (b : Bool) → Goes (process_of k e) → Goes (cond b passing (process_of k e))
+      by_test true G = passing_goes
+      by_test false G = G
+  process_goes k (go_process {x = x} {P = P} {e = e} H E) = by_test (bytes_eq k x) (process_goes k E)
+    where
+      by_test : (b : Bool) → Goes (process_of k e) → Goes (cond b P (process_of k e))
+      by_test true G = H
+      by_test false G = G
+
+  resumed_lived : {P : Process} {h : Life} {d : ℕ} {L : Life} {ys ws : List Data} → Outputs n P h ys → Outputs n (resumed P h d) L ws → Lived P (after h d L)
+  resumed_lived H not_begun = lived H
+  resumed_lived H (and_gave A (of_resumed G)) = whole G tt
+
+  resumed_goes : {P : Process} {h : Life} (d : ℕ) {ys : List Data} → Goes P → Outputs n P h ys → Goes (resumed P h d)
+  resumed_goes {P = P} {h = h} d G H s [] ws O = elim (G (step d (input_of s)) h _ H) [ has S ↦ has (of_resumed (gives H S)) ]
+  resumed_goes {P = P} {h = h} d G H s (r ∷ L) ws O = elim (resumed_lived H O) [ lived A ↦ elim (G s (after h d (r ∷ L)) _ A) [ has S ↦ has (of_resumed (gives A S)) ] ]
+
+  frozen_goes : {P : Process} (h : Life) (d : ℕ) {ys : List Data} → Goes P → Outputs n P h ys → Goes (frozen P h d)
+  frozen_goes [] d G H = G
+  frozen_goes (s ∷ h) d G H = resumed_goes d G H
+
+  from_run : {k : Name} {e : Environment} {P : Process} {m : Made} {s : Step} {L : Life} {q : Outcome} {c : Cost} → m ≡ process_made P → Form n (run k) e m s L q c → IsGave q → Lived P (s ∷ L)
+  from_run {s = s} {L = L} k (of_run {P = Q} A) h =
+      let N : Process → Type 0 = λ P. Lived P (s ∷ L) in
+      subst N (ap (λ m. process_in Q m) k) (whole A h)
+
+  run_at : {k : Name} {e : Environment} {s : Step} {L : Life} {q : Outcome} {c : Cost} → Sample n (closure (run k) e) s L q c → IsGave q → Lived (process_of k e) (s ∷ L)
+  run_at (of_constants h) z = absurd z
+  run_at (of_form {m = m} h F) z = from_run (ap (λ q. made_of q m) (sym h)) F z
+
+  run_lived : {k : Name} {e : Environment} {L : Life} {ws : List Data} → Outputs n (closure (run k) e) L ws → Lived (process_of k e) L
+  run_lived not_begun = lived not_begun
+  run_lived (and_gave A B) = run_at B tt
+
+  with_run : {k : Name} {e : Environment} {s : Step} {L : Life} {ys : List Data} → Outputs n (process_of k e) L ys → Has (process_of k e) s L → Has (closure (run k) e) s L
+  with_run A (has S) = has (of_form refl (of_run (gives A S)))
+
+  -- what took over had an outcome wherever it may, if that is so of what takes over where the source has lived
+  since_goes : {W : Watched} {B : Takeover} {L : Life} {st : Standing} {Q : Process} {M : Life} → Since n W B L st → st ≡ fired Q M
+      → ((s : Step) (K : Life) (v : Data) → Lived (source_of W) K → Goes (B s K v)) → Goes Q
+  since_goes at_start h body = absurd (not_both h)
+  since_goes {B = B} {Q = Q} {M = M} (watched {s = s} {L = K} {y = y} S A h) g body = by_payload (occurring (second_of y)) (h ∙ g)
+    where
+      by_payload : (o : Option Data) → stands_after B s K o ≡ fired Q M → Goes Q
+      by_payload None e = absurd (not_both e)
+      by_payload (Some v) e = subst Goes (ap (process_fired passing) e) (body s K v (sees_source A))
+  since_goes (had_fired {Q = R} S) h body = subst Goes (ap (process_fired R) h) (since_goes S refl body)
+
+  sees_itself : {P : Process} {s : Step} {L : Life} {ys : List Data} → Outputs n P L ys → Has P s L → (o : Outcome) × ((c : Cost) × Sees n (itself P) s L o c)
+  sees_itself A (has S) = (_, (_, beside_values (gives A S)))
+
+  sees_both : {P : Process} {q : Term} {e : Environment} {s : Step} {L : Life} {ys zs : List Data} → Outputs n P L ys → Outputs n (closure q e) (observed_life L ys) zs → Has P s L
+      → ((y : Data) → Has (closure q e) (step (wait_of s) (pair (input_of s) y)) (observed_life L ys)) → (o : Outcome) × ((c : Cost) × Sees n (observed P q e) s L o c)
+  sees_both A Z (has {o = faulted x} S) observer = (_, (_, by_observer A (gives A S) stops))
+  sees_both A Z (has {o = gave y r} S) observer = elim (observer y) [ has T ↦ (_, (_, by_observer A (gives A S) (goes_on (gives Z T)))) ]
+
+  switch_has : {w : Observation} {t u : Term} {p : Pattern} {e : Environment} {s : Step} {L : Life} {st : Standing} → Since n (itself (closure t e)) (whenever (body_of p u e)) L st
+      → Turns w (itself (closure t e)) (whenever (body_of p u e)) s L st → Has (closure (switching (Basic w) t p u) e) s L
+  switch_has S (turns T) = has (of_form refl (of_switch S T))
+
+  keeping_has : {w : Observation} {t q u : Term} {k : Name} {p : Pattern} {e : Environment} {s : Step} {L : Life} {st : Standing} → Since n (observed (closure t e) q e) (body_with k (closure t e) p u e) L st
+      → Turns w (observed (closure t e) q e) (body_with k (closure t e) p u e) s L st → Has (closure (keeping w t q k p u) e) s L
+  keeping_has S (turns T) = has (of_form refl (of_keeping S T))
+
+  body_turns : {w : Observation} {W : Watched} {B : Takeover} {s : Step} {L M : Life} {Q : Process} {ys : List Data} → Outputs n Q M ys → Has Q s M → Turns w W B s L (fired Q M)
+  body_turns A (has S) = turns (as_body (gives A S))
+
+  -- what keeps its source takes over where that has lived
+  keeping_goes : {t : Term} (u : Term) (p : Pattern) {e : Environment} (k : Name) → Goes (closure t e) → ((f : Environment) → AllGo f → Goes (closure u f)) → AllGo e
+      → (s : Step) (K : Life) (v : Data) → Lived (closure t e) K → Goes (body_with k (closure t e) p u e s K v)
+  keeping_goes u p k G U E s K v (lived A) = U _ (bound_go p v (go_process (frozen_goes K (wait_of s) G A) E))
+
+  pub total : (t : Term) (e : Environment) → AllGo e → Goes (closure t e)
+  total (primitive p) e E s L ws O = has (of_form refl (of_primitive refl))
+  total (run k) e E s L ws O = elim (run_lived O) [ lived A ↦ with_run A (process_goes k E s L _ A) ]
+  total (joined j f g) e E s L ws O =
+      elim (join_lived O) [ joined_so A B ↦ with_left A B (total f e E (newest_left j s) (left_life j L) _ A) (λ y zs B'. total g e E (newest_right j s y) _ _ B') ]
+  total (sided d t) e E s L ws O =
+      elim (side_lived O) [ lived A ↦ with_part A (total t e E _ _ _ A) ]
+  total (headed LoopPre i t) e E s L ws O =
       elim (known (eval i (scope_around n.functions e))) [
         | refused x k ↦ constants_fail s k O
-        | answered v k ↦ elim (loop_lived k O) [ looped A R ↦ elim R [ lived B ↦ with_loop k A B (total t e _ _ B) ] ]
+        | answered v k ↦ elim (loop_lived k O) [ looped A R ↦ elim R [ lived B ↦ with_loop k A B (total t e E _ _ _ B) ] ]
       ]
-  total (headed Initialized i t) e s L O =
+  total (headed Initialized i t) e E s L ws O =
       elim (known (eval i (scope_around n.functions e))) [
         | refused x k ↦ constants_fail s k O
-        | answered v k ↦ elim (initialized_lived O) [ lived A ↦ with_initial k A (total t e s L A) ]
+        | answered v k ↦ elim (initialized_lived O) [ lived A ↦ with_initial k A (total t e E s L _ A) ]
       ]
-  total (switching (Basic w) t p u) e s L O =
+  total (switching (Basic w) t p u) e E s L ws O =
+      let body : (s : Step) (K : Life) (v : Data) → Lived (closure t e) K → Goes (body_of p u e v) = λ s K v A. total u _ (bound_go p v E) in
       elim (switch_stood O) [
-        | still_waits S R ↦ elim R [ lived A ↦ switch_waits S A (total t e s L A) (λ v. total u (bind p v e) s [] not_begun) ]
-        | had_event {v = v} {M = M} S R ↦ elim R [ lived A ↦ switch_goes_on S A (total u (bind p v e) s M A) ]
+        | still_waits S R ↦ elim R [
+          | itself_lived A ↦
+              let seen = sees_itself A (total t e E s L _ A) in
+              switch_has S (waiting_turns w seen.0 seen.1.1 (λ v. body s L v (lived A) s [] _ not_begun))
+        ]
+        | had_event S R ↦ elim R [ lived A ↦ switch_has S (body_turns A (since_goes S refl body s _ _ A)) ]
       ]
-  total (switching (Recurring w) t p u) e s L O =
+  total (switching (Recurring w) t p u) e E s L ws O =
       elim (recurring_runs O) [
         | lived A ↦
-            with_running A (run_has (body_of p u e) (last_event L) (λ A. total t e _ _ A) (λ v A. total u (bind p v e) _ _ A) A) (λ v. total u (bind p v e) _ [] not_begun)
+            with_running A (run_has (body_of p u e) (last_event L) (λ A. total t e E _ _ _ A) (λ v A. total u (bind p v e) (bound_go p v E) _ _ _ A) A) (λ v. total u (bind p v e) (bound_go p v E) _ [] _ not_begun)
       ]
-  total (staged x f g) e s L O =
-      elim (join_lived (as_joined O)) [ joined_so A B ↦ as_staged (with_left A B (total f e s L A) (λ y zs B'. total g e (step (wait_of s) y) _ B')) ]
+  total (keeping w t q k p u) e E s L ws O =
+      let body = keeping_goes u p k (total t e E) (λ f F. total u f F) E in
+      elim (keeping_stood O) [
+        | still_waits S R ↦ elim R [
+          | both_lived A Z ↦
+              let seen = sees_both A Z (total t e E s L _ A) (λ y. total q e E _ _ _ Z) in
+              keeping_has S (waiting_turns w seen.0 seen.1.1 (λ v. body s L v (lived A) s [] _ not_begun))
+        ]
+        | had_event S R ↦ elim R [ lived A ↦ keeping_has S (body_turns A (since_goes S refl body s _ _ A)) ]
+      ]
+  total (staged x f g) e E s L ws O =
+      elim (join_lived (as_joined O)) [ joined_so A B ↦ as_staged (with_left A B (total f e E s L _ A) (λ y zs B'. total g e E (step (wait_of s) y) _ _ B')) ]
 
   found : {P : Process} {s : Step} {L : Life} {ws : List Data} → Outputs n P L ws → Has P s L → (o : Outcome) × ((c : Cost) × Gives n P (s ∷ L) o c)
   found O (has S) = (_, (_, gives O S))
 
-  pub some_outcome : (P : Process) (s : Step) (L : Life) {ws : List Data} → Outputs n P L ws → (o : Outcome) × ((c : Cost) × Gives n P (s ∷ L) o c)
-  some_outcome (closure t e) s L O = found O (total t e s L O)
+  mutual
+    -- each process whose frozen parts have lived goes
+    pub process_total : {P : Process} → HasLived n P → Goes P
+    process_total (closed {t = t} {e = e} E) = total t e (all_go E)
+    process_total (was_frozen {d = d} P H) = resumed_goes d (process_total P) H
+
+    all_go : {e : Environment} → HaveLived n e → AllGo e
+    all_go none_lived = go_nothing
+    all_go (value_beside E) = go_value (all_go E)
+    all_go (process_lived P E) = go_process (process_total P) (all_go E)
+
+  pub some_outcome : {P : Process} → HasLived n P → (s : Step) (L : Life) {ws : List Data} → Outputs n P L ws → (o : Outcome) × ((c : Cost) × Gives n P (s ∷ L) o c)
+  some_outcome H s L O = found O (process_total H s L _ O)

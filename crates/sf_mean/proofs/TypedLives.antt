@@ -1,10 +1,10 @@
 -- Typed lives, and outcomes made of typed parts.
-use Rattle.std.proofs.Common.{◌≡◌, List, ◌∷◌, subst}
+use Rattle.std.proofs.Common.{ℕ, ◌≡◌, List, ◌∷◌, subst}
 use Rattle.std.specs.Prelude.{⊤}
 use Rattle.sf_value.specs.Values.{Kind, pair_kind, Data, pair, HasKind, has_pair, first_of, second_of}
 use Rattle.sf_expr.specs.Evaluation.{Evaluated}
 use Rattle.sf_expr.specs.Soundness.{Yields, yields, fails}
-use Rattle.sf_mean.specs.Lives.{Step, step, wait_of, input_of, Life, with_inputs, relay, fed_back, older, fed, first_input}
+use Rattle.sf_mean.specs.Lives.{Step, step, wait_of, input_of, Life, after, with_inputs, relay, observed_life, fed_back, older, fed, first_input}
 use Rattle.sf_mean.specs.Meaning.{Readings, Outcome, gave, faulted, changed, combined, value_in, as_outcome}
 use Rattle.sf_mean.specs.Soundness.{Have, have_nothing, have_more, LifeHas, no_steps, more_steps, OutcomeHas}
 
@@ -22,6 +22,16 @@ pub relay_has : {a b : Kind} {L : Life} {ys : List Data} → LifeHas L a → Hav
 relay_has no_steps y = no_steps
 relay_has (more_steps h l) have_nothing = no_steps
 relay_has (more_steps {s = s} h l) (have_more {y = y} i k) = more_steps {s = step (wait_of s) y} i (relay_has l k)
+
+pub beside_has : {a b : Kind} {L : Life} {ys : List Data} → LifeHas L a → Have ys b → LifeHas (observed_life L ys) (pair_kind a b)
+beside_has no_steps y = no_steps
+beside_has (more_steps h l) have_nothing = no_steps
+beside_has (more_steps {s = s} h l) (have_more {y = y} i k) = more_steps {s = step (wait_of s) (pair (input_of s) y)} (has_pair h i) (beside_has l k)
+
+pub after_has : {a : Kind} {h L : Life} (d : ℕ) → LifeHas h a → LifeHas L a → LifeHas (after h d L) a
+after_has d H no_steps = H
+after_has d H (more_steps {s = s} i no_steps) = more_steps {s = step d (input_of s)} i H
+after_has d H (more_steps {s = s} i (more_steps {s = r} k l)) = more_steps {s = s} i (after_has d H (more_steps {s = r} k l))
 
 fed_back_has : {b c : Kind} {v : Data} {zs : List Data} → HasKind v c → Have zs (pair_kind b c) → HasKind (fed_back v zs) c
 fed_back_has h have_nothing = h
@@ -62,6 +72,10 @@ LifeIf (faulted x) L a = ⊤
 pub life_if : {a : Kind} {L : Life} (o : Outcome) → LifeHas L a → LifeIf o L a
 life_if (gave y r) l = l
 life_if (faulted x) l = tt
+
+pub beside_if : {a b : Kind} {L : Life} {ys : List Data} (o : Outcome) → OutcomeHas o b → LifeHas L a → Have ys b → LifeIf o (observed_life L (value_in o ∷ ys)) (pair_kind a b)
+beside_if (gave y r) h l k = beside_has l (have_more h k)
+beside_if (faulted x) h l k = tt
 
 pub relay_if : {a b : Kind} {L : Life} {ys : List Data} (o : Outcome) → OutcomeHas o b → LifeHas L a → Have ys b → LifeIf o (relay L (value_in o ∷ ys)) b
 relay_if (gave y r) h l k = relay_has l (have_more h k)

@@ -1,25 +1,27 @@
 -- A typed process gives values of its output type.
-use Rattle.std.proofs.Common.{◌≡◌, List, [], ◌∷◌, Option, Some, None, ap, subst}
-use Rattle.std.specs.Prelude.{⊤}
-use Rattle.sf_value.specs.Values.{Kind, pair_kind, event_kind, Data, pair, HasKind, has_pair, first_of, second_of, has_no_event}
+use Rattle.std.proofs.Common.{ℕ, ◌≡◌, Bool, true, false, cond, List, [], ◌∷◌, Option, Some, None, ap, subst}
+use Rattle.std.specs.Prelude.{⊤, bytes_eq}
+use Rattle.std.proofs.lemmas.Option.{same_Some}
+use Rattle.sf_value.specs.Values.{Name, Kind, pair_kind, event_kind, Data, pair, HasKind, has_pair, first_of, second_of, has_no_event}
+use mathlib.Core.Path.{subst₂}
 use Rattle.sf_func.specs.Registries.{TypesByName, AnswersByName, KeepTheirTypes}
 use Rattle.sf_expr.specs.Expressions.{Pattern, Expression, Function}
 use Rattle.sf_expr.specs.Evaluation.{Evaluated, answer, failed, ◌>>=◌, Scope, eval, apply}
 use Rattle.sf_expr.specs.Typing.{Names, AddsNames, adds_nothing, adds_name, adds_both, HasType, FunctionTakes}
-use Rattle.sf_expr.specs.Soundness.{Yields, yields, fails, ScopeHas, has_no_names, has_name}
+use Rattle.sf_expr.specs.Soundness.{Yields, yields, fails, ScopeHas, has_no_names, has_name, has_other}
 use Rattle.sf_term.specs.declared.form.Accumulation.{Accumulation}
 use Rattle.sf_term.specs.declared.form.Side.TheVariants.{First, Second}
 use Rattle.sf_term.specs.declared.form.Observation.{Observation}
 use Rattle.sf_term.specs.declared.form.Observation.TheVariants.{Immediate, Delayed}
 use Rattle.sf_term.specs.Trees.{Chain, Primitive, Term}
-use Rattle.sf_mean.specs.Lives.{Step, input_of, Life, Environment, scope_around, bind, Process, first_input as input_at_first}
+use Rattle.sf_mean.specs.Lives.{Step, wait_of, input_of, Life, Environment, scope_around, bind, Process, process_of, passing, frozen, first_input as input_at_first}
 use Rattle.sf_mean.specs.Formulas.{timed_formula, coming, next_value, accumulation, displayed, value_formula, with_side, apply_chain, formula}
-use Rattle.sf_mean.specs.Meaning.{Network, Outcome, gave, faulted, Cost, Made, value_made, make, Standing, waits, fired, stands_after, switched_value, body_of, event_beside, or_earlier, last_event, kept_before, since_event, what_runs, unless_faulted, Gives, gives, Outputs, not_begun, and_gave, Sample, of_constants, of_form, Form, of_primitive, of_join, of_side, of_loop, of_initialized, of_switch, of_recurring, of_stages, Next, goes_on, stops, Loops, no_loop, and_looped, Since, at_start, watched, had_fired, SwitchTurn, while_waiting, as_body, Switched, after_fault, after_value, Fires, no_event_yet, event_now}
-use Rattle.sf_mean.specs.Contexts.{Bindings, bindings_inside, values_in, context_with, Context, names_of_values}
-use Rattle.sf_mean.specs.Typing.{ChainTakes, lone_takes, chained_takes, on_first_takes, on_second_takes, on_both_takes, fanned_takes, PrimitiveTakes, bare_takes, never_takes, value_takes, timed_takes, accumulated_takes, arrow_takes, fused_takes, Takes, takes, FormTakes, primitive_takes, sequence_takes, parallel_takes, fan_takes, first_takes, second_takes, loop_takes, initialized_takes, switch_takes, recurring_takes, stages_take}
-use Rattle.sf_mean.specs.Soundness.{Have, have_nothing, have_more, LifeHas, no_steps, more_steps, EnvironmentHas, has_nothing, has_value, ProcessTakes, closure_takes, OutcomeHas}
+use Rattle.sf_mean.specs.Meaning.{Network, Outcome, gave, faulted, Cost, Made, value_made, process_made, make, Watched, itself, observed, Takeover, Standing, waits, fired, stands_after, switched_value, body_of, event_beside, or_earlier, last_event, kept_before, since_event, what_runs, unless_faulted, Gives, gives, Outputs, not_begun, and_gave, Sample, of_constants, of_form, of_resumed, Form, of_primitive, of_run, of_join, of_side, of_loop, of_initialized, of_switch, of_keeping, of_recurring, of_stages, Next, goes_on, stops, Loops, no_loop, and_looped, Sees, beside_values, by_observer, Since, at_start, watched, had_fired, SwitchTurn, while_waiting, as_body, Switched, after_fault, after_value, Fires, no_event_yet, event_now}
+use Rattle.sf_mean.specs.Contexts.{value, process, Bindings, bindings_inside, values_in, types_of_process, process_named, context_with, Context, names_of_values}
+use Rattle.sf_mean.specs.Typing.{ChainTakes, lone_takes, chained_takes, on_first_takes, on_second_takes, on_both_takes, fanned_takes, PrimitiveTakes, bare_takes, never_takes, value_takes, timed_takes, accumulated_takes, arrow_takes, fused_takes, Takes, takes, FormTakes, primitive_takes, run_takes, sequence_takes, parallel_takes, fan_takes, first_takes, second_takes, loop_takes, initialized_takes, switch_takes, keeping_takes, recurring_takes, stages_take}
+use Rattle.sf_mean.specs.Soundness.{Have, have_nothing, have_more, LifeHas, no_steps, more_steps, EnvironmentHas, has_nothing, has_value, has_process, ProcessTakes, closure_takes, resumed_takes, OutcomeHas}
 use Rattle.sf_mean.proofs.TypedPrimitives.{first_has, bare_typed, value_typed, timed_typed, event_comes, Comes, comes_none, comes_some, coming_typed, made_typed, shown_typed}
-use Rattle.sf_mean.proofs.TypedLives.{first_is, second_is, with_inputs_has, fed_has, outcome_is, changed_has, combined_has, LifeIf, life_if, relay_if}
+use Rattle.sf_mean.proofs.TypedLives.{first_is, second_is, with_inputs_has, after_has, fed_has, outcome_is, changed_has, combined_has, LifeIf, life_if, beside_if, relay_if}
 
 -- expressions and functions have values of their types, or faults
 abbrev pub EvalsTyped : Type 0
@@ -49,24 +51,62 @@ made_has {t = t} {v = v} (yields {d = d} h) e = subst (λ w. HasKind w t) (ap (m
 made_has fails e = absurd cc
 
 -- the values of an environment have the types of their names, and functions keep theirs
-pub environment_scope : (φ : AnswersByName) (fs : TypesByName) {e : Environment} {bs : Bindings} → KeepTheirTypes fs φ → EnvironmentHas e bs → ScopeHas (scope_around φ e) (values_in fs bs)
+pub environment_scope : {n : Network} (φ : AnswersByName) (fs : TypesByName) {e : Environment} {bs : Bindings} → KeepTheirTypes fs φ → EnvironmentHas n e bs → ScopeHas (scope_around φ e) (values_in fs bs)
 environment_scope φ fs K has_nothing = has_no_names K
 environment_scope φ fs K (has_value h E) = has_name h (environment_scope φ fs K E)
+environment_scope φ fs K (has_process P E) = has_other (environment_scope φ fs K E)
 
 -- the environment inside a pattern has its names
-bind_has : {p : Pattern} {c : Kind} {R S : Names} {v : Data} {e : Environment} {bs : Bindings} → AddsNames p c R S → HasKind v c → EnvironmentHas e bs → EnvironmentHas (bind p v e) (bindings_inside p c bs)
+bind_has : {n : Network} {p : Pattern} {c : Kind} {R S : Names} {v : Data} {e : Environment} {bs : Bindings} → AddsNames p c R S → HasKind v c → EnvironmentHas n e bs → EnvironmentHas n (bind p v e) (bindings_inside p c bs)
 bind_has adds_nothing h E = E
 bind_has adds_name h E = has_value h E
 bind_has (adds_both A B) (has_pair h k) E = bind_has B k (bind_has A h E)
 
--- what a switch that fired keeps: a payload of its event's type, and a life of its inputs' type
-abbrev StandingHas : Standing → Kind → Kind → Type 0
-StandingHas waits a c = ⊤
-StandingHas (fired v M) a c = HasKind v c × LifeHas M a
+-- the process of a name has its types
+process_has : {n : Network} (k : Name) {e : Environment} {bs : Bindings} {a b : Kind} → EnvironmentHas n e bs → process_named k bs ≡ Some (a, b) → ProcessTakes n (process_of k e) a b
+process_has k has_nothing h = absurd cc
+process_has {n} k {a} {b} (has_value {x = x} {t = t} {e = e} {bs = bs} v E) h = by_test (bytes_eq k x) h (process_has k E)
+  where
+    by_test : (s : Bool) → cond s (types_of_process (value t)) (process_named k bs) ≡ Some (a, b) → (process_named k bs ≡ Some (a, b) → ProcessTakes n (process_of k e) a b) → ProcessTakes n (cond s passing (process_of k e)) a b
+    by_test true h f = absurd cc
+    by_test false h f = f h
+process_has {n} k {a} {b} (has_process {x = x} {P = P} {a = c} {b = d} {e = e} {bs = bs} T E) h = by_test (bytes_eq k x) h (process_has k E)
+  where
+    by_test : (s : Bool) → cond s (types_of_process (process c d)) (process_named k bs) ≡ Some (a, b) → (process_named k bs ≡ Some (a, b) → ProcessTakes n (process_of k e) a b) → ProcessTakes n (cond s P (process_of k e)) a b
+    by_test true h f = let same : (c, d) ≡ (a, b) = same_Some _ _ h in subst₂ (ProcessTakes n P) (ap (λ (k : Kind × Kind). k.0) same) (ap (λ (k : Kind × Kind). k.1) same) T
+    by_test false h f = f h
 
-after_has : {s : Step} {L : Life} {o : Option Data} {a c : Kind} → Comes o c → LifeHas (s ∷ L) a → StandingHas (stands_after s o) a c
-after_has comes_none l = tt
-after_has (comes_some h) (more_steps {s = s} i l) = (h, more_steps {s = s} i no_steps)
+-- what was frozen has the types of its process
+frozen_takes : {n : Network} {P : Process} {h : Life} (d : ℕ) {a b : Kind} → ProcessTakes n P a b → LifeHas h a → ProcessTakes n (frozen P h d) a b
+frozen_takes d T no_steps = T
+frozen_takes d T (more_steps {s = s} i l) = resumed_takes T (more_steps {s = s} i l)
+
+abbrev process_in : Process → Made → Process
+process_in P (process_made Q) = Q
+process_in P m = P
+
+abbrev made_process : Process → Evaluated Made → Process
+made_process P (answer m) = process_in P m
+made_process P (failed x) = P
+
+-- what a switch watches has types: of its inputs, its values and its events' payloads
+data WatchedTakes (n : Network) : Watched → Kind → Kind → Kind → Type 0 where
+  itself_takes : {P : Process} {a b c : Kind} → ProcessTakes n P a (pair_kind b (event_kind c)) → WatchedTakes n (itself P) a b c
+  observed_takes : {P : Process} {q : Term} {e : Environment} {fs : TypesByName} {bs : Bindings} {a b c : Kind} → ProcessTakes n P a b
+      → KeepTheirTypes fs n.functions → EnvironmentHas n e bs → Takes (context_with fs bs n.templates) q (pair_kind a b) (event_kind c) → WatchedTakes n (observed P q e) a b c
+
+-- what takes over has types, where it does so after a life of its inputs' type at a payload of its event's
+abbrev TakeoverHas : Network → Takeover → Kind → Kind → Kind → Type 0
+TakeoverHas n B a b c = (s : Step) (K : Life) (v : Data) → LifeHas K a → HasKind v c → ProcessTakes n (B s K v) a b
+
+-- what a switch that fired stands for: a process of these types, and a life of its inputs' type
+abbrev StandingHas : Network → Standing → Kind → Kind → Type 0
+StandingHas n waits a b = ⊤
+StandingHas n (fired Q M) a b = ProcessTakes n Q a b × LifeHas M a
+
+stands_typed : {n : Network} {B : Takeover} {s : Step} {L : Life} {o : Option Data} {a b c : Kind} → TakeoverHas n B a b c → Comes o c → LifeHas (s ∷ L) a → StandingHas n (stands_after B s L o) a b
+stands_typed T comes_none l = tt
+stands_typed {L = L} T (comes_some h) (more_steps {s = s} i l) = (T s L _ l h, more_steps {s = s} i no_steps)
 
 switched_has_kind : (w : Observation) {v u : Data} {b : Kind} → HasKind v b → HasKind u b → HasKind (switched_value w v u) b
 switched_has_kind Immediate h k = k
@@ -148,9 +188,11 @@ module _ (n : Network) (eval_is : EvalsTyped) (apply_is : AppliesTyped) where
     sample_has : {P : Process} {s : Step} {L : Life} {o : Outcome} {c : Cost} {a b : Kind} → Sample n P s L o c → ProcessTakes n P a b → LifeHas (s ∷ L) a → OutcomeHas o b
     sample_has (of_constants h) p l = tt
     sample_has (of_form h F) (closure_takes K E (takes x y T)) l = form_has F h K E T l
+    sample_has (of_resumed {d = d} A) (resumed_takes p h) l = gives_has A p (after_has d h l)
 
-    form_has : {t : Term} {e : Environment} {fs : TypesByName} {bs : Bindings} {m : Made} {s : Step} {L : Life} {o : Outcome} {c : Cost} {a b : Kind} → Form n t e m s L o c → make n t e (input_at_first s L) ≡ answer m → KeepTheirTypes fs n.functions → EnvironmentHas e bs → FormTakes (context_with fs bs n.templates) t a b → LifeHas (s ∷ L) a → OutcomeHas o b
+    form_has : {t : Term} {e : Environment} {fs : TypesByName} {bs : Bindings} {m : Made} {s : Step} {L : Life} {o : Outcome} {c : Cost} {a b : Kind} → Form n t e m s L o c → make n t e (input_at_first s L) ≡ answer m → KeepTheirTypes fs n.functions → EnvironmentHas n e bs → FormTakes (context_with fs bs n.templates) t a b → LifeHas (s ∷ L) a → OutcomeHas o b
     form_has {fs = fs} (of_primitive {s = s} h) q K E (primitive_takes T) (more_steps i l) = outcome_is [] (formula_is _ (environment_scope n.functions fs K E) s T i l) h
+    form_has {a = a} {b = b} (of_run {P = P} A) q K E (run_takes {k = k} h) l = gives_has A (subst (λ P. ProcessTakes n P a b) (ap (made_process P) q) (process_has k E h)) l
     form_has (of_join {o = o} {o' = o'} A B C) q K E (sequence_takes {b = b} {c = d} F H) (more_steps {s = s} i l) =
         let h : OutcomeHas o b = gives_has B (closure_takes K E F) (more_steps {s = s} i l) in
         let j : OutcomeHas o' d = next_has C K E H (relay_if o h (more_steps {s = s} i l) (outputs_have A (closure_takes K E F) l)) in
@@ -178,7 +220,12 @@ module _ (n : Network) (eval_is : EvalsTyped) (apply_is : AppliesTyped) where
         let h : OutcomeHas o b = gives_has A (closure_takes K E T) l in
         changed_has o (λ y k. first_has L i k) h
     form_has (of_switch S T) q K E (switch_takes A B U) (more_steps {s = s} i l) =
-        turn_has T (closure_takes K E A) (λ v h. closure_takes K (bind_has B.adds h E) U) (more_steps {s = s} i l) (since_has S (closure_takes K E A) l)
+        let body : TakeoverHas n _ _ _ _ = λ s M v m h. closure_takes K (bind_has B.adds h E) U in
+        turn_has T (itself_takes (closure_takes K E A)) body (more_steps {s = s} i l) (since_has S (itself_takes (closure_takes K E A)) body l)
+    form_has (of_keeping S T) q K E (keeping_takes A H B U) (more_steps {s = s} i l) =
+        let source = closure_takes K E A in
+        let body : TakeoverHas n _ _ _ _ = λ s M v m h. closure_takes K (bind_has B.adds h (has_process (frozen_takes (wait_of s) source m) E)) U in
+        turn_has T (observed_takes source K E H) body (more_steps {s = s} i l) (since_has S (observed_takes source K E H) body l)
     form_has (of_recurring {u = u} {p = p} {e = e} {o = o} A B) q K E (recurring_takes {b = b} T N U) (more_steps {s = s} i l) =
         let h : OutcomeHas o b =
         gives_has A (running_takes (body_of p u e) (last_comes l) (closure_takes K E T) (λ v h. closure_takes K (bind_has N.adds h E) U)) (with_inputs_has first_of (λ v. first_is) (more_steps {s = s} i (since_event_has l))) in
@@ -188,7 +235,7 @@ module _ (n : Network) (eval_is : EvalsTyped) (apply_is : AppliesTyped) where
         let j : OutcomeHas o' d = next_has C K E H (relay_if o h (more_steps {s = s} i l) (outputs_have A (closure_takes K E F) l)) in
         combined_has o o' (λ v w x y. y) h j
 
-    next_has : {q : Outcome} {t : Term} {e : Environment} {fs : TypesByName} {bs : Bindings} {L : Life} {o : Outcome} {c : Cost} {a b : Kind} → Next n q t e L o c → KeepTheirTypes fs n.functions → EnvironmentHas e bs → Takes (context_with fs bs n.templates) t a b → LifeIf q L a → OutcomeHas o b
+    next_has : {q : Outcome} {t : Term} {e : Environment} {fs : TypesByName} {bs : Bindings} {L : Life} {o : Outcome} {c : Cost} {a b : Kind} → Next n q t e L o c → KeepTheirTypes fs n.functions → EnvironmentHas n e bs → Takes (context_with fs bs n.templates) t a b → LifeIf q L a → OutcomeHas o b
     next_has (goes_on A) K E T l = gives_has A (closure_takes K E T) l
     next_has stops K E T l = tt
 
@@ -196,15 +243,22 @@ module _ (n : Network) (eval_is : EvalsTyped) (apply_is : AppliesTyped) where
     loops_have no_loop p h l = have_nothing
     loops_have {b = b} (and_looped {s = s} A B) p h (more_steps i l) = let z = loops_have A p h l in have_more (gives_has B p (fed_has b h (more_steps {s = s} i l) z)) z
 
-    since_has : {P : Process} {L : Life} {st : Standing} {a b c : Kind} → Since n P L st → ProcessTakes n P a (pair_kind b (event_kind c)) → LifeHas L a → StandingHas st a c
-    since_has at_start p l = tt
-    since_has {a = a} {c = c} (watched A G h) p l = subst (λ st. StandingHas st a c) h (after_has (event_comes (second_is (gives_has G p l))) l)
-    since_has (had_fired A) p (more_steps {s = s} i l) = let h = since_has A p l in (h.0, more_steps {s = s} i h.1)
+    sees_has : {W : Watched} {s : Step} {L : Life} {o : Outcome} {k : Cost} {a b c : Kind} → Sees n W s L o k → WatchedTakes n W a b c → LifeHas (s ∷ L) a → OutcomeHas o (pair_kind b (event_kind c))
+    sees_has (beside_values A) (itself_takes p) l = gives_has A p l
+    sees_has (by_observer {o = o} {o' = o'} A B C) (observed_takes {b = b} {c = c} p K E H) (more_steps {s = s} i l) =
+        let h : OutcomeHas o b = gives_has B p (more_steps {s = s} i l) in
+        let j : OutcomeHas o' (event_kind c) = next_has C K E H (beside_if o h (more_steps {s = s} i l) (outputs_have A p l)) in
+        combined_has o o' (λ v w x y. has_pair x y) h j
 
-    turn_has : {w : Observation} {P : Process} {B : Data → Process} {s : Step} {L : Life} {st : Standing} {o : Outcome} {k : Cost} {a b c : Kind} → SwitchTurn n w P B s L st o k → ProcessTakes n P a (pair_kind b (event_kind c))
-        → ((v : Data) → HasKind v c → ProcessTakes n (B v) a b) → LifeHas (s ∷ L) a → StandingHas st a c → OutcomeHas o b
-    turn_has (while_waiting A C) p body (more_steps {s = s} i l) h = switched_has C body (gives_has A p (more_steps {s = s} i l)) i
-    turn_has (as_body A) p body (more_steps {s = s} i l) h = gives_has A (body _ h.0) (more_steps {s = s} i h.1)
+    since_has : {W : Watched} {B : Takeover} {L : Life} {st : Standing} {a b c : Kind} → Since n W B L st → WatchedTakes n W a b c → TakeoverHas n B a b c → LifeHas L a → StandingHas n st a b
+    since_has at_start p body l = tt
+    since_has {a = a} {b = b} (watched A G h) p body l = subst (λ st. StandingHas n st a b) h (stands_typed body (event_comes (second_is (sees_has G p l))) l)
+    since_has (had_fired A) p body (more_steps {s = s} i l) = let h = since_has A p body l in (h.0, more_steps {s = s} i h.1)
+
+    turn_has : {w : Observation} {W : Watched} {B : Takeover} {s : Step} {L : Life} {st : Standing} {o : Outcome} {k : Cost} {a b c : Kind} → SwitchTurn n w W B s L st o k → WatchedTakes n W a b c
+        → TakeoverHas n B a b c → LifeHas (s ∷ L) a → StandingHas n st a b → OutcomeHas o b
+    turn_has (while_waiting {s = s} {L = L} A C) p body (more_steps i l) h = switched_has C (λ v. body s L v l) (sees_has A p (more_steps {s = s} i l)) i
+    turn_has (as_body A) p body (more_steps {s = s} i l) h = gives_has A h.0 (more_steps {s = s} i h.1)
 
     switched_has : {w : Observation} {B : Data → Process} {s : Step} {o q : Outcome} {k : Cost} {a b c : Kind} → Switched n w B s o q k → ((v : Data) → HasKind v c → ProcessTakes n (B v) a b) → OutcomeHas o (pair_kind b (event_kind c)) → HasKind (input_of s) a → OutcomeHas q b
     switched_has after_fault body h i = tt

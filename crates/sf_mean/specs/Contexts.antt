@@ -1,15 +1,16 @@
 -- What terms are typed under.
-use Rattle.std.specs.Prelude.{List, [], ◌∷◌, map}
+use Rattle.std.specs.Prelude.{List, [], ◌∷◌, map, cond, Option, Some, None, bytes_eq}
 use Rattle.sf_value.specs.Values.{Name, Kind, pair_kind}
 use Rattle.sf_expr.specs.Expressions.{Pattern, unnamed, named, both}
 use Rattle.sf_func.specs.Registries.{TypesByName}
-use Rattle.sf_expr.specs.Typing.{Names, only_functions, typed_name}
+use Rattle.sf_expr.specs.Typing.{Names, only_functions, typed_name, untyped_name}
 use Rattle.sf_term.specs.Trees.{Template, Templates}
 
--- What a name stands for: a value of a type. Processes from a type to a type and keyed collections of a type will be
--- further constructors, when there are forms that bind them.
+-- What a name stands for: a value of a type, or a process from a type to a type. Keyed collections of a type will be a
+-- further constructor, when there are forms that bind them.
 pub data NameKind : Type 0 where
   value : Kind → NameKind
+  process : (from to : Kind) → NameKind
 
 -- The names that are bound where a term stands, each with what it stands for, the innermost first.
 abbrev pub Bindings : Type 0
@@ -51,14 +52,29 @@ bindings_inside (both p q) t bs = bs
 abbrev pub inside_pattern : Pattern → Kind → Context → Context
 inside_pattern p t Γ = record { bindings = bindings_inside p t Γ.bindings; signatures = Γ.signatures; functions = Γ.functions }
 
--- names with one more, if it stands for a value
-abbrev pub with_value_of : Name → NameKind → Names → Names
-with_value_of x (value t) R = typed_name x t R
+-- what a term is typed under inside the name of a process from a type to a type
+abbrev pub inside_process : Name → (from to : Kind) → Context → Context
+inside_process x a b Γ = record { bindings = (x, process a b) ∷ Γ.bindings; signatures = Γ.signatures; functions = Γ.functions }
 
--- the names that stand for values, with their types, and functions of these types
+-- the types of a process
+abbrev pub types_of_process : NameKind → Option (Kind × Kind)
+types_of_process (value t) = None
+types_of_process (process a b) = Some (a, b)
+
+-- the types of the process of a name, if it stands for one
+abbrev pub process_named : Name → Bindings → Option (Kind × Kind)
+process_named x [] = None
+process_named x (b ∷ bs) = cond (bytes_eq x b.0) (types_of_process b.1) (process_named x bs)
+
+-- names with one more, with its type if it stands for a value
+abbrev pub with_name_of : Name → NameKind → Names → Names
+with_name_of x (value t) R = typed_name x t R
+with_name_of x (process a b) R = untyped_name x R
+
+-- the names that are bound, those that stand for values with their types, and functions of these types
 abbrev pub values_in : TypesByName → Bindings → Names
 values_in fs [] = only_functions fs
-values_in fs (b ∷ bs) = with_value_of b.0 b.1 (values_in fs bs)
+values_in fs (b ∷ bs) = with_name_of b.0 b.1 (values_in fs bs)
 
 -- what expressions are typed under
 abbrev pub names_of_values : Context → Names

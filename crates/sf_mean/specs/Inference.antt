@@ -1,7 +1,7 @@
 -- The output types of terms under a context, found by a function.
 use Rattle.std.specs.Prelude.{nat_le, cond, Option, Some, None}
 use Rattle.sf_expr.specs.Expressions.{Pattern}
-use Rattle.sf_value.specs.Values.{Kind, pair_kind, nodes, event_kind}
+use Rattle.sf_value.specs.Values.{Name, Kind, pair_kind, nodes, event_kind}
 use Rattle.sf_operator.specs.Kinds.{same_kind, only, parts_of, payload_of}
 use Rattle.sf_expr.specs.Inference.{found_then, fitting, names_bound, expression_type, function_output}
 use Rattle.sf_term.specs.declared.form.Join.{Join}
@@ -10,10 +10,10 @@ use Rattle.sf_term.specs.declared.form.Side.{Side}
 use Rattle.sf_term.specs.declared.form.Side.TheVariants.{First, Second}
 use Rattle.sf_term.specs.declared.form.Heading.{Heading}
 use Rattle.sf_term.specs.declared.form.Heading.TheVariants.{LoopPre, Initialized}
-use Rattle.sf_term.specs.Trees.{Chain, lone, chained, on_side, on_both, fanned, Primitive, bare, never, with_value, timed, arrow, accumulated, fused, Term, primitive, joined, sided, headed, switching, staged}
+use Rattle.sf_term.specs.Trees.{Chain, lone, chained, on_side, on_both, fanned, Primitive, bare, never, with_value, timed, arrow, accumulated, fused, Term, primitive, run, joined, sided, headed, switching, keeping, staged}
 use Rattle.sf_term.specs.declared.form.Switching.{Switching}
 use Rattle.sf_term.specs.declared.form.Switching.TheVariants.{Basic, Recurring}
-use Rattle.sf_mean.specs.Contexts.{Context, names_of_values, inside_pattern}
+use Rattle.sf_mean.specs.Contexts.{Context, names_of_values, inside_pattern, inside_process, process_named}
 use Rattle.sf_mean.specs.Typing.{bare_kind, value_kind, takes_time, timed_kind, accumulated_argument, accumulated_kind}
 
 -- What finds an output type for an input type, if inputs of that type are taken.
@@ -58,6 +58,15 @@ abbrev pub switch_output : Context → Switching → Pattern → Finds → (Cont
 switch_output Γ (Basic w) p source body a = found_then (found_then (source a) parts_of) (λ k. found_then (payload_of k.1) (λ c. body_output Γ p body c a k.0))
 switch_output Γ (Recurring w) p source body x = found_then (parts_of x) (λ k. found_then (payload_of k.1) (λ c. found_then (source k.0) (λ b. body_output Γ p body c k.0 b)))
 
+-- the output of a switch that keeps its source under a name: its event is what the observer gives to inputs beside the source's values
+abbrev pub keeping_output : Context → Name → Pattern → Finds → Finds → (Context → Finds) → Finds
+keeping_output Γ k p source observer body a =
+    found_then (source a) (λ b. found_then (observer (pair_kind a b)) (λ e. found_then (payload_of e) (λ c. body_output (inside_process k a b Γ) p body c a b)))
+
+-- the output of a process of these types, if there is one
+abbrev pub process_output : Option (Kind × Kind) → Finds
+process_output o a = found_then o (λ k. only a k.0 (Some k.1))
+
 -- the output of functions made into one
 abbrev pub chain_output : Context → Chain → Finds
 chain_output Γ (lone f) a = function_output (names_of_values Γ) f a
@@ -84,10 +93,12 @@ with_fitting f a = cond (nat_le (nodes a) 256) (found_then (f a) fitting) None
 -- the output of each form of terms, where the types of its parts have at most 256 nodes
 abbrev pub form_output : Context → Term → Finds
 form_output Γ (primitive p) a = primitive_output Γ p a
+form_output Γ (run k) a = process_output (process_named k Γ.bindings) a
 form_output Γ (joined j f g) a = join_output j (with_fitting (form_output Γ f)) (with_fitting (form_output Γ g)) a
 form_output Γ (sided d t) a = side_output d (with_fitting (form_output Γ t)) a
 form_output Γ (headed h e t) a = heading_output h (expression_type (names_of_values Γ) e) (with_fitting (form_output Γ t)) a
 form_output Γ (switching w t p u) a = switch_output Γ w p (with_fitting (form_output Γ t)) (λ Δ. with_fitting (form_output Δ u)) a
+form_output Γ (keeping w t q k p u) a = keeping_output Γ k p (with_fitting (form_output Γ t)) (with_fitting (form_output Γ q)) (λ Δ. with_fitting (form_output Δ u)) a
 form_output Γ (staged x f g) a = join_output InSequence (with_fitting (form_output Γ f)) (with_fitting (form_output Γ g)) a
 
 -- the type of the outputs of a term for inputs of a type, if it takes them

@@ -1,10 +1,11 @@
 -- Lives and processes.
-use Rattle.std.specs.Prelude.{ℕ, ◌+◌, ◌≤◌, List, [], ◌∷◌, ⊤}
+use Rattle.std.specs.Prelude.{ℕ, ◌+◌, ◌≤◌, List, [], ◌∷◌, ⊤, cond, bytes_eq}
 use Rattle.sf_value.specs.Values.{Name, Data, pair, first_of, second_of}
 use Rattle.sf_func.specs.Registries.{AnswersByName}
-use Rattle.sf_term.specs.Trees.{Term}
+use Rattle.sf_term.specs.declared.form.Bare.TheVariants.{Identity}
+use Rattle.sf_term.specs.Trees.{bare, Term, primitive}
 use Rattle.sf_expr.specs.Expressions.{Pattern, unnamed, named, both}
-use Rattle.sf_expr.specs.Evaluation.{Scope, no_names, value_name}
+use Rattle.sf_expr.specs.Evaluation.{Scope, no_names, value_name, other_name}
 
 -- A step: the time since the step before, and the input. The time of the first step isn't looked at.
 pub data Step : Type 0 where
@@ -39,25 +40,50 @@ pub record IsLife (L : Life) : Type 0 where
   pub waits : HasWaits L
   pub lasts : time L ≤ 4000000000000000
 
--- What names stand for, the innermost first: values.
-pub data Environment : Type 0 where
-  empty : Environment
-  known : Name → Data → Environment → Environment
+mutual
+  -- A process: a term with the names around it; or a frozen one, which has lived h and goes on d milliseconds after it.
+  pub data Process : Type 0 where
+    closure : Term → Environment → Process
+    resumed : Process → (h : Life) → (d : ℕ) → Process
 
--- A process: a term with the names around it.
-pub data Process : Type 0 where
-  closure : Term → Environment → Process
+  -- What names stand for, the innermost first: values and processes.
+  pub data Environment : Type 0 where
+    empty : Environment
+    known : Name → Data → Environment → Environment
+    running : Name → Process → Environment → Environment
 
 -- the scope of expressions, where functions answer this
 abbrev pub scope_around : AnswersByName → Environment → Scope
 scope_around f empty = no_names f
 scope_around f (known x d e) = value_name x d (scope_around f e)
+scope_around f (running x P e) = other_name x (scope_around f e)
+
+-- what gives its inputs
+abbrev pub passing : Process
+passing = closure (primitive (bare Identity)) empty
+
+-- the process of a name; what no process stands for passes its inputs on
+abbrev pub process_of : Name → Environment → Process
+process_of x empty = passing
+process_of x (known y d e) = cond (bytes_eq x y) passing (process_of x e)
+process_of x (running y P e) = cond (bytes_eq x y) P (process_of x e)
 
 -- the environment inside a pattern that a value was bound to
 abbrev pub bind : Pattern → Data → Environment → Environment
 bind unnamed d e = e
 bind (named x) d e = known x d e
 bind (both p q) d e = bind q (second_of d) (bind p (first_of d) e)
+
+-- a life that goes on after h, its first step in the time d
+abbrev pub after : Life → ℕ → Life → Life
+after h d [] = h
+after h d (s ∷ []) = step d (input_of s) ∷ h
+after h d (s ∷ r ∷ L) = s ∷ after h d (r ∷ L)
+
+-- what a process is once it has lived: frozen, to go on in the time d; itself, where it hasn't lived
+abbrev pub frozen : Process → Life → ℕ → Process
+frozen P [] d = P
+frozen P (s ∷ L) d = resumed P (s ∷ L) d
 
 -- the same times, with another input made of each
 abbrev pub with_inputs : (Data → Data) → Life → Life
@@ -69,6 +95,12 @@ abbrev pub relay : Life → List Data → Life
 relay [] ys = []
 relay (s ∷ L) [] = []
 relay (s ∷ L) (y ∷ ys) = step (wait_of s) y ∷ relay L ys
+
+-- the same times, each input beside one of these values
+abbrev pub observed_life : Life → List Data → Life
+observed_life [] ys = []
+observed_life (s ∷ L) [] = []
+observed_life (s ∷ L) (y ∷ ys) = step (wait_of s) (pair (input_of s) y) ∷ observed_life L ys
 
 -- the input of the first step, where s stands after L
 abbrev pub first_input : Step → Life → Data

@@ -12,8 +12,8 @@ use Rattle.sf_term.specs.declared.form.Heading.TheVariants.{LoopPre, Initialized
 use Rattle.sf_term.specs.declared.form.Observation.{Observation}
 use Rattle.sf_term.specs.declared.form.Observation.TheVariants.{Immediate, Delayed}
 use Rattle.sf_term.specs.declared.form.Switching.TheVariants.{Basic, Recurring}
-use Rattle.sf_term.specs.Trees.{Primitive, Extent, whole, rest, Term, primitive, joined, sided, headed, switching, staged, Templates}
-use Rattle.sf_mean.specs.Lives.{Step, step, wait_of, input_of, Life, Process, closure, Environment, scope_around, bind, with_inputs, relay, fed, first_input as input_at_first}
+use Rattle.sf_term.specs.Trees.{Primitive, Extent, whole, rest, Term, primitive, run, joined, sided, headed, switching, keeping, staged, Templates}
+use Rattle.sf_mean.specs.Lives.{Step, step, wait_of, input_of, Life, Process, closure, resumed, Environment, running, process_of, scope_around, bind, after, frozen, with_inputs, relay, observed_life, fed, first_input as input_at_first}
 use Rattle.sf_mean.specs.Formulas.{at_first, occurring, side_of, with_side, formula}
 
 -- A network: its templates, and what its stored functions answer.
@@ -79,6 +79,11 @@ over c = cost (suc (count c)) (suc (height c))
 abbrev pub one_term : Cost
 one_term = over no_cost
 
+-- a term that counts at the first step of its life alone
+abbrev pub over_first : Life → Cost → Cost
+over_first [] c = over c
+over_first (s ∷ L) c = c
+
 -- a pipeline counts one, and the rest of one nothing
 abbrev pub over_stages : Extent → Cost → Cost
 over_stages whole c = over c
@@ -87,24 +92,29 @@ over_stages rest c = c
 -- the terms in the text of a term, outside of the bodies of switches
 abbrev pub text_cost : Term → Cost
 text_cost (primitive p) = one_term
+text_cost (run k) = one_term
 text_cost (joined j f g) = over (both_costs (text_cost f) (text_cost g))
 text_cost (sided d t) = over (text_cost t)
 text_cost (headed h e t) = over (text_cost t)
 text_cost (switching w t p u) = over (text_cost t)
+text_cost (keeping w t q k p u) = over (both_costs (text_cost t) (text_cost q))
 text_cost (staged x f g) = over_stages x (both_costs (text_cost f) (text_cost g))
 
--- What a form's constants give: nothing, or a value.
+-- What a form is made with: nothing, the value of its constant, or the process that stands in its place.
 pub data Made : Type 0 where
   nothing_made : Made
   value_made : Data → Made
+  process_made : Process → Made
 
 -- What stands before a form's parts, evaluated at its first step. A primitive's constants are in its formula.
 abbrev pub make : Network → Term → Environment → Data → Evaluated Made
 make n (primitive p) e x = answer nothing_made
+make n (run k) e x = answer (process_made (process_of k e))
 make n (joined j f g) e x = answer nothing_made
 make n (sided d t) e x = answer nothing_made
 make n (headed h i t) e x = eval i (scope_around n.functions e) >>= λ v. answer (value_made v)
 make n (switching w t p u) e x = answer nothing_made
+make n (keeping w t q k p u) e x = answer nothing_made
 make n (staged x f g) e y = answer nothing_made
 
 -- what the left part of a join lives
@@ -125,24 +135,42 @@ join_value InSequence y z = z
 join_value InParallel y z = pair y z
 join_value FannedOut y z = pair y z
 
--- Where a switch stands after a life: it waits for an event, or it had one with the payload v, and its body has lived M since.
+-- What a switch watches: a process, whose values stand beside events; or a process beside a term that is given its inputs and
+-- values and gives the events.
+pub data Watched : Type 0 where
+  itself : Process → Watched
+  observed : Process → (observer : Term) → Environment → Watched
+
+-- what takes over at an event, by the event's step, the life before it and the payload
+abbrev pub Takeover : Type 0
+Takeover = Step → Life → Data → Process
+
+-- the body of a switch
+abbrev pub body_of : Pattern → Term → Environment → Data → Process
+body_of p u e v = closure u (bind p v e)
+
+-- takes over alike, whenever the event comes
+abbrev pub whenever : (Data → Process) → Takeover
+whenever B s L = B
+
+-- the body of a switch that keeps its source, frozen before the step of the event, under a name; the pattern hides it
+abbrev pub body_with : Name → Process → Pattern → Term → Environment → Takeover
+body_with k P p u e s L v = closure u (bind p v (running k (frozen P L (wait_of s)) e))
+
+-- Where a switch stands after a life: it waits for an event, or it had one, and what took over has lived M since.
 pub data Standing : Type 0 where
   waits : Standing
-  fired : (v : Data) (M : Life) → Standing
+  fired : Process → (M : Life) → Standing
 
--- where a switch that waited stands after a step at which there was this payload, if there was one
-abbrev pub stands_after : Step → Option Data → Standing
-stands_after s None = waits
-stands_after s (Some v) = fired v (s ∷ [])
+-- where a switch that waited for the life L stands after a step at which there was this payload, if there was one
+abbrev pub stands_after : Takeover → Step → Life → Option Data → Standing
+stands_after B s L None = waits
+stands_after B s L (Some v) = fired (B s L v) (s ∷ [])
 
 -- the value at the step of an event: that of the body, or still that of what ran before
 abbrev pub switched_value : Observation → Data → Data → Data
 switched_value Immediate y z = z
 switched_value Delayed y z = y
-
--- what takes over from a switch at an event
-abbrev pub body_of : Pattern → Term → Environment → Data → Process
-body_of p u e v = closure u (bind p v e)
 
 -- the payload of the event beside an input, if there is one
 abbrev pub event_beside : Step → Option Data
@@ -205,6 +233,10 @@ mutual
         → make n t e (input_at_first s L) ≡ answer m
         → Form n t e m s L o c
         → Sample n (closure t e) s L o c
+    -- a frozen process goes on
+    of_resumed : {P : Process} {h : Life} {d : ℕ} {s : Step} {L : Life} {o : Outcome} {c : Cost}
+        → Gives n P (after h d (s ∷ L)) o c
+        → Sample n (resumed P h d) s L o c
 
   -- One step of each form, with what it was made with.
   pub data Form (n : Network) : Term → Environment → Made → Step → Life → Outcome → Cost → Type 0 where
@@ -212,6 +244,10 @@ mutual
     of_primitive : {p : Primitive} {e : Environment} {m : Made} {s : Step} {L : Life} {o : Outcome}
         → as_outcome (formula p (scope_around n.functions e) s L) [] ≡ o
         → Form n (primitive p) e m s L o one_term
+    -- a named process stands in its place; its first step counts besides
+    of_run : {k : Name} {e : Environment} {P : Process} {s : Step} {L : Life} {o : Outcome} {c : Cost}
+        → Gives n P (s ∷ L) o c
+        → Form n (run k) e (process_made P) s L o (over_first L c)
     -- left before right, each on its own life
     of_join : {j : Join} {f g : Term} {e : Environment} {m : Made} {s : Step} {L : Life} {ys : List Data} {o o' : Outcome} {c c' : Cost}
         → Outputs n (closure f e) (left_life j L) ys
@@ -233,8 +269,8 @@ mutual
         → Form n (headed Initialized i t) e (value_made v) s L (changed (at_first L v) o) (over c)
     -- a switch gives what its standing says
     of_switch : {w : Observation} {t u : Term} {p : Pattern} {e : Environment} {m : Made} {s : Step} {L : Life} {st : Standing} {o : Outcome} {c : Cost}
-        → Since n (closure t e) L st
-        → SwitchTurn n w (closure t e) (body_of p u e) s L st o c
+        → Since n (itself (closure t e)) (whenever (body_of p u e)) L st
+        → SwitchTurn n w (itself (closure t e)) (whenever (body_of p u e)) s L st o c
         → Form n (switching (Basic w) t p u) e m s L o c
     -- a recurring switch: what runs lives the first parts of the inputs since the last event, through an event too; there the
     -- body begins, on that step alone
@@ -242,6 +278,11 @@ mutual
         → Gives n (what_runs (closure t e) (body_of p u e) (last_event L)) (with_inputs first_of (s ∷ since_event L)) o c
         → Fires n w (body_of p u e) (without_event s) o (unless_faulted o (event_beside s)) o' c'
         → Form n (switching (Recurring w) t p u) e m s L o' (over (both_costs c c'))
+    -- a switch that keeps its source, under an observer
+    of_keeping : {w : Observation} {t q u : Term} {k : Name} {p : Pattern} {e : Environment} {m : Made} {s : Step} {L : Life} {st : Standing} {o : Outcome} {c : Cost}
+        → Since n (observed (closure t e) q e) (body_with k (closure t e) p u e) L st
+        → SwitchTurn n w (observed (closure t e) q e) (body_with k (closure t e) p u e) s L st o c
+        → Form n (keeping w t q k p u) e m s L o c
     -- a stage before the others: they live on its values
     of_stages : {x : Extent} {f g : Term} {e : Environment} {m : Made} {s : Step} {L : Life} {ys : List Data} {o o' : Outcome} {c c' : Cost}
         → Outputs n (closure f e) L ys
@@ -265,29 +306,40 @@ mutual
         → Gives n P (fed v (s ∷ L) zs) (gave z r) c
         → Loops n v P (s ∷ L) (z ∷ zs)
 
-  -- Where a switch stands after a life of its source. Its event stands beside its source's value.
-  pub data Since (n : Network) : Process → Life → Standing → Type 0 where
-    at_start : {P : Process} → Since n P [] waits
-    watched : {P : Process} {s : Step} {L : Life} {y : Data} {r : Readings} {c : Cost} {st : Standing}
-        → Since n P L waits
-        → Gives n P (s ∷ L) (gave y r) c
-        → stands_after s (occurring (second_of y)) ≡ st
-        → Since n P (s ∷ L) st
-    had_fired : {P : Process} {s : Step} {L M : Life} {v : Data}
-        → Since n P L (fired v M)
-        → Since n P (s ∷ L) (fired v (s ∷ M))
-
-  -- A switch's next step, where B takes over. Once it has fired it counts nothing, and its body stands in its place.
-  pub data SwitchTurn (n : Network) : Observation → Process → (Data → Process) → Step → Life → Standing → Outcome → Cost → Type 0 where
-    while_waiting : {w : Observation} {P : Process} {B : Data → Process} {s : Step} {L : Life} {o o' : Outcome} {c c' : Cost}
+  -- What a switch sees at a step: a value beside an event, if there is one. An observer is given the inputs beside the values.
+  pub data Sees (n : Network) : Watched → Step → Life → Outcome → Cost → Type 0 where
+    beside_values : {P : Process} {s : Step} {L : Life} {o : Outcome} {c : Cost}
         → Gives n P (s ∷ L) o c
-        → Switched n w B s o o' c'
-        → SwitchTurn n w P B s L waits o' (over (both_costs c c'))
-    as_body : {w : Observation} {P : Process} {B : Data → Process} {s : Step} {L M : Life} {v : Data} {o : Outcome} {c : Cost}
-        → Gives n (B v) (s ∷ M) o c
-        → SwitchTurn n w P B s L (fired v M) o c
+        → Sees n (itself P) s L o c
+    by_observer : {P : Process} {q : Term} {e : Environment} {s : Step} {L : Life} {ys : List Data} {o o' : Outcome} {c c' : Cost}
+        → Outputs n P L ys
+        → Gives n P (s ∷ L) o c
+        → Next n o q e (observed_life (s ∷ L) (value_in o ∷ ys)) o' c'
+        → Sees n (observed P q e) s L (combined pair o o') (both_costs c c')
 
-  -- What comes after the source of a switch: nothing after its fault, else what comes of the payload beside its value.
+  -- Where a switch stands after a life of what it watches, where B takes over.
+  pub data Since (n : Network) : Watched → Takeover → Life → Standing → Type 0 where
+    at_start : {W : Watched} {B : Takeover} → Since n W B [] waits
+    watched : {W : Watched} {B : Takeover} {s : Step} {L : Life} {y : Data} {r : Readings} {c : Cost} {st : Standing}
+        → Since n W B L waits
+        → Sees n W s L (gave y r) c
+        → stands_after B s L (occurring (second_of y)) ≡ st
+        → Since n W B (s ∷ L) st
+    had_fired : {W : Watched} {B : Takeover} {s : Step} {L M : Life} {Q : Process}
+        → Since n W B L (fired Q M)
+        → Since n W B (s ∷ L) (fired Q (s ∷ M))
+
+  -- A switch's next step. Once it has fired it counts nothing, and what took over stands in its place.
+  pub data SwitchTurn (n : Network) : Observation → Watched → Takeover → Step → Life → Standing → Outcome → Cost → Type 0 where
+    while_waiting : {w : Observation} {W : Watched} {B : Takeover} {s : Step} {L : Life} {o o' : Outcome} {c c' : Cost}
+        → Sees n W s L o c
+        → Switched n w (B s L) s o o' c'
+        → SwitchTurn n w W B s L waits o' (over (both_costs c c'))
+    as_body : {w : Observation} {W : Watched} {B : Takeover} {s : Step} {L M : Life} {Q : Process} {o : Outcome} {c : Cost}
+        → Gives n Q (s ∷ M) o c
+        → SwitchTurn n w W B s L (fired Q M) o c
+
+  -- What comes after what a switch sees: nothing after a fault, else what comes of the payload beside the value.
   pub data Switched (n : Network) : Observation → (Data → Process) → Step → Outcome → Outcome → Cost → Type 0 where
     after_fault : {w : Observation} {B : Data → Process} {s : Step} {x : ValueFault} → Switched n w B s (faulted x) (faulted x) no_cost
     after_value : {w : Observation} {B : Data → Process} {s : Step} {y : Data} {r : Readings} {o : Outcome} {c : Cost}

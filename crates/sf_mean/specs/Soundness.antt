@@ -1,11 +1,11 @@
 -- Typed lives and processes.
-use Rattle.std.specs.Prelude.{List, [], ◌∷◌, ⊤}
+use Rattle.std.specs.Prelude.{ℕ, List, [], ◌∷◌, ⊤}
 use Rattle.sf_value.specs.Values.{Name, Kind, Data, HasKind}
 use Rattle.sf_func.specs.Registries.{TypesByName, KeepTheirTypes}
 use Rattle.sf_term.specs.Trees.{Term}
-use Rattle.sf_mean.specs.Lives.{Step, input_of, Life, Environment, empty, known, Process, closure}
-use Rattle.sf_mean.specs.Meaning.{Network, Outcome, gave, faulted}
-use Rattle.sf_mean.specs.Contexts.{value, Bindings, context_with}
+use Rattle.sf_mean.specs.Lives.{Step, input_of, Life, Environment, empty, known, running, Process, closure, resumed}
+use Rattle.sf_mean.specs.Meaning.{Network, Outcome, gave, faulted, Outputs}
+use Rattle.sf_mean.specs.Contexts.{value, process, Bindings, context_with}
 use Rattle.sf_mean.specs.Typing.{Takes}
 
 -- Each value of a list has a type.
@@ -18,16 +18,32 @@ pub data LifeHas : Life → Kind → Type 0 where
   no_steps : {t : Kind} → LifeHas [] t
   more_steps : {s : Step} {L : Life} {t : Kind} → HasKind (input_of s) t → LifeHas L t → LifeHas (s ∷ L) t
 
--- An environment has the names of a context, each with what it stands for.
-pub data EnvironmentHas : Environment → Bindings → Type 0 where
-  has_nothing : EnvironmentHas empty []
-  has_value : {x : Name} {d : Data} {t : Kind} {e : Environment} {bs : Bindings} → HasKind d t → EnvironmentHas e bs → EnvironmentHas (known x d e) ((x, value t) ∷ bs)
+mutual
+  -- In a network, an environment has the names of a context, each with what it stands for.
+  pub data EnvironmentHas (n : Network) : Environment → Bindings → Type 0 where
+    has_nothing : EnvironmentHas n empty []
+    has_value : {x : Name} {d : Data} {t : Kind} {e : Environment} {bs : Bindings} → HasKind d t → EnvironmentHas n e bs → EnvironmentHas n (known x d e) ((x, value t) ∷ bs)
+    has_process : {x : Name} {P : Process} {a b : Kind} {e : Environment} {bs : Bindings} → ProcessTakes n P a b → EnvironmentHas n e bs → EnvironmentHas n (running x P e) ((x, process a b) ∷ bs)
 
--- In a network, a process takes inputs of one type to outputs of another: the network's functions keep types and its
--- environment has names under which, and under the headers of the network, its term takes them.
-pub data ProcessTakes (n : Network) : Process → Kind → Kind → Type 0 where
-  closure_takes : {t : Term} {e : Environment} {fs : TypesByName} {bs : Bindings} {a b : Kind}
-      → KeepTheirTypes fs n.functions → EnvironmentHas e bs → Takes (context_with fs bs n.templates) t a b → ProcessTakes n (closure t e) a b
+  -- In a network, a process takes inputs of one type to outputs of another: the network's functions keep types and its
+  -- environment has names under which, and under the headers of the network, its term takes them; what was frozen has lived
+  -- such inputs.
+  pub data ProcessTakes (n : Network) : Process → Kind → Kind → Type 0 where
+    closure_takes : {t : Term} {e : Environment} {fs : TypesByName} {bs : Bindings} {a b : Kind}
+        → KeepTheirTypes fs n.functions → EnvironmentHas n e bs → Takes (context_with fs bs n.templates) t a b → ProcessTakes n (closure t e) a b
+    resumed_takes : {P : Process} {h : Life} {d : ℕ} {a b : Kind} → ProcessTakes n P a b → LifeHas h a → ProcessTakes n (resumed P h d) a b
+
+mutual
+  -- What was frozen in a process had lived so: its process gave values.
+  pub data HasLived (n : Network) : Process → Type 0 where
+    closed : {t : Term} {e : Environment} → HaveLived n e → HasLived n (closure t e)
+    was_frozen : {P : Process} {h : Life} {d : ℕ} {ys : List Data} → HasLived n P → Outputs n P h ys → HasLived n (resumed P h d)
+
+  -- the same of each process of an environment
+  pub data HaveLived (n : Network) : Environment → Type 0 where
+    none_lived : HaveLived n empty
+    value_beside : {x : Name} {d : Data} {e : Environment} → HaveLived n e → HaveLived n (known x d e)
+    process_lived : {x : Name} {P : Process} {e : Environment} → HasLived n P → HaveLived n e → HaveLived n (running x P e)
 
 -- the value of an outcome has a type
 abbrev pub OutcomeHas : Outcome → Kind → Type 0

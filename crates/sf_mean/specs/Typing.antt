@@ -1,6 +1,6 @@
 -- The types of terms under a context, and the networks that are accepted.
 use Rattle.std.specs.Prelude.{◌≡◌, ◌≢◌, ℕ, ◌<◌, Bool, ◌&&◌, IsTrue, ℤ, pos, int_le, Option, Some, None, slice_get}
-use Rattle.sf_value.specs.Values.{Kind, unit_kind, bool_kind, int_kind, pair_kind, event_kind}
+use Rattle.sf_value.specs.Values.{Name, Kind, unit_kind, bool_kind, int_kind, pair_kind, event_kind}
 use Rattle.sf_operator.specs.Kinds.{found_then, only, payload_of}
 use Rattle.sf_func.specs.Registries.{TypesByName}
 use Rattle.sf_expr.specs.Expressions.{Pattern, Expression, Function}
@@ -16,11 +16,11 @@ use Rattle.sf_term.specs.declared.form.Accumulation.TheVariants.{AccumBy, AccumH
 use Rattle.sf_term.specs.declared.form.Join.TheVariants.{InSequence, InParallel, FannedOut}
 use Rattle.sf_term.specs.declared.form.Side.TheVariants.{First, Second}
 use Rattle.sf_term.specs.declared.form.Heading.TheVariants.{LoopPre, Initialized}
-use Rattle.sf_term.specs.Trees.{Chain, lone, chained, on_side, on_both, fanned, Primitive, bare, never, with_value, timed, arrow, accumulated, fused, Extent, Term, primitive, joined, sided, headed, switching, staged, Template, Templates}
+use Rattle.sf_term.specs.Trees.{Chain, lone, chained, on_side, on_both, fanned, Primitive, bare, never, with_value, timed, arrow, accumulated, fused, Extent, Term, primitive, run, joined, sided, headed, switching, keeping, staged, Template, Templates}
 use Rattle.sf_term.specs.declared.form.Observation.{Observation}
 use Rattle.sf_term.specs.declared.form.Switching.TheVariants.{Basic, Recurring}
 use Rattle.sf_mean.specs.Networks.{main_of}
-use Rattle.sf_mean.specs.Contexts.{Context, names_of_values, context_of, inside_pattern}
+use Rattle.sf_mean.specs.Contexts.{Context, names_of_values, context_of, inside_pattern, inside_process, process_named}
 
 -- Functions made into one take inputs of one type to outputs of another.
 pub data ChainTakes (Γ : Context) : Chain → Kind → Kind → Type 0 where
@@ -90,6 +90,7 @@ mutual
   -- the types of each form of terms
   pub data FormTakes : Context → Term → Kind → Kind → Type 0 where
     primitive_takes : {Γ : Context} {p : Primitive} {a b : Kind} → PrimitiveTakes Γ p a b → FormTakes Γ (primitive p) a b
+    run_takes : {Γ : Context} {k : Name} {a b : Kind} → process_named k Γ.bindings ≡ Some (a, b) → FormTakes Γ (run k) a b
     sequence_takes : {Γ : Context} {f g : Term} {a b c : Kind} → Takes Γ f a b → Takes Γ g b c → FormTakes Γ (joined InSequence f g) a c
     parallel_takes : {Γ : Context} {f g : Term} {a b c d : Kind} → Takes Γ f a b → Takes Γ g c d → FormTakes Γ (joined InParallel f g) (pair_kind a c) (pair_kind b d)
     fan_takes : {Γ : Context} {f g : Term} {a b c : Kind} → Takes Γ f a b → Takes Γ g a c → FormTakes Γ (joined FannedOut f g) a (pair_kind b c)
@@ -101,6 +102,10 @@ mutual
         → Takes Γ t a (pair_kind b (event_kind c)) → Binds p c (names_of_values Γ) (names_of_values (inside_pattern p c Γ)) → Takes (inside_pattern p c Γ) u a b → FormTakes Γ (switching (Basic w) t p u) a b
     recurring_takes : {Γ : Context} {w : Observation} {t u : Term} {p : Pattern} {a b c : Kind}
         → Takes Γ t a b → Binds p c (names_of_values Γ) (names_of_values (inside_pattern p c Γ)) → Takes (inside_pattern p c Γ) u a b → FormTakes Γ (switching (Recurring w) t p u) (pair_kind a (event_kind c)) b
+    keeping_takes : {Γ : Context} {w : Observation} {t q u : Term} {k : Name} {p : Pattern} {a b c : Kind}
+        → Takes Γ t a b → Takes Γ q (pair_kind a b) (event_kind c)
+        → Binds p c (names_of_values (inside_process k a b Γ)) (names_of_values (inside_pattern p c (inside_process k a b Γ)))
+        → Takes (inside_pattern p c (inside_process k a b Γ)) u a b → FormTakes Γ (keeping w t q k p u) a b
     stages_take : {Γ : Context} {x : Extent} {f g : Term} {a b c : Kind} → Takes Γ f a b → Takes Γ g b c → FormTakes Γ (staged x f g) a c
 
 -- a template's term takes its header's input to its header's output, under the headers of all templates, with functions of

@@ -3,4 +3,4 @@
 
 mod laws;
 
-pub use laws::{found_output, one_outcome, prefix_law, some_outcome, typed_process};
+pub use laws::{found_output, one_outcome, prefix_law, restart, some_outcome, typed_process};

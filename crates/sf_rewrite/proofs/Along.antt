@@ -11,9 +11,9 @@ use Rattle.sf_term.specs.declared.form.Switching.{Switching}
 use Rattle.sf_term.specs.Trees.{Extent, Term, joined, sided, headed, switching, staged}
 use Rattle.sf_mean.specs.Lives.{Step, Life, Environment, with_inputs, relay}
 use Rattle.sf_mean.specs.Formulas.{side_of}
-use Rattle.sf_mean.specs.Meaning.{Outcome, Cost, text_cost, Standing}
+use Rattle.sf_mean.specs.Meaning.{Outcome, Cost, text_cost}
 use Rattle.sf_value.specs.Values.{first_of, second_of}
-use Rattle.sf_rewrite.proofs.Parts.{Leaves, Part, part, Parts, begins, then_gave, At, at_leaf, at_join, at_stages, at_side, at_loop, at_initialized, at_constant, at_switch, at_recurring, Then, then_part, then_stops, Rounds, no_round, one_round, Watches, watch_begins, then_watched, fired_before, Turns, turn_waits, turn_body, Switches, switch_stops, switch_goes, Runs, runs_first, runs_body, Bodies, no_body, body_begins, no_truth, OneLeaf}
+use Rattle.sf_rewrite.proofs.Parts.{Leaves, Stand, Part, part, Parts, begins, then_gave, At, at_leaf, at_join, at_stages, at_side, at_loop, at_initialized, at_constant, at_switch, at_recurring, Then, then_part, then_stops, Rounds, no_round, one_round, Watches, watch_begins, then_watched, fired_before, Turns, turn_waits, turn_body, Switches, switch_stops, switch_goes, Runs, runs_first, runs_body, Bodies, no_body, body_begins, no_truth, OneLeaf}
 use Rattle.sf_rewrite.proofs.Views.{Chained, Paired, Fanned, Sided, SplitStages, SplitFan, SplitSide, pairs, last_stages, make_stages, last_parallel, make_parallel, last_fan, make_fan, last_side, make_side}
 use Rattle.sf_rewrite.proofs.Lowered.{Below, Lowered, lowered, below_same, below_trans, below_over, below_both, below_stages}
 
@@ -37,7 +37,7 @@ module _ (Q : Leaves) (one : OneLeaf Q) where
   rounds_along S no_round = no_round
   rounds_along S (one_round A B) = elim (part_along S B) [ lowered B' h ↦ one_round (rounds_along S A) B' ]
 
-  watches_along : {d : Bool} {t u : Term} → Sound d t u → {e : Environment} {L : Life} {st : Standing} → Watches Q t e L st → Watches Q u e L st
+  watches_along : {d : Bool} {t u : Term} → Sound d t u → {e : Environment} {L : Life} {st : Stand} → Watches Q t e L st → Watches Q u e L st
   watches_along S watch_begins = watch_begins
   watches_along S (then_watched A B h) = elim (part_along S B) [ lowered B' k ↦ then_watched (watches_along S A) B' h ]
   watches_along S (fired_before A) = fired_before (watches_along S A)
@@ -50,7 +50,7 @@ module _ (Q : Leaves) (one : OneLeaf Q) where
   switches_along {d = d} T switch_stops = lowered switch_stops (below_same d _)
   switches_along T (switch_goes A) = elim (bodies_along T A) [ lowered A' h ↦ lowered (switch_goes A') h ]
 
-  turns_along : {d : Bool} {t t' u u' : Term} → Sound d t t' → Sound d u u' → {w : Observation} {p : Pattern} {e : Environment} {s : Step} {L : Life} {st : Standing} {o : Outcome} {c : Cost} → Turns Q w t p u e s L st o c → Lowered d (Turns Q w t' p u' e s L st o) c
+  turns_along : {d : Bool} {t t' u u' : Term} → Sound d t t' → Sound d u u' → {w : Observation} {p : Pattern} {e : Environment} {s : Step} {L : Life} {st : Stand} {o : Outcome} {c : Cost} → Turns Q w t p u e s L st o c → Lowered d (Turns Q w t' p u' e s L st o) c
   turns_along S T (turn_waits A B) = elim (part_along S A) [ lowered A' h ↦ elim (switches_along T B) [ lowered B' k ↦ lowered (turn_waits A' B') (below_over _ _ (below_both _ _ _ _ h k)) ] ]
   turns_along S T (turn_body A) = elim (part_along T A) [ lowered A' h ↦ lowered (turn_body A') h ]
 

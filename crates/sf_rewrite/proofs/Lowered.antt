@@ -1,7 +1,8 @@
 -- Costs that are no higher, and what keeps them so.
-use Rattle.std.proofs.Common.{◌≤◌, Bool, true, false, IsTrue, arith}
+use Rattle.std.proofs.Common.{◌≤◌, [], ◌∷◌, Bool, true, false, IsTrue, arith}
 use Rattle.sf_term.specs.Trees.{Extent, whole, rest}
-use Rattle.sf_mean.specs.Meaning.{Cost, count, height, both_costs, over, over_stages}
+use Rattle.sf_mean.specs.Lives.{Life}
+use Rattle.sf_mean.specs.Meaning.{Cost, count, height, both_costs, over, over_first, over_stages}
 use Rattle.sf_rewrite.proofs.Parts.{no_truth}
 
 -- the second is no higher than the first; nothing, where d is false
@@ -33,3 +34,7 @@ below_both a b x y p q = record { counts = λ h. omega (arith, p.counts h, q.cou
 pub below_stages : {d : Bool} (x : Extent) (a b : Cost) → Below d a b → Below d (over_stages x a) (over_stages x b)
 below_stages whole a b p = below_over a b p
 below_stages rest a b p = p
+
+pub below_first : {d : Bool} (L : Life) (a b : Cost) → Below d a b → Below d (over_first L a) (over_first L b)
+below_first [] a b p = below_over a b p
+below_first (s ∷ L) a b p = p

@@ -1,25 +1,27 @@
 -- Plans keep outcomes.
-use Rattle.std.proofs.Common.{◌≡◌, Bool, true, false, IsTrue, List, [], ◌∷◌, refl, sym, ap, ◌∙◌, subst, Option, Some, None}
+use Rattle.std.proofs.Common.{ℕ, ◌≡◌, Bool, true, false, cond, IsTrue, List, [], ◌∷◌, refl, sym, ap, ◌∙◌, subst, Option, Some, None}
+use Rattle.std.specs.Prelude.{bytes_eq}
+use mathlib.Core.Path.{subst₂}
 use Rattle.sf_value.specs.Values.{Name, Data, first_of, second_of}
 use Rattle.sf_value.specs.declared.fault.ValueFault.{ValueFault}
 use Rattle.sf_func.specs.Registries.{AnswersByName}
 use Rattle.sf_expr.specs.Expressions.{Pattern, unnamed, named, both, Expression}
-use Rattle.sf_expr.specs.Evaluation.{answer, failed, Scope, no_names, value_name, eval}
+use Rattle.sf_expr.specs.Evaluation.{Evaluated, answer, failed, Scope, no_names, value_name, other_name, eval}
 use Rattle.sf_term.specs.declared.form.Join.{Join}
 use Rattle.sf_term.specs.declared.form.Side.{Side}
 use Rattle.sf_term.specs.declared.form.Heading.{Heading}
 use Rattle.sf_term.specs.declared.form.Observation.{Observation}
 use Rattle.sf_term.specs.declared.form.Switching.{Switching}
-use Rattle.sf_term.specs.Trees.{Primitive, Term, primitive, joined, sided, headed, switching, staged, Template, Templates}
-use Rattle.sf_mean.specs.Lives.{Step, input_of, Life, Process, closure, Environment, empty, known, scope_around, bind, first_input}
-use Rattle.sf_mean.specs.Formulas.{formula}
-use Rattle.sf_mean.specs.Meaning.{Network, Readings, Outcome, gave, faulted, as_outcome, Cost, one_term, text_cost, last_event, Made, make, Standing, body_of, Gives, gives, Outputs, not_begun, and_gave, Sample, of_constants, of_form, Form, of_primitive, of_join, of_side, of_loop, of_initialized, of_switch, of_recurring, of_stages, what_runs, Next, goes_on, stops, Loops, no_loop, and_looped, Since, at_start, watched, had_fired, SwitchTurn, while_waiting, as_body, Switched, after_fault, after_value, Fires, no_event_yet, event_now}
-use Rattle.sf_rewrite.specs.Laws.{Laws}
-use Rattle.sf_rewrite.proofs.Parts.{Leaves, Part, part, Parts, begins, then_gave, At, at_leaf, at_primitive, at_join, at_stages, at_side, at_loop, at_initialized, at_constant, at_switch, at_recurring, Then, then_part, then_stops, Rounds, no_round, one_round, Watches, watch_begins, then_watched, fired_before, Turns, turn_waits, turn_body, Switches, switch_stops, switch_goes, Runs, runs_first, runs_body, Bodies, no_body, body_begins, is_leaf, no_truth, OneLeaf}
-use Rattle.sf_rewrite.proofs.Lowered.{Below, Lowered, lowered, below_same, below_any, below_trans, below_over, below_both}
+use Rattle.sf_term.specs.Trees.{Primitive, Term, primitive, run, joined, sided, headed, switching, keeping, staged, Template, Templates}
+use Rattle.sf_mean.specs.Lives.{Step, wait_of, input_of, Life, Process, closure, resumed, Environment, empty, known, running, passing, process_of, scope_around, bind, after, frozen, first_input}
+use Rattle.sf_mean.specs.Formulas.{occurring, formula}
+use Rattle.sf_mean.specs.Meaning.{Network, Readings, Outcome, gave, faulted, as_outcome, Cost, over_first, one_term, text_cost, last_event, Made, process_made, make, Watched, itself, observed, Takeover, Standing, waits, fired, stands_after, whenever, body_of, body_with, Gives, gives, Outputs, not_begun, and_gave, Sample, of_constants, of_form, of_resumed, Form, of_primitive, of_run, of_join, of_side, of_loop, of_initialized, of_switch, of_keeping, of_recurring, of_stages, what_runs, Next, goes_on, stops, Loops, no_loop, and_looped, Sees, beside_values, by_observer, Since, at_start, watched, had_fired, SwitchTurn, while_waiting, as_body, Switched, after_fault, after_value, Fires, no_event_yet, event_now}
+use Rattle.sf_rewrite.specs.Laws.{Laws, unchanged}
+use Rattle.sf_rewrite.proofs.Parts.{Leaves, Stand, waiting, began, later_stand, stand_after, Part, part, Parts, begins, then_gave, At, at_leaf, at_primitive, at_join, at_stages, at_side, at_loop, at_initialized, at_constant, at_switch, at_recurring, Then, then_part, then_stops, Rounds, no_round, one_round, Watches, watch_begins, then_watched, fired_before, Turns, turn_waits, turn_body, Switches, switch_stops, switch_goes, Runs, runs_first, runs_body, Bodies, no_body, body_begins, is_leaf, no_truth, OneLeaf}
+use Rattle.sf_rewrite.proofs.Lowered.{Below, Lowered, lowered, below_same, below_any, below_trans, below_over, below_both, below_first}
 use Rattle.sf_rewrite.proofs.Along.{Sound, parts_along}
 use Rattle.sf_rewrite.proofs.Sound.{texts, onward, back}
-use Rattle.sf_rewrite.proofs.Opening.{made_answer, made_fault, Leaf, closed_part}
+use Rattle.sf_rewrite.proofs.Opening.{made_answer, made_fault, standing_of, stands_alike, Leaf, closed}
 
 -- a law, from left to right or back
 pub data Law : Bool → Term → Term → Type 0 where
@@ -33,18 +35,22 @@ mutual
 
   pub data Formed (d : Bool) : Term → Term → Type 0 where
     same_primitive : {p : Primitive} → Formed d (primitive p) (primitive p)
+    same_run : {k : Name} → Formed d (run k) (run k)
     same_join : {j : Join} {f f' g g' : Term} → Alike d f f' → Alike d g g' → Formed d (joined j f g) (joined j f' g')
     same_side : {a : Side} {t t' : Term} → Alike d t t' → Formed d (sided a t) (sided a t')
     same_heading : {h : Heading} {i : Expression} {t t' : Term} → Alike d t t' → Formed d (headed h i t) (headed h i t')
     same_switch : {w : Switching} {t t' u u' : Term} {p : Pattern} → Alike d t t' → Alike d u u' → Formed d (switching w t p u) (switching w t' p u')
+    same_keeping : {w : Observation} {t t' q q' u u' : Term} {k : Name} {p : Pattern} → Alike d t t' → Alike d q q' → Alike d u u' → Formed d (keeping w t q k p u) (keeping w t' q' k p u')
 
 mutual
   pub data AlikeProcess (d : Bool) : Process → Process → Type 0 where
     alike_closure : {t t' : Term} {e e' : Environment} → Alike d t t' → AlikeNames d e e' → AlikeProcess d (closure t e) (closure t' e')
+    alike_resumed : {P P' : Process} {h : Life} {w : ℕ} → AlikeProcess d P P' → AlikeProcess d (resumed P h w) (resumed P' h w)
 
   pub data AlikeNames (d : Bool) : Environment → Environment → Type 0 where
     alike_empty : AlikeNames d empty empty
     alike_known : {x : Name} {v : Data} {e e' : Environment} → AlikeNames d e e' → AlikeNames d (known x v e) (known x v e')
+    alike_running : {x : Name} {P P' : Process} {e e' : Environment} → AlikeProcess d P P' → AlikeNames d e e' → AlikeNames d (running x P e) (running x P' e')
 
 -- a template with a term of the same meaning
 pub record AlikeTemplate (d : Bool) (s t : Template) : Type 0 where
@@ -58,11 +64,67 @@ pub data AlikeAll (d : Bool) : Templates → Templates → Type 0 where
 scopes : {d : Bool} {φ ψ : AnswersByName} {e e' : Environment} → ψ ≡ φ → AlikeNames d e e' → scope_around φ e ≡ scope_around ψ e'
 scopes same alike_empty = ap no_names (sym same)
 scopes same (alike_known {x = x} {v = v} E) = ap (value_name x v) (scopes same E)
+scopes same (alike_running {x = x} R E) = ap (other_name x) (scopes same E)
 
 alike_bind : {d : Bool} (p : Pattern) (v : Data) {e e' : Environment} → AlikeNames d e e' → AlikeNames d (bind p v e) (bind p v e')
 alike_bind unnamed v E = E
 alike_bind (named x) v E = alike_known E
 alike_bind (both p q) v E = alike_bind q (second_of v) (alike_bind p (first_of v) E)
+
+-- the process of a name
+alike_passing : (d : Bool) → AlikeProcess d passing passing
+alike_passing true = alike_closure (alike (to_plan unchanged) same_primitive (to_plan unchanged)) alike_empty
+alike_passing false = alike_closure (alike (from_plan unchanged) same_primitive (from_plan unchanged)) alike_empty
+
+alike_process : {d : Bool} (k : Name) {e e' : Environment} → AlikeNames d e e' → AlikeProcess d (process_of k e) (process_of k e')
+alike_process {d} k alike_empty = alike_passing d
+alike_process {d} k (alike_known {x = x} {e = e} {e' = e'} E) = by_test (bytes_eq k x) (alike_process k E)
+  where
+    by_test : (b : Bool) → AlikeProcess d (process_of k e) (process_of k e') → AlikeProcess d (cond b passing (process_of k e)) (cond b passing (process_of k e'))
+    by_test true R = alike_passing d
+    by_test false R = R
+alike_process {d} k (alike_running {x = x} {P = P} {P' = P'} {e = e} {e' = e'} H E) = by_test (bytes_eq k x) (alike_process k E)
+  where
+    by_test : (b : Bool) → AlikeProcess d (process_of k e) (process_of k e') → AlikeProcess d (cond b P (process_of k e)) (cond b P' (process_of k e'))
+    by_test true R = H
+    by_test false R = R
+
+alike_frozen : {d : Bool} {P P' : Process} (h : Life) (w : ℕ) → AlikeProcess d P P' → AlikeProcess d (frozen P h w) (frozen P' h w)
+alike_frozen [] w R = R
+alike_frozen (s ∷ h) w R = alike_resumed R
+
+-- ## Where switches stand
+
+abbrev process_fired : Process → Standing → Process
+process_fired P waits = P
+process_fired P (fired P' M) = P'
+
+abbrev life_since : Standing → Life
+life_since waits = []
+life_since (fired P M) = M
+
+still_waits : (B : Data → Process) (st : Stand) → standing_of B st ≡ waits → st ≡ waiting
+still_waits B waiting h = refl
+still_waits B (began v M) h = absurd cc
+
+one_later : (B : Data → Process) {P : Process} {M : Life} (s : Step) (st : Stand) → standing_of B st ≡ fired P M → standing_of B (later_stand s st) ≡ fired P (s ∷ M)
+one_later B s waiting h = absurd cc
+one_later B {P} {M} s (began v K) h = let process : B v ≡ P = ap (process_fired (B v)) h in let life : K ≡ M = ap life_since h in cc
+
+data AlikeStanding (d : Bool) : Standing → Standing → Type 0 where
+  alike_waits : AlikeStanding d waits waits
+  alike_fired : {P P' : Process} {M : Life} → AlikeProcess d P P' → AlikeStanding d (fired P M) (fired P' M)
+
+abbrev AlikeTakeover : Bool → Takeover → Takeover → Type 0
+AlikeTakeover d B B' = (s : Step) (L : Life) (v : Data) → AlikeProcess d (B s L v) (B' s L v)
+
+alike_after : {d : Bool} (B B' : Takeover) → AlikeTakeover d B B' → (s : Step) (L : Life) (o : Option Data) → AlikeStanding d (stands_after B s L o) (stands_after B' s L o)
+alike_after B B' T s L None = alike_waits
+alike_after B B' T s L (Some v) = alike_fired (T s L v)
+
+-- what takes over with its source kept
+keeping_alike : {d : Bool} {t t' u u' : Term} {e e' : Environment} (k : Name) (p : Pattern) → Alike d t t' → Alike d u u' → AlikeNames d e e' → AlikeTakeover d (body_with k (closure t e) p u e) (body_with k (closure t' e') p u' e')
+keeping_alike k p T U E s L v = alike_closure U (alike_bind p v (alike_running (alike_frozen L (wait_of s) (alike_closure T E)) E))
 
 -- the texts' costs
 law_texts : {d : Bool} {t u : Term} → Law d t u → Below d (text_cost t) (text_cost u)
@@ -79,10 +141,12 @@ mutual
 
   formed_texts : {d : Bool} {t u : Term} → Formed d t u → Below d (text_cost t) (text_cost u)
   formed_texts {d} same_primitive = below_same d _
+  formed_texts {d} same_run = below_same d _
   formed_texts (same_join A B) = below_over _ _ (below_both _ _ _ _ (alike_texts A) (alike_texts B))
   formed_texts (same_side A) = below_over _ _ (alike_texts A)
   formed_texts (same_heading A) = below_over _ _ (alike_texts A)
   formed_texts (same_switch A B) = below_over _ _ (alike_texts A)
+  formed_texts (same_keeping A C B) = below_over _ _ (below_both _ _ _ _ (alike_texts A) (alike_texts C))
 
 module _ (d : Bool) (n n' : Network) (all : AlikeAll d n.templates n'.templates) (same : n'.functions ≡ n.functions) (one : OneLeaf (Leaf n)) (one' : OneLeaf (Leaf n')) where
   -- what a form that no law looks into gives: a step of the network, and for each form like it a step there
@@ -115,7 +179,7 @@ module _ (d : Bool) (n n' : Network) (all : AlikeAll d n.templates n'.templates)
     goes_rounds no_round = no_round
     goes_rounds (one_round A B) = elim (goes_part B) [ lowered B' h ↦ one_round (goes_rounds A) B' ]
 
-    goes_watches : {L : Life} {st : Standing} → Watches Q t e L st → Watches (Leaf n') u e' L st
+    goes_watches : {L : Life} {st : Stand} → Watches Q t e L st → Watches (Leaf n') u e' L st
     goes_watches watch_begins = watch_begins
     goes_watches (then_watched A B h) = elim (goes_part B) [ lowered B' k ↦ then_watched (goes_watches A) B' h ]
     goes_watches (fired_before A) = fired_before (goes_watches A)
@@ -132,7 +196,7 @@ module _ (d : Bool) (n n' : Network) (all : AlikeAll d n.templates n'.templates)
     goes_switches switch_stops = lowered switch_stops (below_same d _)
     goes_switches (switch_goes A) = elim (goes_bodies A) [ lowered A' h ↦ lowered (switch_goes A') h ]
 
-    goes_turns : {t t' : Term} → Goes t t' → {w : Observation} {s : Step} {L : Life} {st : Standing} {o : Outcome} {c : Cost} → Turns Q w t p u e s L st o c → Lowered d (Turns (Leaf n') w t' p u' e' s L st o) c
+    goes_turns : {t t' : Term} → Goes t t' → {w : Observation} {s : Step} {L : Life} {st : Stand} {o : Outcome} {c : Cost} → Turns Q w t p u e s L st o c → Lowered d (Turns (Leaf n') w t' p u' e' s L st o) c
     goes_turns S (turn_waits A B) = elim (goes_part S e e' E A) [ lowered A' h ↦ elim (goes_switches B) [ lowered B' k ↦ lowered (turn_waits A' B') (below_over _ _ (below_both _ _ _ _ h k)) ] ]
     goes_turns S (turn_body {v = v} A) = elim (goes_body v A) [ lowered A' h ↦ lowered (turn_body A') h ]
 
@@ -176,6 +240,12 @@ module _ (d : Bool) (n n' : Network) (all : AlikeAll d n.templates n'.templates)
   go_switch {p = p} S T e e' E s L ys o c P (at_recurring A B) =
       elim (goes_runs T p e e' E S A) [ lowered A' h ↦ elim (goes_bodies T p e e' E B) [ lowered B' k ↦ lowered (at_recurring A' B') (below_over _ _ (below_both _ _ _ _ h k)) ] ]
 
+  go_run : {k : Name} → Goes (run k) (run k)
+  go_run e e' E s L ys o c P (at_leaf h A) = go_leaf h h same_run E A
+
+  go_keeping : {w : Observation} {t t' q q' u u' : Term} {k : Name} {p : Pattern} → Alike d t t' → Alike d q q' → Alike d u u' → Goes (keeping w t q k p u) (keeping w t' q' k p u')
+  go_keeping T H U e e' E s L ys o c P (at_leaf h A) = go_leaf h h (same_keeping T H U) E A
+
   go_turn : {t u v w : Term} → Law d t u → Goes u v → Law d v w → Goes t w
   go_turn A S C e e' E s L ys o c P F =
       let P' = parts_along Q one_Q (law_sound Q one_Q A) P in
@@ -193,21 +263,25 @@ module _ (d : Bool) (n n' : Network) (all : AlikeAll d n.templates n'.templates)
 
     go_form : {t u : Term} → Formed d t u → Goes t u
     go_form same_primitive = go_primitive
+    go_form same_run = go_run
     go_form (same_join A B) = go_join (go A) (go B) (alike_texts B)
     go_form (same_side A) = go_side (go A)
     go_form (same_heading A) = go_heading (go A) (alike_texts A)
     go_form (same_switch A B) = go_switch (go A) (go B)
+    go_form (same_keeping A C B) = go_keeping A C B
 
   -- what the steps of the network are made into
-  data Ready : Process → Step → Life → Outcome → Cost → Type 0 where
-    ready_closure : {t : Term} {e : Environment} {s : Step} {L : Life} {o : Outcome} {c : Cost} → At Q t e s L o c → Ready (closure t e) s L o c
+  mutual
+    data Ready : Process → Step → Life → Outcome → Cost → Type 0 where
+      ready_closure : {t : Term} {e : Environment} {s : Step} {L : Life} {o : Outcome} {c : Cost} → At Q t e s L o c → Ready (closure t e) s L o c
+      ready_resumed : {P : Process} {h : Life} {w : ℕ} {s : Step} {L : Life} {o : Outcome} {c : Cost} → ReadyNow P (after h w (s ∷ L)) o c → Ready (resumed P h w) s L o c
 
-  data ReadyAll : Process → Life → List Data → Type 0 where
-    all_begins : {P : Process} → ReadyAll P [] []
-    all_gave : {P : Process} {s : Step} {L : Life} {y : Data} {r : Readings} {ys : List Data} {c : Cost} → ReadyAll P L ys → Ready P s L (gave y r) c → ReadyAll P (s ∷ L) (y ∷ ys)
+    data ReadyAll : Process → Life → List Data → Type 0 where
+      all_begins : {P : Process} → ReadyAll P [] []
+      all_gave : {P : Process} {s : Step} {L : Life} {y : Data} {r : Readings} {ys : List Data} {c : Cost} → ReadyAll P L ys → Ready P s L (gave y r) c → ReadyAll P (s ∷ L) (y ∷ ys)
 
-  data ReadyNow : Process → Life → Outcome → Cost → Type 0 where
-    ready_now : {P : Process} {s : Step} {L : Life} {ys : List Data} {o : Outcome} {c : Cost} → ReadyAll P L ys → Ready P s L o c → ReadyNow P (s ∷ L) o c
+    data ReadyNow : Process → Life → Outcome → Cost → Type 0 where
+      ready_now : {P : Process} {s : Step} {L : Life} {ys : List Data} {o : Outcome} {c : Cost} → ReadyAll P L ys → Ready P s L o c → ReadyNow P (s ∷ L) o c
 
   opened : {t : Term} {e : Environment} {s : Step} {L : Life} {o : Outcome} {c : Cost} → Ready (closure t e) s L o c → At Q t e s L o c
   opened (ready_closure A) = A
@@ -223,36 +297,99 @@ module _ (d : Bool) (n n' : Network) (all : AlikeAll d n.templates n'.templates)
   opened_body : {u : Term} (p : Pattern) (e : Environment) {B : Data → Process} → B ≡ body_of p u e → (v : Data) {L : Life} {o : Outcome} {c : Cost} → ReadyNow (B v) L o c → Part Q u (bind p v e) L o c
   opened_body p e h v {L} {o} {c} A = let N : (Data → Process) → Type 0 = λ B. ReadyNow (B v) L o c in opened_part (subst N h A)
 
-  -- what runs in a recurring switch
-  opened_runs : {t u : Term} {p : Pattern} {e : Environment} (q : Option Data) {L : Life} {o : Outcome} {c : Cost} → ReadyNow (what_runs (closure t e) (body_of p u e) q) L o c → Runs Q t p u e q L o c
-  opened_runs None A = runs_first (opened_part A)
-  opened_runs (Some v) A = runs_body (opened_part A)
+  -- each step of a process is a step of one like it, there
+  abbrev Meets : Process → Process → Type 0
+  Meets P P' = (s : Step) (L : Life) (ys : List Data) (o : Outcome) (c : Cost) → ReadyAll P L ys → Ready P s L o c → Lowered d (Sample n' P' s L o) c
+
+  module _ {P P' : Process} (M : Meets P P') where
+    meet_outputs : {L : Life} {ys : List Data} → ReadyAll P L ys → Outputs n' P' L ys
+    meet_outputs all_begins = not_begun
+    meet_outputs (all_gave A B) = elim (M _ _ _ _ _ A B) [ lowered B' h ↦ and_gave (meet_outputs A) B' ]
+
+    meet_gives : {L : Life} {o : Outcome} {c : Cost} → ReadyNow P L o c → Lowered d (Gives n' P' L o) c
+    meet_gives (ready_now A B) = elim (M _ _ _ _ _ A B) [ lowered B' h ↦ lowered (gives (meet_outputs A) B') h ]
+
+  meets : {P P' : Process} → AlikeProcess d P P' → Meets P P'
+  meets (alike_closure {e = e} {e' = e'} T E) s L ys o c A (ready_closure B) = elim (go T e e' E s L ys o c (opened_all A) B) [ lowered B' h ↦ lowered (closed n' B') h ]
+  meets (alike_resumed R) s L ys o c A (ready_resumed B) = elim (meet_gives (meets R) B) [ lowered B' h ↦ lowered (of_resumed B') h ]
 
   meet : {P P' : Process} → AlikeProcess d P P' → {L : Life} {o : Outcome} {c : Cost} → ReadyNow P L o c → Lowered d (Gives n' P' L o) c
-  meet (alike_closure {e = e} {e' = e'} T E) A = elim (goes_part (go T) e e' E (opened_part A)) [ lowered B h ↦ lowered (closed_part n' B) h ]
+  meet R A = meet_gives (meets R) A
+
+  meet_all : {P P' : Process} → AlikeProcess d P P' → {L : Life} {ys : List Data} → ReadyAll P L ys → Outputs n' P' L ys
+  meet_all R A = meet_outputs (meets R) A
 
   -- a form whose constants fail
   failing : (t : Term) {e : Environment} {s : Step} {x : ValueFault} → make n t e (input_of s) ≡ failed x → At Q t e s [] (faulted x) (text_cost t)
   failing (primitive p) h = absurd cc
+  failing (run k) h = absurd cc
   failing (joined j f g) h = absurd cc
   failing (sided a t) h = absurd cc
   failing (headed k i t) {e} h = at_constant (made_fault (eval i (scope_around n.functions e)) h)
   failing (switching w t p u) h = absurd cc
+  failing (keeping w t q k p u) h = absurd cc
   failing (staged x f g) h = absurd cc
+
+  abbrev process_in : Process → Evaluated Made → Process
+  process_in P (answer (process_made P')) = P'
+  process_in P (answer m) = P
+  process_in P (failed x) = P
+
+  -- a named process stands for one like it there
+  run_ready : {k : Name} {e : Environment} {P : Process} {s : Step} {L : Life} {o : Outcome} {c : Cost} → make n (run k) e (first_input s L) ≡ answer (process_made P) → Gives n P (s ∷ L) o c → ReadyNow P (s ∷ L) o c → At Q (run k) e s L o (over_first L c)
+  run_ready {k} {e} {P} {s} {L} {o} {c} h A B =
+      let N : Process → Type 0 = λ P. ReadyNow P (s ∷ L) o c in
+      at_leaf refl (of_form h (of_run A), λ u e' F E. meet_run (subst N (sym (ap (process_in P) h)) B) F E)
+    where
+      meet_run : ReadyNow (process_of k e) (s ∷ L) o c → {u : Term} {e' : Environment} → Formed d (run k) u → AlikeNames d e e' → Lowered d ((Leaf n').leaf u e' s L o) (over_first L c)
+      meet_run B same_run E = elim (meet (alike_process k E) B) [ lowered B' h ↦ lowered (of_form refl (of_run B')) (below_first L _ _ h) ]
+
+  -- a switch that stood so, where what takes over is like another
+  stood : {W : Watched} {B : Takeover} {L : Life} {st : Standing} → AlikeStanding d waits st → Since n' W B L st → Since n' W B L waits
+  stood alike_waits S = S
+
+  stood_later : {W : Watched} {B : Takeover} (s : Step) {L M : Life} {P : Process} {st : Standing} → AlikeStanding d (fired P M) st → Since n' W B L st → (st' : Standing) × AlikeStanding d (fired P (s ∷ M)) st' × Since n' W B (s ∷ L) st'
+  stood_later s (alike_fired R) S = (_, alike_fired R, had_fired S)
+
+  watches_later : (C : Data → Process) (s : Step) {t : Term} {e : Environment} {L M : Life} {P : Process} (st : Stand) → Watches Q t e L st → standing_of C st ≡ fired P M → Watches Q t e (s ∷ L) (later_stand s st)
+  watches_later C s waiting W h = absurd cc
+  watches_later C s (began v M) W h = fired_before W
+
+  -- a switch that keeps its source steps where what it watches, and what took over, do so in one like it
+  keeping_meets : {w : Observation} {t q u : Term} {k : Name} {p : Pattern} {e : Environment} {s : Step} {L : Life} {st : Standing} {o : Outcome} {c : Cost} {v : Term} {e' : Environment}
+      → Formed d (keeping w t q k p u) v → AlikeNames d e e'
+      → ((P' : Process) (q' : Term) (e' : Environment) (B' : Takeover) → AlikeProcess d (closure t e) P' → Alike d q q' → AlikeNames d e e' → AlikeTakeover d (body_with k (closure t e) p u e) B' → (st' : Standing) × AlikeStanding d st st' × Since n' (observed P' q' e') B' L st')
+      → ((P' : Process) (q' : Term) (e' : Environment) (B' : Takeover) (st' : Standing) → AlikeProcess d (closure t e) P' → Alike d q q' → AlikeNames d e e' → AlikeTakeover d (body_with k (closure t e) p u e) B' → AlikeStanding d st st' → Lowered d (SwitchTurn n' w (observed P' q' e') B' s L st' o) c)
+      → Lowered d ((Leaf n').leaf v e' s L o) c
+  keeping_meets {k = k} {p = p} (same_keeping A C B) E since turn =
+      let R = alike_closure A E in
+      let body = keeping_alike k p A B E in
+      let st = since _ _ _ _ R C E body in
+      elim (turn _ _ _ _ _ R C E body st.1) [ lowered T h ↦ lowered (of_form refl (of_keeping st.2 T)) h ]
+
+  runs_ready : {t u : Term} {p : Pattern} {e : Environment} (q : Option Data) {L : Life} {o : Outcome} {c : Cost} → ReadyNow (what_runs (closure t e) (body_of p u e) q) L o c → Runs Q t p u e q L o c
+  runs_ready None A = runs_first (opened_part A)
+  runs_ready (Some v) A = runs_body (opened_part A)
 
   mutual
     ready : {P : Process} {s : Step} {L : Life} {o : Outcome} {c : Cost} → Sample n P s L o c → Ready P s L o c
     ready (of_constants {t = t} h) = ready_closure (failing t h)
     ready (of_form h F) = ready_closure (ready_form F h)
+    ready (of_resumed A) = ready_resumed (ready_gives A)
 
     ready_form : {t : Term} {e : Environment} {m : Made} {s : Step} {L : Life} {o : Outcome} {c : Cost} → Form n t e m s L o c → make n t e (first_input s L) ≡ answer m → At Q t e s L o c
     ready_form (of_primitive {p = p} {e = e} {s = s} {L = L} h) k = let N : Outcome → Type 0 = λ o. At Q (primitive p) e s L o one_term in subst N h at_primitive
+    ready_form (of_run A) k = run_ready k A (ready_gives A)
     ready_form (of_join A B C) k = at_join (opened_all (ready_all A)) (opened_part (ready_gives B)) (ready_next C)
     ready_form (of_side A) k = at_side (opened_part (ready_gives A))
     ready_form (of_loop {i = i} {e = e} A B) k = at_loop (made_answer (eval i (scope_around n.functions e)) k) (ready_loops A) (opened_part (ready_gives B))
     ready_form (of_initialized {i = i} {e = e} A) k = at_initialized (made_answer (eval i (scope_around n.functions e)) k) (opened_part (ready_gives A))
-    ready_form (of_switch A B) k = at_switch (ready_watches A) (ready_turns B refl)
-    ready_form (of_recurring {L = L} A B) k = at_recurring (opened_runs (last_event L) (ready_gives A)) (ready_bodies B refl)
+    ready_form (of_switch {u = u} {p = p} {e = e} A B) k =
+        let st = ready_watches (body_of p u e) A refl in
+        at_switch st.1 (ready_turns st.0 B refl st.2)
+    ready_form (of_keeping A B) k =
+        at_leaf refl (of_form refl (of_keeping A B), λ u' e' F E. keeping_meets F E (λ P q f T R H E B. keeps_since A R H E B) (λ P q f T x R H E D st. keeps_turn B R H E D st))
+    ready_form (of_recurring {L = L} A B) k = at_recurring (runs_ready (last_event L) (ready_gives A)) (ready_bodies B refl)
     ready_form (of_stages A B C) k = at_stages (opened_all (ready_all A)) (opened_part (ready_gives B)) (ready_next C)
 
     ready_gives : {P : Process} {L : Life} {o : Outcome} {c : Cost} → Gives n P L o c → ReadyNow P L o c
@@ -270,14 +407,55 @@ module _ (d : Bool) (n n' : Network) (all : AlikeAll d n.templates n'.templates)
     ready_loops no_loop = no_round
     ready_loops (and_looped A B) = one_round (ready_loops A) (opened_part (ready_gives B))
 
-    ready_watches : {t : Term} {e : Environment} {L : Life} {st : Standing} → Since n (closure t e) L st → Watches Q t e L st
-    ready_watches at_start = watch_begins
-    ready_watches (watched A B h) = then_watched (ready_watches A) (opened_part (ready_gives B)) h
-    ready_watches (had_fired A) = fired_before (ready_watches A)
+    ready_watches : (C : Data → Process) {t : Term} {e : Environment} {B : Takeover} {L : Life} {st : Standing} → Since n (itself (closure t e)) B L st → B ≡ whenever C → (st' : Stand) × Watches Q t e L st' × (standing_of C st' ≡ st)
+    ready_watches C at_start h = (waiting, watch_begins, refl)
+    ready_watches C {t} {e} (watched {s = s} {L = L} {y = y} A (beside_values G) k) h =
+        let r = ready_watches C A h in
+        let o = occurring (second_of y) in
+        (stand_after s o, then_watched (subst (Watches Q t e L) (still_waits C r.0 r.2) r.1) (opened_part (ready_gives G)) refl, sym (stands_alike C s L o) ∙ ap (λ (B : Takeover). stands_after B s L o) (sym h) ∙ k)
+    ready_watches C (had_fired {s = s} A) h = let r = ready_watches C A h in (later_stand s r.0, watches_later C s r.0 r.1 r.2, one_later C s r.0 r.2)
 
-    ready_turns : {w : Observation} {t u : Term} {p : Pattern} {e : Environment} {B : Data → Process} {s : Step} {L : Life} {st : Standing} {o : Outcome} {c : Cost} → SwitchTurn n w (closure t e) B s L st o c → B ≡ body_of p u e → Turns Q w t p u e s L st o c
-    ready_turns (while_waiting A C) h = turn_waits (opened_part (ready_gives A)) (ready_switches C h)
-    ready_turns {p = p} {e = e} (as_body {v = v} A) h = turn_body (opened_body p e h v (ready_gives A))
+    ready_turns : {w : Observation} {t u : Term} {p : Pattern} {e : Environment} {B : Takeover} {s : Step} {L : Life} {st : Standing} {o : Outcome} {c : Cost} (st' : Stand) → SwitchTurn n w (itself (closure t e)) B s L st o c
+        → B ≡ whenever (body_of p u e) → standing_of (body_of p u e) st' ≡ st → Turns Q w t p u e s L st' o c
+    ready_turns {s = s} {L = L} waiting (while_waiting (beside_values A) C) h k = turn_waits (opened_part (ready_gives A)) (ready_switches C (ap (λ (B : Takeover). B s L) h))
+    ready_turns (began v M) (while_waiting A C) h k = absurd cc
+    ready_turns waiting (as_body A) h k = absurd cc
+    ready_turns {u = u} {p = p} {e = e} {s = s} {o = o} {c = c} (began v M) (as_body A) h k =
+        let N : Process → Life → Type 0 = λ P K. ReadyNow P (s ∷ K) o c in
+        turn_body (opened_part (subst₂ N (sym (ap (process_fired passing) k)) (sym (ap life_since k)) (ready_gives A)))
+
+    -- ## A switch that keeps its source, beside one like it
+
+    keeps_sees : {P P' : Process} {q q' : Term} {e e' : Environment} {s : Step} {L : Life} {o : Outcome} {c : Cost} → Sees n (observed P q e) s L o c → AlikeProcess d P P' → Alike d q q' → AlikeNames d e e' → Lowered d (Sees n' (observed P' q' e') s L o) c
+    keeps_sees (by_observer A B C) R H E =
+        elim (meet R (ready_gives B)) [ lowered B' h ↦ elim (keeps_next C H E) [ lowered C' k ↦ lowered (by_observer (meet_all R (ready_all A)) B' C') (below_both _ _ _ _ h k) ] ]
+
+    keeps_next : {t u : Term} {e e' : Environment} {p : Outcome} {L : Life} {o : Outcome} {c : Cost} → Next n p t e L o c → Alike d t u → AlikeNames d e e' → Lowered d (Next n' p u e' L o) c
+    keeps_next (goes_on A) T E = elim (meet (alike_closure T E) (ready_gives A)) [ lowered A' h ↦ lowered (goes_on A') h ]
+    keeps_next stops T E = lowered stops (alike_texts T)
+
+    keeps_since : {P P' : Process} {q q' : Term} {e e' : Environment} {B B' : Takeover} {L : Life} {st : Standing} → Since n (observed P q e) B L st → AlikeProcess d P P' → Alike d q q' → AlikeNames d e e' → AlikeTakeover d B B'
+        → (st' : Standing) × AlikeStanding d st st' × Since n' (observed P' q' e') B' L st'
+    keeps_since at_start R H E T = (waits, alike_waits, at_start)
+    keeps_since {B = B} {B' = B'} (watched {s = s} {L = L} {y = y} A G k) R H E T =
+        let r = keeps_since A R H E T in
+        let o = occurring (second_of y) in
+        elim (keeps_sees G R H E) [ lowered G' h ↦ (stands_after B' s L o, subst (λ st. AlikeStanding d st (stands_after B' s L o)) k (alike_after B B' T s L o), watched (stood r.1 r.2) G' refl) ]
+    keeps_since (had_fired {s = s} A) R H E T = let r = keeps_since A R H E T in stood_later s r.1 r.2
+
+    keeps_turn : {w : Observation} {P P' : Process} {q q' : Term} {e e' : Environment} {B B' : Takeover} {s : Step} {L : Life} {st st' : Standing} {o : Outcome} {c : Cost} → SwitchTurn n w (observed P q e) B s L st o c
+        → AlikeProcess d P P' → Alike d q q' → AlikeNames d e e' → AlikeTakeover d B B' → AlikeStanding d st st' → Lowered d (SwitchTurn n' w (observed P' q' e') B' s L st' o) c
+    keeps_turn {s = s} {L = L} (while_waiting A C) R H E T alike_waits =
+        elim (keeps_sees A R H E) [ lowered A' h ↦ elim (keeps_switched C (λ v. T s L v)) [ lowered C' k ↦ lowered (while_waiting A' C') (below_over _ _ (below_both _ _ _ _ h k)) ] ]
+    keeps_turn (as_body A) R H E T (alike_fired R') = elim (meet R' (ready_gives A)) [ lowered A' h ↦ lowered (as_body A') h ]
+
+    keeps_switched : {w : Observation} {B B' : Data → Process} {s : Step} {o o' : Outcome} {c : Cost} → Switched n w B s o o' c → ((v : Data) → AlikeProcess d (B v) (B' v)) → Lowered d (Switched n' w B' s o o') c
+    keeps_switched after_fault T = lowered after_fault (below_same d _)
+    keeps_switched (after_value A) T = elim (keeps_fires A T) [ lowered A' h ↦ lowered (after_value A') h ]
+
+    keeps_fires : {w : Observation} {B B' : Data → Process} {s : Step} {o : Outcome} {q : Option Data} {o' : Outcome} {c : Cost} → Fires n w B s o q o' c → ((v : Data) → AlikeProcess d (B v) (B' v)) → Lowered d (Fires n' w B' s o q o') c
+    keeps_fires no_event_yet T = lowered no_event_yet (below_same d _)
+    keeps_fires (event_now {v = v} A) T = elim (meet (T v) (ready_gives A)) [ lowered A' h ↦ lowered (event_now A') h ]
 
     ready_switches : {w : Observation} {u : Term} {p : Pattern} {e : Environment} {B : Data → Process} {s : Step} {o o' : Outcome} {c : Cost} → Switched n w B s o o' c → B ≡ body_of p u e → Switches Q w p u e s o o' c
     ready_switches after_fault h = switch_stops

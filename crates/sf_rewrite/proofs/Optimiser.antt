@@ -1,5 +1,5 @@
 -- Each network has a plan: an optimiser on trees, with what its laws make and the form of it.
-use Rattle.std.proofs.Common.{pos, ◌≡◌, Bool, true, false, IsTrue, refl, sym, subst, ◌⊎◌, inl, inr}
+use Rattle.std.proofs.Common.{pos, ◌≡◌, [], Bool, true, false, ◌&&◌, IsTrue, refl, sym, subst, ◌⊎◌, inl, inr}
 use Rattle.sf_operator.specs.declared.operator.Operator.TheVariants.{Arithmetic}
 use Rattle.sf_operator.specs.declared.operator.Arithmetic.TheVariants.{Divide}
 use Rattle.sf_expr.specs.Expressions.{Expression, unnamed, literal, int_literal, operation, Function, function}
@@ -10,12 +10,12 @@ use Rattle.sf_term.specs.declared.form.Side.{Side}
 use Rattle.sf_term.specs.declared.form.Side.TheVariants.{First, Second}
 use Rattle.sf_term.specs.declared.form.Heading.TheVariants.{LoopPre, Initialized}
 use Rattle.sf_term.specs.declared.form.Switching.TheVariants.{Basic, Recurring}
-use Rattle.sf_term.specs.Trees.{Chain, lone, chained, on_side, on_both, fanned, bare, never, with_value, timed, arrow, accumulated, fused, Extent, whole, rest, Term, primitive, joined, sided, headed, switching, staged}
+use Rattle.sf_term.specs.Trees.{Chain, lone, chained, on_side, on_both, fanned, bare, never, with_value, timed, arrow, accumulated, fused, Extent, whole, rest, Term, primitive, run, joined, sided, headed, switching, keeping, staged}
 use Rattle.sf_term.specs.declared.form.Observation.TheVariants.{Immediate, Delayed}
 use Rattle.sf_rewrite.specs.Quiet.{is_quiet_expression, is_quiet}
 use Rattle.sf_rewrite.specs.Laws.{identity, constant, arr, loop_pre, Laws, unchanged, in_turn, in_join, in_stages, in_side, as_pipeline, within_pipeline, associate_right, associate_left, identity_before, identity_after, arr_as_chain, arr_composed, arr_on_side, arr_in_parallel, arr_fanned_out, sides_composed, exchanged, constant_after, left_tightened, right_tightened}
-use Rattle.sf_rewrite.specs.Plans.{Plans, plans, of_primitive, of_join, of_side, of_heading, of_switch}
-use Rattle.sf_rewrite.specs.Normal.{is_arr, is_stage, may_meet, IsPlan, plan_primitive, plan_join, plan_side, plan_heading, plan_switch, plan_pipeline, IsRest, last_stage, more_stages, is_written}
+use Rattle.sf_rewrite.specs.Plans.{Plans, plans, of_primitive, of_run, of_join, of_side, of_heading, of_switch, of_keeping}
+use Rattle.sf_rewrite.specs.Normal.{is_arr, is_stage, may_meet, IsPlan, plan_primitive, plan_run, plan_join, plan_side, plan_heading, plan_switch, plan_keeping, plan_pipeline, IsRest, last_stage, more_stages, is_written}
 use Rattle.sf_rewrite.proofs.Parts.{no_truth}
 use Rattle.sf_rewrite.proofs.Quiet.{both_true}
 
@@ -43,10 +43,12 @@ arr_view (primitive (arrow f)) = an_arr (lone f) arr_as_chain refl
 arr_view (primitive (timed k q i)) = no_arr refl
 arr_view (primitive (accumulated k i f)) = no_arr refl
 arr_view (primitive (fused f)) = an_arr f unchanged refl
+arr_view (run k) = no_arr refl
 arr_view (joined j f g) = no_arr refl
 arr_view (sided d t) = no_arr refl
 arr_view (headed h i t) = no_arr refl
 arr_view (switching w t p u) = no_arr refl
+arr_view (keeping w t q k p u) = no_arr refl
 arr_view (staged x f g) = no_arr refl
 
 data IsConstant (t : Term) : Type 0 where
@@ -65,10 +67,12 @@ constant_view (primitive (arrow f)) = no_constant
 constant_view (primitive (timed k q i)) = no_constant
 constant_view (primitive (accumulated k i f)) = no_constant
 constant_view (primitive (fused f)) = no_constant
+constant_view (run k) = no_constant
 constant_view (joined j f g) = no_constant
 constant_view (sided d t) = no_constant
 constant_view (headed h i t) = no_constant
 constant_view (switching w t p u) = no_constant
+constant_view (keeping w t q k p u) = no_constant
 constant_view (staged x f g) = no_constant
 
 -- ## Neighbours
@@ -173,10 +177,12 @@ stages (plan_primitive {p = timed k q i}) = one_stage refl
 stages (plan_primitive {p = never t}) = one_stage refl
 stages (plan_primitive {p = accumulated k i f}) = one_stage refl
 stages (plan_primitive {p = fused f}) = one_stage refl
+stages plan_run = one_stage refl
 stages (plan_join h P Q) = one_stage h
 stages (plan_side P) = one_stage refl
 stages (plan_heading P) = one_stage refl
 stages (plan_switch P Q) = one_stage refl
+stages (plan_keeping P Q R) = one_stage refl
 stages (plan_pipeline P S R) = some_stages _ _ refl P S R
 
 -- what stands after others, as stages
@@ -314,6 +320,14 @@ optimised (switching w t p u) h =
     let a = optimised t k.0 in
     let b = optimised u k.1 in
     record { term = switching w a.term p b.term; plans = plans (of_switch a.plans b.plans) unchanged; is = plan_switch a.is b.is }
+optimised (run k) h = record { term = run k; plans = plans of_run unchanged; is = plan_run }
+optimised (keeping w t o k p u) h =
+    let l = both_true (is_written t) (is_written o && is_written u) h in
+    let r = both_true (is_written o) (is_written u) l.1 in
+    let a = optimised t l.0 in
+    let b = optimised o r.0 in
+    let c = optimised u r.1 in
+    record { term = keeping w a.term b.term k p c.term; plans = plans (of_keeping a.plans b.plans c.plans) unchanged; is = plan_keeping a.is b.is c.is }
 optimised (staged x f g) h = absurd (no_truth h)
 
 -- ## Each law is applied where its left side stands alone
@@ -433,3 +447,8 @@ in_switch_applied = refl
 in_recurring_applied : (optimised (switching (Recurring Delayed) (joined InSequence identity f) unnamed (joined InSequence g identity)) refl).term ≡ switching (Recurring Delayed) f unnamed g
 unfolding optimised in_sequence one_after_another before_tail tail stages headed_by pushed appended merged arrs before_constant arr_view constant_view in_parallel side_by_side fanned_out both_on on_a_side in_loop before_loop looped compose_sides exchange in_planned decided
 in_recurring_applied = refl
+
+-- and in the source and the observer of one that keeps its source
+in_keeping_applied : (optimised (keeping Immediate (joined InSequence identity f) (joined InSequence f identity) [] unnamed (joined InSequence g identity)) refl).term ≡ keeping Immediate f f [] unnamed g
+unfolding optimised in_sequence one_after_another before_tail tail stages headed_by pushed appended merged arrs before_constant arr_view constant_view in_parallel side_by_side fanned_out both_on on_a_side in_loop before_loop looped compose_sides exchange in_planned decided
+in_keeping_applied = refl

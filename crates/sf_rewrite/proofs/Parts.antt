@@ -14,10 +14,10 @@ use Rattle.sf_term.specs.declared.form.Heading.{Heading}
 use Rattle.sf_term.specs.declared.form.Heading.TheVariants.{LoopPre, Initialized}
 use Rattle.sf_term.specs.declared.form.Observation.{Observation}
 use Rattle.sf_term.specs.declared.form.Switching.TheVariants.{Basic, Recurring}
-use Rattle.sf_term.specs.Trees.{Primitive, Extent, Term, primitive, joined, sided, headed, switching, staged}
+use Rattle.sf_term.specs.Trees.{Primitive, Extent, Term, primitive, run, joined, sided, headed, switching, keeping, staged}
 use Rattle.sf_mean.specs.Lives.{Step, input_of, Life, Environment, scope_around, bind, with_inputs, relay, fed}
 use Rattle.sf_mean.specs.Formulas.{at_first, occurring, side_of, with_side, formula}
-use Rattle.sf_mean.specs.Meaning.{Readings, Outcome, gave, faulted, changed, combined, value_in, as_outcome, Cost, no_cost, both_costs, over, over_stages, one_term, text_cost, left_life, right_life, join_value, Standing, waits, fired, stands_after, switched_value, event_beside, last_event, since_event, unless_faulted, without_event}
+use Rattle.sf_mean.specs.Meaning.{Readings, Outcome, gave, faulted, changed, combined, value_in, as_outcome, Cost, no_cost, both_costs, over, over_stages, one_term, text_cost, left_life, right_life, join_value, switched_value, event_beside, last_event, since_event, unless_faulted, without_event}
 
 -- what stored functions answer, and what a form that no law looks into gives at a step
 pub record Leaves : Type 1 where
@@ -27,11 +27,23 @@ pub record Leaves : Type 1 where
 -- the forms that no law looks into
 abbrev pub is_leaf : Term → Bool
 is_leaf (primitive p) = false
+is_leaf (run k) = true
 is_leaf (joined j f g) = false
 is_leaf (sided d t) = false
 is_leaf (headed h i t) = false
 is_leaf (switching w t p u) = false
+is_leaf (keeping w t q k p u) = true
 is_leaf (staged x f g) = false
+
+-- Where a switch stands after a life: it waits for an event, or it had one with this payload and its body has lived M since.
+pub data Stand : Type 0 where
+  waiting : Stand
+  began : Data → (M : Life) → Stand
+
+-- where a switch that waited stands after a step at which there was this payload, if there was one
+abbrev pub stand_after : Step → Option Data → Stand
+stand_after s None = waiting
+stand_after s (Some v) = began v (s ∷ [])
 
 mutual
   pub data Part (Q : Leaves) : Term → Environment → Life → Outcome → Cost → Type 0 where
@@ -72,7 +84,7 @@ mutual
     at_constant : {h : Heading} {i : Expression} {t : Term} {e : Environment} {x : ValueFault} {s : Step}
         → eval i (scope_around Q.functions e) ≡ failed x
         → At Q (headed h i t) e s [] (faulted x) (over (text_cost t))
-    at_switch : {w : Observation} {t u : Term} {p : Pattern} {e : Environment} {s : Step} {L : Life} {st : Standing} {o : Outcome} {c : Cost}
+    at_switch : {w : Observation} {t u : Term} {p : Pattern} {e : Environment} {s : Step} {L : Life} {st : Stand} {o : Outcome} {c : Cost}
         → Watches Q t e L st
         → Turns Q w t p u e s L st o c
         → At Q (switching (Basic w) t p u) e s L o c
@@ -94,26 +106,26 @@ mutual
         → Rounds Q v t e (s ∷ L) (z ∷ zs)
 
   -- where a switch stands after a life of its source
-  pub data Watches (Q : Leaves) : Term → Environment → Life → Standing → Type 0 where
-    watch_begins : {t : Term} {e : Environment} → Watches Q t e [] waits
-    then_watched : {t : Term} {e : Environment} {s : Step} {L : Life} {y : Data} {r : Readings} {c : Cost} {st : Standing}
-        → Watches Q t e L waits
+  pub data Watches (Q : Leaves) : Term → Environment → Life → Stand → Type 0 where
+    watch_begins : {t : Term} {e : Environment} → Watches Q t e [] waiting
+    then_watched : {t : Term} {e : Environment} {s : Step} {L : Life} {y : Data} {r : Readings} {c : Cost} {st : Stand}
+        → Watches Q t e L waiting
         → Part Q t e (s ∷ L) (gave y r) c
-        → stands_after s (occurring (second_of y)) ≡ st
+        → stand_after s (occurring (second_of y)) ≡ st
         → Watches Q t e (s ∷ L) st
     fired_before : {t : Term} {e : Environment} {s : Step} {L M : Life} {v : Data}
-        → Watches Q t e L (fired v M)
-        → Watches Q t e (s ∷ L) (fired v (s ∷ M))
+        → Watches Q t e L (began v M)
+        → Watches Q t e (s ∷ L) (began v (s ∷ M))
 
   -- a switch's next step
-  pub data Turns (Q : Leaves) : Observation → Term → Pattern → Term → Environment → Step → Life → Standing → Outcome → Cost → Type 0 where
+  pub data Turns (Q : Leaves) : Observation → Term → Pattern → Term → Environment → Step → Life → Stand → Outcome → Cost → Type 0 where
     turn_waits : {w : Observation} {t u : Term} {p : Pattern} {e : Environment} {s : Step} {L : Life} {o o' : Outcome} {c c' : Cost}
         → Part Q t e (s ∷ L) o c
         → Switches Q w p u e s o o' c'
-        → Turns Q w t p u e s L waits o' (over (both_costs c c'))
+        → Turns Q w t p u e s L waiting o' (over (both_costs c c'))
     turn_body : {w : Observation} {t u : Term} {p : Pattern} {e : Environment} {s : Step} {L M : Life} {v : Data} {o : Outcome} {c : Cost}
         → Part Q u (bind p v e) (s ∷ M) o c
-        → Turns Q w t p u e s L (fired v M) o c
+        → Turns Q w t p u e s L (began v M) o c
 
   -- what comes after the source
   pub data Switches (Q : Leaves) : Observation → Pattern → Term → Environment → Step → Outcome → Outcome → Cost → Type 0 where
@@ -149,12 +161,12 @@ pub no_truth : false ≡ true → ⊥
 no_truth e = cc
 
 -- a switch that had fired, one step later
-abbrev later_standing : Step → Standing → Standing
-later_standing s waits = waits
-later_standing s (fired v M) = fired v (s ∷ M)
+abbrev pub later_stand : Step → Stand → Stand
+later_stand s waiting = waiting
+later_stand s (began v M) = began v (s ∷ M)
 
-not_fired : {v : Data} {M : Life} → waits ≡ fired v M → ⊥
-not_fired e = cc
+not_begun_yet : {v : Data} {M : Life} → waiting ≡ began v M → ⊥
+not_begun_yet e = cc
 
 pub no_fault : {v : Data} {x : ValueFault} → answer v ≡ failed x → ⊥
 no_fault e = cc
@@ -222,7 +234,7 @@ module _ (Q : Leaves) (one : OneLeaf Q) where
     once_at (at_constant h) (at_loop h' A B) = absurd (no_fault (sym h' ∙ h))
     once_at (at_constant {x = x} h) (at_constant h') = (ap (λ v. faulted (the_fault x v)) (sym h ∙ h'), refl)
     once_at (at_switch {w = w} {t = t} {u = u} {p = p} {e = e} {s = s} {L = L} A B) (at_switch {o = b} {c = d} A' B') =
-        let N : Standing → Type 0 = λ st. Turns Q w t p u e s L st b d in
+        let N : Stand → Type 0 = λ st. Turns Q w t p u e s L st b d in
         once_turns B (subst N (sym (once_watches A A')) B')
     once_at (at_recurring {w = w} {u = u} {p = p} {e = e} {s = s} A B) (at_recurring {o' = b} {c' = d} A' B') =
         let e1 = once_runs A A' in
@@ -246,14 +258,14 @@ module _ (Q : Leaves) (one : OneLeaf Q) where
         let e2 = once B (subst N (sym e1) B') in
         ap₂ (λ y ys. y ∷ ys) (ap value_in e2.0) e1
 
-    pub once_watches : {t : Term} {e : Environment} {L : Life} {a b : Standing} → Watches Q t e L a → Watches Q t e L b → a ≡ b
+    pub once_watches : {t : Term} {e : Environment} {L : Life} {a b : Stand} → Watches Q t e L a → Watches Q t e L b → a ≡ b
     once_watches watch_begins watch_begins = refl
-    once_watches (then_watched {s = s} A B h) (then_watched A' B' h') = sym h ∙ ap (λ o. stands_after s (occurring (second_of (value_in o)))) (once B B').0 ∙ h'
-    once_watches (then_watched A B h) (fired_before A') = absurd (not_fired (once_watches A A'))
-    once_watches (fired_before A) (then_watched A' B' h') = absurd (not_fired (sym (once_watches A A')))
-    once_watches (fired_before {s = s} A) (fired_before A') = ap (later_standing s) (once_watches A A')
+    once_watches (then_watched {s = s} A B h) (then_watched A' B' h') = sym h ∙ ap (λ o. stand_after s (occurring (second_of (value_in o)))) (once B B').0 ∙ h'
+    once_watches (then_watched A B h) (fired_before A') = absurd (not_begun_yet (once_watches A A'))
+    once_watches (fired_before A) (then_watched A' B' h') = absurd (not_begun_yet (sym (once_watches A A')))
+    once_watches (fired_before {s = s} A) (fired_before A') = ap (later_stand s) (once_watches A A')
 
-    once_turns : {w : Observation} {t u : Term} {p : Pattern} {e : Environment} {s : Step} {L : Life} {st : Standing} {a b : Outcome} {c d : Cost} → Turns Q w t p u e s L st a c → Turns Q w t p u e s L st b d → Same a b c d
+    once_turns : {w : Observation} {t u : Term} {p : Pattern} {e : Environment} {s : Step} {L : Life} {st : Stand} {a b : Outcome} {c d : Cost} → Turns Q w t p u e s L st a c → Turns Q w t p u e s L st b d → Same a b c d
     once_turns (turn_waits {w = w} {u = u} {p = p} {e = e} {s = s} A C) (turn_waits {o' = b} {c' = d} A' C') =
         let e2 = once A A' in
         let N : Outcome → Type 0 = λ q. Switches Q w p u e s q b d in

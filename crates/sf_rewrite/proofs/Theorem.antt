@@ -2,18 +2,18 @@
 use Rattle.std.proofs.Common.{◌≤◌, true, false, IsTrue, [], ◌∷◌, refl, sym}
 use Rattle.sf_value.specs.Values.{Data}
 use Rattle.sf_term.specs.Trees.{Term, Templates}
-use Rattle.sf_mean.specs.Lives.{Step, closure, Environment, empty, Life}
+use Rattle.sf_mean.specs.Lives.{Step, Process, closure, Environment, Life}
 use Rattle.sf_mean.specs.Meaning.{Network, Outcome, gave, Cost, count, height, text_cost, Gives}
 use Rattle.sf_mean.proofs.Once.{once_sample}
 use Rattle.sf_rewrite.specs.Quiet.{is_quiet}
 use Rattle.sf_rewrite.specs.Laws.{unchanged}
-use Rattle.sf_rewrite.specs.Plans.{Plans, plans, PlansParts, PlansAll, no_templates, one_more, PlansNetwork}
-use Rattle.sf_rewrite.specs.Plans.{of_primitive, of_join, of_side, of_heading, of_switch}
+use Rattle.sf_rewrite.specs.Plans.{Plans, plans, PlansParts, PlansProcess, of_closure, of_frozen, PlansNames, of_nothing, of_value, of_process, PlansAll, no_templates, one_more, PlansNetwork}
+use Rattle.sf_rewrite.specs.Plans.{of_primitive, of_run, of_join, of_side, of_heading, of_switch, of_keeping}
 use Rattle.sf_rewrite.proofs.Parts.{OneLeaf}
 use Rattle.sf_rewrite.proofs.Quiet.{last_step, quiet_steps}
 use Rattle.sf_rewrite.proofs.Lowered.{lowered}
 use Rattle.sf_rewrite.proofs.Opening.{Leaf, closed_part}
-use Rattle.sf_rewrite.proofs.Main.{to_plan, from_plan, Alike, alike, Formed, same_primitive, same_join, same_side, same_heading, same_switch, alike_closure, alike_empty, AlikeAll, none_alike, more_alike, keeps}
+use Rattle.sf_rewrite.proofs.Main.{to_plan, from_plan, Alike, alike, Formed, same_primitive, same_run, same_join, same_side, same_heading, same_switch, same_keeping, AlikeProcess, alike_closure, alike_resumed, AlikeNames, alike_empty, alike_known, alike_running, AlikeAll, none_alike, more_alike, keeps}
 
 mutual
   onto : {t u : Term} → Plans t u → Alike true t u
@@ -21,10 +21,12 @@ mutual
 
   onto_parts : {t u : Term} → PlansParts t u → Formed true t u
   onto_parts of_primitive = same_primitive
+  onto_parts of_run = same_run
   onto_parts (of_join A B) = same_join (onto A) (onto B)
   onto_parts (of_side A) = same_side (onto A)
   onto_parts (of_heading A) = same_heading (onto A)
   onto_parts (of_switch A B) = same_switch (onto A) (onto B)
+  onto_parts (of_keeping A C B) = same_keeping (onto A) (onto C) (onto B)
 
 mutual
   from : {t u : Term} → Plans t u → Alike false u t
@@ -32,10 +34,32 @@ mutual
 
   from_parts : {t u : Term} → PlansParts t u → Formed false u t
   from_parts of_primitive = same_primitive
+  from_parts of_run = same_run
   from_parts (of_join A B) = same_join (from A) (from B)
   from_parts (of_side A) = same_side (from A)
   from_parts (of_heading A) = same_heading (from A)
   from_parts (of_switch A B) = same_switch (from A) (from B)
+  from_parts (of_keeping A C B) = same_keeping (from A) (from C) (from B)
+
+mutual
+  onto_process : {P P' : Process} → PlansProcess P P' → AlikeProcess true P P'
+  onto_process (of_closure A E) = alike_closure (onto A) (onto_names E)
+  onto_process (of_frozen R) = alike_resumed (onto_process R)
+
+  onto_names : {e e' : Environment} → PlansNames e e' → AlikeNames true e e'
+  onto_names of_nothing = alike_empty
+  onto_names (of_value E) = alike_known (onto_names E)
+  onto_names (of_process R E) = alike_running (onto_process R) (onto_names E)
+
+mutual
+  from_process : {P P' : Process} → PlansProcess P P' → AlikeProcess false P' P
+  from_process (of_closure A E) = alike_closure (from A) (from_names E)
+  from_process (of_frozen R) = alike_resumed (from_process R)
+
+  from_names : {e e' : Environment} → PlansNames e e' → AlikeNames false e' e
+  from_names of_nothing = alike_empty
+  from_names (of_value E) = alike_known (from_names E)
+  from_names (of_process R E) = alike_running (from_process R) (from_names E)
 
 onto_all : {n m : Templates} → PlansAll n m → AlikeAll true n m
 onto_all no_templates = none_alike
@@ -48,14 +72,14 @@ from_all (one_more A B) = more_alike (record { name = sym A.name; body = from A.
 one_leaf : (n : Network) → OneLeaf (Leaf n)
 one_leaf n t e s L a b c d A B = once_sample n A B
 
-pub plan_gives : (n m : Network) (t u : Term) (L : Life) (o : Outcome) (c : Cost) → PlansNetwork n m → Plans t u → Gives n (closure t empty) L o c
-    → (d : Cost) × Gives m (closure u empty) L o d × (count d ≤ count c) × (height d ≤ height c)
-plan_gives n m t u L o c N T G =
-    elim (keeps true n m (onto_all N.templates) N.functions (one_leaf n) (one_leaf m) (alike_closure (onto T) alike_empty) G) [ lowered A h ↦ (_, A, h.counts refl, h.heights refl) ]
+pub plan_gives : (n m : Network) (P P' : Process) (L : Life) (o : Outcome) (c : Cost) → PlansNetwork n m → PlansProcess P P' → Gives n P L o c
+    → (d : Cost) × Gives m P' L o d × (count d ≤ count c) × (height d ≤ height c)
+plan_gives n m P P' L o c N R G =
+    elim (keeps true n m (onto_all N.templates) N.functions (one_leaf n) (one_leaf m) (onto_process R) G) [ lowered A h ↦ (_, A, h.counts refl, h.heights refl) ]
 
-pub plan_no_more : (n m : Network) (t u : Term) (L : Life) (o : Outcome) (d : Cost) → PlansNetwork n m → Plans t u → Gives m (closure u empty) L o d → (c : Cost) × Gives n (closure t empty) L o c
-plan_no_more n m t u L o d N T G =
-    elim (keeps false m n (from_all N.templates) (sym N.functions) (one_leaf m) (one_leaf n) (alike_closure (from T) alike_empty) G) [ lowered A h ↦ (_, A) ]
+pub plan_no_more : (n m : Network) (P P' : Process) (L : Life) (o : Outcome) (d : Cost) → PlansNetwork n m → PlansProcess P P' → Gives m P' L o d → (c : Cost) × Gives n P L o c
+plan_no_more n m P P' L o d N R G =
+    elim (keeps false m n (from_all N.templates) (sym N.functions) (one_leaf m) (one_leaf n) (from_process R) G) [ lowered A h ↦ (_, A) ]
 
 pub quiet_gives : (n : Network) (t : Term) (e : Environment) (s : Step) (L : Life) → IsTrue (is_quiet t) → (y : Data) × Gives n (closure t e) (s ∷ L) (gave y []) (text_cost t)
 quiet_gives n t e s L h = let r = last_step (Leaf n) (one_leaf n) (quiet_steps (Leaf n) (one_leaf n) t h) e s L in (r.0, closed_part n r.1)

@@ -2,19 +2,20 @@
 use Rattle.std.proofs.Common.{◌≡◌, List, ◌∷◌, map, refl, sym, ap, subst}
 use Rattle.std.proofs.lemmas.Option.{same_Some}
 use mathlib.Core.Path.{ap₂}
-use Rattle.sf_value.specs.Values.{Kind}
+use Rattle.sf_value.specs.Values.{Name, Kind}
 use Rattle.sf_func.specs.Registries.{TypesByName}
 use Rattle.sf_expr.specs.Expressions.{Pattern, Expression}
 use Rattle.sf_term.specs.declared.form.Join.{Join}
 use Rattle.sf_term.specs.declared.form.Side.{Side}
 use Rattle.sf_term.specs.declared.form.Heading.{Heading}
+use Rattle.sf_term.specs.declared.form.Observation.{Observation}
 use Rattle.sf_term.specs.declared.form.Switching.{Switching}
-use Rattle.sf_term.specs.Trees.{Chain, Extent, Term, joined, sided, headed, switching, staged, Template, Templates}
-use Rattle.sf_mean.specs.Contexts.{Context, Bindings, Signature, signature_of, context_with, inside_pattern}
-use Rattle.sf_mean.specs.Typing.{ChainTakes, lone_takes, chained_takes, on_first_takes, on_second_takes, on_both_takes, fanned_takes, bare_takes, value_takes, arrow_takes, fused_takes, Takes, takes, primitive_takes, sequence_takes, parallel_takes, fan_takes, first_takes, second_takes, loop_takes, initialized_takes, switch_takes, recurring_takes, stages_take}
+use Rattle.sf_term.specs.Trees.{Chain, Extent, Term, joined, sided, headed, switching, keeping, staged, Template, Templates}
+use Rattle.sf_mean.specs.Contexts.{Context, Bindings, Signature, signature_of, context_with, inside_pattern, inside_process}
+use Rattle.sf_mean.specs.Typing.{ChainTakes, lone_takes, chained_takes, on_first_takes, on_second_takes, on_both_takes, fanned_takes, bare_takes, value_takes, arrow_takes, fused_takes, Takes, takes, primitive_takes, sequence_takes, parallel_takes, fan_takes, first_takes, second_takes, loop_takes, initialized_takes, switch_takes, keeping_takes, recurring_takes, stages_take}
 use Rattle.sf_mean.proofs.Inferred.{input_fits, output_fits}
 use Rattle.sf_rewrite.specs.Laws.{arr, Laws, unchanged, in_turn, in_join, in_stages, in_side, in_heading, in_switch, as_pipeline, within_pipeline, associate_right, associate_left, identity_before, identity_after, arr_as_chain, chain_as_arr, arr_composed, arr_on_side, arr_in_parallel, arr_fanned_out, sides_composed, exchanged, constant_after, left_tightened, right_tightened}
-use Rattle.sf_rewrite.specs.Plans.{Plans, plans, PlansParts, of_primitive, of_join, of_side, of_heading, of_switch, PlansTemplate, PlansAll, no_templates, one_more}
+use Rattle.sf_rewrite.specs.Plans.{Plans, plans, PlansParts, of_primitive, of_run, of_join, of_side, of_heading, of_switch, of_keeping, PlansTemplate, PlansAll, no_templates, one_more}
 
 abbrev Keeps : Context → Term → Term → Type 0
 Keeps Γ t u = (a b : Kind) → Takes Γ t a b → Takes Γ u a b
@@ -39,6 +40,9 @@ module _ {Γ : Context} where
   keeps_switch : {w : Switching} {t t' u u' : Term} {p : Pattern} → Keeps Γ t t' → ((c : Kind) → Keeps (inside_pattern p c Γ) u u') → Keeps Γ (switching w t p u) (switching w t' p u')
   keeps_switch F G a b (takes x y (switch_takes f h g)) = takes x y (switch_takes (F _ _ f) h (G _ _ _ g))
   keeps_switch F G a b (takes x y (recurring_takes f h g)) = takes x y (recurring_takes (F _ _ f) h (G _ _ _ g))
+
+  keeps_keeping : {w : Observation} {t t' q q' u u' : Term} {k : Name} {p : Pattern} → Keeps Γ t t' → Keeps Γ q q' → ((a b c : Kind) → Keeps (inside_pattern p c (inside_process k a b Γ)) u u') → Keeps Γ (keeping w t q k p u) (keeping w t' q' k p u')
+  keeps_keeping F H G a b (takes x y (keeping_takes f i h g)) = takes x y (keeping_takes (F _ _ f) (H _ _ i) h (G _ _ _ _ _ g))
 
   -- the types of a fused function
   arr_chain : {f : Chain} {a b : Kind} → Takes Γ (arr f) a b → ChainTakes Γ f a b
@@ -79,10 +83,12 @@ mutual
 
   parts_take : {Γ : Context} {t u : Term} → PlansParts t u → Keeps Γ t u
   parts_take of_primitive a b k = k
+  parts_take of_run a b k = k
   parts_take (of_join A B) a b k = keeps_join (plan_takes A) (plan_takes B) a b k
   parts_take (of_side A) a b k = keeps_side (plan_takes A) a b k
   parts_take (of_heading A) a b k = keeps_heading (plan_takes A) a b k
   parts_take (of_switch A B) a b k = keeps_switch (plan_takes A) (λ c. plan_takes B) a b k
+  parts_take (of_keeping A C B) a b k = keeps_keeping (plan_takes A) (plan_takes C) (λ a b c. plan_takes B) a b k
 
 -- ## The contexts that plans are typed under
 

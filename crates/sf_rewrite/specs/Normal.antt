@@ -1,13 +1,15 @@
 -- What a plan looks like when no law about pipelines is left to apply.
 use Rattle.std.specs.Prelude.{Bool, true, false, ◌&&◌, IsTrue}
+use Rattle.sf_value.specs.Values.{Name}
 use Rattle.sf_expr.specs.Expressions.{Pattern, Expression}
 use Rattle.sf_term.specs.declared.form.Bare.TheVariants.{Identity, LocalTime, Integral, Edge, NotYet, Count, Pre}
 use Rattle.sf_term.specs.declared.form.Join.{Join}
 use Rattle.sf_term.specs.declared.form.Join.TheVariants.{InSequence, InParallel, FannedOut}
 use Rattle.sf_term.specs.declared.form.Side.{Side}
 use Rattle.sf_term.specs.declared.form.Heading.{Heading}
+use Rattle.sf_term.specs.declared.form.Observation.{Observation}
 use Rattle.sf_term.specs.declared.form.Switching.{Switching}
-use Rattle.sf_term.specs.Trees.{Primitive, bare, never, with_value, timed, arrow, accumulated, fused, whole, rest, Term, primitive, joined, sided, headed, switching, staged}
+use Rattle.sf_term.specs.Trees.{Primitive, bare, never, with_value, timed, arrow, accumulated, fused, whole, rest, Term, primitive, run, joined, sided, headed, switching, keeping, staged}
 
 -- `arr`, of one function or of functions made into one
 abbrev pub is_arr : Term → Bool
@@ -18,10 +20,12 @@ is_arr (primitive (arrow f)) = true
 is_arr (primitive (timed k q i)) = false
 is_arr (primitive (accumulated k i f)) = false
 is_arr (primitive (fused f)) = true
+is_arr (run k) = false
 is_arr (joined j f g) = false
 is_arr (sided d t) = false
 is_arr (headed h i t) = false
 is_arr (switching w t p u) = false
+is_arr (keeping w t q k p u) = false
 is_arr (staged x f g) = false
 
 -- the joins that stay as they are: all but `>>>`
@@ -45,10 +49,12 @@ is_stage (primitive (arrow f)) = true
 is_stage (primitive (timed k q i)) = true
 is_stage (primitive (accumulated k i f)) = true
 is_stage (primitive (fused f)) = true
+is_stage (run k) = true
 is_stage (joined j f g) = is_left j
 is_stage (sided d t) = true
 is_stage (headed h i t) = true
 is_stage (switching w t p u) = true
+is_stage (keeping w t q k p u) = true
 is_stage (staged x f g) = false
 
 -- two neighbours, where it is said of each whether it is `arr`
@@ -61,10 +67,12 @@ mutual
   -- A plan has no `>>>`, and the bodies in it are plans. Its pipelines have two stages or more.
   pub data IsPlan : Term → Type 0 where
     plan_primitive : {p : Primitive} → IsPlan (primitive p)
+    plan_run : {k : Name} → IsPlan (run k)
     plan_join : {j : Join} {f g : Term} → IsTrue (is_left j) → IsPlan f → IsPlan g → IsPlan (joined j f g)
     plan_side : {d : Side} {t : Term} → IsPlan t → IsPlan (sided d t)
     plan_heading : {h : Heading} {i : Expression} {t : Term} → IsPlan t → IsPlan (headed h i t)
     plan_switch : {w : Switching} {t u : Term} {p : Pattern} → IsPlan t → IsPlan u → IsPlan (switching w t p u)
+    plan_keeping : {w : Observation} {t q u : Term} {k : Name} {p : Pattern} → IsPlan t → IsPlan q → IsPlan u → IsPlan (keeping w t q k p u)
     plan_pipeline : {f r : Term} → IsPlan f → IsTrue (is_stage f) → IsRest f r → IsPlan (staged whole f r)
 
   -- the rest of a pipeline after a stage: no two neighbours are `arr`
@@ -81,8 +89,10 @@ is_written (primitive (arrow f)) = true
 is_written (primitive (timed k q i)) = true
 is_written (primitive (accumulated k i f)) = true
 is_written (primitive (fused f)) = false
+is_written (run k) = true
 is_written (joined j f g) = is_written f && is_written g
 is_written (sided d t) = is_written t
 is_written (headed h i t) = is_written t
 is_written (switching w t p u) = is_written t && is_written u
+is_written (keeping w t q k p u) = is_written t && (is_written q && is_written u)
 is_written (staged x f g) = false

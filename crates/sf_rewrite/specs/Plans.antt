@@ -1,11 +1,14 @@
 -- The plans of networks.
-use Rattle.std.specs.Prelude.{◌≡◌, [], ◌∷◌}
+use Rattle.std.specs.Prelude.{ℕ, ◌≡◌, [], ◌∷◌}
+use Rattle.sf_value.specs.Values.{Name, Data}
 use Rattle.sf_expr.specs.Expressions.{Pattern, Expression}
 use Rattle.sf_term.specs.declared.form.Join.{Join}
 use Rattle.sf_term.specs.declared.form.Side.{Side}
 use Rattle.sf_term.specs.declared.form.Heading.{Heading}
+use Rattle.sf_term.specs.declared.form.Observation.{Observation}
 use Rattle.sf_term.specs.declared.form.Switching.{Switching}
-use Rattle.sf_term.specs.Trees.{Primitive, Term, primitive, joined, sided, headed, switching, Template, Templates}
+use Rattle.sf_term.specs.Trees.{Primitive, Term, primitive, run, joined, sided, headed, switching, keeping, Template, Templates}
+use Rattle.sf_mean.specs.Lives.{Life, Process, closure, resumed, Environment, empty, known, running}
 use Rattle.sf_mean.specs.Meaning.{Network}
 use Rattle.sf_rewrite.specs.Laws.{Laws}
 
@@ -16,10 +19,24 @@ mutual
 
   pub data PlansParts : Term → Term → Type 0 where
     of_primitive : {p : Primitive} → PlansParts (primitive p) (primitive p)
+    of_run : {k : Name} → PlansParts (run k) (run k)
     of_join : {j : Join} {f f' g g' : Term} → Plans f f' → Plans g g' → PlansParts (joined j f g) (joined j f' g')
     of_side : {d : Side} {t t' : Term} → Plans t t' → PlansParts (sided d t) (sided d t')
     of_heading : {h : Heading} {i : Expression} {t t' : Term} → Plans t t' → PlansParts (headed h i t) (headed h i t')
     of_switch : {w : Switching} {t t' u u' : Term} {p : Pattern} → Plans t t' → Plans u u' → PlansParts (switching w t p u) (switching w t' p u')
+    of_keeping : {w : Observation} {t t' q q' u u' : Term} {k : Name} {p : Pattern} → Plans t t' → Plans q q' → Plans u u' → PlansParts (keeping w t q k p u) (keeping w t' q' k p u')
+
+mutual
+  -- A process with plans of its terms; what was frozen has lived the same.
+  pub data PlansProcess : Process → Process → Type 0 where
+    of_closure : {t t' : Term} {e e' : Environment} → Plans t t' → PlansNames e e' → PlansProcess (closure t e) (closure t' e')
+    of_frozen : {P P' : Process} {h : Life} {d : ℕ} → PlansProcess P P' → PlansProcess (resumed P h d) (resumed P' h d)
+
+  -- the same of each process of an environment, with the same values
+  pub data PlansNames : Environment → Environment → Type 0 where
+    of_nothing : PlansNames empty empty
+    of_value : {x : Name} {v : Data} {e e' : Environment} → PlansNames e e' → PlansNames (known x v e) (known x v e')
+    of_process : {x : Name} {P P' : Process} {e e' : Environment} → PlansProcess P P' → PlansNames e e' → PlansNames (running x P e) (running x P' e')
 
 -- a template with the plan of its term
 pub record PlansTemplate (s t : Template) : Type 0 where

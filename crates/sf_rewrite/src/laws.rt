@@ -4,24 +4,24 @@ ghost use Rattle.std.specs.Prelude.{◌≡◌, ◌≤◌, [], ◌∷◌, IsTrue}
 ghost use Rattle.sf_value.specs.Values.{Data, Kind};
 ghost use Rattle.sf_func.specs.Registries.{TypesByName};
 ghost use Rattle.sf_term.specs.Trees.{Term, Templates};
-ghost use Rattle.sf_mean.specs.Lives.{Step, Life, closure, Environment, empty};
+ghost use Rattle.sf_mean.specs.Lives.{Step, Life, Process, closure, Environment};
 ghost use Rattle.sf_mean.specs.Meaning.{Network, Outcome, gave, Cost, count, height, text_cost, Gives};
 ghost use Rattle.sf_mean.specs.Contexts.{Context, context_with, Bindings};
 ghost use Rattle.sf_mean.specs.Typing.{Takes};
 ghost use Rattle.sf_rewrite.specs.Quiet.{is_quiet};
-ghost use Rattle.sf_rewrite.specs.Plans.{Plans, PlansAll, PlansNetwork};
+ghost use Rattle.sf_rewrite.specs.Plans.{Plans, PlansProcess, PlansAll, PlansNetwork};
 ghost use Rattle.sf_rewrite.specs.Normal.{IsPlan, is_written};
 
-/// On every life, the plan of a network, with the same stored functions, gives the outcome that the network gives: the same
-/// value with the same readings, or the same fault. It steps no more terms and stands no higher than the network. Where the network gives no outcome, so
-/// does the plan.
+/// On every life, a process with plans of its terms, in the plan of a network with the same stored functions, gives the
+/// outcome that the process gives in the network: the same value with the same readings, or the same fault. It steps no more
+/// terms and stands no higher. Where the process gives no outcome, neither does the one with plans.
 pub fn plan_law()
-    ensures gives { (n m : Network) (t u : Term) (L : Life) (o : Outcome) (c : Cost) →
-        PlansNetwork n m → Plans t u → Gives n (closure t empty) L o c →
-        (d : Cost) × Gives m (closure u empty) L o d × (count d ≤ count c) × (height d ≤ height c) }
-    ensures no_more { (n m : Network) (t u : Term) (L : Life) (o : Outcome) (d : Cost) →
-        PlansNetwork n m → Plans t u → Gives m (closure u empty) L o d →
-        (c : Cost) × Gives n (closure t empty) L o c }
+    ensures gives { (n m : Network) (P Q : Process) (L : Life) (o : Outcome) (c : Cost) →
+        PlansNetwork n m → PlansProcess P Q → Gives n P L o c →
+        (d : Cost) × Gives m Q L o d × (count d ≤ count c) × (height d ≤ height c) }
+    ensures no_more { (n m : Network) (P Q : Process) (L : Life) (o : Outcome) (d : Cost) →
+        PlansNetwork n m → PlansProcess P Q → Gives m Q L o d →
+        (c : Cost) × Gives n P L o c }
 {}
 
 /// Under each context, a plan takes inputs of each type that its term takes, to outputs of the same type. The templates of

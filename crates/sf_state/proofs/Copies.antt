@@ -1,5 +1,5 @@
 -- A copy of a node stands for the same.
-use Rattle.std.proofs.Common.{◌≡◌, ℕ, suc, ◌+◌, ◌<◌, List, [], ◌∷◌, ◌++◌, length, get_or, take, Vec, subst, sym, ◌∙◌, ap, arith}
+use Rattle.std.proofs.Common.{◌≡◌, ℕ, suc, ◌+◌, ◌<◌, Bool, true, false, List, [], ◌∷◌, ◌++◌, length, get_or, take, Vec, Option, Some, None, Result, Ok, Err, IfOk, refl, subst, sym, ◌∙◌, ap, arith}
 use Rattle.std.proofs.Math.Seq.{take-suc}
 use Rattle.std.specs.declared.alloc.Global.{Global}
 use Rattle.sf_term.specs.declared.form.Join.{Join}
@@ -7,26 +7,60 @@ use Rattle.sf_func.specs.Registries.{AnswersByName}
 use Rattle.sf_law.specs.declared.plan.Plan.{Plan}
 use Rattle.sf_term.specs.Trees.{Term, Primitive}
 use Rattle.sf_expr.specs.Evaluation.{Scope}
-use Rattle.sf_mean.specs.Lives.{Life, Process, Environment}
-use Rattle.sf_mean.specs.Meaning.{Network, Made}
+use Rattle.sf_value.specs.Values.{Data}
+use Rattle.sf_mean.specs.Lives.{Step, Life, Process, resumed, Environment, after, frozen}
+use Rattle.sf_mean.specs.Meaning.{Network, Made, Watched, Takeover, fired, stands_after, Since, watched as was_watched, had_fired}
 use Rattle.sf_prim.specs.declared.prim_state.PrimState.{PrimState}
 use Rattle.sf_prim.specs.Keeping.{Remembers}
 use Rattle.sf_state.specs.declared.state.State.{State}
-use Rattle.sf_state.specs.declared.state.State.TheVariants.{Unborn, Live' as Alive', Switch' as Watching'}
+use Rattle.sf_state.specs.declared.state.State.TheVariants.{Unborn, Live' as Alive', Switch' as Watching', Keeping', Frozen'}
 use Rattle.sf_state.specs.declared.state.Live.{Live}
 use Rattle.sf_state.specs.declared.state.Live.{items_hidden-the_row-State-0}
 use Rattle.sf_state.specs.declared.state.Live.TheVariants.{Prim as LPrim, Join as LJoin, Pipeline as LPipeline, Wrap as LWrap}
 use Rattle.sf_state.specs.declared.state.Wrap.{Wrap}
 use Rattle.sf_state.specs.declared.state.Process.{Process as SProcess}
 use Rattle.sf_state.specs.declared.state.Switch.{Switch}
+use Rattle.sf_state.specs.declared.state.Keeping.{Keeping}
+use Rattle.sf_state.specs.declared.state.Frozen.{Frozen}
+use Rattle.sf_state.specs.declared.state.Kept.{Kept}
+use Rattle.sf_state.specs.declared.state.Kept.TheVariants.{Live' as KLive', Switch' as KSwitch', Keeping' as KKeeping'}
 use Rattle.sf_state.specs.declared.env.Env.{Env}
-use Rattle.sf_state.specs.Standing.{Wraps, Stands, itself, took_over, StandsItself, unborn, alive, watching, Waits, waits_so, recurs_so, Settles, settles, ready, Lives, lives_primitive, lives_join, lives_pipeline, lives_wrap, IsPipeline, StagesStand, last_stands, stage_stands, IsProcess, is_closure, IsNames, AllFollow, none_follow, more_follow}
+use Rattle.sf_state.specs.Standing.{Wraps, kept_state, Turned, fired_to, kept_to, ran, went_on, Stands, itself, took_over, StandsItself, unborn, alive, watching, keeping_on, was_frozen, Waits, waits_so, recurs_so, WaitsKeeping, keeps_so, Settles, settles, ready, Lives, lives_primitive, lives_join, lives_pipeline, lives_wrap, IsPipeline, StagesStand, last_stands, stage_stands, IsProcess, is_closure, IsNames, AllFollow, none_follow, more_follow}
 
--- a process with the same names, shared
-pub process_follows : (p : Plan) (q : SProcess) (names : Env) → ((e : Environment) → IsNames p q.names e → IsNames p names e) → (P : Process) → IsProcess p q P → IsProcess p (record { term = q.term; names = names }) P
-process_follows p q names f P (is_closure N) = is_closure (f _ N)
+-- whether a life has a step
+abbrev pub has_step : Life → Bool
+has_step [] = false
+has_step (s ∷ L) = true
+
+-- what a switch gave way to has lived the step of the event
+begun_at : (B : Takeover) (s : Step) (L : Life) {M : Life} {Q : Process} (o : Option Data) → stands_after B s L o ≡ fired Q M → has_step M ≡ true
+begun_at B s L None e = absurd cc
+begun_at B s L {M} (Some v) e = let one : s ∷ [] ≡ M = cc in sym (ap has_step one)
+
+since_begun : {n : Network} {W : Watched} {B : Takeover} {L M : Life} {Q : Process} → Since n W B L (fired Q M) → (has_step L ≡ true) × (has_step M ≡ true)
+since_begun (was_watched {B = B} {s = s} {L = L} S A e) = (refl, begun_at B s L _ e)
+since_begun (had_fired S) = (refl, refl)
+
+after_begun : (h : Life) (d : ℕ) (s : Step) (L : Life) → has_step (after h d (s ∷ L)) ≡ true
+after_begun h d s [] = refl
+after_begun h d s (r ∷ L) = refl
+
+-- one gives way to another only once both have lived a step
+turned_begun : {n : Network} {P Q : Process} {L M : Life} → Turned n P L Q M → (has_step L ≡ true) × (has_step M ≡ true)
+turned_begun (fired_to S O) = since_begun S
+turned_begun (kept_to S O) = since_begun S
+turned_begun (ran O) = (refl, refl)
+turned_begun (went_on {h = h} {d = d} {s = s} {L = L} O) = (refl, after_begun h d s L)
 
 module _ (φ : AnswersByName) (p : Plan) where
+  -- names stand for all that others stand for
+  abbrev pub NamesFollow : Env → Env → Type 0
+  NamesFollow names around = (e : Environment) → IsNames φ p names e → IsNames φ p around e
+
+  -- a process with the same names, shared
+  pub process_follows : (q : SProcess) (names : Env) → NamesFollow q.names names → (P : Process) → IsProcess φ p q P → IsProcess φ p (record { term = q.term; names = names }) P
+  process_follows q names f P (is_closure N) = is_closure (f _ N)
+
   -- b stands for all that a stands for
   abbrev pub Follows : State → State → Type 0
   Follows a b = (P : Process) (L : Life) → Stands φ p a P L → Stands φ p b P L
@@ -38,18 +72,18 @@ module _ (φ : AnswersByName) (p : Plan) where
   -- where one stands itself for all that the other does, it stands for all that the other does
   itself_follows : (a b : State) → ((P : Process) (L : Life) → StandsItself φ p a P L → StandsItself φ p b P L) → Follows a b
   itself_follows a b f P L (itself A) = itself (f P L A)
-  itself_follows a b f P L (took_over S O A) = took_over S O (itself_follows a b f _ _ A)
+  itself_follows a b f P L (took_over T A) = took_over T (itself_follows a b f _ _ A)
 
   pub same_follows : (l m : Live) → m ≡ l → NodeFollows l m
   same_follows l m e P L S = subst (λ (l : Live). Settles φ p l P L) (sym e) S
 
-  pub unborn_follows : (q r : SProcess) → ((P : Process) → IsProcess p q P → IsProcess p r P) → Follows (Unborn q) (Unborn r)
+  pub unborn_follows : (q r : SProcess) → ((P : Process) → IsProcess φ p q P → IsProcess φ p r P) → Follows (Unborn q) (Unborn r)
   unborn_follows q r h = itself_follows (Unborn q) (Unborn r) step
     where
       step : (P : Process) (L : Life) → StandsItself φ p (Unborn q) P L → StandsItself φ p (Unborn r) P L
       step P L (unborn Q) = unborn (h P Q)
 
-  pub alive_follows : {at at' : _} (names around : Env) (l m : Live) → ((e : Environment) → IsNames p names e → IsNames p around e) → NodeFollows l m → Follows (Alive' names at l) (Alive' around at' m)
+  pub alive_follows : {at at' : _} (names around : Env) (l m : Live) → NamesFollow names around → NodeFollows l m → Follows (Alive' names at l) (Alive' around at' m)
   alive_follows {at} {at'} names around l m h f = itself_follows (Alive' names at l) (Alive' around at' m) step
     where
       step : (P : Process) (L : Life) → StandsItself φ p (Alive' names at l) P L → StandsItself φ p (Alive' around at' m) P L
@@ -62,11 +96,35 @@ module _ (φ : AnswersByName) (p : Plan) where
   pub same_waits : (s r : Switch) → r ≡ s → SwitchFollows s r
   same_waits s r e P L S = subst (λ (s : Switch). Waits φ p s P L) (sym e) S
 
-  pub watching_follows : {at at' : _} (names around : Env) (s r : Switch) → ((e : Environment) → IsNames p names e → IsNames p around e) → SwitchFollows s r → Follows (Watching' names at s.form s.running s.pattern s.body) (Watching' around at' r.form r.running r.pattern r.body)
+  pub watching_follows : {at at' : _} (names around : Env) (s r : Switch) → NamesFollow names around → SwitchFollows s r → Follows (Watching' names at s.form s.running s.pattern s.body) (Watching' around at' r.form r.running r.pattern r.body)
   watching_follows {at} {at'} names around s r h f = itself_follows (Watching' names at s.form s.running s.pattern s.body) (Watching' around at' r.form r.running r.pattern r.body) step
     where
       step : (P : Process) (L : Life) → StandsItself φ p (Watching' names at s.form s.running s.pattern s.body) P L → StandsItself φ p (Watching' around at' r.form r.running r.pattern r.body) P L
       step P L (watching N W) = watching (h _ N) (f _ _ W)
+
+  -- the same of switches that keep their sources
+  abbrev pub KeepingFollows : Keeping → Keeping → Type 0
+  KeepingFollows s r = (P : Process) (L : Life) → WaitsKeeping φ p s P L → WaitsKeeping φ p r P L
+
+  pub same_keeps : (s r : Keeping) → r ≡ s → KeepingFollows s r
+  same_keeps s r e P L S = subst (λ (s : Keeping). WaitsKeeping φ p s P L) (sym e) S
+
+  pub keeping_follows : {at at' : _} (names around : Env) (s r : Keeping) → NamesFollow names around → KeepingFollows s r → Follows (Keeping' names at s.shown s.source s.observer s.name s.pattern s.body) (Keeping' around at' r.shown r.source r.observer r.name r.pattern r.body)
+  keeping_follows {at} {at'} names around s r h f = itself_follows (Keeping' names at s.shown s.source s.observer s.name s.pattern s.body) (Keeping' around at' r.shown r.source r.observer r.name r.pattern r.body) step
+    where
+      step : (P : Process) (L : Life) → StandsItself φ p (Keeping' names at s.shown s.source s.observer s.name s.pattern s.body) P L → StandsItself φ p (Keeping' around at' r.shown r.source r.observer r.name r.pattern r.body) P L
+      step P L (keeping_on N K) = keeping_on (h _ N) (f _ _ K)
+
+  -- the same frozen part under another pointer
+  pub frozen_follows : {at at' : _} (f g : Frozen) → g ≡ f → Follows (Frozen' at f.wait f.names f.node) (Frozen' at' g.wait g.names g.node)
+  frozen_follows {at} {at'} f g same = subst (λ (g : Frozen). Follows (Frozen' at f.wait f.names f.node) (Frozen' at' g.wait g.names g.node)) (sym same)
+      (itself_follows (Frozen' at f.wait f.names f.node) (Frozen' at' f.wait f.names f.node) step)
+    where
+      step : (P : Process) (L : Life) → StandsItself φ p (Frozen' at f.wait f.names f.node) P L → StandsItself φ p (Frozen' at' f.wait f.names f.node) P L
+      step P L (was_frozen A) = was_frozen A
+
+  pub keep_follows : (s : Keeping) (a o : State) → Follows s.source a → Follows s.observer o → KeepingFollows s (record { shown = s.shown; source = a; observer = o; name = s.name; pattern = s.pattern; body = s.body })
+  keep_follows s a o f g P L (keeps_so S Z Y A B) = keeps_so S Z Y (f _ _ A) (g _ _ B)
 
   pub switch_follows : (s : Switch) (a : State) → Follows s.running a → SwitchFollows s (record { form = s.form; running = a; pattern = s.pattern; body = s.body })
   switch_follows s a f P L (waits_so k S O A) = waits_so k S O (f _ _ A)
@@ -104,3 +162,89 @@ module _ (φ : AnswersByName) (p : Plan) where
   follow_next bs cs ds i a b fs h e f ed =
       let n : take (i + 1) bs ≡ take i bs ++ a ∷ [] = let more : i + 1 ≡ suc i = omega arith in ap (λ k. take k bs) more ∙ take-suc bs i a h ∙ ap (λ x. take i bs ++ x ∷ []) (sym e) in
       rw (n, ed) (follow_push a b fs f)
+
+  -- ## Freezing
+
+  -- a state stands for lives without a step alone
+  abbrev pub IsFresh : State → Type 0
+  IsFresh a = (P : Process) (L : Life) → Stands φ p a P L → has_step L ≡ false
+
+  -- a state stands for lives with a step alone
+  abbrev pub HasLived : State → Type 0
+  HasLived a = (P : Process) (L : Life) → Stands φ p a P L → has_step L ≡ true
+
+  -- where it does so itself, it does
+  itself_fresh : (a : State) → ((P : Process) (L : Life) → StandsItself φ p a P L → has_step L ≡ false) → IsFresh a
+  itself_fresh a f P L (itself A) = f P L A
+  itself_fresh a f P L (took_over T A) = let none = itself_fresh a f _ _ A in let one = (turned_begun T).1 in absurd cc
+
+  itself_lived : (a : State) → ((P : Process) (L : Life) → StandsItself φ p a P L → has_step L ≡ true) → HasLived a
+  itself_lived a f P L (itself A) = f P L A
+  itself_lived a f P L (took_over T A) = (turned_begun T).0
+
+  pub unborn_fresh : (q : SProcess) → IsFresh (Unborn q)
+  unborn_fresh q = itself_fresh (Unborn q) step
+    where
+      step : (P : Process) (L : Life) → StandsItself φ p (Unborn q) P L → has_step L ≡ false
+      step P L (unborn Q) = refl
+
+  pub frozen_fresh : {at : _} (d : ℕ) (names : Env) (k : Kept) → IsFresh (Frozen' at d names k)
+  frozen_fresh {at} d names k = itself_fresh (Frozen' at d names k) step
+    where
+      step : (P : Process) (L : Life) → StandsItself φ p (Frozen' at d names k) P L → has_step L ≡ false
+      step P L (was_frozen A) = refl
+
+  pub alive_lived : {at : _} (names : Env) (l : Live) → HasLived (Alive' names at l)
+  alive_lived {at} names l = itself_lived (Alive' names at l) step
+    where
+      step : (P : Process) (L : Life) → StandsItself φ p (Alive' names at l) P L → has_step L ≡ true
+      step P L (alive N (settles R)) = refl
+
+  pub watching_lived : {at : _} (names : Env) (s : Switch) → HasLived (Watching' names at s.form s.running s.pattern s.body)
+  watching_lived {at} names s = itself_lived (Watching' names at s.form s.running s.pattern s.body) step
+    where
+      step : (P : Process) (L : Life) → StandsItself φ p (Watching' names at s.form s.running s.pattern s.body) P L → has_step L ≡ true
+      step P L (watching N W) = refl
+
+  pub keeping_lived : {at : _} (names : Env) (s : Keeping) → HasLived (Keeping' names at s.shown s.source s.observer s.name s.pattern s.body)
+  keeping_lived {at} names s = itself_lived (Keeping' names at s.shown s.source s.observer s.name s.pattern s.body) step
+    where
+      step : (P : Process) (L : Life) → StandsItself φ p (Keeping' names at s.shown s.source s.observer s.name s.pattern s.body) P L → has_step L ≡ true
+      step P L (keeping_on N K) = refl
+
+  -- b stands for what a stands for, frozen
+  abbrev pub Freezes : State → State → ℕ → Type 0
+  Freezes a b d = (P : Process) (L : Life) → Stands φ p a P L → Stands φ p b (frozen P L d) []
+
+  -- what hasn't lived a step stays as it was
+  pub same_freezes : (a b : State) → IsFresh a → Follows a b → (d : ℕ) → Freezes a b d
+  same_freezes a b f g d P [] A = g P [] A
+  same_freezes a b f g d P (s ∷ L) A = let none = f P (s ∷ L) A in absurd cc
+
+  -- what has lived is frozen after its life
+  pub lived_freezes : (a b : State) → HasLived a → (d : ℕ) → ((P : Process) (s : Step) (h : Life) → Stands φ p a P (s ∷ h) → Stands φ p b (resumed P (s ∷ h) d) []) → Freezes a b d
+  lived_freezes a b f d g P [] A = let one = f P [] A in absurd cc
+  lived_freezes a b f d g P (s ∷ L) A = g P s L A
+
+  -- what was kept, with the same names around it
+  pub kept_around : (names around : Env) (k : Kept) → NamesFollow names around → Follows (kept_state names k) (kept_state around k)
+  kept_around names around (KLive' at l) N = alive_follows names around l l N (λ P L S. S)
+  kept_around names around (KSwitch' at w a q b) N = let s : Switch = record { form = w; running = a; pattern = q; body = b } in watching_follows names around s s N (λ P L S. S)
+  kept_around names around (KKeeping' at w a o i q b) N = let s : Keeping = record { shown = w; source = a; observer = o; name = i; pattern = q; body = b } in keeping_follows names around s s N (λ P L S. S)
+
+  -- a frozen node with the same names
+  pub node_freezes : {at : _} (d : ℕ) (names around : Env) (k : Kept) (f : Frozen) → NamesFollow names around → f ≡ record { wait = d; names = around; node = k }
+      → (P : Process) (s : Step) (h : Life) → Stands φ p (kept_state names k) P (s ∷ h) → Stands φ p (Frozen' at f.wait f.names f.node) (resumed P (s ∷ h) d) []
+  node_freezes {at} d names around k f N same P s h A = subst (λ (f : Frozen). Stands φ p (Frozen' at f.wait f.names f.node) (resumed P (s ∷ h) d) []) (sym same) (itself (was_frozen (kept_around names around k N P (s ∷ h) A)))
+
+-- a state that lived, frozen through one that follows it
+pub lived_frozen : {E : Type 0} (a b : State) (d : ℕ) (r : Result State E) → ((φ : AnswersByName) (p : Plan) → HasLived φ p a) → ((φ : AnswersByName) (p : Plan) → Follows φ p a b)
+    → IfOk r (λ c. (φ : AnswersByName) (p : Plan) (P : Process) (s : Step) (h : Life) → Stands φ p b P (s ∷ h) → Stands φ p c (resumed P (s ∷ h) d) [])
+    → IfOk r (λ c. (φ : AnswersByName) (p : Plan) → Freezes φ p a c d)
+lived_frozen a b d (Ok c) l f g = λ φ p. lived_freezes φ p a c (l φ p) d (λ P s h A. g φ p P s h (f φ p P (s ∷ h) A))
+lived_frozen a b d (Err e) l f g = tt
+
+-- a state that hasn't lived, shared
+pub fresh_frozen : {E : Type 0} (a : State) (d : ℕ) (r : Result State E) → ((φ : AnswersByName) (p : Plan) → IsFresh φ p a) → IfOk r (λ c. (φ : AnswersByName) (p : Plan) → Follows φ p a c) → IfOk r (λ c. (φ : AnswersByName) (p : Plan) → Freezes φ p a c d)
+fresh_frozen a d (Ok c) l f = λ φ p. same_freezes φ p a c (l φ p) (f φ p) d
+fresh_frozen a d (Err e) l f = tt

@@ -1,11 +1,15 @@
 -- What states stand for.
-use Rattle.std.specs.Prelude.{◌≡◌, ◌≢◌, List, [], ◌∷◌, Some, None}
-use Rattle.sf_value.specs.Values.{Data, first_of}
+use Rattle.std.specs.Prelude.{◌≡◌, ◌≢◌, ℕ, Bool, true, false, List, [], ◌∷◌, Option, Some, None}
+use Rattle.std.specs.declared.alloc.Global.{Global}
+use Rattle.std.specs.declared.rc.Rc.{Rc}
+use Rattle.sf_value.specs.declared.value.Value.{Value}
+use Rattle.sf_value.specs.Values.{Name, Data, first_of}
 use Rattle.sf_func.specs.Registries.{AnswersByName}
 use Rattle.sf_expr.specs.Expressions.{Pattern, Expression}
 use Rattle.sf_expr.specs.Patterns.{pattern_of}
+use Rattle.sf_expr.specs.declared.exprs.NameId.{NameId}
 use Rattle.sf_expr.specs.declared.exprs.PatternId.{PatternId}
-use Rattle.sf_expr.specs.Arena.{placed_at}
+use Rattle.sf_expr.specs.Arena.{placed_at, name_at}
 use Rattle.sf_expr.specs.Evaluation.{answer}
 use Rattle.sf_term.specs.declared.form.Join.{Join}
 use Rattle.sf_term.specs.declared.form.Join.TheVariants.{InSequence}
@@ -14,17 +18,17 @@ use Rattle.sf_term.specs.declared.form.Heading.TheVariants.{LoopPre, Initialized
 use Rattle.sf_term.specs.declared.form.Observation.{Observation}
 use Rattle.sf_term.specs.declared.form.Switching.{Switching}
 use Rattle.sf_term.specs.declared.form.Switching.TheVariants.{Basic, Recurring}
-use Rattle.sf_term.specs.Trees.{Primitive, whole, rest, Term, primitive, joined, sided, headed, switching, staged}
-use Rattle.sf_mean.specs.Lives.{Step, Life, Process, closure, Environment, scope_around, first_input, with_inputs, relay, fed_back, older, fed}
+use Rattle.sf_term.specs.Trees.{Primitive, whole, rest, Term, primitive, run, joined, sided, headed, switching, keeping, staged}
+use Rattle.sf_mean.specs.Lives.{Step, Life, Process, closure, resumed, Environment, empty, running, bind, passing, process_of, scope_around, first_input, with_inputs, relay, observed_life, after, fed_back, older, fed}
 use Rattle.sf_mean.specs.Formulas.{at_first, side_of}
-use Rattle.sf_mean.specs.Meaning.{Network, Made, value_made, make, left_life, right_life, waits, fired, body_of, last_event, since_event, what_runs, Outputs, Loops, Since}
+use Rattle.sf_mean.specs.Meaning.{Network, Made, value_made, make, left_life, right_life, itself as watched_itself, observed, waits, fired, body_of, body_with, whenever, last_event, since_event, what_runs, Outputs, Loops, Since}
 use Rattle.sf_law.specs.declared.node.PlanId.{PlanId}
 use Rattle.sf_law.specs.declared.plan.Plan.{Plan}
 use Rattle.sf_law.specs.Arena.{plan_tree, plan_expressions, network_of_plan}
 use Rattle.sf_prim.specs.declared.prim_state.PrimState.{PrimState}
 use Rattle.sf_prim.specs.Keeping.{Remembers}
 use Rattle.sf_state.specs.declared.state.State.{State}
-use Rattle.sf_state.specs.declared.state.State.TheVariants.{Unborn, Live' as Alive', Switch' as Watching'}
+use Rattle.sf_state.specs.declared.state.State.TheVariants.{Unborn, Unborn', Live' as Alive', Switch' as Watching', Keeping', Frozen'}
 use Rattle.sf_state.specs.declared.state.Live.{Live}
 use Rattle.sf_state.specs.declared.state.Live.TheVariants.{Prim as LPrim, Join as LJoin, Pipeline' as LPipeline', Wrap as LWrap}
 use Rattle.sf_state.specs.declared.state.Live.{items-the_row-State}
@@ -32,8 +36,11 @@ use Rattle.sf_state.specs.declared.state.Wrap.{Wrap}
 use Rattle.sf_state.specs.declared.state.Wrap.TheVariants.{First, Second, Loop, Initialized}
 use Rattle.sf_state.specs.declared.state.Process.{Process as SProcess}
 use Rattle.sf_state.specs.declared.state.Switch.{Switch}
+use Rattle.sf_state.specs.declared.state.Keeping.{Keeping}
+use Rattle.sf_state.specs.declared.state.Kept.{Kept}
+use Rattle.sf_state.specs.declared.state.Kept.TheVariants.{Live' as KLive', Switch' as KSwitch', Keeping' as KKeeping'}
 use Rattle.sf_state.specs.declared.env.Env.{Env}
-pub use Rattle.sf_state.specs.Names.{IsNames}
+use Rattle.sf_state.specs.declared.env.Env.TheVariants.{Empty as SEmpty, Bound', Running'}
 
 -- What a form with one part keeps after a life; the part, and the life that the part has led.
 pub data Wraps (n : Network) : Wrap → Term → Environment → Made → Life → Term → Life → Type 0 where
@@ -58,36 +65,80 @@ pub data IsPipeline : Term → Term → Type 0 where
 abbrev pub closed_over : PlanId → Env → SProcess
 closed_over t names = record { term = t; names = names }
 
--- what can be run
-pub data IsProcess (p : Plan) : SProcess → Process → Type 0 where
-  is_closure : {q : SProcess} {e : Environment} → IsNames p q.names e → IsProcess p q (closure (plan_tree p q.term) e)
+-- what was kept of a part, as a state
+abbrev pub kept_state : Env → Kept → State
+kept_state names (KLive' at l) = Alive' names at l
+kept_state names (KSwitch' at w a q b) = Watching' names at w a q b
+kept_state names (KKeeping' at w a o k q b) = Keeping' names at w a o k q b
+
+-- whether a state is frozen
+abbrev pub is_frozen : State → Bool
+is_frozen (Unborn' t names) = false
+is_frozen (Alive' names at l) = false
+is_frozen (Watching' names at w a q b) = false
+is_frozen (Keeping' names at w a o k q b) = false
+is_frozen (Frozen' at d names k) = true
+
+-- From here on a process gives what another one gives that has led another life, and counts nothing beside it.
+pub data Turned (n : Network) : Process → Life → Process → Life → Type 0 where
+  -- a basic switch that has fired, and its body
+  fired_to : {w : Observation} {t u : Term} {q : Pattern} {e : Environment} {B : Process} {L M : Life} {ys : List Data}
+      → Since n (watched_itself (closure t e)) (whenever (body_of q u e)) L (fired B M) → Outputs n (closure (switching (Basic w) t q u) e) L ys
+      → Turned n (closure (switching (Basic w) t q u) e) L B M
+  -- a switch that keeps its source and has fired, and its body
+  kept_to : {w : Observation} {t r u : Term} {k : Name} {q : Pattern} {e : Environment} {B : Process} {L M : Life} {ys : List Data}
+      → Since n (observed (closure t e) r e) (body_with k (closure t e) q u e) L (fired B M) → Outputs n (closure (keeping w t r k q u) e) L ys
+      → Turned n (closure (keeping w t r k q u) e) L B M
+  -- the process of a name, once it has begun
+  ran : {k : Name} {e : Environment} {s : Step} {L : Life} {ys : List Data}
+      → Outputs n (closure (run k) e) (s ∷ L) ys → Turned n (closure (run k) e) (s ∷ L) (process_of k e) (s ∷ L)
+  -- a frozen process, once it has gone on
+  went_on : {P : Process} {h : Life} {d : ℕ} {s : Step} {L : Life} {ys : List Data}
+      → Outputs n (resumed P h d) (s ∷ L) ys → Turned n (resumed P h d) (s ∷ L) P (after h d (s ∷ L))
 
 mutual
+  -- Where functions answer this, names stand for these values and processes.
+  pub data IsNames (φ : AnswersByName) (p : Plan) : Env → Environment → Type 0 where
+    is_empty : IsNames φ p SEmpty empty
+    is_bound : {at : _} {q : PatternId} {v : Rc Value Global} {names : Env} {e : Environment}
+        → IsNames φ p names e → IsNames φ p (Bound' at q v names) (bind (pattern_of (placed_at (plan_expressions p) q)) v.value e)
+    -- a process that has lived no step
+    is_running : {at : _} {k : NameId} {a : State} {names : Env} {P : Process} {e : Environment}
+        → Stands φ p a P [] → IsNames φ p names e → IsNames φ p (Running' at k a names) (running (name_at (plan_expressions p) k) P e)
+
+  -- what can be run
+  pub data IsProcess (φ : AnswersByName) (p : Plan) : SProcess → Process → Type 0 where
+    is_closure : {q : SProcess} {e : Environment} → IsNames φ p q.names e → IsProcess φ p q (closure (plan_tree p q.term) e)
+
   -- Where functions answer this, a part of a network stands for a process and the life that it has led. No state stores
   -- the life.
   pub data Stands (φ : AnswersByName) (p : Plan) : State → Process → Life → Type 0 where
     itself : {a : State} {P : Process} {L : Life} → StandsItself φ p a P L → Stands φ p a P L
-    -- what stands for the body of a basic switch that has fired stands for the switch
-    took_over : {a : State} {w : Observation} {t u : Term} {q : Pattern} {e : Environment} {v : Data} {L M : Life} {ys : List Data}
-        → Since (network_of_plan φ p) (closure t e) L (fired v M) → Outputs (network_of_plan φ p) (closure (switching (Basic w) t q u) e) L ys
-        → Stands φ p a (body_of q u e v) M → Stands φ p a (closure (switching (Basic w) t q u) e) L
+    -- what stands for the one that a process gives way to stands for it
+    took_over : {a : State} {P Q : Process} {L M : Life} → Turned (network_of_plan φ p) P L Q M → Stands φ p a Q M → Stands φ p a P L
 
   -- a part stands for the process that it was made of
   pub data StandsItself (φ : AnswersByName) (p : Plan) : State → Process → Life → Type 0 where
-    unborn : {q : SProcess} {P : Process} → IsProcess p q P → StandsItself φ p (Unborn q) P []
+    unborn : {q : SProcess} {P : Process} → IsProcess φ p q P → StandsItself φ p (Unborn q) P []
     -- with the names that are around its term
     alive : {at : _} {names : Env} {l : Live} {t : Term} {e : Environment} {L : Life}
-        → IsNames p names e → Settles φ p l (closure t e) L → StandsItself φ p (Alive' names at l) (closure t e) L
-    watching : {at : _} {names : Env} {w : Switching} {a : State} {q : PatternId} {b : PlanId} {t : Term} {e : Environment} {L : Life}
-        → IsNames p names e → Waits φ p (record { form = w; running = a; pattern = q; body = b }) (closure t e) L
-        → StandsItself φ p (Watching' names at w a q b) (closure t e) L
+        → IsNames φ p names e → Settles φ p l (closure t e) L → StandsItself φ p (Alive' names at l) (closure t e) L
+    watching : {at : _} {names : Env} {w : Switching} {a : State} {q : PatternId} {b : PlanId} {t : Term} {e : Environment} {s : Step} {L : Life}
+        → IsNames φ p names e → Waits φ p (record { form = w; running = a; pattern = q; body = b }) (closure t e) (s ∷ L)
+        → StandsItself φ p (Watching' names at w a q b) (closure t e) (s ∷ L)
+    keeping_on : {at : _} {names : Env} {w : Observation} {a o : State} {k : NameId} {q : PatternId} {b : PlanId} {t : Term} {e : Environment} {s : Step} {L : Life}
+        → IsNames φ p names e → WaitsKeeping φ p (record { shown = w; source = a; observer = o; name = k; pattern = q; body = b }) (closure t e) (s ∷ L)
+        → StandsItself φ p (Keeping' names at w a o k q b) (closure t e) (s ∷ L)
+    -- frozen after a life, and not stepped since
+    was_frozen : {at : _} {d : ℕ} {names : Env} {k : Kept} {P : Process} {s : Step} {h : Life}
+        → Stands φ p (kept_state names k) P (s ∷ h) → StandsItself φ p (Frozen' at d names k) (resumed P (s ∷ h) d) []
 
   -- a switch waits for an event after a life
   pub data Waits (φ : AnswersByName) (p : Plan) : Switch → Process → Life → Type 0 where
     -- its first term has led the life
     waits_so : {s : Switch} {w : Observation} {t : Term} {e : Environment} {L : Life} {ys : List Data}
         → s.form ≡ Basic w
-        → Since (network_of_plan φ p) (closure t e) L waits
+        → Since (network_of_plan φ p) (watched_itself (closure t e)) (whenever (body_of (pattern_of (placed_at (plan_expressions p) s.pattern)) (plan_tree p s.body) e)) L waits
         → Outputs (network_of_plan φ p) (closure (switching (Basic w) t (pattern_of (placed_at (plan_expressions p) s.pattern)) (plan_tree p s.body)) e) L ys
         → Stands φ p s.running (closure t e) L
         → Waits φ p s (closure (switching (Basic w) t (pattern_of (placed_at (plan_expressions p) s.pattern)) (plan_tree p s.body)) e) L
@@ -97,6 +148,17 @@ mutual
         → Outputs (network_of_plan φ p) (closure (switching (Recurring w) t (pattern_of (placed_at (plan_expressions p) s.pattern)) (plan_tree p s.body)) e) L ys
         → Stands φ p s.running (what_runs (closure t e) (body_of (pattern_of (placed_at (plan_expressions p) s.pattern)) (plan_tree p s.body) e) (last_event L)) (with_inputs first_of (since_event L))
         → Waits φ p s (closure (switching (Recurring w) t (pattern_of (placed_at (plan_expressions p) s.pattern)) (plan_tree p s.body)) e) L
+
+  -- A switch that keeps its source waits for an event after a life: the source has led that life, and the observer the
+  -- same with the source's values beside the inputs.
+  pub data WaitsKeeping (φ : AnswersByName) (p : Plan) : Keeping → Process → Life → Type 0 where
+    keeps_so : {s : Keeping} {t r : Term} {e : Environment} {L : Life} {ys zs : List Data}
+        → Since (network_of_plan φ p) (observed (closure t e) r e) (body_with (name_at (plan_expressions p) s.name) (closure t e) (pattern_of (placed_at (plan_expressions p) s.pattern)) (plan_tree p s.body) e) L waits
+        → Outputs (network_of_plan φ p) (closure (keeping s.shown t r (name_at (plan_expressions p) s.name) (pattern_of (placed_at (plan_expressions p) s.pattern)) (plan_tree p s.body)) e) L zs
+        → Outputs (network_of_plan φ p) (closure t e) L ys
+        → Stands φ p s.source (closure t e) L
+        → Stands φ p s.observer (closure r e) (observed_life L ys)
+        → WaitsKeeping φ p s (closure (keeping s.shown t r (name_at (plan_expressions p) s.name) (pattern_of (placed_at (plan_expressions p) s.pattern)) (plan_tree p s.body)) e) L
 
   -- a live part stands for a process and a life that has begun
   pub data Settles (φ : AnswersByName) (p : Plan) : Live → Process → Life → Type 0 where
@@ -135,6 +197,11 @@ mutual
     stage_stands : {a : State} {bs : List State} {f g : Term} {e : Environment} {L : Life} {ys : List Data}
         → Outputs (network_of_plan φ p) (closure f e) L ys → Stands φ p a (closure f e) L → StagesStand φ p bs g e (relay L ys)
         → StagesStand φ p (a ∷ bs) (staged rest f g) e L
+
+-- the process that was found under a name; where none was, inputs pass
+abbrev pub IsFound : AnswersByName → Plan → Option State → Process → Type 0
+IsFound φ p (Some a) P = Stands φ p a P []
+IsFound φ p None P = P ≡ passing
 
 -- Each state stands for all that the one at its place stands for.
 pub data AllFollow (φ : AnswersByName) (p : Plan) : List State → List State → Type 0 where

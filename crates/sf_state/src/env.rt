@@ -1,33 +1,38 @@
 //! What names stand for.
-ghost use Rattle.std.specs.Prelude.{◌≡◌, bytes_eq, option_map, IfOk};
+ghost use Rattle.std.specs.Prelude.{◌≡◌, [], bytes_eq, option_map, IfOk};
 ghost use Rattle.std.specs.Map.{lookup};
-ghost use Rattle.sf_expr.specs.Arena.{placed_at};
+ghost use Rattle.sf_func.specs.Registries.{AnswersByName};
+ghost use Rattle.sf_expr.specs.Arena.{placed_at, name_at};
 ghost use Rattle.sf_expr.specs.Patterns.{pattern_of};
-ghost use Rattle.sf_mean.specs.Lives.{Environment, bind};
+ghost use Rattle.sf_mean.specs.Lives.{Environment, Process as ProcessOf, bind, running, process_of};
 ghost use Rattle.sf_law.specs.declared.plan.Plan.{Plan};
 ghost use Rattle.sf_law.specs.Arena.{plan_expressions};
-ghost use Rattle.sf_code.specs.Names.{ValuesByName};
-ghost use Rattle.sf_state.specs.Names.{IsNames, found_or, values_inside, values_around};
+ghost use Rattle.sf_code.specs.Names.{ValuesByName, value_named};
+ghost use Rattle.sf_state.specs.Names.{found_or, values_inside, values_around};
+ghost use Rattle.sf_state.specs.Standing.{IsNames, Stands, IsFound};
 
+use crate::state::State;
 use sf_code::Names;
-use sf_expr::{Exprs, Pat, PatForm, PatternId};
+use sf_expr::{Exprs, NameId, Pat, PatForm, PatternId};
 use sf_value::{Form, Value};
 use std::alloc::{AllocError, Global};
 use std::rc::Rc;
 
 /// What names stand for, the innermost first.
 #[derive(Drop)]
-#[cycle(names)]
+#[cycle(state)]
 pub enum Env {
     /// No names.
     Empty,
     /// Those of a pattern, and those around it. They may be shared.
     Bound(Rc<Binding>),
+    /// That of a process, and those around it. They may be shared.
+    Running(Rc<Running>),
 }
 
 /// The names of a pattern that is bound to a value.
 #[derive(Drop)]
-#[cycle(names)]
+#[cycle(state)]
 pub struct Binding {
     /// The pattern, in the expressions of the plan.
     pub pattern: PatternId,
@@ -37,16 +42,32 @@ pub struct Binding {
     pub around: Env,
 }
 
+/// The name of a process.
+#[derive(Drop)]
+#[cycle(state)]
+pub struct Running {
+    /// The name, in the expressions of the plan.
+    pub name: NameId,
+    /// The process, of which no step has been lived.
+    pub process: State,
+    /// The names around it.
+    pub around: Env,
+}
+
 impl Env {
     /// The same names, shared. The error is too many owners of one name.
     pub fn share(&self) -> Result<Env, AllocError>
-        ensures { IfOk result (λ names. (p : Plan) (e : Environment) → IsNames p self.now e → IsNames p names e) }
+        ensures { IfOk result (λ names. (φ : AnswersByName) (p : Plan) (e : Environment) → IsNames φ p self.now e → IsNames φ p names e) }
     {
         match self {
             Env::Empty => Ok(Env::Empty),
             Env::Bound(binding) => {
                 let shared = binding.clone()?;
                 Ok(Env::Bound(shared))
+            }
+            Env::Running(running) => {
+                let same = running.clone()?;
+                Ok(Env::Running(same))
             }
         }
     }
@@ -59,7 +80,8 @@ impl Env {
         pattern: PatternId,
         value: Rc<Value>,
     ) -> Result<Env, AllocError>
-        ensures { IfOk result (λ names. (p : Plan) (e : Environment) → IsNames p self.now e → IsNames p names (bind (pattern_of (placed_at (plan_expressions p) pattern)) value.value e)) }
+        ensures { IfOk result (λ names. (φ : AnswersByName) (p : Plan) (e : Environment) → IsNames φ p self.now e →
+            IsNames φ p names (bind (pattern_of (placed_at (plan_expressions p) pattern)) value.value e)) }
     {
         let around = self.share()?;
         let binding = Rc::new(
@@ -73,12 +95,68 @@ impl Env {
         Ok(Env::Bound(binding))
     }
 
-    // The value of a name: of the same names the innermost counts.
+    /// These names, and inside them that of a process of which no step has been lived. The error is a want of memory, or
+    /// too many owners.
+    pub fn with_process(
+        &self,
+        alloc: Global,
+        name: NameId,
+        process: State,
+    ) -> Result<Env, AllocError>
+        ensures { IfOk result (λ names. (φ : AnswersByName) (p : Plan) (e : Environment) (P : ProcessOf) → IsNames φ p self.now e → Stands φ p process P [] →
+            IsNames φ p names (running (name_at (plan_expressions p) name) P e)) }
+    {
+        let around = self.share()?;
+        let running = Rc::new(
+            alloc,
+            Running {
+                name,
+                process,
+                around,
+            },
+        )?;
+        Ok(Env::Running(running))
+    }
+
+    /// The process of a name, shared, if it stands for one: of the same names the innermost counts. The names are those of
+    /// a plan with these expressions. The error is too many owners.
+    pub fn process(&self, expressions: &Exprs, name: &str) -> Result<Option<State>, AllocError>
+        ensures { IfOk result (λ found. (φ : AnswersByName) (p : Plan) (e : Environment) → expressions.now ≡ plan_expressions p → IsNames φ p self.now e →
+            IsFound φ p found (process_of name.now e)) }
+    {
+        match self {
+            Env::Empty => Ok(None),
+            Env::Bound(binding) => {
+                let pattern = expressions.placed(binding.pattern);
+                match part_named(pattern, &*binding.value, name) {
+                    Some(_) => Ok(None),
+                    None => binding.around.process(expressions, name),
+                }
+            }
+            Env::Running(running) => {
+                if name == expressions.name_of(running.name) {
+                    let shared = running.process.share()?;
+                    Ok(Some(shared))
+                } else {
+                    running.around.process(expressions, name)
+                }
+            }
+        }
+    }
+
+    // The value of a name: of the same names the innermost counts, and a process has none.
     fn value<'r>(&'r self, expressions: &Exprs, name: &str) -> Option<&'r Value>
-        ensures { option_map (λ v. v.now) result ≡ lookup (bytes_eq name.now) (values_around expressions.now self.now) }
+        ensures { option_map (λ v. v.now) result ≡ value_named (values_around expressions.now self.now) name.now }
     {
         match self {
             Env::Empty => None,
+            Env::Running(running) => {
+                if name == expressions.name_of(running.name) {
+                    None
+                } else {
+                    running.around.value(expressions, name)
+                }
+            }
             Env::Bound(binding) => {
                 let pattern = expressions.placed(binding.pattern);
                 match part_named(pattern, &*binding.value, name) {
@@ -92,7 +170,7 @@ impl Env {
 
 // The part of a value that a name of a pattern is bound to; what is no pair stands for both its parts.
 fn part_named<'r>(pattern: &Pat, value: &'r Value, name: &str) -> Option<&'r Value>
-    ensures { (vs : ValuesByName) → lookup (bytes_eq name.now) (values_inside (pattern_of pattern.now) value.now vs) ≡ found_or (option_map (λ v. v.now) result) (lookup (bytes_eq name.now) vs) }
+    ensures { (vs : ValuesByName) → value_named (values_inside (pattern_of pattern.now) value.now vs) name.now ≡ found_or (option_map (λ v. v.now) result) (value_named vs name.now) }
 {
     match pattern.form() {
         PatForm::Unnamed => None,

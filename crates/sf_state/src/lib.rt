@@ -4,5 +4,8 @@
 mod env;
 mod state;
 
-pub use env::{Binding, Env, NamesIn};
-pub use state::{Live, Process, State, Switch, Wrap, unshare, unshare_switch};
+pub use env::{Binding, Env, NamesIn, Running};
+pub use state::{
+    Frozen, Keeping, Kept, Live, Process, State, Switch, Wrap, unshare, unshare_keeping,
+    unshare_switch,
+};

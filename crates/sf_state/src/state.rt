@@ -1,19 +1,20 @@
 //! The states of networks.
-ghost use Rattle.std.specs.Prelude.{[], IfOk};
+ghost use Rattle.std.specs.Prelude.{◌≡◌, [], ◌∷◌, false, IfOk};
 ghost use Rattle.sf_func.specs.Registries.{AnswersByName};
 ghost use Rattle.sf_law.specs.declared.plan.Plan.{Plan};
-ghost use Rattle.sf_expr.specs.Arena.{placed_at};
+ghost use Rattle.sf_expr.specs.Arena.{placed_at, name_at};
 ghost use Rattle.sf_expr.specs.Patterns.{pattern_of};
 ghost use Rattle.sf_law.specs.Arena.{plan_expressions, plan_tree};
-ghost use Rattle.sf_mean.specs.Lives.{closure, empty, Environment, Life, Process as ProcessOf};
+ghost use Rattle.sf_mean.specs.Lives.{bind, closure, resumed, empty, running, frozen as frozen_process, Environment, Step, Life, Process as ProcessOf};
 ghost use Rattle.sf_mean.specs.Meaning.{body_of};
-ghost use Rattle.sf_state.specs.Standing.{IsNames, Stands, Settles, Waits, IsProcess, AllFollow};
+ghost use Rattle.sf_state.specs.declared.env.Env.{Env as EnvOf};
+ghost use Rattle.sf_state.specs.Standing.{IsNames, Stands, Settles, Waits, WaitsKeeping, IsProcess, AllFollow, kept_state, is_frozen};
 
 use crate::env::Env;
-use sf_expr::PatternId;
+use sf_expr::{NameId, PatternId};
 use sf_law::PlanId;
 use sf_prim::PrimState;
-use sf_term::{Join, Switching};
+use sf_term::{Join, Observation, Switching};
 use sf_value::Value;
 use std::alloc::{AllocError, Global};
 use std::rc::Rc;
@@ -28,6 +29,10 @@ pub enum State {
     Live(Env, Rc<Live>),
     /// A switch that waits for an event, with these names around it. Its node may be shared.
     Switch(Env, Rc<Switch>),
+    /// A switch that keeps its source and waits for an event, with these names around it. Its node may be shared.
+    Keeping(Env, Rc<Keeping>),
+    /// It was frozen after some samples, and hasn't been stepped since. Its node may be shared.
+    Frozen(Rc<Frozen>),
 }
 
 /// A switch that waits for an event: what runs until then, and the body that runs from then on inside a pattern.
@@ -42,6 +47,48 @@ pub struct Switch {
     pub pattern: PatternId,
     /// The body.
     pub body: PlanId,
+}
+
+/// A switch that waits for an event, and then hands its body what ran until then, frozen.
+#[derive(Drop)]
+#[cycle(state)]
+pub struct Keeping {
+    /// Whose value shows at the event.
+    pub shown: Observation,
+    /// What runs.
+    pub source: State,
+    /// What gives the event, on the inputs beside the values of what runs.
+    pub observer: State,
+    /// The name of what ran, frozen, in the body.
+    pub name: NameId,
+    /// The pattern that is bound to the event's payload.
+    pub pattern: PatternId,
+    /// The body.
+    pub body: PlanId,
+}
+
+/// A part that was frozen after some samples.
+#[derive(Drop)]
+#[cycle(state)]
+pub struct Frozen {
+    /// The milliseconds from its last sample to the one at which it goes on.
+    pub wait: u64,
+    /// The names around it.
+    pub names: Env,
+    /// Its node.
+    pub node: Kept,
+}
+
+/// The node of a part that was frozen, which may be shared.
+#[derive(Drop)]
+#[cycle(state)]
+pub enum Kept {
+    /// Of a part that goes on as it is.
+    Live(Rc<Live>),
+    /// Of a switch that waits for an event.
+    Switch(Rc<Switch>),
+    /// Of a switch that keeps its source and waits for an event.
+    Keeping(Rc<Keeping>),
 }
 
 /// A part that has lived, by its form.
@@ -73,6 +120,7 @@ pub enum Wrap {
 
 /// What can be run: a term with the names around it.
 #[derive(Drop)]
+#[cycle(state)]
 pub struct Process {
     /// The term.
     pub term: PlanId,
@@ -93,13 +141,13 @@ impl State {
 
     /// The same state, over the same node: it needs no memory, and no step of one of the two changes the other. The
     /// error is too many owners of one node.
-    pub fn freeze(&self) -> Result<State, AllocError>
-        ensures { IfOk result (λ frozen. (φ : AnswersByName) (p : Plan) (P : ProcessOf) (L : Life) → Stands φ p self.now P L → Stands φ p frozen P L) }
+    pub fn share(&self) -> Result<State, AllocError>
+        ensures { IfOk result (λ shared. (φ : AnswersByName) (p : Plan) (P : ProcessOf) (L : Life) → Stands φ p self.now P L → Stands φ p shared P L) }
     {
         match self {
             State::Unborn(process) => {
-                let shared = process.share()?;
-                Ok(State::Unborn(shared))
+                let same = process.share()?;
+                Ok(State::Unborn(same))
             }
             State::Live(names, node) => {
                 let around = names.share()?;
@@ -111,8 +159,55 @@ impl State {
                 let watching = node.clone()?;
                 Ok(State::Switch(kept, watching))
             }
+            State::Keeping(names, node) => {
+                let outer = names.share()?;
+                let keeping = node.clone()?;
+                Ok(State::Keeping(outer, keeping))
+            }
+            State::Frozen(frozen) => {
+                let rest = frozen.clone()?;
+                Ok(State::Frozen(rest))
+            }
         }
     }
+
+    /// What the part is from here on, to go on in another place `wait` milliseconds after its last sample: it shares its
+    /// nodes, so it takes memory for one node, whatever the size of the part, and no step of one of the two changes the
+    /// other. A part that hasn't been stepped is as it was. The error is a want of memory, or too many owners of one node.
+    pub fn freeze(&self, alloc: Global, wait: u64) -> Result<State, AllocError>
+        ensures { IfOk result (λ frozen. (φ : AnswersByName) (p : Plan) (P : ProcessOf) (L : Life) → Stands φ p self.now P L →
+            Stands φ p frozen (frozen_process P L wait) []) }
+    {
+        match self {
+            State::Unborn(_) | State::Frozen(_) => self.share(),
+            State::Live(names, node) => {
+                let live = node.clone()?;
+                freeze_node(alloc, wait, names, Kept::Live(live))
+            }
+            State::Switch(names, node) => {
+                let switch = node.clone()?;
+                freeze_node(alloc, wait, names, Kept::Switch(switch))
+            }
+            State::Keeping(names, node) => {
+                let keeping = node.clone()?;
+                freeze_node(alloc, wait, names, Kept::Keeping(keeping))
+            }
+        }
+    }
+}
+
+// A node with these names around it, frozen.
+fn freeze_node(alloc: Global, wait: u64, names: &Env, node: Kept) -> Result<State, AllocError>
+    ensures { IfOk result (λ frozen. (φ : AnswersByName) (p : Plan) (P : ProcessOf) (s : Step) (h : Life) → Stands φ p (kept_state names.now node) P (s ∷ h) →
+        Stands φ p frozen (resumed P (s ∷ h) wait) []) }
+{
+    let around = names.share()?;
+    let frozen = Frozen {
+        wait,
+        names: around,
+        node,
+    };
+    Ok(State::Frozen(Rc::new(alloc, frozen)?))
 }
 
 impl Live {
@@ -126,17 +221,17 @@ impl Live {
                 Ok(Live::Prim(kept))
             }
             Live::Join(join, left, right) => {
-                let first = left.freeze()?;
-                let second = right.freeze()?;
+                let first = left.share()?;
+                let second = right.share()?;
                 Ok(Live::Join(*join, first, second))
             }
             Live::Pipeline(stages) => {
-                let shared = freeze_all(alloc, stages)?;
+                let shared = share_all(alloc, stages)?;
                 Ok(Live::Pipeline(shared))
             }
             Live::Wrap(wrap, part) => {
                 let kept = wrap.clone_in(alloc)?;
-                let inner = part.freeze()?;
+                let inner = part.share()?;
                 Ok(Live::Wrap(kept, inner))
             }
         }
@@ -148,7 +243,7 @@ impl Switch {
     pub fn clone_in(&self) -> Result<Switch, AllocError>
         ensures { IfOk result (λ copy. (φ : AnswersByName) (p : Plan) (P : ProcessOf) (L : Life) → Waits φ p self.now P L → Waits φ p copy P L) }
     {
-        let running = self.running.freeze()?;
+        let running = self.running.share()?;
         Ok(Switch {
             form: self.form,
             running,
@@ -160,7 +255,7 @@ impl Switch {
     /// Its body before the first sample, inside its pattern for the payload of an event, where these names are around the
     /// switch. The error is a want of memory, or too many owners.
     pub fn begin(&self, alloc: Global, names: &Env, payload: Rc<Value>) -> Result<State, AllocError>
-        ensures { IfOk result (λ begun. (φ : AnswersByName) (p : Plan) (e : Environment) → IsNames p names.now e →
+        ensures { IfOk result (λ begun. (φ : AnswersByName) (p : Plan) (e : Environment) → IsNames φ p names.now e →
             Stands φ p begun (body_of (pattern_of (placed_at (plan_expressions p) self.now.pattern)) (plan_tree p self.now.body) e payload.value) []) }
     {
         let around = names.inside(alloc, self.pattern, payload)?;
@@ -171,15 +266,93 @@ impl Switch {
     }
 }
 
-// The same states, each over its node.
-fn freeze_all(alloc: Global, states: &[State]) -> Result<Vec<State>, AllocError>
-    ensures { IfOk result (λ frozen. (φ : AnswersByName) (p : Plan) → AllFollow φ p states.now frozen.items) }
-{
-    let mut frozen = Vec::with_capacity(alloc, states.len())?;
-    for state in states {
-        frozen.push(state.freeze()?)?;
+impl Keeping {
+    /// A copy of the node over the same states, which are shared.
+    pub fn clone_in(&self) -> Result<Keeping, AllocError>
+        ensures { IfOk result (λ copy. (φ : AnswersByName) (p : Plan) (P : ProcessOf) (L : Life) → WaitsKeeping φ p self.now P L → WaitsKeeping φ p copy P L) }
+    {
+        let source = self.source.share()?;
+        let observer = self.observer.share()?;
+        Ok(Keeping {
+            shown: self.shown,
+            source,
+            observer,
+            name: self.name,
+            pattern: self.pattern,
+            body: self.body,
+        })
     }
-    Ok(frozen)
+
+    /// Its body before the first sample, inside its pattern for the payload of an event, and around that the name of what
+    /// was frozen, where these names are around the switch. The error is a want of memory, or too many owners.
+    pub fn begin(
+        &self,
+        alloc: Global,
+        names: &Env,
+        frozen: State,
+        payload: Rc<Value>,
+    ) -> Result<State, AllocError>
+        ensures { IfOk result (λ begun. (φ : AnswersByName) (p : Plan) (e : Environment) (P : ProcessOf) → IsNames φ p names.now e → Stands φ p frozen P [] →
+            Stands φ p begun (closure (plan_tree p self.now.body)
+            (bind (pattern_of (placed_at (plan_expressions p) self.now.pattern)) payload.value (running (name_at (plan_expressions p) self.now.name) P e))) []) }
+    {
+        let known = names.with_process(alloc, self.name, frozen)?;
+        let around = known.inside(alloc, self.pattern, payload)?;
+        Ok(State::Unborn(Process {
+            term: self.body,
+            names: around,
+        }))
+    }
+}
+
+impl Kept {
+    /// The same node, shared. The error is too many owners.
+    pub fn share(&self) -> Result<Kept, AllocError>
+        ensures { IfOk result (λ same. (φ : AnswersByName) (p : Plan) (names : EnvOf) (P : ProcessOf) (L : Life) →
+            Stands φ p (kept_state names self.now) P L → Stands φ p (kept_state names same) P L) }
+    {
+        match self {
+            Kept::Live(node) => {
+                let live = node.clone()?;
+                Ok(Kept::Live(live))
+            }
+            Kept::Switch(node) => {
+                let switch = node.clone()?;
+                Ok(Kept::Switch(switch))
+            }
+            Kept::Keeping(node) => {
+                let keeping = node.clone()?;
+                Ok(Kept::Keeping(keeping))
+            }
+        }
+    }
+}
+
+impl Frozen {
+    /// The part as it was when it was frozen, which shares its nodes. The error is too many owners.
+    pub fn wake(&self) -> Result<State, AllocError>
+        ensures stands { IfOk result (λ state. (φ : AnswersByName) (p : Plan) (P : ProcessOf) (L : Life) →
+            Stands φ p (kept_state self.now.names self.now.node) P L → Stands φ p state P L) }
+        ensures awake { IfOk result (λ state. is_frozen state ≡ false) }
+    {
+        let around = self.names.share()?;
+        match self.node.share()? {
+            Kept::Live(node) => Ok(State::Live(around, node)),
+            Kept::Switch(node) => Ok(State::Switch(around, node)),
+            Kept::Keeping(node) => Ok(State::Keeping(around, node)),
+        }
+    }
+}
+
+// The same states, each over its node.
+fn share_all(alloc: Global, states: &[State]) -> Result<Vec<State>, AllocError>
+    ensures { IfOk result (λ shared. (φ : AnswersByName) (p : Plan) → AllFollow φ p states.now shared.items) }
+{
+    let mut shared = Vec::with_capacity(alloc, states.len())?;
+    for state in states {
+        shared.push(state.share()?)?;
+    }
+    Ok(shared)
 }
 
 /// Makes a node its owner's alone: where it is shared, a copy takes its place, and the other owners keep the node. After
@@ -218,6 +391,19 @@ pub fn unshare_switch(alloc: Global, node: &mut Rc<Switch>) -> Result<(), AllocE
     Ok(())
 }
 
+/// Makes the node of a switch that keeps its source its owner's alone, likewise.
+#[inline(always)]
+pub fn unshare_keeping(alloc: Global, node: &mut Rc<Keeping>) -> Result<(), AllocError>
+    ensures { (φ : AnswersByName) (p : Plan) (P : ProcessOf) (L : Life) → WaitsKeeping φ p node.old.value P L → WaitsKeeping φ p node.new.value P L }
+{
+    if Rc::strong_count(node) == 1 {
+        return Ok(());
+    }
+    let own = Rc::new(alloc, node.clone_in()?)?;
+    *node = own;
+    Ok(())
+}
+
 impl Wrap {
     ghost use Rattle.sf_term.specs.Trees.{Term};
     ghost use Rattle.sf_mean.specs.Meaning.{Network, Made};
@@ -241,7 +427,7 @@ impl Wrap {
 impl Process {
     // The same process, which shares its names.
     fn share(&self) -> Result<Process, AllocError>
-        ensures { IfOk result (λ same. (p : Plan) (P : ProcessOf) → IsProcess p self.now P → IsProcess p same P) }
+        ensures { IfOk result (λ same. (φ : AnswersByName) (p : Plan) (P : ProcessOf) → IsProcess φ p self.now P → IsProcess φ p same P) }
     {
         let names = self.names.share()?;
         Ok(Process {

@@ -1,5 +1,5 @@
 -- What each function of a sample answers, from what it calls.
-use Rattle.std.proofs.Common.{◌≡◌, ◌≢◌, ℕ, ◌+◌, ◌≤◌, List, [], ◌∷◌, ◌++◌, Option, Result, Ok, Err, refl, sym, ap, ◌∙◌, subst, arith}
+use Rattle.std.proofs.Common.{◌≡◌, ◌≢◌, ℕ, ◌+◌, ◌≤◌, List, [], ◌∷◌, ◌++◌, Option, Some, None, Result, Ok, Err, refl, sym, ap, ◌∙◌, subst, arith}
 use Rattle.std.specs.Prelude.{IsErrAnd}
 use Rattle.sf_value.specs.Values.{Data}
 use Rattle.sf_value.specs.declared.fault.ValueFault.{ValueFault}
@@ -7,29 +7,32 @@ use Rattle.sf_value.specs.declared.fault.Fault.{Fault}
 use Rattle.sf_value.specs.declared.fault.Fault.TheVariants.{Memory}
 use Rattle.sf_expr.specs.Expressions.{Expression}
 use Rattle.sf_expr.specs.Evaluation.{Scope, functions_in, answer, failed as no_answer, ◌>>=◌, eval}
-use Rattle.sf_expr.specs.Arena.{expression}
+use Rattle.sf_expr.specs.Arena.{expression, name_at}
 use Rattle.sf_code.specs.declared.code.Code.{Code}
 use Rattle.sf_code.specs.Names.{scope_with}
 use Rattle.sf_operator.specs.Answers.{Evaluates}
 use Rattle.sf_expr.specs.declared.exprs.ExprId.{ExprId}
+use Rattle.sf_expr.specs.declared.exprs.NameId.{NameId}
 use Rattle.sf_expr.specs.declared.exprs.PatternId.{PatternId}
+use Rattle.sf_term.specs.declared.form.Observation.{Observation}
 use Rattle.sf_term.specs.declared.form.Switching.{Switching}
 use Rattle.sf_term.specs.declared.form.Switching.TheVariants.{Basic, Recurring}
 use Rattle.sf_operator.specs.declared.fault.EvalFault.{EvalFault}
 use Rattle.sf_operator.specs.declared.fault.EvalFault.TheVariants.{Value as EValue, Memory as EMemory}
+use Rattle.sf_term.specs.declared.form.Bare.TheVariants.{Identity}
 use Rattle.sf_term.specs.declared.form.Join.{Join}
 use Rattle.sf_term.specs.declared.form.Join.TheVariants.{InSequence, InParallel, FannedOut}
 use Rattle.sf_term.specs.declared.form.Side.{Side}
 use Rattle.sf_term.specs.declared.form.Heading.{Heading}
 use Rattle.sf_law.specs.declared.node.PlanId.{PlanId}
-use Rattle.sf_law.specs.declared.node.PlanNode.TheVariants.{Primitive as NPrimitive, Joined as NJoined, Sided as NSided, Headed as NHeaded, Switching as NSwitching}
+use Rattle.sf_law.specs.declared.node.PlanNode.TheVariants.{Primitive as NPrimitive, Joined as NJoined, Sided as NSided, Headed as NHeaded, Switching as NSwitching, Keeping as NKeeping, Run as NRun}
 use Rattle.sf_law.specs.declared.node.PlanPrimitive.{PlanPrimitive}
 use Rattle.sf_law.specs.Entries.{primitive_over, IsCodedPrimitive, IsCodedExpression}
 use Rattle.sf_func.specs.Registries.{AnswersByName}
 use Rattle.sf_law.specs.declared.plan.Plan.{Plan}
-use Rattle.sf_term.specs.Trees.{Primitive, Term, primitive, joined, sided, headed}
-use Rattle.sf_law.specs.Arena.{plan_tree, plan_expressions, BuildsPlan, builds_primitive, builds_joined, builds_sided, builds_headed, builds_switching}
-use Rattle.sf_mean.specs.Lives.{Step, step, Life, Process, closure, Environment, scope_around, first_input}
+use Rattle.sf_term.specs.Trees.{Primitive, bare, Term, primitive, joined, sided, headed}
+use Rattle.sf_law.specs.Arena.{plan_tree, plan_expressions, BuildsPlan, builds_primitive, builds_joined, builds_sided, builds_headed, builds_switching, builds_keeping, builds_run}
+use Rattle.sf_mean.specs.Lives.{Step, step, Life, Process, closure, Environment, empty, passing, process_of, scope_around, first_input}
 use Rattle.sf_mean.specs.Formulas.{formula}
 use Rattle.sf_mean.specs.Meaning.{Network, Readings, Outcome, gave, faulted, as_outcome, Cost, count, height, both_costs, over, one_term, Made, nothing_made, value_made, make, left_life, right_life, join_value, Gives, gives, Outputs, not_begun, and_gave, of_constants, of_form, Form, of_primitive, of_join, goes_on, at_start}
 use Rattle.sf_law.specs.Arena.{network_of_plan}
@@ -39,22 +42,23 @@ use Rattle.sf_state.specs.declared.state.State.{State}
 use Rattle.sf_state.specs.declared.state.State.TheVariants.{Unborn, Live' as Alive'}
 use Rattle.sf_state.specs.declared.state.Live.{Live}
 use Rattle.sf_state.specs.declared.state.Switch.{Switch}
+use Rattle.sf_state.specs.declared.state.Keeping.{Keeping}
 use Rattle.sf_state.specs.declared.state.Live.TheVariants.{Prim as LPrim, Join as LJoin, Wrap as LWrap}
 use Rattle.sf_state.specs.declared.state.Wrap.{Wrap}
 use Rattle.sf_state.specs.Standing.{closed_over as SClosure}
 use Rattle.sf_state.specs.declared.env.Env.{Env}
 use Rattle.sf_state.specs.Names.{values_around}
-use Rattle.sf_state.specs.Standing.{Stands, itself, StandsItself, unborn, alive, Waits, waits_so, recurs_so, Settles, settles, Ready, ready, lives_primitive, lives_join, lives_wrap, Wraps, is_closure, IsNames}
+use Rattle.sf_state.specs.Standing.{Stands, itself, StandsItself, unborn, alive, Waits, waits_so, recurs_so, WaitsKeeping, keeps_so, Settles, settles, IsFound, Ready, ready, lives_primitive, lives_join, lives_wrap, Wraps, is_closure, IsNames}
 use Rattle.sf_state.proofs.Scopes.{functions_around, scope_is}
 use Rattle.sf_step.specs.declared.sample.Opened.{Opened}
 use Rattle.sf_step.specs.declared.sample.Opened.TheVariants as opened
 use Rattle.sf_step.specs.declared.meter.Meter.{Meter}
 use Rattle.sf_step.specs.Meters.{entered_of, height_of}
 use Rattle.sf_step.specs.Routing.{left_input, right_input, part_input, wrap_value, kept_after}
-use Rattle.sf_step.specs.Sampling.{Rel, fault_from, Ticks, Ticked, ticked, refused, readings, Spent, AtMost, Within, StopsFor, faults, large, memory, Answers, answers, fails, PartSteps, StateSteps, LiveSteps, left_or, kept, Opens, opens, opens_watching, opens_with_fault, opens_without_memory}
+use Rattle.sf_step.specs.Sampling.{Rel, fault_from, Ticks, Ticked, ticked, refused, readings, Spent, AtMost, Within, StopsFor, faults, large, memory, Answers, answers, fails, PartSteps, StateSteps, LiveSteps, left_or, kept, Opens, opens, opens_watching, opens_keeping, opens_running, opens_with_fault, opens_without_memory}
 use Rattle.sf_step.specs.Stepping.{EachCostsAtLeast, Steps, stepped, faulted_so, too_large, no_memory}
 use Rattle.sf_step.proofs.Parts.{counted, with_change, over_spent, one_spent, both_spent, fails_alike, over_fails, change_fails, then_fails, rest_fails, spent_within, answered, failed, memory_exit}
-use Rattle.sf_step.proofs.Switches.{lift_steps}
+use Rattle.sf_step.proofs.Turning.{lift_steps, running_steps}
 use Rattle.sf_step.proofs.Forms.{left_and, right_and, left_none, right_none, single_gives, gave_outputs, form_alike, join_alike, wrap_alike, wraps_on, counts}
 
 -- a tick that went well
@@ -78,7 +82,7 @@ module _ (φ : AnswersByName) (p : Plan) where
   pub tick_fails : {f : Fault} {m n : Meter} {depth : ℕ} (P : Process) (L : Life) → Ticked m n depth (Err f) → StopsFor (Gives net P L) f m n depth
   tick_fails {m = m} {depth = depth} P L (refused h en hn) = large go (record { most = λ o k G. record { entered = omega arith; high = omega arith } })
     where
-      go : (o : Outcome) (k : Cost) → Gives net P L o k → entered_of m + count k ≤ 100000 → depth + height k ≤ 800 → ⊥
+      go : (o : Outcome) (k : Cost) → Gives net P L o k → entered_of m + count k ≤ 1000000 → depth + height k ≤ 1600 → ⊥
       go o k G a b = let c = counts net G in omega (arith, c.0, c.1, h, a, b)
 
   -- memory runs out before a node is counted
@@ -199,7 +203,7 @@ module _ (φ : AnswersByName) (p : Plan) where
   -- ## States
 
   -- a live part's answer is its state's
-  held : {A E : Type 0} {t : Term} {e : Environment} {s : Step} {L : Life} {R : Rel} {m n : Meter} {depth : ℕ} (at : _) (names : Env) (l : Live) (v : Data) (r : Result A E) (f : Fault) → IsNames p names e
+  held : {A E : Type 0} {t : Term} {e : Environment} {s : Step} {L : Life} {R : Rel} {m n : Meter} {depth : ℕ} (at : _) (names : Env) (l : Live) (v : Data) (r : Result A E) (f : Fault) → IsNames φ p names e
       → Answers {A = Live × Data} (λ y. y.1) (λ y. Settles φ p y.0 (closure t e) (s ∷ L)) R (left_or r (l, v) f) m n depth
       → Answers {A = State × Data} (λ y. y.1) (λ y. Stands φ p y.0 (closure t e) (s ∷ L)) R (left_or r (Alive' names at l, v) f) m n depth
   held at names l v (Ok u) f N h = let w = answered h in answers w.given w.spent (itself (alive N w.holds))
@@ -226,38 +230,51 @@ module _ (φ : AnswersByName) (p : Plan) where
   opened_switch : {k : Switch} {t : Term} {e : Environment} → Opens φ p t e (Ok (opened.Switch k)) → Waits φ p k (closure t e) []
   opened_switch (opens_watching W) = W
 
+  opened_keeping : {k : Keeping} {t : Term} {e : Environment} → Opens φ p t e (Ok (opened.Keeping k)) → WaitsKeeping φ p k (closure t e) []
+  opened_keeping (opens_keeping W) = W
+
   module _ {m n : Meter} {depth inside : ℕ} (term : PlanId) (names : Env) (d : ℕ) (x : Data) (t : Ticks m n depth inside) where
     -- what a part that isn't born answers, from what its term answers on its first step
     starts : {n' : Meter} (r : Result (State × Data) Fault)
-        → ((e : Environment) → IsNames p names e → PartSteps φ p (closure (plan_tree p term) e) [] (step d x) r m n' depth)
+        → ((e : Environment) → IsNames φ p names e → PartSteps φ p (closure (plan_tree p term) e) [] (step d x) r m n' depth)
         → StateSteps φ p (Unborn (SClosure term names)) (step d x) r m n' depth
     starts {n' = n'} r h = lift_steps φ p (Unborn (SClosure term names)) (step d x) r m n' depth go
       where
         go : (P : Process) (L : Life) → StandsItself φ p (Unborn (SClosure term names)) P L → PartSteps φ p P L (step d x) r m n' depth
         go P L (unborn (is_closure {e = e} N)) = h e N
 
-    module _ {n' : Meter} (l : Live) (ho : (e : Environment) → IsNames p names e → Opens φ p (plan_tree p term) e (Ok (opened.Live l))) where
+    module _ {n' : Meter} (l : Live) (ho : (e : Environment) → IsNames φ p names e → Opens φ p (plan_tree p term) e (Ok (opened.Live l))) where
       pub start_steps : {at : _} (around : Env) (l' kept : Live) (v : Data) → around ≡ names → kept ≡ l' → LiveSteps φ p l (step d x) (Ok (l', v)) n n' inside
           → StateSteps φ p (Unborn (SClosure term names)) (step d x) (Ok (Alive' around at kept, v)) m n' depth
       start_steps {at = at} around l' kept v ea ek hs = starts (Ok (Alive' around at kept, v)) (λ e N.
           let w = answered (hs m depth t _ [] (opened_live (ho e N) x)) in
-          answers w.given w.spent (itself (alive (subst (λ (names : Env). IsNames p names e) (sym ea) N) (subst (λ (l : Live). Settles φ p l (closure (plan_tree p term) e) (step d x ∷ [])) (sym ek) w.holds))))
+          answers w.given w.spent (itself (alive (subst (λ (names : Env). IsNames φ p names e) (sym ea) N) (subst (λ (l : Live). Settles φ p l (closure (plan_tree p term) e) (step d x ∷ [])) (sym ek) w.holds))))
 
       pub start_fails : (f : Fault) → LiveSteps φ p l (step d x) (Err f) n n' inside → StateSteps φ p (Unborn (SClosure term names)) (step d x) (Err f) m n' depth
       start_fails f hs = starts (Err f) (λ e N. fails (failed (hs m depth t _ [] (opened_live (ho e N) x))))
 
     -- a switch starts as it steps
-    pub start_switches : {n' : Meter} (k : Switch) (r : Result (State × Data) Fault) → ((e : Environment) → IsNames p names e → Opens φ p (plan_tree p term) e (Ok (opened.Switch k)))
-        → ((m : Meter) (depth : ℕ) → Ticks m n depth inside → (t : Term) (e : Environment) → IsNames p names e → Waits φ p k (closure t e) [] → PartSteps φ p (closure t e) [] (step d x) r m n' depth)
+    pub start_switches : {n' : Meter} (k : Switch) (r : Result (State × Data) Fault) → ((e : Environment) → IsNames φ p names e → Opens φ p (plan_tree p term) e (Ok (opened.Switch k)))
+        → ((m : Meter) (depth : ℕ) → Ticks m n depth inside → (t : Term) (e : Environment) → IsNames φ p names e → Waits φ p k (closure t e) [] → PartSteps φ p (closure t e) [] (step d x) r m n' depth)
         → StateSteps φ p (Unborn (SClosure term names)) (step d x) r m n' depth
     start_switches k r ho hs = starts r (λ e N. hs m depth t _ e N (opened_switch (ho e N)))
+
+    pub start_keepings : {n' : Meter} (k : Keeping) (r : Result (State × Data) Fault) → ((e : Environment) → IsNames φ p names e → Opens φ p (plan_tree p term) e (Ok (opened.Keeping k)))
+        → ((m : Meter) (depth : ℕ) → Ticks m n depth inside → (t : Term) (e : Environment) → IsNames φ p names e → WaitsKeeping φ p k (closure t e) [] → PartSteps φ p (closure t e) [] (step d x) r m n' depth)
+        → StateSteps φ p (Unborn (SClosure term names)) (step d x) r m n' depth
+    start_keepings k r ho hs = starts r (λ e N. hs m depth t _ e N (opened_keeping (ho e N)))
+
+    -- a named process starts as it steps
+    pub start_runs : {n' : Meter} (a : State) (r : Result (State × Data) Fault) → ((e : Environment) → IsNames φ p names e → Opens φ p (plan_tree p term) e (Ok (opened.Running a)))
+        → StateSteps φ p a (step d x) r n n' inside → StateSteps φ p (Unborn (SClosure term names)) (step d x) r m n' depth
+    start_runs a r ho hs = starts r (λ e N. running_steps φ p t (ho e N) hs)
 
     module _ {n' : Meter} (en : entered_of n' ≡ entered_of n) (hn : height_of n' ≡ height_of n) where
       open_fails : (u : Term) (e : Environment) (f : Fault) → Opens φ p u e (Err f) → StopsFor (Gives net (closure u e) (step d x ∷ [])) f m n' depth
       open_fails u e f (opens_with_fault h) = faults (h (step d x)) ((ticked_within t en hn).most _ _ (h (step d x)))
       open_fails u e f opens_without_memory = memory (ticked_within t en hn)
 
-      pub start_open_fails : (f g : Fault) → g ≡ f → ((e : Environment) → IsNames p names e → Opens φ p (plan_tree p term) e (Err f)) → StateSteps φ p (Unborn (SClosure term names)) (step d x) (Err g) m n' depth
+      pub start_open_fails : (f g : Fault) → g ≡ f → ((e : Environment) → IsNames φ p names e → Opens φ p (plan_tree p term) e (Err f)) → StateSteps φ p (Unborn (SClosure term names)) (step d x) (Err g) m n' depth
       start_open_fails f g eg ho = starts (Err g) (λ e N. fails (subst (λ (g : Fault). StopsFor (Gives net (closure (plan_tree p term) e) (step d x ∷ [])) g m n' depth) (sym eg) (open_fails _ e f (ho e N))))
 
   -- ## Before the first sample
@@ -278,15 +295,15 @@ module _ (φ : AnswersByName) (p : Plan) where
   scope_in names = scope_with (values_around (plan_expressions p) names) φ
 
   pub open_prim : (q : PlanPrimitive) (t : Term) (names : Env) (i : PrimState) → BuildsPlan p (NPrimitive q) t → (IsCodedPrimitive (plan_expressions p) q → Begins (scope_in names) (primitive_over (plan_expressions p) q) (Ok i))
-      → (e : Environment) → IsNames p names e → Opens φ p t e (Ok (opened.Live (LPrim i)))
+      → (e : Environment) → IsNames φ p names e → Opens φ p t e (Ok (opened.Live (LPrim i)))
   open_prim q t names i (builds_primitive C) h e N = prim_opens _ e i (subst (λ (s : Scope). Begins s (primitive_over (plan_expressions p) q) (Ok i)) (scope_is φ p names e N) (h C))
 
   pub open_prim_fails : (q : PlanPrimitive) (t : Term) (names : Env) (f : EvalFault) → BuildsPlan p (NPrimitive q) t → (IsCodedPrimitive (plan_expressions p) q → Begins (scope_in names) (primitive_over (plan_expressions p) q) (Err f))
-      → (e : Environment) → IsNames p names e → Opens φ p t e (Err (fault_from f))
+      → (e : Environment) → IsNames φ p names e → Opens φ p t e (Err (fault_from f))
   open_prim_fails q t names f (builds_primitive C) h e N = prim_opens_with_fault _ e f (subst (λ (s : Scope). Begins s (primitive_over (plan_expressions p) q) (Err f)) (scope_is φ p names e N) (h C))
 
   pub open_join : (j : Join) (a b : PlanId) (names one two : Env) → j ≢ InSequence
-      → ((e : Environment) → IsNames p names e → IsNames p one e) → ((e : Environment) → IsNames p names e → IsNames p two e) → (e : Environment) → IsNames p names e → Opens φ p (joined j (plan_tree p a) (plan_tree p b)) e (Ok (opened.Live (LJoin j (Unborn (SClosure a one)) (Unborn (SClosure b two)))))
+      → ((e : Environment) → IsNames φ p names e → IsNames φ p one e) → ((e : Environment) → IsNames φ p names e → IsNames φ p two e) → (e : Environment) → IsNames φ p names e → Opens φ p (joined j (plan_tree p a) (plan_tree p b)) e (Ok (opened.Live (LJoin j (Unborn (SClosure a one)) (Unborn (SClosure b two)))))
   open_join j a b names one two side h g e N =
       let A = subst (λ (K : Life). Stands φ p (Unborn (SClosure a one)) (closure (plan_tree p a) e) K) (sym (left_none j)) (itself (unborn (is_closure (h e N)))) in
       let B = subst (λ (K : Life). Stands φ p (Unborn (SClosure b two)) (closure (plan_tree p b) e) K) (sym (right_none j)) (itself (unborn (is_closure (g e N)))) in
@@ -294,39 +311,60 @@ module _ (φ : AnswersByName) (p : Plan) where
       opens (λ x. ready refl not_begun (lives_join side O A B))
 
   -- a node of two parts opens as they do
-  pub open_joined : (j : Join) (a b : PlanId) (t : Term) (names : Env) (l : Live) → BuildsPlan p (NJoined j a b) t → ((e : Environment) → IsNames p names e → Opens φ p (joined j (plan_tree p a) (plan_tree p b)) e (Ok (opened.Live l)))
-      → (e : Environment) → IsNames p names e → Opens φ p t e (Ok (opened.Live l))
+  pub open_joined : (j : Join) (a b : PlanId) (t : Term) (names : Env) (l : Live) → BuildsPlan p (NJoined j a b) t → ((e : Environment) → IsNames φ p names e → Opens φ p (joined j (plan_tree p a) (plan_tree p b)) e (Ok (opened.Live l)))
+      → (e : Environment) → IsNames φ p names e → Opens φ p t e (Ok (opened.Live l))
   open_joined j a b t names l builds_joined h = h
 
-  pub open_wrap : (w : Wrap) (a : PlanId) (names inner : Env) → ((e : Environment) → IsNames p names e → IsNames p inner e)
-      → (t : Term) (e : Environment) (m : Made) → IsNames p names e → ((x : Data) → make net t e x ≡ answer m) → Wraps net w t e m [] (plan_tree p a) [] → Opens φ p t e (Ok (opened.Live (LWrap w (Unborn (SClosure a inner)))))
+  pub open_wrap : (w : Wrap) (a : PlanId) (names inner : Env) → ((e : Environment) → IsNames φ p names e → IsNames φ p inner e)
+      → (t : Term) (e : Environment) (m : Made) → IsNames φ p names e → ((x : Data) → make net t e x ≡ answer m) → Wraps net w t e m [] (plan_tree p a) [] → Opens φ p t e (Ok (opened.Live (LWrap w (Unborn (SClosure a inner)))))
   open_wrap w a names inner g t e m N h W = opens (λ x. ready (h x) not_begun (lives_wrap W (itself (unborn (is_closure (g e N))))))
 
   pub open_sided : (d : Side) (a : PlanId) (t : Term) (names : Env) (w : Wrap) (r : Result Opened Fault) → BuildsPlan p (NSided d a) t
       → ((n : Network) (t : Term) (e : Environment) (m : Made) → Wraps n w (sided d t) e m [] t [])
-      → ((φ : AnswersByName) (p : Plan) (t : Term) (e : Environment) (m : Made) → IsNames p names e → ((x : Data) → make (network_of_plan φ p) t e x ≡ answer m) → Wraps (network_of_plan φ p) w t e m [] (plan_tree p a) [] → Opens φ p t e r)
-      → (e : Environment) → IsNames p names e → Opens φ p t e r
+      → ((φ : AnswersByName) (p : Plan) (t : Term) (e : Environment) (m : Made) → IsNames φ p names e → ((x : Data) → make (network_of_plan φ p) t e x ≡ answer m) → Wraps (network_of_plan φ p) w t e m [] (plan_tree p a) [] → Opens φ p t e r)
+      → (e : Environment) → IsNames φ p names e → Opens φ p t e r
   open_sided d a t names w r builds_sided W h e N = h φ p _ e nothing_made N (λ x. refl) (W _ _ _ _)
 
   pub open_headed : (i : Heading) (j : ExprId) (c : Option Code) (a : PlanId) (t : Term) (names : Env) (v : Data) (w : Wrap) (r : Result Opened Fault) → BuildsPlan p (NHeaded i j c a) t
       → (IsCodedExpression (plan_expressions p) j c → eval (expression (plan_expressions p) j) (scope_in names) ≡ answer v)
       → ((n : Network) (j : Expression) (t : Term) (e : Environment) → Wraps n w (headed i j t) e (value_made v) [] t [])
-      → ((φ : AnswersByName) (p : Plan) (t : Term) (e : Environment) (m : Made) → IsNames p names e → ((x : Data) → make (network_of_plan φ p) t e x ≡ answer m) → Wraps (network_of_plan φ p) w t e m [] (plan_tree p a) [] → Opens φ p t e r)
-      → (e : Environment) → IsNames p names e → Opens φ p t e r
+      → ((φ : AnswersByName) (p : Plan) (t : Term) (e : Environment) (m : Made) → IsNames φ p names e → ((x : Data) → make (network_of_plan φ p) t e x ≡ answer m) → Wraps (network_of_plan φ p) w t e m [] (plan_tree p a) [] → Opens φ p t e r)
+      → (e : Environment) → IsNames φ p names e → Opens φ p t e r
   open_headed i j c a t names v w r (builds_headed C) g W h e N =
       h φ p _ e (value_made v) N (λ x. ap (λ s. eval (expression (plan_expressions p) j) s >>= λ v. answer (value_made v)) (sym (scope_is φ p names e N)) ∙ ap (λ o. o >>= λ v. answer (value_made v)) (g C)) (W _ _ _ _)
 
   pub open_headed_fails : (i : Heading) (j : ExprId) (c : Option Code) (a : PlanId) (t : Term) (names : Env) (f : EvalFault) → BuildsPlan p (NHeaded i j c a) t
-      → (IsCodedExpression (plan_expressions p) j c → Evaluates (Err f) (eval (expression (plan_expressions p) j) (scope_in names))) → (e : Environment) → IsNames p names e → Opens φ p t e (Err (fault_from f))
+      → (IsCodedExpression (plan_expressions p) j c → Evaluates (Err f) (eval (expression (plan_expressions p) j) (scope_in names))) → (e : Environment) → IsNames φ p names e → Opens φ p t e (Err (fault_from f))
   open_headed_fails i j c a t names (EValue x) (builds_headed C) g e N =
       opens_with_fault (λ s. gives not_begun (of_constants (ap (λ s. eval (expression (plan_expressions p) j) s >>= λ v. answer (value_made v)) (sym (scope_is φ p names e N)) ∙ ap (λ o. o >>= λ v. answer (value_made v)) (g C))))
   open_headed_fails i j c a t names EMemory B g e N = opens_without_memory
 
   -- a switch waits at first, and its first term isn't born
-  pub open_switch : (w : Switching) (a b : PlanId) (q : PatternId) (t : Term) (names around : Env) → BuildsPlan p (NSwitching w a q b) t → ((e : Environment) → IsNames p names e → IsNames p around e)
-      → (e : Environment) → IsNames p names e → Opens φ p t e (Ok (opened.Switch (record { form = w; running = Unborn (SClosure a around); pattern = q; body = b })))
+  pub open_switch : (w : Switching) (a b : PlanId) (q : PatternId) (t : Term) (names around : Env) → BuildsPlan p (NSwitching w a q b) t → ((e : Environment) → IsNames φ p names e → IsNames φ p around e)
+      → (e : Environment) → IsNames φ p names e → Opens φ p t e (Ok (opened.Switch (record { form = w; running = Unborn (SClosure a around); pattern = q; body = b })))
   open_switch (Basic w) a b q t names around builds_switching g e N = opens_watching (waits_so refl at_start not_begun (itself (unborn (is_closure (g e N)))))
   open_switch (Recurring w) a b q t names around builds_switching g e N = opens_watching (recurs_so refl not_begun (itself (unborn (is_closure (g e N)))))
+
+  -- and so does one that keeps its source, whose observer isn't born either
+  pub open_keeping : (w : Observation) (a b c : PlanId) (k : NameId) (q : PatternId) (t : Term) (names one two : Env) → BuildsPlan p (NKeeping w a b k q c) t
+      → ((e : Environment) → IsNames φ p names e → IsNames φ p one e) → ((e : Environment) → IsNames φ p names e → IsNames φ p two e)
+      → (e : Environment) → IsNames φ p names e → Opens φ p t e (Ok (opened.Keeping (record { shown = w; source = Unborn (SClosure a one); observer = Unborn (SClosure b two); name = k; pattern = q; body = c })))
+  open_keeping w a b c k q t names one two builds_keeping f g e N =
+      opens_keeping (keeps_so at_start not_begun not_begun (itself (unborn (is_closure (f e N)))) (itself (unborn (is_closure (g e N)))))
+
+  pub open_run : (k : NameId) (t : Term) (names : Env) (a : State) → BuildsPlan p (NRun k) t
+      → ((e : Environment) → IsNames φ p names e → Stands φ p a (process_of (name_at (plan_expressions p) k) e) [])
+      → (e : Environment) → IsNames φ p names e → Opens φ p t e (Ok (opened.Running a))
+  open_run k t names a builds_run f e N = opens_running refl (f e N)
+
+  -- the process that was found, or what passes inputs on
+  pub found_process : (r : Option State) (a : State) (P : Process) → r ≡ Some a → IsFound φ p r P → Stands φ p a P []
+  found_process r a P is h = subst (λ r. IsFound φ p r P) is h
+
+  pub passing_process : (r : Option State) (a : State) (i : PlanId) (P : Process) → r ≡ None → plan_tree p i ≡ primitive (bare Identity) → Stands φ p a (closure (plan_tree p i) empty) [] → IsFound φ p r P → Stands φ p a P []
+  passing_process r a i P is same A h =
+      let none : P ≡ passing = subst (λ r. IsFound φ p r P) is h in
+      subst (λ P. Stands φ p a P []) (ap (λ t. closure t empty) same ∙ sym none) A
 
   -- ## A sample
 

@@ -5,9 +5,9 @@ use Rattle.sf_expr.specs.Evaluation.{Evaluated, answer, failed as no_answer}
 use Rattle.sf_term.specs.declared.form.Join.{Join}
 use Rattle.sf_term.specs.declared.form.Join.TheVariants.{InSequence, InParallel, FannedOut}
 use Rattle.sf_term.specs.declared.form.Observation.{Observation}
-use Rattle.sf_term.specs.Trees.{Extent, whole, rest, Term, primitive, joined, sided, headed, switching, staged}
+use Rattle.sf_term.specs.Trees.{Extent, whole, rest, Term, primitive, run, joined, sided, headed, switching, keeping, staged}
 use Rattle.sf_mean.specs.Lives.{Step, step, Life, Process, closure, Environment, first_input, fed}
-use Rattle.sf_mean.specs.Meaning.{Network, Readings, Outcome, gave, faulted, combined, value_in, Cost, count, height, both_costs, over_stages, text_cost, Made, make, left_life, right_life, join_value, Gives, gives, Outputs, and_gave, Sample, of_constants, of_form, Form, of_primitive, of_join, of_side, of_loop, of_initialized, of_switch, of_recurring, of_stages, Next, goes_on, stops, and_looped, Standing, SwitchTurn, while_waiting, as_body}
+use Rattle.sf_mean.specs.Meaning.{Network, Readings, Outcome, gave, faulted, combined, value_in, Cost, count, height, both_costs, over_first, over_stages, text_cost, Made, make, left_life, right_life, join_value, Gives, gives, Outputs, and_gave, Sample, of_constants, of_form, of_resumed, Form, of_primitive, of_join, of_side, of_loop, of_initialized, of_run, of_switch, of_keeping, of_recurring, of_stages, Next, goes_on, stops, and_looped, Watched, Takeover, Standing, SwitchTurn, while_waiting, as_body}
 use Rattle.sf_mean.proofs.Once.{once, onces, once_loops}
 use Rattle.sf_state.specs.declared.state.Wrap.{Wrap}
 use Rattle.sf_state.specs.Standing.{Wraps, wraps_first, wraps_second, wraps_loop, wraps_initialized}
@@ -126,32 +126,41 @@ module _ (n : Network) where
   stages_count whole a b h = (omega arith, omega arith)
   stages_count rest a b h = (omega (arith, h.0), omega (arith, h.1))
 
+  first_counts : (L : Life) (c : Cost) → (1 ≤ count c) × (1 ≤ height c) → (1 ≤ count (over_first L c)) × (1 ≤ height (over_first L c))
+  first_counts [] c h = (omega arith, omega arith)
+  first_counts (s ∷ L) c h = h
+
   pub text_counts : (t : Term) → (1 ≤ count (text_cost t)) × (1 ≤ height (text_cost t))
   text_counts (primitive p) = (omega arith, omega arith)
+  text_counts (run k) = (omega arith, omega arith)
   text_counts (joined j f g) = (omega arith, omega arith)
   text_counts (sided d t) = (omega arith, omega arith)
   text_counts (headed h i t) = (omega arith, omega arith)
   text_counts (switching w t q u) = (omega arith, omega arith)
+  text_counts (keeping w t r k q u) = (omega arith, omega arith)
   text_counts (staged x f g) = stages_count x (text_cost f) (text_cost g) (text_counts f)
 
   mutual
     form_counts : {t : Term} {e : Environment} {m : Made} {s : Step} {L : Life} {o : Outcome} {k : Cost} → Form n t e m s L o k → (1 ≤ count k) × (1 ≤ height k)
     form_counts (of_primitive h) = (omega arith, omega arith)
+    form_counts (of_run {L = L} {c = c} G) = first_counts L c (counts G)
     form_counts (of_join O G N) = (omega arith, omega arith)
     form_counts (of_side G) = (omega arith, omega arith)
     form_counts (of_loop O G) = (omega arith, omega arith)
     form_counts (of_initialized G) = (omega arith, omega arith)
     form_counts (of_switch S T) = turn_counts T
+    form_counts (of_keeping S T) = turn_counts T
     form_counts (of_recurring G F) = (omega arith, omega arith)
     form_counts (of_stages {x = x} {c = c} {c' = c'} O G N) = stages_count x c c' (counts G)
 
-    turn_counts : {w : Observation} {P : Process} {B : Data → Process} {s : Step} {L : Life} {st : Standing} {o : Outcome} {k : Cost} → SwitchTurn n w P B s L st o k → (1 ≤ count k) × (1 ≤ height k)
+    turn_counts : {w : Observation} {W : Watched} {B : Takeover} {s : Step} {L : Life} {st : Standing} {o : Outcome} {k : Cost} → SwitchTurn n w W B s L st o k → (1 ≤ count k) × (1 ≤ height k)
     turn_counts (while_waiting G C) = (omega arith, omega arith)
     turn_counts (as_body G) = counts G
 
     sample_counts : {P : Process} {s : Step} {L : Life} {o : Outcome} {k : Cost} → Sample n P s L o k → (1 ≤ count k) × (1 ≤ height k)
     sample_counts (of_constants {t = t} h) = text_counts t
     sample_counts (of_form h F) = form_counts F
+    sample_counts (of_resumed G) = counts G
 
     pub counts : {P : Process} {L : Life} {o : Outcome} {k : Cost} → Gives n P L o k → (1 ≤ count k) × (1 ≤ height k)
     counts (gives O S) = sample_counts S

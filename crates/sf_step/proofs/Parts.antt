@@ -99,7 +99,7 @@ pub over_fails : {R : Rel} {f : Fault} {m n n' : Meter} {depth inside : ℕ} →
 over_fails t (faults G s) = faults (counted G) (over_most t s)
 over_fails {R} {f} {m} {n} {n'} {depth} {inside} t (large h w) = large go (over_within t w)
   where
-    go : (o : Outcome) (k : Cost) → Over R o k → entered_of m + count k ≤ 100000 → depth + height k ≤ 800 → ⊥
+    go : (o : Outcome) (k : Cost) → Over R o k → entered_of m + count k ≤ 1000000 → depth + height k ≤ 1600 → ⊥
     go o k (counted G) a b = h _ _ G (let c = t.entered in omega arith) (let c = t.below in omega arith)
 over_fails t (memory w) = memory (over_within t w)
 
@@ -108,7 +108,7 @@ pub change_fails : {R : Rel} {g : Data → Data} {f : Fault} {m n : Meter} {dept
 change_fails (faults G s) = faults (with_change G) s
 change_fails {R} {g} {f} {m} {n} {depth} (large h w) = large go (change_within w)
   where
-    go : (o : Outcome) (k : Cost) → Changed g R o k → entered_of m + count k ≤ 100000 → depth + height k ≤ 800 → ⊥
+    go : (o : Outcome) (k : Cost) → Changed g R o k → entered_of m + count k ≤ 1000000 → depth + height k ≤ 1600 → ⊥
     go o k (with_change G) a b = h _ _ G a b
 change_fails (memory w) = memory (change_within w)
 
@@ -117,7 +117,7 @@ pub then_fails : {R : Rel} {g : Data → Data → Data} {stop : Cost} {S : Data 
 then_fails {stop = stop} (faults G s) = faults (then_stop G) (first_most stop s)
 then_fails {R} {g} {stop} {S} {f} {m} {n} {depth} (large h w) = large go (then_within w)
   where
-    go : (o : Outcome) (k : Cost) → Then R g stop S o k → entered_of m + count k ≤ 100000 → depth + height k ≤ 800 → ⊥
+    go : (o : Outcome) (k : Cost) → Then R g stop S o k → entered_of m + count k ≤ 1000000 → depth + height k ≤ 1600 → ⊥
     go o k (then_on G H) a b = h _ _ G (omega arith) (omega arith)
     go o k (then_stop G) a b = h _ _ G (omega arith) (omega arith)
 then_fails (memory w) = memory (then_within w)
@@ -140,7 +140,7 @@ module _ {R : Rel} {g : Data → Data → Data} {stop : Cost} (S : Data → Rel)
   rest_fails s (faults G b) = faults (then_on G1 G) (both_most s b)
   rest_fails {f} {m} {n} {n'} {depth} s (large h w) = large go (rest_within s w)
     where
-      go : (o : Outcome) (k : Cost) → Then R g stop S o k → entered_of m + count k ≤ 100000 → depth + height k ≤ 800 → ⊥
+      go : (o : Outcome) (k : Cost) → Then R g stop S o k → entered_of m + count k ≤ 1000000 → depth + height k ≤ 1600 → ⊥
       go o k (then_on {y = z} {o = o'} {l = l} G H) a b =
           let e = one u G G1 in
           let c = ap count e.1 in let d = ap height e.1 in let i = s.entered in

@@ -1,16 +1,18 @@
 -- Recurring switches: what runs is stepped on inputs without their events, and at an event the body takes its place.
-use Rattle.std.proofs.Common.{◌≡◌, ℕ, [], ◌∷◌, ◌++◌, Some, None, Result, Ok, Err, refl, sym, ap, ◌∙◌, subst}
-use Rattle.sf_value.specs.Values.{Data, first_of}
+use Rattle.std.proofs.Common.{◌≡◌, ℕ, List, [], ◌∷◌, ◌++◌, Option, Some, None, Result, Ok, Err, refl, sym, ap, ◌∙◌, subst}
+use Rattle.std.specs.Prelude.{IsErr}
+use Rattle.sf_value.specs.Values.{Data, first_of, second_of}
 use Rattle.sf_value.specs.declared.fault.Fault.{Fault}
 use Rattle.sf_func.specs.Registries.{AnswersByName}
 use Rattle.sf_expr.specs.Expressions.{Pattern}
 use Rattle.sf_expr.specs.Patterns.{pattern_of}
 use Rattle.sf_expr.specs.Arena.{placed_at}
 use Rattle.sf_term.specs.declared.form.Observation.{Observation}
-use Rattle.sf_term.specs.declared.form.Switching.TheVariants.{Recurring}
+use Rattle.sf_term.specs.declared.form.Switching.{Switching}
+use Rattle.sf_term.specs.declared.form.Switching.TheVariants.{Basic, Recurring}
 use Rattle.sf_term.specs.Trees.{Term, switching}
 use Rattle.sf_mean.specs.Lives.{Step, step, Life, Process, closure, Environment, with_inputs}
-use Rattle.sf_mean.specs.Meaning.{Network, Readings, Outcome, gave, faulted, Cost, no_cost, both_costs, over, Made, nothing_made, switched_value, body_of, event_beside, or_earlier, last_event, kept_before, since_event, what_runs, without_event, Gives, gives, and_gave, of_form, Form, of_recurring, Fires, no_event_yet, event_now}
+use Rattle.sf_mean.specs.Meaning.{Network, Readings, Outcome, gave, faulted, combined, Cost, no_cost, both_costs, over, Made, nothing_made, switched_value, body_of, event_beside, or_earlier, last_event, kept_before, since_event, what_runs, unless_faulted, without_event, Gives, gives, and_gave, of_form, Form, of_recurring, Fires, no_event_yet, event_now}
 use Rattle.sf_law.specs.declared.plan.Plan.{Plan}
 use Rattle.sf_law.specs.Arena.{plan_tree, plan_expressions, network_of_plan}
 use Rattle.sf_state.specs.declared.state.State.{State}
@@ -19,7 +21,7 @@ use Rattle.sf_state.specs.declared.env.Env.{Env}
 use Rattle.sf_state.specs.Standing.{IsNames, Stands, Waits, waits_so, recurs_so}
 use Rattle.sf_step.specs.declared.meter.Meter.{Meter}
 use Rattle.sf_step.specs.Meters.{entered_of, height_of}
-use Rattle.sf_step.specs.Sampling.{Rel, Ticks, Within, StopsFor, answers, fails, left_or, StateSteps, SwitchSteps}
+use Rattle.sf_step.specs.Sampling.{Rel, Ticks, Within, StopsFor, Answers, answers, fails, left_or, StateSteps, SwitchSteps}
 use Rattle.sf_step.proofs.Parts.{Over, counted, Then, then_on, then_stop, Alike, over_spent, both_spent, alike_within, over_within, then_within, fails_alike, over_fails, then_fails, rest_fails, spent_within, answered, failed}
 use Rattle.sf_step.proofs.Forms.{single_gives, form_alike}
 use Rattle.sf_step.proofs.Switches.{not_recurring, same_recurring, no_more_spent, Beside, fires_to, FromFires, from_fires, fires_back, way_alike}
@@ -57,14 +59,14 @@ module _ (φ : AnswersByName) (p : Plan) where
 
     -- what runs fails
     pub run_fails : (f : Fault) → StateSteps φ p k.running (step d i) (Err f) n n1 inside
-        → (m : Meter) (depth : ℕ) → Ticks m n depth inside → (t : Term) (e : Environment) (L : Life) → IsNames p names e → Waits φ p k (closure t e) L → StopsFor (Gives net (closure t e) (step d x ∷ L)) f m n1 depth
+        → (m : Meter) (depth : ℕ) → Ticks m n depth inside → (t : Term) (e : Environment) (L : Life) → IsNames φ p names e → Waits φ p k (closure t e) L → StopsFor (Gives net (closure t e) (step d x ∷ L)) f m n1 depth
     run_fails f hs m depth t T e L N (waits_so own S O A) = absurd (not_recurring own form)
     run_fails f hs m depth t T e L N (recurs_so own O A) = fails_alike (form_alike net (step d x) L refl O) (fails_alike recurring_alike (over_fails t (then_fails (failed (on_input refl hs _ _ A)))))
 
     module _ (a : State) (y : Data) (hs : StateSteps φ p k.running (step d i) (Ok (a, y)) n n1 inside) where
       -- memory runs out after what runs was stepped
       pub run_memory : (n2 : Meter) → entered_of n2 ≡ entered_of n1 → height_of n2 ≡ height_of n1
-          → (m : Meter) (depth : ℕ) → Ticks m n depth inside → (t : Term) (e : Environment) (L : Life) → IsNames p names e → Waits φ p k (closure t e) L → Within (Gives net (closure t e) (step d x ∷ L)) m n2 depth
+          → (m : Meter) (depth : ℕ) → Ticks m n depth inside → (t : Term) (e : Environment) (L : Life) → IsNames φ p names e → Waits φ p k (closure t e) L → Within (Gives net (closure t e) (step d x ∷ L)) m n2 depth
       run_memory n2 en hn m depth t T e L N (waits_so own S O A) = absurd (not_recurring own form)
       run_memory n2 en hn m depth t T e L N (recurs_so own O A) =
           let one = answered (on_input refl hs _ _ A) in
@@ -86,10 +88,10 @@ module _ (φ : AnswersByName) (p : Plan) where
           (subst (λ (k' : Switch). Waits φ p k' (closure (switching (Recurring h) first (pattern_of (placed_at (plan_expressions p) k.pattern)) u) e) (step d x ∷ L)) (sym ek) (recurs_so own (and_gave O G) lives))
 
       module _ (v : Data) (some : event_beside (step d x) ≡ Some v) (b0 : State) (j : Data) (again : j ≡ i)
-          (ha : (e : Environment) → IsNames p names e → Stands φ p b0 (body_of (pattern_of (placed_at (plan_expressions p) k.pattern)) (plan_tree p k.body) e v) []) (n2 : Meter) where
+          (ha : (e : Environment) → IsNames φ p names e → Stands φ p b0 (body_of (pattern_of (placed_at (plan_expressions p) k.pattern)) (plan_tree p k.body) e v) []) (n2 : Meter) where
         -- the body fails
         pub new_fails : (f : Fault) → StateSteps φ p b0 (step d j) (Err f) n1 n2 inside
-            → (m : Meter) (depth : ℕ) → Ticks m n depth inside → (t : Term) (e : Environment) (L : Life) → IsNames p names e → Waits φ p k (closure t e) L → StopsFor (Gives net (closure t e) (step d x ∷ L)) f m n2 depth
+            → (m : Meter) (depth : ℕ) → Ticks m n depth inside → (t : Term) (e : Environment) (L : Life) → IsNames φ p names e → Waits φ p k (closure t e) L → StopsFor (Gives net (closure t e) (step d x ∷ L)) f m n2 depth
         new_fails f hb m depth t T e L N (waits_so own S O A) = absurd (not_recurring own form)
         new_fails f hb m depth t T e L N (recurs_so own O A) =
             let one = answered (on_input refl hs _ _ A) in

@@ -24,7 +24,7 @@ use Rattle.sf_state.specs.Standing.{closed_over as SClosure}
 use Rattle.sf_state.specs.declared.env.Env.{Env}
 use Rattle.sf_state.specs.declared.state.Live.{items_hidden-the_row-State-0}
 use Rattle.sf_state.specs.declared.state.Live.TheVariants.{Pipeline as LPipeline}
-use Rattle.sf_state.specs.Standing.{is_closure, IsNames, Stands, itself, took_over, unborn, alive, watching, waits_so, recurs_so, settles, Ready, ready, lives_pipeline, IsPipeline, is_stages, is_sequence, StagesStand, last_stands, stage_stands}
+use Rattle.sf_state.specs.Standing.{is_closure, IsNames, Stands, itself, took_over, unborn, alive, watching, waits_so, recurs_so, keeping_on, keeps_so, was_frozen, Turned, fired_to, kept_to, ran, went_on, settles, Ready, ready, lives_pipeline, IsPipeline, is_stages, is_sequence, StagesStand, last_stands, stage_stands}
 use Rattle.sf_state.proofs.Copies.{pipeline_lives}
 use Rattle.sf_step.specs.declared.meter.Meter.{Meter}
 use Rattle.sf_step.specs.declared.sample.Opened.TheVariants as opened
@@ -96,12 +96,20 @@ module _ (φ : AnswersByName) (p : Plan) where
   abbrev Gave : Process → Life → Type 0
   Gave P L = (ys : List Data) × Outputs net P L ys
 
+  turned_gave : {P Q : Process} {L M : Life} → Turned net P L Q M → Gave P L
+  turned_gave (fired_to S O) = (_, O)
+  turned_gave (kept_to S O) = (_, O)
+  turned_gave (ran O) = (_, O)
+  turned_gave (went_on O) = (_, O)
+
   state_gave : {a : State} {P : Process} {L : Life} → Stands φ p a P L → Gave P L
   state_gave (itself (unborn Q)) = ([], not_begun)
   state_gave (itself (alive N (settles (ready h O K)))) = (_, O)
   state_gave (itself (watching N (waits_so own S O A))) = (_, O)
   state_gave (itself (watching N (recurs_so own O A))) = (_, O)
-  state_gave (took_over S O A) = (_, O)
+  state_gave (itself (keeping_on N (keeps_so S O OY A B))) = (_, O)
+  state_gave (itself (was_frozen A)) = ([], not_begun)
+  state_gave (took_over T A) = turned_gave T
 
   stages_gave : {bs : List State} {u : Term} {e : Environment} {L : Life} → StagesStand φ p bs u e L → Gave (closure u e) L
   stages_gave (last_stands A) = state_gave A
@@ -241,7 +249,7 @@ module _ (φ : AnswersByName) (p : Plan) where
   begin_push i [] a bs e none_begin A = more_begin A none_begin
   begin_push i (j ∷ ids) a bs e (more_begin B C) A = more_begin B (begin_push i ids a _ e C A)
 
-  pub begin_next : (ids : List PlanId) (k : ℕ) (names : Env) (bs cs : List State) (e : Environment) (d : PlanId) → AllBegin φ p e (take k ids) bs → k < length ids → IsNames p names e → cs ≡ bs ++ Unborn (SClosure (get_or ids k d) names) ∷ [] → AllBegin φ p e (take (k + 1) ids) cs
+  pub begin_next : (ids : List PlanId) (k : ℕ) (names : Env) (bs cs : List State) (e : Environment) (d : PlanId) → AllBegin φ p e (take k ids) bs → k < length ids → IsNames φ p names e → cs ≡ bs ++ Unborn (SClosure (get_or ids k d) names) ∷ [] → AllBegin φ p e (take (k + 1) ids) cs
   begin_next ids k names bs cs e d B short N same =
       let more : k + 1 ≡ suc k = omega arith in
       rw (ap (λ j. take j ids) more ∙ take-suc ids k d short, same) (begin_push _ _ _ _ e B (itself (unborn (is_closure N))))

@@ -1,6 +1,6 @@
 -- What the parts of a sample answer.
 use Rattle.std.specs.Prelude.{◌≡◌, ℕ, ◌+◌, ◌≤◌, max, List, [], ◌∷◌, ◌++◌, ◌⊎◌, Option, Some, None, Result, Ok, Err}
-use Rattle.sf_value.specs.Values.{Data}
+use Rattle.sf_value.specs.Values.{Name, Data}
 use Rattle.sf_value.specs.declared.fault.ValueFault.{ValueFault}
 use Rattle.sf_value.specs.declared.fault.Fault.{Fault}
 use Rattle.sf_value.specs.declared.fault.Fault.TheVariants.{Value, Large, Memory}
@@ -8,16 +8,17 @@ use Rattle.sf_func.specs.Registries.{AnswersByName}
 use Rattle.sf_operator.specs.declared.fault.EvalFault.{EvalFault}
 use Rattle.sf_operator.specs.declared.fault.EvalFault.TheVariants.{Value as EValue, Memory as EMemory}
 use Rattle.sf_law.specs.declared.plan.Plan.{Plan}
-use Rattle.sf_term.specs.Trees.{Term}
-use Rattle.sf_mean.specs.Lives.{Step, Life, Process, closure, Environment, first_input}
+use Rattle.sf_term.specs.Trees.{Term, run}
+use Rattle.sf_mean.specs.Lives.{Step, Life, Process, closure, Environment, process_of, first_input}
 use Rattle.sf_mean.specs.Meaning.{Readings, Outcome, gave, faulted, Cost, count, height, text_cost, Gives}
 use Rattle.sf_law.specs.declared.node.PlanId.{PlanId}
 use Rattle.sf_law.specs.Arena.{plan_tree, network_of_plan}
 use Rattle.sf_state.specs.declared.state.State.{State}
 use Rattle.sf_state.specs.declared.state.Live.{Live}
 use Rattle.sf_state.specs.declared.state.Switch.{Switch}
+use Rattle.sf_state.specs.declared.state.Keeping.{Keeping}
 use Rattle.sf_state.specs.declared.env.Env.{Env}
-use Rattle.sf_state.specs.Standing.{IsNames, Stands, Settles, Waits, Ready}
+use Rattle.sf_state.specs.Standing.{IsNames, Stands, Settles, Waits, WaitsKeeping, Ready}
 use Rattle.sf_step.specs.declared.sample.Opened.{Opened}
 use Rattle.sf_step.specs.declared.sample.Opened.TheVariants as opened
 use Rattle.sf_step.specs.declared.meter.Meter.{Meter}
@@ -46,7 +47,7 @@ kept (Err e) f = Err f
 -- one more node, unless that is too many, and then none
 pub data Ticked : Meter → Meter → ℕ → Result ℕ Fault → Type 0 where
   ticked : {m n : Meter} {depth inside : ℕ} → Ticks m n depth inside → Ticked m n depth (Ok inside)
-  refused : {m n : Meter} {depth : ℕ} → (100000 ≤ entered_of m) ⊎ (800 ≤ depth) → entered_of n ≡ entered_of m → height_of n ≡ height_of m → Ticked m n depth (Err Large)
+  refused : {m n : Meter} {depth : ℕ} → (1000000 ≤ entered_of m) ⊎ (1600 ≤ depth) → entered_of n ≡ entered_of m → height_of n ≡ height_of m → Ticked m n depth (Err Large)
 
 -- what the probes recorded: no form has a probe
 unfoldable pub readings : Meter → Readings
@@ -72,7 +73,7 @@ pub data StopsFor (R : Rel) : Fault → Meter → Meter → ℕ → Type 0 where
   faults : {x : ValueFault} {k : Cost} {m n : Meter} {depth : ℕ}
       → R (faulted x) k → AtMost m n depth k → StopsFor R (Value x) m n depth
   large : {m n : Meter} {depth : ℕ}
-      → ((o : Outcome) (k : Cost) → R o k → entered_of m + count k ≤ 100000 → depth + height k ≤ 800 → ⊥)
+      → ((o : Outcome) (k : Cost) → R o k → entered_of m + count k ≤ 1000000 → depth + height k ≤ 1600 → ⊥)
       → Within R m n depth → StopsFor R Large m n depth
   memory : {m n : Meter} {depth : ℕ} → Within R m n depth → StopsFor R Memory m n depth
 
@@ -96,30 +97,44 @@ LiveSteps φ p l s result n n' inside = (m : Meter) (depth : ℕ) → Ticks m n 
     → Answers (λ y. y.1) (λ y. Settles φ p y.0 P (s ∷ L)) (Gives (network_of_plan φ p) P (s ∷ L)) result m n' depth
 
 -- what a step of a switch left in place, beside what takes over from it, or the fault that stands in the meter
-abbrev pub left_beside : {E : Type 0} → Result (Option State) E → Switch → Data → Fault → Result ((Option State × Switch) × Data) Fault
+abbrev pub left_beside : {A E : Type 0} → Result (Option State) E → A → Data → Fault → Result ((Option State × A) × Data) Fault
 left_beside (Ok o) s d f = Ok ((o, s), d)
 left_beside (Err e) s d f = Err f
 
+-- what switches of a kind wait for, and the lives that they have led
+abbrev pub Waiting : Type 0 → Type 1
+Waiting A = A → Process → Life → Type 0
+
 -- what takes over from a switch stands for it; without that, it waits
-abbrev pub StandsFor : AnswersByName → Plan → Option State → Switch → Process → Life → Type 0
-StandsFor φ p (Some a) s P L = Stands φ p a P L
-StandsFor φ p None s P L = Waits φ p s P L
+abbrev pub StandsFor : {A : Type 0} → AnswersByName → Plan → Waiting A → Option State → A → Process → Life → Type 0
+StandsFor φ p W (Some a) s P L = Stands φ p a P L
+StandsFor φ p W None s P L = W s P L
 
 -- a switch with names around it, which counted between m and n, steps to the outcome of its process on the longer life, where
 -- its parts stand inside so many nodes
-abbrev pub SwitchSteps : AnswersByName → Plan → Env → Switch → Step → Result ((Option State × Switch) × Data) Fault → Meter → Meter → ℕ → Type 0
-SwitchSteps φ p names w s result n n' inside = (m : Meter) (depth : ℕ) → Ticks m n depth inside → (t : Term) (e : Environment) (L : Life) → IsNames p names e → Waits φ p w (closure t e) L
-    → Answers (λ y. y.1) (λ y. StandsFor φ p y.0.0 y.0.1 (closure t e) (s ∷ L)) (Gives (network_of_plan φ p) (closure t e) (s ∷ L)) result m n' depth
+abbrev pub WaitingSteps : {A : Type 0} → AnswersByName → Plan → Waiting A → Env → A → Step → Result ((Option State × A) × Data) Fault → Meter → Meter → ℕ → Type 0
+WaitingSteps φ p W names w s result n n' inside = (m : Meter) (depth : ℕ) → Ticks m n depth inside → (t : Term) (e : Environment) (L : Life) → IsNames φ p names e → W w (closure t e) L
+    → Answers (λ y. y.1) (λ y. StandsFor φ p W y.0.0 y.0.1 (closure t e) (s ∷ L)) (Gives (network_of_plan φ p) (closure t e) (s ∷ L)) result m n' depth
 
 -- the same where it hasn't counted, and stands inside so many nodes
-abbrev pub WatchSteps : AnswersByName → Plan → Env → Switch → Step → Result ((Option State × Switch) × Data) Fault → Meter → Meter → ℕ → Type 0
-WatchSteps φ p names w s result m n depth = (t : Term) (e : Environment) (L : Life) → IsNames p names e → Waits φ p w (closure t e) L
-    → Answers (λ y. y.1) (λ y. StandsFor φ p y.0.0 y.0.1 (closure t e) (s ∷ L)) (Gives (network_of_plan φ p) (closure t e) (s ∷ L)) result m n depth
+abbrev pub WatchSteps : {A : Type 0} → AnswersByName → Plan → Waiting A → Env → A → Step → Result ((Option State × A) × Data) Fault → Meter → Meter → ℕ → Type 0
+WatchSteps φ p W names w s result m n depth = (t : Term) (e : Environment) (L : Life) → IsNames φ p names e → W w (closure t e) L
+    → Answers (λ y. y.1) (λ y. StandsFor φ p W y.0.0 y.0.1 (closure t e) (s ∷ L)) (Gives (network_of_plan φ p) (closure t e) (s ∷ L)) result m n depth
+
+-- the same of switches that drop what runs, or keep it
+abbrev pub SwitchSteps : AnswersByName → Plan → Env → Switch → Step → Result ((Option State × Switch) × Data) Fault → Meter → Meter → ℕ → Type 0
+SwitchSteps φ p = WaitingSteps φ p (Waits φ p)
+
+abbrev pub KeepingSteps : AnswersByName → Plan → Env → Keeping → Step → Result ((Option State × Keeping) × Data) Fault → Meter → Meter → ℕ → Type 0
+KeepingSteps φ p = WaitingSteps φ p (WaitsKeeping φ p)
 
 -- a part before its first sample, or the fault of its constants
 pub data Opens (φ : AnswersByName) (p : Plan) (t : Term) (e : Environment) : Result Opened Fault → Type 0 where
   opens : {l : Live} → ((x : Data) → Ready φ p l (closure t e) x []) → Opens φ p t e (Ok (opened.Live l))
   opens_watching : {s : Switch} → Waits φ p s (closure t e) [] → Opens φ p t e (Ok (opened.Switch s))
+  opens_keeping : {s : Keeping} → WaitsKeeping φ p s (closure t e) [] → Opens φ p t e (Ok (opened.Keeping s))
+  -- a named process stands in the place of the term, which counts at this sample alone
+  opens_running : {a : State} {k : Name} → t ≡ run k → Stands φ p a (process_of k e) [] → Opens φ p t e (Ok (opened.Running a))
   opens_with_fault : {x : ValueFault} → ((s : Step) → Gives (network_of_plan φ p) (closure t e) (s ∷ []) (faulted x) (text_cost t)) → Opens φ p t e (Err (Value x))
   opens_without_memory : Opens φ p t e (Err Memory)
 

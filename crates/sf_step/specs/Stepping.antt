@@ -29,7 +29,7 @@ pub data Steps (φ : AnswersByName) (p : Plan) (P : Process) (L : Life) : Result
       → Gives (network_of_plan φ p) P L (faulted x) k → entered_of m ≤ count k → height_of m ≤ height k
       → Steps φ p P L (Err (Value x)) s m
   too_large : {s : State} {m : Meter}
-      → ((o : Outcome) (k : Cost) → Gives (network_of_plan φ p) P L o k → count k ≤ 100000 → height k ≤ 800 → ⊥)
+      → ((o : Outcome) (k : Cost) → Gives (network_of_plan φ p) P L o k → count k ≤ 1000000 → height k ≤ 1600 → ⊥)
       → EachCostsAtLeast φ p P L m
       → Steps φ p P L (Err Large) s m
   no_memory : {s : State} {m : Meter} → EachCostsAtLeast φ p P L m → Steps φ p P L (Err Memory) s m

@@ -4,10 +4,10 @@ ghost use Rattle.std.specs.Prelude.{◌≤◌};
 use sf_value::Fault;
 
 // how many nodes a sample may enter
-const MOST_NODES: u64 = 100_000;
+const MOST_NODES: u64 = 1_000_000;
 
 // how many of them one inside another
-const MOST_HEIGHT: u64 = 800;
+const MOST_HEIGHT: u64 = 1600;
 
 /// The sample has no value; its meter has the fault. It takes no room, so that a step answers in a register.
 #[derive(Clone, Copy, Debug, PartialEq, Eq)]
@@ -19,8 +19,8 @@ pub struct Meter {
     entered: u64,
     height: u64,
     fault: Fault,
-    ghost few: { entered ≤ 100000 },
-    ghost low: { height ≤ 800 },
+    ghost few: { entered ≤ 1000000 },
+    ghost low: { height ≤ 1600 },
 }
 
 impl Meter {
@@ -43,7 +43,7 @@ impl Meter {
     /// How many nodes the sample entered.
     pub fn entered(&self) -> u64
         ensures count { result ≡ entered_of self.now }
-        ensures few { result ≤ 100000 }
+        ensures few { result ≤ 1000000 }
     {
         self.entered
     }
@@ -51,7 +51,7 @@ impl Meter {
     /// How many nodes it entered one inside another, at most.
     pub fn height(&self) -> u64
         ensures count { result ≡ height_of self.now }
-        ensures low { result ≤ 800 }
+        ensures low { result ≤ 1600 }
     {
         self.height
     }
@@ -78,7 +78,7 @@ impl Meter {
         ensures ticked { Ticked self.old self.new depth (kept result (fault_of self.new)) }
         ensures grows { entered_of self.old ≤ entered_of self.new }
         ensures counts { OnOk result (entered_of self.old < entered_of self.new) }
-        ensures few { entered_of self.new ≤ 100000 }
+        ensures few { entered_of self.new ≤ 1000000 }
     {
         if self.entered >= MOST_NODES || depth >= MOST_HEIGHT {
             return Err(self.stop(Fault::Large));

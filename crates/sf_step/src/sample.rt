@@ -1,18 +1,19 @@
 //! One sample.
 ghost use Rattle.std.specs.Prelude.{◌≡◌, ◌≤◌, ℕ, [], ◌∷◌, None, IfOk, Ok};
-ghost use Rattle.sf_value.specs.Values.{Data};
+ghost use Rattle.sf_value.specs.Values.{Data, pair};
 ghost use Rattle.sf_func.specs.Registries.{AnswersByName};
 ghost use Rattle.sf_expr.specs.Evaluation.{answer};
+ghost use Rattle.sf_expr.specs.Arena.{name_at};
 ghost use Rattle.sf_law.specs.declared.plan.Plan.{Plan as PlanOf};
 ghost use Rattle.sf_term.specs.Trees.{Term, joined as joined_term};
-ghost use Rattle.sf_law.specs.Arena.{plan_tree, network_of_plan};
-ghost use Rattle.sf_mean.specs.Lives.{step, closure, Life, Process as ProcessOf, Environment};
+ghost use Rattle.sf_law.specs.Arena.{plan_expressions, plan_tree, network_of_plan};
+ghost use Rattle.sf_mean.specs.Lives.{step, closure, frozen as frozen_process, process_of, Life, Process as ProcessOf, Environment};
 ghost use Rattle.sf_mean.specs.Meaning.{Made, make};
-ghost use Rattle.sf_state.specs.Standing.{Stands, IsNames, Waits, Wraps, closed_over};
+ghost use Rattle.sf_state.specs.Standing.{Stands, IsNames, Waits, WaitsKeeping, Wraps, closed_over};
 ghost use Rattle.sf_step.specs.declared.meter.Meter.{Meter as MeterOf};
 ghost use Rattle.sf_step.specs.Contexts.{plan_in, dt_in};
 ghost use Rattle.sf_step.specs.Meters.{entered_of, height_of, fault_of as fault_in};
-ghost use Rattle.sf_step.specs.Sampling.{fault_from, Opens, AllBegin, Ticks, PartSteps, StateSteps, LiveSteps, SwitchSteps, WatchSteps, left_or, left_beside};
+ghost use Rattle.sf_step.specs.Sampling.{fault_from, Opens, AllBegin, Ticks, PartSteps, StateSteps, LiveSteps, SwitchSteps, KeepingSteps, WatchSteps, left_or, left_beside};
 ghost use Rattle.sf_step.specs.Stepping.{Steps};
 
 use crate::context::SampleContext;
@@ -20,11 +21,15 @@ use crate::meter::{Meter, Stop};
 use crate::routing::{
     halves, on_side, parts, payload_of, put_first, switched, unshare_half, with_head,
 };
+use sf_expr::NameId;
 use sf_func::Holds;
 use sf_law::{Plan, PlanId, PlanNode};
 use sf_operator::EvalFault;
 use sf_prim::{PrimState, constant};
-use sf_state::{Env, Live, NamesIn, Process, State, Switch, Wrap, unshare, unshare_switch};
+use sf_state::{
+    Env, Keeping, Live, NamesIn, Process, State, Switch, Wrap, unshare, unshare_keeping,
+    unshare_switch,
+};
 use sf_term::{Join, Observation, Switching};
 use sf_value::{Fault, Value};
 use std::alloc::{AllocError, Global};
@@ -35,7 +40,7 @@ use std::rc::Rc;
 /// sample `dt` isn't looked at. The input may be any value: what takes a pair apart takes a value
 /// that is none for both its parts. The meter counts the nodes that this sample enters, and none of
 /// the samples before. The error is the first fault of the network's values, `Large` at the 100,001st
-/// node or at more than 800 one inside another, or `Memory`; the meter then counts no more nodes than
+/// node or at more than 1,600 one inside another, or `Memory`; the meter then counts no more nodes than
 /// the sample would have entered. After an error the state stands for nothing. No state that was
 /// frozen from it changes.
 pub fn step<R: Holds>(
@@ -50,7 +55,7 @@ pub fn step<R: Holds>(
     // a state of (P, L) steps to the outcome of P on the longer life
     ensures answers { (P : ProcessOf) (L : Life) → Stands (R.answers functions.now) plan.now state.old P L →
         Steps (R.answers functions.now) plan.now P (step dt input ∷ L) result state.new meter.new }
-    ensures bounded { (entered_of meter.new ≤ 100000) × (height_of meter.new ≤ 800) }
+    ensures bounded { (entered_of meter.new ≤ 1000000) × (height_of meter.new ≤ 1600) }
 {
     *meter = Meter::new();
     let context = SampleContext {
@@ -108,6 +113,29 @@ fn step_state<R: Holds>(
             let names = mem::replace(&mut process.names, Env::Empty);
             start(context, state, term, names, depth, value, meter)
         }
+        State::Keeping(names, node) => {
+            let kept = step_kept(context, names, node, depth, value, meter)?;
+            match kept {
+                Some(body) => {
+                    *state = body;
+                    Ok(())
+                }
+                None => Ok(()),
+            }
+        }
+        State::Frozen(frozen) => {
+            let later = SampleContext {
+                alloc: context.alloc,
+                plan: context.plan,
+                functions: context.functions,
+                dt: frozen.wait,
+            };
+            let Ok(awake) = frozen.wake() else {
+                return Err(meter.stop(Fault::Memory));
+            };
+            *state = awake;
+            step_state(&later, state, depth, value, meter)
+        }
     }
 }
 
@@ -142,6 +170,13 @@ fn start<R: Holds>(
         Ok(Opened::Switch(switch)) => {
             start_switch(context, state, switch, names, inside, value, meter)
         }
+        Ok(Opened::Keeping(keeping)) => {
+            start_keeping(context, state, keeping, names, inside, value, meter)
+        }
+        Ok(Opened::Running(process)) => {
+            *state = process;
+            step_state(context, state, inside, value, meter)
+        }
         Err(fault) => Err(meter.stop(fault)),
     }
 }
@@ -158,7 +193,7 @@ fn start_switch<R: Holds>(
     meter: &mut Meter,
 ) -> Result<(), Stop>
     ensures grows { entered_of meter.old ≤ entered_of meter.new }
-    ensures answers { (m : MeterOf) (depth : ℕ) → Ticks m meter.old depth inside → (t : Term) (e : Environment) → IsNames (plan_in context.now) names e →
+    ensures answers { (m : MeterOf) (depth : ℕ) → Ticks m meter.old depth inside → (t : Term) (e : Environment) → IsNames (R.answers context.now.functions.now) (plan_in context.now) names e →
         Waits (R.answers context.now.functions.now) (plan_in context.now) switch (closure t e) [] →
         PartSteps (R.answers context.now.functions.now) (plan_in context.now) (closure t e) [] (step (dt_in context.now) value.old)
         (left_or result (state.new, value.new) (fault_in meter.new)) m meter.new depth }
@@ -180,6 +215,40 @@ fn start_switch<R: Holds>(
     }
 }
 
+// The first sample of a switch that keeps its source, likewise.
+#[cycle(step)]
+fn start_keeping<R: Holds>(
+    context: &SampleContext<R>,
+    state: &mut State,
+    keeping: Keeping,
+    names: Env,
+    inside: u64,
+    value: &mut Value,
+    meter: &mut Meter,
+) -> Result<(), Stop>
+    ensures grows { entered_of meter.old ≤ entered_of meter.new }
+    ensures answers { (m : MeterOf) (depth : ℕ) → Ticks m meter.old depth inside → (t : Term) (e : Environment) → IsNames (R.answers context.now.functions.now) (plan_in context.now) names e →
+        WaitsKeeping (R.answers context.now.functions.now) (plan_in context.now) keeping (closure t e) [] →
+        PartSteps (R.answers context.now.functions.now) (plan_in context.now) (closure t e) [] (step (dt_in context.now) value.old)
+        (left_or result (state.new, value.new) (fault_in meter.new)) m meter.new depth }
+{
+    let mut keeping = keeping;
+    let over = step_keeping(context, &mut keeping, &names, inside, value, meter)?;
+    match over {
+        Some(body) => {
+            *state = body;
+            Ok(())
+        }
+        None => {
+            let Ok(node) = Rc::new(context.alloc, keeping) else {
+                return Err(meter.stop(Fault::Memory));
+            };
+            *state = State::Keeping(names, node);
+            Ok(())
+        }
+    }
+}
+
 // The next sample of a switch that waits and stands inside `depth` nodes: what takes over from it, if its event is there.
 #[cycle(step)]
 #[inline(never)]
@@ -192,7 +261,7 @@ fn step_watching<R: Holds>(
     meter: &mut Meter,
 ) -> Result<Option<State>, Stop>
     ensures grows { entered_of meter.old ≤ entered_of meter.new }
-    ensures answers { WatchSteps (R.answers context.now.functions.now) (plan_in context.now) names.now node.old.value (step (dt_in context.now) value.old)
+    ensures answers { WatchSteps (R.answers context.now.functions.now) (plan_in context.now) (Waits (R.answers context.now.functions.now) (plan_in context.now)) names.now node.old.value (step (dt_in context.now) value.old)
         (left_beside result node.new.value value.new (fault_in meter.new)) meter.old meter.new depth }
 {
     let inside = meter.tick(depth)?;
@@ -311,6 +380,74 @@ fn step_recurring<R: Holds>(
             let old = mem::replace(value, Value::int(0));
             *value = switched(shown, old, begun);
             Ok(())
+        }
+    }
+}
+
+// The next sample of a switch that waits, keeps its source and stands inside `depth` nodes, likewise.
+#[cycle(step)]
+#[inline(never)]
+fn step_kept<R: Holds>(
+    context: &SampleContext<R>,
+    names: &Env,
+    node: &mut Rc<Keeping>,
+    depth: u64,
+    value: &mut Value,
+    meter: &mut Meter,
+) -> Result<Option<State>, Stop>
+    ensures grows { entered_of meter.old ≤ entered_of meter.new }
+    ensures answers { WatchSteps (R.answers context.now.functions.now) (plan_in context.now) (WaitsKeeping (R.answers context.now.functions.now) (plan_in context.now)) names.now node.old.value (step (dt_in context.now) value.old)
+        (left_beside result node.new.value value.new (fault_in meter.new)) meter.old meter.new depth }
+{
+    let inside = meter.tick(depth)?;
+    let Ok(()) = unshare_keeping(context.alloc, node) else {
+        return Err(meter.stop(Fault::Memory));
+    };
+    match Rc::get_mut(node) {
+        Some(keeping) => step_keeping(context, keeping, names, inside, value, meter),
+        None => Err(meter.stop(Fault::Memory)),
+    }
+}
+
+// The same where it has been counted and its parts stand inside `inside` nodes: its event is what the observer gives on the
+// input beside the source's value, and its body is handed the source as it was before this sample.
+#[cycle(step)]
+#[inline(never)]
+fn step_keeping<R: Holds>(
+    context: &SampleContext<R>,
+    keeping: &mut Keeping,
+    names: &Env,
+    inside: u64,
+    value: &mut Value,
+    meter: &mut Meter,
+) -> Result<Option<State>, Stop>
+    ensures grows { entered_of meter.old ≤ entered_of meter.new }
+    ensures answers { KeepingSteps (R.answers context.now.functions.now) (plan_in context.now) names.now keeping.old (step (dt_in context.now) value.old)
+        (left_beside result keeping.new value.new (fault_in meter.new)) meter.old meter.new inside }
+{
+    let Ok(before) = capture(context.alloc, context.dt, &keeping.source, &*value) else {
+        return Err(meter.stop(Fault::Memory));
+    };
+    let Captured {
+        frozen,
+        input,
+        mut output,
+    } = before;
+    step_state(context, &mut keeping.source, inside, value, meter)?;
+    let Ok(mut seen) = beside(context.alloc, input, &*value) else {
+        return Err(meter.stop(Fault::Memory));
+    };
+    step_state(context, &mut keeping.observer, inside, &mut seen, meter)?;
+    match payload_of(seen) {
+        None => Ok(None),
+        Some(payload) => {
+            let Ok(mut successor) = keeping.begin(context.alloc, names, frozen, payload) else {
+                return Err(meter.stop(Fault::Memory));
+            };
+            step_state(context, &mut successor, inside, &mut output, meter)?;
+            let old = mem::replace(value, Value::int(0));
+            *value = switched(keeping.shown, old, output);
+            Ok(Some(successor))
         }
     }
 }
@@ -508,6 +645,38 @@ fn step_prim<R: Holds>(
     }
 }
 
+/// What a switch holds of the time before its sample: what runs, frozen, and the input for its observer and its body.
+#[derive(Drop)]
+struct Captured {
+    frozen: State,
+    input: Value,
+    output: Value,
+}
+
+// What runs, as it is before a sample, and the sample's input twice.
+fn capture(alloc: Global, dt: u64, source: &State, input: &Value) -> Result<Captured, AllocError>
+    ensures frozen { IfOk result (λ c. (φ : AnswersByName) (p : PlanOf) (P : ProcessOf) (L : Life) → Stands φ p source.now P L → Stands φ p c.frozen (frozen_process P L dt) []) }
+    ensures input { IfOk result (λ c. c.input ≡ input.now) }
+    ensures output { IfOk result (λ c. c.output ≡ input.now) }
+{
+    let frozen = source.freeze(alloc, dt)?;
+    let first = input.clone_in(alloc)?;
+    let second = input.clone_in(alloc)?;
+    Ok(Captured {
+        frozen,
+        input: first,
+        output: second,
+    })
+}
+
+// The input beside a copy of a value.
+fn beside(alloc: Global, input: Value, given: &Value) -> Result<Value, AllocError>
+    ensures { IfOk result (λ both. both ≡ pair input given.now) }
+{
+    let copy = given.clone_in(alloc)?;
+    Value::pair(alloc, input, copy)
+}
+
 /// A part before its first sample.
 #[derive(Drop)]
 pub(crate) enum Opened {
@@ -515,11 +684,15 @@ pub(crate) enum Opened {
     Live(Live),
     /// A switch.
     Switch(Switch),
+    /// A switch that keeps its source.
+    Keeping(Keeping),
+    /// The process of a name, which stands in its place.
+    Running(State),
 }
 
 // A term before its first sample, with the names around it.
 fn open<R: Holds>(context: &SampleContext<R>, term: PlanId, names: &Env) -> Result<Opened, Fault>
-    ensures { (e : Environment) → IsNames (plan_in context.now) names.now e →
+    ensures { (e : Environment) → IsNames (R.answers context.now.functions.now) (plan_in context.now) names.now e →
         Opens (R.answers context.now.functions.now) (plan_in context.now) (plan_tree (plan_in context.now) term) e result }
 {
     let exprs = context.plan.expressions();
@@ -568,6 +741,40 @@ fn open<R: Holds>(context: &SampleContext<R>, term: PlanId, names: &Env) -> Resu
             let begun = begin_all(context.alloc, stages, names)?;
             Ok(Opened::Live(Live::Pipeline(begun)))
         }
+        PlanNode::Keeping(shown, source, observer, name, pattern, body) => {
+            let one = names.share()?;
+            let two = names.share()?;
+            Ok(Opened::Keeping(Keeping {
+                shown: *shown,
+                source: State::Unborn(Process {
+                    term: *source,
+                    names: one,
+                }),
+                observer: State::Unborn(Process {
+                    term: *observer,
+                    names: two,
+                }),
+                name: *name,
+                pattern: *pattern,
+                body: *body,
+            }))
+        }
+        PlanNode::Run(name) => {
+            let process = named(context.plan, names, *name)?;
+            Ok(Opened::Running(process))
+        }
+    }
+}
+
+// The process of a name, shared; what passes its inputs on where the name stands for none.
+fn named(plan: &Plan, names: &Env, name: NameId) -> Result<State, AllocError>
+    ensures { IfOk result (λ process. (φ : AnswersByName) (e : Environment) → IsNames φ plan.now names.now e →
+        Stands φ plan.now process (process_of (name_at (plan_expressions plan.now) name) e) []) }
+{
+    let exprs = plan.expressions();
+    match names.process(exprs, exprs.name_of(name))? {
+        Some(process) => Ok(process),
+        None => Ok(State::unborn(plan.passing())),
     }
 }
 
@@ -579,7 +786,7 @@ fn joined(
     right: PlanId,
     names: &Env,
 ) -> Result<Live, AllocError>
-    ensures { IfOk result (λ live. (φ : AnswersByName) (p : PlanOf) (e : Environment) → IsNames p names.now e →
+    ensures { IfOk result (λ live. (φ : AnswersByName) (p : PlanOf) (e : Environment) → IsNames φ p names.now e →
         Opens φ p (joined_term join (plan_tree p left) (plan_tree p right)) e (Ok (Opened.Live live))) }
 {
     match join {
@@ -602,7 +809,7 @@ fn joined(
 
 // Stages before their first sample, with the names around them.
 fn begin_all(alloc: Global, stages: &[PlanId], names: &Env) -> Result<Vec<State>, AllocError>
-    ensures { IfOk result (λ begun. (φ : AnswersByName) (p : PlanOf) (e : Environment) → IsNames p names.now e → AllBegin φ p e stages.now begun.items) }
+    ensures { IfOk result (λ begun. (φ : AnswersByName) (p : PlanOf) (e : Environment) → IsNames φ p names.now e → AllBegin φ p e stages.now begun.items) }
 {
     let mut begun = Vec::with_capacity(alloc, stages.len())?;
     for stage in stages {
@@ -617,7 +824,7 @@ fn begin_all(alloc: Global, stages: &[PlanId], names: &Env) -> Result<Vec<State>
 
 // A form with one part, before its first sample.
 fn wrapped(wrap: Wrap, part: PlanId, names: &Env) -> Result<Opened, Fault>
-    ensures { (φ : AnswersByName) (p : PlanOf) (t : Term) (e : Environment) (m : Made) → IsNames p names.now e →
+    ensures { (φ : AnswersByName) (p : PlanOf) (t : Term) (e : Environment) (m : Made) → IsNames φ p names.now e →
         ((x : Data) → make (network_of_plan φ p) t e x ≡ answer m) → Wraps (network_of_plan φ p) wrap t e m [] (plan_tree p part) [] →
         Opens φ p t e result }
 {

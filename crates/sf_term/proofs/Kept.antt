@@ -19,8 +19,8 @@ use Rattle.sf_expr.specs.declared.exprs.ExprNode.{ExprNode}
 use Rattle.sf_expr.specs.declared.exprs.Exprs.{Exprs}
 use Rattle.sf_expr.specs.Patterns.{PlacedPattern, pattern_of}
 use Rattle.sf_expr.specs.Expressions.{Literal, Expression}
-use Rattle.sf_expr.specs.Arena.{expression, count_of, function_count, constant_count, pattern_count, Holds, HoldsFunction as HoldsFunctionIn, function_at, pattern_at as pattern_at_in, body_at as body_at_in, node_at as value_node_at, spot_at as value_spot_at, Keeps as KeepsExpressions, Adds as AddsToExpressions, AddsName, AddsConstant, HoldsPattern, placed_at, next_pattern, AddsPattern, expression_of, AddsFunction as AddsFunctionIn, IsUnchanged as ExpressionsUnchanged}
-use Rattle.sf_expr.proofs.Entered.{below_holds, holds_below, below_function, function_below, constant_below, below_constant, pattern_below, below_pattern, few_expressions, adds_keeps as expressions_kept, unchanged_keeps as unchanged_expressions_kept}
+use Rattle.sf_expr.specs.Arena.{expression, name_at, HoldsName, next_name, count_of, function_count, name_count, constant_count, pattern_count, Holds, HoldsFunction as HoldsFunctionIn, function_at, pattern_at as pattern_at_in, body_at as body_at_in, node_at as value_node_at, spot_at as value_spot_at, Keeps as KeepsExpressions, Adds as AddsToExpressions, AddsName, AddsConstant, HoldsPattern, placed_at, next_pattern, AddsPattern, expression_of, AddsFunction as AddsFunctionIn, IsUnchanged as ExpressionsUnchanged}
+use Rattle.sf_expr.proofs.Entered.{below_holds, holds_below, below_function, function_below, name_below, below_name, constant_below, below_constant, pattern_below, below_pattern, few_expressions, adds_keeps as expressions_kept, unchanged_keeps as unchanged_expressions_kept, keeps_trans as expressions_kept_trans}
 use Rattle.sf_term.specs.declared.refusal.BuildRefusal.{BuildRefusal}
 use Rattle.sf_term.specs.declared.refusal.BuildRefusal.TheVariants.{TooDeep}
 use Rattle.sf_term.specs.declared.node.TermId.{TermId}
@@ -28,26 +28,29 @@ use Rattle.sf_term.specs.declared.node.Primitive.TheVariants as primitives
 use Rattle.sf_term.specs.declared.node.Node.{Node}
 use Rattle.sf_term.specs.declared.node.Node.TheVariants as nodes
 use Rattle.sf_term.specs.declared.program.Program.{Program}
+use Rattle.sf_term.specs.declared.form.Observation.{Observation}
 use Rattle.sf_term.specs.declared.form.Switching.{Switching}
-use Rattle.sf_term.specs.Trees.{Term, switching, Template, term_depth}
+use Rattle.sf_term.specs.Trees.{Term, switching, keeping, Template, term_depth}
 use Rattle.sf_term.specs.Headers.{Header, bodies_end}
-use Rattle.sf_term.specs.Entries.{identity_term, term_over, needs_terms, needs_expressions, needs_functions, constants_needed, patterns_needed, identity_entry, term_entry, term_made, terms_made, term_entered}
+use Rattle.sf_term.specs.Entries.{identity_term, term_over, needs_terms, needs_expressions, needs_functions, constants_needed, patterns_needed, names_needed, identity_entry, term_entry, term_made, terms_made, term_entered}
 use Rattle.sf_term.specs.Arena.{term_number, expressions_of, term_count, expression_count, HoldsTerm, HoldsExpression, ProgramHoldsFunction, HoldsPatternIn, function_pattern_at, function_body_at, pattern_under, function_in, tree, expression_under, term_entry_of, term_node_at, expression_node_at, term_spot_at, expression_spot_at, term_of, headers_of, template_in, TermPartsBelow, HoldsTermParts, KeepsTrees, KeepsProgram, AddsTerm, AddsExpression, AddsProgramFunction, AddsTemplate, IsSameProgram}
 use Rattle.sf_term.proofs.Entered.{term-built, term-same}
 
 -- what a node needs is there where its parts are held
-pub parts_needed : (p : Program) (n : Node) → HoldsTermParts p n → (needs_terms n ≤ length (entries_of p.terms)) × (needs_expressions n ≤ count_of p.expressions) × (needs_functions n ≤ function_count p.expressions) × (patterns_needed n ≤ pattern_count p.expressions) × (constants_needed n ≤ constant_count p.expressions)
+pub parts_needed : (p : Program) (n : Node) → HoldsTermParts p n → (needs_terms n ≤ length (entries_of p.terms)) × (needs_expressions n ≤ count_of p.expressions) × (needs_functions n ≤ function_count p.expressions) × (patterns_needed n ≤ pattern_count p.expressions) × (names_needed n ≤ name_count p.expressions) × (constants_needed n ≤ constant_count p.expressions)
 unfolding expressions_of HoldsTerm HoldsExpression ProgramHoldsFunction HoldsPatternIn
-parts_needed p (nodes.Primitive (primitives.Bare k)) h = (omega arith, omega arith, omega arith, omega arith, omega arith)
-parts_needed p (nodes.Primitive (primitives.Never n)) h = (omega arith, omega arith, omega arith, omega arith, omega (arith, constant_below p.expressions n h))
-parts_needed p (nodes.Primitive (primitives.WithValue k e)) h = (omega arith, omega (arith, holds_below p.expressions e h), omega arith, omega arith, omega arith)
-parts_needed p (nodes.Primitive (primitives.Timed k q e)) h = (omega arith, omega (arith, holds_below p.expressions e h), omega arith, omega arith, omega arith)
-parts_needed p (nodes.Primitive (primitives.Arrow f)) h = (omega arith, omega arith, omega (arith, function_below p.expressions f h), omega arith, omega arith)
-parts_needed p (nodes.Primitive (primitives.Accumulated k e f)) h = (omega arith, omega (arith, holds_below p.expressions e h.0), omega (arith, function_below p.expressions f h.1), omega arith, omega arith)
-parts_needed p (nodes.Joined j a b) h = (omega arith, omega arith, omega arith, omega arith, omega arith)
-parts_needed p (nodes.Sided d a) h = (omega arith, omega arith, omega arith, omega arith, omega arith)
-parts_needed p (nodes.Headed q e a) h = (omega arith, omega (arith, holds_below p.expressions e h.0), omega arith, omega arith, omega arith)
-parts_needed p (nodes.Switching w a q b) h = (omega (arith, h.0, h.2), omega arith, omega arith, omega (arith, pattern_below p.expressions q h.1), omega arith)
+parts_needed p (nodes.Primitive (primitives.Bare k)) h = (omega arith, omega arith, omega arith, omega arith, omega arith, omega arith)
+parts_needed p (nodes.Primitive (primitives.Never n)) h = (omega arith, omega arith, omega arith, omega arith, omega arith, omega (arith, constant_below p.expressions n h))
+parts_needed p (nodes.Primitive (primitives.WithValue k e)) h = (omega arith, omega (arith, holds_below p.expressions e h), omega arith, omega arith, omega arith, omega arith)
+parts_needed p (nodes.Primitive (primitives.Timed k q e)) h = (omega arith, omega (arith, holds_below p.expressions e h), omega arith, omega arith, omega arith, omega arith)
+parts_needed p (nodes.Primitive (primitives.Arrow f)) h = (omega arith, omega arith, omega (arith, function_below p.expressions f h), omega arith, omega arith, omega arith)
+parts_needed p (nodes.Primitive (primitives.Accumulated k e f)) h = (omega arith, omega (arith, holds_below p.expressions e h.0), omega (arith, function_below p.expressions f h.1), omega arith, omega arith, omega arith)
+parts_needed p (nodes.Run k s) h = (omega arith, omega arith, omega arith, omega arith, omega (arith, name_below p.expressions k h), omega arith)
+parts_needed p (nodes.Joined j a b) h = (omega arith, omega arith, omega arith, omega arith, omega arith, omega arith)
+parts_needed p (nodes.Sided d a) h = (omega arith, omega arith, omega arith, omega arith, omega arith, omega arith)
+parts_needed p (nodes.Headed q e a) h = (omega arith, omega (arith, holds_below p.expressions e h.0), omega arith, omega arith, omega arith, omega arith)
+parts_needed p (nodes.Switching w a q b) h = (omega (arith, h.0, h.2), omega arith, omega arith, omega (arith, pattern_below p.expressions q h.1), omega arith, omega arith)
+parts_needed p (nodes.Keeping w a o k s q b) h = (omega (arith, h.0, h.1, h.4), omega arith, omega arith, omega (arith, pattern_below p.expressions q h.3), omega (arith, name_below p.expressions k h.2), omega arith)
 
 -- a node stands for the term that is made over the terms before it
 pub node-made : (p : Program) (n : Node) → term_of p n ≡ term_over p.expressions (terms_made p.expressions (entries_of p.terms)) n
@@ -58,10 +61,12 @@ node-made p (nodes.Primitive (primitives.WithValue k e)) = refl
 node-made p (nodes.Primitive (primitives.Timed k q e)) = refl
 node-made p (nodes.Primitive (primitives.Arrow f)) = refl
 node-made p (nodes.Primitive (primitives.Accumulated k e f)) = refl
+node-made p (nodes.Run k s) = refl
 node-made p (nodes.Joined j a b) = refl
 node-made p (nodes.Sided d a) = refl
 node-made p (nodes.Headed h e a) = refl
 node-made p (nodes.Switching w a q b) = refl
+node-made p (nodes.Keeping w a o k s q b) = refl
 
 -- a node stands for the term at its id
 pub builds : (p : Program) (t : TermId) → tree p t ≡ term_of p (term_entry_of p t).node
@@ -80,10 +85,12 @@ parts_below p t = of_node (term_entry (entries_of p.terms) t.0).node (p.arena.in
   where
     of_node : (n : Node) → needs_terms n ≤ t.0 → TermPartsBelow n t.0
     of_node (nodes.Primitive q) h = tt
+    of_node (nodes.Run k s) h = tt
     of_node (nodes.Joined j a b) h = (omega arith, omega arith)
     of_node (nodes.Sided d a) h = omega arith
     of_node (nodes.Headed q e a) h = omega arith
     of_node (nodes.Switching w a q b) h = (omega arith, omega arith)
+    of_node (nodes.Keeping w a o k s q b) h = (omega arith, omega arith, omega arith)
 
 -- the templates are the same where the trees are
 templates-same : (old new : Program) (hs : List Header) → bodies_end hs ≤ length (entries_of old.terms) → KeepsTrees old new → map (template_in new) hs ≡ map (template_in old) hs
@@ -148,7 +155,7 @@ unfolding HoldsTerm HoldsExpression ProgramHoldsFunction HoldsPatternIn tree ter
 grown_keeps old new k e = record {
   terms = λ t h. omega (arith, ap length e);
   nodes = λ t h. ap (λ es. (term_entry es t.0).node) e;
-  trees = λ t h. ap (λ es. term_entered new.expressions es t.0) e ∙ term-same old.expressions new.expressions (entries_of old.terms) t.0 k old.arena.closed old.arena.functions_closed old.arena.patterns_closed old.arena.constants_closed;
+  trees = λ t h. ap (λ es. term_entered new.expressions es t.0) e ∙ term-same old.expressions new.expressions (entries_of old.terms) t.0 k old.arena.closed old.arena.functions_closed old.arena.patterns_closed old.arena.names_closed old.arena.constants_closed;
   spots = λ t h. ap (λ es. (term_entry es t.0).spot) e;
   expressions = λ x h. k.holds x h;
   value_nodes = λ x h. k.nodes x h;
@@ -228,7 +235,7 @@ unchanged old new x terms headers = record {
   term_counted = ap length terms;
   expression_counted = x.count;
   nodes = λ t. ap (λ es. (term_entry es t.0).node) terms;
-  trees = λ t. ap (λ es. term_entered new.expressions es t.0) terms ∙ term-same old.expressions new.expressions (entries_of old.terms) t.0 (unchanged_expressions_kept old.expressions new.expressions x) old.arena.closed old.arena.functions_closed old.arena.patterns_closed old.arena.constants_closed;
+  trees = λ t. ap (λ es. term_entered new.expressions es t.0) terms ∙ term-same old.expressions new.expressions (entries_of old.terms) t.0 (unchanged_expressions_kept old.expressions new.expressions x) old.arena.closed old.arena.functions_closed old.arena.patterns_closed old.arena.names_closed old.arena.constants_closed;
   spots = λ t. ap (λ es. (term_entry es t.0).spot) terms;
   value_nodes = λ e. x.nodes e;
   values = λ e. x.trees e;
@@ -263,6 +270,20 @@ constant_beside x y n l a = record { kept = a.kept; nodes = a.nodes; trees = a.t
 pub pattern_beside : (x y : Exprs) (q : PatternId) (p : PlacedPattern) → AddsPattern x y q p → AddsBeside x y
 pattern_beside x y q p a = record { kept = a.kept; nodes = a.nodes; trees = a.trees; spots = a.spots; patterns = a.patterns; bodies = a.bodies; count = a.count }
 
+pub beside_trans : (x y z : Exprs) → AddsBeside x y → AddsBeside y z → AddsBeside x z
+beside_trans x y z a b = record {
+  kept = expressions_kept_trans x y z a.kept b.kept;
+  nodes = λ i. b.nodes i ∙ a.nodes i;
+  trees = λ i. b.trees i ∙ a.trees i;
+  spots = λ i. b.spots i ∙ a.spots i;
+  patterns = λ f. b.patterns f ∙ a.patterns f;
+  bodies = λ f. b.bodies f ∙ a.bodies f;
+  count = b.count ∙ a.count;
+}
+
+pub unchanged_beside : (x y : Exprs) → ExpressionsUnchanged x y → AddsBeside x y
+unchanged_beside x y u = record { kept = unchanged_expressions_kept x y u; nodes = u.nodes; trees = u.trees; spots = u.spots; patterns = u.patterns; bodies = u.bodies; count = u.count }
+
 -- a program shows the same where something is added beside its nodes
 pub put_beside : (old new : Program) → AddsBeside old.expressions new.expressions → entries_of new.terms ≡ entries_of old.terms → headers_of new ≡ headers_of old → IsSameProgram old new
 unfolding term_count expression_count tree term_node_at term_spot_at expression_under expression_node_at expression_spot_at ProgramHoldsFunction HoldsPatternIn function_pattern_at function_body_at pattern_under
@@ -270,7 +291,7 @@ put_beside old new x terms headers = record {
   term_counted = ap length terms;
   expression_counted = x.count;
   nodes = λ t. ap (λ es. (term_entry es t.0).node) terms;
-  trees = λ t. ap (λ es. term_entered new.expressions es t.0) terms ∙ term-same old.expressions new.expressions (entries_of old.terms) t.0 x.kept old.arena.closed old.arena.functions_closed old.arena.patterns_closed old.arena.constants_closed;
+  trees = λ t. ap (λ es. term_entered new.expressions es t.0) terms ∙ term-same old.expressions new.expressions (entries_of old.terms) t.0 x.kept old.arena.closed old.arena.functions_closed old.arena.patterns_closed old.arena.names_closed old.arena.constants_closed;
   spots = λ t. ap (λ es. (term_entry es t.0).spot) terms;
   value_nodes = λ e. x.nodes e;
   values = λ e. x.trees e;
@@ -365,26 +386,29 @@ below_count_holds p t h = h
 -- the parts of a node are held
 pub parts_held : (p : Program) (t : TermId) → HoldsTermParts p (term_entry_of p t).node
 unfolding expressions_of term_entry_of HoldsTerm HoldsExpression ProgramHoldsFunction HoldsPatternIn
-parts_held p t = of_node (term_entry (entries_of p.terms) t.0).node (p.arena.in_order t.0) (p.arena.closed t.0) (p.arena.functions_closed t.0) (p.arena.patterns_closed t.0) (p.arena.constants_closed t.0) within
+parts_held p t = of_node (term_entry (entries_of p.terms) t.0).node (p.arena.in_order t.0) (p.arena.closed t.0) (p.arena.functions_closed t.0) (p.arena.patterns_closed t.0) (p.arena.names_closed t.0) (p.arena.constants_closed t.0) within
   where
     within : (needs_terms (term_entry (entries_of p.terms) t.0).node ≡ 0) ⊎ (t.0 < length (entries_of p.terms))
     within = elim (cases_lt t.0 (length (entries_of p.terms))) [ inl h ↦ inr h | inr h ↦ inl (ap (λ (n : Entry Node). needs_terms n.node) (get_or_past (entries_of p.terms) t.0 identity_entry h)) ]
 
-    of_node : (n : Node) → needs_terms n ≤ t.0 → needs_expressions n ≤ count_of p.expressions → needs_functions n ≤ function_count p.expressions → patterns_needed n ≤ pattern_count p.expressions → constants_needed n ≤ constant_count p.expressions → (needs_terms n ≡ 0) ⊎ (t.0 < length (entries_of p.terms)) → HoldsTermParts p n
-    of_node (nodes.Primitive (primitives.Bare k)) b x f y l w = tt
-    of_node (nodes.Primitive (primitives.Never n)) b x f y l w = below_constant p.expressions n (omega arith)
-    of_node (nodes.Primitive (primitives.WithValue k e)) b x f y l w = below_holds p.expressions e (omega arith)
-    of_node (nodes.Primitive (primitives.Timed k q e)) b x f y l w = below_holds p.expressions e (omega arith)
-    of_node (nodes.Primitive (primitives.Arrow g)) b x f y l w = below_function p.expressions g (omega arith)
-    of_node (nodes.Primitive (primitives.Accumulated k e g)) b x f y l w = (below_holds p.expressions e (omega arith), below_function p.expressions g (omega arith))
-    of_node (nodes.Joined j a c) b x f y l (inl z) = absurd (omega arith)
-    of_node (nodes.Joined j a c) b x f y l (inr h) = (omega arith, omega arith)
-    of_node (nodes.Sided d a) b x f y l (inl z) = absurd (omega arith)
-    of_node (nodes.Sided d a) b x f y l (inr h) = omega arith
-    of_node (nodes.Headed q e a) b x f y l (inl z) = absurd (omega arith)
-    of_node (nodes.Headed q e a) b x f y l (inr h) = (below_holds p.expressions e (omega arith), omega arith)
-    of_node (nodes.Switching w a q c) b x f y l (inl z) = absurd (omega arith)
-    of_node (nodes.Switching w a q c) b x f y l (inr h) = (omega arith, below_pattern p.expressions q (omega arith), omega arith)
+    of_node : (n : Node) → needs_terms n ≤ t.0 → needs_expressions n ≤ count_of p.expressions → needs_functions n ≤ function_count p.expressions → patterns_needed n ≤ pattern_count p.expressions → names_needed n ≤ name_count p.expressions → constants_needed n ≤ constant_count p.expressions → (needs_terms n ≡ 0) ⊎ (t.0 < length (entries_of p.terms)) → HoldsTermParts p n
+    of_node (nodes.Primitive (primitives.Bare k)) b x f y m l w = tt
+    of_node (nodes.Primitive (primitives.Never n)) b x f y m l w = below_constant p.expressions n (omega arith)
+    of_node (nodes.Primitive (primitives.WithValue k e)) b x f y m l w = below_holds p.expressions e (omega arith)
+    of_node (nodes.Primitive (primitives.Timed k q e)) b x f y m l w = below_holds p.expressions e (omega arith)
+    of_node (nodes.Primitive (primitives.Arrow g)) b x f y m l w = below_function p.expressions g (omega arith)
+    of_node (nodes.Primitive (primitives.Accumulated k e g)) b x f y m l w = (below_holds p.expressions e (omega arith), below_function p.expressions g (omega arith))
+    of_node (nodes.Run k s) b x f y m l w = below_name p.expressions k (omega arith)
+    of_node (nodes.Joined j a c) b x f y m l (inl z) = absurd (omega arith)
+    of_node (nodes.Joined j a c) b x f y m l (inr h) = (omega arith, omega arith)
+    of_node (nodes.Sided d a) b x f y m l (inl z) = absurd (omega arith)
+    of_node (nodes.Sided d a) b x f y m l (inr h) = omega arith
+    of_node (nodes.Headed q e a) b x f y m l (inl z) = absurd (omega arith)
+    of_node (nodes.Headed q e a) b x f y m l (inr h) = (below_holds p.expressions e (omega arith), omega arith)
+    of_node (nodes.Switching w a q c) b x f y m l (inl z) = absurd (omega arith)
+    of_node (nodes.Switching w a q c) b x f y m l (inr h) = (omega arith, below_pattern p.expressions q (omega arith), omega arith)
+    of_node (nodes.Keeping k a o n s q c) b x f y m l (inl z) = absurd (omega arith)
+    of_node (nodes.Keeping k a o n s q c) b x f y m l (inr h) = (omega arith, omega arith, below_name p.expressions n (omega arith), below_pattern p.expressions q (omega arith), omega arith)
 
 bodies_within : (p : Program) (hs : List Header) → bodies_end hs ≤ length (entries_of p.terms) → (k : ℕ) (d : Header) → k < length hs → HoldsTerm p (get_or hs k d).body
 unfolding HoldsTerm
@@ -518,12 +542,20 @@ pattern_there a b c (Ok id) q p n e s put adds =
 pattern_there a b c (Err f) q p n e s put adds = tt
 
 -- and the pattern is there
-pub term_pattern_there : (a b c : Program) (r : Result TermId BuildRefusal) (q : PatternId) (p : PlacedPattern) (n : Node) (t : Term) (s : Spot) → AddsPattern a.expressions b.expressions q p → IfOk r (λ id. AddsTerm b c id n t s) → OnOk r (HoldsPatternIn c (next_pattern a.expressions) × (pattern_under c (next_pattern a.expressions) ≡ p))
+pub term_pattern_there : (a b c : Program) (r : Result TermId BuildRefusal) (q : PatternId) (p : PlacedPattern) (n : Node) (t : Term) (s : Spot) → q ≡ next_pattern a.expressions → HoldsPattern b.expressions q → placed_at b.expressions q ≡ p
+    → IfOk r (λ id. AddsTerm b c id n t s) → OnOk r (HoldsPatternIn c (next_pattern a.expressions) × (pattern_under c (next_pattern a.expressions) ≡ p))
 unfolding HoldsPatternIn pattern_under
-term_pattern_there a b c (Ok id) q p n t s put adds =
-    subst (λ (k : PatternId). HoldsPattern c.expressions k × (placed_at c.expressions k ≡ p)) put.next
-    (adds.kept.trees.holds_patterns q put.within, adds.kept.trees.placed q put.within ∙ put.is)
-term_pattern_there a b c (Err f) q p n t s put adds = tt
+term_pattern_there a b c (Ok id) q p n t s next within is adds =
+    subst (λ (k : PatternId). HoldsPattern c.expressions k × (placed_at c.expressions k ≡ p)) next
+    (adds.kept.trees.holds_patterns q within, adds.kept.trees.placed q within ∙ is)
+term_pattern_there a b c (Err f) q p n t s next within is adds = tt
+
+-- a term is too deep where it is too deep in a program that shows the same
+pub deep_after : (a b : Program) (r : Result TermId BuildRefusal) (n : Node) (t : Term) → IsSameProgram a b → term_of b n ≡ t
+    → (r ≡ Err TooDeep ↔ (term_count b < 100000) × (64 < term_depth (term_of b n))) → r ≡ Err TooDeep ↔ (term_count a < 100000) × (64 < term_depth t)
+deep_after a b r n t same made h =
+    let depth = ap term_depth made in
+    (λ e. let g = h.0 e in (omega (arith, g.0, same.term_counted), omega (arith, g.1, depth)), λ g. h.1 (omega (arith, g.0, same.term_counted), omega (arith, g.1, depth)))
 
 -- the term of a switch, whose pattern is put beside the expressions
 switch_made : (a b : Program) (q : PatternId) (p : PlacedPattern) (w : Switching) (i j : TermId) → AddsPattern a.expressions b.expressions q p → entries_of b.terms ≡ entries_of a.terms → headers_of b ≡ headers_of a
@@ -544,9 +576,49 @@ pub switch_deep : (a b : Program) (r : Result TermId BuildRefusal) (q : PatternI
     → (r ≡ Err TooDeep ↔ (term_count b < 100000) × (64 < term_depth (term_of b (nodes.Switching w i q j))))
     → r ≡ Err TooDeep ↔ (term_count a < 100000) × (64 < term_depth (switching w (tree a i) (pattern_of p) (tree a j)))
 switch_deep a b r q p w i j added terms headers h =
-    let same = put_beside a b (pattern_beside _ _ _ _ added) terms headers in
-    let depth = ap term_depth (switch_made a b q p w i j added terms headers) in
-    (λ e. let g = h.0 e in (omega (arith, g.0, same.term_counted), omega (arith, g.1, depth)), λ g. h.1 (omega (arith, g.0, same.term_counted), omega (arith, g.1, depth)))
+    deep_after a b r (nodes.Switching w i q j) _ (put_beside a b (pattern_beside _ _ _ _ added) terms headers) (switch_made a b q p w i j added terms headers) h
+
+-- A name was put beside the expressions, and a pattern behind it.
+pub record AddsNameAndPattern (x y : Exprs) (n : NameId) (g : Name) (q : PatternId) (p : PlacedPattern) : Type 0 where
+  pub beside : AddsBeside x y
+  pub name_next : n ≡ next_name x
+  pub pattern_next : q ≡ next_pattern x
+  pub name_within : HoldsName y n
+  pub pattern_within : HoldsPattern y q
+  pub name_is : name_at y n ≡ g
+  pub pattern_is : placed_at y q ≡ p
+
+pub name_and_pattern : (x y z : Exprs) (n : NameId) (g : Name) (q : PatternId) (p : PlacedPattern) → AddsName x y n g → AddsPattern y z q p → AddsNameAndPattern x z n g q p
+unfolding next_pattern pattern_count
+name_and_pattern x y z n g q p a b = record {
+  beside = beside_trans x y z (name_beside x y n g a) (pattern_beside y z q p b);
+  name_next = a.next;
+  pattern_next = b.next ∙ ap (λ k. record { 0 = k }) a.pattern_counted;
+  name_within = b.kept.holds_names n a.within;
+  pattern_within = b.within;
+  name_is = b.kept.names n a.within ∙ a.is;
+  pattern_is = b.is;
+}
+
+-- the term of a switch that knows its source by a name, whose name and pattern are put beside the expressions
+keeping_made : (a b : Program) (n : NameId) (g : Name) (q : PatternId) (p : PlacedPattern) (w : Observation) (i o j : TermId) (at : Spot) → AddsNameAndPattern a.expressions b.expressions n g q p → entries_of b.terms ≡ entries_of a.terms → headers_of b ≡ headers_of a
+    → term_of b (nodes.Keeping w i o n at q j) ≡ keeping w (tree a i) (tree a o) g (pattern_of p) (tree a j)
+unfolding pattern_under expressions_of
+keeping_made a b n g q p w i o j at added terms headers =
+    let same = put_beside a b added.beside terms headers in
+    rw (same.trees i, same.trees o, same.trees j, added.name_is, added.pattern_is) refl
+
+pub adds_keeping : (a b c : Program) (r : Result TermId BuildRefusal) (n : NameId) (g : Name) (q : PatternId) (p : PlacedPattern) (w : Observation) (i o j : TermId) (at s : Spot) → AddsNameAndPattern a.expressions b.expressions n g q p → entries_of b.terms ≡ entries_of a.terms → headers_of b ≡ headers_of a
+    → IfOk r (λ id. AddsTerm b c id (nodes.Keeping w i o n at q j) (term_of b (nodes.Keeping w i o n at q j)) s)
+    → IfOk r (λ id. AddsTerm a c id (nodes.Keeping w i o (next_name a.expressions) at (next_pattern a.expressions) j) (keeping w (tree a i) (tree a o) g (pattern_of p) (tree a j)) s)
+adds_keeping a b c r n g q p w i o j at s added terms headers adds =
+    let ids : ◌≡◌ {A = NameId × PatternId} (n, q) (next_name a.expressions, next_pattern a.expressions) = ap₂ (λ (x : NameId) (y : PatternId). (x, y)) added.name_next added.pattern_next in
+    term_with {I = NameId × PatternId} a b c r (n, q) (next_name a.expressions, next_pattern a.expressions) (λ (k : NameId × PatternId). nodes.Keeping w i o k.0 at k.1 j) _ s ids (put_beside a b added.beside terms headers) (keeping_made a b n g q p w i o j at added terms headers) adds
+
+pub keeping_deep : (a b : Program) (r : Result TermId BuildRefusal) (n : NameId) (g : Name) (q : PatternId) (p : PlacedPattern) (w : Observation) (i o j : TermId) (at : Spot) → AddsNameAndPattern a.expressions b.expressions n g q p → entries_of b.terms ≡ entries_of a.terms → headers_of b ≡ headers_of a
+    → (r ≡ Err TooDeep ↔ (term_count b < 100000) × (64 < term_depth (term_of b (nodes.Keeping w i o n at q j))))
+    → r ≡ Err TooDeep ↔ (term_count a < 100000) × (64 < term_depth (keeping w (tree a i) (tree a o) g (pattern_of p) (tree a j)))
+keeping_deep a b r n g q p w i o j at added terms headers h = deep_after a b r (nodes.Keeping w i o n at q j) _ (put_beside a b added.beside terms headers) (keeping_made a b n g q p w i o j at added terms headers) h
 
 pub unchanged_after : {A E : Type 0} (a b c : Program) (r : Result A E) → IsSameProgram a b → OnErr r (IsSameProgram b c) → OnErr r (IsSameProgram a c)
 unchanged_after a b c (Ok x) u e = tt

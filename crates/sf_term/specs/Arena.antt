@@ -10,13 +10,13 @@ use Rattle.sf_expr.specs.declared.exprs.ExprNode.{ExprNode}
 use Rattle.sf_expr.specs.declared.exprs.Exprs.{Exprs}
 use Rattle.sf_expr.specs.Expressions.{Expression, Function, function}
 use Rattle.sf_expr.specs.Patterns.{PlacedPattern, pattern_of}
-use Rattle.sf_expr.specs.Arena.{expression, count_of, literal_at, HoldsConstant, Holds, HoldsFunction as HoldsFunctionIn, HoldsPattern, placed_at, pattern_at as pattern_at_in, body_at as body_at_in, node_at as expression_node_in, spot_at as expression_spot_in}
+use Rattle.sf_expr.specs.Arena.{expression, count_of, name_at, HoldsName, literal_at, HoldsConstant, Holds, HoldsFunction as HoldsFunctionIn, HoldsPattern, placed_at, pattern_at as pattern_at_in, body_at as body_at_in, node_at as expression_node_in, spot_at as expression_spot_in}
 use Rattle.sf_term.specs.declared.node.TermId.{TermId}
 use Rattle.sf_term.specs.declared.node.Primitive.TheVariants as primitives
 use Rattle.sf_term.specs.declared.node.Node.{Node}
 use Rattle.sf_term.specs.declared.node.Node.TheVariants as nodes
 use Rattle.sf_term.specs.declared.program.Program.{Program}
-use Rattle.sf_term.specs.Trees.{Term, primitive, joined, sided, headed, switching, bare, never, with_value, timed, arrow, accumulated, term_depth, Template, Templates}
+use Rattle.sf_term.specs.Trees.{Term, primitive, run, joined, sided, headed, switching, keeping, bare, never, with_value, timed, arrow, accumulated, term_depth, Template, Templates}
 use Rattle.sf_term.specs.Headers.{Header}
 use Rattle.sf_term.specs.Entries.{absent_payload, term_entry, term_entered}
 
@@ -96,10 +96,12 @@ term_of p (nodes.Primitive (primitives.WithValue k e)) = primitive (with_value k
 term_of p (nodes.Primitive (primitives.Timed k q e)) = primitive (timed k q (expression_under p e))
 term_of p (nodes.Primitive (primitives.Arrow f)) = primitive (arrow (function_in p f))
 term_of p (nodes.Primitive (primitives.Accumulated k e f)) = primitive (accumulated k (expression_under p e) (function_in p f))
+term_of p (nodes.Run k s) = run (name_at (expressions_of p) k)
 term_of p (nodes.Joined j a b) = joined j (tree p a) (tree p b)
 term_of p (nodes.Sided d a) = sided d (tree p a)
 term_of p (nodes.Headed h e a) = headed h (expression_under p e) (tree p a)
 term_of p (nodes.Switching w a q b) = switching w (tree p a) (pattern_of (pattern_under p q)) (tree p b)
+term_of p (nodes.Keeping w a o k s q b) = keeping w (tree p a) (tree p o) (name_at (expressions_of p) k) (pattern_of (pattern_under p q)) (tree p b)
 
 -- where the term at an id stands in the text
 unfoldable pub term_spot_at : Program → TermId → Spot
@@ -128,10 +130,12 @@ spots_of p = map (λ (h : Header). h.spot) (headers_of p)
 -- the ids of a node's parts, as numbers, are below a number
 abbrev pub TermPartsBelow : Node → ℕ → Type 0
 TermPartsBelow (nodes.Primitive q) n = Unit {0}
+TermPartsBelow (nodes.Run k s) n = Unit {0}
 TermPartsBelow (nodes.Joined j a b) n = (term_number a < n) × (term_number b < n)
 TermPartsBelow (nodes.Sided d a) n = term_number a < n
 TermPartsBelow (nodes.Headed h e a) n = term_number a < n
 TermPartsBelow (nodes.Switching w a q b) n = (term_number a < n) × (term_number b < n)
+TermPartsBelow (nodes.Keeping w a o k s q b) n = (term_number a < n) × (term_number o < n) × (term_number b < n)
 
 -- the parts of a node are held
 abbrev pub HoldsTermParts : Program → Node → Type 0
@@ -141,10 +145,12 @@ HoldsTermParts p (nodes.Primitive (primitives.WithValue k e)) = HoldsExpression 
 HoldsTermParts p (nodes.Primitive (primitives.Timed k q e)) = HoldsExpression p e
 HoldsTermParts p (nodes.Primitive (primitives.Arrow f)) = ProgramHoldsFunction p f
 HoldsTermParts p (nodes.Primitive (primitives.Accumulated k e f)) = HoldsExpression p e × ProgramHoldsFunction p f
+HoldsTermParts p (nodes.Run k s) = HoldsName (expressions_of p) k
 HoldsTermParts p (nodes.Joined j a b) = HoldsTerm p a × HoldsTerm p b
 HoldsTermParts p (nodes.Sided d a) = HoldsTerm p a
 HoldsTermParts p (nodes.Headed h e a) = HoldsExpression p e × HoldsTerm p a
 HoldsTermParts p (nodes.Switching w a q b) = HoldsTerm p a × HoldsPatternIn p q × HoldsTerm p b
+HoldsTermParts p (nodes.Keeping w a o k s q b) = HoldsTerm p a × HoldsTerm p o × HoldsName (expressions_of p) k × HoldsPatternIn p q × HoldsTerm p b
 
 -- Terms, expressions, functions and patterns that a program held are there as they were.
 pub record KeepsTrees (old new : Program) : Type 0 where

@@ -10,6 +10,7 @@ use Rattle.sf_term.specs.declared.form.Timing.{Timing}
 use Rattle.sf_term.specs.declared.form.Join.{Join}
 use Rattle.sf_term.specs.declared.form.Side.{Side}
 use Rattle.sf_term.specs.declared.form.Heading.{Heading}
+use Rattle.sf_term.specs.declared.form.Observation.{Observation}
 use Rattle.sf_term.specs.declared.form.Switching.{Switching}
 
 -- Functions made into one: one after another, on one part of a pair, each on its part of a pair, both on the input.
@@ -35,15 +36,18 @@ pub data Extent : Type 0 where
   whole : Extent
   rest : Extent
 
--- terms: primitives, two terms joined, a term on one side of a pair, a term with an expression at its head, a term that gives
--- way to another inside a pattern;
+-- terms: primitives, a named process, two terms joined, a term on one side of a pair, a term with an expression at its head, a
+-- term that gives way to another inside a pattern, and one that does so at the event of a second term and is then known by a
+-- name;
 -- and, in plans alone, a stage before the rest of its pipeline
 pub data Term : Type 0 where
   primitive : Primitive → Term
+  run : Name → Term
   joined : Join → Term → Term → Term
   sided : Side → Term → Term
   headed : Heading → Expression → Term → Term
   switching : Switching → Term → Pattern → Term → Term
+  keeping : Observation → (source observer : Term) → Name → Pattern → Term → Term
   staged : Extent → Term → Term → Term
 
 -- a template: its name, the types of its header and its term
@@ -70,10 +74,12 @@ primitive_depth (fused f) = 64
 -- how many terms and expressions stand one inside another; the forms of plans are deeper than each text
 abbrev pub term_depth : Term → ℕ
 term_depth (primitive p) = suc (primitive_depth p)
+term_depth (run k) = 1
 term_depth (joined j f g) = suc (max (term_depth f) (term_depth g))
 term_depth (sided d t) = suc (term_depth t)
 term_depth (headed h e t) = suc (max (expression_depth e) (term_depth t))
 term_depth (switching w t p u) = suc (max (max (term_depth t) (term_depth u)) (pattern_depth p))
+term_depth (keeping w t q k p u) = suc (max (max (max (term_depth t) (term_depth q)) (term_depth u)) (pattern_depth p))
 term_depth (staged x f g) = 65
 
 -- how many terms a primitive with a value is made of: in `-->(e, pre)`, `pre` is one too
@@ -97,10 +103,12 @@ terms_in_primitive (fused f) = 1
 -- how many terms a term is made of
 abbrev pub terms_in : Term → ℕ
 terms_in (primitive p) = terms_in_primitive p
+terms_in (run k) = 1
 terms_in (joined j f g) = suc (terms_in f + terms_in g)
 terms_in (sided d t) = suc (terms_in t)
 terms_in (headed h e t) = suc (terms_in t)
 terms_in (switching w t p u) = suc (terms_in t + terms_in u)
+terms_in (keeping w t q k p u) = suc (terms_in t + terms_in q + terms_in u)
 terms_in (staged x f g) = suc (terms_in f + terms_in g)
 
 -- how many expressions stand in a term
@@ -112,8 +120,10 @@ expressions_in (primitive (timed k q e)) = expression_size e
 expressions_in (primitive (arrow f)) = function_size f
 expressions_in (primitive (accumulated k e f)) = expression_size e + function_size f
 expressions_in (primitive (fused f)) = 0
+expressions_in (run k) = 0
 expressions_in (joined j f g) = expressions_in f + expressions_in g
 expressions_in (sided d t) = expressions_in t
 expressions_in (headed h e t) = expression_size e + expressions_in t
 expressions_in (switching w t p u) = expressions_in t + expressions_in u
+expressions_in (keeping w t q k p u) = expressions_in t + expressions_in q + expressions_in u
 expressions_in (staged x f g) = expressions_in f + expressions_in g

@@ -1,7 +1,9 @@
 //! Nodes of an arena of terms.
 
-use crate::form::{Accumulation, Bare, Heading, Join, Side, Switching, Timing, WithValue};
-use sf_expr::{ConstantId, ExprId, FunctionId, PatternId};
+use crate::form::{
+    Accumulation, Bare, Heading, Join, Observation, Side, Switching, Timing, WithValue,
+};
+use sf_expr::{ConstantId, ExprId, FunctionId, NameId, PatternId, Spot};
 
 /// A term in its program.
 #[derive(Clone, Copy, Debug, PartialEq, Eq)]
@@ -41,6 +43,8 @@ pub enum Primitive {
 pub enum Node {
     /// A primitive.
     Primitive(Primitive),
+    /// `run k`: the process of a name, which stands at a place of its own.
+    Run(NameId, Spot),
     /// Two terms joined, the first and the second.
     Joined(Join, TermId, TermId),
     /// A term on one part of a pair.
@@ -49,4 +53,7 @@ pub enum Node {
     Headed(Heading, ExprId, TermId),
     /// A term, and the body that it gives way to, inside a pattern.
     Switching(Switching, TermId, PatternId, TermId),
+    /// `kSwitch(t, q, k, p => u)`, delayed `dkSwitch`: at the first event that `q` sees in the inputs and values of `t`, `u`
+    /// takes over for good, which knows `t` as it stood by the name `k`.
+    Keeping(Observation, TermId, TermId, NameId, Spot, PatternId, TermId),
 }

@@ -12,9 +12,9 @@ ghost use Rattle.sf_arena.specs.Arenas.{entries_of};
 ghost use Rattle.sf_term.specs.Entries.{AreTerms};
 ghost use Rattle.sf_term.specs.Names.{HasNames};
 ghost use Rattle.sf_term.specs.declared.node.Node.TheVariants as terms;
-ghost use Rattle.sf_term.specs.Trees.{primitive as primitive_of, never as never_of, switching as switching_of, term_depth as depth_of};
+ghost use Rattle.sf_term.specs.Trees.{primitive as primitive_of, never as never_of, run as run_of, switching as switching_of, keeping as keeping_of, term_depth as depth_of};
 
-use crate::form::{Bare, Switching};
+use crate::form::{Bare, Observation, Switching};
 use crate::names::has_names;
 use crate::node::{Node, Primitive, TermId};
 use crate::refusal::BuildRefusal;
@@ -87,7 +87,7 @@ impl Program {
         ensures { result ≡ depth_of (term_of self.now node) }
     {
         match node {
-            Node::Primitive(Primitive::Bare(_) | Primitive::Never(_)) => 1,
+            Node::Primitive(Primitive::Bare(_) | Primitive::Never(_)) | Node::Run(_, _) => 1,
             Node::Primitive(Primitive::WithValue(_, value) | Primitive::Timed(_, _, value)) => {
                 1 + self.expressions.depth(value)
             }
@@ -105,6 +105,11 @@ impl Program {
             }
             Node::Switching(_, source, pattern, body) => {
                 let terms = self.depth(source).max(self.depth(body));
+                1 + terms.max(self.expressions.pattern_depth(pattern))
+            }
+            Node::Keeping(_, source, observer, _, _, pattern, body) => {
+                let watched = self.depth(source).max(self.depth(observer));
+                let terms = watched.max(self.depth(body));
                 1 + terms.max(self.expressions.pattern_depth(pattern))
             }
         }
@@ -515,6 +520,87 @@ impl Program {
         }
         match self.expressions.pattern_in(pattern) {
             Ok(id) => self.add(Node::Switching(form, source, id, body), spot),
+            Err(_) => Err(BuildRefusal::Memory),
+        }
+    }
+
+    /// Adds a term that gives way to another inside a pattern, which knows it by a name, at `place`. Refused with `TooMany`
+    /// where 100,000 terms are there, then with `TooDeep` where more than 64 terms, patterns and expressions would stand one
+    /// inside another, then with `BadName` where the name or one of the pattern is no name of the language, and with
+    /// `Memory`. A refused call changes nothing.
+    #[tactic(auto, unfolding(crate::specs::Arena::expressions_of, crate::specs::Arena::term_count))]
+    pub fn keeping(
+        &mut self,
+        form: Observation,
+        source: TermId,
+        observer: TermId,
+        process: String,
+        place: Spot,
+        pattern: Pat,
+        body: TermId,
+        spot: Spot,
+    ) -> Result<TermId, BuildRefusal>
+        requires source_held { HoldsTerm self.old source }
+        requires observer_held { HoldsTerm self.old observer }
+        requires body_held { HoldsTerm self.old body }
+        ensures ok { let name = next_name (expressions_of self.old) in
+            let next = next_pattern (expressions_of self.old) in
+            let whole = keeping_of form (tree self.old source) (tree self.old observer) (string_bytes process) (pattern_of pattern) (tree self.old body) in
+            IfOk result (λ id. AddsTerm self.old self.new id (terms.Keeping form source observer name place next body) whole spot) }
+        ensures placed { let next = next_pattern (expressions_of self.old) in
+            OnOk result (HoldsPatternIn self.new next × (pattern_under self.new next ≡ pattern)) }
+        ensures named { OnOk result (IsName (string_bytes process) × HasNames (pattern_of pattern)) }
+        ensures many { result ≡ Err BuildRefusal.TooMany ↔ 100000 ≤ term_count self.old }
+        ensures deep { let whole = keeping_of form (tree self.old source) (tree self.old observer) (string_bytes process) (pattern_of pattern) (tree self.old body) in
+            result ≡ Err BuildRefusal.TooDeep ↔ (term_count self.old < 100000) × (64 < depth_of whole) }
+        ensures bad_name { let whole = keeping_of form (tree self.old source) (tree self.old observer) (string_bytes process) (pattern_of pattern) (tree self.old body) in
+            result ≡ Err BuildRefusal.BadName ↔ (term_count self.old < 100000) × (depth_of whole ≤ 64) × ¬ (IsName (string_bytes process) × HasNames (pattern_of pattern)) }
+        ensures err { OnErr result (IsSameProgram self.old self.new) }
+    {
+        if 100_000 <= self.terms.len() {
+            return Err(BuildRefusal::TooMany);
+        }
+        let watched = self.depth(source).max(self.depth(observer));
+        let parts = watched.max(self.depth(body));
+        if 64 <= parts.max(pattern.depth()) {
+            return Err(BuildRefusal::TooDeep);
+        }
+        let both_named = is_name(process.as_bytes()) && has_names(&pattern);
+        if !both_named {
+            return Err(BuildRefusal::BadName);
+        }
+        match self.expressions.name(process) {
+            Ok(name) => match self.expressions.pattern_in(pattern) {
+                Ok(id) => {
+                    let node = Node::Keeping(form, source, observer, name, place, id, body);
+                    self.add(node, spot)
+                }
+                Err(_) => Err(BuildRefusal::Memory),
+            },
+            Err(_) => Err(BuildRefusal::Memory),
+        }
+    }
+
+    /// Adds the process of a name, at `place`, to the terms. Refused with `TooMany` where 100,000 terms are there, then with
+    /// `BadName` where it is no name of the language, and with `Memory`. A refused call changes nothing.
+    #[tactic(auto, unfolding(crate::specs::Arena::term_count))]
+    pub fn run(&mut self, process: String, place: Spot, spot: Spot) -> Result<TermId, BuildRefusal>
+        ensures ok { let next = next_name (expressions_of self.old) in
+            IfOk result (λ id. AddsTerm self.old self.new id (terms.Run next place) (run_of (string_bytes process)) spot) }
+        ensures named { OnOk result (IsName (string_bytes process)) }
+        ensures many { result ≡ Err BuildRefusal.TooMany ↔ 100000 ≤ term_count self.old }
+        ensures not_deep { ¬ (result ≡ Err BuildRefusal.TooDeep) }
+        ensures bad_name { result ≡ Err BuildRefusal.BadName ↔ (term_count self.old < 100000) × ¬ IsName (string_bytes process) }
+        ensures err { OnErr result (IsSameProgram self.old self.new) }
+    {
+        if 100_000 <= self.terms.len() {
+            return Err(BuildRefusal::TooMany);
+        }
+        if !is_name(process.as_bytes()) {
+            return Err(BuildRefusal::BadName);
+        }
+        match self.expressions.name(process) {
+            Ok(name) => self.add(Node::Run(name, place), spot),
             Err(_) => Err(BuildRefusal::Memory),
         }
     }

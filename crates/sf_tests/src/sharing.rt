@@ -20,6 +20,10 @@ const SWITCH: &[u8] =
 const RECURRING: &[u8] =
     b"network 1;\ntemplate main(): Int ~> Int = ((identity &&& after 2000 ()) >>> rSwitch(iPre 7, _ => iPre 8));\n";
 
+/// The same, where what gives the event sees the delay from outside, and the delay is frozen.
+const KEEPING: &[u8] =
+    b"network 1;\ntemplate main(): Int ~> Int = kSwitch(iPre 7, after 2000 (), kept, _ => iPre 8);\n";
+
 /// A network that was checked.
 fn checked(alloc: Global, network: &[u8], functions: &Registry) -> Result<Checked, Fail> {
     let program = read_network(alloc, network)?;
@@ -35,16 +39,33 @@ fn owners(state: &State) -> usize {
         State::Unborn(_) => 0,
         State::Live(_, node) => Rc::strong_count(node),
         State::Switch(_, node) => Rc::strong_count(node),
+        State::Keeping(_, node) => Rc::strong_count(node),
+        State::Frozen(node) => Rc::strong_count(node),
     }
 }
 
-/// What a network gives at its second sample, and what it then gives when it goes on from the first, where it was frozen;
-/// and the owners of the frozen node. The input is 5 each time.
+/// How many owners the node of a switch's source has, if it keeps that; else one.
+fn source_owners(state: &State) -> usize {
+    match state {
+        State::Keeping(_, node) => owners(&node.source),
+        _ => 1,
+    }
+}
+
+/// What a network gives at its second sample, and what it then gives when it goes on from the first, where it was shared;
+/// and the owners of its source's node, and of the shared node before and after. The input is 5 each time.
 fn gives_again(
     alloc: Global,
     checked: &Checked,
     functions: &Registry,
-) -> Result<(Result<Value, Fault>, Result<Value, Fault>, (usize, usize)), Fail> {
+) -> Result<
+    (
+        Result<Value, Fault>,
+        Result<Value, Fault>,
+        (usize, usize, usize),
+    ),
+    Fail,
+> {
     let plan = plain(alloc, checked)?;
     let mut state = State::unborn(plan.main());
     let mut meter = Meter::new();
@@ -57,8 +78,9 @@ fn gives_again(
         Value::int(5),
         &mut meter,
     )?);
-    let mut frozen = state.freeze()?;
-    let before = owners(&frozen);
+    let source = source_owners(&state);
+    let mut shared = state.share()?;
+    let before = owners(&shared);
     let running = step(
         alloc,
         &mut state,
@@ -79,17 +101,17 @@ fn gives_again(
             &mut meter,
         ));
     }
-    let after = owners(&frozen);
+    let after = owners(&shared);
     let resumed = step(
         alloc,
-        &mut frozen,
+        &mut shared,
         &plan,
         functions,
         1000,
         Value::int(5),
         &mut meter,
     );
-    Ok((running, resumed, (before, after)))
+    Ok((running, resumed, (source, before, after)))
 }
 
 /// Whether a sample gave this number, or there was no memory.
@@ -117,17 +139,17 @@ fn table_owners(value: &Value) -> usize {
 }
 
 #[test]
-fn a_frozen_state_and_a_copy_share(rt: HostRuntime) -> Result<(), Fail> {
+fn a_shared_state_and_a_copy_share(rt: HostRuntime) -> Result<(), Fail> {
     let alloc = rt.alloc();
     let functions = Registry::new(alloc);
-    // The first gives 8, 7, 5, the others 7, 5, 8. A step that is refused for want of memory leaves the frozen state as it
-    // was.
-    for (network, second) in [(DELAYS, 7), (SWITCH, 5), (RECURRING, 5)] {
+    // The first gives 8, 7, 5, the others 7, 5, 8. A step that is refused for want of memory leaves the shared state as it
+    // was. After a sample without an event nothing is left of the source that was frozen for it.
+    for (network, second) in [(DELAYS, 7), (SWITCH, 5), (RECURRING, 5), (KEEPING, 5)] {
         let checked = checked(alloc, network, &functions)?;
         let (running, resumed, owners) = gives_again(alloc, &checked, &functions)?;
         assert!(rt; is_or_refused(&running, second) && is_or_refused(&resumed, second));
         assert!(rt; running.is_ok() || resumed.is_ok());
-        assert!(rt; running.is_err() || owners == (2, 1));
+        assert!(rt; running.is_err() || owners == (1, 2, 1));
     }
     let table = table(alloc)?;
     let copy = table.clone_in(alloc)?;

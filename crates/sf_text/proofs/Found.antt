@@ -11,6 +11,7 @@ use Rattle.sf_term.specs.declared.form.Accumulation.{Accumulation}
 use Rattle.sf_term.specs.declared.form.Join.{Join}
 use Rattle.sf_term.specs.declared.form.Side.{Side}
 use Rattle.sf_term.specs.declared.form.Heading.{Heading}
+use Rattle.sf_term.specs.declared.form.Observation.{Observation}
 use Rattle.sf_term.specs.declared.form.Switching.{Switching}
 use Rattle.sf_term.specs.declared.node.TermId.{TermId}
 use Rattle.sf_term.specs.declared.node.Node.{Node}
@@ -18,7 +19,8 @@ use Rattle.sf_term.specs.declared.program.Program.{Program}
 use Rattle.sf_term.specs.declared.refusal.BuildRefusal.{BuildRefusal}
 use Rattle.sf_term.specs.declared.refusal.BuildRefusal.TheVariants as refusals
 use Rattle.sf_lex.specs.Words.{IsName}
-use Rattle.sf_term.specs.Trees.{terms_with_value, Term, primitive, never, with_value, timed, arrow, accumulated, joined, sided, switching, term_depth, terms_in, expressions_in}
+use Rattle.sf_term.specs.Trees.{terms_with_value, Term, primitive, never, with_value, timed, arrow, accumulated, run, joined, sided, switching, keeping, term_depth, terms_in, expressions_in}
+use Rattle.sf_term.specs.Names.{HasNames}
 use Rattle.sf_term.specs.Arena.{tree, term_of, term_node_at, expression_under as expression_in, function_in, term_count, expression_count, KeepsProgram, AddsTerm}
 use Rattle.sf_term.proofs.Kept.{few_program_expressions, keeps_trans}
 use Rattle.sf_refusal.specs.declared.spot.Spot.{Spot}
@@ -28,10 +30,10 @@ use Rattle.sf_lex.specs.Tokens.{Tok}
 use Rattle.sf_grammar.specs.declared.ty.Version.{Version}
 use Rattle.sf_parse.specs.declared.stop.Stop.{Stop}
 use Rattle.sf_grammar.specs.Spelling.{stands_initially, head_makes}
-use Rattle.sf_grammar.specs.Reading.{parse_number, parse_never, parse_timed, Read, got, Counts, counts_with, counts_with_expression, parse_symbol, parse_inner_type, parse_pattern, parse_expression, parse_function, parse_value, parse_arrow, parse_accumulated, parse_sided, parse_headed, parse_switching, term_read, parse_join, parse_joined, parse_term}
+use Rattle.sf_grammar.specs.Reading.{parse_number, parse_never, parse_timed, Read, got, Counts, counts_with, counts_with_expression, parse_symbol, parse_inner_type, parse_pattern, parse_expression, parse_function, parse_value, parse_arrow, parse_accumulated, parse_sided, parse_headed, parse_body, parse_switching, parse_name, parse_run, parse_keeping, term_read, parse_join, parse_joined, parse_term}
 use Rattle.sf_parse.specs.Answers.{StopsReading, FoundExpression, FoundFunction, counts_of, stop_for, toks}
-use Rattle.sf_text.specs.Answers.{FoundTerm}
-use Rattle.sf_grammar.proofs.Takes.{HeadMakes, with_pre, stays_headed, head_view, TookPattern, TookFunction, Took, pattern_takes, function_takes, term_takes}
+use Rattle.sf_text.specs.Answers.{FoundTerm, FoundBody}
+use Rattle.sf_grammar.proofs.Takes.{HeadMakes, with_pre, stays_headed, head_view, TookFunction, Took, TookBody, function_takes, body_takes, term_takes}
 use Rattle.sf_text.specs.Consuming.{headed_node}
 use Rattle.sf_text.proofs.Placed.{headed_makes}
 use Rattle.sf_parse.proofs.Found.{refused_as_read, read_within, expression_taken, behind_expression}
@@ -195,26 +197,63 @@ headed_ready v {old} {one} {two} {start} {r0} {r1} {r2} {r3} {rest} {e} {a} h d 
       expressions = omega (arith, f.expressions, g.expressions, made.expressions);
     }
 
+-- the body of a switch
+pub body_found : (v : Version) {old new : Program} {r1 r2 rest : List Tok} {p : Pattern} {b : TermId} (d : ℕ) (tokens : List Tok) → parse_pattern d tokens ≡ got p r1 → parse_symbol symbols.MapsTo r1 ≡ got tt r2 → HasNames p
+    → FoundTerm old new b rest (parse_term d v (counts_of old) r2) → FoundBody old new p b rest (parse_body d (parse_term d v) (counts_of old) tokens)
+body_found v d tokens pattern leads names f =
+    record { term = f.term; is = rw (pattern, leads, f.is) refl; names = names; held = f.held; tree = f.tree; kept = f.kept; terms = f.terms; expressions = f.expressions }
+
+body_taken : (v : Version) (old new : Program) (p : Pattern) (id : TermId) (rest tokens : List Tok) (d : ℕ) → (f : FoundBody old new p id rest (parse_body d (parse_term d v) (counts_of old) tokens)) → TookBody v d (counts_of old) tokens (p, f.term) rest
+body_taken v old new p id rest tokens d f = body_takes v d (counts_of old) tokens (p, f.term) rest (term_takes v d) (few_program_expressions old) f.is
+
 -- a term that gives way to another inside a pattern
-pub switching_ready : (v : Version) {old one two : Program} {start r0 r1 r2 r3 r4 r5 rest : List Tok} {a b : TermId} {p : Pattern} {w : Switching} (d : ℕ) (tokens : List Tok) → d ≤ 63 → parse_symbol symbols.Open tokens ≡ got tt r0
-    → FoundTerm old one a r1 (parse_term d v (counts_of old) r0) → parse_symbol symbols.Comma r1 ≡ got tt r2 → parse_pattern d r2 ≡ got p r3 → parse_symbol symbols.MapsTo r3 ≡ got tt r4
-    → FoundTerm one two b r5 (parse_term d v (counts_of one) r4) → parse_symbol symbols.Close r5 ≡ got tt rest
+pub switching_ready : (v : Version) {old one two : Program} {start r0 r1 r2 r3 rest : List Tok} {a b : TermId} {p : Pattern} {w : Switching} (d : ℕ) (tokens : List Tok) → d ≤ 63 → parse_symbol symbols.Open tokens ≡ got tt r0
+    → FoundTerm old one a r1 (parse_term d v (counts_of old) r0) → parse_symbol symbols.Comma r1 ≡ got tt r2 → FoundBody one two p b r3 (parse_body d (parse_term d v) (counts_of one) r2) → parse_symbol symbols.Close r3 ≡ got tt rest
     → Ready old two (switching w (tree two a) p (tree two b)) start rest (parse_switching d (parse_term d v) (counts_of old) w start tokens)
 unfolding parse_switching
-switching_ready v {old} {one} {two} {start} {r0} {r1} {r2} {r3} {r4} {r5} {rest} {a} {b} {p} {w} d tokens small opening f comma pattern leads g closing =
-    let second : parse_term d v (counts_with (counts_of old) f.term) r4 ≡ got g.term r5 =
-    subst (λ (c : Counts). parse_term d v c r4 ≡ got g.term r5) (behind_term old one f.term f.terms f.expressions) g.is in
+switching_ready v {old} {one} {two} {start} {r0} {r1} {r2} {r3} {rest} {a} {b} {p} {w} d tokens small opening f comma g closing =
+    let second : parse_body d (parse_term d v) (counts_with (counts_of old) f.term) r2 ≡ got (p, g.term) r3 =
+    subst (λ (c : Counts). parse_body d (parse_term d v) c r2 ≡ got (p, g.term) r3) (behind_term old one f.term f.terms f.expressions) g.is in
     let first_same : tree two a ≡ f.term = g.kept.trees.trees a f.held ∙ f.tree in
     let took_f = term_taken v old one a r1 r0 d f in
-    let took_p : TookPattern d r2 p r3 = pattern_takes d r2 p r3 pattern in
-    let took_g = term_taken v one two b r5 r4 d g in
+    let took_g = body_taken v one two p b r3 r2 d g in
     record {
       term = switching w f.term p g.term;
-      is = rw (opening, f.is, comma, pattern, leads, second, closing) refl;
+      is = rw (opening, f.is, comma, second, closing) refl;
       same = rw (first_same, g.tree) refl;
-      shallow = omega (arith, took_f.shallow, took_p.shallow, took_g.shallow);
+      shallow = omega (arith, took_f.shallow, took_g.pattern, took_g.shallow);
       terms = omega (arith, f.terms, g.terms);
       expressions = omega (arith, f.expressions, g.expressions);
+    }
+
+-- the process of a name
+pub run_ready : {old : Program} {start rest : List Tok} {k n : Name} (tokens : List Tok) → parse_name tokens ≡ got k rest → n ≡ k → Ready old old (run n) start rest (parse_run (counts_of old) start tokens)
+unfolding parse_run
+run_ready {k = k} tokens named bytes = record { term = run k; is = rw named refl; same = ap run bytes; shallow = omega arith; terms = omega arith; expressions = omega arith }
+
+-- a term that gives way to another, which knows it by a name
+pub keeping_ready : (v : Version) {old one two three : Program} {start r0 r1 r2 r3 r4 r5 r6 r7 rest : List Tok} {a b c : TermId} {k n : Name} {p : Pattern} {w : Observation} (d : ℕ) (tokens : List Tok) → d ≤ 63 → parse_symbol symbols.Open tokens ≡ got tt r0
+    → FoundTerm old one a r1 (parse_term d v (counts_of old) r0) → parse_symbol symbols.Comma r1 ≡ got tt r2 → FoundTerm one two b r3 (parse_term d v (counts_of one) r2) → parse_symbol symbols.Comma r3 ≡ got tt r4
+    → parse_name r4 ≡ got k r5 → parse_symbol symbols.Comma r5 ≡ got tt r6 → FoundBody two three p c r7 (parse_body d (parse_term d v) (counts_of two) r6) → parse_symbol symbols.Close r7 ≡ got tt rest → n ≡ k
+    → Ready old three (keeping w (tree three a) (tree three b) n p (tree three c)) start rest (parse_keeping d (parse_term d v) (counts_of old) w start tokens)
+unfolding parse_keeping
+keeping_ready v {old} {one} {two} {three} {start} {r0} {r1} {r2} {r3} {r4} {r5} {r6} {r7} {rest} {a} {b} {c} {k} {n} {p} {w} d tokens small opening f comma g second named third h closing bytes =
+    let behind_one = behind_term old one f.term f.terms f.expressions in
+    let at_g : parse_term d v (counts_with (counts_of old) f.term) r2 ≡ got g.term r3 = subst (λ (c : Counts). parse_term d v c r2 ≡ got g.term r3) behind_one g.is in
+    let behind_two : counts_of two ≡ counts_with (counts_with (counts_of old) f.term) g.term = behind_term one two g.term g.terms g.expressions ∙ ap (λ (c : Counts). counts_with c g.term) behind_one in
+    let at_h : parse_body d (parse_term d v) (counts_with (counts_with (counts_of old) f.term) g.term) r6 ≡ got (p, h.term) r7 = subst (λ (c : Counts). parse_body d (parse_term d v) c r6 ≡ got (p, h.term) r7) behind_two h.is in
+    let first_same : tree three a ≡ f.term = h.kept.trees.trees a (g.kept.trees.terms a f.held) ∙ (g.kept.trees.trees a f.held ∙ f.tree) in
+    let second_same : tree three b ≡ g.term = h.kept.trees.trees b g.held ∙ g.tree in
+    let took_f = term_taken v old one a r1 r0 d f in
+    let took_g = term_taken v one two b r3 r2 d g in
+    let took_h = body_taken v two three p c r7 r6 d h in
+    record {
+      term = keeping w f.term g.term k p h.term;
+      is = rw (opening, f.is, comma, at_g, second, named, third, at_h, closing) refl;
+      same = rw (first_same, second_same, bytes, h.tree) refl;
+      shallow = omega (arith, took_f.shallow, took_g.shallow, took_h.pattern, took_h.shallow);
+      terms = omega (arith, f.terms, g.terms, h.terms);
+      expressions = omega (arith, f.expressions, g.expressions, h.expressions);
     }
 
 -- two terms joined

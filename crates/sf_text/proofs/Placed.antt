@@ -6,6 +6,7 @@ use Rattle.sf_refusal.specs.declared.spot.Spot.{Spot}
 use Rattle.sf_expr.specs.declared.exprs.ConstantId.{ConstantId}
 use Rattle.sf_expr.specs.declared.exprs.ExprId.{ExprId}
 use Rattle.sf_expr.specs.declared.exprs.FunctionId.{FunctionId}
+use Rattle.sf_expr.specs.declared.exprs.NameId.{NameId}
 use Rattle.sf_expr.specs.declared.exprs.PatternId.{PatternId}
 use Rattle.sf_expr.specs.Patterns.{PlacedPattern}
 use Rattle.sf_term.specs.declared.form.Bare.{Bare}
@@ -18,6 +19,7 @@ use Rattle.sf_term.specs.declared.form.Join.{Join}
 use Rattle.sf_term.specs.declared.form.Side.{Side}
 use Rattle.sf_term.specs.declared.form.Heading.{Heading}
 use Rattle.sf_term.specs.declared.form.Heading.TheVariants as headings
+use Rattle.sf_term.specs.declared.form.Observation.{Observation}
 use Rattle.sf_term.specs.declared.form.Switching.{Switching}
 use Rattle.sf_term.specs.declared.node.TermId.{TermId}
 use Rattle.sf_term.specs.declared.node.Primitive.{Primitive}
@@ -39,12 +41,12 @@ use Rattle.sf_grammar.specs.Reading.{got, parse_inner_type, parse_signature}
 use Rattle.sf_parse.specs.Answers.{toks}
 use Rattle.sf_grammar.proofs.Takes.{TookType, inner_type_takes, TookSignature, signature_takes}
 use Rattle.sf_lex.specs.declared.token.PlacedToken.{PlacedToken}
-use Rattle.sf_grammar.specs.Placing.{around, PatternPlaced, ExpressionPlaced, FunctionPlaced, TermStands, TermPlaced, bare_placed, never_placed, with_value_placed, initialized_placed, timed_placed, arrow_placed, accumulated_placed, joined_placed, sided_placed, headed_placed, switching_placed, TemplatePlaced, TemplatesPlaced, none_placed, template_placed, NetworkPlaced, IsPlacedIn}
+use Rattle.sf_grammar.specs.Placing.{around, PatternPlaced, ExpressionPlaced, FunctionPlaced, TermStands, TermPlaced, bare_placed, never_placed, with_value_placed, initialized_placed, timed_placed, arrow_placed, accumulated_placed, joined_placed, sided_placed, headed_placed, switching_placed, run_placed, keeping_placed, TemplatePlaced, TemplatesPlaced, none_placed, template_placed, NetworkPlaced, IsPlacedIn}
 use Rattle.sf_text.specs.Progress.{IsSpelled}
 use Rattle.sf_text.proofs.Whole.{toks_same}
-use Rattle.sf_parse.specs.Consuming.{places, BehindOne, BehindSome, Consumes}
+use Rattle.sf_parse.specs.Consuming.{places, BehindOne, BehindSome, NamePlaced, Consumes, Parted}
 use Rattle.sf_text.specs.Consuming.{headed_node, HeadingPlaced, OpeningPlaced, PlacesTemplate}
-use Rattle.sf_parse.proofs.Placed.{pattern_stays, expression_keeps, function_keeps, behind_first, in_brackets_read, behind_opening, parted_read, parted, pattern_stands, front_counted}
+use Rattle.sf_parse.proofs.Placed.{pattern_stays, expression_keeps, function_keeps, behind_first, in_brackets_read, behind_opening, parted, pattern_stands, front_counted}
 
 term_stays : (old new : Program) → KeepsTrees old new → (id : TermId) (n : Node) (at : Spot) → TermStands old id n at → TermStands new id n at
 term_stays old new k id n at s = record { held = k.terms id s.held; node = k.nodes id s.held ∙ s.node; spot = k.spots id s.held ∙ s.spot }
@@ -67,6 +69,9 @@ term_keeps v old new k id xs (headed_placed opening comma closing s value part) 
     headed_placed opening comma closing (term_stays old new k _ _ _ s) (expression_keeps v old new k _ _ value) (term_keeps v old new k _ _ part)
 term_keeps v old new k id xs (switching_placed opening comma leads closing s source pattern body) =
     switching_placed opening comma leads closing (term_stays old new k _ _ _ s) (term_keeps v old new k _ _ source) (pattern_stays old new k _ _ pattern) (term_keeps v old new k _ _ body)
+term_keeps v old new k id xs (run_placed s) = run_placed (term_stays old new k _ _ _ s)
+term_keeps v old new k id xs (keeping_placed opening comma second third leads closing s source observer pattern body) =
+    keeping_placed opening comma second third leads closing (term_stays old new k _ _ _ s) (term_keeps v old new k _ _ source) (term_keeps v old new k _ _ observer) (pattern_stays old new k _ _ pattern) (term_keeps v old new k _ _ body)
 
 pub templates_keep : (v : Version) (old new : Program) → KeepsTrees old new → (hs : List Header) (xs : List Spot) → TemplatesPlaced v old hs xs → TemplatesPlaced v new hs xs
 templates_keep v old new k hs xs none_placed = none_placed
@@ -156,6 +161,8 @@ bare_places is (joined_placed between closing s one two) = absurd (let e = sym s
 bare_places is (sided_placed s part) = absurd (let e = sym s.node ∙ is in cc)
 bare_places is (headed_placed opening comma closing s value part) = absurd (let e = sym s.node ∙ is in cc)
 bare_places is (switching_placed opening comma leads closing s source pattern body) = absurd (let e = sym s.node ∙ is in cc)
+bare_places is (run_placed s) = absurd (let e = sym s.node ∙ is in cc)
+bare_places is (keeping_placed opening comma second third leads closing s source observer pattern body) = absurd (let e = sym s.node ∙ is in cc)
 
 -- what a head makes stands so, with these places of the value and the part
 headed_placed_so : {v : Version} {two new : Program} {id a : TermId} {h : Heading} {e : ExprId} {n m : Node} {t : Term} {spot : Spot} {xs ys : List Spot} (opening comma closing : Spot) → HeadedNode h e a n m → term_node_at two a ≡ n
@@ -174,13 +181,34 @@ headed_read {v} {one} {two} {new} {id} {a} h {e} {n} {t} {spot} k is added openi
     headed_placed_so opening.at comma closing (subst (HeadedNode h e a (term_node_at two a)) (sym is) (node_view h e a (term_node_at two a))) refl added (expression_keeps v two new added.kept.trees e xs (expression_keeps v one two k e xs p)) q))
 
 -- a term, a pattern and another term in brackets
-pub switching_read : {v : Version} {one two new : Program} {id a b : TermId} {w : Switching} {p : PlacedPattern} {q : PatternId} {t : Term} {spot : Spot} {r r0 r1 r2 r3 r4 r5 rest : List Spot} → KeepsTrees one two → AddsTerm two new id (nodes.Switching w a q b) t spot
-    → HoldsPatternIn new q × (pattern_under new q ≡ p) → BehindOne r r0 → Consumes (TermPlaced v one a) r0 r1 → BehindOne r1 r2 → Consumes (PatternPlaced p) r2 r3 → BehindOne r3 r4 → Consumes (TermPlaced v two b) r4 r5 → BehindOne r5 rest
+pub switching_read : {v : Version} {one two new : Program} {id a b : TermId} {w : Switching} {p : PlacedPattern} {q : PatternId} {t : Term} {spot : Spot} {r r0 r1 r2 r3 rest : List Spot} → KeepsTrees one two → AddsTerm two new id (nodes.Switching w a q b) t spot
+    → HoldsPatternIn new q × (pattern_under new q ≡ p) → BehindOne r r0 → Consumes (TermPlaced v one a) r0 r1 → BehindOne r1 r2 → Consumes (Parted (PatternPlaced p) (TermPlaced v two b)) r2 r3 → BehindOne r3 rest
     → Consumes (TermPlaced v new id) (spot ∷ r) rest
-switching_read {v} {one} {two} {new} {id} {a} {b} {w} {p} {q} {t} {spot} k added there opening source comma pattern leads body closing =
-    behind_opening opening (in_brackets_read source comma (parted_read pattern leads body) closing (λ comma closing xs zs x n.
+switching_read {v} {one} {two} {new} {id} {a} {b} {w} {p} {q} {t} {spot} k added there opening source comma body closing =
+    behind_opening opening (in_brackets_read source comma body closing (λ comma closing xs zs x n.
     parted (λ zs. TermPlaced v new id (spot ∷ around opening.at xs comma zs closing)) n (λ leads ps ys placed y.
     switching_placed opening.at comma leads closing (term_stands two new id _ t spot added) (term_keeps v two new added.kept.trees a xs (term_keeps v one two k a xs x)) (pattern_stands new q p ps there placed) (term_keeps v two new added.kept.trees b ys y))))
+
+pub run_read : {v : Version} {old new : Program} {id : TermId} {k : NameId} {t : Term} {spot place : Spot} {r rest : List Spot} → AddsTerm old new id (nodes.Run k place) t spot → NamePlaced place r rest → Consumes (TermPlaced v new id) (spot ∷ r) rest
+run_read {v} {old} {new} {id} {k} {t} {spot} {place} added name = record { front = spot ∷ place ∷ []; split = ap (λ ts. spot ∷ ts) name.split; holds = run_placed (term_stands old new id _ t spot added) }
+
+-- two terms, a name, a pattern and a third term in brackets
+pub keeping_read : {v : Version} {one two three new : Program} {id a b c : TermId} {w : Observation} {k : NameId} {p : PlacedPattern} {q : PatternId} {t : Term} {spot place : Spot} {r r0 r1 r2 r3 r4 r5 r6 r7 rest : List Spot} → KeepsTrees one two → KeepsTrees two three
+    → AddsTerm three new id (nodes.Keeping w a b k place q c) t spot → HoldsPatternIn new q × (pattern_under new q ≡ p) → BehindOne r r0 → Consumes (TermPlaced v one a) r0 r1 → BehindOne r1 r2 → Consumes (TermPlaced v two b) r2 r3 → BehindOne r3 r4
+    → NamePlaced place r4 r5 → BehindOne r5 r6 → Consumes (Parted (PatternPlaced p) (TermPlaced v three c)) r6 r7 → BehindOne r7 rest → Consumes (TermPlaced v new id) (spot ∷ r) rest
+keeping_read {v} {one} {two} {three} {new} {id} {a} {b} {c} {w} {k} {p} {q} {t} {spot} {place} {r2 = r2} {r7 = r7} K L added there opening source comma observer second name third body closing =
+    let stays : (i : TermId) (xs : List Spot) → TermPlaced v three i xs → TermPlaced v new i xs = term_keeps v three new added.kept.trees in
+    let behind : List Spot = observer.front ++ (second.at ∷ place ∷ third.at ∷ body.front) in
+    let parts : Consumes (λ ts. ts ≡ behind) r2 r7 = record {
+      front = behind;
+      split = rw (observer.split, second.split, name.split, third.split, body.split, append_assoc observer.front (second.at ∷ place ∷ third.at ∷ body.front) r7) refl;
+      holds = refl;
+    } in
+    behind_opening opening (in_brackets_read source comma parts closing (λ comma closing xs ts x same.
+    subst (λ (ts : List Spot). TermPlaced v new id (spot ∷ around opening.at xs comma ts closing)) (sym same)
+    (parted (λ zs. TermPlaced v new id (spot ∷ around opening.at xs comma (observer.front ++ (second.at ∷ place ∷ third.at ∷ zs)) closing)) body.holds (λ leads ps zs placed z.
+    keeping_placed opening.at comma second.at third.at leads closing (term_stands three new id _ t spot added) (stays a xs (term_keeps v two three L a xs (term_keeps v one two K a xs x)))
+    (stays b observer.front (term_keeps v two three L b observer.front observer.holds)) (pattern_stands new q p ps there placed) (stays c zs z)))))
 
 -- two terms joined
 pub joined_read : {v : Version} {one two new : Program} {id a b : TermId} {j : Join} {t : Term} {spot : Spot} {r0 r1 r2 r3 rest : List Spot} → KeepsTrees one two → AddsTerm two new id (nodes.Joined j a b) t spot

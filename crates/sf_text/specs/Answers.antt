@@ -3,6 +3,9 @@ use Rattle.std.specs.Prelude.{◌≡◌, ◌+◌, List, [], ◌∷◌, ◌++◌,
 use Rattle.std.proofs.Common.{Bor}
 use Rattle.sf_value.specs.Values.{Kind}
 use Rattle.sf_text.specs.declared.header.Types.{Types}
+use Rattle.sf_expr.specs.Expressions.{Pattern}
+use Rattle.sf_expr.specs.Patterns.{PlacedPattern, pattern_of}
+use Rattle.sf_term.specs.Names.{HasNames}
 use Rattle.sf_term.specs.declared.node.TermId.{TermId}
 use Rattle.sf_term.specs.declared.program.Program.{Program}
 use Rattle.sf_term.specs.Trees.{Term, Template, terms_in, expressions_in}
@@ -29,6 +32,21 @@ pub record FoundTerm (old new : Program) (id : TermId) (rest : List Tok) (read :
 abbrev pub ReadsTerm : Program → Program → Result (TermId × Bor (List PlacedToken)) Stop → Read Term → Type 0
 ReadsTerm old new (Ok x) read = FoundTerm old new x.0 (toks x.1.now) read
 ReadsTerm old new (Err e) read = StopsReading e read
+
+-- the pattern and the term of a body were read, the term into the program
+pub record FoundBody (old new : Program) (p : Pattern) (id : TermId) (rest : List Tok) (read : Read (Pattern × Term)) : Type 0 where
+  pub term : Term
+  pub is : read ≡ got (p, term) rest
+  pub names : HasNames p
+  pub held : HoldsTerm new id
+  pub tree : tree new id ≡ term
+  pub kept : KeepsProgram old new
+  pub terms : term_count new ≡ term_count old + terms_in term
+  pub expressions : expression_count new ≡ expression_count old + expressions_in term
+
+abbrev pub ReadsBody : Program → Program → Result (PlacedPattern × TermId × Bor (List PlacedToken)) Stop → Read (Pattern × Term) → Type 0
+ReadsBody old new (Ok x) read = FoundBody old new (pattern_of x.0) x.1 (toks x.2.now) read
+ReadsBody old new (Err e) read = StopsReading e read
 
 -- a template was read into the program, behind the others
 pub record FoundTemplate (old new : Program) (rest : List Tok) (read : Read Template) : Type 0 where

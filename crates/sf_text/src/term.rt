@@ -2,22 +2,24 @@
 ghost use Rattle.std.specs.Prelude.{◌≡◌, ◌≤◌, IfOk, ◌∷◌, false};
 ghost use Rattle.sf_term.specs.Trees.{Term, primitive as primitive_form, bare as bare_form};
 ghost use Rattle.sf_parse.specs.Answers.{toks, StopsReading, ReadsAs, counts_of};
-ghost use Rattle.sf_text.specs.Answers.{ReadsTerm};
-ghost use Rattle.sf_grammar.specs.Placing.{TermPlaced};
-ghost use Rattle.sf_parse.specs.Consuming.{places, BehindOne, Consumes};
+ghost use Rattle.sf_text.specs.Answers.{ReadsTerm, ReadsBody};
+ghost use Rattle.sf_grammar.specs.Placing.{PatternPlaced, TermPlaced};
+ghost use Rattle.sf_parse.specs.Consuming.{places, BehindOne, Consumes, Parted};
 ghost use Rattle.sf_text.specs.Consuming.{headed_node, HasValueSo};
-ghost use Rattle.sf_grammar.specs.Reading.{begins_term, too_deep, term_read, parse_never, parse_value, parse_timed, parse_arrow, parse_accumulated, parse_sided, parse_headed, parse_switching, parse_join, parse_joined, parse_form, parse_behind_head, parse_term};
+ghost use Rattle.sf_grammar.specs.Reading.{begins_term, too_deep, term_read, parse_never, parse_value, parse_timed, parse_arrow, parse_accumulated, parse_sided, parse_headed, parse_body, parse_switching, parse_run, parse_keeping, parse_join, parse_joined, parse_form, parse_behind_head, parse_term};
 ghost use Rattle.sf_term.specs.Arena.{HoldsExpression, HoldsTerm, HoldsTermParts, term_node_at};
 ghost use Rattle.sf_grammar.specs.Spelling.{stands_initially};
 
-use sf_expr::ExprId;
+use sf_expr::{ExprId, Pat};
 use sf_grammar::{Head, Version, head_of, join_of};
 use sf_lex::{PlacedToken, Symbol, Token};
-use sf_parse::{Stop, expression, function, inner_type, number, pattern, refused, stop_at, symbol};
+use sf_parse::{
+    Stop, expression, function, inner_type, name, number, pattern, refused, stop_at, symbol,
+};
 use sf_refusal::{Rule, Spot};
 use sf_term::{
-    Accumulation, Bare, Heading, Join, Node, Primitive, Program, Side, Switching, TermId, Timing,
-    WithValue,
+    Accumulation, Bare, Heading, Join, Node, Observation, Primitive, Program, Side, Switching,
+    TermId, Timing, WithValue,
 };
 use std::alloc::Global;
 
@@ -171,6 +173,27 @@ fn accumulated<'a>(
     }
 }
 
+/// `run`, which is the first of these tokens, and the tokens behind its name.
+#[tactic(auto, unfolding(sf_grammar::specs::Reading::parse_run))]
+fn run<'a>(
+    alloc: Global,
+    version: Version,
+    tokens: &'a [PlacedToken<'a>],
+    rest: &'a [PlacedToken<'a>],
+    program: &mut Program,
+    spot: Spot,
+) -> Result<(TermId, &'a [PlacedToken<'a>]), Stop>
+    ensures reads { ReadsTerm program.old program.new result (parse_run (counts_of program.old) (toks tokens.now) (toks rest.now)) }
+    ensures placed { IfOk result (λ x. Consumes (TermPlaced version program.new x.0) (spot ∷ places rest.now) (places x.1.now)) }
+{
+    let (process, rest) = name(rest)?;
+    let known = String::from_str(alloc, process.name.as_str())?;
+    match program.run(known, process.spot, spot) {
+        Ok(id) => Ok((id, rest)),
+        Err(refusal) => Err(refused(refusal, tokens)),
+    }
+}
+
 /// The symbol between two terms, and the tokens behind it.
 fn join<'a>(tokens: &'a [PlacedToken<'a>]) -> Result<(Join, &'a [PlacedToken<'a>]), Stop>
     ensures reads { ReadsAs (λ j. j) result (parse_join (toks tokens.now)) }
@@ -260,6 +283,8 @@ fn behind_head<'a>(
         Head::Sided(side) => sided(alloc, version, tokens, rest, program, side, spot, left),
         Head::Headed(heading) => headed(alloc, version, tokens, rest, program, heading, spot, left),
         Head::Switching(kind) => switching(alloc, version, tokens, rest, program, kind, spot, left),
+        Head::Run => run(alloc, version, tokens, rest, program, spot),
+        Head::Keeping(kind) => keeping(alloc, version, tokens, rest, program, kind, spot, left),
     }
 }
 
@@ -334,6 +359,25 @@ fn headed<'a>(
     }
 }
 
+/// The pattern and the term of a body, of so much depth at most, and the tokens behind them.
+#[cycle(term)]
+fn body<'a>(
+    alloc: Global,
+    version: Version,
+    tokens: &'a [PlacedToken<'a>],
+    program: &mut Program,
+    left: u32,
+) -> Result<(Pat, TermId, &'a [PlacedToken<'a>]), Stop>
+    requires shallow { left ≤ 63 }
+    ensures reads { ReadsBody program.old program.new result (parse_body left (parse_term left version) (counts_of program.old) (toks tokens.now)) }
+    ensures placed { IfOk result (λ x. Consumes (Parted (PatternPlaced x.0) (TermPlaced version program.new x.1)) (places tokens.now) (places x.2.now)) }
+{
+    let (pattern, rest) = pattern(alloc, tokens, left)?;
+    let rest = symbol(rest, Symbol::MapsTo)?;
+    let (id, rest) = term(alloc, version, rest, program, left)?;
+    Ok((pattern, id, rest))
+}
+
 /// A term that gives way to another inside a pattern, whose word is the first of these tokens, and the tokens behind it.
 #[cycle(term)]
 #[tactic(auto, unfolding(sf_grammar::specs::Reading::parse_switching))]
@@ -354,11 +398,52 @@ fn switching<'a>(
     let rest = symbol(rest, Symbol::Open)?;
     let (source, rest) = term(alloc, version, rest, program, left)?;
     let rest = symbol(rest, Symbol::Comma)?;
-    let (pattern, rest) = pattern(alloc, rest, left)?;
-    let rest = symbol(rest, Symbol::MapsTo)?;
-    let (body, rest) = term(alloc, version, rest, program, left)?;
+    let (pattern, body, rest) = body(alloc, version, rest, program, left)?;
     let rest = symbol(rest, Symbol::Close)?;
     match program.switching(kind, source, pattern, body, spot) {
+        Ok(id) => Ok((id, rest)),
+        Err(refusal) => Err(refused(refusal, tokens)),
+    }
+}
+
+/// A term that gives way to another, which knows it by a name, and whose word is the first of these tokens, and the tokens
+/// behind it.
+#[cycle(term)]
+#[tactic(auto, unfolding(sf_grammar::specs::Reading::parse_keeping))]
+fn keeping<'a>(
+    alloc: Global,
+    version: Version,
+    tokens: &'a [PlacedToken<'a>],
+    rest: &'a [PlacedToken<'a>],
+    program: &mut Program,
+    kind: Observation,
+    spot: Spot,
+    left: u32,
+) -> Result<(TermId, &'a [PlacedToken<'a>]), Stop>
+    requires shallow { left ≤ 63 }
+    ensures reads { ReadsTerm program.old program.new result (parse_keeping left (parse_term left version) (counts_of program.old) kind (toks tokens.now) (toks rest.now)) }
+    ensures placed { IfOk result (λ x. Consumes (TermPlaced version program.new x.0) (spot ∷ places rest.now) (places x.1.now)) }
+{
+    let rest = symbol(rest, Symbol::Open)?;
+    let (source, rest) = term(alloc, version, rest, program, left)?;
+    let rest = symbol(rest, Symbol::Comma)?;
+    let (observer, rest) = term(alloc, version, rest, program, left)?;
+    let rest = symbol(rest, Symbol::Comma)?;
+    let (process, rest) = name(rest)?;
+    let rest = symbol(rest, Symbol::Comma)?;
+    let (pattern, body, rest) = body(alloc, version, rest, program, left)?;
+    let rest = symbol(rest, Symbol::Close)?;
+    let known = String::from_str(alloc, process.name.as_str())?;
+    match program.keeping(
+        kind,
+        source,
+        observer,
+        known,
+        process.spot,
+        pattern,
+        body,
+        spot,
+    ) {
         Ok(id) => Ok((id, rest)),
         Err(refusal) => Err(refused(refusal, tokens)),
     }

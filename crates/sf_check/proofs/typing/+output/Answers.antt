@@ -3,7 +3,7 @@ use Rattle.sf_value.specs.Values.{pair_kind}
 use Rattle.sf_check.specs.Breaking.{initialized_part, sequence_left, fan_right, parallel_input, side_input}
 use Rattle.sf_term.specs.Arena.{expressions_of}
 use Rattle.sf_check.specs.Contexts.{context_in}
-use Rattle.sf_check.proofs.Terms.{part_refused, err_answers, memory_answers, joined_there, sided_there, mismatch_refused, primitive_answers, sequence_answers, fan_answers, copy_reached, copy_takes, left_reached, right_reached, first_reached, second_reached, parallel_answers, first_answers, second_answers, start_answers, initialized_refused, initialized_answers, fed_refused, loop_reached, loop_answers, answers_under, pattern_answers, body_reached, body_answers, switch_answers, source_reached, source_answers, source_wants, input_answers, first_term_reached, input_wants, switching_there}
+use Rattle.sf_check.proofs.Terms.{part_refused, err_answers, memory_answers, joined_there, sided_there, mismatch_refused, primitive_answers, sequence_answers, fan_answers, copy_reached, copy_takes, left_reached, right_reached, first_reached, second_reached, parallel_answers, first_answers, second_answers, start_answers, initialized_refused, initialized_answers, fed_refused, loop_reached, loop_answers, answers_under, body_under, err_body, pattern_stops, within_stops, other_stops, body_answered, switch_answers, source_reached, source_answers, source_wants, input_answers, first_term_reached, input_wants, switching_there, kept_reached, watched_answers, observer_reached, observer_answers, keeping_answers}
 use Rattle.sf_check.proofs.typing.+output.Goals as goal
 
 pub output_of-returns-in-Primitive : goal.output_of-returns-in-Primitive
@@ -124,36 +124,33 @@ pub initialized_output-returns : goal.initialized_output-returns
 initialized_output-returns t c =
     initialized_answers _ _ _ _ _ c.spot-spot.ensures _ _ c.requires.there _ c.in_ok-given.ensures _ c.in_ok-output.ensures c.requires.fits c.in_ok-same.ensures.ok
 
--- ## The bodies of switches
+-- ## Bodies
 
 pub body_output-returns-in_err-inner : goal.body_output-returns-in_err-inner
-body_output-returns-in_err-inner t c = λ w f a is fit wanted.
-    err_answers _ _ _ _ _ _ c.from_residual.ensures.1
-    (pattern_answers c.args.context.now.program.now _ c.args.term _ _ c.spot-spot.ensures _ _ _ _ is _ _ _ wanted _ c.in_err-inner.ensures.refused)
+body_output-returns-in_err-inner t c =
+    err_body _ _ _ _ _ _ _ _ _ _ c.from_residual.ensures.1 (pattern_stops c.args.context.now.program.now _ _ _ _ _ c.args.wanted.now _ _ c.in_err-inner.ensures.refused)
 
 pub body_output-returns-in_err-given : goal.body_output-returns-in_err-given
-body_output-returns-in_err-given t c = λ w f a is fit wanted.
+body_output-returns-in_err-given t c =
     let p = c.args.context.now.program.now in
     let inner = c.in_ok-inner.ensures in
-    err_answers _ _ _ _ _ _ c.from_residual-in_err-given.ensures.1 (part_refused _ _ _ _ _ is _ _ _
-    (body_reached p _ c.args.term _ _ c.spot-spot.ensures _ _ _ _ is _ _ _ wanted inner.bound)
-    (answers_under _ p _ _ _ _ (Err _) inner.program inner.context c.in_err-given.ensures))
+    err_body _ _ _ _ _ _ _ _ _ _ c.from_residual-in_err-given.ensures.1
+    (within_stops p _ _ _ _ _ c.args.wanted.now _ inner.bound _ (answers_under _ p _ _ _ _ (Err _) inner.program inner.context c.in_err-given.ensures))
 
 pub body_output-returns-in_err-same : goal.body_output-returns-in_err-same
-body_output-returns-in_err-same t c = λ w f a is fit wanted.
+body_output-returns-in_err-same t c =
     let p = c.args.context.now.program.now in
     let inner = c.in_ok-inner.ensures in
     let body = answers_under _ p _ _ _ _ (Ok _) inner.program inner.context c.in_ok-given.ensures in
     let other = c.in_err-same.ensures.err in
-    err_answers _ _ _ _ _ _ c.from_residual-in_err-same.ensures.1
-    (body_answers p _ c.args.term _ _ c.spot-spot.ensures _ _ _ _ is _ _ _ wanted inner.bound _ body _ other.0 other.1)
+    err_body _ _ _ _ _ _ _ _ _ _ c.from_residual-in_err-same.ensures.1 (other_stops p _ _ _ _ _ _ _ inner.bound _ body _ other.0 other.1)
 
 pub body_output-returns : goal.body_output-returns
-body_output-returns t c = λ w f a is fit wanted.
+body_output-returns t c =
     let p = c.args.context.now.program.now in
     let inner = c.in_ok-inner.ensures in
     let body = answers_under _ p _ _ _ _ (Ok _) inner.program inner.context c.in_ok-given.ensures in
-    switch_answers p _ c.args.term _ _ c.spot-spot.ensures _ _ _ _ is _ _ _ wanted inner.bound _ body fit c.in_ok-same.ensures.ok
+    body_answered p _ c.args.spot _ _ _ _ _ inner.bound _ body c.in_ok-same.ensures.ok
 
 -- ## Switches
 
@@ -173,8 +170,10 @@ switching_output-returns-in_err-value-in-Basic t c =
 
 pub switching_output-returns-in_ok-value-in-Basic : goal.switching_output-returns-in_ok-value-in-Basic
 switching_output-returns-in_ok-value-in-Basic t c =
-    c.body_output.ensures _ _ _ (switching_there _ _ c.in-Basic.is c.requires.there) c.requires.fits
-    (source_wants c.args.context.now.program.now _ c.args.term _ _ c.spot-spot.ensures _ _ c.args.pattern c.args.body _ c.in_ok-clone_in-in-Basic.ensures.same _ c.in_ok-output-in-Basic.ensures _ _ c.in_ok-value-in-Basic.ensures.ok)
+    let p = c.args.context.now.program.now in
+    switch_answers p _ c.args.term _ _ c.spot-spot.ensures _ _ _ _ _ _ _ _ (switching_there _ _ c.in-Basic.is c.requires.there)
+    (source_wants p _ c.args.term _ _ c.spot-spot.ensures _ _ c.args.pattern c.args.body _ c.in_ok-clone_in-in-Basic.ensures.same _ c.in_ok-output-in-Basic.ensures _ _ c.in_ok-value-in-Basic.ensures.ok)
+    c.requires.fits c.body_output.ensures
 
 pub switching_output-returns-in_err-value-in-Recurring : goal.switching_output-returns-in_err-value-in-Recurring
 switching_output-returns-in_err-value-in-Recurring t c =
@@ -195,5 +194,49 @@ switching_output-returns-in_err-same_input-in-Recurring t c = memory_answers _ _
 
 pub switching_output-returns-in_ok-same_input-in-Recurring : goal.switching_output-returns-in_ok-same_input-in-Recurring
 switching_output-returns-in_ok-same_input-in-Recurring t c =
-    c.body_output-in-Recurring.ensures _ _ _ (switching_there _ _ c.in-Recurring.is c.requires.there) c.requires.fits
-    (input_wants c.args.context.now.program.now _ c.args.term _ _ c.spot-spot.ensures _ _ c.args.pattern c.args.body _ _ c.in_ok-value-in-Recurring.ensures.ok _ c.in_ok-clone_in-in-Recurring.ensures.same _ _ c.in_ok-same_input-in-Recurring.ensures.same c.in_ok-output-in-Recurring.ensures)
+    let p = c.args.context.now.program.now in
+    switch_answers p _ c.args.term _ _ c.spot-spot.ensures _ _ _ _ _ _ _ _ (switching_there _ _ c.in-Recurring.is c.requires.there)
+    (input_wants p _ c.args.term _ _ c.spot-spot.ensures _ _ c.args.pattern c.args.body _ _ c.in_ok-value-in-Recurring.ensures.ok _ c.in_ok-clone_in-in-Recurring.ensures.same _ _ c.in_ok-same_input-in-Recurring.ensures.same c.in_ok-output-in-Recurring.ensures)
+    c.requires.fits c.body_output-in-Recurring.ensures
+
+-- ## Processes
+
+pub keeping_output-returns-in_err-clone_in : goal.keeping_output-returns-in_err-clone_in
+keeping_output-returns-in_err-clone_in t c = memory_answers _ _ c.args.term _ _ c.from_residual.ensures.1
+
+pub keeping_output-returns-in_err-value : goal.keeping_output-returns-in_err-value
+keeping_output-returns-in_err-value t c =
+    err_answers _ _ _ _ _ _ c.from_residual-in_err-value.ensures.1 (part_refused _ _ _ _ _ c.requires.there _ _ _
+    (kept_reached c.args.context.now.program.now _ c.args.term _ _ c.spot-spot.ensures _ _ _ _ _ _ _ c.requires.there _ c.in_ok-clone_in.ensures.same) c.in_err-value.ensures)
+
+pub keeping_output-returns-in_err-watched : goal.keeping_output-returns-in_err-watched
+keeping_output-returns-in_err-watched t c =
+    err_answers _ _ _ _ _ _ c.from_residual-in_err-watched.ensures.1
+    (watched_answers c.args.context.now.program.now _ c.args.term _ _ c.spot-spot.ensures _ _ _ _ _ _ _ c.requires.there _ c.in_ok-clone_in.ensures.same _ c.in_ok-value.ensures _ c.in_err-watched.ensures)
+
+pub keeping_output-returns-in_err-seen : goal.keeping_output-returns-in_err-seen
+keeping_output-returns-in_err-seen t c =
+    err_answers _ _ _ _ _ _ c.from_residual-in_err-seen.ensures.1 (part_refused _ _ _ _ _ c.requires.there _ _ _
+    (observer_reached c.args.context.now.program.now _ c.args.term _ _ c.spot-spot.ensures _ _ _ _ _ _ _ c.requires.there _ c.in_ok-clone_in.ensures.same _ c.in_ok-value.ensures _ c.in_ok-watched.ensures) c.in_err-seen.ensures)
+
+pub keeping_output-returns-in_err-payload : goal.keeping_output-returns-in_err-payload
+keeping_output-returns-in_err-payload t c =
+    let wrong = c.in_err-payload.ensures.err in
+    err_answers _ _ _ _ _ _ c.from_residual-in_err-payload.ensures.1
+    (observer_answers c.args.context.now.program.now _ c.args.term _ _ c.spot-spot.ensures _ _ _ _ _ _ _ c.requires.there _ c.in_ok-clone_in.ensures.same _ c.in_ok-value.ensures _ c.in_ok-watched.ensures _ c.in_ok-seen.ensures _ wrong.0 wrong.1)
+
+pub keeping_output-returns-in_err-inner : goal.keeping_output-returns-in_err-inner
+keeping_output-returns-in_err-inner t c = memory_answers _ _ c.args.term _ _ c.from_residual-in_err-inner.ensures.1
+
+pub keeping_output-returns-in_err-same_input : goal.keeping_output-returns-in_err-same_input
+keeping_output-returns-in_err-same_input t c = memory_answers _ _ c.args.term _ _ c.from_residual-in_err-same_input.ensures.1
+
+pub keeping_output-returns : goal.keeping_output-returns
+keeping_output-returns t c =
+    let p = c.args.context.now.program.now in
+    let inner = c.in_ok-inner.ensures in
+    keeping_answers p _ c.args.term _ _ c.spot-spot.ensures _ _ _ _ _ _ _ c.requires.there _ c.in_ok-clone_in.ensures.same _ c.in_ok-value.ensures _ c.in_ok-watched.ensures _ c.in_ok-seen.ensures _ _ _
+    c.in_ok-payload.ensures.ok c.in_ok-same_input.ensures.same c.requires.fits (body_under _ p _ _ _ _ _ _ _ _ _ inner.program inner.context c.body_output.ensures)
+
+pub output_of-returns-in-Run : goal.output_of-returns-in-Run
+output_of-returns-in-Run t c = c.process_output.ensures

@@ -21,6 +21,9 @@ decreases-initialized_output l = 3 * term_number l.term + 1
 abbrev pub decreases-switching_output : goal.decreases-switching_output
 decreases-switching_output l = 3 * term_number l.term + 1
 
--- what a switch's body is typed by stands between the switch and the body
+abbrev pub decreases-keeping_output : goal.decreases-keeping_output
+decreases-keeping_output l = 3 * term_number l.term + 1
+
+-- what a body is typed by stands between the form and the body
 abbrev pub decreases-body_output : goal.decreases-body_output
-decreases-body_output l = 3 * term_number l.term
+decreases-body_output l = 3 * term_number l.body + 3

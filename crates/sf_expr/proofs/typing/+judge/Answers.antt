@@ -1,16 +1,14 @@
-use Rattle.std.proofs.Common.{◌≡◌, Option, ◌∙◌, sym, ap, subst, Some}
+use Rattle.std.proofs.Common.{◌≡◌, Option, ◌∙◌, sym, ap, subst}
 use Rattle.sf_value.specs.Values.{Name, Kind}
-use Rattle.sf_refusal.specs.declared.rule.Rule.TheVariants.{UnknownName}
-use Rattle.sf_refusal.proofs.Explained.{breaks_at}
 use Rattle.sf_expr.specs.Arena.{expression, name_at}
-use Rattle.sf_expr.specs.Typing.{HasType, type_of_name, with_types}
+use Rattle.sf_expr.specs.Typing.{HasType, named_in, with_types}
 use Rattle.sf_expr.specs.Scopes.{names_of}
-use Rattle.sf_expr.specs.Refusals.{unknown_name}
-use Rattle.sf_expr.proofs.Judged.{unit_typed, truth_typed, constant_judged, first_judged, second_judged, left_judged, right_judged, int_typed, name_typed, pair_judged, memory_judged, operation_judged, part_judged, applied_judged, condition_judged, then_judged, else_judged, conditional_judged, mapped_first_judged, mapped_argument_judged, mapped_part_judged, mapped_judged, folded_first_judged, folded_second_judged, folded_argument_judged, folded_part_judged, folded_judged, pattern_judged, part_body_judged, called_part_judged, called_judged}
+use Rattle.sf_expr.proofs.Judged.{unit_typed, truth_typed, constant_judged, first_judged, second_judged, left_judged, right_judged, int_typed, name_judged, pair_judged, operation_judged, part_judged, applied_judged, condition_judged, then_judged, else_judged, conditional_judged, mapped_first_judged, mapped_argument_judged, mapped_part_judged, mapped_judged, folded_first_judged, folded_second_judged, folded_argument_judged, folded_part_judged, folded_judged, pattern_judged, part_body_judged, called_part_judged, called_judged}
 use Rattle.sf_func.specs.Registries.{FunctionTypes, types_named}
 use Rattle.sf_func.specs.Signatures.{signatures_in}
-use Rattle.sf_expr.specs.Refusals.{AnswersCall}
-use Rattle.sf_expr.proofs.Bound.{type_with, functions_with, binds_with}
+use Rattle.sf_expr.specs.Refusals.{AnswersCall, AnswersName}
+use Rattle.sf_expr.proofs.Bound.{functions_with, binds_with}
+use Rattle.sf_expr.proofs.Naming.{named_with}
 use Rattle.sf_expr.proofs.typing.+judge.Goals as goal
 
 pub judge-returns-in-Int : goal.judge-returns-in-Int
@@ -35,24 +33,17 @@ pub judge-returns-in-Constant : goal.judge-returns-in-Constant
 judge-returns-in-Constant t c =
     constant_judged c.args.exprs.now _ c.args.id c.in-Constant.constant _ _ _ (sym c.in-Constant.ensures.value) c.constant_at.ensures c.constant_type.ensures.valued c.spot.ensures c.constant_type.ensures.answers
 
-pub judge-returns-in_ok-clone_in-in-Some : goal.judge-returns-in_ok-clone_in-in-Some
-judge-returns-in_ok-clone_in-in-Some t c =
-    let x = c.args.exprs.now in
-    let R = with_types (signatures_in c.args.functions.now) (names_of c.args.names.now) in
-    let found : type_of_name c.name_of.result.now R ≡ Some c.in-Some.ty.now = type_with _ _ (names_of c.args.names.now) ∙ c.in-Some.ensures.found in
-    subst (λ (u : Kind). HasType R (expression x c.args.id) u) (sym c.in_ok-clone_in-in-Some.ensures.same)
-    (name_typed x R c.args.id c.in-Name.name c.in-Some.ty.now c.in-Name.ensures.builds (ap (λ (y : Name). type_of_name y R) (sym c.name_of.ensures) ∙ found) c.in-Some.ensures.fits)
-
-pub judge-returns-in-None : goal.judge-returns-in-None
-judge-returns-in-None t c =
-    let x = c.args.exprs.now in
-    let R = with_types (signatures_in c.args.functions.now) (names_of c.args.names.now) in
-    breaks_at UnknownName c.broken.ensures c.spot-in-None.ensures
-    (unknown_name (sym c.in-Name.ensures.value) (ap (λ (y : Name). type_of_name y R) (sym c.name_of.ensures) ∙ type_with _ _ (names_of c.args.names.now) ∙ c.in-None.ensures.absent))
+pub judge-returns-in-Name : goal.judge-returns-in-Name
+judge-returns-in-Name t c =
+    let R = names_of c.args.names.now in
+    let found : named_in c.name_of.result.now R ≡ named_in (name_at c.args.exprs.now c.in-Name.name) (with_types (signatures_in c.args.functions.now) R) =
+    ap (λ (y : Name). named_in y R) c.name_of.ensures ∙ sym (named_with _ _ R) in
+    name_judged c.args.exprs.now _ c.args.id c.in-Name.name c.spot-in-Name.result _ (sym c.in-Name.ensures.value) c.spot-in-Name.ensures
+    (subst (λ (o : Option (Option Kind)). AnswersName o c.spot-in-Name.result c.name_type.result) found c.name_type.ensures)
 
 pub judge-returns-in_err-first-in-Pair : goal.judge-returns-in_err-first-in-Pair
 judge-returns-in_err-first-in-Pair t c =
-    first_judged c.args.exprs.now _ c.args.id c.in-Pair.first c.in-Pair.second _ c.in_err-first-in-Pair.field-0.0 (sym c.in-Pair.ensures.value) c.from_residual-in_err-first-in-Pair.ensures.1 c.in_err-first-in-Pair.ensures
+    first_judged c.args.exprs.now _ c.args.id c.in-Pair.first c.in-Pair.second _ c.in_err-first-in-Pair.field-0.0 (sym c.in-Pair.ensures.value) c.from_residual.ensures.1 c.in_err-first-in-Pair.ensures
 
 pub judge-returns-in_err-second-in-Pair : goal.judge-returns-in_err-second-in-Pair
 judge-returns-in_err-second-in-Pair t c =
@@ -97,9 +88,6 @@ judge-returns-in_err-second-in-Conditional t c =
 pub judge-returns-in_ok-second-in-Conditional : goal.judge-returns-in_ok-second-in-Conditional
 judge-returns-in_ok-second-in-Conditional t c =
     conditional_judged c.args.exprs.now _ c.args.id c.in-Conditional.condition c.in-Conditional.first c.in-Conditional.second _ _ _ _ _ (sym c.in-Conditional.ensures.value) c.in_ok-condition-in-Conditional.ensures c.in_ok-first-in-Conditional.ensures c.in_ok-second-in-Conditional.ensures c.spot-in-Conditional.ensures c.conditional_type.ensures
-
-pub judge-returns-in_err-clone_in-in-Some : goal.judge-returns-in_err-clone_in-in-Some
-judge-returns-in_err-clone_in-in-Some t c = memory_judged c.args.exprs.now _ c.args.id _ c.from_residual.ensures.1
 
 pub judge-returns-in_err-part-in-Mapped : goal.judge-returns-in_err-part-in-Mapped
 judge-returns-in_err-part-in-Mapped t c =

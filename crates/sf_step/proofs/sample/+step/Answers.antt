@@ -4,14 +4,19 @@ use Rattle.std.proofs.lemmas.List.{with_items_is}
 use Rattle.sf_state.specs.declared.state.Wrap.TheVariants.{Loop, Initialized}
 use Rattle.sf_term.specs.declared.form.Join.TheVariants.{InParallel, FannedOut}
 use Rattle.sf_value.specs.Values.{first_of, second_of}
-use Rattle.sf_mean.specs.Lives.{step, closure}
+use Rattle.sf_mean.specs.Lives.{step, closure, Life, Process}
+use Rattle.sf_state.specs.declared.state.Frozen.{Frozen}
+use Rattle.sf_state.specs.Standing.{Stands, kept_state}
 use Rattle.sf_mean.specs.Meaning.{switched_value}
 use Rattle.sf_step.specs.Meters.{fault_of}
+use Rattle.sf_step.specs.Sampling.{fails, left_or, StateSteps}
 use Rattle.sf_step.proofs.Parts.{pass_exit, failed, memory_exit}
 use Rattle.sf_step.proofs.Recurring.{run_fails, run_memory, new_fails, new_runs, runs_alone}
-use Rattle.sf_step.proofs.Switches.{comes_some, comes_none, source_fails, switch_memory, switch_waits_on, body_fails, body_takes_over, late_part, pass_beside, start_takes, start_waits, watching_goes, watching_stays, watching_fails}
+use Rattle.sf_step.proofs.Switches.{comes_some, comes_none, source_fails, switch_memory, switch_waits_on, body_fails, body_takes_over}
+use Rattle.sf_step.proofs.Keeping.{kept_fails, kept_memory, observer_fails, observer_memory, keeps_on, kept_body_fails, kept_body_takes_over, some_occurs, none_occurs}
+use Rattle.sf_step.proofs.Turning.{frozen_steps, late_part, pass_beside, starts_over, start_takes, start_waits, start_keeps, watch_steps, watching_goes, watching_stays, watching_fails, keeping_goes, keeping_stays, keeping_fails}
 use Rattle.sf_step.proofs.Stages.{StagesStep, continues_first, continues_next, continues_fails, continues_last, pipeline_steps, pipeline_fails}
-use Rattle.sf_step.proofs.Exits.{ticked_by, tick_fails, first_memory, join_left_fails, join_right_fails, join_steps, other_join, wrap_fails, wrap_steps, early_memory, late_memory, state_steps, start_steps, start_fails, start_switches, start_open_fails}
+use Rattle.sf_step.proofs.Exits.{ticked_by, tick_fails, first_memory, join_left_fails, join_right_fails, join_steps, other_join, wrap_fails, wrap_steps, early_memory, late_memory, state_steps, start_steps, start_fails, start_switches, start_keepings, start_runs, start_open_fails}
 use Rattle.sf_step.proofs.sample.+step.Goals as goal
 
 -- ## step_state
@@ -368,3 +373,111 @@ pub step_wrap-returns-in_ok-step_state-in-Initialized-clause-answers : goal.step
 step_wrap-returns-in_ok-step_state-in-Initialized-clause-answers g t c =
     wrap_steps (g.R.Holds.answers c.args.context.now.functions.now) c.args.context.now.plan.now c.args.wrap.now c.args.part.now c.args.meter.now c.step_state-in-Initialized.new.meter c.args.inside c.args.context.now.dt c.args.value.now _ (rw c.in-Initialized.is refl)
     c.step_state-in-Initialized.new.state (Initialized c.put_first.new.first) c.step_state-in-Initialized.new.value c.put_first.new.value (rw c.in-Initialized.is (ap Initialized c.put_first.ensures.first)) (rw c.in-Initialized.is c.put_first.ensures.value) c.in_ok-step_state-in-Initialized.ensures.answers
+
+-- ## A switch that keeps its source, and a frozen state
+
+pub step_state-returns-in_err-kept-in-Keeping-clause-answers : goal.step_state-returns-in_err-kept-in-Keeping-clause-answers
+step_state-returns-in_err-kept-in-Keeping-clause-answers g t c = λ P L A.
+    pass_exit _ _ c.from_residual-in_err-kept-in-Keeping.ensures.0 (failed (keeping_fails (g.R.Holds.answers c.args.context.now.functions.now) c.args.context.now.plan.now _ c.in-Keeping.names c.in-Keeping.node.value (step c.args.context.now.dt c.args.value.now) c.args.meter.now c.step_kept.new.meter c.args.depth
+    _ c.in_err-kept-in-Keeping.ensures.answers P L (rw c.in-Keeping.is at A)))
+
+pub step_state-returns-in-Some-kept-clause-answers : goal.step_state-returns-in-Some-kept-clause-answers
+step_state-returns-in-Some-kept-clause-answers g t c = λ P L A.
+    keeping_goes (g.R.Holds.answers c.args.context.now.functions.now) c.args.context.now.plan.now _ c.in-Keeping.names c.in-Keeping.node.value (step c.args.context.now.dt c.args.value.now) c.args.meter.now c.step_kept.new.meter c.args.depth
+    c.in_ok-kept-in-Keeping.kept c.in-Some-kept.body c.step_kept.new.node.value c.step_kept.new.value c.in-Some-kept.is c.in_ok-kept-in-Keeping.ensures.answers P L (rw c.in-Keeping.is at A)
+
+pub step_state-returns-in-None-kept-clause-answers : goal.step_state-returns-in-None-kept-clause-answers
+step_state-returns-in-None-kept-clause-answers g t c = λ P L A.
+    keeping_stays (g.R.Holds.answers c.args.context.now.functions.now) c.args.context.now.plan.now _ c.in-Keeping.names c.in-Keeping.node.value (step c.args.context.now.dt c.args.value.now) c.args.meter.now c.step_kept.new.meter c.args.depth
+    _ c.in_ok-kept-in-Keeping.kept c.step_kept.new.node.value c.step_kept.new.value c.in-None-kept.is c.in_ok-kept-in-Keeping.ensures.answers P L (rw c.in-Keeping.is at A)
+
+pub step_state-returns-in_default-wake-clause-answers : goal.step_state-returns-in_default-wake-clause-answers
+step_state-returns-in_default-wake-clause-answers g t c = first_memory (g.R.Holds.answers c.args.context.now.functions.now) c.args.context.now.plan.now c.stop-in_default-wake.ensures.entered c.stop-in_default-wake.ensures.height c.stop-in_default-wake.ensures.fault
+
+pub step_state-returns-in-Ok-wake-clause-answers : goal.step_state-returns-in-Ok-wake-clause-answers
+step_state-returns-in-Ok-wake-clause-answers g t c = λ P L A.
+    let r = left_or c.step_state.result (c.step_state.new.state, c.step_state.new.value) (fault_of c.step_state.new.meter) in
+    frozen_steps (g.R.Holds.answers c.args.context.now.functions.now) c.args.context.now.plan.now _ c.in-Frozen.frozen.value.wait c.in-Frozen.frozen.value.names c.in-Frozen.frozen.value.node c.in-Ok-wake.awake c.args.context.now.dt c.args.value.now r c.args.meter.now c.step_state.new.meter c.args.depth
+    (subst (λ (f : Frozen). (P : Process) (L : Life) → Stands (g.R.Holds.answers c.args.context.now.functions.now) c.args.context.now.plan.now (kept_state f.names f.node) P L → Stands (g.R.Holds.answers c.args.context.now.functions.now) c.args.context.now.plan.now c.in-Ok-wake.awake P L)
+    c.deref-in-Frozen.ensures (c.in-Ok-wake.ensures.stands (g.R.Holds.answers c.args.context.now.functions.now) c.args.context.now.plan.now))
+    (subst (λ (f : Frozen). StateSteps (g.R.Holds.answers c.args.context.now.functions.now) c.args.context.now.plan.now c.in-Ok-wake.awake (step f.wait c.args.value.now) r c.args.meter.now c.step_state.new.meter c.args.depth)
+    c.deref.ensures c.step_state.ensures.answers) P L (rw c.in-Frozen.is at A)
+
+pub start-returns-in-Ok-Keeping-clause-answers : goal.start-returns-in-Ok-Keeping-clause-answers
+start-returns-in-Ok-Keeping-clause-answers g t c =
+    start_keepings (g.R.Holds.answers c.args.context.now.functions.now) c.args.context.now.plan.now c.args.term c.args.names c.args.context.now.dt c.args.value.now (ticked_by c.in_ok-inside.ensures.ticked) c.in-Ok-Keeping.keeping _ (rw c.in-Ok-Keeping.field-0-is at c.in-Ok-Keeping.ensures) c.start_keeping.ensures.answers
+
+pub start-returns-in-Ok-Running-clause-answers : goal.start-returns-in-Ok-Running-clause-answers
+start-returns-in-Ok-Running-clause-answers g t c =
+    start_runs (g.R.Holds.answers c.args.context.now.functions.now) c.args.context.now.plan.now c.args.term c.args.names c.args.context.now.dt c.args.value.now (ticked_by c.in_ok-inside.ensures.ticked) c.in-Ok-Running.process _ (rw c.in-Ok-Running.field-0-is at c.in-Ok-Running.ensures) c.step_state.ensures.answers
+
+pub start_keeping-returns-in_err-over-clause-answers : goal.start_keeping-returns-in_err-over-clause-answers
+start_keeping-returns-in_err-over-clause-answers g t c = λ m depth t T e N W. pass_exit _ _ c.from_residual.ensures.0 (failed (c.in_err-over.ensures.answers m depth t T e [] N W))
+
+pub start_keeping-returns-in_default-clause-answers : goal.start_keeping-returns-in_default-clause-answers
+start_keeping-returns-in_default-clause-answers g t c = λ m depth t T e N W. late_part (g.R.Holds.answers c.args.context.now.functions.now) c.args.context.now.plan.now (c.in_ok-over.ensures.answers m depth t T e [] N W) c.stop.ensures.entered c.stop.ensures.height c.stop.ensures.fault
+
+pub start_keeping-returns-in-Some-clause-answers : goal.start_keeping-returns-in-Some-clause-answers
+start_keeping-returns-in-Some-clause-answers g t c =
+    starts_over (g.R.Holds.answers c.args.context.now.functions.now) c.args.context.now.plan.now _ c.args.keeping c.args.names (step c.args.context.now.dt c.args.value.now) c.args.meter.now c.step_keeping.new.meter c.args.inside c.in_ok-over.over c.step_keeping.new.keeping c.in-Some.body c.step_keeping.new.value
+    c.in-Some.is c.in_ok-over.ensures.answers
+
+pub start_keeping-returns-in-Ok-clause-answers : goal.start_keeping-returns-in-Ok-clause-answers
+start_keeping-returns-in-Ok-clause-answers g t c =
+    start_keeps (g.R.Holds.answers c.args.context.now.functions.now) c.args.context.now.plan.now _ c.args.keeping c.args.names (step c.args.context.now.dt c.args.value.now) c.args.meter.now c.step_keeping.new.meter c.args.inside c.in_ok-over.over c.step_keeping.new.keeping c.in-Ok.node.value c.step_keeping.new.value
+    c.in-None.is c.in-Ok.ensures.ok c.in_ok-over.ensures.answers
+
+pub step_kept-returns-in_err-inside-clause-answers : goal.step_kept-returns-in_err-inside-clause-answers
+step_kept-returns-in_err-inside-clause-answers g t c = λ T e L N W. pass_beside (g.R.Holds.answers c.args.context.now.functions.now) c.args.context.now.plan.now _ _ _ c.from_residual.ensures.0 (tick_fails (g.R.Holds.answers c.args.context.now.functions.now) c.args.context.now.plan.now (closure T e) _ c.in_err-inside.ensures.ticked)
+
+pub step_kept-returns-in_default-clause-answers : goal.step_kept-returns-in_default-clause-answers
+step_kept-returns-in_default-clause-answers g t c = λ T e L N W. early_memory (g.R.Holds.answers c.args.context.now.functions.now) c.args.context.now.plan.now (ticked_by c.in_ok-inside.ensures.ticked) c.stop.ensures.entered c.stop.ensures.height c.stop.ensures.fault
+
+pub step_kept-returns-in-None-clause-answers : goal.step_kept-returns-in-None-clause-answers
+step_kept-returns-in-None-clause-answers g t c = λ T e L N W. early_memory (g.R.Holds.answers c.args.context.now.functions.now) c.args.context.now.plan.now (ticked_by c.in_ok-inside.ensures.ticked) c.stop-in-None.ensures.entered c.stop-in-None.ensures.height c.stop-in-None.ensures.fault
+
+pub step_keeping-returns-in_default-clause-answers : goal.step_keeping-returns-in_default-clause-answers
+step_keeping-returns-in_default-clause-answers g t c = λ m depth t T e L N W. early_memory (g.R.Holds.answers c.args.context.now.functions.now) c.args.context.now.plan.now t c.stop.ensures.entered c.stop.ensures.height c.stop.ensures.fault
+
+pub step_keeping-returns-in_err-step_state-clause-answers : goal.step_keeping-returns-in_err-step_state-clause-answers
+step_keeping-returns-in_err-step_state-clause-answers g t c = λ m depth t T e L N W.
+    pass_beside (g.R.Holds.answers c.args.context.now.functions.now) c.args.context.now.plan.now _ _ _ c.from_residual.ensures.0 (kept_fails (g.R.Holds.answers c.args.context.now.functions.now) c.args.context.now.plan.now c.args.names.now c.args.keeping.now c.args.context.now.dt c.args.value.now c.args.meter.now c.step_state.new.meter c.args.inside
+    _ c.in_err-step_state.ensures.answers m depth t T e L N W)
+
+pub step_keeping-returns-in_default-beside-clause-answers : goal.step_keeping-returns-in_default-beside-clause-answers
+step_keeping-returns-in_default-beside-clause-answers g t c = λ m depth t T e L N W.
+    memory_exit c.stop-in_default-beside.ensures.fault (kept_memory (g.R.Holds.answers c.args.context.now.functions.now) c.args.context.now.plan.now c.args.names.now c.args.keeping.now c.args.context.now.dt c.args.value.now c.args.meter.now c.step_state.new.meter c.args.inside
+    c.step_state.new.state c.step_state.new.value c.in_ok-step_state.ensures.answers _ c.stop-in_default-beside.ensures.entered c.stop-in_default-beside.ensures.height m depth t T e L N W)
+
+pub step_keeping-returns-in_err-step_state-2-clause-answers : goal.step_keeping-returns-in_err-step_state-2-clause-answers
+step_keeping-returns-in_err-step_state-2-clause-answers g t c = λ m depth t T e L N W.
+    pass_beside (g.R.Holds.answers c.args.context.now.functions.now) c.args.context.now.plan.now _ _ _ c.from_residual-in_err-step_state-2.ensures.0 (observer_fails (g.R.Holds.answers c.args.context.now.functions.now) c.args.context.now.plan.now c.args.names.now c.args.keeping.now c.args.context.now.dt c.args.value.now c.args.meter.now c.step_state.new.meter c.args.inside
+    c.step_state.new.state c.step_state.new.value c.in_ok-step_state.ensures.answers c.in-Ok-beside.seen (rw c.in-Ok.ensures.input at c.in-Ok-beside.ensures) c.step_state-2.new.meter
+    _ c.in_err-step_state-2.ensures.answers m depth t T e L N W)
+
+pub step_keeping-returns-in-None-clause-answers : goal.step_keeping-returns-in-None-clause-answers
+step_keeping-returns-in-None-clause-answers g t c =
+    keeps_on (g.R.Holds.answers c.args.context.now.functions.now) c.args.context.now.plan.now c.args.names.now c.args.keeping.now c.args.context.now.dt c.args.value.now c.args.meter.now c.step_state.new.meter c.args.inside
+    c.step_state.new.state c.step_state.new.value c.in_ok-step_state.ensures.answers c.in-Ok-beside.seen (rw c.in-Ok.ensures.input at c.in-Ok-beside.ensures) c.step_state-2.new.meter
+    c.step_state-2.new.state c.step_state-2.new.value c.in_ok-step_state-2.ensures.answers (none_occurs _ c.payload_of.result c.step_state-2.new.value c.payload_of.ensures c.in-None.is) _ refl
+
+pub step_keeping-returns-in_default-begin-clause-answers : goal.step_keeping-returns-in_default-begin-clause-answers
+step_keeping-returns-in_default-begin-clause-answers g t c = λ m depth t T e L N W.
+    memory_exit c.stop-in_default-begin.ensures.fault (observer_memory (g.R.Holds.answers c.args.context.now.functions.now) c.args.context.now.plan.now c.args.names.now c.args.keeping.now c.args.context.now.dt c.args.value.now c.args.meter.now c.step_state.new.meter c.args.inside
+    c.step_state.new.state c.step_state.new.value c.in_ok-step_state.ensures.answers c.in-Ok-beside.seen (rw c.in-Ok.ensures.input at c.in-Ok-beside.ensures) c.step_state-2.new.meter
+    c.step_state-2.new.state c.step_state-2.new.value c.in_ok-step_state-2.ensures.answers _ c.stop-in_default-begin.ensures.entered c.stop-in_default-begin.ensures.height m depth t T e L N W)
+
+pub step_keeping-returns-in_err-step_state-in-Some-clause-answers : goal.step_keeping-returns-in_err-step_state-in-Some-clause-answers
+step_keeping-returns-in_err-step_state-in-Some-clause-answers g t c = λ m depth t T e L N W.
+    pass_beside (g.R.Holds.answers c.args.context.now.functions.now) c.args.context.now.plan.now _ _ _ c.from_residual-in_err-step_state-in-Some.ensures.0 (kept_body_fails (g.R.Holds.answers c.args.context.now.functions.now) c.args.context.now.plan.now c.args.names.now c.args.keeping.now c.args.context.now.dt c.args.value.now c.args.meter.now c.step_state.new.meter c.args.inside
+    c.step_state.new.state c.step_state.new.value c.in_ok-step_state.ensures.answers c.in-Ok-beside.seen (rw c.in-Ok.ensures.input at c.in-Ok-beside.ensures) c.step_state-2.new.meter
+    c.step_state-2.new.state c.step_state-2.new.value c.in_ok-step_state-2.ensures.answers c.in-Some.payload.value (some_occurs _ c.payload_of.result c.in-Some.payload c.step_state-2.new.value c.payload_of.ensures c.in-Some.is)
+    c.in-Ok.before.frozen c.in-Ok-begin.successor (c.in-Ok.ensures.frozen (g.R.Holds.answers c.args.context.now.functions.now) c.args.context.now.plan.now) (c.in-Ok-begin.ensures (g.R.Holds.answers c.args.context.now.functions.now) c.args.context.now.plan.now) c.in-Ok.before.output c.in-Ok.ensures.output c.step_state-in-Some.new.meter _ c.in_err-step_state-in-Some.ensures.answers m depth t T e L N W)
+
+pub step_keeping-returns-in_ok-step_state-in-Some-clause-answers : goal.step_keeping-returns-in_ok-step_state-in-Some-clause-answers
+step_keeping-returns-in_ok-step_state-in-Some-clause-answers g t c =
+    kept_body_takes_over (g.R.Holds.answers c.args.context.now.functions.now) c.args.context.now.plan.now c.args.names.now c.args.keeping.now c.args.context.now.dt c.args.value.now c.args.meter.now c.step_state.new.meter c.args.inside
+    c.step_state.new.state c.step_state.new.value c.in_ok-step_state.ensures.answers c.in-Ok-beside.seen (rw c.in-Ok.ensures.input at c.in-Ok-beside.ensures) c.step_state-2.new.meter
+    c.step_state-2.new.state c.step_state-2.new.value c.in_ok-step_state-2.ensures.answers c.in-Some.payload.value (some_occurs _ c.payload_of.result c.in-Some.payload c.step_state-2.new.value c.payload_of.ensures c.in-Some.is)
+    c.in-Ok.before.frozen c.in-Ok-begin.successor (c.in-Ok.ensures.frozen (g.R.Holds.answers c.args.context.now.functions.now) c.args.context.now.plan.now) (c.in-Ok-begin.ensures (g.R.Holds.answers c.args.context.now.functions.now) c.args.context.now.plan.now) c.in-Ok.before.output c.in-Ok.ensures.output c.step_state-in-Some.new.meter
+    c.step_state-in-Some.new.state c.step_state-in-Some.new.value _ (c.switched.ensures ∙ ap (λ d. switched_value c.args.keeping.now.shown d c.step_state-in-Some.new.value) c.replace-old.ensures.value) _ c.in_ok-step_state-in-Some.ensures.answers

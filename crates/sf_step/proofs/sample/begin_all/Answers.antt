@@ -10,7 +10,7 @@ loop-stage-init c = λ φ p e N. subst (λ bs. AllBegin φ p e [] bs) (sym c.in_
 pub loop-stage-preserved : goal.loop-stage-preserved
 loop-stage-preserved c = λ φ p e N.
     begin_next φ p c.args.stages.now c.loop-stage.stage-index c.in_ok-around.around c.loop-stage.begun.items c.push.new.self.items e _
-    (c.loop-stage.invariant φ p e N) c.loop-stage-test.true (c.in_ok-around.ensures p e N) c.in_ok-push.ensures.items
+    (c.loop-stage.invariant φ p e N) c.loop-stage-test.true (c.in_ok-around.ensures φ p e N) c.in_ok-push.ensures.items
 
 pub returns : goal.returns
 returns c = λ φ p e N.

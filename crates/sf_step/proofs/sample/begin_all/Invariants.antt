@@ -7,4 +7,4 @@ use Rattle.sf_step.specs.Sampling.{AllBegin}
 use Rattle.sf_step.proofs.sample.begin_all.Given as goal
 
 abbrev pub invariant-loop-stage : goal.invariant-loop-stage
-invariant-loop-stage l = (φ : AnswersByName) (p : Plan) (e : Environment) → IsNames p l.names e → AllBegin φ p e (take l.stage-index l.stages) l.begun.items
+invariant-loop-stage l = (φ : AnswersByName) (p : Plan) (e : Environment) → IsNames φ p l.names e → AllBegin φ p e (take l.stage-index l.stages) l.begun.items

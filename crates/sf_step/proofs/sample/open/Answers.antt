@@ -1,6 +1,6 @@
 use Rattle.std.proofs.Common.{subst}
 use Rattle.sf_step.specs.Sampling.{AllBegin}
-use Rattle.sf_step.proofs.Exits.{open_exit, open_prim, open_prim_fails, open_joined, open_sided, open_headed, open_headed_fails, open_switch}
+use Rattle.sf_step.proofs.Exits.{open_exit, open_prim, open_prim_fails, open_joined, open_sided, open_headed, open_headed_fails, open_switch, open_keeping, open_run}
 use Rattle.sf_step.proofs.Stages.{open_staged}
 use Rattle.sf_step.proofs.sample.open.Goals as goal
 
@@ -38,7 +38,7 @@ returns-in_err-shared-in-Switching g c = λ e N. open_exit (g.R.Holds.answers c.
 pub returns-in_ok-shared-in-Switching : goal.returns-in_ok-shared-in-Switching
 returns-in_ok-shared-in-Switching g c =
     open_switch (g.R.Holds.answers c.args.context.now.functions.now) c.args.context.now.plan.now c.in-Switching.form c.in-Switching.first c.in-Switching.body c.in-Switching.pattern _ c.args.names.now c.in_ok-shared-in-Switching.shared
-    (rw c.in-Switching.is at c.node.ensures.builds) (c.in_ok-shared-in-Switching.ensures c.args.context.now.plan.now)
+    (rw c.in-Switching.is at c.node.ensures.builds) (c.in_ok-shared-in-Switching.ensures (g.R.Holds.answers c.args.context.now.functions.now) c.args.context.now.plan.now)
 
 pub returns-in_err-begun-in-Pipeline : goal.returns-in_err-begun-in-Pipeline
 returns-in_err-begun-in-Pipeline g c = λ e N. open_exit (g.R.Holds.answers c.args.context.now.functions.now) c.args.context.now.plan.now _ e _ c.from_residual-in_err-begun-in-Pipeline.ensures.1
@@ -48,3 +48,21 @@ returns-in_ok-begun-in-Pipeline g c = λ e N.
     let v = c.in-Pipeline.stages in
     let w = c.in_ok-begun-in-Pipeline.begun in
     open_staged (g.R.Holds.answers c.args.context.now.functions.now) c.args.context.now.plan.now v _ w e (rw c.in-Pipeline.is at c.node.ensures.builds) (subst (λ ids. AllBegin (g.R.Holds.answers c.args.context.now.functions.now) c.args.context.now.plan.now e ids w.items) c.deref.ensures.value (c.in_ok-begun-in-Pipeline.ensures (g.R.Holds.answers c.args.context.now.functions.now) c.args.context.now.plan.now e N))
+
+pub returns-in_err-one-in-Keeping : goal.returns-in_err-one-in-Keeping
+returns-in_err-one-in-Keeping g c = λ e N. open_exit (g.R.Holds.answers c.args.context.now.functions.now) c.args.context.now.plan.now _ e _ c.from_residual-in_err-one-in-Keeping.ensures.1
+
+pub returns-in_err-two-in-Keeping : goal.returns-in_err-two-in-Keeping
+returns-in_err-two-in-Keeping g c = λ e N. open_exit (g.R.Holds.answers c.args.context.now.functions.now) c.args.context.now.plan.now _ e _ c.from_residual-in_err-two-in-Keeping.ensures.1
+
+pub returns-in_ok-two-in-Keeping : goal.returns-in_ok-two-in-Keeping
+returns-in_ok-two-in-Keeping g c =
+    open_keeping (g.R.Holds.answers c.args.context.now.functions.now) c.args.context.now.plan.now c.in-Keeping.shown c.in-Keeping.source c.in-Keeping.observer c.in-Keeping.body c.in-Keeping.name c.in-Keeping.pattern _ c.args.names.now c.in_ok-one-in-Keeping.one c.in_ok-two-in-Keeping.two
+    (rw c.in-Keeping.is at c.node.ensures.builds) (c.in_ok-one-in-Keeping.ensures (g.R.Holds.answers c.args.context.now.functions.now) c.args.context.now.plan.now) (c.in_ok-two-in-Keeping.ensures (g.R.Holds.answers c.args.context.now.functions.now) c.args.context.now.plan.now)
+
+pub returns-in_err-process-in-Run : goal.returns-in_err-process-in-Run
+returns-in_err-process-in-Run g c = λ e N. open_exit (g.R.Holds.answers c.args.context.now.functions.now) c.args.context.now.plan.now _ e _ c.from_residual-in_err-process-in-Run.ensures.1
+
+pub returns-in_ok-process-in-Run : goal.returns-in_ok-process-in-Run
+returns-in_ok-process-in-Run g c =
+    open_run (g.R.Holds.answers c.args.context.now.functions.now) c.args.context.now.plan.now c.in-Run.name _ c.args.names.now c.in_ok-process-in-Run.process (rw c.in-Run.is at c.node.ensures.builds) (c.in_ok-process-in-Run.ensures (g.R.Holds.answers c.args.context.now.functions.now))

@@ -1,5 +1,8 @@
-use Rattle.sf_state.proofs.Scopes.{names_follow}
+use Rattle.sf_state.proofs.Scopes.{names_follow, running_follows}
 use Rattle.sf_state.proofs.env.Env.share.Goals as goal
 
 pub returns-in_ok-shared-in-Bound : goal.returns-in_ok-shared-in-Bound
-returns-in_ok-shared-in-Bound c = λ p e N. names_follow p c.in-Bound.binding.value c.in_ok-shared-in-Bound.shared.value c.in_ok-shared-in-Bound.ensures.cases e (rw c.in-Bound.is at N)
+returns-in_ok-shared-in-Bound c = λ φ p e N. names_follow φ p c.in-Bound.binding.value c.in_ok-shared-in-Bound.shared.value c.in_ok-shared-in-Bound.ensures.cases e (rw c.in-Bound.is at N)
+
+pub returns-in_ok-same-in-Running : goal.returns-in_ok-same-in-Running
+returns-in_ok-same-in-Running c = λ φ p e N. running_follows φ p c.in-Running.running.value c.in_ok-same-in-Running.same.value c.in_ok-same-in-Running.ensures.cases e (rw c.in-Running.is at N)

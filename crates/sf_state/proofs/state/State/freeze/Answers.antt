@@ -1,16 +1,32 @@
-use Rattle.sf_state.proofs.Copies.{same_follows, unborn_follows, alive_follows, same_waits, watching_follows}
+use Rattle.std.proofs.Common.{sym, subst, ⊎_elim}
+use Rattle.sf_state.proofs.Copies.{IsFresh, same_follows, alive_follows, same_waits, watching_follows, same_keeps, keeping_follows, alive_lived, watching_lived, keeping_lived, unborn_fresh, frozen_fresh, lived_frozen, fresh_frozen}
 use Rattle.sf_state.proofs.state.State.freeze.Goals as goal
 
-pub returns-in_ok-shared-in-Unborn : goal.returns-in_ok-shared-in-Unborn
-returns-in_ok-shared-in-Unborn c = λ φ p P L A.
-    unborn_follows φ p c.in-Unborn.process c.in_ok-shared-in-Unborn.shared (c.in_ok-shared-in-Unborn.ensures p) P L (rw c.in-Unborn.is at A)
+pub returns-in_ok-live-in-Live : goal.returns-in_ok-live-in-Live
+returns-in_ok-live-in-Live c =
+    let names = c.in-Live.names in
+    let old = c.in-Live.node.value in
+    let new = c.in_ok-live-in-Live.live.value in
+    rw c.in-Live.is (lived_frozen _ _ c.args.wait c.freeze_node.result (λ φ p. alive_lived φ p names old)
+    (λ φ p. alive_follows φ p names names old new (λ e N. N) (same_follows φ p old new c.in_ok-live-in-Live.ensures.cases)) c.freeze_node.ensures)
 
-pub returns-in_ok-shared-in-Live : goal.returns-in_ok-shared-in-Live
-returns-in_ok-shared-in-Live c = λ φ p P L A.
-    alive_follows φ p c.in-Live.names c.in_ok-around-in-Live.around c.in-Live.node.value c.in_ok-shared-in-Live.shared.value
-    (c.in_ok-around-in-Live.ensures p) (same_follows φ p _ _ c.in_ok-shared-in-Live.ensures.cases) P L (rw c.in-Live.is at A)
+pub returns-in_ok-switch-in-Switch : goal.returns-in_ok-switch-in-Switch
+returns-in_ok-switch-in-Switch c =
+    let names = c.in-Switch.names in
+    let old = c.in-Switch.node.value in
+    let new = c.in_ok-switch-in-Switch.switch.value in
+    rw c.in-Switch.is (lived_frozen _ _ c.args.wait c.freeze_node-in-Switch.result (λ φ p. watching_lived φ p names old)
+    (λ φ p. watching_follows φ p names names old new (λ e N. N) (same_waits φ p old new c.in_ok-switch-in-Switch.ensures.cases)) c.freeze_node-in-Switch.ensures)
 
-pub returns-in_ok-watching-in-Switch : goal.returns-in_ok-watching-in-Switch
-returns-in_ok-watching-in-Switch c = λ φ p P L A.
-    watching_follows φ p c.in-Switch.names c.in_ok-kept-in-Switch.kept c.in-Switch.node.value c.in_ok-watching-in-Switch.watching.value
-    (c.in_ok-kept-in-Switch.ensures p) (same_waits φ p _ _ c.in_ok-watching-in-Switch.ensures.cases) P L (rw c.in-Switch.is at A)
+pub returns-in_ok-keeping-in-Keeping : goal.returns-in_ok-keeping-in-Keeping
+returns-in_ok-keeping-in-Keeping c =
+    let names = c.in-Keeping.names in
+    let old = c.in-Keeping.node.value in
+    let new = c.in_ok-keeping-in-Keeping.keeping.value in
+    rw c.in-Keeping.is (lived_frozen _ _ c.args.wait c.freeze_node-in-Keeping.result (λ φ p. keeping_lived φ p names old)
+    (λ φ p. keeping_follows φ p names names old new (λ e N. N) (same_keeps φ p old new c.in_ok-keeping-in-Keeping.ensures.cases)) c.freeze_node-in-Keeping.ensures)
+
+pub returns-in-Unborn : goal.returns-in-Unborn
+returns-in-Unborn c =
+    fresh_frozen c.args.self.now c.args.wait c.share.result (λ φ p. ⊎_elim (λ u. subst (λ a. IsFresh φ p a) (sym u.1) (unborn_fresh φ p u.0))
+    (λ f. subst (λ a. IsFresh φ p a) (sym f.1) (frozen_fresh φ p f.0.value.wait f.0.value.names f.0.value.node)) c.in-Unborn.is) c.share.ensures

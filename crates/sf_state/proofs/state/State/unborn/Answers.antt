@@ -1,5 +1,4 @@
-use Rattle.sf_state.specs.Names.{is_empty}
-use Rattle.sf_state.specs.Standing.{itself, unborn, is_closure}
+use Rattle.sf_state.specs.Standing.{is_empty, itself, unborn, is_closure}
 use Rattle.sf_state.proofs.state.State.unborn.Goals as goal
 
 pub returns : goal.returns

@@ -13,7 +13,7 @@ invariant_of-self c =
     let p = c.args.self.now in
     let needed = parts_needed p c.args.node c.requires in
     record {
-      arena = arena_put p.expressions (entries_of p.terms) (entries_of c.add.new.self) (record { node = c.args.node; depth = c.depth_with-depth.result; spot = c.args.spot }) c.add.result c.add.ensures.ok c.add.ensures.err p.arena needed.0 needed.1 needed.2 needed.3 needed.4 (c.depth_with-depth.ensures ∙ ap term_depth (node-made p c.args.node));
+      arena = arena_put p.expressions (entries_of p.terms) (entries_of c.add.new.self) (record { node = c.args.node; depth = c.depth_with-depth.result; spot = c.args.spot }) c.add.result c.add.ensures.ok c.add.ensures.err p.arena needed.0 needed.1 needed.2 needed.3 needed.4 needed.5 (c.depth_with-depth.ensures ∙ ap term_depth (node-made p c.args.node));
       bodies = omega (arith, p.bodies, more_put _ _ _ c.add.result c.add.ensures.ok c.add.ensures.err);
     }
 

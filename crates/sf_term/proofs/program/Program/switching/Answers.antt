@@ -30,7 +30,7 @@ returns-in-Ok-clause-deep c = switch_deep c.args.self.now _ c.add.result _ c.arg
 
 pub returns-in-Ok-clause-placed : goal.returns-in-Ok-clause-placed
 unfolding headers_of expressions_of
-returns-in-Ok-clause-placed c = term_pattern_there c.args.self.now _ _ c.add.result _ _ _ _ _ c.in-Ok.ensures.ok c.add.ensures.ok
+returns-in-Ok-clause-placed c = term_pattern_there c.args.self.now _ _ c.add.result _ _ _ _ _ c.in-Ok.ensures.ok.next c.in-Ok.ensures.ok.within c.in-Ok.ensures.ok.is c.add.ensures.ok
 
 pub returns-in-Ok-clause-err : goal.returns-in-Ok-clause-err
 unfolding headers_of

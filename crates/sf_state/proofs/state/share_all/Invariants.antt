@@ -2,7 +2,7 @@ use Rattle.std.proofs.Common.{take}
 use Rattle.sf_func.specs.Registries.{AnswersByName}
 use Rattle.sf_law.specs.declared.plan.Plan.{Plan}
 use Rattle.sf_state.specs.Standing.{AllFollow}
-use Rattle.sf_state.proofs.state.freeze_all.Given as goal
+use Rattle.sf_state.proofs.state.share_all.Given as goal
 
 abbrev pub invariant-loop-state : goal.invariant-loop-state
-invariant-loop-state l = (φ : AnswersByName) (p : Plan) → AllFollow φ p (take l.state-index l.states) l.frozen.items
+invariant-loop-state l = (φ : AnswersByName) (p : Plan) → AllFollow φ p (take l.state-index l.states) l.shared.items

@@ -1,0 +1,80 @@
+"""Finds how much stack `sfplay` needs where 1,600 nodes stand one inside another, the most that a sample may enter.
+
+    python3 bench/stack.py [--exe PATH]
+
+No text is so deep: a process is frozen at its first sample inside more and more of one form, and the next, frozen likewise, runs it.
+For each form the least limit of the stack under which the network still gives what it should is printed, beside the bytes a node; an
+ordinary Linux process has 8,192 KiB. `crates/sfplay/out` holds the program of each of the two compilers once `rt ci` has run.
+"""
+
+import argparse
+import os
+import subprocess
+import sys
+import tempfile
+
+HERE = os.path.dirname(os.path.abspath(__file__))
+DEEPEST_TEXT, MOST_NODES = 64, 1600
+# What stands before and after a part, and how many nodes and how much depth of the text that adds.
+FORMS = {
+    "-->": ("-->(0, ", ")", 1, 1),
+    ">>>, left": ("(", " >>> identity)", 1, 1),
+    ">>>, right": ("(identity >>> ", ")", 1, 1),
+    "***": ("((identity &&& identity) >>> ((identity *** ", ") >>> arr (x, _) => x))", 3, 3),
+    "&&&": ("((identity &&& ", ") >>> arr (x, _) => x)", 2, 2),
+    "loopPre, first": ("loopPre(0, first ", ")", 2, 2),
+    "switch": ("switch((", " &&& never Int), c => identity)", 2, 2),
+    "rSwitch": ("((identity &&& never Int) >>> rSwitch(", ", c => identity))", 2, 2),
+    "kSwitch": ("kSwitch(identity, (arr (x, _) => x >>> (", " >>> never Int)), q, c => identity)", 3, 3),
+}
+
+
+def network(before, after, nodes, depth):
+    """The text in which so many nodes stand one inside another, and how many they are."""
+    text, ends, high, level = "", "", 0, 0
+    while True:
+        level += 1
+        room = (DEEPEST_TEXT - 2 - level) // depth
+        fit = min(room, (MOST_NODES - (level + 1) - high) // nodes)
+        if fit < 1:
+            return f"network 1;\ntemplate main(): Int ~> Int = {text}identity{ends};\n", high + level - 1
+        part = f"run k{level - 1}" if level > 1 else "identity"
+        text += f"kSwitch({before * fit}{part}{after * fit}, now (), k{level}, _ => "
+        ends += ")"
+        high += fit * nodes + 1
+
+
+def goes(exe, path, limit):
+    words = ["sh", "-c", f'ulimit -s {limit} && exec "$0" "$1"', exe, path]
+    done = subprocess.run(words, input=b"0 5\n1 6\n", stdout=subprocess.PIPE, stderr=subprocess.DEVNULL)
+    return done.returncode == 0 and done.stdout == b"> 0 5\n> 1 6\n"
+
+
+def least(exe, path):
+    """The least limit of the stack in KiB, to 8 KiB."""
+    low, high = 0, 65536
+    while high - low > 8:
+        middle = (low + high) // 2
+        low, high = (low, middle) if goes(exe, path, middle) else (middle, high)
+    return high
+
+
+def main():
+    parser = argparse.ArgumentParser()
+    parser.add_argument("--exe", default=os.path.join(HERE, "..", "crates", "sfplay", "out", "sfplay"))
+    exe = os.path.abspath(parser.parse_args().exe)
+    if not os.path.exists(exe):
+        sys.exit(f"stack: {exe} is not there: build it with ./sfplay")
+    print(f"{'one inside another':20} {'nodes':>6} {'stack, KiB':>11} {'a node, bytes':>14}")
+    with tempfile.TemporaryDirectory() as place:
+        path = os.path.join(place, "network")
+        for name, form in FORMS.items():
+            text, high = network(*form)
+            with open(path, "w") as file:
+                file.write(text)
+            needs = least(exe, path)
+            print(f"{name:20} {high:6} {needs:11,} {needs * 1024 // high:14,}")
+
+
+if __name__ == "__main__":
+    main()

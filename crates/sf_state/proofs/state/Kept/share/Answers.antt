@@ -1,0 +1,14 @@
+use Rattle.sf_state.proofs.Copies.{same_follows, alive_follows, same_waits, watching_follows, same_keeps, keeping_follows}
+use Rattle.sf_state.proofs.state.Kept.share.Goals as goal
+
+pub returns-in_ok-live-in-Live : goal.returns-in_ok-live-in-Live
+returns-in_ok-live-in-Live c = λ φ p names P L A.
+    alive_follows φ p names names c.in-Live.node.value c.in_ok-live-in-Live.live.value (λ e N. N) (same_follows φ p _ _ c.in_ok-live-in-Live.ensures.cases) P L (rw c.in-Live.is at A)
+
+pub returns-in_ok-switch-in-Switch : goal.returns-in_ok-switch-in-Switch
+returns-in_ok-switch-in-Switch c = λ φ p names P L A.
+    watching_follows φ p names names c.in-Switch.node.value c.in_ok-switch-in-Switch.switch.value (λ e N. N) (same_waits φ p _ _ c.in_ok-switch-in-Switch.ensures.cases) P L (rw c.in-Switch.is at A)
+
+pub returns-in_ok-keeping-in-Keeping : goal.returns-in_ok-keeping-in-Keeping
+returns-in_ok-keeping-in-Keeping c = λ φ p names P L A.
+    keeping_follows φ p names names c.in-Keeping.node.value c.in_ok-keeping-in-Keeping.keeping.value (λ e N. N) (same_keeps φ p _ _ c.in_ok-keeping-in-Keeping.ensures.cases) P L (rw c.in-Keeping.is at A)

@@ -1,0 +1,246 @@
+-- What a process gives that gives way to another one, and what is left waiting by a switch.
+use Rattle.std.proofs.Common.{◌≡◌, ℕ, [], ◌∷◌, Option, Some, None, Result, Ok, Err, refl, sym, ap, ◌∙◌, subst}
+use Rattle.std.specs.Prelude.{IsErr}
+use Rattle.sf_value.specs.Values.{Name, Data}
+use Rattle.sf_value.specs.declared.fault.Fault.{Fault}
+use Rattle.sf_value.specs.declared.fault.Fault.TheVariants.{Memory}
+use Rattle.sf_func.specs.Registries.{AnswersByName}
+use Rattle.sf_expr.specs.Expressions.{Pattern}
+use Rattle.sf_term.specs.declared.form.Observation.{Observation}
+use Rattle.sf_term.specs.declared.form.Switching.TheVariants.{Basic}
+use Rattle.sf_term.specs.Trees.{Term, run, switching, keeping}
+use Rattle.sf_mean.specs.Lives.{Step, step, Life, Process, closure, resumed, Environment, process_of, after}
+use Rattle.sf_mean.specs.Meaning.{Network, Readings, Outcome, gave, Cost, over, Made, process_made, Watched, itself as watched_itself, observed, Takeover, whenever, body_of, body_with, Standing, waits, fired, Since, Gives, gives, Outputs, not_begun, and_gave, Sample, of_form, of_resumed, Form, of_run, of_switch, of_keeping, had_fired, SwitchTurn, while_waiting, as_body}
+use Rattle.sf_mean.proofs.Once.{once_since}
+use Rattle.sf_law.specs.declared.plan.Plan.{Plan}
+use Rattle.sf_law.specs.Arena.{network_of_plan}
+use Rattle.sf_state.specs.declared.state.State.{State}
+use Rattle.sf_state.specs.declared.state.State.TheVariants.{Switch' as Watching', Keeping', Frozen'}
+use Rattle.sf_state.specs.declared.state.Switch.{Switch}
+use Rattle.sf_state.specs.declared.state.Keeping.{Keeping}
+use Rattle.sf_state.specs.declared.state.Kept.{Kept}
+use Rattle.sf_state.specs.declared.env.Env.{Env}
+use Rattle.sf_state.specs.Standing.{IsNames, Turned, fired_to, kept_to, ran, went_on, Stands, itself, took_over, StandsItself, watching, keeping_on, was_frozen, kept_state, Waits, WaitsKeeping}
+use Rattle.sf_step.specs.declared.sample.Opened.TheVariants as opened
+use Rattle.sf_step.specs.declared.meter.Meter.{Meter}
+use Rattle.sf_step.specs.Meters.{entered_of, height_of}
+use Rattle.sf_step.specs.Sampling.{Rel, Ticks, Spent, StopsFor, Answers, answers, fails, Opens, opens_running, PartSteps, StateSteps, Waiting, StandsFor, WaitingSteps, WatchSteps, left_beside}
+use Rattle.sf_step.proofs.Parts.{Over, counted, Alike, over_spent, fails_alike, over_fails, spent_within, answered, failed, memory_exit}
+use Rattle.sf_step.proofs.Forms.{single_gives, gave_outputs, gives_form}
+
+not_waiting : {Q : Process} {M : Life} → waits ≡ fired Q M → ⊥
+not_waiting h = cc
+
+-- what took over from a switch, and its life
+abbrev process_at : Process → Standing → Process
+process_at P waits = P
+process_at P (fired Q M) = Q
+
+abbrev life_at : Life → Standing → Life
+life_at K waits = K
+life_at K (fired Q M) = M
+
+module _ (φ : AnswersByName) (p : Plan) where
+  abbrev net : Network
+  net = network_of_plan φ p
+
+  -- ## Once another process has taken over
+
+  from_fired : {w : Observation} {W : Watched} {B : Takeover} {s : Step} {L M : Life} {Q : Process} {st : Standing} {o : Outcome} {k : Cost} → st ≡ fired Q M → SwitchTurn net w W B s L st o k → Gives net Q (s ∷ M) o k
+  from_fired e (while_waiting G C) = absurd (not_waiting e)
+  from_fired {s = s} {o = o} {k = k} e (as_body {M = K} {Q = R} G) =
+      let N : Standing → Type 0 = λ st. Gives net (process_at R st) (s ∷ life_at K st) o k in
+      subst N e G
+
+  from_resumed : {P : Process} {h : Life} {d : ℕ} {s : Step} {L : Life} {o : Outcome} {k : Cost} → Gives net (resumed P h d) (s ∷ L) o k → Gives net P (after h d (s ∷ L)) o k
+  from_resumed (gives O (of_resumed G)) = G
+
+  from_run : {c : Name} {e : Environment} {Q : Process} {s r : Step} {L : Life} {o : Outcome} {k : Cost} → Form net (run c) e (process_made Q) s (r ∷ L) o k → Gives net Q (s ∷ r ∷ L) o k
+  from_run (of_run G) = G
+
+  from_switch : {w : Observation} {t u : Term} {q : Pattern} {e : Environment} {m : Made} {s : Step} {L M : Life} {Q : Process} {o : Outcome} {k : Cost} → Since net (watched_itself (closure t e)) (whenever (body_of q u e)) L (fired Q M)
+      → Form net (switching (Basic w) t q u) e m s L o k → Gives net Q (s ∷ M) o k
+  from_switch S (of_switch S' T) = from_fired (once_since net S' S) T
+
+  from_keeping : {w : Observation} {t r u : Term} {c : Name} {q : Pattern} {e : Environment} {m : Made} {s : Step} {L M : Life} {Q : Process} {o : Outcome} {k : Cost} → Since net (observed (closure t e) r e) (body_with c (closure t e) q u e) L (fired Q M)
+      → Form net (keeping w t r c q u) e m s L o k → Gives net Q (s ∷ M) o k
+  from_keeping S (of_keeping S' T) = from_fired (once_since net S' S) T
+
+  turned_to : {P Q : Process} {L M : Life} → Turned net P L Q M → (s : Step) (o : Outcome) (k : Cost) → Gives net Q (s ∷ M) o k → Gives net P (s ∷ L) o k
+  turned_to (fired_to S O) s o k G = gives O (of_form refl (of_switch S (as_body G)))
+  turned_to (kept_to S O) s o k G = gives O (of_form refl (of_keeping S (as_body G)))
+  turned_to (ran O) s o k G = gives O (of_form refl (of_run G))
+  turned_to (went_on O) s o k G = gives O (of_resumed G)
+
+  turned_back : {P Q : Process} {L M : Life} → Turned net P L Q M → (s : Step) (o : Outcome) (k : Cost) → Gives net P (s ∷ L) o k → Gives net Q (s ∷ M) o k
+  turned_back (fired_to {L = L} S O) s o k G = from_switch S (gives_form net s L refl G)
+  turned_back (kept_to {L = L} S O) s o k G = from_keeping S (gives_form net s L refl G)
+  turned_back (ran {s = r} {L = L} O) s o k G = from_run (gives_form net s (r ∷ L) refl G)
+  turned_back (went_on O) s o k G = from_resumed G
+
+  turned_on : {P Q : Process} {L M : Life} {s : Step} {y : Data} {r : Readings} {k : Cost} → Turned net P L Q M → Gives net P (s ∷ L) (gave y r) k → Turned net P (s ∷ L) Q (s ∷ M)
+  turned_on (fired_to S O) G = fired_to (had_fired S) (gave_outputs net O G)
+  turned_on (kept_to S O) G = kept_to (had_fired S) (gave_outputs net O G)
+  turned_on (ran O) G = ran (gave_outputs net O G)
+  turned_on (went_on O) G = went_on (gave_outputs net O G)
+
+  took_answers : {P Q : Process} {L M : Life} {s : Step} {r : Result (State × Data) Fault} {m n : Meter} {depth : ℕ} → Turned net P L Q M → PartSteps φ p Q M s r m n depth → PartSteps φ p P L s r m n depth
+  took_answers {s = s} T (answers G sp A) = let H = turned_to T s _ _ G in answers H sp (took_over (turned_on T H) A)
+  took_answers {s = s} T (fails h) = fails (fails_alike (record { to = turned_to T s; back = turned_back T s }) h)
+
+  -- a state steps for all that it stands for where it does for what it stands for itself
+  pub lift_steps : (a : State) (s : Step) (r : Result (State × Data) Fault) (m n : Meter) (depth : ℕ)
+      → ((P : Process) (L : Life) → StandsItself φ p a P L → PartSteps φ p P L s r m n depth) → StateSteps φ p a s r m n depth
+  lift_steps a s r m n depth f P L (itself A) = f P L A
+  lift_steps a s r m n depth f P L (took_over T A) = took_answers T (lift_steps a s r m n depth f _ _ A)
+
+  -- ## What was frozen goes on
+
+  gone_on : {Q : Process} {r0 : Step} {h : Life} {d w : ℕ} {x : Data} {r : Result (State × Data) Fault} {m n : Meter} {depth : ℕ} → PartSteps φ p Q (r0 ∷ h) (step d x) r m n depth → PartSteps φ p (resumed Q (r0 ∷ h) d) [] (step w x) r m n depth
+  gone_on (answers G sp A) = answers (gives not_begun (of_resumed G)) sp (took_over (went_on (and_gave not_begun (of_resumed G))) A)
+  gone_on (fails h) = fails (fails_alike (record { to = λ o k G. gives not_begun (of_resumed G); back = λ o k G. from_resumed G }) h)
+
+  -- its first step is that of what it was, in its own time
+  pub frozen_steps : (at : _) (d : ℕ) (names : Env) (k : Kept) (a : State) (w : ℕ) (x : Data) (r : Result (State × Data) Fault) (m n : Meter) (depth : ℕ) → ((P : Process) (L : Life) → Stands φ p (kept_state names k) P L → Stands φ p a P L)
+      → StateSteps φ p a (step d x) r m n depth → StateSteps φ p (Frozen' at d names k) (step w x) r m n depth
+  frozen_steps at d names k a w x r m n depth f h = lift_steps (Frozen' at d names k) (step w x) r m n depth go
+    where
+      go : (P : Process) (L : Life) → StandsItself φ p (Frozen' at d names k) P L → PartSteps φ p P L (step w x) r m n depth
+      go P L (was_frozen A) = gone_on (h _ _ (f _ _ A))
+
+  -- ## A named process
+
+  run_from : {c : Name} {e : Environment} {Q : Process} {s : Step} {o : Outcome} {k : Cost} → Form net (run c) e (process_made Q) s [] o k → Over (Gives net Q (s ∷ [])) o k
+  run_from (of_run G) = counted G
+
+  run_to : {c : Name} {e : Environment} {s : Step} {o : Outcome} {k : Cost} → Over (Gives net (process_of c e) (s ∷ [])) o k → Gives net (closure (run c) e) (s ∷ []) o k
+  run_to (counted G) = gives not_begun (of_form refl (of_run G))
+
+  run_alike : (c : Name) (e : Environment) (s : Step) → Alike (Over (Gives net (process_of c e) (s ∷ []))) (Gives net (closure (run c) e) (s ∷ []))
+  run_alike c e s = record { to = λ o k G. run_to G; back = λ o k G. run_from (gives_form net s [] refl G) }
+
+  run_steps : {c : Name} {e : Environment} {s : Step} {r : Result (State × Data) Fault} {m n n' : Meter} {depth inside : ℕ} → Ticks m n depth inside → PartSteps φ p (process_of c e) [] s r n n' inside → PartSteps φ p (closure (run c) e) [] s r m n' depth
+  run_steps t (answers G sp A) = answers (gives not_begun (of_form refl (of_run G))) (over_spent t sp) (took_over (ran (and_gave not_begun (of_form refl (of_run G)))) A)
+  run_steps {c = c} {e = e} {s = s} t (fails h) = fails (fails_alike (run_alike c e s) (over_fails t h))
+
+  pub running_steps : {u : Term} {e : Environment} {a : State} {s : Step} {r : Result (State × Data) Fault} {m n n' : Meter} {depth inside : ℕ} → Ticks m n depth inside → Opens φ p u e (Ok (opened.Running a)) → StateSteps φ p a s r n n' inside
+      → PartSteps φ p (closure u e) [] s r m n' depth
+  running_steps {e = e} {s = s} {r = r} {m = m} {n' = n'} {depth = depth} t (opens_running same A) h =
+      subst (λ u. PartSteps φ p (closure u e) [] s r m n' depth) (sym same) (run_steps t (h _ _ A))
+
+  -- ## A switch that waits
+
+  -- a `?` that passes a failure on
+  pub pass_beside : {A E : Type 0} {view : (Option State × A) × Data → Data} {after : (Option State × A) × Data → Type 0} {R : Rel} {m n : Meter} {depth : ℕ} {f : Fault} (r : Result (Option State) E) (k : A) (v : Data) → IsErr r
+      → StopsFor R f m n depth → Answers view after R (left_beside r k v f) m n depth
+  pass_beside (Ok o) k v e h = absurd cc
+  pass_beside (Err q) k v e h = fails h
+
+  -- memory runs out after a part was stepped
+  pub late_part : {A B : Type 0} {view : A → Data} {after : A → Type 0} {view' : B → Data} {after' : B → Type 0} {P : Process} {K : Life} {a : A} {m n n' : Meter} {depth : ℕ} {f : Fault}
+      → Answers view after (Gives net P K) (Ok a) m n depth → entered_of n' ≡ entered_of n → height_of n' ≡ height_of n → f ≡ Memory → Answers view' after' (Gives net P K) (Err f) m n' depth
+  late_part h en hn e = let w = answered h in memory_exit e (spent_within (single_gives net _ _) w.given w.spent en hn)
+
+  module _ {A : Type 0} (W : Waiting A) where
+    -- the node that is stepped stands for all that the shared one stands for
+    pub watch_steps : (names : Env) (shared own : A) (s : Step) (r : Result ((Option State × A) × Data) Fault) (m n n' : Meter) (depth inside : ℕ) → ((P : Process) (L : Life) → W shared P L → W own P L)
+        → Ticks m n depth inside → WaitingSteps φ p W names own s r n n' inside → WatchSteps φ p W names shared s r m n' depth
+    watch_steps names shared own s r m n n' depth inside f t h T e L N S = h m depth t T e L N (f _ _ S)
+
+    -- what takes over, or the switch that waits on
+    taken : {P : Process} {K : Life} {R : Rel} {o : Option State} {b : State} {k : A} {v : Data} {m n : Meter} {depth : ℕ} → o ≡ Some b
+        → Answers {A = (Option State × A) × Data} (λ y. y.1) (λ y. StandsFor φ p W y.0.0 y.0.1 P K) R (Ok ((o, k), v)) m n depth → Answers {A = State × Data} (λ y. y.1) (λ y. Stands φ p y.0 P K) R (Ok (b, v)) m n depth
+    taken {P = P} {K = K} {k = k} e h = let w = answered h in answers w.given w.spent (subst (λ o. StandsFor φ p W o k P K) e w.holds)
+
+    -- a state is a switch of this kind that waits with these names
+    abbrev pub IsWaiting : Env → A → State → Type 0
+    IsWaiting names k b = (t : Term) (e : Environment) (s : Step) (L : Life) → IsNames φ p names e → W k (closure t e) (s ∷ L) → StandsItself φ p b (closure t e) (s ∷ L)
+
+    waiting_on : {t : Term} {e : Environment} {s : Step} {L : Life} {R : Rel} {o : Option State} {k : A} {b : State} {v : Data} {m n : Meter} {depth : ℕ} (names : Env) → o ≡ None → IsWaiting names k b → IsNames φ p names e
+        → Answers {A = (Option State × A) × Data} (λ y. y.1) (λ y. StandsFor φ p W y.0.0 y.0.1 (closure t e) (s ∷ L)) R (Ok ((o, k), v)) m n depth
+        → Answers {A = State × Data} (λ y. y.1) (λ y. Stands φ p y.0 (closure t e) (s ∷ L)) R (Ok (b, v)) m n depth
+    waiting_on {t = t} {e = e} {s = s} {L = L} {k = k} names none is N h =
+        let w = answered h in
+        answers w.given w.spent (itself (is t e s L N (subst (λ o. StandsFor φ p W o k (closure t e) (s ∷ L)) none w.holds)))
+
+    -- a switch that starts is what takes over, or waits
+    pub starts_over : (k : A) (names : Env) (s : Step) (n n' : Meter) (inside : ℕ) (o : Option State) (k' : A) (b : State) (v : Data) → o ≡ Some b → WaitingSteps φ p W names k s (Ok ((o, k'), v)) n n' inside
+        → (m : Meter) (depth : ℕ) → Ticks m n depth inside → (t : Term) (e : Environment) → IsNames φ p names e → W k (closure t e) [] → PartSteps φ p (closure t e) [] s (Ok (b, v)) m n' depth
+    starts_over k names s n n' inside o k' b v is h m depth t T e N S = taken is (h m depth t T e [] N S)
+
+    pub starts_waiting : (k : A) (names : Env) (s : Step) (n n' : Meter) (inside : ℕ) (o : Option State) (k' : A) (b : State) (v : Data) → o ≡ None → IsWaiting names k' b → WaitingSteps φ p W names k s (Ok ((o, k'), v)) n n' inside
+        → (m : Meter) (depth : ℕ) → Ticks m n depth inside → (t : Term) (e : Environment) → IsNames φ p names e → W k (closure t e) [] → PartSteps φ p (closure t e) [] s (Ok (b, v)) m n' depth
+    starts_waiting k names s n n' inside o k' b v none is h m depth t T e N S = waiting_on names none is N (h m depth t T e [] N S)
+
+    -- what a state stands for that is such a switch
+    pub data WaitsAt (names : Env) (k : A) : Process → Life → Type 0 where
+      waits_at : {t : Term} {e : Environment} {L : Life} → IsNames φ p names e → W k (closure t e) L → WaitsAt names k (closure t e) L
+
+    module _ (names : Env) (k : A) (a : State) (s : Step) (m n : Meter) (depth : ℕ) (sees : (P : Process) (L : Life) → StandsItself φ p a P L → WaitsAt names k P L) where
+      -- a state steps as the switch does
+      as_waiting : (r : Result (State × Data) Fault) → ((t : Term) (e : Environment) (L : Life) → IsNames φ p names e → W k (closure t e) L → PartSteps φ p (closure t e) L s r m n depth) → StateSteps φ p a s r m n depth
+      as_waiting r h = lift_steps a s r m n depth go
+        where
+          by_names : {P : Process} {L : Life} → WaitsAt names k P L → PartSteps φ p P L s r m n depth
+          by_names (waits_at N S) = h _ _ _ N S
+
+          go : (P : Process) (L : Life) → StandsItself φ p a P L → PartSteps φ p P L s r m n depth
+          go P L A = by_names (sees P L A)
+
+      pub goes_over : (o : Option State) (b : State) (k' : A) (v : Data) → o ≡ Some b → WatchSteps φ p W names k s (Ok ((o, k'), v)) m n depth → StateSteps φ p a s (Ok (b, v)) m n depth
+      goes_over o b k' v is h = as_waiting (Ok (b, v)) (λ t e L N S. taken is (h t e L N S))
+
+      pub stays_on : (o : Option State) (b : State) (k' : A) (v : Data) → o ≡ None → IsWaiting names k' b → WatchSteps φ p W names k s (Ok ((o, k'), v)) m n depth → StateSteps φ p a s (Ok (b, v)) m n depth
+      stays_on o b k' v none is h = as_waiting (Ok (b, v)) (λ t e L N S. waiting_on names none is N (h t e L N S))
+
+      pub waiting_fails : (f : Fault) → WatchSteps φ p W names k s (Err f) m n depth → StateSteps φ p a s (Err f) m n depth
+      waiting_fails f h = as_waiting (Err f) (λ t e L N S. fails (failed (h t e L N S)))
+
+  -- ## Of both kinds
+
+  is_watching : {at : _} (names : Env) (k k' : Switch) → k' ≡ k → IsWaiting (Waits φ p) names k (Watching' names at k'.form k'.running k'.pattern k'.body)
+  is_watching names k k' same t e s L N S = watching N (subst (λ (k : Switch). Waits φ p k (closure t e) (s ∷ L)) (sym same) S)
+
+  is_keeping : {at : _} (names : Env) (k k' : Keeping) → k' ≡ k → IsWaiting (WaitsKeeping φ p) names k (Keeping' names at k'.shown k'.source k'.observer k'.name k'.pattern k'.body)
+  is_keeping names k k' same t e s L N S = keeping_on N (subst (λ (k : Keeping). WaitsKeeping φ p k (closure t e) (s ∷ L)) (sym same) S)
+
+  seen_watching : {at : _} (names : Env) (k : Switch) (P : Process) (L : Life) → StandsItself φ p (Watching' names at k.form k.running k.pattern k.body) P L → WaitsAt (Waits φ p) names k P L
+  seen_watching names k P L (watching N S) = waits_at N S
+
+  seen_keeping : {at : _} (names : Env) (k : Keeping) (P : Process) (L : Life) → StandsItself φ p (Keeping' names at k.shown k.source k.observer k.name k.pattern k.body) P L → WaitsAt (WaitsKeeping φ p) names k P L
+  seen_keeping names k P L (keeping_on N S) = waits_at N S
+
+  pub start_takes : (k : Switch) (names : Env) (s : Step) (n n' : Meter) (inside : ℕ) (o : Option State) (k' : Switch) (b : State) (v : Data) → o ≡ Some b → WaitingSteps φ p (Waits φ p) names k s (Ok ((o, k'), v)) n n' inside
+      → (m : Meter) (depth : ℕ) → Ticks m n depth inside → (t : Term) (e : Environment) → IsNames φ p names e → Waits φ p k (closure t e) [] → PartSteps φ p (closure t e) [] s (Ok (b, v)) m n' depth
+  start_takes = starts_over (Waits φ p)
+
+  pub start_waits : (at : _) (k : Switch) (names : Env) (s : Step) (n n' : Meter) (inside : ℕ) (o : Option State) (k' j : Switch) (v : Data) → o ≡ None → j ≡ k' → WaitingSteps φ p (Waits φ p) names k s (Ok ((o, k'), v)) n n' inside
+      → (m : Meter) (depth : ℕ) → Ticks m n depth inside → (t : Term) (e : Environment) → IsNames φ p names e → Waits φ p k (closure t e) [] → PartSteps φ p (closure t e) [] s (Ok (Watching' names at j.form j.running j.pattern j.body, v)) m n' depth
+  start_waits at k names s n n' inside o k' j v none same = starts_waiting (Waits φ p) k names s n n' inside o k' (Watching' names at j.form j.running j.pattern j.body) v none (is_watching names k' j same)
+
+  pub start_keeps : (at : _) (k : Keeping) (names : Env) (s : Step) (n n' : Meter) (inside : ℕ) (o : Option State) (k' j : Keeping) (v : Data) → o ≡ None → j ≡ k' → WaitingSteps φ p (WaitsKeeping φ p) names k s (Ok ((o, k'), v)) n n' inside
+      → (m : Meter) (depth : ℕ) → Ticks m n depth inside → (t : Term) (e : Environment) → IsNames φ p names e → WaitsKeeping φ p k (closure t e) [] → PartSteps φ p (closure t e) [] s (Ok (Keeping' names at j.shown j.source j.observer j.name j.pattern j.body, v)) m n' depth
+  start_keeps at k names s n n' inside o k' j v none same = starts_waiting (WaitsKeeping φ p) k names s n n' inside o k' (Keeping' names at j.shown j.source j.observer j.name j.pattern j.body) v none (is_keeping names k' j same)
+
+  module _ (at : _) (names : Env) (k : Switch) (s : Step) (m n : Meter) (depth : ℕ) where
+    pub watching_goes : (o : Option State) (b : State) (k' : Switch) (v : Data) → o ≡ Some b → WatchSteps φ p (Waits φ p) names k s (Ok ((o, k'), v)) m n depth → StateSteps φ p (Watching' names at k.form k.running k.pattern k.body) s (Ok (b, v)) m n depth
+    watching_goes o b k' v is h = goes_over (Waits φ p) names k _ s m n depth (seen_watching names k) o b k' v is h
+
+    pub watching_stays : (at' : _) (o : Option State) (k' : Switch) (v : Data) → o ≡ None → WatchSteps φ p (Waits φ p) names k s (Ok ((o, k'), v)) m n depth
+        → StateSteps φ p (Watching' names at k.form k.running k.pattern k.body) s (Ok (Watching' names at' k'.form k'.running k'.pattern k'.body, v)) m n depth
+    watching_stays at' o k' v none h = stays_on (Waits φ p) names k _ s m n depth (seen_watching names k) o _ k' v none (is_watching names k' k' refl) h
+
+    pub watching_fails : (f : Fault) → WatchSteps φ p (Waits φ p) names k s (Err f) m n depth → StateSteps φ p (Watching' names at k.form k.running k.pattern k.body) s (Err f) m n depth
+    watching_fails f h = waiting_fails (Waits φ p) names k _ s m n depth (seen_watching names k) f h
+
+  module _ (at : _) (names : Env) (k : Keeping) (s : Step) (m n : Meter) (depth : ℕ) where
+    pub keeping_goes : (o : Option State) (b : State) (k' : Keeping) (v : Data) → o ≡ Some b → WatchSteps φ p (WaitsKeeping φ p) names k s (Ok ((o, k'), v)) m n depth
+        → StateSteps φ p (Keeping' names at k.shown k.source k.observer k.name k.pattern k.body) s (Ok (b, v)) m n depth
+    keeping_goes o b k' v is h = goes_over (WaitsKeeping φ p) names k _ s m n depth (seen_keeping names k) o b k' v is h
+
+    pub keeping_stays : (at' : _) (o : Option State) (k' : Keeping) (v : Data) → o ≡ None → WatchSteps φ p (WaitsKeeping φ p) names k s (Ok ((o, k'), v)) m n depth
+        → StateSteps φ p (Keeping' names at k.shown k.source k.observer k.name k.pattern k.body) s (Ok (Keeping' names at' k'.shown k'.source k'.observer k'.name k'.pattern k'.body, v)) m n depth
+    keeping_stays at' o k' v none h = stays_on (WaitsKeeping φ p) names k _ s m n depth (seen_keeping names k) o _ k' v none (is_keeping names k' k' refl) h
+
+    pub keeping_fails : (f : Fault) → WatchSteps φ p (WaitsKeeping φ p) names k s (Err f) m n depth → StateSteps φ p (Keeping' names at k.shown k.source k.observer k.name k.pattern k.body) s (Err f) m n depth
+    keeping_fails f h = waiting_fails (WaitsKeeping φ p) names k _ s m n depth (seen_keeping names k) f h
