@@ -1,6 +1,6 @@
-"""Plays six networks, a delay of numbers, a loop over pairs, one of texts, events and tables with functions inside, one that calls
-stored functions, one that switches and one that freezes a process and runs it twice, on three lines with each growth of memory
-refused in turn.
+"""Plays seven networks, a delay of numbers, a loop over pairs, one of texts, events and tables with functions inside, one that calls
+stored functions, one that switches, one that freezes a process and runs it twice, and one whose state is saved and returned to, on a
+few lines with each growth of memory refused in turn.
 
     python3 rows/refuse_growths.py --exe PATH
 
@@ -16,47 +16,57 @@ import sys
 import tempfile
 
 HERE = os.path.dirname(os.path.abspath(__file__))
+
+
+def samples(inputs, values):
+    """Lines of samples 16 milliseconds apart, each with what it writes."""
+    return [(f"{16 if at else 0} {given}", f"> {16 * at} {value}") for at, (given, value) in enumerate(zip(inputs, values))]
+
+
+# Networks, each with its input lines and what each line writes.
 RUNS = [
-    ("Int ~> Int = iPre 7", ["1", "2", "3"], ["7", "1", "2"]),
+    ("Int ~> Int = iPre 7", samples(["1", "2", "3"], ["7", "1", "2"])),
     ("(Int, Int) ~> (Int, Int) = loopPre(0, arr ((x, y), total) => ((x, total), (y + total)))",
-     ["(1,2)", "(2,3)", "(3,4)"], ["(1,0)", "(2,2)", "(3,5)"]),
+     samples(["(1,2)", "(2,3)", "(3,4)"], ["(1,0)", "(2,2)", "(3,5)"])),
     ("((Table Text Text, Text), Event Text) ~> ((Table Text Text, Event Text), Bool)"
      ' = arr ((t, k), e) => let found = if (k == "") then none Text else get(t, k) in'
      ' ((t, mergeBy(merge(found, none Text), mapE(filterE(e, s => (s != "")), s => s), (_, b) => b)),'
      ' ((size(t) == 2) and (fold(t, match(e, "", s => s), (most, (j, _)) => if (j > most) then j else most) == k)))',
-     ['(({"a":"b","c":""},"c"),event "x")', '(({},""),event "d\\"")', '(({"c":"","a":"e"},"c"),none)'],
-     ['(({"a":"b","c":""},event "x"),false)', '(({},event "d\\""),false)', '(({"c":"","a":"e"},event ""),true)']),
+     samples(['(({"a":"b","c":""},"c"),event "x")', '(({},""),event "d\\"")', '(({"c":"","a":"e"},"c"),none)'],
+             ['(({"a":"b","c":""},event "x"),false)', '(({},event "d\\""),false)', '(({"c":"","a":"e"},event ""),true)'])),
     ("(Int, Event Int) ~> (Int, Int) = loopPre(call abs(-3), arr ((x, e), most) =>"
      " let high = call max((most, call abs(fromEvent(e, x)))) in ((high, call sign(x)), high))",
-     ["(1,none)", "(2,event -7)", "(-5,none)"], ["(3,1)", "(7,1)", "(7,-1)"]),
+     samples(["(1,none)", "(2,event -7)", "(-5,none)"], ["(3,1)", "(7,1)", "(7,-1)"])),
     ('Int ~> (Int, Int) = dSwitch(((identity &&& constant 0) &&& arr x => if (x > 1) then event (x, "") else none (Int, Text)),'
-     ' (start, _) => (iPre start &&& arr x => (x - start)))', ["1", "2", "3"], ["(1,0)", "(2,0)", "(2,1)"]),
+     ' (start, _) => (iPre start &&& arr x => (x - start)))', samples(["1", "2", "3"], ["(1,0)", "(2,0)", "(2,1)"])),
     ("Int ~> Int = kSwitch(iPre 7, arr (x, _) => gate(event x, (x > 1)), k, c => ((run k &&& run k) >>> arr (u, v) => ((u + v) * c)))",
-     ["1", "2", "3"], ["7", "4", "8"]),
+     samples(["1", "2", "3"], ["7", "4", "8"])),
+    ("(Int, Text) ~> (Int, Text) = kSwitch((iPre 7 *** identity), arr ((x, _), _) => gate(event x, (x > 1)), k,"
+     " c => (run k >>> first arr y => (y * c)))",
+     [('0 (1,"a")', '> 0 (7,"a")'), ("save start", ""), ('16 (2,"b")', '> 16 (2,"b")'), ("save later", ""), ("back start", ""),
+      ('16 (3,"c")', '> 16 (3,"c")'), ("back later", ""), ("16 =", '> 32 (4,"b")')]),
 ]
-TIMES = [0, 16, 32]
 
 
-def allowed(values):
+def allowed(script):
     """Each status with the output and the words on standard error that it may come with."""
-    samples = [(time, b"> %d %s\n" % (time, value.encode("ascii"))) for time, value in zip(TIMES, values)]
-    whole = b"".join(line for _, line in samples)
-    found = {(0, whole, b""), (5, b"", b"sfplay: Memory\n"), (6, b"", b"sfplay: read fault\n")}
+    found = {(5, b"", b"sfplay: Memory\n"), (6, b"", b"sfplay: read fault\n")}
     before = b""
-    for number, (time, line) in enumerate(samples, 1):
-        found.add((3, before + b"! %d Memory\n" % time, b""))
+    for number, (_, text) in enumerate(script, 1):
         found.add((4, before + b"! line %d Memory\n" % number, b""))
-        before += line
-    return found
+        if text:
+            found.add((3, before + b"! %s Memory\n" % text.split()[1].encode("ascii"), b""))
+            before += text.encode("ascii") + b"\n"
+    return found | {(0, before, b"")}
 
 
-def play(exe, place, shim, network, inputs, values):
+def play(exe, place, shim, network, script):
     """How many refused growths went well and how many didn't."""
     path = os.path.join(place, "network")
     with open(path, "w") as file:
         file.write(f"network 2;\ntemplate main(): {network};\n")
-    lines = "".join(f"{16 if at else 0} {value}\n" for at, value in enumerate(inputs)).encode("ascii")
-    wanted = allowed(values)
+    lines = "".join(f"{line}\n" for line, _ in script).encode("ascii")
+    wanted = allowed(script)
     passed = failed = number = 0
     ends = set()
     while 0 not in ends and number < 1000:
@@ -70,7 +80,9 @@ def play(exe, place, shim, network, inputs, values):
         ends.add(done.returncode)
         if not well:
             print(f"{network}: growth {number} refused: {answer!r}")
-    for status, what in ((0, "a run with no growth refused"), (5, "a network refused for memory"), (3, "a sample without memory")):
+    due = [(0, "a run with no growth refused"), (5, "a network refused for memory"), (3, "a sample without memory")]
+    due += [(4, "a save or a return without memory")] if not all(text for _, text in script) else []
+    for status, what in due:
         if status not in ends:
             failed += 1
             print(f"{network}: never met: {what}")

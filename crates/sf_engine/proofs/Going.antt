@@ -19,46 +19,61 @@ use Rattle.sf_engine.specs.declared.engine.Engine.{Engine}
 use Rattle.sf_engine.specs.declared.engine.Sample.{Sample}
 use Rattle.sf_engine.specs.declared.engine.EngineError.{EngineError}
 use Rattle.sf_engine.specs.declared.engine.EngineError.TheVariants.{Fault as Faulted}
-use Rattle.sf_engine.specs.Histories.{newest_input, last_input, after_start, after_step, BeginsAtZero, IsHistory, CanWait}
-use Rattle.sf_engine.specs.Running.{Runs, IsStopped, time_of, input_kind, last_of, MayStep}
+use Rattle.sf_engine.specs.Histories.{newest_input, last_input, after_start, after_step, BeginsAtZero, IsHistory, CanWait, Saves}
+use Rattle.sf_engine.specs.Running.{AreSavesOf, Runs, IsStopped, time_of, input_kind, last_of, MayStart, MayStep}
 use Rattle.sf_engine.specs.Sampling.{Sampled, gave_value, had_fault, was_large, had_no_memory, answer_of}
 
 time-step : (d : ℕ) (x : Data) (L : Life) → BeginsAtZero (step d x ∷ L) → time (step d x ∷ L) ≡ time L + d
 time-step d x [] h = sym h ∙ sym (zero-add d)
 time-step d x (r ∷ L) h = refl
 
--- an engine goes on to the end of a longer history
-pub goes_to : {F : Type 0} {h : _} {o e : Engine F h} {n : Network} {m : Template} {L : Life} {d : ℕ} {x : Data} → Runs o n m L → IsHistory m.input (step d x ∷ L)
-    → e.plan ≡ o.plan → e.functions ≡ o.functions → e.input ≡ o.input → e.stopped ≡ o.stopped → e.time ≡ o.time + d → e.last ≡ Some x
-    → Stands (h.answers o.functions) o.plan e.state (closure m.body empty) (step d x ∷ L)
-    → Runs e n m (step d x ∷ L)
-goes_to {h = h} {o = o} {e = e} {n = n} {m = m} {L = L} {d = d} {x = x} R H plan functions input stopped later last S = record {
+-- an engine goes on at a history, with what it keeps
+pub runs_on : {F : Type 0} {h : _} {o e : Engine F h} {n : Network} {m : Template} {L K : Life} {S T : Saves} → Runs o n m L S
+    → e.stopped ≡ o.stopped → e.plan ≡ o.plan → e.functions ≡ o.functions → e.input ≡ o.input
+    → Stands (h.answers o.functions) o.plan e.state (closure m.body empty) K → e.time ≡ time K → e.last ≡ newest_input K → IsHistory m.input K
+    → AreSavesOf (h.answers o.functions) o.plan m e.saves.entries T → Runs e n m K T
+runs_on {h = h} {o = o} {e = e} {m = m} {K = K} {T = T} R stopped plan functions input stands at last H kept = record {
   goes_on = stopped ∙ R.goes_on;
   network = ap (λ p. network_of_plan (h.answers e.functions) p) plan ∙ ap (λ f. network_of_plan (h.answers f) o.plan) functions ∙ R.network;
   main = ap (λ p. plan_tree p (plan_main p)) plan ∙ R.main;
   input = input ∙ R.input;
   state =
-      subst (λ f. Stands (h.answers f) e.plan e.state (closure m.body empty) (step d x ∷ L)) (sym functions)
-      (subst (λ p. Stands (h.answers o.functions) p e.state (closure m.body empty) (step d x ∷ L)) (sym plan) S);
-  time = later ∙ ap (λ t. t + d) R.time ∙ sym (time-step d x L H.begins);
+      subst (λ f. Stands (h.answers f) e.plan e.state (closure m.body empty) K) (sym functions)
+      (subst (λ p. Stands (h.answers o.functions) p e.state (closure m.body empty) K) (sym plan) stands);
+  time = at;
   last = last;
   history = H;
+  saves =
+      subst (λ f. AreSavesOf (h.answers f) e.plan m e.saves.entries T) (sym functions)
+      (subst (λ p. AreSavesOf (h.answers o.functions) p m e.saves.entries T) (sym plan) kept);
 }
 
+-- an engine goes on to the end of a longer history
+pub goes_to : {F : Type 0} {h : _} {o e : Engine F h} {n : Network} {m : Template} {L : Life} {S : Saves} {d : ℕ} {x : Data} → Runs o n m L S → IsHistory m.input (step d x ∷ L)
+    → e.plan ≡ o.plan → e.functions ≡ o.functions → e.input ≡ o.input → e.stopped ≡ o.stopped → e.saves ≡ o.saves → e.time ≡ o.time + d → e.last ≡ Some x
+    → Stands (h.answers o.functions) o.plan e.state (closure m.body empty) (step d x ∷ L)
+    → Runs e n m (step d x ∷ L) S
+goes_to {h = h} {o = o} {m = m} {L = L} {S = S} {d = d} {x = x} R H plan functions input stopped saves later last stands =
+    runs_on R stopped plan functions input stands
+    (later ∙ ap (λ t. t + d) R.time ∙ sym (time-step d x L H.begins))
+    last
+    H
+    (subst (λ s. AreSavesOf (h.answers o.functions) o.plan m s.entries S) (sym saves) R.saves)
+
 -- a value is the sample's
-pub sampled_value : {F : Type 0} {h : _} {φ : AnswersByName} {p : Plan} {n : Network} {m : Template} {L : Life} {y : Data} {s : State} {t : Meter} {e : Engine F h} {z : Sample}
+pub sampled_value : {F : Type 0} {h : _} {φ : AnswersByName} {p : Plan} {n : Network} {m : Template} {L : Life} {S : Saves} {y : Data} {s : State} {t : Meter} {e : Engine F h} {z : Sample}
     → network_of_plan φ p ≡ n → Steps φ p (closure m.body empty) L (Ok y) s t
-    → (Stands φ p s (closure m.body empty) L → Runs e n m L)
-    → z.time ≡ e.time → z.value ≡ y → Sampled n m L (Ok z) e
-sampled_value {n = n} {m = m} {L = L} {y = y} q (stepped {k = k} G entered high S) f at value =
+    → (Stands φ p s (closure m.body empty) L → Runs e n m L S)
+    → z.time ≡ e.time → z.value ≡ y → Sampled n m L S (Ok z) e
+sampled_value {n = n} {m = m} {L = L} {y = y} q (stepped {k = k} G entered high stands) f at value =
     gave_value
     (subst (λ v. Gives n (closure m.body empty) L (gave v []) k) (sym value) (subst (λ n. Gives n (closure m.body empty) L (gave y []) k) q G))
-    (at ∙ (f S).time)
-    (f S)
+    (at ∙ (f stands).time)
+    (f stands)
 
 -- a fault stops the engine
-pub sampled_fault : {F : Type 0} {h : _} {φ : AnswersByName} {p : Plan} {n : Network} {m : Template} {L : Life} {f : Fault} {s : State} {t : Meter} {e : Engine F h}
-    → network_of_plan φ p ≡ n → Steps φ p (closure m.body empty) L (Err f) s t → IsStopped e f → Sampled n m L (Err f) e
+pub sampled_fault : {F : Type 0} {h : _} {φ : AnswersByName} {p : Plan} {n : Network} {m : Template} {L : Life} {S : Saves} {f : Fault} {s : State} {t : Meter} {e : Engine F h}
+    → network_of_plan φ p ≡ n → Steps φ p (closure m.body empty) L (Err f) s t → IsStopped e f → Sampled n m L S (Err f) e
 sampled_fault {m = m} {L = L} q (faulted_so {x = x} {k = k} G entered high) stopped =
     had_fault (subst (λ n. Gives n (closure m.body empty) L (faulted x) k) q G) stopped
 sampled_fault {m = m} {L = L} q (too_large none within) stopped =
@@ -80,9 +95,9 @@ IsHistory-none k = record {
 
 -- an engine before its start
 pub goes_first : {F : Type 0} {h : _} {e : Engine F h} {n : Network} {m : Template} → e.stopped ≡ None → network_of_plan (h.answers e.functions) e.plan ≡ n → plan_tree e.plan (plan_main e.plan) ≡ m.body → e.input ≡ m.input
-    → Stands (h.answers e.functions) e.plan e.state (closure (plan_tree e.plan (plan_main e.plan)) empty) [] → e.time ≡ 0 → e.last ≡ None
-    → Runs e n m []
-goes_first {h = h} {e = e} {m = m} going network main input S at last = record {
+    → Stands (h.answers e.functions) e.plan e.state (closure (plan_tree e.plan (plan_main e.plan)) empty) [] → e.time ≡ 0 → e.last ≡ None → e.saves.entries ≡ []
+    → Runs e n m [] []
+goes_first {h = h} {e = e} {m = m} going network main input S at last saves = record {
   goes_on = going;
   network = network;
   main = main;
@@ -91,6 +106,7 @@ goes_first {h = h} {e = e} {m = m} going network main input S at last = record {
   time = at;
   last = last;
   history = IsHistory-none m.input;
+  saves = subst (λ vs. AreSavesOf (h.answers e.functions) e.plan m vs []) (sym saves) tt;
 }
 
 -- the history after a start
@@ -135,38 +151,38 @@ pub takes_none : (v : Option Data) {a k : Kind} (b : Bool) → a ≡ k → b ≡
 takes_none v b same h tested typed = absurd (let t : b ≡ true = tested.1 (subst (λ k. IfSome v (λ y. HasKind y k)) (sym same) typed) in cc)
 
 -- the time that an engine may wait at is its history's
-pub wait_at : {F : Type 0} {h : _} {e : Engine F h} {n : Network} {m : Template} {L : Life} {d : ℕ} → Runs e n m L → CanWait (time_of e) d → CanWait (time L) d
+pub wait_at : {F : Type 0} {h : _} {e : Engine F h} {n : Network} {m : Template} {L : Life} {S : Saves} {d : ℕ} → Runs e n m L S → CanWait (time_of e) d → CanWait (time L) d
 wait_at {d = d} R wait = subst (λ t. CanWait t d) R.time wait
 
 -- a test of a wait, failed
-pub no_wait_at : {F : Type 0} {h : _} {e : Engine F h} {n : Network} {m : Template} {L : Life} {d : ℕ} (b : Bool) → Runs e n m L → b ≡ false → (IsTrue b ↔ CanWait (time_of e) d) → ¬ CanWait (time L) d
+pub no_wait_at : {F : Type 0} {h : _} {e : Engine F h} {n : Network} {m : Template} {L : Life} {S : Saves} {d : ℕ} (b : Bool) → Runs e n m L S → b ≡ false → (IsTrue b ↔ CanWait (time_of e) d) → ¬ CanWait (time L) d
 no_wait_at {d = d} b R h tested wait = absurd (let t : b ≡ true = tested.1 (subst (λ t. CanWait t d) (sym R.time) wait) in cc)
 
 -- an engine that may step has a history
-some_lived : {F : Type 0} {h : _} {o : Engine F h} {n : Network} {m : Template} {L : Life} {d : ℕ} {v : Option Data} → Runs o n m L → MayStep o d v → L ≢ []
+some_lived : {F : Type 0} {h : _} {o : Engine F h} {n : Network} {m : Template} {L : Life} {S : Saves} {d : ℕ} {v : Option Data} → Runs o n m L S → MayStep o d v → L ≢ []
 some_lived {L = []} R may none = may.begun R.last
 some_lived {L = s ∷ L} R may none = cc
 
 -- the history after a step with a new input
-pub next_given : {F : Type 0} {h : _} {o : Engine F h} {n : Network} {m : Template} {L : Life} {d : ℕ} {v : Option Data} {x y : Data} {r : Result Sample Fault} {e : Engine F h} → Runs o n m L → MayStep o d v
+pub next_given : {F : Type 0} {h : _} {o : Engine F h} {n : Network} {m : Template} {L : Life} {S : Saves} {d : ℕ} {v : Option Data} {x y : Data} {r : Result Sample Fault} {e : Engine F h} → Runs o n m L S → MayStep o d v
     → v ≡ Some y → x ≡ y
-    → (IsHistory m.input (step d x ∷ L) → Sampled n m (step d x ∷ L) r e)
-    → Sampled n m (after_step L d v) r e
-next_given {o = o} {n = n} {m = m} {L = L} {d = d} {v = v} {x = x} {y = y} {r = r} {e = e} R may is same f =
+    → (IsHistory m.input (step d x ∷ L) → Sampled n m (step d x ∷ L) S r e)
+    → Sampled n m (after_step L d v) S r e
+next_given {o = o} {n = n} {m = m} {L = L} {S = S} {d = d} {v = v} {x = x} {y = y} {r = r} {e = e} R may is same f =
     let typed : HasKind y m.input = subst (λ k. HasKind y k) R.input (subst (λ v. IfSome v (λ z. HasKind z (input_kind o))) is may.typed) in
     let input : x ≡ unwrap_or v (last_input L) = same ∙ ap (λ v. unwrap_or v (last_input L)) (sym is) in
-    subst (λ z. Sampled n m (step d z ∷ L) r e) input
+    subst (λ z. Sampled n m (step d z ∷ L) S r e) input
     (f (IsHistory-step m.input d x L (some_lived R may) (wait_at R may.wait) (subst (λ z. HasKind z m.input) (sym same) typed) R.history))
 
 -- the history after a step with an unchanged input
-pub next_unchanged : {F : Type 0} {h : _} {o : Engine F h} {n : Network} {m : Template} {L : Life} {d : ℕ} {v : Option Data} {x : Data} {r : Result Sample Fault} {e : Engine F h} → Runs o n m L → MayStep o d v
+pub next_unchanged : {F : Type 0} {h : _} {o : Engine F h} {n : Network} {m : Template} {L : Life} {S : Saves} {d : ℕ} {v : Option Data} {x : Data} {r : Result Sample Fault} {e : Engine F h} → Runs o n m L S → MayStep o d v
     → v ≡ None → last_of o ≡ Some x
-    → (IsHistory m.input (step d x ∷ L) → Sampled n m (step d x ∷ L) r e)
-    → Sampled n m (after_step L d v) r e
-next_unchanged {n = n} {m = m} {L = L} {d = d} {v = v} {x = x} {r = r} {e = e} R may is last f =
+    → (IsHistory m.input (step d x ∷ L) → Sampled n m (step d x ∷ L) S r e)
+    → Sampled n m (after_step L d v) S r e
+next_unchanged {n = n} {m = m} {L = L} {S = S} {d = d} {v = v} {x = x} {r = r} {e = e} R may is last f =
     let newest : newest_input L ≡ Some x = sym R.last ∙ last in
     let input : x ≡ unwrap_or v (last_input L) = ap (λ o. unwrap_or o (number (pos 0))) (sym newest) ∙ ap (λ v. unwrap_or v (last_input L)) (sym is) in
-    subst (λ z. Sampled n m (step d z ∷ L) r e) input
+    subst (λ z. Sampled n m (step d z ∷ L) S r e) input
     (f (IsHistory-step m.input d x L (some_lived R may) (wait_at R may.wait) (newest_typed m.input L x newest R.history) R.history))
 
 -- a sample or its fault, as an engine answers it
@@ -178,3 +194,15 @@ answered (Err f) (Err e) h = ap (λ x. Err x) h
 -- an engine that has started has a history
 pub some_started : (b : Bool) (L : Life) → b ≡ true → (IsTrue b ↔ (L ≢ [])) → L ≢ []
 some_started b L h started = started.0 h
+
+-- an engine that may start has no history
+fresh_life : (L : Life) → newest_input L ≡ None → L ≡ []
+fresh_life [] none = refl
+fresh_life (s ∷ L) none = absurd cc
+
+pub fresh_history : {F : Type 0} {h : _} {e : Engine F h} {n : Network} {m : Template} {L : Life} {S : Saves} {x : Data} → Runs e n m L S → MayStart e x → L ≡ []
+fresh_history {L = L} R may = fresh_life L (sym R.last ∙ may.fresh)
+
+-- what an engine that may start with it takes
+pub fresh_type : {F : Type 0} {h : _} {e : Engine F h} {n : Network} {m : Template} {L : Life} {S : Saves} {x : Data} → Runs e n m L S → MayStart e x → HasKind x m.input
+fresh_type {x = x} R may = subst (λ k. HasKind x k) R.input may.typed

@@ -1,1 +1,5 @@
+pub mod Acting
 pub mod Going
+pub mod Keeping
+pub mod Following
+pub mod Boxed

@@ -1,6 +1,8 @@
--- Histories: what an engine has lived since its start.
-use Rattle.std.specs.Prelude.{◌≡◌, ℕ, ◌+◌, ◌≤◌, [], ◌∷◌, Option, Some, None, unwrap_or, All, ⊤, pos}
-use Rattle.sf_value.specs.Values.{Kind, Data, HasKind, number}
+-- Histories: what an engine has lived since its start, and what it keeps under names.
+use Rattle.std.specs.Prelude.{◌≡◌, ◌≢◌, ℕ, ◌+◌, ◌≤◌, ◌<◌, ◌⊎◌, List, [], ◌∷◌, length, Option, Some, None, unwrap_or, All, ⊤, pos, if◌then◌else◌}
+use Rattle.std.specs.Map.{lookup}
+use Rattle.std.specs.Str.{bytes_eq}
+use Rattle.sf_value.specs.Values.{Name, Kind, Data, HasKind, number}
 use Rattle.sf_mean.specs.Lives.{step, wait_of, input_of, Life, IsLife}
 
 -- the last input, if there was one
@@ -37,3 +39,20 @@ pub record CanWait (t d : ℕ) : Type 0 where
   pub some : 1 ≤ d
   pub short : d ≤ 3600000
   pub lasts : t + d ≤ 4000000000000000
+
+-- histories kept under names, in the order in which the names first came
+abbrev pub Saves : Type 0
+Saves = List (Name × Life)
+
+-- the history kept under a name
+abbrev pub saved_under : Name → Saves → Option Life
+saved_under name S = lookup (bytes_eq name) S
+
+-- with a history kept under a name: in its place where the name is there, else behind all
+abbrev pub keep_under : Name → Life → Saves → Saves
+keep_under name L [] = (name, L) ∷ []
+keep_under name L (s ∷ S) = if bytes_eq name s.0 then (s.0, L) ∷ S else s ∷ keep_under name L S
+
+-- a history may be kept under a name: the name is there, or there are fewer than 64
+abbrev pub MaySave : Name → Saves → Type 0
+MaySave name S = (saved_under name S ≢ None) ⊎ (length S < 64)

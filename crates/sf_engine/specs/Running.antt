@@ -1,25 +1,40 @@
 -- What an engine stands for.
-use Rattle.std.specs.Prelude.{◌≡◌, ◌≢◌, ℕ, Option, Some, None, IfSome, Result, Err}
+use Rattle.std.specs.Prelude.{◌≡◌, ◌≢◌, ℕ, List, Option, Some, None, IfSome, Result, Err, String, string_bytes}
+use Rattle.std.specs.declared.alloc.Global.{Global}
+use Rattle.std.specs.List.{AllZip}
 use Rattle.sf_value.specs.Values.{Kind, Data, HasKind}
 use Rattle.sf_value.specs.declared.fault.Fault.{Fault}
+use Rattle.sf_func.specs.Registries.{AnswersByName}
 use Rattle.sf_term.specs.Trees.{Template}
 use Rattle.sf_law.specs.Arena.{plan_tree}
+use Rattle.sf_law.specs.declared.plan.Plan.{Plan}
 use Rattle.sf_mean.specs.Lives.{Life, closure, empty, time}
 use Rattle.sf_mean.specs.Meaning.{Network}
 use Rattle.sf_law.specs.Arena.{network_of_plan}
 use Rattle.sf_law.specs.Arena.{plan_main}
 use Rattle.sf_state.specs.Standing.{Stands}
+use Rattle.sf_engine.specs.declared.engine.save.Save.{Save}
 use Rattle.sf_engine.specs.declared.engine.Engine.{Engine}
-use Rattle.sf_engine.specs.declared.engine.Sample.{Sample}
 use Rattle.sf_engine.specs.declared.engine.EngineError.{EngineError}
 use Rattle.sf_engine.specs.declared.engine.EngineError.TheVariants.{Stopped}
-use Rattle.sf_engine.specs.Histories.{newest_input, IsHistory, CanWait}
+use Rattle.sf_engine.specs.Histories.{newest_input, IsHistory, CanWait, Saves}
+
+-- What is kept of an engine stands for a history that has begun.
+pub record IsSaveOf (φ : AnswersByName) (p : Plan) (m : Template) (s : Save) (K : Life) : Type 0 where
+  pub state : Stands φ p s.state (closure m.body empty) K
+  pub time : s.time ≡ time K
+  pub last : newest_input K ≡ Some s.last
+  pub history : IsHistory m.input K
+
+-- What is kept, in order, stands for histories under their names.
+abbrev pub AreSavesOf : AnswersByName → Plan → Template → List (String Global × Save) → Saves → Type 0
+AreSavesOf φ p m vs S = AllZip (λ v s. (string_bytes v.0 ≡ s.0) × IsSaveOf φ p m v.1 s.1) vs S
 
 -- Engines over functions that are held by name.
 module _ {F : Type 0} {h : _} where
   -- An engine stands for a history of a network whose `main` is a template, and whose stored functions are those that it
-  -- holds. It is not stopped.
-  pub record Runs (e : Engine F h) (n : Network) (m : Template) (L : Life) : Type 0 where
+  -- holds; and what it keeps stands for histories, under their names. It is not stopped.
+  pub record Runs (e : Engine F h) (n : Network) (m : Template) (L : Life) (S : Saves) : Type 0 where
     pub goes_on : e.stopped ≡ None
     pub network : network_of_plan (h.answers e.functions) e.plan ≡ n
     pub main : plan_tree e.plan (plan_main e.plan) ≡ m.body
@@ -28,13 +43,14 @@ module _ {F : Type 0} {h : _} where
     pub time : e.time ≡ time L
     pub last : e.last ≡ newest_input L
     pub history : IsHistory m.input L
+    pub saves : AreSavesOf (h.answers e.functions) e.plan m e.saves.entries S
 
   -- an engine is stopped by a fault
   abbrev pub IsStopped : Engine F h → Fault → Type 0
   IsStopped e f = e.stopped ≡ Some f
 
   -- a stopped engine answers its fault, and stays stopped
-  pub record StopsWith (f : Fault) (r : Result Sample EngineError) (e : Engine F h) : Type 0 where
+  pub record StopsWith {A : Type 0} (f : Fault) (r : Result A EngineError) (e : Engine F h) : Type 0 where
     pub answer : r ≡ Err (Stopped f)
     pub stays : IsStopped e f
 

@@ -2,6 +2,12 @@
 ghost use Rattle.std.specs.Prelude.{◌≡◌, ◌≤◌, IfOk, None, Some};
 ghost use Rattle.sf_law.specs.Plans.{IsPlainPlan};
 
+mod embed;
+mod save;
+
+pub use embed::Embedded;
+use indexmap::IndexMap;
+use save::Save;
 use sf_check::Checked;
 use sf_func::Holds;
 use sf_law::{Plan, plain};
@@ -29,7 +35,7 @@ pub struct Sample {
     pub value: Value,
 }
 
-/// Why there is no sample. All but `Fault` are refusals, which change nothing.
+/// Why a call doesn't do what it is for. All but `Fault` leave the engine as it was.
 #[derive(Clone, Copy, Debug, PartialEq, Eq, Error)]
 pub enum EngineError {
     /// An earlier sample had this fault.
@@ -47,12 +53,22 @@ pub enum EngineError {
     /// The value hasn't the type of the network's input.
     #[error("wrong type")]
     WrongType,
+    /// Nothing is kept under the name.
+    #[error("no save")]
+    NoSave,
+    /// Under 64 names something is kept, and not under this one.
+    #[error("too many saves")]
+    TooManySaves,
+    /// Memory ran out, before anything was changed: something was to be kept or returned to, or room was to be made.
+    #[error("out of memory")]
+    Memory,
     /// The sample has this fault. The engine is stopped.
     #[error(transparent)]
     Fault(Fault),
 }
 
-/// A network that is run sample by sample, up to the first fault, with the stored functions that it calls.
+/// A network that is run sample by sample, up to the first fault, with the stored functions that it calls. What it has
+/// come to can be kept under names, and returned to.
 ///
 /// It keeps the allocator that it was made with.
 #[derive(Drop)]
@@ -65,6 +81,7 @@ pub struct Engine<F: Holds> {
     time: u64,
     last: Option<Value>,
     stopped: Option<Fault>,
+    saves: IndexMap<String, Save>,
     ghost within: { time ≤ 4000000000000000 },
 }
 
@@ -73,7 +90,7 @@ const LONGEST_STEP: u64 = 3_600_000;
 const LAST_TIME: u64 = 4_000_000_000_000_000;
 
 impl<F: Holds> Engine<F> {
-    ghost use Rattle.std.specs.Prelude.{◌≡◌, ◌≢◌, ◌+◌, ◌≤◌, ◌↔◌, ℕ, [], ◌∷◌, Some, None, IfOk, IfErr, IfSome, IsTrue};
+    ghost use Rattle.std.specs.Prelude.{◌≡◌, ◌≢◌, ◌+◌, ◌≤◌, ◌↔◌, ℕ, [], ◌∷◌, Some, None, Result, Err, IfOk, IfErr, IfSome, OnOk, IsTrue};
     ghost use Rattle.sf_value.specs.Values.{HasKind};
     ghost use Rattle.sf_value.specs.declared.fault.Fault.{Fault};
     ghost use Rattle.sf_term.specs.Trees.{Template};
@@ -81,7 +98,8 @@ impl<F: Holds> Engine<F> {
     ghost use Rattle.sf_mean.specs.Meaning.{Network};
     ghost use Rattle.sf_mean.specs.Networks.{network_of};
     ghost use Rattle.sf_check.specs.Accepting.{program_of, checked_main};
-    ghost use Rattle.sf_engine.specs.Histories.{IsHistory, CanWait, after_start, after_step};
+    ghost use Rattle.sf_engine.specs.declared.engine.EngineError.TheVariants.{Stopped};
+    ghost use Rattle.sf_engine.specs.Histories.{IsHistory, CanWait, Saves, after_start, after_step};
     ghost use Rattle.sf_engine.specs.Running.{Runs, IsStopped, StopsWith, time_of, input_kind, last_of, MayStart, MayStep};
     ghost use Rattle.sf_engine.specs.Sampling.{Sampled, Starts, Advances};
 
@@ -93,7 +111,7 @@ impl<F: Holds> Engine<F> {
         functions: F,
         mode: Mode,
     ) -> Result<Engine<F>, (Checked, F)>
-        ensures runs { IfOk result (λ e. Runs e (network_of (F.answers functions) (program_of checked)) (checked_main checked) []) }
+        ensures runs { IfOk result (λ e. Runs e (network_of (F.answers functions) (program_of checked)) (checked_main checked) [] []) }
         ensures handed_back { IfErr result (λ back. (back.0 ≡ checked) × (back.1 ≡ functions)) }
     {
         let Ok(plan) = planned(alloc, &checked, mode) else {
@@ -112,6 +130,7 @@ impl<F: Holds> Engine<F> {
             time: 0,
             last: None,
             stopped: None,
+            saves: IndexMap::new(alloc),
         })
     }
 
@@ -119,19 +138,11 @@ impl<F: Holds> Engine<F> {
     ///
     /// Refusals, in this order: `Stopped`, `Started`, `WrongType`.
     pub fn start(&mut self, value: Value) -> Result<Sample, EngineError>
-        ensures running { (n : Network) (m : Template) (L : Life) → Runs self.old n m L →
-            Starts n m L value result self.new }
+        ensures running { (n : Network) (m : Template) (L : Life) (S : Saves) → Runs self.old n m L S →
+            Starts n m L S value result self.new }
         ensures stopped { (f : Fault) → IsStopped self.old f → StopsWith f result self.new }
     {
-        if let Some(fault) = self.stopped {
-            return Err(EngineError::Stopped(fault));
-        }
-        if self.is_started() {
-            return Err(EngineError::Started);
-        }
-        if !has_type(&value, &self.input) {
-            return Err(EngineError::WrongType);
-        }
+        self.look_at_start(&value)?;
         self.first_sample(value).map_err(EngineError::Fault)
     }
 
@@ -139,8 +150,8 @@ impl<F: Holds> Engine<F> {
     ///
     /// Refusals, in this order: `Stopped`, `NotStarted`, `BadStep`, `WrongType`.
     pub fn step(&mut self, dt: u64, value: Option<Value>) -> Result<Sample, EngineError>
-        ensures running { (n : Network) (m : Template) (L : Life) → Runs self.old n m L →
-            Advances n m L dt value result self.new }
+        ensures running { (n : Network) (m : Template) (L : Life) (S : Saves) → Runs self.old n m L S →
+            Advances n m L S dt value result self.new }
         ensures stopped { (f : Fault) → IsStopped self.old f → StopsWith f result self.new }
     {
         if let Some(fault) = self.stopped {
@@ -161,7 +172,7 @@ impl<F: Holds> Engine<F> {
     /// What `start` does where it refuses nothing, for a caller that has seen to that.
     pub fn first_sample(&mut self, value: Value) -> Result<Sample, Fault>
         requires { MayStart self.old value }
-        ensures { (n : Network) (m : Template) → Runs self.old n m [] → Sampled n m (after_start value) result self.new }
+        ensures { (n : Network) (m : Template) (S : Saves) → Runs self.old n m [] S → Sampled n m (after_start value) S result self.new }
     {
         self.sample(0, value)
     }
@@ -169,7 +180,7 @@ impl<F: Holds> Engine<F> {
     /// What `step` does where it refuses nothing, for a caller that has seen to that.
     pub fn next_sample(&mut self, dt: u64, value: Option<Value>) -> Result<Sample, Fault>
         requires { MayStep self.old dt value }
-        ensures { (n : Network) (m : Template) (L : Life) → Runs self.old n m L → Sampled n m (after_step L dt value) result self.new }
+        ensures { (n : Network) (m : Template) (L : Life) (S : Saves) → Runs self.old n m L S → Sampled n m (after_step L dt value) S result self.new }
     {
         let input = match value {
             Some(given) => given,
@@ -183,7 +194,7 @@ impl<F: Holds> Engine<F> {
 
     /// Whether there was a start.
     pub fn is_started(&self) -> bool
-        ensures history { (n : Network) (m : Template) (L : Life) → Runs self.now n m L → (IsTrue result ↔ (L ≢ [])) }
+        ensures history { (n : Network) (m : Template) (L : Life) (S : Saves) → Runs self.now n m L S → (IsTrue result ↔ (L ≢ [])) }
         ensures input { IsTrue result ↔ (last_of self.now ≢ None) }
     {
         self.last.is_some()
@@ -191,16 +202,34 @@ impl<F: Holds> Engine<F> {
 
     /// Milliseconds since the start; 0 before it.
     pub fn time(&self) -> u64
-        ensures { (n : Network) (m : Template) (L : Life) → Runs self.now n m L → result ≡ time L }
+        ensures { (n : Network) (m : Template) (L : Life) (S : Saves) → Runs self.now n m L S → result ≡ time L }
     {
         self.time
     }
 
     /// The type of the network's inputs.
     pub fn input(&self) -> &Ty
-        ensures { (n : Network) (m : Template) (L : Life) → Runs self.now n m L → result.now ≡ m.input }
+        ensures { (n : Network) (m : Template) (L : Life) (S : Saves) → Runs self.now n m L S → result.now ≡ m.input }
     {
         &self.input
+    }
+
+    /// Why a start with a value is refused, if it is.
+    fn look_at_start(&self, value: &Value) -> Result<(), EngineError>
+        ensures may { OnOk result (MayStart self.now value.now) }
+        ensures running { IfErr result (λ e. (n : Network) (m : Template) (L : Life) (S : Saves) → Runs self.now n m L S → Starts n m L S value.now (Err e) self.now) }
+        ensures stopped { (f : Fault) → IsStopped self.now f → result ≡ Err (Stopped f) }
+    {
+        if let Some(fault) = self.stopped {
+            return Err(EngineError::Stopped(fault));
+        }
+        if self.is_started() {
+            return Err(EngineError::Started);
+        }
+        if !has_type(value, &self.input) {
+            return Err(EngineError::WrongType);
+        }
+        Ok(())
     }
 
     /// Whether a step may be so long.
@@ -234,8 +263,8 @@ impl<F: Holds> Engine<F> {
     /// The sample at the next step of the history.
     fn sample(&mut self, dt: u64, input: Value) -> Result<Sample, Fault>
         requires { time_of self.old + dt ≤ 4000000000000000 }
-        ensures { (n : Network) (m : Template) (L : Life) → Runs self.old n m L → IsHistory m.input (step dt input ∷ L) →
-            Sampled n m (step dt input ∷ L) result self.new }
+        ensures { (n : Network) (m : Template) (L : Life) (S : Saves) → Runs self.old n m L S → IsHistory m.input (step dt input ∷ L) →
+            Sampled n m (step dt input ∷ L) S result self.new }
     {
         let Ok(kept) = input.clone_in(self.alloc) else {
             return Err(stop(&mut self.stopped, Fault::Memory));

@@ -2,5 +2,7 @@
 #![tactic(auto)]
 
 mod engine;
+mod react;
 
-pub use engine::{Engine, EngineError, Mode, Sample};
+pub use engine::{Embedded, Engine, EngineError, Mode, Sample};
+pub use react::{Actuator, React};

@@ -11,9 +11,10 @@ use Rattle.sf_value.specs.Reading.{Refusal, Reads}
 use Rattle.sf_value.specs.Scan.{value_at}
 use Rattle.sf_value.proofs.Settled.{answer, reads}
 use Rattle.sf_lines.specs.declared.refusal.LineRefusal.{LineRefusal}
-use Rattle.sf_lines.specs.declared.refusal.LineRefusal.TheVariants.{BadLine}
-use Rattle.sf_lines.specs.Asking.{LineForm, blank, sampled, repeated, HasForm, empty, comment, with_value, unchanged, Asked, nothing, advance, step_refusal, value_refusal, asked_at, Says, formless, silent, untimely, unread, read, again}
-use Rattle.sf_lines.specs.Parsing.{step_cap, NumberThen, BeginsNoNumber, StepThen, BeginsNoStep}
+use Rattle.sf_lines.specs.declared.refusal.LineRefusal.TheVariants.{BadLine, NotStarted}
+use Rattle.sf_lines.specs.Asking.{LineForm, blank, sampled, repeated, saving, returning, HasForm, empty, comment, with_value, unchanged, with_save, with_back, Asked, nothing, advance, save, back, step_refusal, value_refusal, asked_at, Says, formless, silent, untimely, unread, read, again, keeps, returns}
+use Rattle.sf_lines.specs.Parsing.{step_cap, NumberThen, BeginsNoNumber, StepThen, BeginsNoStep, NameBehind, NoNameBehind}
+use Rattle.sf_lines.proofs.SaveNames.{name_or}
 use Rattle.sf_lines.proofs.Parsed.{none_empty, none_other, number_zero, number_some, no_step_none, no_step_empty, no_step_other, step_then, formless_none, formless_zero, blank_comment}
 
 -- the bytes begin with a number, or with none
@@ -72,9 +73,15 @@ form_or (c ∷ line) = by_comment (c == 35) refl
     by_comment false e =
         let other : HasForm (c ∷ line) blank → ⊥ = λ h. eqb-false c 35 e ((blank_comment (c ∷ line) c line refl).1 h) in
         ⊎_elim
+        (λ (s : (name : List ℕ) × NameBehind (codes "save ") (c ∷ line) name). inl (saving s.0, with_save s.1.cut s.1.named))
+        (λ (no_save : NoNameBehind (codes "save ") (c ∷ line)). ⊎_elim
+        (λ (s : (name : List ℕ) × NameBehind (codes "back ") (c ∷ line) name). inl (returning s.0, with_back s.1.cut s.1.named))
+        (λ (no_back : NoNameBehind (codes "back ") (c ∷ line)). ⊎_elim
         (λ (s : (n : ℕ) × (value : List ℕ) × StepThen (c ∷ line) n value). stepped (c ∷ line) s.0 s.1 other s.2)
-        (λ (none : BeginsNoStep (c ∷ line)). inr (formless_none (c ∷ line) other none))
-        (step_at (c ∷ line))
+        (λ (none : BeginsNoStep (c ∷ line)). inr (formless_none (c ∷ line) other no_save no_back none))
+        (step_at (c ∷ line)))
+        (name_or (codes "back ") (c ∷ line)))
+        (name_or (codes "save ") (c ∷ line))
 
 module _ (s : Bool) (k : Kind) (line : List ℕ) where
   valued : (d : ℕ) (value : List ℕ) → HasForm line (sampled d value) → step_refusal s d ≡ None → (r : Result Data Refusal) → Reads k value r → (a : Result Asked LineRefusal) × Says s k line a
@@ -82,17 +89,27 @@ module _ (s : Bool) (k : Kind) (line : List ℕ) where
   valued d value h timely (Err r) is = (Err (value_refusal r), unread r h timely is)
 
   at_step : (d : ℕ) (value : List ℕ) → HasForm line (sampled d value) → (o : Option LineRefusal) → step_refusal s d ≡ o → (a : Result Asked LineRefusal) × Says s k line a
-  at_step d value h (Some r) e = (Err r, untimely h refl e)
+  at_step d value h (Some r) e = (Err r, untimely h e)
   at_step d value h None e = valued d value h e (answer (length value) (value_at k value)) (reads k value)
 
   once_more : (d : ℕ) → HasForm line (repeated d) → (o : Option LineRefusal) → step_refusal s d ≡ o → (a : Result Asked LineRefusal) × Says s k line a
-  once_more d h (Some r) e = (Err r, untimely h refl e)
+  once_more d h (Some r) e = (Err r, untimely h e)
   once_more d h None e = (Ok (advance d None), again h e)
+
+  kept : (name : List ℕ) → HasForm line (saving name) → (b : Bool) → s ≡ b → (a : Result Asked LineRefusal) × Says s k line a
+  kept name h true e = (Ok (save name), keeps h e)
+  kept name h false e = (Err NotStarted, untimely h (rw e refl))
+
+  returned : (name : List ℕ) → HasForm line (returning name) → (b : Bool) → s ≡ b → (a : Result Asked LineRefusal) × Says s k line a
+  returned name h true e = (Ok (back name), returns h e)
+  returned name h false e = (Err NotStarted, untimely h (rw e refl))
 
   answered : (form : LineForm) → HasForm line form → (a : Result Asked LineRefusal) × Says s k line a
   answered blank h = (Ok nothing, silent h)
   answered (sampled d value) h = at_step d value h (step_refusal s d) refl
   answered (repeated d) h = once_more d h (step_refusal s d) refl
+  answered (saving name) h = kept name h s refl
+  answered (returning name) h = returned name h s refl
 
   -- a line asks for something or is refused
   pub some_answer : (a : Result Asked LineRefusal) × Says s k line a

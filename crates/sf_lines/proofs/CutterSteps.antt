@@ -9,7 +9,7 @@ use Rattle.sf_lines.specs.declared.cutter.State.TheVariants.{Unfinished, Complet
 use Rattle.sf_lines.specs.declared.cutter.Cut.{Cut}
 use Rattle.sf_lines.specs.declared.cutter.Cut.TheVariants.{Line, Part}
 use Rattle.sf_lines.specs.declared.refusal.LineRefusal.{LineRefusal}
-use Rattle.sf_lines.specs.declared.refusal.LineRefusal.TheVariants.{BadLine, LineTooLong, TooManyLines, NotStarted, Started, BadStep, BadValue, OutOfRange, DuplicateKey, Memory}
+use Rattle.sf_lines.specs.declared.refusal.LineRefusal.TheVariants.{BadLine, LineTooLong, TooManyLines, NotStarted, Started, BadStep, BadValue, OutOfRange, DuplicateKey, NoSave, TooManySaves, Memory}
 use Rattle.std.specs.List.{onto_first}
 use Rattle.sf_lines.specs.Lines.{NoFeed, Splits, lines_of}
 use Rattle.sf_lines.specs.Limits.{limit_refusal, RefusesNext}
@@ -156,6 +156,8 @@ refuses_next old stream lines piece BadStep s k = absurd k
 refuses_next old stream lines piece BadValue s k = absurd k
 refuses_next old stream lines piece OutOfRange s k = absurd k
 refuses_next old stream lines piece DuplicateKey s k = absurd k
+refuses_next old stream lines piece NoSave s k = absurd k
+refuses_next old stream lines piece TooManySaves s k = absurd k
 refuses_next old stream lines piece Memory s k = absurd k
 
 pub takes_cut : (old new : Cutter) (stream : List ℕ) (lines : List (List ℕ)) (piece : List ℕ) (cut : Cut) → CutterStands old stream lines → CutsPiece old piece (Ok cut) new → TakesPiece stream lines piece (Ok cut) new

@@ -1,6 +1,6 @@
 pub mod Splitting
 pub mod CutterSteps
 pub mod Forms
+pub mod SaveNames
 pub mod Parsed
 pub mod Answered
-pub mod Timely

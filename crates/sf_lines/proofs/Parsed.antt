@@ -16,13 +16,13 @@ use Rattle.sf_decimal.proofs.Numbers.{natural_small}
 use Rattle.sf_decimal.proofs.Digits.{digit_low, digit_from, numeral_at, natural-cut, natural-head}
 use Rattle.sf_decimal.proofs.Runs.{take_whole}
 use Rattle.sf_lines.specs.declared.refusal.LineRefusal.{LineRefusal}
-use Rattle.sf_lines.specs.declared.refusal.LineRefusal.TheVariants.{Memory}
+use Rattle.sf_lines.specs.declared.refusal.LineRefusal.TheVariants.{Memory, NotStarted}
 use Rattle.sf_lines.specs.Refusals.{refusal_from}
-use Rattle.sf_lines.specs.Asking.{LineForm, blank, sampled, repeated, HasForm, empty, comment, with_value, unchanged, advance, step_of, step_refusal, value_refusal, asked_at, Says, untimely, unread, read, again, HasTimelyValue}
+use Rattle.sf_lines.specs.Asking.{LineForm, blank, sampled, repeated, HasForm, empty, comment, with_value, unchanged, with_save, with_back, advance, step_refusal, time_refusal, value_refusal, asked_at, Says, untimely, unread, read, again, HasTimelyValue}
 use Rattle.sf_lines.specs.declared.reader.Command.{Command}
 use Rattle.sf_lines.specs.Commands.{asked_of}
-use Rattle.sf_lines.specs.Parsing.{step_cap, NumberThen, BeginsNoNumber, StepThen, BeginsNoStep}
-use Rattle.sf_lines.proofs.Forms.{no_digit}
+use Rattle.sf_lines.specs.Parsing.{step_cap, NumberThen, BeginsNoNumber, StepThen, BeginsNoStep, NoNameBehind}
+use Rattle.sf_lines.proofs.Forms.{no_digit, save_first, back_first, number_or_name}
 
 -- a value that is not read is refused, unless memory runs out
 pub read_failed : (k : Kind) (bytes : List ℕ) (e : ReadRefusal) (r : LineRefusal) → Refuses k bytes e → r ≡ refusal_from e → r ≢ Memory → (why : Refusal) × Reads k bytes (Err why) × (r ≡ value_refusal why)
@@ -94,15 +94,17 @@ step_then bytes n rest value h e = record {
   cut = h.cut ∙ ap (λ x. natural h.number ++ x) e;
 }
 
--- a line without a step has no form but the blank one
-pub formless_none : (bytes : List ℕ) → (HasForm bytes blank → ⊥) → BeginsNoStep bytes → (form : LineForm) → HasForm bytes form → ⊥
-formless_none bytes some none form h = at bytes form h some none
+-- a line without a step and without a name has no form but the blank one
+pub formless_none : (bytes : List ℕ) → (HasForm bytes blank → ⊥) → NoNameBehind (codes "save ") bytes → NoNameBehind (codes "back ") bytes → BeginsNoStep bytes → (form : LineForm) → HasForm bytes form → ⊥
+formless_none bytes some no_save no_back none form h = at bytes form h some no_save no_back none
   where
-    at : (bytes : List ℕ) (form : LineForm) → HasForm bytes form → (HasForm bytes blank → ⊥) → BeginsNoStep bytes → ⊥
-    at _ _ empty some none = some empty
-    at _ _ comment some none = some comment
-    at _ _ (with_value {value = value} {d = d} e n) some none = none d value e
-    at _ _ (unchanged {d = d} e n) some none = none d (codes "=") e
+    at : (bytes : List ℕ) (form : LineForm) → HasForm bytes form → (HasForm bytes blank → ⊥) → NoNameBehind (codes "save ") bytes → NoNameBehind (codes "back ") bytes → BeginsNoStep bytes → ⊥
+    at _ _ empty some no_save no_back none = some empty
+    at _ _ comment some no_save no_back none = some comment
+    at _ _ (with_value {value = value} {d = d} e n) some no_save no_back none = none d value e
+    at _ _ (unchanged {d = d} e n) some no_save no_back none = none d (codes "=") e
+    at _ _ (with_save {name = name} e w) some no_save no_back none = no_save name e w
+    at _ _ (with_back {name = name} e w) some no_save no_back none = no_back name e w
 
 -- a step of 0 with the input unchanged
 pub formless_zero : (bytes : List ℕ) (n : ℕ) (value : List ℕ) → (HasForm bytes blank → ⊥) → StepThen bytes n value → value ≡ codes "=" → n ≡ 0 → (form : LineForm) → HasForm bytes form → ⊥
@@ -121,6 +123,8 @@ formless_zero bytes n value some s is zero_step form h = at bytes form h some s
         let steps = same.0 in
         let capped = s.capped in
         omega arith
+    at bytes _ (with_save {name = name} e w) some s = number_or_name bytes s.step 115 (32 ∷ value) s.cut (save_first name bytes e) (omega arith)
+    at bytes _ (with_back {name = name} e w) some s = number_or_name bytes s.step 98 (32 ∷ value) s.cut (back_first name bytes e) (omega arith)
 
 -- a time step up to the cap has the refusal of the step itself
 pub step_refusal-capped : (s : Bool) (n d : ℕ) → n ≡ min d step_cap → step_refusal s n ≡ step_refusal s d
@@ -171,8 +175,12 @@ pub step_positive : (n d : ℕ) → n ≡ min d step_cap → 0 < n → 0 < d
 step_positive n d e h = omega arith
 
 -- a refused time step refuses the line
-pub says_untimely : (s : Bool) (k : Kind) (bytes : List ℕ) (form : LineForm) (n d : ℕ) (r : LineRefusal) → n ≡ min d step_cap → HasForm bytes form → step_of form ≡ Some d → Some r ≡ step_refusal s n → Says s k bytes (Err r)
-says_untimely s k bytes form n d r e h is refused = untimely h is (sym (step_refusal-capped s n d e) ∙ sym refused)
+module _ (s : Bool) (k : Kind) (bytes : List ℕ) (n d : ℕ) (r : LineRefusal) where
+  pub says_late_value : (value : List ℕ) → n ≡ min d step_cap → HasForm bytes (sampled d value) → Some r ≡ step_refusal s n → Says s k bytes (Err r)
+  says_late_value value e h refused = untimely h (sym (step_refusal-capped s n d e) ∙ sym refused)
+
+  pub says_late_again : n ≡ min d step_cap → HasForm bytes (repeated d) → Some r ≡ step_refusal s n → Says s k bytes (Err r)
+  says_late_again e h refused = untimely h (sym (step_refusal-capped s n d e) ∙ sym refused)
 
 -- no time step is refused for want of memory
 pub step_memory : (s : Bool) (n : ℕ) (r : LineRefusal) → Some r ≡ step_refusal s n → r ≢ Memory
@@ -216,3 +224,7 @@ pub says_again : (s : Bool) (k : Kind) (bytes : List ℕ) (n d : ℕ) → n ≡ 
 says_again s k bytes n d e h timely =
     let same : n ≡ d = timely_step s n d e (sym timely) in
     subst (λ t. Says s k bytes (Ok (advance t None))) (sym same) (again h (sym (step_refusal-capped s n d e) ∙ sym timely))
+
+-- before the start nothing is kept or returned to
+pub says_early : (s : Bool) (k : Kind) (bytes : List ℕ) (form : LineForm) → HasForm bytes form → s ≡ false → time_refusal false form ≡ Some NotStarted → Says s k bytes (Err NotStarted)
+says_early s k bytes form h e early = untimely h (ap (λ b. time_refusal b form) e ∙ early)

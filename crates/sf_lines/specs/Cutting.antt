@@ -6,7 +6,7 @@ use Rattle.sf_lines.specs.declared.cutter.State.TheVariants.{Unfinished, Complet
 use Rattle.sf_lines.specs.declared.cutter.Cut.{Cut}
 use Rattle.sf_lines.specs.declared.cutter.Cut.TheVariants.{Line, Part}
 use Rattle.sf_lines.specs.declared.refusal.LineRefusal.{LineRefusal}
-use Rattle.sf_lines.specs.declared.refusal.LineRefusal.TheVariants.{BadLine, LineTooLong, TooManyLines, NotStarted, Started, BadStep, BadValue, OutOfRange, DuplicateKey, Memory}
+use Rattle.sf_lines.specs.declared.refusal.LineRefusal.TheVariants.{BadLine, LineTooLong, TooManyLines, NotStarted, Started, BadStep, BadValue, OutOfRange, DuplicateKey, NoSave, TooManySaves, Memory}
 use Rattle.sf_lines.specs.Lines.{NoFeed}
 
 abbrev pub unfinished_at : State → List ℕ → List ℕ
@@ -87,6 +87,8 @@ CutRefused old piece BadStep = ⊥
 CutRefused old piece BadValue = ⊥
 CutRefused old piece OutOfRange = ⊥
 CutRefused old piece DuplicateKey = ⊥
+CutRefused old piece NoSave = ⊥
+CutRefused old piece TooManySaves = ⊥
 CutRefused old piece Memory = ⊥
 
 abbrev pub CutsPiece : Cutter → List ℕ → Result Cut LineRefusal → Cutter → Type 0

@@ -5,7 +5,7 @@ use Rattle.sf_value.specs.declared.fault.ValueFault.TheVariants.{Overflow, Divid
 use Rattle.sf_value.specs.declared.fault.Fault.{Fault}
 use Rattle.sf_value.specs.declared.fault.Fault.TheVariants as fault
 use Rattle.sf_lines.specs.declared.refusal.LineRefusal.{LineRefusal}
-use Rattle.sf_lines.specs.declared.refusal.LineRefusal.TheVariants.{BadLine, LineTooLong, TooManyLines, NotStarted, Started, BadStep, BadValue, OutOfRange, DuplicateKey, Memory}
+use Rattle.sf_lines.specs.declared.refusal.LineRefusal.TheVariants.{BadLine, LineTooLong, TooManyLines, NotStarted, Started, BadStep, BadValue, OutOfRange, DuplicateKey, NoSave, TooManySaves, Memory}
 
 abbrev pub refusal_name : LineRefusal → List ℕ
 refusal_name BadLine = codes "BadLine"
@@ -17,6 +17,8 @@ refusal_name BadStep = codes "BadStep"
 refusal_name BadValue = codes "BadValue"
 refusal_name OutOfRange = codes "OutOfRange"
 refusal_name DuplicateKey = codes "DuplicateKey"
+refusal_name NoSave = codes "NoSave"
+refusal_name TooManySaves = codes "TooManySaves"
 refusal_name Memory = codes "Memory"
 
 abbrev pub value_fault_name : ValueFault → List ℕ

@@ -1,8 +1,9 @@
 //! The lines of an input and of an output.
 //!
-//! An input line is empty or a comment behind `#`, `DT VALUE`, a time step in milliseconds and a value, or `DT =`,
-//! a step with the input unchanged. An output line is `> T VALUE`, a sample, `! T FAULT`, the fault of a sample, or
-//! `! line N REFUSAL`, the refusal of an input line.
+//! An input line is empty or a comment behind `#`, `DT VALUE`, a time step in milliseconds and a value, `DT =`, a step
+//! with the input unchanged, `save NAME`, which keeps the state under a name, or `back NAME`, which returns to it. An
+//! output line is `> T VALUE`, a sample, `! T FAULT`, the fault of a sample, or `! line N REFUSAL`, the refusal of an
+//! input line.
 #![tactic(auto)]
 
 mod cutter;
@@ -10,6 +11,7 @@ mod laws;
 mod reader;
 mod refusal;
 mod short;
+mod word;
 mod writer;
 
 pub use cutter::{Cut, Cutter};

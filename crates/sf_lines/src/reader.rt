@@ -5,22 +5,27 @@ ghost use Rattle.sf_value.specs.Reading.{Refusal, Reads};
 ghost use Rattle.sf_lines.specs.declared.refusal.LineRefusal.TheVariants.{Memory};
 ghost use Rattle.sf_lines.specs.Asking.{LineForm, blank, HasForm, step_refusal, value_refusal, asked_at, Says, HasTimelyValue};
 ghost use Rattle.sf_lines.specs.Commands.{asked_of};
-ghost use Rattle.sf_lines.specs.Parsing.{NumberThen, BeginsNoNumber, StepThen, BeginsNoStep, HasParts};
+ghost use Rattle.sf_lines.specs.Parsing.{NumberThen, BeginsNoNumber, StepThen, BeginsNoStep, NameBehind, NoNameBehind, HasParts};
 
 use crate::refusal::LineRefusal;
+use crate::word::word_of;
 use sf_decimal::digits_at;
 use sf_value::{Ty, Value, read_value};
 use std::alloc::Global;
 
 /// What an input line asks for.
 #[derive(Drop)]
-pub enum Command {
+pub enum Command<'a> {
     /// Nothing: the line is empty or a comment.
     Nothing,
     /// A start with this value.
     Start(Value),
     /// A step of so many milliseconds, 1 to 3,600,000. Without a value the input is unchanged.
     Step { dt: u64, input: Option<Value> },
+    /// To keep the state under this name.
+    Save(&'a str),
+    /// To return to the state that was kept under this name.
+    Back(&'a str),
 }
 
 /// The parts of a line, its time step up to the cap.
@@ -29,19 +34,21 @@ pub(crate) enum Parts<'a> {
     Blank,
     Sampled(u64, &'a [u8]),
     Repeated(u64),
+    Save(&'a str),
+    Back(&'a str),
 }
 
 /// The command of an input line, its line feed apart, where an engine has started or not and its input has this type.
 ///
-/// The form of a line is looked at first, then its time step, then its value: `BadLine`; `NotStarted` or `Started`;
-/// `BadStep`; `BadValue`, `OutOfRange` or `DuplicateKey`. `Memory` is answered only where memory runs out, and only of a line with a time
-/// step and a value whose time step is not refused: no other line takes memory.
-pub fn read_line(
+/// The form of a line is looked at first, then its time, then its value: `BadLine`; `NotStarted` or `Started`; `BadStep`;
+/// `BadValue`, `OutOfRange` or `DuplicateKey`. `Memory` is answered only where memory runs out, and only of a line with
+/// a time step and a value whose time step is not refused: no other line takes memory.
+pub fn read_line<'a>(
     alloc: Global,
-    bytes: &[u8],
+    bytes: &'a [u8],
     started: bool,
     ty: &Ty,
-) -> Result<Command, LineRefusal>
+) -> Result<Command<'a>, LineRefusal>
     ensures ok { IfOk result (λ c. Says started ty.now bytes.now (Ok (asked_of c))) }
     ensures refused { IfErr result (λ e. e ≢ Memory → Says started ty.now bytes.now (Err e)) }
     // Memory is taken for a value alone.
@@ -61,11 +68,30 @@ pub fn read_line(
                 input: None,
             }),
         },
+        Some(Parts::Save(name)) => {
+            if started {
+                Ok(Command::Save(name))
+            } else {
+                Err(LineRefusal::NotStarted)
+            }
+        }
+        Some(Parts::Back(name)) => {
+            if started {
+                Ok(Command::Back(name))
+            } else {
+                Err(LineRefusal::NotStarted)
+            }
+        }
     }
 }
 
 /// The start or the step with a value.
-fn sample_at(alloc: Global, step: u64, value: &[u8], ty: &Ty) -> Result<Command, LineRefusal>
+fn sample_at(
+    alloc: Global,
+    step: u64,
+    value: &[u8],
+    ty: &Ty,
+) -> Result<Command<'static>, LineRefusal>
     ensures ok { IfOk result (λ c. (x : Data) × Reads ty.now value.now (Ok x)
         × (asked_of c ≡ asked_at step x)) }
     ensures err { IfErr result (λ e. e ≢ Memory →
@@ -116,6 +142,12 @@ fn parts_of(bytes: &[u8]) -> Option<Parts<'_>>
     if is_blank(bytes) {
         return Some(Parts::Blank);
     }
+    if let Some(name) = name_behind(b"save ", bytes) {
+        return Some(Parts::Save(name));
+    }
+    if let Some(name) = name_behind(b"back ", bytes) {
+        return Some(Parts::Back(name));
+    }
     match step_at(bytes) {
         None => None,
         Some((step, value)) => {
@@ -138,6 +170,14 @@ fn is_blank(bytes: &[u8]) -> bool
         [] => true,
         [c, ..] => *c == b'#',
     }
+}
+
+/// The name of a save, where it is all that is behind these first bytes.
+fn name_behind<'a>(front: &[u8], bytes: &'a [u8]) -> Option<&'a str>
+    ensures { MatchOption result (NoNameBehind front.now bytes.now)
+        (λ name. NameBehind front.now bytes.now name.now) }
+{
+    word_of(bytes.strip_prefix(front)?)
 }
 
 /// The time step at the front, up to the cap, and what is after the space behind it.

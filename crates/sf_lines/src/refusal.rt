@@ -17,7 +17,7 @@ pub enum LineRefusal {
     /// A million lines stand before it.
     #[error("TooManyLines")]
     TooManyLines,
-    /// A step comes before the first sample.
+    /// A step, a save or a return comes before the first sample.
     #[error("NotStarted")]
     NotStarted,
     /// A first sample comes a second time.
@@ -35,6 +35,12 @@ pub enum LineRefusal {
     /// A key stands twice in a table.
     #[error("DuplicateKey")]
     DuplicateKey,
+    /// No state was kept under the name. It comes from the engine, and `read_line` never answers it.
+    #[error("NoSave")]
+    NoSave,
+    /// Sixty-four states are kept under other names. It comes from the engine, and `read_line` never answers it.
+    #[error("TooManySaves")]
+    TooManySaves,
     /// Memory ran out.
     #[error("Memory")]
     Memory,

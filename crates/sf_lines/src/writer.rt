@@ -97,6 +97,8 @@ fn name_of_refusal(refusal: LineRefusal) -> &'static [u8]
         LineRefusal::BadValue => b"BadValue",
         LineRefusal::OutOfRange => b"OutOfRange",
         LineRefusal::DuplicateKey => b"DuplicateKey",
+        LineRefusal::NoSave => b"NoSave",
+        LineRefusal::TooManySaves => b"TooManySaves",
         LineRefusal::Memory => b"Memory",
     }
 }

@@ -1,13 +1,13 @@
 -- What a line asks an engine for can be given.
 use Rattle.std.proofs.Common.{◌≡◌, ◌≢◌, ℕ, zero, suc, ◌*◌, ◌<◌, ◌≤◌, Bool, true, false, IsTrue, ◌↔◌, List, [], ◌∷◌, Option, Some, None, Result, Ok, IfSome, refl, subst, arith}
 use Rattle.std.proofs.lemmas.Bool.Decides.{nat_tests}
-use Rattle.sf_value.specs.Values.{Kind, Data, HasKind}
+use Rattle.sf_value.specs.Values.{Name, Kind, Data, HasKind}
 use Rattle.sf_term.specs.Trees.{Template}
 use Rattle.sf_mean.specs.Lives.{Life}
 use Rattle.sf_mean.specs.Meaning.{Network}
 use Rattle.sf_engine.specs.Histories.{CanWait}
 use Rattle.sf_lines.specs.Limits.{limit_refusal}
-use Rattle.sf_lines.specs.Asking.{HasForm, repeated, unchanged, Asked, start, advance, step_refusal, Says, formless, silent, untimely, unread, read, again}
+use Rattle.sf_lines.specs.Asking.{HasForm, repeated, unchanged, Asked, start, advance, save, back, step_refusal, Says, formless, silent, untimely, unread, read, again, keeps, returns}
 use Rattle.sf_lines.specs.declared.refusal.LineRefusal.{LineRefusal}
 use Rattle.sf_player.specs.Scripts.{Moment, has_begun, Asks}
 
@@ -52,7 +52,7 @@ step_of {s = s} {k = k} {d = d} {t = t} {x = x} {y = y} e some timely typed =
 pub advance_asked : {s : Bool} {k : Kind} {line : List ℕ} {r : Result Asked LineRefusal} {d : ℕ} {x : Option Data} → Says s k line r → r ≡ Ok (advance d x) → IsStep s k d x
 advance_asked (formless none) e = absurd cc
 advance_asked (silent g) e = absurd cc
-advance_asked (untimely g is late) e = absurd cc
+advance_asked (untimely g late) e = absurd cc
 advance_asked (unread r g timely reads) e = absurd cc
 advance_asked (read {d = zero} g timely reads) e = absurd cc
 advance_asked {d = d} {x = x} (read {d = suc t} {x = v} g timely reads) e =
@@ -61,18 +61,45 @@ advance_asked {d = d} {x = x} (read {d = suc t} {x = v} g timely reads) e =
 advance_asked {d = d} {x = x} (again {d = t} g timely) e =
     let same : advance t None ≡ advance d x = cc in
     step_of same (some_wait g) timely tt
+advance_asked (keeps g started) e = absurd cc
+advance_asked (returns g started) e = absurd cc
 
 -- a start that is asked for
 pub start_asked : {s : Bool} {k : Kind} {line : List ℕ} {r : Result Asked LineRefusal} {x : Data} → Says s k line r → r ≡ Ok (start x) → (s ≡ false) × HasKind x k
 start_asked (formless none) e = absurd cc
 start_asked (silent g) e = absurd cc
-start_asked (untimely g is late) e = absurd cc
+start_asked (untimely g late) e = absurd cc
 start_asked (unread r g timely reads) e = absurd cc
 start_asked {s = true} (read {d = zero} g timely reads) e = absurd cc
 start_asked {s = false} {k = k} {x = x} (read {d = zero} {x = v} g timely reads) e =
     let same : v ≡ x = cc in (refl, subst (λ y. HasKind y k) same reads.0)
 start_asked (read {d = suc t} g timely reads) e = absurd cc
 start_asked (again g timely) e = absurd cc
+start_asked (keeps g started) e = absurd cc
+start_asked (returns g started) e = absurd cc
+
+-- nothing is kept or returned to before the start
+pub save_asked : {s : Bool} {k : Kind} {line : List ℕ} {r : Result Asked LineRefusal} {name : Name} → Says s k line r → r ≡ Ok (save name) → s ≡ true
+save_asked (formless none) e = absurd cc
+save_asked (silent g) e = absurd cc
+save_asked (untimely g late) e = absurd cc
+save_asked (unread r g timely reads) e = absurd cc
+save_asked (read {d = zero} g timely reads) e = absurd cc
+save_asked (read {d = suc t} g timely reads) e = absurd cc
+save_asked (again g timely) e = absurd cc
+save_asked (keeps g started) e = started
+save_asked (returns g started) e = started
+
+pub back_asked : {s : Bool} {k : Kind} {line : List ℕ} {r : Result Asked LineRefusal} {name : Name} → Says s k line r → r ≡ Ok (back name) → s ≡ true
+back_asked (formless none) e = absurd cc
+back_asked (silent g) e = absurd cc
+back_asked (untimely g late) e = absurd cc
+back_asked (unread r g timely reads) e = absurd cc
+back_asked (read {d = zero} g timely reads) e = absurd cc
+back_asked (read {d = suc t} g timely reads) e = absurd cc
+back_asked (again g timely) e = absurd cc
+back_asked (keeps g started) e = started
+back_asked (returns g started) e = started
 
 -- a life that has begun
 pub begun : (b : Bool) (L : Life) → b ≡ has_begun L → b ≡ true → L ≢ []

@@ -1,5 +1,6 @@
 pub mod Known
 pub mod Asked
+pub mod Saving
 pub mod Samples
 pub mod Steps
 pub mod Refusing

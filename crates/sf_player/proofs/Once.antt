@@ -1,47 +1,66 @@
 -- Scripts, line by line from their first line on: there is one at most.
 use Rattle.std.proofs.Common.{◌≡◌, ℕ, ◌+◌, List, [], ◌∷◌, ◌++◌, Some, None, Result, Ok, Err, refl, sym, ap, ◌∙◌, subst, append_assoc}
 use Rattle.std.proofs.lemmas.List.{append-nil}
-use Rattle.sf_value.specs.Values.{Data}
+use Rattle.sf_value.specs.Values.{Name, Data}
 use Rattle.sf_value.specs.declared.fault.ValueFault.{ValueFault}
 use Rattle.sf_value.specs.declared.fault.Fault.TheVariants.{Value, Large}
 use Rattle.sf_term.specs.Trees.{Template}
 use Rattle.sf_mean.specs.Lives.{Life, time, closure, empty}
 use Rattle.sf_mean.specs.Meaning.{Network, Readings, Outcome, gave, faulted, Cost, Gives}
 use Rattle.sf_mean.proofs.Once.{once}
+use Rattle.sf_engine.specs.Histories.{saved_under, keep_under, MaySave}
 use Rattle.sf_lines.specs.Limits.{limit_refusal}
-use Rattle.sf_lines.specs.Asking.{Asked, nothing, start, advance, Says}
+use Rattle.sf_lines.specs.Asking.{Asked, nothing, start, advance, save, back, Says}
 use Rattle.sf_lines.specs.Written.{sample_line, fault_line, refusal_line}
 use Rattle.sf_lines.specs.declared.refusal.LineRefusal.{LineRefusal}
+use Rattle.sf_lines.specs.declared.refusal.LineRefusal.TheVariants.{NoSave, TooManySaves}
 use Rattle.sf_lines.proofs.Forms.{one_answer}
-use Rattle.sf_player.specs.Scripts.{Moment, has_begun, life_after, IsSample, Ending, input_ended, sample_faulted, line_refused, Turn, goes_on, ends, Replies, past_limits, refused, quiet, gives_value, gives_fault, gives_none, LeadsTo, no_line, one_more, Script, to_the_end, up_to, Agree, both_go_on, both_end}
+use Rattle.sf_player.specs.Scripts.{Moment, has_begun, life_after, IsSample, Ending, input_ended, sample_faulted, line_refused, Turn, goes_on, ends, Replies, past_limits, refused, quiet, keeps, keeps_no_more, returns, returns_nowhere, gives_value, gives_fault, gives_none, LeadsTo, no_line, one_more, Script, to_the_end, up_to, Agree, both_go_on, both_end}
 
 -- what a sample gives
-data SampleGives (n : Network) (m : Template) (taken : ℕ) (L : Life) : List ℕ → Turn → Type 0 where
-  a_value : {y : Data} {r : Readings} {c : Cost} → Gives n (closure m.body empty) L (gave y r) c → SampleGives n m taken L (sample_line (time L) y) (goes_on (record { taken = taken + 1; lived = L }))
-  a_fault : {x : ValueFault} {c : Cost} → Gives n (closure m.body empty) L (faulted x) c → SampleGives n m taken L (fault_line (time L) (Value x)) (ends sample_faulted)
-  nothing_at_all : ((o : Outcome) (c : Cost) → Gives n (closure m.body empty) L o c → ⊥) → SampleGives n m taken L (fault_line (time L) Large) (ends sample_faulted)
+data SampleGives (n : Network) (m : Template) (now : Moment) (L : Life) : List ℕ → Turn → Type 0 where
+  a_value : {y : Data} {r : Readings} {c : Cost} → Gives n (closure m.body empty) L (gave y r) c → SampleGives n m now L (sample_line (time L) y) (goes_on (record now { taken = now.taken + 1; lived = L }))
+  a_fault : {x : ValueFault} {c : Cost} → Gives n (closure m.body empty) L (faulted x) c → SampleGives n m now L (fault_line (time L) (Value x)) (ends sample_faulted)
+  nothing_at_all : ((o : Outcome) (c : Cost) → Gives n (closure m.body empty) L o c → ⊥) → SampleGives n m now L (fault_line (time L) Large) (ends sample_faulted)
+
+-- what a line gives that keeps a life, and one that returns to one
+data KeepingGives (now : Moment) (name : Name) : List ℕ → Turn → Type 0 where
+  a_place : MaySave name now.saved → KeepingGives now name [] (goes_on (record now { taken = now.taken + 1; saved = keep_under name now.lived now.saved }))
+  no_place : ¬ MaySave name now.saved → KeepingGives now name (refusal_line (now.taken + 1) TooManySaves) (ends line_refused)
+
+data ReturningGives (now : Moment) (name : Name) : List ℕ → Turn → Type 0 where
+  a_life : {K : Life} → saved_under name now.saved ≡ Some K → ReturningGives now name [] (goes_on (record now { taken = now.taken + 1; lived = K }))
+  no_life : saved_under name now.saved ≡ None → ReturningGives now name (refusal_line (now.taken + 1) NoSave) (ends line_refused)
 
 -- what a line gives, where it is within the limits
 abbrev GivesFor : Network → Template → Moment → Result Asked LineRefusal → List ℕ → Turn → Type 0
 GivesFor n m now (Err r) x t = (x ≡ refusal_line (now.taken + 1) r) × (t ≡ ends line_refused)
 GivesFor n m now (Ok nothing) x t = (x ≡ []) × (t ≡ goes_on (record now { taken = now.taken + 1 }))
-GivesFor n m now (Ok (start v)) x t = SampleGives n m now.taken (life_after (start v) now.lived) x t
-GivesFor n m now (Ok (advance d v)) x t = SampleGives n m now.taken (life_after (advance d v) now.lived) x t
+GivesFor n m now (Ok (start v)) x t = SampleGives n m now (life_after (start v) now.lived) x t
+GivesFor n m now (Ok (advance d v)) x t = SampleGives n m now (life_after (advance d v) now.lived) x t
+GivesFor n m now (Ok (save name)) x t = KeepingGives now name x t
+GivesFor n m now (Ok (back name)) x t = ReturningGives now name x t
 
 -- a line is past the limits, or says something
 data Replied (n : Network) (m : Template) (now : Moment) (line x : List ℕ) (t : Turn) : Type 0 where
   by_limits : {r : LineRefusal} → limit_refusal now.taken line ≡ Some r → x ≡ refusal_line (now.taken + 1) r → t ≡ ends line_refused → Replied n m now line x t
   by_saying : (a : Result Asked LineRefusal) → limit_refusal now.taken line ≡ None → Says (has_begun now.lived) m.input line a → GivesFor n m now a x t → Replied n m now line x t
 
-sampled : {n : Network} {m : Template} (now : Moment) {x : List ℕ} {t : Turn} (a : Asked) (L : Life) → IsSample a → life_after a now.lived ≡ L → SampleGives n m now.taken L x t → GivesFor n m now (Ok a) x t
-sampled now nothing L is q S = absurd (is refl)
-sampled {n = n} {m = m} now {x = x} {t = t} (start v) L is q S = subst (λ l. SampleGives n m now.taken l x t) (sym q) S
-sampled {n = n} {m = m} now {x = x} {t = t} (advance d v) L is q S = subst (λ l. SampleGives n m now.taken l x t) (sym q) S
+sampled : {n : Network} {m : Template} (now : Moment) {x : List ℕ} {t : Turn} (a : Asked) (L : Life) → IsSample a → life_after a now.lived ≡ L → SampleGives n m now L x t → GivesFor n m now (Ok a) x t
+sampled now nothing L is q S = absurd is
+sampled {n = n} {m = m} now {x = x} {t = t} (start v) L is q S = subst (λ l. SampleGives n m now l x t) (sym q) S
+sampled {n = n} {m = m} now {x = x} {t = t} (advance d v) L is q S = subst (λ l. SampleGives n m now l x t) (sym q) S
+sampled now (save name) L is q S = absurd is
+sampled now (back name) L is q S = absurd is
 
 replied : {n : Network} {m : Template} {now : Moment} {line x : List ℕ} {t : Turn} → Replies n m now line x t → Replied n m now line x t
 replied (past_limits e) = by_limits e refl refl
 replied (refused {r = r} e s) = by_saying (Err r) e s (refl, refl)
 replied (quiet a) = by_saying (Ok nothing) a.within a.says (refl, refl)
+replied (keeps {name = name} a may) = by_saying (Ok (save name)) a.within a.says (a_place may)
+replied (keeps_no_more {name = name} a full) = by_saying (Ok (save name)) a.within a.says (no_place full)
+replied (returns {name = name} a found) = by_saying (Ok (back name)) a.within a.says (a_life found)
+replied (returns_nowhere {name = name} a absent) = by_saying (Ok (back name)) a.within a.says (no_life absent)
 replied (gives_value {a = a} {L = L} asks is q G) = by_saying (Ok a) asks.within asks.says (sampled _ a L is q (a_value G))
 replied (gives_fault {a = a} {L = L} asks is q G) = by_saying (Ok a) asks.within asks.says (sampled _ a L is q (a_fault G))
 replied (gives_none {a = a} {L = L} asks is q none) = by_saying (Ok a) asks.within asks.says (sampled _ a L is q (nothing_at_all none))
@@ -50,8 +69,8 @@ replied (gives_none {a = a} {L = L} asks is q none) = by_saying (Ok a) asks.with
 abbrev Same : List ℕ → List ℕ → Turn → Turn → Type 0
 Same x y t u = (x ≡ y) × (t ≡ u)
 
-sample_once : {n : Network} {m : Template} {taken : ℕ} {L : Life} {x y : List ℕ} {t u : Turn} → SampleGives n m taken L x t → SampleGives n m taken L y u → Same x y t u
-sample_once {n = n} {taken = taken} {L = L} (a_value {y = y} {r = r} G) (a_value {y = z} {r = q} H) =
+sample_once : {n : Network} {m : Template} {now : Moment} {L : Life} {x y : List ℕ} {t u : Turn} → SampleGives n m now L x t → SampleGives n m now L y u → Same x y t u
+sample_once {n = n} {L = L} (a_value {y = y} {r = r} G) (a_value {y = z} {r = q} H) =
     let o : gave y r ≡ gave z q = (once n G H).0 in
     let same : y ≡ z = cc in
     (ap (sample_line (time L)) same, refl)
@@ -67,11 +86,28 @@ sample_once (nothing_at_all none) (a_value G) = absurd (none _ _ G)
 sample_once (nothing_at_all none) (a_fault G) = absurd (none _ _ G)
 sample_once (nothing_at_all none) (nothing_at_all more) = (refl, refl)
 
+keeping_once : {now : Moment} {name : Name} {x y : List ℕ} {t u : Turn} → KeepingGives now name x t → KeepingGives now name y u → Same x y t u
+keeping_once (a_place may) (a_place also) = (refl, refl)
+keeping_once (a_place may) (no_place full) = absurd (full may)
+keeping_once (no_place full) (a_place may) = absurd (full may)
+keeping_once (no_place full) (no_place also) = (refl, refl)
+
+returning_once : {now : Moment} {name : Name} {x y : List ℕ} {t u : Turn} → ReturningGives now name x t → ReturningGives now name y u → Same x y t u
+returning_once {now = now} (a_life {K = K} found) (a_life {K = J} also) =
+    let o : Some K ≡ Some J = sym found ∙ also in
+    let same : K ≡ J = cc in
+    (refl, ap (λ L. goes_on (record now { taken = now.taken + 1; lived = L })) same)
+returning_once (a_life {K = K} found) (no_life absent) = absurd (let o : Some K ≡ None = sym found ∙ absent in cc)
+returning_once (no_life absent) (a_life {K = K} found) = absurd (let o : Some K ≡ None = sym found ∙ absent in cc)
+returning_once (no_life absent) (no_life also) = (refl, refl)
+
 gives_once : (n : Network) (m : Template) (now : Moment) {x y : List ℕ} {t u : Turn} (a : Result Asked LineRefusal) → GivesFor n m now a x t → GivesFor n m now a y u → Same x y t u
 gives_once n m now (Err r) G H = (G.0 ∙ sym H.0, G.1 ∙ sym H.1)
 gives_once n m now (Ok nothing) G H = (G.0 ∙ sym H.0, G.1 ∙ sym H.1)
 gives_once n m now (Ok (start v)) G H = sample_once G H
 gives_once n m now (Ok (advance d v)) G H = sample_once G H
+gives_once n m now (Ok (save name)) G H = keeping_once G H
+gives_once n m now (Ok (back name)) G H = returning_once G H
 
 replied_once : {n : Network} {m : Template} {now : Moment} {line x y : List ℕ} {t u : Turn} → Replied n m now line x t → Replied n m now line y u → Same x y t u
 replied_once {now = now} (by_limits {r = r} e p q) (by_limits {r = s} f v w) =

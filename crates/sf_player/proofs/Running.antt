@@ -43,6 +43,7 @@ cleared_at {n = n} {m = m} {read = read} {written = written} {mid = mid} {new = 
   at = record {
     runs = rw C.engine P.at.runs;
     slow = P.at.slow;
+    slow_saves = P.at.slow_saves;
     taken = C.taken ∙ P.at.taken;
   };
 }

@@ -10,7 +10,7 @@ use Rattle.sf_mean.specs.Lives.{Life, time, input_of}
 use Rattle.sf_mean.specs.Meaning.{Network}
 use Rattle.sf_engine.specs.declared.engine.Engine.{Engine}
 use Rattle.sf_engine.specs.declared.engine.Sample.{Sample}
-use Rattle.sf_engine.specs.Histories.{newest_input, after_start, after_step, CanWait}
+use Rattle.sf_engine.specs.Histories.{newest_input, after_start, after_step, CanWait, Saves}
 use Rattle.sf_engine.specs.Running.{Runs, MayStart, MayStep}
 use Rattle.sf_engine.specs.Sampling.{Sampled, gave_value, had_fault, was_large, had_no_memory}
 use Rattle.sf_lines.specs.Limits.{limit_refusal}
@@ -19,8 +19,9 @@ use Rattle.sf_lines.specs.declared.refusal.LineRefusal.{LineRefusal}
 use Rattle.sf_lines.specs.declared.refusal.LineRefusal.TheVariants.{Memory as MemoryRefusal}
 use Rattle.sf_lines.specs.Written.{sample_line, fault_line, refusal_line}
 use Rattle.sf_player.specs.Scripts.{Moment, has_begun, life_after, IsSample, Asks, refused, quiet, gives_value, gives_fault}
-use Rattle.sf_player.specs.Playing.{IsAt, PlaysOn, PlaysLine, Halts, faults, refuses, lacks_memory, is_too_large, lacks_memory_for_its_value}
+use Rattle.sf_player.specs.Playing.{SavesLastAtMost, IsAt, PlaysOn, PlaysLine, Halts, faults, refuses, lacks_memory, is_too_large, lacks_memory_for_its_value}
 use Rattle.sf_player.proofs.Asked.{advance_asked, start_asked, begun, not_begun, can_wait}
+use Rattle.sf_player.proofs.Saving.{later_saves}
 use Rattle.sf_player.specs.declared.end.PlayEnd.{PlayEnd}
 use Rattle.sf_player.specs.declared.end.PlayEnd.TheVariants.{Fault as PlayFault, BadLine}
 use Rattle.sf_player.specs.declared.player.Player.{Player}
@@ -38,19 +39,21 @@ some_input (s ∷ L) last some = λ none. let e : Some (input_of s) ≡ None = s
 
 -- a value was gathered
 pub value_said : {F : Type 0} {H : _} {n : Network} {m : Template} {now : Moment} {line : List ℕ} {a : Asked} {s : Sample} {o e : Player F H} (t : ℕ) → Asks n m now line a → IsSample a
-    → Sampled n m (life_after a now.lived) (Ok s) o.engine → t ≡ time (life_after a now.lived) → t ≤ 3600000 * (now.taken + 1) → o.taken ≡ now.taken
+    → Sampled n m (life_after a now.lived) now.saved (Ok s) o.engine → t ≡ time (life_after a now.lived) → t ≤ 3600000 * (now.taken + 1)
+    → SavesLastAtMost now.taken now.saved → o.taken ≡ now.taken
     → e.engine ≡ o.engine → e.cutter ≡ o.cutter → e.taken ≡ o.taken + 1
     → e.out.items ≡ o.out.items ++ sample_line s.time s.value
     → PlaysOn n m now line o e
-value_said {n = n} {m = m} {now = now} {a = a} {s = s} {o = o} t asked sample (gave_value G at R) later slow taken engine cutter count out =
+value_said {n = n} {m = m} {now = now} {a = a} {s = s} {o = o} t asked sample (gave_value G at R) later slow saves taken engine cutter count out =
     let L : Life = life_after a now.lived in
     record {
       text = sample_line (time L) s.value;
-      later = record { taken = now.taken + 1; lived = L };
+      later = record now { taken = now.taken + 1; lived = L };
       replies = gives_value asked sample refl G;
       at = record {
-        runs = subst (λ x. Runs x n m L) (sym engine) R;
+        runs = subst (λ x. Runs x n m L now.saved) (sym engine) R;
         slow = subst (λ u. u ≤ 3600000 * (now.taken + 1)) later slow;
+        slow_saves = later_saves now.taken now.saved saves;
         taken = count ∙ ap (λ t. t + 1) taken;
       };
       said = out ∙ ap (λ t. o.out.items ++ sample_line t s.value) at;
@@ -59,7 +62,7 @@ value_said {n = n} {m = m} {now = now} {a = a} {s = s} {o = o} t asked sample (g
 
 -- a fault ends the run
 pub fault_halts : {F : Type 0} {H : _} {n : Network} {m : Template} {now : Moment} {line : List ℕ} {a : Asked} {f : Fault} {e : Engine F H} → Asks n m now line a → IsSample a
-    → Sampled n m (life_after a now.lived) (Err f) e
+    → Sampled n m (life_after a now.lived) now.saved (Err f) e
     → Halts n m now line (fault_line (time (life_after a now.lived)) f) PlayFault
 fault_halts asked sample (had_fault G s) = faults (gives_fault asked sample refl G)
 fault_halts asked sample (was_large none s) = is_too_large asked sample none
@@ -67,7 +70,7 @@ fault_halts asked sample (had_no_memory s) = lacks_memory asked sample
 
 -- a stop at a fault, by its end and its line
 pub stop_halts : {F : Type 0} {H : _} {n : Network} {m : Template} {now : Moment} {line text : List ℕ} {a : Asked} {f : Fault} {e : Engine F H} {end : PlayEnd} (t : ℕ) → Asks n m now line a → IsSample a
-    → Sampled n m (life_after a now.lived) (Err f) e → t ≡ time (life_after a now.lived) → end ≡ PlayFault → text ≡ fault_line t f
+    → Sampled n m (life_after a now.lived) now.saved (Err f) e → t ≡ time (life_after a now.lived) → end ≡ PlayFault → text ≡ fault_line t f
     → Halts n m now line text end
 stop_halts {n = n} {m = m} {now = now} {line = line} {f = f} t asked sample S at ended written =
     rw ended (rw (written ∙ ap (λ u. fault_line u f) at) (fault_halts asked sample S))
@@ -88,9 +91,9 @@ pub slow_step : (t d taken : ℕ) → d ≤ 3600000 → t ≤ 3600000 * taken �
 slow_step t d taken short slow = omega arith
 
 -- What a line asks of an engine may be done, and leads to the sample of its life.
-module _ {F : Type 0} {H : _} {e : Engine F H} {n : Network} {m : Template} {L : Life} {b : Bool} {k : Kind} {line : List ℕ} where
+module _ {F : Type 0} {H : _} {e : Engine F H} {n : Network} {m : Template} {L : Life} {S : Saves} {b : Bool} {k : Kind} {line : List ℕ} where
   -- a start
-  pub may_start : {x : Data} → Runs e n m L → b ≡ has_begun L → k ≡ m.input → Says b k line (Ok (start x)) → MayStart e x
+  pub may_start : {x : Data} → Runs e n m L S → b ≡ has_begun L → k ≡ m.input → Says b k line (Ok (start x)) → MayStart e x
   may_start {x = x} R same input says =
       let asked = start_asked says refl in
       record {
@@ -99,12 +102,12 @@ module _ {F : Type 0} {H : _} {e : Engine F H} {n : Network} {m : Template} {L :
         typed = subst (λ k. HasKind x k) (input ∙ sym R.input) asked.1;
       }
 
-  pub starts_at : {x : Data} {r : Result Sample Fault} {f : Engine F H} → Runs e n m L → b ≡ has_begun L → Says b k line (Ok (start x))
-      → (Runs e n m [] → Sampled n m (after_start x) r f) → Sampled n m (after_start x) r f
-  starts_at R same says sampled = sampled (subst (λ l. Runs e n m l) (not_begun b L same (start_asked says refl).0) R)
+  pub starts_at : {x : Data} {r : Result Sample Fault} {f : Engine F H} → Runs e n m L S → b ≡ has_begun L → Says b k line (Ok (start x))
+      → (Runs e n m [] S → Sampled n m (after_start x) S r f) → Sampled n m (after_start x) S r f
+  starts_at R same says sampled = sampled (subst (λ l. Runs e n m l S) (not_begun b L same (start_asked says refl).0) R)
 
   -- a step
-  pub may_step : {d : ℕ} {x : Option Data} (taken : ℕ) → Runs e n m L → b ≡ has_begun L → k ≡ m.input → time L ≤ 3600000 * taken → taken < 1000000 → Says b k line (Ok (advance d x)) → MayStep e d x
+  pub may_step : {d : ℕ} {x : Option Data} (taken : ℕ) → Runs e n m L S → b ≡ has_begun L → k ≡ m.input → time L ≤ 3600000 * taken → taken < 1000000 → Says b k line (Ok (advance d x)) → MayStep e d x
   may_step {d = d} {x = x} taken R same input slow few says =
       let asked = advance_asked says refl in
       record {
@@ -129,8 +132,9 @@ nothing_said {n = n} {m = m} {now = now} {o = o} asked at engine cutter count ou
   later = record now { taken = now.taken + 1 };
   replies = quiet asked;
   at = record {
-    runs = subst (λ x. Runs x n m now.lived) (sym engine) at.runs;
+    runs = subst (λ x. Runs x n m now.lived now.saved) (sym engine) at.runs;
     slow = let slow = at.slow in omega arith;
+    slow_saves = later_saves now.taken now.saved at.slow_saves;
     taken = count ∙ ap (λ t. t + 1) at.taken;
   };
   said = out ∙ sym (append-nil o.out.items);

@@ -4,6 +4,7 @@ use Rattle.std.proofs.lemmas.List.{append-nil, take-append-drop, length-append}
 use Rattle.sf_player.proofs.Known.{take-next, slice_from}
 use Rattle.sf_term.specs.Trees.{Template}
 use Rattle.sf_mean.specs.Meaning.{Network}
+use Rattle.sf_engine.specs.Histories.{keep_under}
 use Rattle.sf_engine.specs.Running.{Runs}
 use Rattle.sf_lines.specs.Lines.{lines_of}
 use Rattle.sf_lines.specs.Limits.{limit_refusal, RefusesNext}
@@ -14,9 +15,9 @@ use Rattle.sf_lines.specs.declared.cutter.Cutter.{Cutter}
 use Rattle.sf_lines.specs.declared.refusal.LineRefusal.{LineRefusal}
 use Rattle.sf_lines.proofs.Splitting.{lines_of-splits}
 use Rattle.sf_lines.proofs.CutterSteps.{line_of-short, lines_taken-few, pending-short, limit_refusal-none}
-use Rattle.sf_player.specs.Scripts.{Moment, at_start, Turn, goes_on, Replies, past_limits, refused, quiet, gives_value, gives_fault, gives_none, LeadsTo, no_line, one_more, to_the_end, up_to}
-use Rattle.sf_player.specs.Telling.{RunGives, with_the_input, at_a_fault, at_a_refusal, without_memory, too_large, without_memory_for_a_value}
-use Rattle.sf_player.specs.Playing.{Halts, faults, refuses, lacks_memory, is_too_large, lacks_memory_for_its_value, PlaysOn, EndsRun, PlaysLine, EndsInput, weight, Played, PlayedMore, Halted}
+use Rattle.sf_player.specs.Scripts.{Moment, at_start, Turn, goes_on, Replies, past_limits, refused, quiet, keeps, keeps_no_more, returns, returns_nowhere, gives_value, gives_fault, gives_none, LeadsTo, no_line, one_more, to_the_end, up_to}
+use Rattle.sf_player.specs.Telling.{RunGives, with_the_input, at_a_fault, at_a_refusal, without_memory, too_large, without_memory_for_a_value, without_memory_for_a_copy}
+use Rattle.sf_player.specs.Playing.{Halts, faults, refuses, lacks_memory, is_too_large, lacks_memory_for_its_value, lacks_memory_for_a_copy, PlaysOn, EndsRun, PlaysLine, EndsInput, weight, Played, PlayedMore, Halted}
 use Rattle.sf_player.specs.declared.end.PlayEnd.{PlayEnd}
 use Rattle.sf_player.specs.declared.end.PlayEnd.TheVariants.{Done, BadLine}
 use Rattle.sf_player.specs.declared.player.Player.{Player}
@@ -27,7 +28,11 @@ Replies-taken : {n : Network} {m : Template} {now later : Moment} {line text : L
 Replies-taken {now = now} {later = later} (past_limits e) h = absurd cc
 Replies-taken {now = now} {later = later} (refused e s) h = absurd cc
 Replies-taken {now = now} {later = later} (quiet a) h = let e : record now { taken = now.taken + 1 } ≡ later = cc in sym (ap (λ k. k.taken) e)
-Replies-taken {now = now} {later = later} (gives_value {L = L} a s q G) h = let same : record { taken = now.taken + 1; lived = L } ≡ later = cc in sym (ap (λ k. k.taken) same)
+Replies-taken {now = now} {later = later} (keeps {name = name} a may) h = let e : record now { taken = now.taken + 1; saved = keep_under name now.lived now.saved } ≡ later = cc in sym (ap (λ k. k.taken) e)
+Replies-taken {now = now} {later = later} (keeps_no_more a full) h = absurd cc
+Replies-taken {now = now} {later = later} (returns {K = K} a found) h = let e : record now { taken = now.taken + 1; lived = K } ≡ later = cc in sym (ap (λ k. k.taken) e)
+Replies-taken {now = now} {later = later} (returns_nowhere a absent) h = absurd cc
+Replies-taken {now = now} {later = later} (gives_value {L = L} a s q G) h = let same : record now { taken = now.taken + 1; lived = L } ≡ later = cc in sym (ap (λ k. k.taken) same)
 Replies-taken {now = now} {later = later} (gives_fault a s q G) h = absurd cc
 Replies-taken {now = now} {later = later} (gives_none a s q none) h = absurd cc
 
@@ -67,6 +72,7 @@ stops_by others R (refuses r) q = at_a_refusal (up_to others R r q)
 stops_by others R (lacks_memory a s) q = without_memory others R q a s
 stops_by others R (is_too_large a s l) q = too_large others R q a s l
 stops_by others R (lacks_memory_for_its_value within value) q = without_memory_for_a_value others R q within value
+stops_by others R (lacks_memory_for_a_copy a c) q = without_memory_for_a_copy others R q a c
 
 said_so : {n : Network} {m : Template} {lines : List (List ℕ)} {e : PlayEnd} (written line a b : List ℕ) → RunGives n m lines ((written ++ a) ++ line) e → b ≡ a → RunGives n m lines ((written ++ b) ++ line) e
 said_so {n = n} {m = m} {lines = lines} {e = e} written line a b S same = subst (λ (x : List ℕ). RunGives n m lines ((written ++ x) ++ line) e) (sym same) S
@@ -161,11 +167,11 @@ Halted-more {n = n} {m = m} s said read piece at h =
     λ left. subst (λ (x : List ℕ). RunGives n m (lines_of (x ++ left)) (said ++ s.line) s.end) whole (h left)
 
 -- a player at its start
-pub starts_played : {F : Type 0} {H : _} {n : Network} {m : Template} (p : Player F H) → CutterStands p.cutter [] [] → Runs p.engine n m [] → p.taken ≡ 0 → p.out.items ≡ [] → Played n m [] [] p
+pub starts_played : {F : Type 0} {H : _} {n : Network} {m : Template} (p : Player F H) → CutterStands p.cutter [] [] → Runs p.engine n m [] [] → p.taken ≡ 0 → p.out.items ≡ [] → Played n m [] [] p
 starts_played {n = n} {m = m} p stands runs count out = record {
   lines = [];
   now = at_start;
   stands = stands;
   reaches = subst (λ (x : List ℕ). LeadsTo n m at_start [] x at_start) (sym out) no_line;
-  at = record { runs = runs; slow = omega arith; taken = count };
+  at = record { runs = runs; slow = omega arith; slow_saves = λ k d h. absurd (omega arith); taken = count };
 }

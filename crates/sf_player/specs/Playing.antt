@@ -1,10 +1,14 @@
 -- What a player has played.
-use Rattle.std.specs.Prelude.{◌≡◌, ℕ, ◌+◌, ◌*◌, ◌≤◌, List, [], ◌++◌, length, take, Option, Some, None, Result, Ok, Err}
+use Rattle.std.specs.Prelude.{◌≡◌, ℕ, ◌+◌, ◌*◌, ◌≤◌, List, [], ◌++◌, length, take, All, Option, Some, None, Result, Ok, Err}
+use Rattle.sf_value.specs.Values.{Name}
 use Rattle.sf_value.specs.declared.fault.Fault.TheVariants.{Large, Memory as NoMemory}
 use Rattle.std.specs.Io.KnownBytes.{Appends}
 use Rattle.sf_term.specs.Trees.{Template}
-use Rattle.sf_mean.specs.Lives.{time}
+use Rattle.sf_mean.specs.Lives.{Life, time}
 use Rattle.sf_mean.specs.Meaning.{Network}
+use Rattle.sf_engine.specs.declared.engine.EngineError.{EngineError}
+use Rattle.sf_engine.specs.declared.engine.EngineError.TheVariants as error
+use Rattle.sf_engine.specs.Histories.{Saves}
 use Rattle.sf_engine.specs.Running.{Runs}
 use Rattle.sf_engine.specs.Sampling.{IsTooLarge}
 use Rattle.sf_lines.specs.Lines.{lines_of}
@@ -14,9 +18,10 @@ use Rattle.sf_lines.specs.Standing.{CutterStands}
 use Rattle.sf_lines.specs.Asking.{Asked, HasTimelyValue}
 use Rattle.sf_lines.specs.Written.{fault_line, refusal_line}
 use Rattle.sf_lines.specs.declared.cutter.Cutter.{Cutter}
-use Rattle.sf_lines.specs.declared.refusal.LineRefusal.TheVariants.{Memory as MemoryRefusal}
+use Rattle.sf_lines.specs.declared.refusal.LineRefusal.{LineRefusal}
+use Rattle.sf_lines.specs.declared.refusal.LineRefusal.TheVariants.{NoSave as NoSaveRefusal, TooManySaves as TooManySavesRefusal, Memory as MemoryRefusal}
 use Rattle.sf_player.specs.Scripts.{Moment, at_start, has_begun, life_after, IsSample, sample_faulted, line_refused, goes_on, ends, Asks, Replies, LeadsTo}
-use Rattle.sf_player.specs.Telling.{RunGives}
+use Rattle.sf_player.specs.Telling.{CopiesLife, RunGives}
 use Rattle.sf_player.specs.Counting.{WritesFront}
 use Rattle.sf_player.specs.declared.end.PlayEnd.{PlayEnd}
 use Rattle.sf_player.specs.declared.end.PlayEnd.TheVariants.{Done, Fault as PlayFault, BadLine, WriteFault}
@@ -38,10 +43,32 @@ module _ (n : Network) (m : Template) where
         → Halts now line (fault_line (time (life_after a now.lived)) Large) PlayFault
     lacks_memory_for_its_value : limit_refusal now.taken line ≡ None → HasTimelyValue (has_begun now.lived) line
         → Halts now line (refusal_line (now.taken + 1) MemoryRefusal) BadLine
+    lacks_memory_for_a_copy : {a : Asked} → Asks n m now line a → CopiesLife a now.saved
+        → Halts now line (refusal_line (now.taken + 1) MemoryRefusal) BadLine
 
   -- So much was read and said, but for a last line. Whatever follows, the run ends with it.
   abbrev pub Halted : List ℕ → List ℕ → Stop → Type 0
   Halted read said s = (left : List ℕ) → RunGives n m (lines_of (read ++ left)) (said ++ s.line) s.end
+
+-- the refusal of a line at which the engine keeps nothing, or doesn't return
+abbrev pub saving_refusal : EngineError → Option LineRefusal
+saving_refusal error.NoSave = Some NoSaveRefusal
+saving_refusal error.TooManySaves = Some TooManySavesRefusal
+saving_refusal error.Memory = Some MemoryRefusal
+saving_refusal (error.Stopped f) = None
+saving_refusal error.NotStarted = None
+saving_refusal error.Started = None
+saving_refusal error.BadStep = None
+saving_refusal error.WrongType = None
+saving_refusal (error.Fault f) = None
+
+-- a life is within the time that so many lines can take
+abbrev pub LastsAtMost : ℕ → Life → Type 0
+LastsAtMost taken L = time L ≤ 3600000 * taken
+
+-- so is each one that is kept
+abbrev pub SavesLastAtMost : ℕ → Saves → Type 0
+SavesLastAtMost taken S = All (λ (s : Name × Life). LastsAtMost taken s.1) S
 
 -- the line of a stop
 abbrev pub line_in : Option Stop → List ℕ
@@ -52,8 +79,9 @@ line_in (Some s) = s.line
 module _ {F : Type 0} {H : _} (n : Network) (m : Template) where
   -- A player is at a moment of a run.
   pub record IsAt (p : Player F H) (now : Moment) : Type 0 where
-    pub runs : Runs p.engine n m now.lived
-    pub slow : time now.lived ≤ 3600000 * now.taken
+    pub runs : Runs p.engine n m now.lived now.saved
+    pub slow : LastsAtMost now.taken now.lived
+    pub slow_saves : SavesLastAtMost now.taken now.saved
     pub taken : p.taken ≡ now.taken
 
   -- A line was played: its text was gathered, and the player is at the moment behind it.

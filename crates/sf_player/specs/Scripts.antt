@@ -1,40 +1,48 @@
 -- What is written for an input, line by line.
-use Rattle.std.specs.Prelude.{◌≡◌, ◌≢◌, ℕ, ◌+◌, Bool, true, false, List, [], ◌∷◌, ◌++◌, Some, None, Ok, Err}
-use Rattle.sf_value.specs.Values.{Data}
+use Rattle.std.specs.Prelude.{◌≡◌, ℕ, ◌+◌, Bool, true, false, List, [], ◌∷◌, ◌++◌, Some, None, Ok, Err, ⊤}
+use Rattle.sf_value.specs.Values.{Name, Data}
 use Rattle.sf_value.specs.declared.fault.ValueFault.{ValueFault}
 use Rattle.sf_value.specs.declared.fault.Fault.TheVariants.{Value, Large}
 use Rattle.sf_term.specs.Trees.{Template}
 use Rattle.sf_mean.specs.Lives.{Life, time, closure, empty}
 use Rattle.sf_mean.specs.Meaning.{Network, Readings, Outcome, gave, faulted, Cost, Gives}
-use Rattle.sf_engine.specs.Histories.{after_start, after_step}
+use Rattle.sf_engine.specs.Histories.{after_start, after_step, Saves, saved_under, keep_under, MaySave}
 use Rattle.sf_lines.specs.Limits.{limit_refusal}
-use Rattle.sf_lines.specs.Asking.{Asked, nothing, start, advance, Says}
+use Rattle.sf_lines.specs.Asking.{Asked, nothing, start, advance, save, back, Says}
 use Rattle.sf_lines.specs.Written.{sample_line, fault_line, refusal_line}
 use Rattle.sf_lines.specs.declared.refusal.LineRefusal.{LineRefusal}
+use Rattle.sf_lines.specs.declared.refusal.LineRefusal.TheVariants.{NoSave, TooManySaves}
 
--- Where a run is: how many lines it has taken, and what its network has lived.
+-- Where a run is: how many lines it has taken, what its network has lived, and the lives that are kept under names.
 pub record Moment : Type 0 where
   pub taken : ℕ
   pub lived : Life
+  pub saved : Saves
 
 -- a run before its first line
 abbrev pub at_start : Moment
-at_start = record { taken = 0; lived = [] }
+at_start = record { taken = 0; lived = []; saved = [] }
 
 -- whether the first sample was
 abbrev pub has_begun : Life → Bool
 has_begun [] = false
 has_begun (s ∷ L) = true
 
--- the life after what a line asks for
+-- whether a line asks for a sample
+abbrev pub IsSample : Asked → Type 0
+IsSample nothing = ⊥
+IsSample (start x) = ⊤
+IsSample (advance d x) = ⊤
+IsSample (save name) = ⊥
+IsSample (back name) = ⊥
+
+-- the life after the sample that a line asks for, where it asks for one
 abbrev pub life_after : Asked → Life → Life
 life_after nothing L = L
 life_after (start x) L = after_start x
 life_after (advance d x) L = after_step L d x
-
--- whether a line asks for a sample
-abbrev pub IsSample : Asked → Type 0
-IsSample a = a ≢ nothing
+life_after (save name) L = L
+life_after (back name) L = L
 
 -- How a script ends: with the input, with a sample's fault, or with a refused line.
 pub data Ending : Type 0 where
@@ -66,11 +74,25 @@ module _ (n : Network) (m : Template) where
     -- an empty line or a comment
     quiet : Asks now line nothing
         → Replies now line [] (goes_on (record now { taken = now.taken + 1 }))
+    -- the life is kept under a name, or there are too many names
+    keeps : {name : Name}
+        → Asks now line (save name) → MaySave name now.saved
+        → Replies now line [] (goes_on (record now { taken = now.taken + 1; saved = keep_under name now.lived now.saved }))
+    keeps_no_more : {name : Name}
+        → Asks now line (save name) → ¬ MaySave name now.saved
+        → Replies now line (refusal_line (now.taken + 1) TooManySaves) (ends line_refused)
+    -- the life is the one kept under a name again, or there is none
+    returns : {name : Name} {K : Life}
+        → Asks now line (back name) → saved_under name now.saved ≡ Some K
+        → Replies now line [] (goes_on (record now { taken = now.taken + 1; lived = K }))
+    returns_nowhere : {name : Name}
+        → Asks now line (back name) → saved_under name now.saved ≡ None
+        → Replies now line (refusal_line (now.taken + 1) NoSave) (ends line_refused)
     -- a sample: its value, its fault, or that it has no outcome
     gives_value : {a : Asked} {L : Life} {y : Data} {r : Readings} {c : Cost}
         → Asks now line a → IsSample a → life_after a now.lived ≡ L
         → Gives n (closure m.body empty) L (gave y r) c
-        → Replies now line (sample_line (time L) y) (goes_on (record { taken = now.taken + 1; lived = L }))
+        → Replies now line (sample_line (time L) y) (goes_on (record now { taken = now.taken + 1; lived = L }))
     gives_fault : {a : Asked} {L : Life} {x : ValueFault} {c : Cost}
         → Asks now line a → IsSample a → life_after a now.lived ≡ L
         → Gives n (closure m.body empty) L (faulted x) c

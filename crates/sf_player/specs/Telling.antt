@@ -1,5 +1,5 @@
 -- What was written when a run ended.
-use Rattle.std.specs.Prelude.{◌≡◌, ℕ, ◌+◌, List, ◌∷◌, ◌++◌, Option, Some, None}
+use Rattle.std.specs.Prelude.{◌≡◌, ◌≢◌, ℕ, ◌+◌, List, ◌∷◌, ◌++◌, Option, Some, None}
 use Rattle.std.specs.Io.KnownBytes.{Keeps, Consumes, Appends}
 use Rattle.sf_value.specs.declared.fault.Fault.TheVariants.{Large, Memory as NoMemory}
 use Rattle.sf_refusal.specs.declared.refusal.Refusal.{Refusal}
@@ -10,10 +10,11 @@ use Rattle.sf_mean.specs.Lives.{time}
 use Rattle.sf_mean.specs.Meaning.{Network}
 use Rattle.sf_mean.specs.Networks.{main_of}
 use Rattle.sf_mean.specs.Typing.{Accepted}
+use Rattle.sf_engine.specs.Histories.{Saves, saved_under, MaySave}
 use Rattle.sf_engine.specs.Sampling.{IsTooLarge}
 use Rattle.sf_text.specs.Spelling.{IsNetworkText}
 use Rattle.sf_lines.specs.Lines.{Splits, lines_of}
-use Rattle.sf_lines.specs.Asking.{Asked, HasTimelyValue}
+use Rattle.sf_lines.specs.Asking.{Asked, nothing, start, advance, save, back, HasTimelyValue}
 use Rattle.sf_lines.specs.Limits.{limit_refusal}
 use Rattle.sf_lines.specs.Written.{fault_line, refusal_line}
 use Rattle.sf_lines.specs.declared.refusal.LineRefusal.TheVariants.{Memory as MemoryRefusal}
@@ -22,10 +23,18 @@ use Rattle.sf_player.specs.declared.end.PlayEnd.{PlayEnd}
 use Rattle.sf_player.specs.declared.end.PlayEnd.TheVariants.{Done, Fault, BadLine, Network as NetworkRefused, ReadFault, WriteFault}
 use Rattle.sf_player.specs.Refusals.{IsRefusedFor}
 
+-- whether a line asks for a copy of a life: to keep one that may be kept, or to return to one that is kept
+abbrev pub CopiesLife : Asked → Saves → Type 0
+CopiesLife nothing S = ⊥
+CopiesLife (start x) S = ⊥
+CopiesLife (advance d x) S = ⊥
+CopiesLife (save name) S = MaySave name S
+CopiesLife (back name) S = saved_under name S ≢ None
+
 module _ (n : Network) (m : Template) where
-  -- All that is written for lines, and how the run ends: their script; or, where memory ran out for a sample or for the
-  -- value of a line, or a sample was too large, what the lines before give and then the line that says so; or, where there
-  -- was no memory to begin with, only the line that says so.
+  -- All that is written for lines, and how the run ends: their script; or, where memory ran out for a sample, for the value
+  -- of a line or for a copy of a life, or a sample was too large, what the lines before give and then the line that says so;
+  -- or, where there was no memory to begin with, only the line that says so.
   pub data RunGives (lines : List (List ℕ)) : List ℕ → PlayEnd → Type 0 where
     with_the_input : {text : List ℕ} → Script n m at_start lines text input_ended → RunGives lines text Done
     at_a_fault : {text : List ℕ} → Script n m at_start lines text sample_faulted → RunGives lines text Fault
@@ -40,6 +49,9 @@ module _ (n : Network) (m : Template) where
     without_memory_for_a_value : {front : List (List ℕ)} {line said : List ℕ} {between : Moment} (others : List (List ℕ))
         → LeadsTo n m at_start front said between → lines ≡ front ++ line ∷ others
         → limit_refusal between.taken line ≡ None → HasTimelyValue (has_begun between.lived) line
+        → RunGives lines (said ++ refusal_line (between.taken + 1) MemoryRefusal) BadLine
+    without_memory_for_a_copy : {front : List (List ℕ)} {line said : List ℕ} {between : Moment} {a : Asked} (others : List (List ℕ))
+        → LeadsTo n m at_start front said between → lines ≡ front ++ line ∷ others → Asks n m between line a → CopiesLife a between.saved
         → RunGives lines (said ++ refusal_line (between.taken + 1) MemoryRefusal) BadLine
     without_memory_for_lines : RunGives lines (refusal_line 1 MemoryRefusal) BadLine
 

@@ -7,6 +7,7 @@ mod laws;
 mod network;
 mod options;
 mod player;
+mod save_refusal;
 mod session;
 
 pub use counted::Counted;

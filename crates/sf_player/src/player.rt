@@ -7,6 +7,7 @@ ghost use Rattle.sf_player.specs.Statuses.{is_said};
 
 use crate::counted::Counted;
 use crate::end::PlayEnd;
+use crate::save_refusal::refusal_of;
 use sf_engine::{Engine, Sample};
 use sf_func::Holds;
 use sf_lines::{
@@ -46,11 +47,11 @@ impl<F: Holds + Drop> Player<F> {
     ghost use Rattle.sf_lines.specs.Cutting.{line_of};
     ghost use Rattle.sf_player.specs.Scripts.{Moment, life_after, IsSample, Asks};
     ghost use Rattle.sf_player.specs.Counting.{inner_of, failures_of, MayCountWrites};
-    ghost use Rattle.sf_player.specs.Playing.{IsAt, AwaitsLine, PlaysLine, Played, IsPlaying, PlaysPart, Feeds, EndsInput, WritesOut};
+    ghost use Rattle.sf_player.specs.Playing.{SavesLastAtMost, IsAt, AwaitsLine, PlaysLine, Played, IsPlaying, PlaysPart, Feeds, EndsInput, WritesOut};
 
     /// A run at its start.
     pub(crate) fn new(alloc: Global, engine: Engine<F>) -> Result<Player<F>, AllocError>
-        ensures { IfOk result (λ p. (n : Network) (m : Template) → Runs engine n m []
+        ensures { IfOk result (λ p. (n : Network) (m : Template) → Runs engine n m [] []
             → Played n m [] [] p × (p.out.items ≡ [])) }
     {
         let cutter = Cutter::new(alloc)?;
@@ -133,6 +134,20 @@ impl<F: Holds + Drop> Player<F> {
                 let sampled = self.engine.next_sample(dt, input);
                 self.say(time, sampled)
             }
+            Ok(Command::Save(name)) => match self.engine.save(name) {
+                Ok(()) => {
+                    self.taken += 1;
+                    None
+                }
+                Err(error) => Some(self.refuse(refusal_of(error))),
+            },
+            Ok(Command::Back(name)) => match self.engine.back(name) {
+                Ok(()) => {
+                    self.taken += 1;
+                    None
+                }
+                Err(error) => Some(self.refuse(refusal_of(error))),
+            },
             Err(refusal) => Some(self.refuse(refusal)),
         }
     }
@@ -142,9 +157,9 @@ impl<F: Holds + Drop> Player<F> {
         requires { self.old.taken < 1000000 }
         ensures { (n : Network) (m : Template) (now : Moment) (line : List ℕ) (a : Asked)
             → Asks n m now line a → IsSample a
-            → Sampled n m (life_after a now.lived) sampled self.old.engine
+            → Sampled n m (life_after a now.lived) now.saved sampled self.old.engine
             → sample_time ≡ time (life_after a now.lived) → sample_time ≤ 3600000 * (now.taken + 1)
-            → self.old.taken ≡ now.taken → PlaysLine n m now line self.old result self.new }
+            → SavesLastAtMost now.taken now.saved → self.old.taken ≡ now.taken → PlaysLine n m now line self.old result self.new }
     {
         match sampled {
             Ok(sample) => match write_sample(sample.time, &sample.value, &mut self.out) {

@@ -28,9 +28,9 @@ use std::io::{Read, Write};
 ///
 /// The network calls the functions of the registry. It is read and accepted first; where it is refused, nothing is read or
 /// written, and the end names the first rule that it breaks and the place where it breaks it. Each sample gives
-/// `> T VALUE`; the first fault or refused line, `! T FAULT` or `! line N REFUSAL`, ends the run. `Memory` is such a refusal
-/// only of a line whose value is read, or of line 1 before any is read. All output of a line is written and flushed before
-/// more is read.
+/// `> T VALUE`; a line that saves or returns gives nothing; the first fault or refused line, `! T FAULT` or
+/// `! line N REFUSAL`, ends the run. `Memory` is such a refusal only of a line whose value is read, of one that saves or
+/// returns, or of line 1 before any is read. All output of a line is written and flushed before more is read.
 pub fn play<R: Read, W: Write>(
     alloc: Global,
     net: &[u8],

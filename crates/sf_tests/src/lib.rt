@@ -11,4 +11,6 @@ mod library;
 #[cfg(test)]
 mod playing;
 #[cfg(test)]
+mod saving;
+#[cfg(test)]
 mod sharing;

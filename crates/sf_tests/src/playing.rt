@@ -137,3 +137,15 @@ fn a_read_or_a_write_fails(rt: HostRuntime) -> Result<(), Fail> {
     assert!(rt; leaves(&rt, Failure::ErrsAtFlush, b"> 0 7\n"));
     Ok(())
 }
+
+#[test]
+fn lines_that_save_and_return_come_in_pieces(rt: HostRuntime) -> Result<(), Fail> {
+    let alloc = rt.alloc();
+    let net = b"network 1;\ntemplate main(): Int ~> Int = integral;\n";
+    let lines = b"0 1\n10 2\nsave a\n5 3\nback a\n7 =\n1 0";
+    let run = played(alloc, net, Registry::new(alloc), lines);
+    assert_eq!(rt; run.end, PlayEnd::Done);
+    let text = b"> 0 0\n> 10 10\n> 15 20\n> 17 24\n> 18 26\n";
+    assert_eq!(rt; run.text.as_slice(), text.as_slice());
+    Ok(())
+}

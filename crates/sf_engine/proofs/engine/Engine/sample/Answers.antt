@@ -5,16 +5,16 @@ use Rattle.sf_engine.proofs.Going.{goes_to, sampled_value, sampled_fault}
 use Rattle.sf_engine.proofs.engine.Engine.sample.Goals as goal
 
 pub returns-in_default : goal.returns-in_default
-returns-in_default g c = λ n m L R H. rw c.stop.ensures.error (had_no_memory c.stop.ensures.stopped)
+returns-in_default g c = λ n m L S R H. rw c.stop.ensures.error (had_no_memory c.stop.ensures.stopped)
 
 pub returns-in-Ok-step : goal.returns-in-Ok-step
-returns-in-Ok-step g c = λ n m L R H.
+returns-in-Ok-step g c = λ n m L S R H.
     sampled_value R.network (c.in-Ok-step.ensures.answers (closure m.body empty) L R.state)
-    (λ S. goes_to R H refl refl refl refl refl (ap (λ x. Some x) c.in-Ok.ensures) S)
+    (λ stands. goes_to R H refl refl refl refl refl refl (ap (λ x. Some x) c.in-Ok.ensures) stands)
     refl
     refl
 
 pub returns-in-Err : goal.returns-in-Err
-returns-in-Err g c = λ n m L R H.
+returns-in-Err g c = λ n m L S R H.
     rw c.stop-in-Err.ensures.error
     (sampled_fault R.network (c.in-Err.ensures.answers (closure m.body empty) L R.state) c.stop-in-Err.ensures.stopped)

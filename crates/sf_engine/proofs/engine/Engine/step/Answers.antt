@@ -4,17 +4,17 @@ use Rattle.sf_engine.proofs.Going.{no_history, some_started, some_last, takes_no
 use Rattle.sf_engine.proofs.engine.Engine.step.Goals as goal
 
 pub returns-then-not-is_started-clause-running : goal.returns-then-not-is_started-clause-running
-returns-then-not-is_started-clause-running g c = λ n m L R.
-    was_not_started (no_history _ L c.if-not-is_started.true (c.is_started.ensures.history n m L R)) R
+returns-then-not-is_started-clause-running g c = λ n m L S R.
+    was_not_started (no_history _ L c.if-not-is_started.true (c.is_started.ensures.history n m L S R)) R
 
 pub returns-then-not-can_wait-clause-running : goal.returns-then-not-can_wait-clause-running
-returns-then-not-can_wait-clause-running g c = λ n m L R.
-    has_bad_wait (some_started _ L c.if-not-is_started.false (c.is_started.ensures.history n m L R)) (no_wait_at _ R c.if-not-can_wait.true c.can_wait.ensures) R
+returns-then-not-can_wait-clause-running g c = λ n m L S R.
+    has_bad_wait (some_started _ L c.if-not-is_started.false (c.is_started.ensures.history n m L S R)) (no_wait_at _ R c.if-not-can_wait.true c.can_wait.ensures) R
 
 pub returns-then-not-takes-clause-running : goal.returns-then-not-takes-clause-running
-returns-then-not-takes-clause-running g c = λ n m L R.
+returns-then-not-takes-clause-running g c = λ n m L S R.
     has_wrong_type
-    (some_started _ L c.if-not-is_started.false (c.is_started.ensures.history n m L R))
+    (some_started _ L c.if-not-is_started.false (c.is_started.ensures.history n m L S R))
     (wait_at R (c.can_wait.ensures.0 c.if-not-can_wait.false))
     (takes_none c.args.value _ R.input c.if-not-takes.true c.takes.ensures)
     R
@@ -28,10 +28,10 @@ next_sample-requires g c = record {
 }
 
 pub returns-clause-running : goal.returns-clause-running
-returns-clause-running g c = λ n m L R.
-    subst (λ r. Advances n m L c.args.dt c.args.value r c.next_sample.new.self) (sym (answered c.next_sample.result _ c.map_err.ensures.cases))
+returns-clause-running g c = λ n m L S R.
+    subst (λ r. Advances n m L S c.args.dt c.args.value r c.next_sample.new.self) (sym (answered c.next_sample.result _ c.map_err.ensures.cases))
     (advances
-    (some_started _ L c.if-not-is_started.false (c.is_started.ensures.history n m L R))
+    (some_started _ L c.if-not-is_started.false (c.is_started.ensures.history n m L S R))
     (wait_at R (c.can_wait.ensures.0 c.if-not-can_wait.false))
     (takes_some c.args.value _ R.input c.if-not-takes.false c.takes.ensures)
-    (c.next_sample.ensures n m L R))
+    (c.next_sample.ensures n m L S R))

@@ -11,7 +11,7 @@ play_line-requires g c =
       n = w.n;
       m = w.m;
       now = w.played.now;
-      at = record { runs = w.played.at.runs; slow = w.played.at.slow; taken = w.played.at.taken };
+      at = record { runs = w.played.at.runs; slow = w.played.at.slow; slow_saves = w.played.at.slow_saves; taken = w.played.at.taken };
       within = line_within w.played sizes.2;
     }
 
@@ -19,7 +19,7 @@ pub returns-in-None-clause-advances : goal.returns-in-None-clause-advances
 returns-in-None-clause-advances g c = λ n m read written P.
     let sizes = rw c.in-Ok-Line.field-0-is at c.in-Ok-Line.ensures.sizes in
     let stands = rw c.in-Ok-Line.field-0-is at (c.in-Ok-Line.ensures.cuts read P.lines P.stands) in
-    let goes = c.in-None.ensures n m P.now (record { runs = P.at.runs; slow = P.at.slow; taken = P.at.taken }) in
+    let goes = c.in-None.ensures n m P.now (record { runs = P.at.runs; slow = P.at.slow; slow_saves = P.at.slow_saves; taken = P.at.taken }) in
     record {
       played = plays_line (take c.in-Ok-Line.used c.args.piece.now) P stands goes refl;
       further = line_further c.args.piece.now sizes.2 sizes.1 goes.cutter;
@@ -28,7 +28,7 @@ returns-in-None-clause-advances g c = λ n m read written P.
 pub returns-in-Some-clause-advances : goal.returns-in-Some-clause-advances
 returns-in-Some-clause-advances g c = λ n m read written P.
     let stands = rw c.in-Ok-Line.field-0-is at (c.in-Ok-Line.ensures.cuts read P.lines P.stands) in
-    let ends = c.in-Some.ensures n m P.now (record { runs = P.at.runs; slow = P.at.slow; taken = P.at.taken }) in
+    let ends = c.in-Some.ensures n m P.now (record { runs = P.at.runs; slow = P.at.slow; slow_saves = P.at.slow_saves; taken = P.at.taken }) in
     line_halts c.args.piece.now c.in-Ok-Line.used P stands ends refl
 
 pub returns-in-Ok-Part-clause-advances : goal.returns-in-Ok-Part-clause-advances
@@ -37,7 +37,7 @@ returns-in-Ok-Part-clause-advances g c = λ n m read written P.
     let sizes = rw c.in-Ok-Part.field-0-is at c.in-Ok-Part.ensures.sizes in
     let stands = rw c.in-Ok-Part.field-0-is at (c.in-Ok-Part.ensures.cuts read P.lines P.stands) in
     rw (take_all (length piece) piece (omega arith)) (record {
-      played = record { lines = P.lines; now = P.now; stands = stands; reaches = P.reaches; at = record { runs = P.at.runs; slow = P.at.slow; taken = P.at.taken } };
+      played = record { lines = P.lines; now = P.now; stands = stands; reaches = P.reaches; at = record { runs = P.at.runs; slow = P.at.slow; slow_saves = P.at.slow_saves; taken = P.at.taken } };
       further = part_further piece sizes;
     })
 

@@ -3,17 +3,17 @@ use Rattle.sf_player.proofs.Samples.{value_said, stop_halts, memory_halts}
 use Rattle.sf_player.proofs.player.Player.say.Goals as goal
 
 pub returns-in-Ok-write_sample : goal.returns-in-Ok-write_sample
-returns-in-Ok-write_sample g c = λ n m now line a asked sample S at slow taken.
-    value_said c.args.sample_time asked sample (rw c.in-Ok.is at S) at slow taken refl refl refl c.in-Ok-write_sample.ensures.ok
+returns-in-Ok-write_sample g c = λ n m now line a asked sample S at slow saves taken.
+    value_said c.args.sample_time asked sample (rw c.in-Ok.is at S) at slow saves taken refl refl refl c.in-Ok-write_sample.ensures.ok
 
 pub returns-in-Ok : goal.returns-in-Ok
-returns-in-Ok g c = λ n m now line a asked sample S at slow taken. record {
+returns-in-Ok g c = λ n m now line a asked sample S at slow saves taken. record {
   halts = memory_halts c.args.sample_time asked sample at c.fault_stop.ensures.end c.fault_stop.ensures.line;
   said = c.in-Err-write_sample.ensures.err;
 }
 
 pub returns : goal.returns
-returns g c = λ n m now line a asked sample S at slow taken. record {
+returns g c = λ n m now line a asked sample S at slow saves taken. record {
   halts = stop_halts c.args.sample_time asked sample (rw c.in-Err.is at S) at c.fault_stop-in-Err.ensures.end c.fault_stop-in-Err.ensures.line;
   said = refl;
 }
