@@ -31,6 +31,8 @@ def chain(term, count):
     return f"({chain(term, count // 2)} >>> {chain(term, count - count // 2)})"
 
 
+# What some of them call.
+TEMPLATE = "template passed(n: Int): Int ~> Int = identity;"
 # Each with its type, its term, the nodes that a sample enters, and the most instructions a node (of the last one, a sample)
 # and allocations a sample.
 PAIRED = "arr x => (x, x)"
@@ -43,6 +45,7 @@ NETWORKS = {
     "50 first iPre 0": ("Int ~> (Int, Int)", f"({PAIRED} >>> {chain('first iPre 0', 50)})", 151, 90, 3),
     "50 fired switches": ("Int ~> Int", chain("switch((identity &&& now ()), _ => identity)", 50), 99, 60, 0),
     "50 run processes": ("Int ~> Int", chain("kSwitch(identity, now (), k, _ => run k)", 50), 99, 60, 0),
+    "50 called templates": ("Int ~> Int", chain("passed(1)", 50), 99, 60, 0),
     "50 iPre 0 to freeze": ("Int ~> Int", f"kSwitch({chain('iPre 0', 50)}, never Int, k, _ => identity)", 101, 260, None),
     "running total": ("Int ~> Int", TIMED["total"], None, 2000, 4),
 }
@@ -84,7 +87,7 @@ def main():
         for name, (types, term, nodes, most, most_allocated) in NETWORKS.items():
             path = os.path.join(place, "network")
             with open(path, "w") as file:
-                file.write(f"network 1;\ntemplate main(): {types} = {term};\n")
+                file.write(f"network 1;\n{TEMPLATE}\ntemplate main(): {types} = {term};\n")
             words = [os.path.abspath(options.exe), path, "--plain"]
             sample = a_sample(instructions, words)
             allocated = a_sample(allocations, words)

@@ -15,7 +15,8 @@ import tempfile
 
 HERE = os.path.dirname(os.path.abspath(__file__))
 DEEPEST_TEXT, MOST_NODES = 64, 1600
-# What stands before and after a part, and how many nodes and how much depth of the text that adds.
+# What stands before and after a part, and how many nodes and how much depth of the text that adds; some call the template.
+TEMPLATE = "template through(f: Int ~> Int): Int ~> Int = run f;"
 FORMS = {
     "-->": ("-->(0, ", ")", 1, 1),
     ">>>, left": ("(", " >>> identity)", 1, 1),
@@ -23,6 +24,7 @@ FORMS = {
     "***": ("((identity &&& identity) >>> ((identity *** ", ") >>> arr (x, _) => x))", 3, 3),
     "&&&": ("((identity &&& ", ") >>> arr (x, _) => x)", 2, 2),
     "loopPre, first": ("loopPre(0, first ", ")", 2, 2),
+    "call, run, -->": ("through(sf -->(0, ", "))", 3, 2),
     "switch": ("switch((", " &&& never Int), c => identity)", 2, 2),
     "rSwitch": ("((identity &&& never Int) >>> rSwitch(", ", c => identity))", 2, 2),
     "kSwitch": ("kSwitch(identity, (arr (x, _) => x >>> (", " >>> never Int)), q, c => identity)", 3, 3),
@@ -37,7 +39,7 @@ def network(before, after, nodes, depth):
         room = (DEEPEST_TEXT - 2 - level) // depth
         fit = min(room, (MOST_NODES - (level + 1) - high) // nodes)
         if fit < 1:
-            return f"network 1;\ntemplate main(): Int ~> Int = {text}identity{ends};\n", high + level - 1
+            return f"network 1;\n{TEMPLATE}\ntemplate main(): Int ~> Int = {text}identity{ends};\n", high + level - 1
         part = f"run k{level - 1}" if level > 1 else "identity"
         text += f"kSwitch({before * fit}{part}{after * fit}, now (), k{level}, _ => "
         ends += ")"

@@ -1,6 +1,6 @@
-"""Plays seven networks, a delay of numbers, a loop over pairs, one of texts, events and tables with functions inside, one that calls
-stored functions, one that switches, one that freezes a process and runs it twice, and one whose state is saved and returned to, on a
-few lines with each growth of memory refused in turn.
+"""Plays eight networks, a delay of numbers, a loop over pairs, one of texts, events and tables with functions inside, one that calls
+stored functions, one that switches, one that freezes a process and runs it twice, one whose state is saved and returned to, and one
+of templates that are given values and processes, on a few lines with each growth of memory refused in turn.
 
     python3 rows/refuse_growths.py --exe PATH
 
@@ -45,6 +45,10 @@ RUNS = [
      " c => (run k >>> first arr y => (y * c)))",
      [('0 (1,"a")', '> 0 (7,"a")'), ("save start", ""), ('16 (2,"b")', '> 16 (2,"b")'), ("save later", ""), ("back start", ""),
       ('16 (3,"c")', '> 16 (3,"c")'), ("back later", ""), ("16 =", '> 32 (4,"b")')]),
+    ("Int ~> Int = switch((identity &&& arr x => gate(event x, (x > 1))), c => scaled(sf (iPre 7 >>> arr y => (y + c)), (c * 10)));"
+     "\ntemplate scaled(f: Int ~> Int, n: Int): Int ~> Int = twice(sf run f, sf (run f >>> arr x => (x * n)));"
+     "\ntemplate twice(f: Int ~> Int, g: Int ~> Int): Int ~> Int = (run f >>> run g)",
+     samples(["1", "2", "3"], ["1", "180", "220"])),
 ]
 
 

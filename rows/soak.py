@@ -21,6 +21,9 @@ RUNS = [
      "(Unit, Event Unit) ~> Int = rSwitch(constant -1, _ => kSwitch(localTime, arr (_, t) => if (t > 0) then event () else none Unit, k,"
      " _ => ((run k &&& run k) >>> arr (a, b) => (a + b))))",
      ["((),event ())", "((),none)"], lambda number: (0, 2)[number % 2]),
+    ("calls itself at every sample but the first",
+     "Unit ~> Int = up(0);\ntemplate up(n: Int): Unit ~> Int = switch((constant n &&& (constant event () >>> notYet)), _ => up((n + 1)))",
+     ["()"], lambda number: number),
 ]
 
 

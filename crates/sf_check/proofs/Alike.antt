@@ -1,9 +1,10 @@
 -- Where the functions that are called have the same types elsewhere, what was accepted is accepted there.
-use Rattle.std.proofs.Common.{◌≡◌, ℕ, zero, suc, ◌+◌, ◌<◌, ◌≤◌, [], ◌∷◌, Option, Some, None, slice_get, inl, inr, refl, sym, ap, ◌∙◌, subst, arith}
+use Rattle.std.proofs.Common.{◌≡◌, ℕ, zero, suc, ◌+◌, ◌<◌, ◌≤◌, List, [], ◌∷◌, All, Option, Some, None, slice_get, inl, inr, refl, sym, ap, ◌∙◌, subst, arith}
 use Rattle.std.specs.Prelude.{pos}
 use Rattle.std.specs.Option.{option_map}
 use Rattle.std.proofs.lemmas.Bool.{cases_lt}
 use Rattle.std.proofs.lemmas.List.{get_or_past}
+use Rattle.std.proofs.lemmas.List.Elements.{All-head, All-tail}
 use Rattle.std.proofs.lemmas.Option.{slice_get-map, same_Some, none-some}
 use Rattle.sf_value.specs.Values.{Name, Kind}
 use Rattle.sf_func.specs.Registries.{TypesByName, types_named}
@@ -19,18 +20,20 @@ use Rattle.sf_expr.specs.Expressions.{Pattern, Expression, variable, literal, pa
 use Rattle.sf_expr.specs.Typing.{Names, functions_of, with_types, call_kind, AddsNames, adds_nothing, adds_name, adds_both, Binds, HasType, variable_has, literal_has, pair_has, applied_has, operation_has, conditional_has, mapped_has, folded_has, called_has, FunctionTakes, function_takes}
 use Rattle.sf_expr.proofs.Bound.{type_with, functions_with, binds_with}
 use Rattle.sf_expr.proofs.Entered.{node_builds, parts_below}
-use Rattle.sf_term.proofs.Kept.{parts_below as term_parts_below}
+use Rattle.sf_term.proofs.Kept.{parts_below as term_parts_below, expression_in}
 use Rattle.sf_term.specs.declared.node.TermId.{TermId}
+use Rattle.sf_term.specs.declared.node.Argument.{Argument}
+use Rattle.sf_term.specs.declared.node.Argument.TheVariants as arguments
 use Rattle.sf_term.specs.declared.node.Primitive.{Primitive as PrimitiveNode}
 use Rattle.sf_term.specs.declared.node.Primitive.TheVariants as primitives
 use Rattle.sf_term.specs.declared.node.Node.{Node}
 use Rattle.sf_term.specs.declared.node.Node.TheVariants as terms
 use Rattle.sf_term.specs.declared.program.Program.{Program}
 use Rattle.sf_term.specs.Headers.{Header}
-use Rattle.sf_term.specs.Trees.{Primitive, bare, never, with_value, timed, arrow, accumulated, fused, Term, primitive, run, joined, sided, headed, switching, keeping, staged, Template, Templates}
-use Rattle.sf_term.specs.Arena.{term_number, tree, term_node_at, term_entry_of, expressions_of, headers_of, template_in, templates_of, TermPartsBelow}
-use Rattle.sf_mean.specs.Contexts.{NameKind, value, process, Bindings, context_with, bindings_inside, with_name_of, values_in}
-use Rattle.sf_mean.specs.Typing.{PrimitiveTakes, bare_takes, never_takes, value_takes, timed_takes, accumulated_takes, arrow_takes, fused_takes, Takes, takes, FormTakes, primitive_takes, run_takes, sequence_takes, parallel_takes, fan_takes, first_takes, second_takes, loop_takes, initialized_takes, switch_takes, recurring_takes, keeping_takes, stages_take, Accepted}
+use Rattle.sf_term.specs.Trees.{Primitive, bare, never, with_value, timed, arrow, accumulated, fused, Term, primitive, Reference, reference, run, call, Arguments, no_arguments, value_argument, process_argument, closed_argument, joined, sided, headed, switching, keeping, staged, Template, Templates}
+use Rattle.sf_term.specs.Arena.{term_number, tree, term_node_at, term_entry_of, expressions_of, arguments_under, arguments_of, headers_of, template_in, templates_of, ArgumentBelow, TermPartsBelow}
+use Rattle.sf_mean.specs.Contexts.{NameKind, value, process, Bindings, parameters_inside, context_with, bindings_inside, with_name_of, values_in}
+use Rattle.sf_mean.specs.Typing.{PrimitiveTakes, bare_takes, never_takes, value_takes, timed_takes, accumulated_takes, arrow_takes, fused_takes, Takes, takes, FormTakes, primitive_takes, run_takes, call_takes, ArgumentsFit, no_argument_fits, value_fits, process_fits, closed_fits, sequence_takes, parallel_takes, fan_takes, first_takes, second_takes, loop_takes, initialized_takes, switch_takes, recurring_takes, keeping_takes, stages_take, Accepted}
 use Rattle.sf_check.specs.Answering.{primitive_in}
 use Rattle.sf_check.specs.Calling.{IsCalledAlike, AreCalledAlike}
 use Rattle.sf_check.proofs.Made.{made, tree_made}
@@ -64,15 +67,26 @@ module _ (fs gs : TypesByName) where
   PrimitiveAlike (accumulated k e f) = Alike e × FunctionAlike f
   PrimitiveAlike (fused f) = ⊥
 
-  abbrev pub TermAlike : Term → Type 0
-  TermAlike (primitive p) = PrimitiveAlike p
-  TermAlike (run k) = Unit {0}
-  TermAlike (joined j f g) = TermAlike f × TermAlike g
-  TermAlike (sided d t) = TermAlike t
-  TermAlike (headed h e t) = Alike e × TermAlike t
-  TermAlike (switching w t p u) = TermAlike t × TermAlike u
-  TermAlike (keeping w t q k p u) = TermAlike t × TermAlike q × TermAlike u
-  TermAlike (staged x f g) = ⊥
+  abbrev mutual
+    pub TermAlike : Term → Type 0
+    TermAlike (primitive p) = PrimitiveAlike p
+    TermAlike (reference r) = ReferenceAlike r
+    TermAlike (joined j f g) = TermAlike f × TermAlike g
+    TermAlike (sided d t) = TermAlike t
+    TermAlike (headed h e t) = Alike e × TermAlike t
+    TermAlike (switching w t p u) = TermAlike t × TermAlike u
+    TermAlike (keeping w t q k p u) = TermAlike t × TermAlike q × TermAlike u
+    TermAlike (staged x f g) = ⊥
+
+    pub ReferenceAlike : Reference → Type 0
+    ReferenceAlike (run k) = Unit {0}
+    ReferenceAlike (call g vs) = ArgumentsAlike vs
+
+    pub ArgumentsAlike : Arguments → Type 0
+    ArgumentsAlike no_arguments = Unit {0}
+    ArgumentsAlike (value_argument e vs) = Alike e × ArgumentsAlike vs
+    ArgumentsAlike (process_argument t vs) = TermAlike t × ArgumentsAlike vs
+    ArgumentsAlike (closed_argument t vs) = ⊥
 
   adds_functions : {p : Pattern} {t : Kind} {R S : Names} → AddsNames p t R S → functions_of S ≡ functions_of R
   adds_functions adds_nothing = refl
@@ -142,6 +156,7 @@ module _ (fs gs : TypesByName) where
       form_over : (bs : Bindings) {t : Term} {a b : Kind} → TermAlike t → FormTakes (context_with fs bs ts) t a b → FormTakes (context_with gs bs ts) t a b
       form_over bs k (primitive_takes T) = primitive_takes (primitive_over bs k T)
       form_over bs k (run_takes h) = run_takes h
+      form_over bs k (call_takes h fit) = call_takes h (arguments_over bs k fit)
       form_over bs k (sequence_takes f g) = sequence_takes (takes_over bs k.0 f) (takes_over bs k.1 g)
       form_over bs k (parallel_takes f g) = parallel_takes (takes_over bs k.0 f) (takes_over bs k.1 g)
       form_over bs k (fan_takes f g) = fan_takes (takes_over bs k.0 f) (takes_over bs k.1 g)
@@ -155,6 +170,12 @@ module _ (fs gs : TypesByName) where
           let inner : Bindings = (x, process a b) ∷ bs in
           keeping_takes (takes_over bs k.0 t) (takes_over bs k.1 q) (bound_around inner h) (takes_over (bindings_inside p c inner) k.2 u)
       form_over bs k (stages_take f g) = absurd k
+
+      arguments_over : (bs : Bindings) {vs : Arguments} {qs : Bindings} → ArgumentsAlike vs → ArgumentsFit (context_with fs bs ts) vs qs → ArgumentsFit (context_with gs bs ts) vs qs
+      arguments_over bs k no_argument_fits = no_argument_fits
+      arguments_over bs k (value_fits h rest) = value_fits (typed_around bs k.0 h) (arguments_over bs k.1 rest)
+      arguments_over bs k (process_fits h rest) = process_fits (takes_over bs k.0 h) (arguments_over bs k.1 rest)
+      arguments_over bs k (closed_fits h rest) = absurd k
 
   -- ## Arenas of expressions
 
@@ -181,7 +202,7 @@ module _ (fs gs : TypesByName) where
     alike_within zero i h = absurd (omega arith)
     alike_within (suc fuel) i h = built (id_number i) (node_builds x i _ refl) (all i) (expression_parts i) (λ a k. alike_within fuel a (omega arith))
 
-    expression_alike : (i : ExprId) → Alike (expression x i)
+    pub expression_alike : (i : ExprId) → Alike (expression x i)
     expression_alike i = alike_within (suc (id_number i)) i (omega arith)
 
     pub node_alike : (q : PrimitiveNode) → PrimitiveAlike (primitive_in x q)
@@ -195,16 +216,22 @@ module _ (fs gs : TypesByName) where
   -- ## Programs
 
   module _ (p : Program) (all : AreCalledAlike (expressions_of p) fs gs) where
-    made_alike : (n : Node) (k : ℕ) → TermPartsBelow n k → ((j : TermId) → term_number j < k → TermAlike (tree p j)) → TermAlike (made p n)
+    arguments_alike : (vs : List Argument) (k : ℕ) → All (ArgumentBelow k) vs → ((j : TermId) → term_number j < k → TermAlike (tree p j)) → ArgumentsAlike (arguments_of p vs)
+    arguments_alike [] k b parts = tt
+    arguments_alike (arguments.Value e ∷ vs) k b parts = (subst Alike (expression_in p e) (expression_alike (expressions_of p) all e), arguments_alike vs k (All-tail (ArgumentBelow k) (arguments.Value e) vs b) parts)
+    arguments_alike (arguments.Process t ∷ vs) k b parts = (parts t (All-head (ArgumentBelow k) (arguments.Process t) vs b), arguments_alike vs k (All-tail (ArgumentBelow k) (arguments.Process t) vs b) parts)
+
+    made_alike : (n : Node) (k : ℕ) → TermPartsBelow p n k → ((j : TermId) → term_number j < k → TermAlike (tree p j)) → TermAlike (made p n)
     made_alike (terms.Primitive q) k b parts = node_alike (expressions_of p) all q
     made_alike (terms.Run x s) k b parts = tt
+    made_alike (terms.Call x vs) k b parts = arguments_alike (arguments_under p vs) k b parts
     made_alike (terms.Joined j f g) k b parts = (parts f b.0, parts g b.1)
     made_alike (terms.Sided d f) k b parts = parts f b
     made_alike (terms.Headed h v f) k b parts = (expression_alike (expressions_of p) all v, parts f b)
     made_alike (terms.Switching w f q g) k b parts = (parts f b.0, parts g b.1)
     made_alike (terms.Keeping w f o x s q g) k b parts = (parts f b.0, parts o b.1, parts g b.2)
 
-    term_parts : (t : TermId) → TermPartsBelow (term_node_at p t) (term_number t)
+    term_parts : (t : TermId) → TermPartsBelow p (term_node_at p t) (term_number t)
     unfolding term_node_at term_entry_of
     term_parts t = term_parts_below p t
 
@@ -227,7 +254,11 @@ module _ (fs gs : TypesByName) where
     pub accepted_over : Accepted fs (templates_of p) → Accepted gs (templates_of p)
     accepted_over h = record {
       different = h.different;
-      typed = λ i t at. takes_over (templates_of p) [] (template_alike i t at) (h.typed i t at);
+      different_parameters = h.different_parameters;
+      typed = λ i t at.
+          let typed = h.typed i t at in
+          record { parameters = typed.parameters; body = takes_over (templates_of p) (parameters_inside t.parameters []) (template_alike i t at) typed.body };
+      endless = h.endless;
       has_main = h.has_main;
     }
 

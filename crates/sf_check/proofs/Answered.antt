@@ -1,8 +1,9 @@
 -- A term takes inputs of a type, or breaks a rule on them.
-use Rattle.std.proofs.Common.{ℤ, ◌≡◌, ◌≢◌, ℕ, zero, suc, ◌<◌, Bool, true, false, cond, Option, ◌⊎◌, inl, inr, refl, sym, ap, subst, ◌∙◌, arith, Some, None}
+use Rattle.std.proofs.Common.{ℤ, ◌≡◌, ◌≢◌, ℕ, zero, suc, ◌<◌, Bool, true, false, cond, Option, ◌⊎◌, inl, inr, refl, sym, ap, subst, ◌∙◌, arith, Some, None, List, [], ◌∷◌, length, All, ◌&&◌, IsTrue, ◌↔◌}
 use Rattle.std.specs.Prelude.{bytes_eq}
 use Rattle.std.proofs.lemmas.Option.{same_Some}
-use Rattle.std.proofs.lemmas.Bool.{cases_lt}
+use Rattle.std.proofs.lemmas.Bool.{cases_lt, cases_eq}
+use Rattle.std.proofs.lemmas.List.Elements.{All-head, All-tail}
 use Rattle.sf_value.specs.Values.{Name, Kind, pair_kind, event_kind, nodes as nodes_of}
 use Rattle.sf_refusal.specs.declared.spot.Spot.{Spot}
 use Rattle.sf_refusal.specs.declared.rule.Rule.TheVariants.{UnknownName, Mismatch, TypeTooLarge}
@@ -31,25 +32,30 @@ use Rattle.sf_term.specs.declared.form.Observation.{Observation}
 use Rattle.sf_term.specs.declared.form.Switching.{Switching}
 use Rattle.sf_term.specs.declared.form.Switching.TheVariants.{Basic, Recurring}
 use Rattle.sf_term.specs.declared.node.TermId.{TermId}
+use Rattle.sf_term.specs.declared.node.ArgumentsId.{ArgumentsId}
+use Rattle.sf_term.specs.declared.node.Argument.{Argument}
+use Rattle.sf_term.specs.declared.node.Argument.TheVariants as arguments
 use Rattle.sf_term.specs.declared.node.Primitive.{Primitive}
 use Rattle.sf_term.specs.declared.node.Primitive.TheVariants as primitives
 use Rattle.sf_term.specs.declared.node.Node.{Node}
 use Rattle.sf_term.specs.declared.node.Node.TheVariants as nodes
 use Rattle.sf_term.specs.declared.program.Program.{Program}
 use Rattle.sf_term.specs.Entries.{absent_payload}
-use Rattle.sf_term.specs.Arena.{term_number, tree, term_node_at, term_entry_of, term_spot_at, expressions_of, TermPartsBelow}
+use Rattle.sf_term.specs.Arena.{term_number, tree, term_node_at, term_entry_of, term_spot_at, expressions_of, arguments_under, ArgumentBelow, TermPartsBelow}
 use Rattle.sf_term.proofs.Kept.{parts_below}
-use Rattle.sf_mean.specs.Contexts.{NameKind, value, process, process_named, Bindings, bindings_inside, Context, names_of_values, inside_pattern, inside_process}
-use Rattle.sf_mean.specs.Typing.{bare_kind, value_kind, takes_time, timed_kind, accumulated_argument, accumulated_kind, PrimitiveTakes, bare_takes, never_takes, value_takes, timed_takes, accumulated_takes, arrow_takes, Takes, FormTakes, primitive_takes, run_takes, sequence_takes, parallel_takes, fan_takes, first_takes, second_takes, loop_takes, initialized_takes, keeping_takes}
+use Rattle.sf_mean.specs.Contexts.{NameKind, value, process, process_named, Bindings, bindings_inside, Signature, signature_named, Context, names_of_values, inside_pattern, inside_process}
+use Rattle.sf_mean.specs.Typing.{bare_kind, value_kind, takes_time, timed_kind, accumulated_argument, accumulated_kind, PrimitiveTakes, bare_takes, never_takes, value_takes, timed_takes, accumulated_takes, arrow_takes, Takes, FormTakes, primitive_takes, run_takes, call_takes, no_argument_fits, ParameterFits, sequence_takes, parallel_takes, fan_takes, first_takes, second_takes, loop_takes, initialized_takes, keeping_takes}
 use Rattle.sf_operator.specs.Kinds.{same_kind, payload_of}
 use Rattle.sf_operator.proofs.SameKinds.{same_is, is_same, payload_is}
 use Rattle.sf_mean.proofs.Inferred.{PartsAre, two_parts, no_parts, parts_are, names_inside, output_fits}
-use Rattle.sf_check.specs.Breaking.{IsNoEventBeside, kind_named, ProcessRefused, pattern_in, name_in, keeping_inside, BindsInside, Exceeds, PrimitiveBreaks, argument_refused, accumulator_refused, made_refused, value_refused, bare_refused, never_refused, given_refused, timed_value_refused, time_outside, timed_refused, start_value_refused, accumulation_breaks, function_refused, FormBreaks, primitive_breaks, no_process, process_differs, parallel_input, parallel_exceeds, fan_exceeds, side_input, first_exceeds, second_exceeds, start_refused, fed_exceeds, loop_differs, initialized_differs, BodyWanted, after_source, beside_input, BodyBreaks, pattern_refused, body_differs, source_differs, recurring_input, switch_body_breaks, observed_exceeds, observer_differs, keeping_body_breaks, Reaches, sequence_left, sequence_right, parallel_left, parallel_right, fan_left, fan_right, first_part, second_part, loop_part, initialized_part, switch_source, recurring_first, switch_body, keeping_source, keeping_observer, keeping_body, TermBreaks, itself, within}
-use Rattle.sf_check.specs.Answering.{primitive_in}
+use Rattle.sf_check.specs.Breaking.{IsNoEventBeside, kind_named, ProcessRefused, pattern_in, name_in, keeping_inside, BindsInside, Exceeds, PrimitiveBreaks, argument_refused, accumulator_refused, made_refused, value_refused, bare_refused, never_refused, given_refused, timed_value_refused, time_outside, timed_refused, start_value_refused, accumulation_breaks, function_refused, FormBreaks, primitive_breaks, no_process, process_differs, value_keeps, process_keeps, argument_refused, process_for_value, CallBreaks, no_template, other_number, argument_breaks, call_differs, call_breaks, parallel_input, parallel_exceeds, fan_exceeds, side_input, first_exceeds, second_exceeds, start_refused, fed_exceeds, loop_differs, initialized_differs, BodyWanted, after_source, beside_input, BodyBreaks, pattern_refused, body_differs, source_differs, recurring_input, switch_body_breaks, observed_exceeds, observer_differs, keeping_body_breaks, Reaches, call_argument, sequence_left, sequence_right, parallel_left, parallel_right, fan_left, fan_right, first_part, second_part, loop_part, initialized_part, switch_source, recurring_first, switch_body, keeping_source, keeping_observer, keeping_body, TermBreaks, itself, within}
+use Rattle.sf_check.specs.Answering.{primitive_in, ArgumentFits}
 use Rattle.sf_check.proofs.Made.{made}
 use Rattle.sf_check.proofs.Terms.{form_ok, wanted_takes}
 use Rattle.sf_check.specs.Laws.{ContextFits}
-use Rattle.sf_check.proofs.Types.{primitive_fits, no_event}
+use Rattle.sf_check.proofs.Types.{primitive_fits, no_event, expression_one, takes_one}
+use Rattle.sf_check.proofs.Arguments.{rest_length}
+use Rattle.sf_check.proofs.Calls.{ArgumentsSo, first_so, next_so}
 use Rattle.sf_check.proofs.Contexts.{process_is}
 
 pub kinds_or : (t u : Kind) → (t ≡ u) ⊎ (t ≢ u)
@@ -130,7 +136,7 @@ process_inside (both q r) c bs x h = h
 
 -- what stands around a term inside the name of a process fits too
 kept_fits : (Γ : Context) (x : Name) (a b : Kind) → Fits b → ContextFits Γ → ContextFits (inside_process x a b Γ)
-kept_fits Γ x a b fits around = (λ y t. value_test y t (bytes_eq y x), λ y c d. process_test y c d (bytes_eq y x))
+kept_fits Γ x a b fits around = (λ y t. value_test y t (bytes_eq y x), λ y c d. process_test y c d (bytes_eq y x), around.2)
   where
     value_test : (y : Name) (t : Kind) (s : Bool) → cond s None (type_of_name y (names_of_values Γ)) ≡ Some t → Fits t
     value_test y t true h = absurd cc
@@ -261,7 +267,7 @@ module _ (p : Program) (Γ : Context) (around : ContextFits Γ) where
       | inr r ↦ broken t n a is k (breaks _ (pattern_refused r.1))
       | inl m ↦
           let inner = names_inside Δ.functions Δ.bindings m.1.adds refl in
-          of_body (subst (Binds (pattern_in p q) c (names_of_values Δ)) inner m.1) (G (subst (λ R. NamesFit R) inner m.2, λ y a b h. inside.1 y a b (process_inside (pattern_in p q) c Δ.bindings y h)))
+          of_body (subst (Binds (pattern_in p q) c (names_of_values Δ)) inner m.1) (G (subst (λ R. NamesFit R) inner m.2, λ y a b h. inside.1 y a b (process_inside (pattern_in p q) c Δ.bindings y h), inside.2))
     ]
 
   of_switch_event : (t : TermId) (w : Switching) (f : TermId) (q : PatternId) (g : TermId) (a : Kind) → term_node_at p t ≡ nodes.Switching w f q g → Fits a
@@ -330,7 +336,59 @@ module _ (p : Program) (Γ : Context) (around : ContextFits Γ) where
             taken t _ a is k c (around.1 (name_in p m) b c (process_is (name_in p m) Γ.bindings e)) (run_takes (process_is (name_in p m) Γ.bindings named))
       ]
 
-node_parts : (p : Program) (t : TermId) → TermPartsBelow (term_node_at p t) (term_number t)
+  -- ## Calls
+
+  abbrev FitsIn : Name × NameKind → Type 0
+  FitsIn q = ParameterFits q.1
+
+  -- whether a value of a type is an argument for a parameter
+  abbrev fits_kind : Kind → NameKind → Bool
+  fits_kind u (value t) = same_kind u t
+  fits_kind u (process b c) = false
+
+  kind_fits : (e : ExprId) (u : Kind) → HasType (names_of_values Γ) (expression (expressions_of p) e) u → (q : NameKind) → IsTrue (fits_kind u q) ↔ ArgumentFits p Γ (arguments.Value e) q
+  kind_fits e u h (value t) = (λ same. subst (HasType (names_of_values Γ) (expression (expressions_of p) e)) (same_is u t same) h, λ other. ap (same_kind u) (expression_one other h) ∙ is_same u)
+  kind_fits e u h (process b c) = (λ same. absurd cc, λ none. absurd none)
+
+  process_fits : (j : TermId) (b c d : Kind) → Takes Γ (tree p j) b d → IsTrue (same_kind d c) ↔ ArgumentFits p Γ (arguments.Process j) (process b c)
+  process_fits j b c d h = (λ same. subst (Takes Γ (tree p j) b) (same_is d c same) h, λ other. ap (same_kind d) (takes_one other h) ∙ is_same d)
+
+  module _ (t : TermId) (k : NameId) (vs : ArgumentsId) (a : Kind) (is : term_node_at p t ≡ nodes.Call k vs) (f : Fits a)
+      (parts : (j : TermId) → term_number j < term_number t → (b : Kind) → Fits b → IsAnswered p Γ j b) where
+    breaks_call : {o : Option Signature} {e : Breach} → signature_named (name_in p k) Γ.signatures ≡ o → CallBreaks p Γ (term_spot_at p t) (arguments_under p vs) a o e → IsAnswered p Γ t a
+    breaks_call {e = e} found h = broken t (nodes.Call k vs) a is f (call_breaks (subst (λ o. CallBreaks p Γ (term_spot_at p t) (arguments_under p vs) a o e) (sym found) h))
+
+    module _ (g : Signature) (named : signature_named (name_in p k) Γ.signatures ≡ Some g) where
+      all_known : (fit : Bool) → ArgumentsSo p Γ (arguments_under p vs) g.parameters [] [] fit → (a ≡ g.input) ⊎ (a ≢ g.input) → IsAnswered p Γ t a
+      all_known false so e = breaks_call named (call_differs so.left (λ fit. absurd (so.differ refl fit)))
+      all_known true so (inr other) = breaks_call named (call_differs so.left (λ fit. other))
+      all_known true so (inl e) = taken t (nodes.Call k vs) a is f g.output (around.2 (name_in p k) g named).2 (subst (λ a. FormTakes Γ (made p (nodes.Call k vs)) a g.output) (sym e) (call_takes named (so.fits refl no_argument_fits)))
+
+      of_arguments : (ws : List Argument) (rs : Bindings) (fit : Bool) → ArgumentsSo p Γ (arguments_under p vs) g.parameters ws rs fit
+          → All (ArgumentBelow (term_number t)) ws → All FitsIn rs → IsAnswered p Γ t a
+      of_arguments [] [] fit so below fits = all_known fit so (kinds_or a g.input)
+      of_arguments [] (r ∷ rs) fit so below fits = absurd (omega (arith, rest_length so.left))
+      of_arguments (v ∷ ws) [] fit so below fits = absurd (omega (arith, rest_length so.left))
+      of_arguments (arguments.Value e ∷ ws) ((x, q) ∷ rs) fit so below fits = elim (answered (expressions_of p) (names_of_values Γ) names e) [
+        | inr r ↦ breaks_call named (argument_breaks so.left (argument_refused r.1))
+        | inl u ↦ of_arguments ws rs (fit && fits_kind u.0 q) (next_so fit (fits_kind u.0 q) so (value_keeps u.1) (kind_fits e u.0 u.1 q)) (All-tail (ArgumentBelow (term_number t)) (arguments.Value e) ws below) (All-tail FitsIn (x, q) rs fits)
+      ]
+      of_arguments (arguments.Process j ∷ ws) ((x, value u) ∷ rs) fit so below fits = breaks_call named (argument_breaks so.left process_for_value)
+      of_arguments (arguments.Process j ∷ ws) ((x, process b c) ∷ rs) fit so below fits =
+          let small = All-head FitsIn (x, process b c) rs fits in
+          elim (parts j (All-head (ArgumentBelow (term_number t)) (arguments.Process j) ws below) b small.0) [
+            | inr r ↦ in_part t (nodes.Call k vs) a is f (call_argument named so.left) r.1
+            | inl d ↦ of_arguments ws rs (fit && same_kind d.0 c) (next_so fit (same_kind d.0 c) so (process_keeps d.1) (process_fits j b c d.0 d.1)) (All-tail (ArgumentBelow (term_number t)) (arguments.Process j) ws below) (All-tail FitsIn (x, process b c) rs fits)
+          ]
+
+    of_call : All (ArgumentBelow (term_number t)) (arguments_under p vs) → (o : Option Signature) → signature_named (name_in p k) Γ.signatures ≡ o → IsAnswered p Γ t a
+    of_call below None e = breaks_call e no_template
+    of_call below (Some g) e = elim (cases_eq (length (arguments_under p vs)) (length g.parameters)) [
+      | inr other ↦ breaks_call e (other_number other)
+      | inl same ↦ of_arguments g e (arguments_under p vs) g.parameters true (first_so same) below (around.2 (name_in p k) g e).0
+    ]
+
+node_parts : (p : Program) (t : TermId) → TermPartsBelow p (term_node_at p t) (term_number t)
 unfolding term_node_at term_entry_of
 node_parts p t = parts_below p t
 
@@ -338,10 +396,11 @@ answered_within : (p : Program) (fuel : ℕ) (Γ : Context) → ContextFits Γ �
 answered_within p zero Γ around t h a f = absurd (omega arith)
 answered_within p (suc fuel) Γ around t h a f = by_node (term_node_at p t) refl (node_parts p t) (λ Δ fit j k. answered_within p fuel Δ fit j (omega arith))
   where
-    by_node : (n : Node) → term_node_at p t ≡ n → TermPartsBelow n (term_number t)
+    by_node : (n : Node) → term_node_at p t ≡ n → TermPartsBelow p n (term_number t)
         → ((Δ : Context) → ContextFits Δ → (j : TermId) → term_number j < term_number t → (b : Kind) → Fits b → IsAnswered p Δ j b) → IsAnswered p Γ t a
     by_node (nodes.Primitive q) is b parts = of_primitive p Γ around t q a is f
     by_node (nodes.Run k n) is b parts = of_run p Γ around t k n a is f
+    by_node (nodes.Call k vs) is b parts = of_call p Γ around t k vs a is f (parts Γ around) b (signature_named (name_in p k) Γ.signatures) refl
     by_node (nodes.Joined InSequence l r) is b parts = of_sequence p Γ around t l r a is f (parts Γ around l b.0 a f) (parts Γ around r b.1)
     by_node (nodes.Joined InParallel l r) is b parts = of_parallel p Γ around t l r a is f (parts Γ around l b.0) (parts Γ around r b.1)
     by_node (nodes.Joined FannedOut l r) is b parts = of_fan p Γ around t l r a is f (parts Γ around l b.0 a f) (parts Γ around r b.1 a f)

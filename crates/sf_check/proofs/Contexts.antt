@@ -1,6 +1,8 @@
 -- What stands around terms: names with their types, and the processes that others stand for.
-use Rattle.std.proofs.Common.{◌≡◌, Bool, true, false, cond, [], ◌∷◌, Option, Some, None, refl, ap, ◌∙◌, subst, sym}
+use Rattle.std.proofs.Common.{◌≡◌, ℕ, ◌+◌, ◌<◌, length, get_or, drop, All, Bool, true, false, cond, List, [], ◌∷◌, Option, Some, None, refl, ap, ◌∙◌, subst, sym}
 use Rattle.std.specs.Prelude.{bytes_eq}
+use Rattle.std.proofs.lemmas.List.{drop_more}
+use Rattle.std.proofs.lemmas.List.Elements.{All-cons}
 use Rattle.std.proofs.lemmas.Option.{same_Some, none-some}
 use Rattle.sf_value.specs.Values.{Name, Kind}
 use Rattle.sf_refusal.specs.declared.spot.Spot.{Spot}
@@ -13,8 +15,10 @@ use Rattle.sf_func.specs.Registries.{TypesByName}
 use Rattle.sf_expr.specs.Expressions.{Pattern}
 use Rattle.sf_expr.specs.Typing.{Names, only_functions, typed_name, untyped_name, named_in, with_types, AddsNames, adds_nothing, adds_name, adds_both, Binds}
 use Rattle.sf_expr.proofs.Bound.{binds_with}
+use Rattle.sf_term.specs.Parameters.{PlacedParameter, binding_of, parameters_of}
 use Rattle.sf_term.specs.Trees.{Templates}
-use Rattle.sf_mean.specs.Contexts.{NameKind, value, process, types_of_process, process_named, Bindings, context_with, values_in, bindings_inside, inside_pattern}
+use Rattle.sf_mean.specs.Contexts.{NameKind, value, process, types_of_process, process_named, Bindings, parameters_inside, context_with, values_in, bindings_inside, inside_pattern}
+use Rattle.sf_mean.specs.Typing.{ParameterFits}
 use Rattle.sf_check.specs.Processes.{Processes, process_among, names_among, others_in}
 use Rattle.sf_check.specs.Contexts.{bindings_of}
 use Rattle.sf_check.specs.Breaking.{kind_named, ProcessRefused}
@@ -110,3 +114,16 @@ is_process x bs {a} {b} h = each (kind_named x bs) refl (sym (found_process x bs
     each None e h = absurd cc
     each (Some (value t)) e h = absurd cc
     each (Some (process c d)) e h = ap (λ (k : Kind × Kind). Some (process k.0 k.1)) (same_Some (c, d) (a, b) h)
+
+-- ## Parameters
+
+-- the parameters from one on
+module _ (qs : List PlacedParameter) (i : ℕ) (q : PlacedParameter) (within : i < length qs) (is : q ≡ get_or qs i q) where
+  here : drop i qs ≡ q ∷ drop (i + 1) qs
+  here = drop_more qs i q within ∙ ap (λ q. q ∷ drop (i + 1) qs) (sym is)
+
+  pub one_inside : {bs cs ds : Bindings} → cs ≡ binding_of q ∷ bs → parameters_inside (parameters_of (drop i qs)) bs ≡ ds → parameters_inside (parameters_of (drop (i + 1) qs)) cs ≡ ds
+  one_inside {bs} e bound = ap (parameters_inside (parameters_of (drop (i + 1) qs))) e ∙ sym (ap (λ qs. parameters_inside (parameters_of qs) bs) here) ∙ bound
+
+  pub one_fits : ParameterFits q.kind → All (λ (q : Name × NameKind). ParameterFits q.1) (parameters_of (drop (i + 1) qs)) → All (λ (q : Name × NameKind). ParameterFits q.1) (parameters_of (drop i qs))
+  one_fits fits rest = subst (λ qs. All (λ (q : Name × NameKind). ParameterFits q.1) (parameters_of qs)) (sym here) (All-cons (λ (q : Name × NameKind). ParameterFits q.1) (binding_of q) (parameters_of (drop (i + 1) qs)) fits rest)

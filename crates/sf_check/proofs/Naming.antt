@@ -1,20 +1,22 @@
 -- Names that differ, one after the other.
 use Rattle.std.proofs.Common.{◌≡◌, ℕ, suc, ◌+◌, ◌<◌, ◌≤◌, length, List, [], ◌∷◌, ◌++◌, Bool, true, false, cond, ◌||◌, Some, slice_get, take, ap, ◌∙◌, sym, refl, arith, map, true≢false, inl, inr, not, String, string_bytes}
 use Rattle.std.specs.List.{list_any}
+use Rattle.std.specs.Option.{option_map}
 use Rattle.std.specs.Str.{bytes_eq}
 use Rattle.std.specs.String.{string_eq}
 use Rattle.indexmap.specs.IndexSet.{IndexSet, contains, insert_key}
 use Rattle.std.proofs.lemmas.Slice.Eq.{bytes_eq-Decides}
-use Rattle.std.proofs.lemmas.Option.{slice_get_within, slice_get_read, get_or_from_slice_get, same_Some}
+use Rattle.std.proofs.lemmas.Option.{slice_get-map, slice_get_within, slice_get_read, get_or_from_slice_get, same_Some}
 use Rattle.std.proofs.lemmas.List.{get_or-take, length-take, length-map, take_more, take_all, map-append}
 use Rattle.std.proofs.lemmas.List.Folds.{list_any_at}
 use Rattle.sf_value.specs.Values.{Name}
 use Rattle.sf_refusal.specs.declared.spot.Spot.{Spot}
 use Rattle.sf_term.specs.declared.program.Program.{Program}
 use Rattle.sf_term.specs.Trees.{Template}
-use Rattle.sf_term.specs.Arena.{headers_of, template_in, templates_of, spots_of}
+use Rattle.sf_term.specs.Parameters.{NameKind, PlacedParameter, binding_of, parameters_of}
+use Rattle.sf_term.specs.Arena.{headers_of, template_in, templates_of}
 use Rattle.sf_check.proofs.Templates.{lt_or_eq}
-use Rattle.sf_check.specs.Names.{names_of_set, program_names, Repeats, HasDifferentNames, IsFirstRepeat}
+use Rattle.sf_check.specs.Names.{names_of_set, program_names, parameter_names, parameter_spots, Repeats, AreDifferent, IsFirstRepeat}
 
 -- an item of a list is one of its front
 in_front : {X : Type 0} (xs : List X) (n i : ℕ) (x : X) → i < n → slice_get xs i ≡ Some x → slice_get (take n xs) i ≡ Some x
@@ -56,15 +58,18 @@ among x ns i e =
 pub not_below : (n m : ℕ) → (m < n → ⊥) → n ≤ m
 not_below n m none = grind arith
 
--- The names of the first templates, which differ.
-pub record Named (p : Program) (ns : List Name) (n : ℕ) : Type 0 where
-  pub first : ns ≡ take n (program_names p)
-  pub different : (place : ℕ) → place < n → Repeats (templates_of p) place → ⊥
+-- The first of names, which differ.
+pub record Named (all ns : List Name) (n : ℕ) : Type 0 where
+  pub front : ns ≡ take n all
+  pub different : (place : ℕ) → place < n → Repeats all place → ⊥
 
-module _ (p : Program) (ns : List Name) (n : ℕ) (x : Name) (named : Named p ns n) (at : slice_get (program_names p) n ≡ Some x) where
-  pub one_more : list_any (bytes_eq x) ns ≡ false → Named p (ns ++ x ∷ []) (n + 1)
+pub none_named_yet : (all ns : List Name) → ns ≡ [] → Named all ns 0
+none_named_yet all ns e = record { front = e; different = λ place h. absurd (omega arith) }
+
+module _ (all ns : List Name) (n : ℕ) (x : Name) (named : Named all ns n) (at : slice_get all n ≡ Some x) where
+  pub one_more : list_any (bytes_eq x) ns ≡ false → Named all (ns ++ x ∷ []) (n + 1)
   one_more new = record {
-    first = ap (λ ms. ms ++ x ∷ []) named.first ∙ sym (front_more (program_names p) n x at);
+    front = ap (λ ms. ms ++ x ∷ []) named.front ∙ sym (front_more all n x at);
     different = λ place h again.
         elim (lt_or_eq place n h) [
           | inl before ↦ named.different place before again
@@ -72,34 +77,53 @@ module _ (p : Program) (ns : List Name) (n : ℕ) (x : Name) (named : Named p ns
         ];
   }
     where
-      found : (place : ℕ) → place ≡ n → Repeats (templates_of p) place → list_any (bytes_eq x) ns ≡ true
+      found : (place : ℕ) → place ≡ n → Repeats all place → list_any (bytes_eq x) ns ≡ true
       found place here again =
-          let same : again.name ≡ x = same_Some _ _ (sym again.here ∙ ap (slice_get (program_names p)) here ∙ at) in
-          let there : slice_get (program_names p) again.earlier ≡ Some x = again.there ∙ ap Some same in
+          let same : again.name ≡ x = same_Some _ _ (sym again.here ∙ ap (slice_get all) here ∙ at) in
+          let there : slice_get all again.earlier ≡ Some x = again.there ∙ ap Some same in
           let before = again.before in
-          among x ns again.earlier (ap (λ l. slice_get l again.earlier) named.first ∙ in_front (program_names p) n again.earlier x (omega arith) there)
+          among x ns again.earlier (ap (λ l. slice_get l again.earlier) named.front ∙ in_front all n again.earlier x (omega arith) there)
 
-  pub repeated : (spot : Spot) → list_any (bytes_eq x) ns ≡ true → slice_get (spots_of p) n ≡ Some spot → IsFirstRepeat p spot
-  repeated spot old stands =
+  pub new_name : list_any (bytes_eq x) ns ≡ false → ¬ Repeats all n
+  new_name new again = (one_more new).different n (omega arith) again
+
+  pub repeats_name : list_any (bytes_eq x) ns ≡ true → Repeats all n
+  repeats_name old =
       let found = place_of x ns old in
-      let earlier = of_front (program_names p) n found.0 x (ap (λ l. slice_get l found.0) (sym named.first) ∙ found.1) in
-      record {
-        place = n;
-        repeats = record { earlier = found.0; before = earlier.0; name = x; there = earlier.1; here = at };
-        first = λ other again. not_below n other (λ below. named.different other below again);
-        stands = stands;
-      }
+      let earlier = of_front all n found.0 x (ap (λ l. slice_get l found.0) (sym named.front) ∙ found.1) in
+      record { earlier = found.0; before = earlier.0; name = x; there = earlier.1; here = at }
 
--- all names differ, once all templates were looked at
-pub all_named : (p : Program) (ns : List Name) (n : ℕ) → Named p ns n → length (headers_of p) ≤ n → (ns ≡ program_names p) × HasDifferentNames p
-all_named p ns n named most =
-    let count = length-map (templates_of p) (λ (t : Template). t.name) in
-    let count' = length-map (headers_of p) (template_in p) in (
-      named.first ∙ take_all n (program_names p) (omega arith),
-      λ place again.
-          let within = slice_get_within (program_names p) place again.name again.here in
-          named.different place (omega arith) again,
-    )
+  pub repeated : (spots : List Spot) (spot : Spot) → list_any (bytes_eq x) ns ≡ true → slice_get spots n ≡ Some spot → IsFirstRepeat all spots spot
+  repeated spots spot old stands = record {
+    place = n;
+    repeats = repeats_name old;
+    first = λ other again. not_below n other (λ below. named.different other below again);
+    stands = stands;
+  }
+
+-- all names differ, once all were looked at
+pub all_named : (all ns : List Name) (n : ℕ) → Named all ns n → length all ≤ n → (ns ≡ all) × AreDifferent all
+all_named all ns n named most = (
+  named.front ∙ take_all n all (omega arith),
+  λ place again.
+      let within = slice_get_within all place again.name again.here in
+      named.different place (omega arith) again,
+)
+
+-- ## Parameters
+
+module _ (qs : List PlacedParameter) (i : ℕ) (q : PlacedParameter) (at : slice_get qs i ≡ Some q) where
+  pub parameter_name_at : slice_get (parameter_names (parameters_of qs)) i ≡ Some q.name
+  parameter_name_at = slice_get-map (λ (b : Name × NameKind). b.0) (parameters_of qs) i ∙ ap (option_map (λ (b : Name × NameKind). b.0)) (slice_get-map binding_of qs i ∙ ap (option_map binding_of) at)
+
+  pub parameter_spot_at : slice_get (parameter_spots qs) i ≡ Some q.spot
+  parameter_spot_at = slice_get-map (λ (q : PlacedParameter). q.spot) qs i ∙ ap (option_map (λ (q : PlacedParameter). q.spot)) at
+
+pub parameters_counted : (qs : List PlacedParameter) → length (parameter_names (parameters_of qs)) ≡ length qs
+parameters_counted qs = length-map (parameters_of qs) (λ (b : Name × NameKind). b.0) ∙ length-map qs binding_of
+
+pub templates_counted : (p : Program) → length (program_names p) ≡ length (headers_of p)
+templates_counted p = length-map (templates_of p) (λ (t : Template). t.name) ∙ length-map (headers_of p) (template_in p)
 
 -- ## The names in a set
 

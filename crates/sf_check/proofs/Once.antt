@@ -1,12 +1,12 @@
 -- A network is refused in one way at most.
-use Rattle.std.proofs.Common.{◌≡◌, ◌<◌, ℕ, Option, Some, None, slice_get, refl, sym, ◌∙◌, ap, subst, arith}
+use Rattle.std.proofs.Common.{◌≡◌, ◌<◌, ℕ, List, Option, Some, None, slice_get, refl, sym, ◌∙◌, ap, subst, arith}
 use Rattle.std.proofs.lemmas.Option.{same_Some}
 use mathlib.Core.Path.{subst₂}
 use Rattle.sf_value.specs.Values.{Kind, pair_kind, event_kind}
 use Rattle.sf_func.specs.Registries.{TypesByName}
 use Rattle.sf_expr.specs.declared.exprs.Exprs.{Exprs}
 use Rattle.sf_refusal.specs.declared.spot.Spot.{Spot}
-use Rattle.sf_refusal.specs.declared.rule.Rule.TheVariants.{DuplicateName}
+use Rattle.sf_refusal.specs.declared.rule.Rule.TheVariants.{DuplicateName, Endless}
 use Rattle.sf_refusal.specs.declared.refusal.Breach.{Breach}
 use Rattle.sf_refusal.specs.Refusals.{breach_of, broken}
 use Rattle.sf_operator.specs.Breaches.{KindRefused}
@@ -19,21 +19,25 @@ use Rattle.sf_expr.specs.Refusals.{PatternRefused, FunctionRefused}
 use Rattle.sf_expr.proofs.Judged.{refused_untyped, refused_takes_none}
 use Rattle.sf_expr.proofs.Once.{pattern_once, refused_once, function_refused_once}
 use Rattle.sf_term.specs.declared.node.TermId.{TermId}
+use Rattle.sf_term.specs.declared.node.Argument.TheVariants as arguments
 use Rattle.sf_term.specs.declared.node.Primitive.{Primitive}
 use Rattle.sf_term.specs.declared.node.Node.{Node}
 use Rattle.sf_term.specs.declared.program.Program.{Program}
 use Rattle.sf_term.specs.Headers.{Header}
-use Rattle.sf_term.specs.Arena.{tree, expressions_of, headers_of, spots_of, template_in}
+use Rattle.sf_term.specs.Arena.{tree, expressions_of, headers_of, template_in}
 use Rattle.sf_term.specs.declared.form.Bare.{Bare}
 use Rattle.sf_term.specs.declared.form.Bare.TheVariants.{Pre}
 use Rattle.sf_term.specs.declared.form.Accumulation.{Accumulation}
 use Rattle.sf_mean.specs.Contexts.{NameKind, value, process, Context, names_of_values, inside_pattern}
 use Rattle.sf_mean.specs.Typing.{bare_kind, value_kind, timed_kind, accumulated_kind, Takes}
-use Rattle.sf_check.specs.Names.{IsFirstRepeat}
-use Rattle.sf_check.specs.Breaking.{kind_named, ProcessRefused, BareRefused, pattern_in, name_in, keeping_inside, BindsInside, PrimitiveBreaks, AccumulationBreaks, argument_refused, accumulator_refused, made_refused, value_refused, bare_refused, never_refused, given_refused, timed_value_refused, time_outside, timed_refused, start_value_refused, accumulation_breaks, function_refused, FormBreaks, primitive_breaks, no_process, process_differs, parallel_input, parallel_exceeds, fan_exceeds, side_input, first_exceeds, second_exceeds, start_refused, fed_exceeds, loop_differs, initialized_differs, after_source, beside_input, BodyBreaks, pattern_refused, body_differs, source_differs, recurring_input, switch_body_breaks, observed_exceeds, observer_differs, keeping_body_breaks, Reaches, sequence_left, sequence_right, parallel_left, parallel_right, fan_left, fan_right, first_part, second_part, loop_part, initialized_part, switch_source, recurring_first, switch_body, keeping_source, keeping_observer, keeping_body, TermBreaks, itself, within, TemplateBreaks, breaks_within, breaks_header, IsFirstBreak}
-use Rattle.sf_check.specs.Refusing.{RefusesNetwork, name_refused, type_refused, main_missing}
+use Rattle.sf_value.specs.Values.{Name}
+use Rattle.sf_reach.proofs.Lawful.{endless_once, endless_somewhere}
+use Rattle.sf_check.specs.Names.{IsFirstRepeat, NamesDiffer, HeaderRepeats, name_repeats, parameter_repeats, HeaderDiffers, IsFirstNameAgain}
+use Rattle.sf_check.specs.Breaking.{kind_named, ProcessRefused, BareRefused, pattern_in, name_in, keeping_inside, BindsInside, PrimitiveBreaks, AccumulationBreaks, argument_refused, accumulator_refused, made_refused, value_refused, bare_refused, never_refused, given_refused, timed_value_refused, time_outside, timed_refused, start_value_refused, accumulation_breaks, function_refused, FormBreaks, primitive_breaks, no_process, process_differs, call_breaks, parallel_input, parallel_exceeds, fan_exceeds, side_input, first_exceeds, second_exceeds, start_refused, fed_exceeds, loop_differs, initialized_differs, after_source, beside_input, BodyBreaks, pattern_refused, body_differs, source_differs, recurring_input, switch_body_breaks, observed_exceeds, observer_differs, keeping_body_breaks, ArgumentKeeps, process_keeps, Reaches, call_argument, sequence_left, sequence_right, parallel_left, parallel_right, fan_left, fan_right, first_part, second_part, loop_part, initialized_part, switch_source, recurring_first, switch_body, keeping_source, keeping_observer, keeping_body, TermBreaks, itself, within, TemplateBreaks, breaks_within, breaks_header, AreTyped, IsFirstBreak}
+use Rattle.sf_check.specs.Refusing.{RefusesNetwork, name_refused, type_refused, endless_refused, main_missing}
 use Rattle.sf_check.proofs.Types.{argument_fits, expression_one, takes_one, input_fits}
 use Rattle.sf_check.proofs.Broken.{answer_one, too_large, pattern_none, wanted_one, seen_one, breaks_untyped, template_untyped}
+use Rattle.sf_check.proofs.Arguments.{call_once, call_part, same_part}
 use Rattle.sf_check.proofs.Templates.{template_at}
 
 -- ## One form
@@ -95,6 +99,10 @@ no_process_once (Some (value t)) s e f h k = h ∙ sym k
 no_process_once (Some (process a b)) s e f h k = absurd h
 
 module _ {p : Program} {Γ : Context} where
+  -- an argument whose term breaks a rule on the inputs of its parameter doesn't keep its rules
+  term_keeps : {t : TermId} {a b : Kind} {e : Breach} → TermBreaks p Γ t a e → ArgumentKeeps p Γ (arguments.Process t) (process a b) → ⊥
+  term_keeps broken (process_keeps h) = breaks_untyped broken h
+
   itself_once : {s : Spot} {n : Node} {a : Kind} {e f : Breach} → FormBreaks p Γ s n a e → FormBreaks p Γ s n a f → e ≡ f
   itself_once (primitive_breaks h) (primitive_breaks k) = primitive_once h k
   itself_once (parallel_input none) (parallel_input more) = refl
@@ -132,6 +140,7 @@ module _ {p : Program} {Γ : Context} where
   itself_once (no_process {n = n} {r = r} h) (process_differs named other) = absurd (subst (λ o. ProcessRefused o n r) named h)
   itself_once (process_differs named other) (no_process {n = n} {r = r} h) = absurd (subst (λ o. ProcessRefused o n r) named h)
   itself_once (process_differs named other) (process_differs kept more) = refl
+  itself_once (call_breaks h) (call_breaks k) = call_once h k
   itself_once (observed_exceeds f big) (observed_exceeds g more) = refl
   itself_once (observed_exceeds {a = a} f big) (observer_differs g o none) = absurd (too_large big (input_fits o) (ap (pair_kind a) (takes_one f g)))
   itself_once (observed_exceeds {a = a} f big) (keeping_body_breaks g o h) = absurd (too_large big (input_fits o) (ap (pair_kind a) (takes_one f g)))
@@ -151,6 +160,7 @@ module _ {p : Program} {Γ : Context} where
   itself_parts (primitive_breaks h) reached broken = elim reached [ ]
   itself_parts (no_process h) reached broken = elim reached [ ]
   itself_parts (process_differs named other) reached broken = elim reached [ ]
+  itself_parts (call_breaks h) (call_argument named left) broken = call_part h named left (term_keeps broken)
   itself_parts (parallel_input none) parallel_left broken = none _ _ refl
   itself_parts (parallel_input none) (parallel_right h) broken = none _ _ refl
   itself_parts (parallel_exceeds h k big) parallel_left broken = breaks_untyped broken h
@@ -200,6 +210,9 @@ module _ {p : Program} {Γ : Context} where
 
   -- of the parts, one at most breaks a rule where it is typed next
   parts_once : {n : Node} {a : Kind} {Δ Θ : Context} {i j : TermId} {b c : Kind} {e f : Breach} → Reaches p Γ n a Δ i b → Reaches p Γ n a Θ j c → TermBreaks p Δ i b e → ((g : Breach) → TermBreaks p Δ i b g → e ≡ g) → TermBreaks p Θ j c f → e ≡ f
+  parts_once {f = f} (call_argument named left) (call_argument there more) broken once other =
+      let same = same_part there more named left (term_keeps other) (term_keeps broken) in
+      once f (subst₂ (λ t a. TermBreaks p Γ t a f) same.0 same.1 other)
   parts_once sequence_left sequence_left broken once other = once _ other
   parts_once sequence_left (sequence_right h) broken once other = absurd (breaks_untyped broken h)
   parts_once (sequence_right h) sequence_left broken once other = absurd (breaks_untyped other h)
@@ -258,13 +271,37 @@ breaks_once (itself h) (within reached k) = absurd (itself_parts h reached k)
 breaks_once (within reached h) (itself k) = absurd (itself_parts k reached h)
 breaks_once (within reached h) (within more k) = parts_once reached more h (λ g l. breaks_once h l) k
 
+no_order : (m n : ℕ) → (m < n → ⊥) → (n < m → ⊥) → m ≡ n
+no_order m n below above = grind arith
+
+repeat_once : {ns : List Name} {spots : List Spot} {s t : Spot} → IsFirstRepeat ns spots s → IsFirstRepeat ns spots t → s ≡ t
+repeat_once {spots = spots} h k =
+    let below = h.first k.place k.repeats in
+    let above = k.first h.place h.repeats in
+    let place : h.place ≡ k.place = omega arith in
+    same_Some _ _ (sym h.stands ∙ ap (slice_get spots) place ∙ k.stands)
+
 module _ {p : Program} where
-  repeat_once : {s t : Spot} → IsFirstRepeat p s → IsFirstRepeat p t → s ≡ t
-  repeat_once h k =
-      let below = h.first k.place k.repeats in
-      let above = k.first h.place h.repeats in
-      let place : h.place ≡ k.place = omega arith in
-      same_Some _ _ (sym h.stands ∙ ap (slice_get (spots_of p)) place ∙ k.stands)
+  header_once : {i : ℕ} {h : Header} {s t : Spot} → HeaderRepeats p i h s → HeaderRepeats p i h t → s ≡ t
+  header_once (name_repeats h) (name_repeats k) = refl
+  header_once (name_repeats h) (parameter_repeats new k) = absurd (new h)
+  header_once (parameter_repeats new h) (name_repeats k) = absurd (new k)
+  header_once (parameter_repeats new h) (parameter_repeats more k) = repeat_once h k
+
+  header_apart : {i : ℕ} {h : Header} {s : Spot} → slice_get (headers_of p) i ≡ Some h → HeaderDiffers p i → HeaderRepeats p i h s → ⊥
+  header_apart at differs (name_repeats h) = differs.0 h
+  header_apart {h = h} at differs (parameter_repeats new k) = differs.1 h at k.place k.repeats
+
+  again_once : {s t : Spot} → IsFirstNameAgain p s → IsFirstNameAgain p t → s ≡ t
+  again_once {s} {t} h k =
+      let below : h.place < k.place → ⊥ = λ l. header_apart h.at (k.before h.place l) h.again in
+      let above : k.place < h.place → ⊥ = λ l. header_apart k.at (h.before k.place l) k.again in
+      let place : k.place ≡ h.place = no_order k.place h.place above below in
+      let same : k.header ≡ h.header = same_Some _ _ (sym k.at ∙ ap (slice_get (headers_of p)) place ∙ h.at) in
+      header_once h.again (subst₂ (λ i g. HeaderRepeats p i g t) place same k.again)
+
+  names_apart : {s : Spot} → NamesDiffer p → IsFirstNameAgain p s → ⊥
+  names_apart different h = header_apart h.at (different.templates h.place, different.parameters h.place) h.again
 
 module _ {fs : TypesByName} {p : Program} where
   template_once : {h : Header} {e f : Breach} → TemplateBreaks fs p h e → TemplateBreaks fs p h f → e ≡ f
@@ -284,17 +321,24 @@ module _ {fs : TypesByName} {p : Program} where
       let place : k.place ≡ h.place = no_order k.place h.place above below in
       let same : k.header ≡ h.header = same_Some _ _ (sym k.at ∙ ap (slice_get (headers_of p)) place ∙ h.at) in
       template_once h.broken (subst (λ g. TemplateBreaks fs p g f) same k.broken)
-    where
-      no_order : (m n : ℕ) → (m < n → ⊥) → (n < m → ⊥) → m ≡ n
-      no_order m n below above = grind arith
+
+  untyped_typed : {e : Breach} → AreTyped fs p → IsFirstBreak fs p e → ⊥
+  untyped_typed typed h = template_untyped h.broken (typed h.place (template_in p h.header) (template_at p h.place h.header h.at))
 
   pub refuses_once : {e f : Breach} → RefusesNetwork fs p e → RefusesNetwork fs p f → e ≡ f
-  refuses_once (name_refused h) (name_refused k) = ap (breach_of DuplicateName) (repeat_once h k)
-  refuses_once (name_refused h) (type_refused different k) = absurd (different h.place h.repeats)
-  refuses_once (name_refused h) (main_missing different typed none) = absurd (different h.place h.repeats)
-  refuses_once (type_refused different h) (name_refused k) = absurd (different k.place k.repeats)
+  refuses_once (name_refused h) (name_refused k) = ap (breach_of DuplicateName) (again_once h k)
+  refuses_once (name_refused h) (type_refused different k) = absurd (names_apart different h)
+  refuses_once (name_refused h) (endless_refused different typed k) = absurd (names_apart different h)
+  refuses_once (name_refused h) (main_missing different typed nowhere none) = absurd (names_apart different h)
+  refuses_once (type_refused different h) (name_refused k) = absurd (names_apart different k)
   refuses_once (type_refused different h) (type_refused more k) = first_once h k
-  refuses_once (type_refused different h) (main_missing more typed none) = absurd (template_untyped h.broken (typed h.place (template_in p h.header) (template_at p h.place h.header h.at)))
-  refuses_once (main_missing different typed none) (name_refused k) = absurd (different k.place k.repeats)
-  refuses_once (main_missing different typed none) (type_refused more k) = absurd (template_untyped k.broken (typed k.place (template_in p k.header) (template_at p k.place k.header k.at)))
-  refuses_once (main_missing different typed none) (main_missing more all missing) = refl
+  refuses_once (type_refused different h) (endless_refused more typed k) = absurd (untyped_typed typed h)
+  refuses_once (type_refused different h) (main_missing more typed nowhere none) = absurd (untyped_typed typed h)
+  refuses_once (endless_refused different typed h) (name_refused k) = absurd (names_apart different k)
+  refuses_once (endless_refused different typed h) (type_refused more k) = absurd (untyped_typed typed k)
+  refuses_once (endless_refused different typed h) (endless_refused more all k) = ap (breach_of Endless) (endless_once p _ _ h k)
+  refuses_once (endless_refused different typed h) (main_missing more all nowhere none) = absurd (endless_somewhere p _ different.templates h nowhere)
+  refuses_once (main_missing different typed nowhere none) (name_refused k) = absurd (names_apart different k)
+  refuses_once (main_missing different typed nowhere none) (type_refused more k) = absurd (untyped_typed typed k)
+  refuses_once (main_missing different typed nowhere none) (endless_refused more all k) = absurd (endless_somewhere p _ more.templates k nowhere)
+  refuses_once (main_missing different typed nowhere none) (main_missing more all never missing) = refl

@@ -50,6 +50,7 @@ use Rattle.sf_term.specs.declared.program.Program.{Program}
 use Rattle.sf_term.specs.Headers.{Header}
 use Rattle.sf_term.specs.Trees.{never}
 use Rattle.sf_term.specs.Entries.{absent_payload}
+use Rattle.sf_term.specs.Parameters.{parameters_of}
 use Rattle.sf_term.specs.Arena.{tree, term_node_at, term_spot_at, expressions_of, templates_of}
 use Rattle.sf_mean.specs.Contexts.{process, Context, names_of_values, context_of, inside_pattern}
 use Rattle.sf_mean.specs.Typing.{value_kind, takes_time, timed_kind, accumulated_argument, accumulated_kind, PrimitiveTakes, bare_takes, never_takes, value_takes, timed_takes, accumulated_takes, arrow_takes, Takes, takes, FormTakes, primitive_takes, run_takes, sequence_takes, parallel_takes, fan_takes, first_takes, second_takes, loop_takes, initialized_takes, switch_takes, recurring_takes, keeping_takes}
@@ -66,7 +67,7 @@ other_kind t u other = λ e. let same = ap (same_kind t) e ∙ other in let yes 
 -- ## Answers of one form
 
 module _ (p : Program) (Γ : Context) (t : TermId) (n : Node) (a : Kind) (is : term_node_at p t ≡ n) where
-  breaks_itself : (s : Spot) {e : Breach} → s ≡ term_spot_at p t → FormBreaks p Γ s n a e → TermBreaks p Γ t a e
+  pub breaks_itself : (s : Spot) {e : Breach} → s ≡ term_spot_at p t → FormBreaks p Γ s n a e → TermBreaks p Γ t a e
   breaks_itself s {e} at h = itself (subst (λ m. FormBreaks p Γ (term_spot_at p t) m a e) (sym is) (subst (λ s. FormBreaks p Γ s n a e) at h))
 
   -- the form itself breaks a rule
@@ -308,12 +309,16 @@ module _ (p : Program) (Γ : Context) (t : TermId) (a : Kind) (s : Spot) (at : s
 
 -- ## A template
 
-pub template_refused : (fs : TypesByName) (p : Program) (h : Header) (t : TermId) (a : Kind) (e : Refusal) → t ≡ h.body → a ≡ h.input → OrMemory (TermBreaks p (context_of fs (templates_of p)) t a) e → OrMemory (TemplateBreaks fs p h) e
-template_refused fs p h t a e is from broken = or_memory (λ f k. breaks_within (subst (λ a. TermBreaks p (context_of fs (templates_of p)) h.body a f) from (subst (λ t. TermBreaks p (context_of fs (templates_of p)) t a f) is k))) broken
+pub template_refused : (fs : TypesByName) (p : Program) (h : Header) (t : TermId) (a : Kind) (e : Refusal) → t ≡ h.body → a ≡ h.input → OrMemory (TermBreaks p (context_of fs (parameters_of h.parameters) (templates_of p)) t a) e → OrMemory (TemplateBreaks fs p h) e
+template_refused fs p h t a e is from broken =
+    let Γ = context_of fs (parameters_of h.parameters) (templates_of p) in
+    or_memory (λ f k. breaks_within (subst (λ a. TermBreaks p Γ h.body a f) from (subst (λ t. TermBreaks p Γ t a f) is k))) broken
 
-pub header_refused : (fs : TypesByName) (p : Program) (h : Header) (t : TermId) (s : Spot) (a b c : Kind) (e : Refusal) → t ≡ h.body → s ≡ term_spot_at p t → a ≡ h.input → c ≡ h.output → Takes (context_of fs (templates_of p)) (tree p t) a b → (b ≡ c → ⊥) → e ≡ broken Mismatch s → OrMemory (TemplateBreaks fs p h) e
+pub header_refused : (fs : TypesByName) (p : Program) (h : Header) (t : TermId) (s : Spot) (a b c : Kind) (e : Refusal) → t ≡ h.body → s ≡ term_spot_at p t → a ≡ h.input → c ≡ h.output
+    → Takes (context_of fs (parameters_of h.parameters) (templates_of p)) (tree p t) a b → (b ≡ c → ⊥) → e ≡ broken Mismatch s → OrMemory (TemplateBreaks fs p h) e
 header_refused fs p h t s a b c e is at from to k other eq =
-    let takes' : Takes (context_of fs (templates_of p)) (tree p h.body) h.input b = subst (λ a. Takes (context_of fs (templates_of p)) (tree p h.body) a b) from (subst (λ t. Takes (context_of fs (templates_of p)) (tree p t) a b) is k) in
+    let Γ = context_of fs (parameters_of h.parameters) (templates_of p) in
+    let takes' : Takes Γ (tree p h.body) h.input b = subst (λ a. Takes Γ (tree p h.body) a b) from (subst (λ t. Takes Γ (tree p t) a b) is k) in
     breaks_at Mismatch eq (at ∙ ap (term_spot_at p) is) (breaks_header takes' (λ e. other (e ∙ sym to)))
 
 -- ## A primitive

@@ -20,7 +20,7 @@ types_checked c = signatures_in c.functions
 
 -- what stands for `main` where there is none
 abbrev pub no_main : Template
-no_main = record { name = []; input = int_kind; output = int_kind; body = primitive (bare Identity) }
+no_main = record { name = []; parameters = []; input = int_kind; output = int_kind; body = primitive (bare Identity) }
 
 -- the template that is run, `main`
 unfoldable pub checked_main : Checked → Template

@@ -1,26 +1,30 @@
 -- What is answered for primitives, terms and bodies.
-use Rattle.std.specs.Prelude.{◌≡◌, ◌⊎◌, Result, Ok, Err}
+use Rattle.std.specs.Prelude.{◌≡◌, ◌⊎◌, ◌↔◌, Bool, IsTrue, Result, Ok, Err}
 use Rattle.sf_value.specs.Values.{Kind}
 use Rattle.sf_refusal.specs.declared.spot.Spot.{Spot}
 use Rattle.sf_refusal.specs.declared.rule.Rule.TheVariants.{BarePre}
+use Rattle.sf_refusal.specs.declared.refusal.Breach.{Breach}
 use Rattle.sf_refusal.specs.declared.refusal.Refusal.{Refusal}
 use Rattle.sf_refusal.specs.Refusals.{broken, OrMemory}
 use Rattle.sf_expr.specs.declared.exprs.PatternId.{PatternId}
 use Rattle.sf_expr.specs.declared.exprs.Exprs.{Exprs}
 use Rattle.sf_expr.specs.Arena.{expression, function_at, literal_at}
+use Rattle.sf_expr.specs.Typing.{HasType}
 use Rattle.sf_operator.specs.Breaches.{AnswersKind}
 use Rattle.sf_term.specs.declared.form.Bare.{Bare}
 use Rattle.sf_term.specs.declared.form.Bare.TheVariants.{Pre}
 use Rattle.sf_term.specs.declared.node.TermId.{TermId}
+use Rattle.sf_term.specs.declared.node.Argument.{Argument}
+use Rattle.sf_term.specs.declared.node.Argument.TheVariants as arguments
 use Rattle.sf_term.specs.declared.node.Primitive.{Primitive as PrimitiveNode}
 use Rattle.sf_term.specs.declared.node.Primitive.TheVariants as nodes
 use Rattle.sf_term.specs.declared.program.Program.{Program}
 use Rattle.sf_term.specs.Trees.{Primitive, bare, never, with_value, timed, arrow, accumulated}
 use Rattle.sf_term.specs.Entries.{absent_payload}
-use Rattle.sf_term.specs.Arena.{tree}
-use Rattle.sf_mean.specs.Contexts.{Context, inside_pattern}
+use Rattle.sf_term.specs.Arena.{tree, expressions_of}
+use Rattle.sf_mean.specs.Contexts.{NameKind, value, process, Context, names_of_values, inside_pattern}
 use Rattle.sf_mean.specs.Typing.{bare_kind, PrimitiveTakes, Takes}
-use Rattle.sf_check.specs.Breaking.{pattern_in, BindsInside, PrimitiveBreaks, BodyBreaks, TermBreaks}
+use Rattle.sf_check.specs.Breaking.{pattern_in, BindsInside, PrimitiveBreaks, ArgumentKeeps, ArgumentBreaks, BodyBreaks, TermBreaks}
 
 -- the primitive that a node stands for
 abbrev pub primitive_in : Exprs → PrimitiveNode → Primitive
@@ -51,3 +55,21 @@ AnswersTerm p Γ t a (Err e) = OrMemory (TermBreaks p Γ t a) e
 abbrev pub AnswersBody : Program → Context → Spot → PatternId → TermId → (input output payload : Kind) → Result Kind Refusal → Type 0
 AnswersBody p Δ s q u a b c (Ok d) = (d ≡ b) × BindsInside (pattern_in p q) c Δ × Takes (inside_pattern (pattern_in p q) c Δ) (tree p u) a b
 AnswersBody p Δ s q u a b c (Err e) = OrMemory (λ r. BodyBreaks p Δ s q u a b c r ⊎ (BindsInside (pattern_in p q) c Δ × TermBreaks p (inside_pattern (pattern_in p q) c Δ) u a r)) e
+
+-- an argument is of the type or the types of a parameter of a kind
+abbrev pub ArgumentFits : Program → Context → Argument → NameKind → Type 0
+ArgumentFits p Γ (arguments.Value e) (value t) = HasType (names_of_values Γ) (expression (expressions_of p) e) t
+ArgumentFits p Γ (arguments.Value e) (process a b) = ⊥
+ArgumentFits p Γ (arguments.Process t) (value u) = ⊥
+ArgumentFits p Γ (arguments.Process t) (process a b) = Takes Γ (tree p t) a b
+
+-- An argument of a call at a spot, for a parameter of a kind, breaks a rule of the call, or its term breaks one within.
+pub data ArgumentStops (p : Program) (Γ : Context) (s : Spot) : Argument → NameKind → Breach → Type 0 where
+  stops_itself : {v : Argument} {k : NameKind} {r : Breach} → ArgumentBreaks p Γ s v k r → ArgumentStops p Γ s v k r
+  stops_within : {t : TermId} {a b : Kind} {r : Breach} → TermBreaks p Γ t a r → ArgumentStops p Γ s (arguments.Process t) (process a b) r
+
+-- The answer for an argument of a call at a spot, under a context, for a parameter of a kind: it keeps its rules so far, and
+-- whether it fits, or the first rule that is broken.
+abbrev pub AnswersArgument : Program → Context → Spot → Argument → NameKind → Result Bool Refusal → Type 0
+AnswersArgument p Γ s v k (Ok fits) = ArgumentKeeps p Γ v k × (IsTrue fits ↔ ArgumentFits p Γ v k)
+AnswersArgument p Γ s v k (Err e) = OrMemory (ArgumentStops p Γ s v k) e

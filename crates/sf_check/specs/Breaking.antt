@@ -1,8 +1,8 @@
 -- Where rules of types are broken, under a context.
-use Rattle.std.specs.Prelude.{◌≡◌, ◌≢◌, ◌<◌, ℕ, ℤ, false, cond, IsTrue, [], ◌∷◌, Option, Some, None, bytes_eq, slice_get}
+use Rattle.std.specs.Prelude.{◌≡◌, ◌≢◌, ◌<◌, ℕ, ℤ, false, cond, IsTrue, List, [], ◌∷◌, length, Option, Some, None, bytes_eq, slice_get}
 use Rattle.sf_value.specs.Values.{Name, Kind, pair_kind, event_kind, nodes as nodes_of, IsNoPair}
 use Rattle.sf_refusal.specs.declared.spot.Spot.{Spot}
-use Rattle.sf_refusal.specs.declared.rule.Rule.TheVariants.{UnknownName, Mismatch, BarePre, BadConstant, TypeTooLarge}
+use Rattle.sf_refusal.specs.declared.rule.Rule.TheVariants.{UnknownName, Arity, Mismatch, BarePre, BadConstant, TypeTooLarge}
 use Rattle.sf_refusal.specs.declared.refusal.Breach.{Breach}
 use Rattle.sf_refusal.specs.Refusals.{breach_of}
 use Rattle.sf_func.specs.Registries.{TypesByName}
@@ -32,6 +32,9 @@ use Rattle.sf_term.specs.declared.form.Observation.{Observation}
 use Rattle.sf_term.specs.declared.form.Switching.{Switching}
 use Rattle.sf_term.specs.declared.form.Switching.TheVariants.{Basic, Recurring}
 use Rattle.sf_term.specs.declared.node.TermId.{TermId}
+use Rattle.sf_term.specs.declared.node.ArgumentsId.{ArgumentsId}
+use Rattle.sf_term.specs.declared.node.Argument.{Argument}
+use Rattle.sf_term.specs.declared.node.Argument.TheVariants as arguments
 use Rattle.sf_term.specs.declared.node.Primitive.{Primitive}
 use Rattle.sf_term.specs.declared.node.Primitive.TheVariants as primitives
 use Rattle.sf_term.specs.declared.node.Node.{Node}
@@ -39,10 +42,11 @@ use Rattle.sf_term.specs.declared.node.Node.TheVariants as nodes
 use Rattle.sf_term.specs.declared.program.Program.{Program}
 use Rattle.sf_term.specs.Entries.{absent_payload}
 use Rattle.sf_term.specs.Headers.{Header}
+use Rattle.sf_term.specs.Parameters.{parameters_of}
 use Rattle.sf_term.specs.Trees.{Template}
-use Rattle.sf_term.specs.Arena.{tree, term_node_at, term_spot_at, expressions_of, headers_of, templates_of}
-use Rattle.sf_mean.specs.Contexts.{NameKind, value, process, Bindings, Context, names_of_values, context_of, inside_pattern, inside_process}
-use Rattle.sf_mean.specs.Typing.{bare_kind, value_kind, takes_time, timed_kind, accumulated_argument, accumulated_kind, Takes, IsTyped}
+use Rattle.sf_term.specs.Arena.{tree, term_node_at, term_spot_at, expressions_of, arguments_under, arguments_of, headers_of, templates_of}
+use Rattle.sf_mean.specs.Contexts.{NameKind, value, process, Bindings, Signature, signature_named, Context, names_of_values, context_of, inside_pattern, inside_process}
+use Rattle.sf_mean.specs.Typing.{bare_kind, value_kind, takes_time, timed_kind, accumulated_argument, accumulated_kind, Takes, ArgumentsFit, IsTyped}
 
 -- a type is none of pairs with this second part
 abbrev pub IsNoPairWith : Kind → Kind → Type 0
@@ -130,11 +134,38 @@ pub data BodyBreaks (p : Program) (Δ : Context) (s : Spot) (q : PatternId) (u :
   pattern_refused : {r : Breach} → PatternRefused (placed_at (expressions_of p) q) c s r → BodyBreaks p Δ s q u a b c r
   body_differs : {d : Kind} → BindsInside (pattern_in p q) c Δ → Takes (inside_pattern (pattern_in p q) c Δ) (tree p u) a d → d ≢ b → BodyBreaks p Δ s q u a b c (breach_of Mismatch s)
 
+-- An argument keeps its rules so far, for a parameter of a kind: an expression has a type, whichever it is, and a term stands
+-- for a process and takes its inputs.
+pub data ArgumentKeeps (p : Program) (Γ : Context) : Argument → NameKind → Type 0 where
+  value_keeps : {e : ExprId} {k : NameKind} {t : Kind} → HasType (names_of_values Γ) (expression (expressions_of p) e) t → ArgumentKeeps p Γ (arguments.Value e) k
+  process_keeps : {t : TermId} {a b c : Kind} → Takes Γ (tree p t) a c → ArgumentKeeps p Γ (arguments.Process t) (process a b)
+
+-- Of arguments, which are as many as parameters, these are left with theirs: those before them keep their rules so far.
+pub data ArgumentsLeft (p : Program) (Γ : Context) : List Argument → Bindings → (left : List Argument) (parameters : Bindings) → Type 0 where
+  all_left : {vs : List Argument} {qs : Bindings} → length vs ≡ length qs → ArgumentsLeft p Γ vs qs vs qs
+  after_one : {v : Argument} {x : Name} {k : NameKind} {vs ws : List Argument} {qs rs : Bindings} → ArgumentKeeps p Γ v k → ArgumentsLeft p Γ vs qs ws rs → ArgumentsLeft p Γ (v ∷ vs) ((x, k) ∷ qs) ws rs
+
+-- An argument of a call at a spot, for a parameter of a kind, breaks a rule of the call, at a place: an expression has its
+-- own place, and a term stands for no value.
+pub data ArgumentBreaks (p : Program) (Γ : Context) (s : Spot) : Argument → NameKind → Breach → Type 0 where
+  argument_refused : {e : ExprId} {k : NameKind} {r : Breach} → Refused (expressions_of p) (names_of_values Γ) e r → ArgumentBreaks p Γ s (arguments.Value e) k r
+  process_for_value : {t : TermId} {u : Kind} → ArgumentBreaks p Γ s (arguments.Process t) (value u) (breach_of Mismatch s)
+
+-- On inputs of a type, a call at a spot on these arguments breaks a rule of its own, at a place, where its template has this
+-- signature: that they fit its parameters, and the inputs its header, is looked at last.
+pub data CallBreaks (p : Program) (Γ : Context) (s : Spot) (vs : List Argument) (a : Kind) : Option Signature → Breach → Type 0 where
+  no_template : CallBreaks p Γ s vs a None (breach_of UnknownName s)
+  other_number : {g : Signature} → length vs ≢ length g.parameters → CallBreaks p Γ s vs a (Some g) (breach_of Arity s)
+  argument_breaks : {g : Signature} {v : Argument} {x : Name} {k : NameKind} {ws : List Argument} {qs : Bindings} {r : Breach}
+      → ArgumentsLeft p Γ vs g.parameters (v ∷ ws) ((x, k) ∷ qs) → ArgumentBreaks p Γ s v k r → CallBreaks p Γ s vs a (Some g) r
+  call_differs : {g : Signature} → ArgumentsLeft p Γ vs g.parameters [] [] → (ArgumentsFit Γ (arguments_of p vs) g.parameters → a ≢ g.input) → CallBreaks p Γ s vs a (Some g) (breach_of Mismatch s)
+
 -- On inputs of a type, a form at a spot, with these parts, breaks a rule of its own, at a place.
 pub data FormBreaks (p : Program) (Γ : Context) (s : Spot) : Node → Kind → Breach → Type 0 where
   primitive_breaks : {q : Primitive} {a : Kind} {e : Breach} → PrimitiveBreaks (expressions_of p) Γ s q a e → FormBreaks p Γ s (nodes.Primitive q) a e
   no_process : {k : NameId} {n : Spot} {a : Kind} {r : Breach} → ProcessRefused (kind_named (name_in p k) Γ.bindings) n r → FormBreaks p Γ s (nodes.Run k n) a r
   process_differs : {k : NameId} {n : Spot} {a b c : Kind} → kind_named (name_in p k) Γ.bindings ≡ Some (process b c) → a ≢ b → FormBreaks p Γ s (nodes.Run k n) a (breach_of Mismatch s)
+  call_breaks : {k : NameId} {vs : ArgumentsId} {a : Kind} {r : Breach} → CallBreaks p Γ s (arguments_under p vs) a (signature_named (name_in p k) Γ.signatures) r → FormBreaks p Γ s (nodes.Call k vs) a r
   parallel_input : {f g : TermId} {a : Kind} → IsNoPair a → FormBreaks p Γ s (nodes.Joined InParallel f g) a (breach_of Mismatch s)
   parallel_exceeds : {f g : TermId} {a b c d : Kind} → Takes Γ (tree p f) a b → Takes Γ (tree p g) c d → Exceeds (pair_kind b d) → FormBreaks p Γ s (nodes.Joined InParallel f g) (pair_kind a c) (breach_of TypeTooLarge s)
   fan_exceeds : {f g : TermId} {a b c : Kind} → Takes Γ (tree p f) a b → Takes Γ (tree p g) a c → Exceeds (pair_kind b c) → FormBreaks p Γ s (nodes.Joined FannedOut f g) a (breach_of TypeTooLarge s)
@@ -159,6 +190,8 @@ pub data FormBreaks (p : Program) (Γ : Context) (s : Spot) : Node → Kind → 
 -- In a form on inputs of a type, a part is typed next, under a context and on inputs of its own: what stands before it in the
 -- text keeps its rules.
 pub data Reaches (p : Program) (Γ : Context) : Node → Kind → Context → TermId → Kind → Type 0 where
+  call_argument : {k : NameId} {vs : ArgumentsId} {g : Signature} {t : TermId} {x : Name} {a b c : Kind} {ws : List Argument} {qs : Bindings}
+      → signature_named (name_in p k) Γ.signatures ≡ Some g → ArgumentsLeft p Γ (arguments_under p vs) g.parameters (arguments.Process t ∷ ws) ((x, process b c) ∷ qs) → Reaches p Γ (nodes.Call k vs) a Γ t b
   sequence_left : {f g : TermId} {a : Kind} → Reaches p Γ (nodes.Joined InSequence f g) a Γ f a
   sequence_right : {f g : TermId} {a b : Kind} → Takes Γ (tree p f) a b → Reaches p Γ (nodes.Joined InSequence f g) a Γ g b
   parallel_left : {f g : TermId} {a c : Kind} → Reaches p Γ (nodes.Joined InParallel f g) (pair_kind a c) Γ f a
@@ -189,10 +222,10 @@ pub data TermBreaks (p : Program) : Context → TermId → Kind → Breach → T
 -- With functions of these types, this is the first rule that is broken in a template, or that the whole term doesn't give its
 -- header's output.
 pub data TemplateBreaks (fs : TypesByName) (p : Program) (h : Header) : Breach → Type 0 where
-  breaks_within : {e : Breach} → TermBreaks p (context_of fs (templates_of p)) h.body h.input e → TemplateBreaks fs p h e
-  breaks_header : {b : Kind} → Takes (context_of fs (templates_of p)) (tree p h.body) h.input b → b ≢ h.output → TemplateBreaks fs p h (breach_of Mismatch (term_spot_at p h.body))
+  breaks_within : {e : Breach} → TermBreaks p (context_of fs (parameters_of h.parameters) (templates_of p)) h.body h.input e → TemplateBreaks fs p h e
+  breaks_header : {b : Kind} → Takes (context_of fs (parameters_of h.parameters) (templates_of p)) (tree p h.body) h.input b → b ≢ h.output → TemplateBreaks fs p h (breach_of Mismatch (term_spot_at p h.body))
 
--- each template's term takes its header's input to its header's output
+-- each template has parameters within the bound, and its term takes its header's input to its header's output
 abbrev pub AreTyped : TypesByName → Program → Type 0
 AreTyped fs p = (i : ℕ) (t : Template) → slice_get (templates_of p) i ≡ Some t → IsTyped fs (templates_of p) t
 

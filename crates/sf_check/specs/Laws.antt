@@ -1,5 +1,5 @@
 -- What holds of refusals.
-use Rattle.std.specs.Prelude.{◌≡◌, ◌⊎◌, ℕ, Some, slice_get}
+use Rattle.std.specs.Prelude.{◌≡◌, ◌⊎◌, ℕ, All, Some, slice_get}
 use Rattle.sf_refusal.specs.declared.refusal.Breach.{Breach}
 use Rattle.sf_value.specs.Values.{Name, Kind}
 use Rattle.sf_func.specs.Registries.{TypesByName}
@@ -9,8 +9,8 @@ use Rattle.sf_term.specs.declared.node.TermId.{TermId}
 use Rattle.sf_term.specs.declared.program.Program.{Program}
 use Rattle.sf_term.specs.Trees.{Template}
 use Rattle.sf_term.specs.Arena.{tree, templates_of}
-use Rattle.sf_mean.specs.Contexts.{Context, names_of_values, process_named}
-use Rattle.sf_mean.specs.Typing.{Takes, Accepted}
+use Rattle.sf_mean.specs.Contexts.{NameKind, Signature, signature_of, signature_named, Context, names_of_values, process_named}
+use Rattle.sf_mean.specs.Typing.{ParameterFits, Takes, Accepted}
 use Rattle.sf_check.specs.Breaking.{TermBreaks}
 use Rattle.sf_check.specs.Refusing.{RefusesNetwork}
 
@@ -18,9 +18,13 @@ use Rattle.sf_check.specs.Refusing.{RefusesNetwork}
 abbrev pub EachNetworkRefusedOnce : Type 0
 EachNetworkRefusedOnce = (fs : TypesByName) (p : Program) (b c : Breach) → RefusesNetwork fs p b → RefusesNetwork fs p c → b ≡ c
 
--- the types of the inputs of headers have at most 256 nodes, as those of a network that was read
+-- the types in a signature have at most 256 nodes
+abbrev pub SignatureFits : Signature → Type 0
+SignatureFits g = All (λ (q : Name × NameKind). ParameterFits q.1) g.parameters × Fits g.input × Fits g.output
+
+-- so have those in headers, as in a network that was read
 abbrev pub HeadersFit : Program → Type 0
-HeadersFit p = (i : ℕ) (t : Template) → slice_get (templates_of p) i ≡ Some t → Fits t.input
+HeadersFit p = (i : ℕ) (t : Template) → slice_get (templates_of p) i ≡ Some t → SignatureFits (signature_of t)
 
 -- A network is accepted, or breaks a rule.
 abbrev pub EachNetworkAnswered : Type 0
@@ -30,9 +34,9 @@ EachNetworkAnswered = (fs : TypesByName) (p : Program) → HeadersFit p → Acce
 abbrev pub RefusedOrAccepted : Type 0
 RefusedOrAccepted = (fs : TypesByName) (p : Program) (b : Breach) → RefusesNetwork fs p b → Accepted fs (templates_of p) → ⊥
 
--- The types of the values and processes that names stand for have at most 256 nodes.
+-- The types of the values and processes that names stand for have at most 256 nodes, and so do those in signatures.
 abbrev pub ContextFits : Context → Type 0
-ContextFits Γ = NamesFit (names_of_values Γ) × ((x : Name) (a b : Kind) → process_named x Γ.bindings ≡ Some (a, b) → Fits b)
+ContextFits Γ = NamesFit (names_of_values Γ) × ((x : Name) (a b : Kind) → process_named x Γ.bindings ≡ Some (a, b) → Fits b) × ((x : Name) (g : Signature) → signature_named x Γ.signatures ≡ Some g → SignatureFits g)
 
 -- Under such a context, a term takes inputs of a type to outputs of another, or breaks a rule on them.
 abbrev pub EachTermAnswered : Type 0

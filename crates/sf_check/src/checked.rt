@@ -1,5 +1,5 @@
 //! Accepted networks.
-ghost use Rattle.std.specs.Prelude.{◌≡◌, ◌↔◌, IsTrue, Some, position, bytes_eq, codes, option_map, IfSome};
+ghost use Rattle.std.specs.Prelude.{◌≡◌, ◌↔◌, [], IsTrue, Some, position, bytes_eq, codes, option_map, IfSome};
 ghost use Rattle.sf_func.specs.Signatures.{signatures_in};
 ghost use Rattle.sf_term.specs.Arena.{tree, template_in, templates_of, expressions_of};
 ghost use Rattle.sf_term.specs.Headers.{Header};
@@ -31,11 +31,12 @@ pub struct Checked {
 impl Checked {
     ghost use Rattle.sf_check.specs.Accepting.{program_of, types_checked, checked_main};
 
-    /// The program that was accepted. It has a template `main`.
+    /// The program that was accepted. It has a template `main` without parameters.
     pub fn program(&self) -> &Program
         ensures program { result.now ≡ program_of self.now }
         ensures accepted { Accepted (types_checked self.now) (templates_of (program_of self.now)) }
         ensures main { main_of (templates_of (program_of self.now)) ≡ Some (checked_main self.now) }
+        ensures bare { (checked_main self.now).parameters ≡ [] }
     {
         &self.program
     }
@@ -61,7 +62,7 @@ impl Checked {
     pub fn main(&self) -> TermId
         ensures stands { (main : Header) × IsHeaderNamed (program_of self.now) (codes "main") main × (result ≡ main.body) }
         ensures term { tree (program_of self.now) result ≡ (checked_main self.now).body }
-        ensures typed { Takes (context_of (types_checked self.now) (templates_of (program_of self.now))) (checked_main self.now).body (checked_main self.now).input (checked_main self.now).output }
+        ensures typed { Takes (context_of (types_checked self.now) [] (templates_of (program_of self.now))) (checked_main self.now).body (checked_main self.now).input (checked_main self.now).output }
         ensures fits { Fits (checked_main self.now).input }
     {
         self.main_template().body()

@@ -1,54 +1,106 @@
 //! What terms are typed under.
-ghost use Rattle.std.specs.Prelude.{◌≡◌, Some, None, IfOk, IfErr, IfSome, IfNone, OnOk};
+ghost use Rattle.std.specs.Prelude.{◌≡◌, ◌∷◌, Some, None, All, IfOk, IfErr, IfSome, IfNone, OnOk};
+ghost use Rattle.sf_value.specs.Values.{Name};
 ghost use Rattle.sf_func.specs.Signatures.{signatures_in};
 ghost use Rattle.sf_refusal.specs.Refusals.{OrMemory};
 ghost use Rattle.sf_expr.specs.Arena.{placed_at};
 ghost use Rattle.sf_expr.specs.Refusals.{PatternRefused};
 ghost use Rattle.sf_expr.specs.Scopes.{names_of};
-ghost use Rattle.sf_term.specs.Arena.{expressions_of, templates_of};
-ghost use Rattle.sf_mean.specs.Contexts.{process, context_of, inside_pattern};
+ghost use Rattle.sf_term.specs.Arena.{expressions_of, template_in, templates_of};
+ghost use Rattle.sf_term.specs.Parameters.{NameKind, binding_of, parameters_of};
+ghost use Rattle.sf_mean.specs.Contexts.{process, context_of, signature_of, signature_named, inside_pattern};
+ghost use Rattle.sf_mean.specs.Typing.{ParameterFits};
+ghost use Rattle.sf_check.specs.Names.{names_of_set, program_names};
 ghost use Rattle.sf_check.specs.Processes.{process_among, processes_from, names_among, others_in};
 ghost use Rattle.sf_check.specs.Breaking.{pattern_in, name_in, kind_named, keeping_inside, ProcessRefused, BindsInside};
 
 use crate::named_process::NamedProcess;
+use indexmap::IndexSet;
 use sf_expr::{NameId, PatternId, TypeScope};
 use sf_func::Signatures;
 use sf_refusal::{Refusal, Rule, Spot};
-use sf_term::Program;
+use sf_term::{Parameter, ParameterForm, Program, Template};
 use sf_value::Ty;
 use smallvec::SmallVec;
 use std::alloc::{AllocError, Global};
 
-/// What a term is typed under: the program that it stands in, whose templates have headers, the names around it, those that
-/// stand for values with their types, the processes that the others stand for, the innermost last, and the types of stored
-/// functions.
+/// What a term is typed under: the program that it stands in, whose templates have headers, and their names in order, the
+/// names around the term, those that stand for values with their types, the processes that the others stand for, the
+/// innermost last, and the types of stored functions.
 #[derive(Drop)]
 pub(crate) struct TypingContext<'a> {
     pub(crate) program: &'a Program,
+    pub(crate) templates: &'a IndexSet<String>,
     pub(crate) names: TypeScope<'a>,
     pub(crate) processes: SmallVec<Option<NamedProcess<'a>>, 2>,
     pub(crate) functions: &'a Signatures,
+    ghost listed: { names_of_set templates.now ≡ program_names program.now },
     ghost kept: { others_in (names_of names) ≡ names_among (processes_from processes.items) },
 }
 
 impl<'a> TypingContext<'a> {
-    ghost use Rattle.sf_check.specs.Contexts.{processes_in, program_in, context_in};
+    ghost use Rattle.sf_check.specs.Contexts.{bindings_of, processes_in, program_in, context_in};
 
-    /// What the body of a template is typed under: no names stand around it.
+    /// Puts a parameter behind names and, if it stands for a process, behind processes.
+    fn add_parameter(
+        names: &mut TypeScope<'a>,
+        processes: &mut SmallVec<Option<NamedProcess<'a>>, 2>,
+        parameter: &'a Parameter,
+    ) -> Result<(), AllocError>
+        ensures bound { OnOk result (bindings_of (names_of names.new) (processes_from processes.new.items) ≡ binding_of parameter.now ∷ bindings_of (names_of names.old) (processes_from processes.old.items)) }
+        ensures kept { OnOk result (others_in (names_of names.old) ≡ names_among (processes_from processes.old.items) → others_in (names_of names.new) ≡ names_among (processes_from processes.new.items)) }
+        ensures fits { OnOk result (ParameterFits parameter.now.kind) }
+    {
+        let name = parameter.name();
+        match parameter.form() {
+            ParameterForm::Value(ty) => {
+                prove!(ty.nodes() <= 256);
+                names.add_value(name, ty)?;
+            }
+            ParameterForm::Process(from, to) => {
+                prove!(from.nodes() <= 256 && to.nodes() <= 256);
+                names.add_other(name)?;
+                processes.push(Some(NamedProcess { name, from, to }))?;
+            }
+        }
+        Ok(())
+    }
+
+    /// What the body of a template is typed under, whose parameters these are: they alone stand around it.
     pub(crate) fn of_body(
         alloc: Global,
         program: &'a Program,
+        templates: &'a IndexSet<String>,
         functions: &'a Signatures,
-    ) -> TypingContext<'a>
-        ensures program { program_in result ≡ program.now }
-        ensures context { context_in result ≡ context_of (signatures_in functions.now) (templates_of program.now) }
+        parameters: &'a [Parameter],
+    ) -> Result<TypingContext<'a>, AllocError>
+        requires { names_of_set templates.now ≡ program_names program.now }
+        ensures program { IfOk result (λ context. program_in context ≡ program.now) }
+        ensures context { IfOk result (λ context. context_in context ≡ context_of (signatures_in functions.now) (parameters_of parameters.now) (templates_of program.now)) }
+        ensures fit { OnOk result (All (λ (q : Name × NameKind). ParameterFits q.1) (parameters_of parameters.now)) }
     {
-        TypingContext {
-            program,
-            names: TypeScope::new(alloc),
-            processes: SmallVec::new(alloc),
-            functions,
+        let mut names = TypeScope::new(alloc);
+        let mut processes = SmallVec::new(alloc);
+        for parameter in parameters {
+            TypingContext::add_parameter(&mut names, &mut processes, parameter)?;
         }
+        Ok(TypingContext {
+            program,
+            templates,
+            names,
+            processes,
+            functions,
+        })
+    }
+
+    /// The template of a name, or `None` where there is none.
+    pub(crate) fn template(&self, name: NameId) -> Option<&'a Template>
+        ensures found { IfSome result (λ t. signature_named (name_in (program_in self.now) name) (context_in self.now).signatures ≡ Some (signature_of (template_in (program_in self.now) t.now))) }
+        ensures absent { IfNone result (signature_named (name_in (program_in self.now) name) (context_in self.now).signatures ≡ None) }
+    {
+        let name = self.program.expressions().name_of(name);
+        let place = self.templates.get_index_of(name)?;
+        Some(&self.program.templates()[place])
     }
 
     /// The same processes, for as long as they are looked at here.
@@ -81,6 +133,7 @@ impl<'a> TypingContext<'a> {
         let processes = self.same_processes(alloc)?;
         Ok(TypingContext {
             program: self.program,
+            templates: self.templates,
             names,
             processes,
             functions: self.functions,
@@ -104,6 +157,7 @@ impl<'a> TypingContext<'a> {
         processes.push(Some(NamedProcess { name, from, to }))?;
         Ok(TypingContext {
             program: self.program,
+            templates: self.templates,
             names,
             processes,
             functions: self.functions,

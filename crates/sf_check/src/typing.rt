@@ -1,20 +1,23 @@
 //! The types of terms, under contexts.
-ghost use Rattle.std.specs.Prelude.{◌≡◌, ◌<◌, IfOk, IfErr, OnOk};
+ghost use Rattle.std.specs.Prelude.{◌≡◌, ◌↔◌, ◌<◌, All, IsTrue, IfOk, IfErr, OnOk};
 ghost use Rattle.sf_value.specs.Values.{Kind, pair_kind, event_kind, IsNoPair};
 ghost use Rattle.sf_refusal.specs.Refusals.{breach_of, broken, OrMemory};
 ghost use Rattle.sf_refusal.specs.declared.rule.Rule.TheVariants.{Mismatch};
 ghost use Rattle.sf_func.specs.Signatures.{signatures_in};
 ghost use Rattle.sf_expr.specs.Refusals.{Judges, JudgesFunction};
 ghost use Rattle.sf_expr.specs.Typing.{Fits};
-ghost use Rattle.sf_term.specs.Arena.{term_number, term_node_at, expressions_of, template_in, templates_of};
-ghost use Rattle.sf_mean.specs.Contexts.{names_of_values};
+ghost use Rattle.sf_term.specs.Arena.{term_number, term_node_at, term_spot_at, expressions_of, arguments_under, ArgumentBelow, template_in, templates_of};
+ghost use Rattle.sf_term.specs.ParameterView.{kind_of_form};
+ghost use Rattle.sf_mean.specs.Contexts.{value, names_of_values};
 ghost use Rattle.sf_operator.specs.Breaches.{AnswersKind};
 ghost use Rattle.sf_mean.specs.Typing.{value_kind, takes_time as a_time, timed_kind, accumulated_argument, accumulated_kind, IsTyped};
 ghost use Rattle.sf_check.specs.Contexts.{program_in, context_in};
-ghost use Rattle.sf_check.specs.Answering.{AnswersBare, AnswersPrimitive, AnswersTerm, AnswersBody};
+ghost use Rattle.sf_check.specs.Answering.{AnswersBare, AnswersPrimitive, AnswersArgument, AnswersTerm, AnswersBody};
+ghost use Rattle.sf_check.specs.Names.{names_of_set, program_names};
 ghost use Rattle.sf_check.specs.Breaking.{IsNoPairWith, IsNoEventBeside, TemplateBreaks, AreTyped, IsFirstBreak};
 
 use crate::context::TypingContext;
+use indexmap::IndexSet;
 use sf_expr::{
     ConstantForm, ConstantId, ExprId, FunctionId, NameId, PatternId, function_type, pair_type,
     type_of,
@@ -23,8 +26,8 @@ use sf_func::Signatures;
 use sf_operator::{event_type, pair_type as pair_of, payload, same};
 use sf_refusal::{Refusal, Rule, Spot};
 use sf_term::{
-    Accumulation, Bare, Heading, Join, Node, Observation, Primitive, Program, Side, Switching,
-    Template, TermId, Timing, WithValue,
+    Accumulation, Argument, ArgumentsId, Bare, Heading, Join, Node, Observation, ParameterForm,
+    Primitive, Program, Side, Switching, Template, TermId, Timing, WithValue,
 };
 use sf_value::{Ty, same_type};
 use std::alloc::Global;
@@ -527,6 +530,81 @@ fn process_output(
     Ok(process.to.clone_in(alloc)?)
 }
 
+/// Whether a parameter stands for a value of a type.
+fn takes_value(parameter: &ParameterForm, given: &Ty) -> bool
+    ensures { IsTrue result ↔ (kind_of_form parameter.now ≡ value given.now) }
+{
+    match parameter {
+        ParameterForm::Value(wanted) => same_type(wanted, given),
+        ParameterForm::Process(_, _) => false,
+    }
+}
+
+/// Whether an argument of a call is of the type or types of its parameter. Refused where an expression has no type, with
+/// `Mismatch` at the call where a term stands for a value, and where a term does not take the inputs of its parameter.
+#[cycle(output)]
+fn argument_fits(
+    alloc: Global,
+    context: &TypingContext,
+    term: TermId,
+    argument: Argument,
+    parameter: &ParameterForm,
+) -> Result<bool, Refusal>
+    requires { ArgumentBelow (term_number term) argument }
+    ensures { AnswersArgument (program_in context.now) (context_in context.now) (term_spot_at (program_in context.now) term) argument (kind_of_form parameter.now) result }
+{
+    match (argument, parameter) {
+        (Argument::Value(value), _) => {
+            let given = constant_type(alloc, context, value)?;
+            Ok(takes_value(parameter, &given))
+        }
+        (Argument::Process(_), ParameterForm::Value(_)) => {
+            Err(Refusal::broken(Rule::Mismatch, context.program.spot(term)))
+        }
+        (Argument::Process(part), ParameterForm::Process(from, to)) => {
+            let given = output_of(alloc, context, part, from.clone_in(alloc)?)?;
+            Ok(same_type(&given, to))
+        }
+    }
+}
+
+/// The type of the outputs of a call on inputs of a type. Refused at its name with `UnknownName` where no template has it, then
+/// with `Arity`; then where an argument is refused; and last with `Mismatch` where the arguments do not fit the parameters, or
+/// the inputs the header.
+#[cycle(output)]
+fn call_output(
+    alloc: Global,
+    context: &TypingContext,
+    term: TermId,
+    name: NameId,
+    arguments: ArgumentsId,
+    input: &Ty,
+) -> Result<Ty, Refusal>
+    requires fits { Fits input.now }
+    requires there { term_node_at (program_in context.now) term ≡ Node.Call name arguments }
+    requires below { All (ArgumentBelow (term_number term)) (arguments_under (program_in context.now) arguments) }
+    ensures { AnswersTerm (program_in context.now) (context_in context.now) term input.now result }
+{
+    let spot = context.program.spot(term);
+    let Some(template) = context.template(name) else {
+        return Err(Refusal::broken(Rule::UnknownName, spot));
+    };
+    let arguments = context.program.arguments(arguments);
+    let parameters = template.parameters();
+    if arguments.len() != parameters.len() {
+        return Err(Refusal::broken(Rule::Arity, spot));
+    }
+    let mut fit = true;
+    for (argument, parameter) in arguments.iter().zip(parameters) {
+        fit &= argument_fits(alloc, context, term, *argument, parameter.form())?;
+    }
+    if fit && same_type(input, template.input()) {
+        Ok(template.output().clone_in(alloc)?)
+    } else {
+        Err(Refusal::broken(Rule::Mismatch, spot))
+    }
+}
+
 /// The type of a term's outputs on inputs of a type, or the first rule that a form in it breaks.
 #[cycle(output)]
 fn output_of(alloc: Global, context: &TypingContext, term: TermId, input: Ty) -> Result<Ty, Refusal>
@@ -538,6 +616,9 @@ fn output_of(alloc: Global, context: &TypingContext, term: TermId, input: Ty) ->
             primitive_output(alloc, context, primitive, input, context.program.spot(term))
         }
         Node::Run(name, place) => process_output(alloc, context, term, name, place, &input),
+        Node::Call(name, arguments) => {
+            call_output(alloc, context, term, name, arguments, &input)
+        }
         Node::Joined(join, left, right) => {
             joined_output(alloc, context, term, join, left, right, input)
         }
@@ -557,17 +638,20 @@ fn output_of(alloc: Global, context: &TypingContext, term: TermId, input: Ty) ->
     }
 }
 
-/// Whether a template's term takes its header's input to its header's output.
+/// Whether a template's term takes its header's input to its header's output, inside its parameters. The names are those of
+/// all templates, in order.
 fn check_template(
     alloc: Global,
     program: &Program,
+    names: &IndexSet<String>,
     functions: &Signatures,
     template: &Template,
 ) -> Result<(), Refusal>
+    requires { names_of_set names.now ≡ program_names program.now }
     ensures ok { OnOk result (IsTyped (signatures_in functions.now) (templates_of program.now) (template_in program.now template.now)) }
     ensures err { IfErr result (OrMemory (TemplateBreaks (signatures_in functions.now) program.now template.now)) }
 {
-    let context = TypingContext::of_body(alloc, program, functions);
+    let context = TypingContext::of_body(alloc, program, names, functions, template.parameters())?;
     let input = template.input().clone_in(alloc)?;
     let output = output_of(alloc, &context, template.body(), input)?;
     if same_type(&output, template.output()) {
@@ -577,17 +661,20 @@ fn check_template(
     }
 }
 
-/// Whether each template's term takes its header's input to its header's output.
+/// Whether each template's term takes its header's input to its header's output, inside its parameters. The names are those
+/// of all templates, in order.
 pub(crate) fn check_templates(
     alloc: Global,
     program: &Program,
+    names: &IndexSet<String>,
     functions: &Signatures,
 ) -> Result<(), Refusal>
+    requires { names_of_set names.now ≡ program_names program.now }
     ensures ok { OnOk result (AreTyped (signatures_in functions.now) program.now) }
     ensures err { IfErr result (OrMemory (IsFirstBreak (signatures_in functions.now) program.now)) }
 {
     for template in program.templates() {
-        check_template(alloc, program, functions, template)?;
+        check_template(alloc, program, names, functions, template)?;
     }
     Ok(())
 }

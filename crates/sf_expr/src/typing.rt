@@ -1,6 +1,6 @@
 //! The types of expressions.
 ghost use Rattle.std.specs.Prelude.{◌≡◌, ◌++◌, [], ◌↔◌, IsTrue, Some, None, OnOk, IfOk, IfSome, IfNone, IfErr, Contains};
-ghost use Rattle.sf_expr.specs.Typing.{Fits, AddsNames, Binds, AllDifferent, only_functions, untyped_name, named_in, with_types, literal_kind};
+ghost use Rattle.sf_expr.specs.Typing.{Fits, AddsNames, Binds, AllDifferent, only_functions, typed_name, untyped_name, named_in, with_types, literal_kind};
 ghost use Rattle.sf_expr.specs.Expressions.{names_in};
 ghost use Rattle.sf_expr.specs.Inference.{is_valued};
 ghost use Rattle.sf_expr.specs.Arena.{expression, function_at};
@@ -78,6 +78,24 @@ impl<'a> TypeScope<'a> {
         ensures absent { IfNone result (named_in name.now (names_of self.now) ≡ None) }
     {
         Some(self.find(name)?.ty)
+    }
+
+    /// Puts a name behind the names that are there that stands for a value of a type.
+    pub fn add_value(&mut self, name: &'a str, ty: &'a Ty) -> Result<(), AllocError>
+        requires { Fits ty.now }
+        ensures { OnOk result (names_of self.new ≡ typed_name name.now ty.now (names_of self.old)) }
+    {
+        let ty = Some(ty);
+        self.names.push(Some(TypedName { name, ty }))?;
+        Ok(())
+    }
+
+    /// Puts a name behind the names that are there that stands for no value.
+    pub fn add_other(&mut self, name: &'a str) -> Result<(), AllocError>
+        ensures { OnOk result (names_of self.new ≡ untyped_name name.now (names_of self.old)) }
+    {
+        self.names.push(Some(TypedName { name, ty: None }))?;
+        Ok(())
     }
 
     /// The names with one behind them that stands for no value.

@@ -1,5 +1,8 @@
 -- What is spelled within the limits is read again, whatever follows.
-use Rattle.std.proofs.Common.{◌≡◌, ℕ, zero, suc, ◌+◌, ◌≤◌, Bool, true, false, Option, Some, List, [], ◌∷◌, ◌++◌, refl, ◌∙◌, ap, append_assoc, arith}
+use Rattle.std.proofs.Common.{◌≡◌, ℕ, zero, suc, ◌+◌, ◌≤◌, Bool, true, false, Option, Some, None, List, [], ◌∷◌, ◌++◌, length, map, refl, ◌∙◌, ap, append_assoc, arith}
+use Rattle.std.specs.List.{All}
+use Rattle.std.proofs.lemmas.List.{length-append, length-map}
+use Rattle.std.proofs.lemmas.List.Elements.{All-head, All-tail}
 use Rattle.sf_value.specs.Values.{Name, KeyKind, Kind, unit_kind, bool_kind, int_kind, text_kind, pair_kind, event_kind, table_kind, nodes}
 use Rattle.sf_expr.specs.Expressions.{Pattern, unnamed, named, both, pattern_depth, Literal, unit_literal, truth_literal, int_literal, text_literal, none_literal, Expression, variable, literal, paired, applied, operation, conditional, mapped, folded, called, depth as expression_depth, size, Function, function, function_depth, function_size}
 use Rattle.sf_operator.specs.declared.operator.Unary.{Unary}
@@ -11,7 +14,8 @@ use Rattle.sf_term.specs.declared.form.Bare.TheVariants as bares
 use Rattle.sf_term.specs.declared.form.WithValue.{WithValue}
 use Rattle.sf_term.specs.declared.form.WithValue.TheVariants as values
 use Rattle.sf_term.specs.declared.form.Heading.TheVariants as headings
-use Rattle.sf_term.specs.Trees.{terms_with_value, bare, never, with_value, timed, arrow, accumulated, fused, Term, primitive, run, joined, sided, headed, switching, keeping, staged, Template, term_depth, terms_in, expressions_in}
+use Rattle.sf_term.specs.Parameters.{NameKind, value as value_kind, process as process_kind, Bindings}
+use Rattle.sf_term.specs.Trees.{terms_with_value, bare, never, with_value, timed, arrow, accumulated, fused, Term, primitive, reference, joined, sided, headed, switching, keeping, staged, run, call, Arguments, no_arguments, value_argument, process_argument, closed_argument, Template, term_depth, arguments_depth, terms_in, terms_in_arguments, expressions_in, expressions_in_arguments}
 use Rattle.sf_lex.specs.declared.word.Keyword.TheVariants as words
 use Rattle.sf_lex.specs.declared.symbol.Symbol.TheVariants as symbols
 use Rattle.sf_lex.specs.Tokens.{Tok, keyword, name, number, text, symbol}
@@ -20,10 +24,10 @@ use Rattle.sf_grammar.specs.declared.head.Head.TheVariants as heads
 use Rattle.sf_grammar.specs.declared.head.ExpressionHead.TheVariants as expression_heads
 use Rattle.sf_grammar.specs.declared.head.Link.{Link}
 use Rattle.sf_grammar.specs.declared.head.Link.TheVariants as links
-use Rattle.sf_grammar.specs.Spelling.{stands_initially, head_makes, unary_word, takes_brackets, operator_token, stands_between, mapping_word, maps_in_brackets, folding_word, spell_operand, spell_operands, spell_choice, spell_mapped, spell_folded, spell_called, spell_mapping, spell_keys, spell_type, spell_pattern, spell_literal, spell_expression, spell_function, spell_term, spell_signature, spell_template, bare_word, value_word, side_word, heading_token, timing_word, accumulation_word, switching_word, keeping_word, join_symbol, in_brackets, type_depth, WritesType, WritesExpression, WritesFunction, WritesTerm, HasWrittenTypes}
-use Rattle.sf_grammar.specs.Reading.{parse_never, parse_timed, Read, got, ◌and_then◌, Counts, counts_with, counts_with_expression, parse_symbol, parse_keys, parse_outer_type, parse_inner_type, parse_pair_type, parse_pattern, parse_pattern_pair, parse_link, linked, parse_linked, bracketed_from, parse_none, parse_prefixed, parse_one_in_brackets, parse_two_in_brackets, parse_conditional, parse_mapping, parse_let, parse_one_and_function, parse_two_and_function, parse_called, expression_head, parse_expression, expression_read, parse_function, parse_join, parse_term, term_read, parse_joined, parse_value, parse_arrow, parse_accumulated, parse_sided, parse_headed, parse_body, parse_switching, parse_run, parse_keeping, parse_heading, parse_signature, parse_template}
-use Rattle.sf_grammar.proofs.Words.{head_again, join_again, link_again, link_token, LinksBetween, unary_again, IsInFront, operator_again, folding_again, keys_again, no_close}
-use Rattle.sf_grammar.proofs.Parts.{within, type_within, brackets_behind, three_behind, parts_again}
+use Rattle.sf_grammar.specs.Spelling.{stands_initially, head_makes, unary_word, takes_brackets, operator_token, stands_between, mapping_word, maps_in_brackets, folding_word, spell_operand, spell_operands, spell_choice, spell_mapped, spell_folded, spell_called, spell_mapping, spell_keys, spell_type, spell_pattern, spell_literal, spell_expression, spell_function, spell_further, spell_listed, spell_term, spell_arguments, spell_parameter, spell_heading, spell_signature, spell_template, bare_word, value_word, side_word, heading_token, timing_word, accumulation_word, switching_word, keeping_word, join_symbol, in_brackets, type_depth, WritesType, WritesExpression, WritesFunction, WritesTerm, WritesArguments, WritesNameKind, HasWrittenTypes}
+use Rattle.sf_grammar.specs.Reading.{parse_never, parse_timed, Read, got, ◌and_then◌, Counts, counts_with, counts_with_expression, parse_symbol, parse_keys, parse_outer_type, parse_inner_type, parse_pair_type, parse_pattern, parse_pattern_pair, parse_link, linked, parse_linked, bracketed_from, parse_none, parse_prefixed, parse_one_in_brackets, parse_two_in_brackets, parse_conditional, parse_mapping, parse_let, parse_one_and_function, parse_two_and_function, parse_called, expression_head, parse_expression, expression_read, parse_function, parse_join, parse_term, term_read, parse_joined, parse_value, parse_arrow, parse_accumulated, parse_sided, parse_headed, parse_body, parse_switching, parse_run, parse_keeping, Actual, actual_value, actual_process, with_actual, counts_with_actual, parse_argument, parse_arguments, parse_call, behind_leads, parse_further, parse_listed, parse_name_kind, parse_parameter, parse_parameters, parse_heading, parse_signature, parse_template}
+use Rattle.sf_grammar.proofs.Words.{head_again, join_again, link_again, link_token, LinksBetween, unary_again, IsInFront, operator_again, folding_again, keys_again, no_close, no_sf}
+use Rattle.sf_grammar.proofs.Parts.{spell_actual, within, type_within, brackets_behind, three_behind, parts_again, no_leads, further_long}
 
 -- a type that is made of one part
 outer_type_again : (v : Version) (t : Kind) (d : ℕ) (start : List Tok) (whole : Kind → Kind) (met : ℕ) (rest : List Tok) → parse_inner_type d v start (met + 1) (spell_type v t ++ rest) ≡ got t rest
@@ -308,100 +312,210 @@ initialized_again v e d c rest value deep few =
     (pre_again v d (counts_with_expression c e) (symbol symbols.Close ∷ rest) deep (omega (arith, few)))
     ∙ within (c.terms + 2) (primitive (with_value values.InitializedPre e)) start rest few
 
-pub term_again : (v : Version) (t : Term) (d : ℕ) (c : Counts) (rest : List Tok) → d ≤ 64 → term_depth t ≤ d → c.terms + terms_in t ≤ 100000 → c.expressions + expressions_in t ≤ 100000 → WritesTerm v d t
-    → parse_term d v c (spell_term v t ++ rest) ≡ got t rest
-unfolding parse_term parse_joined parse_never parse_value parse_timed parse_arrow parse_accumulated parse_sided parse_headed parse_switching parse_run parse_keeping
-term_again v (primitive (bare b)) zero c rest small deep few_terms few_expressions known = absurd (omega arith)
-term_again v (primitive (never t)) zero c rest small deep few_terms few_expressions known = absurd (omega arith)
-term_again v (primitive (with_value k e)) zero c rest small deep few_terms few_expressions known = absurd (omega arith)
-term_again v (primitive (timed k q e)) zero c rest small deep few_terms few_expressions known = absurd (omega arith)
-term_again v (primitive (arrow f)) zero c rest small deep few_terms few_expressions known = absurd (omega arith)
-term_again v (primitive (accumulated k e f)) zero c rest small deep few_terms few_expressions known = absurd (omega arith)
-term_again v (primitive (fused f)) d c rest small deep few_terms few_expressions known = absurd (omega (arith, small, deep))
-term_again v (staged x f g) d c rest small deep few_terms few_expressions known = absurd (omega (arith, small, deep))
-term_again v (joined j f g) zero c rest small deep few_terms few_expressions known = absurd (omega arith)
-term_again v (sided s f) zero c rest small deep few_terms few_expressions known = absurd (omega arith)
-term_again v (headed h e f) zero c rest small deep few_terms few_expressions known = absurd (omega arith)
-term_again v (switching w f p g) zero c rest small deep few_terms few_expressions known = absurd (omega arith)
-term_again v (run k) zero c rest small deep few_terms few_expressions known = absurd (omega arith)
-term_again v (keeping w f g k p u) zero c rest small deep few_terms few_expressions known = absurd (omega arith)
-term_again v (primitive (bare b)) (suc d) c rest small deep few_terms few_expressions known =
-    rw (head_again (heads.Bare b) tt) (within (c.terms + 1) (primitive (bare b)) (keyword (bare_word b) ∷ rest) rest few_terms)
-term_again v (primitive (never t)) (suc d) c rest small deep few_terms few_expressions known =
-    rw (inner_type_again v t d (spell_type v t ++ rest) 0 rest known.shallow (omega (arith, known.few)) known.known)
-    (within (c.terms + 1) (primitive (never t)) (keyword words.Never ∷ (spell_type v t ++ rest)) rest few_terms)
-term_again v (primitive (with_value values.Constant e)) (suc d) c rest small deep few_terms few_expressions known =
-    value_again v values.Constant e d c rest refl (expression_again v e d c rest (omega arith) few_expressions known) few_terms
-term_again v (primitive (with_value values.InitialPre e)) (suc d) c rest small deep few_terms few_expressions known =
-    value_again v values.InitialPre e d c rest refl (expression_again v e d c rest (omega arith) few_expressions known) few_terms
-term_again v (primitive (with_value values.Now e)) (suc d) c rest small deep few_terms few_expressions known =
-    value_again v values.Now e d c rest refl (expression_again v e d c rest (omega arith) few_expressions known) few_terms
-term_again v (primitive (with_value values.Hold e)) (suc d) c rest small deep few_terms few_expressions known =
-    value_again v values.Hold e d c rest refl (expression_again v e d c rest (omega arith) few_expressions known) few_terms
-term_again v (primitive (with_value values.InitializedPre e)) (suc d) c rest small deep few_terms few_expressions known =
-    initialized_again v e d c rest (λ rest. expression_again v e d c rest (omega arith) few_expressions known) (omega (arith, stands_deep e, deep)) few_terms
-term_again v (primitive (timed k q e)) (suc d) c rest small deep few_terms few_expressions known =
-    rw (head_again (heads.Timed k) tt, expression_again v e d c rest (omega arith) few_expressions known)
-    (within (c.terms + 1) (primitive (timed k q e)) (keyword (timing_word k) ∷ number q ∷ (spell_expression v e ++ rest)) rest few_terms)
-term_again v (primitive (arrow f)) (suc d) c rest small deep few_terms few_expressions known =
-    rw (function_again v f d c rest (omega arith) few_expressions known)
-    (within (c.terms + 1) (primitive (arrow f)) (keyword words.Arr ∷ (spell_function v f ++ rest)) rest few_terms)
-term_again v (primitive (accumulated k e f)) (suc d) c rest small deep few_terms few_expressions known =
-    let behind : List Tok = spell_function v f ++ (symbol symbols.Close ∷ rest) in
-    let start : List Tok = keyword (accumulation_word k) ∷ symbol symbols.Open ∷ (spell_expression v e ++ (symbol symbols.Comma ∷ behind)) in
-    ap (λ (r : List Tok). parse_term (suc d) v c (keyword (accumulation_word k) ∷ symbol symbols.Open ∷ r)) (brackets_behind (spell_expression v e) (spell_function v f) rest (symbol symbols.Comma))
-    ∙ rw (head_again (heads.Accumulated k) tt) (parts_again (parse_expression d v c) (parse_symbol symbols.Comma) (λ e. parse_function d v (counts_with_expression c e)) (λ e _ f rest. term_read c (primitive (accumulated k e f)) start rest) e tt f
-    (spell_expression v e ++ (symbol symbols.Comma ∷ behind)) (symbol symbols.Comma ∷ behind) behind rest
-    (expression_again v e d c (symbol symbols.Comma ∷ behind) (omega arith) (omega arith) known.0) refl
-    (function_again v f d (counts_with_expression c e) (symbol symbols.Close ∷ rest) (omega arith) (omega arith) known.1))
-    ∙ within (c.terms + 1) (primitive (accumulated k e f)) start rest few_terms
-term_again v (joined j f g) (suc d) c rest small deep few_terms few_expressions known =
-    let behind : List Tok = spell_term v g ++ (symbol symbols.Close ∷ rest) in
-    let start : List Tok = symbol symbols.Open ∷ (spell_term v f ++ (symbol (join_symbol j) ∷ behind)) in
-    ap (λ (r : List Tok). parse_term (suc d) v c (symbol symbols.Open ∷ r)) (brackets_behind (spell_term v f) (spell_term v g) rest (symbol (join_symbol j)))
-    ∙ parts_again (parse_term d v c) parse_join (λ f. parse_term d v (counts_with c f)) (λ f j g rest. term_read c (joined j f g) start rest) f j g
-    (spell_term v f ++ (symbol (join_symbol j) ∷ behind)) (symbol (join_symbol j) ∷ behind) behind rest
-    (term_again v f d c (symbol (join_symbol j) ∷ behind) (omega arith) (omega arith) (omega arith) (omega arith) known.0) (rw (join_again j) refl)
-    (term_again v g d (counts_with c f) (symbol symbols.Close ∷ rest) (omega arith) (omega arith) (omega arith) (omega arith) known.1)
-    ∙ within (c.terms + terms_in (joined j f g)) (joined j f g) start rest few_terms
-term_again v (sided s f) (suc d) c rest small deep few_terms few_expressions known =
-    rw (head_again (heads.Sided s) tt, term_again v f d c rest (omega arith) (omega arith) (omega arith) (omega arith) known)
-    (within (c.terms + terms_in (sided s f)) (sided s f) (keyword (side_word s) ∷ (spell_term v f ++ rest)) rest few_terms)
-term_again v (headed h e f) (suc d) c rest small deep few_terms few_expressions known =
-    let behind : List Tok = spell_term v f ++ (symbol symbols.Close ∷ rest) in
-    let start : List Tok = heading_token h ∷ symbol symbols.Open ∷ (spell_expression v e ++ (symbol symbols.Comma ∷ behind)) in
-    ap (λ (r : List Tok). parse_term (suc d) v c (heading_token h ∷ symbol symbols.Open ∷ r)) (brackets_behind (spell_expression v e) (spell_term v f) rest (symbol symbols.Comma))
-    ∙ rw (head_again (heads.Headed h) tt) (parts_again (parse_expression d v c) (parse_symbol symbols.Comma) (λ e. parse_term d v (counts_with_expression c e)) (λ e _ f rest. term_read c (head_makes h e f) start rest) e tt f
-    (spell_expression v e ++ (symbol symbols.Comma ∷ behind)) (symbol symbols.Comma ∷ behind) behind rest
-    (expression_again v e d c (symbol symbols.Comma ∷ behind) (omega arith) (omega arith) known.1) refl
-    (term_again v f d (counts_with_expression c e) (symbol symbols.Close ∷ rest) (omega arith) (omega arith) (omega arith) (omega arith) known.2))
-    ∙ ap (λ (t : Term). term_read c t start rest) known.0
-    ∙ within (c.terms + terms_in (headed h e f)) (headed h e f) start rest few_terms
-term_again v (switching w f p g) (suc d) c rest small deep few_terms few_expressions known =
-    let body : List Tok = spell_mapping (spell_pattern p) (spell_term v g) in
-    let behind : List Tok = body ++ (symbol symbols.Close ∷ rest) in
-    let start : List Tok = keyword (switching_word w) ∷ symbol symbols.Open ∷ (spell_term v f ++ (symbol symbols.Comma ∷ behind)) in
-    ap (λ (r : List Tok). parse_term (suc d) v c (keyword (switching_word w) ∷ symbol symbols.Open ∷ r)) (brackets_behind (spell_term v f) body rest (symbol symbols.Comma))
-    ∙ rw (head_again (heads.Switching w) tt) (parts_again (parse_term d v c) (parse_symbol symbols.Comma) (λ f. parse_body d (parse_term d v) (counts_with c f)) (λ f _ b rest. term_read c (switching w f b.0 b.1) start rest) f tt (p, g)
-    (spell_term v f ++ (symbol symbols.Comma ∷ behind)) (symbol symbols.Comma ∷ behind) behind rest
-    (term_again v f d c (symbol symbols.Comma ∷ behind) (omega arith) (omega arith) (omega arith) (omega arith) known.0) refl
-    (body_again v p g d (counts_with c f) (symbol symbols.Close ∷ rest) (omega arith) (λ rest. term_again v g d (counts_with c f) rest (omega arith) (omega arith) (omega arith) (omega arith) known.1)))
-    ∙ within (c.terms + terms_in (switching w f p g)) (switching w f p g) start rest few_terms
-term_again v (run k) (suc d) c rest small deep few_terms few_expressions known = within (c.terms + 1) (run k) (keyword words.Run ∷ name k ∷ rest) rest few_terms
-term_again v (keeping w f g k p u) (suc d) c rest small deep few_terms few_expressions known =
-    let mapping : List Tok = spell_mapping (spell_pattern p) (spell_term v u) in
-    let closing : List Tok = symbol symbols.Close ∷ rest in
-    let third : List Tok = symbol symbols.Comma ∷ (mapping ++ closing) in
-    let second : List Tok = symbol symbols.Comma ∷ name k ∷ third in
-    let first : List Tok = symbol symbols.Comma ∷ (spell_term v g ++ second) in
+-- an argument that is an expression
+value_argument_again : (v : Version) (e : Expression) (d : ℕ) (c : Counts) (rest : List Tok) → parse_expression d v c (spell_expression v e ++ rest) ≡ got e rest
+    → parse_argument d v (parse_term d v) c (spell_expression v e ++ rest) ≡ got (actual_value e) rest
+unfolding parse_argument
+value_argument_again v e d c rest part = rw (no_sf v e rest, part) refl
+
+-- an argument that is a term behind `sf`
+process_argument_again : (v : Version) (t : Term) (d : ℕ) (c : Counts) (rest : List Tok) → parse_term d v c (spell_term v t ++ rest) ≡ got t rest
+    → parse_argument d v (parse_term d v) c (keyword words.SignalFunction ∷ (spell_term v t ++ rest)) ≡ got (actual_process t) rest
+unfolding parse_argument
+process_argument_again v t d c rest part = rw part refl
+
+-- an argument in front of further ones
+arguments_step : (v : Version) (a : Actual) (vs : Arguments) (d : ℕ) (c : Counts) (n : ℕ) (rest : List Tok)
+    → parse_argument d v (parse_term d v) c (spell_actual v a ++ (spell_further (spell_arguments v vs) ++ rest)) ≡ got a (spell_further (spell_arguments v vs) ++ rest)
+    → parse_further no_arguments (parse_arguments n d v (parse_term d v) (counts_with_actual c a)) (spell_further (spell_arguments v vs) ++ rest) ≡ got vs rest
+    → parse_arguments (suc n) d v (parse_term d v) c ((spell_actual v a ++ spell_further (spell_arguments v vs)) ++ rest) ≡ got (with_actual a vs) rest
+unfolding parse_arguments
+arguments_step v a vs d c n rest one others = rw (append_assoc (spell_actual v a) (spell_further (spell_arguments v vs)) rest, one, others) refl
+
+-- the tokens of a list are at least as many as its further parts
+long_enough : (front : List Tok) (xs : List (List Tok)) (rest : List Tok) → length xs ≤ length ((front ++ spell_further xs) ++ rest)
+long_enough front xs rest = omega (arith, further_long xs, length-append (front ++ spell_further xs) rest, length-append front (spell_further xs))
+
+mutual
+  unfolding parse_term parse_joined parse_never parse_value parse_timed parse_arrow parse_accumulated parse_sided parse_headed parse_switching parse_run parse_keeping parse_call
+
+  pub term_again : (v : Version) (t : Term) (d : ℕ) (c : Counts) (rest : List Tok) → d ≤ 64 → term_depth t ≤ d → c.terms + terms_in t ≤ 100000 → c.expressions + expressions_in t ≤ 100000 → WritesTerm v d t
+      → parse_term d v c (spell_term v t ++ rest) ≡ got t rest
+  term_again v (primitive (bare b)) zero c rest small deep few_terms few_expressions known = absurd (omega arith)
+  term_again v (primitive (never t)) zero c rest small deep few_terms few_expressions known = absurd (omega arith)
+  term_again v (primitive (with_value k e)) zero c rest small deep few_terms few_expressions known = absurd (omega arith)
+  term_again v (primitive (timed k q e)) zero c rest small deep few_terms few_expressions known = absurd (omega arith)
+  term_again v (primitive (arrow f)) zero c rest small deep few_terms few_expressions known = absurd (omega arith)
+  term_again v (primitive (accumulated k e f)) zero c rest small deep few_terms few_expressions known = absurd (omega arith)
+  term_again v (primitive (fused f)) d c rest small deep few_terms few_expressions known = absurd (omega (arith, small, deep))
+  term_again v (staged x f g) d c rest small deep few_terms few_expressions known = absurd (omega (arith, small, deep))
+  term_again v (joined j f g) zero c rest small deep few_terms few_expressions known = absurd (omega arith)
+  term_again v (sided s f) zero c rest small deep few_terms few_expressions known = absurd (omega arith)
+  term_again v (headed h e f) zero c rest small deep few_terms few_expressions known = absurd (omega arith)
+  term_again v (reference r) zero c rest small deep few_terms few_expressions known = absurd (omega arith)
+  term_again v (switching w f p g) zero c rest small deep few_terms few_expressions known = absurd (omega arith)
+  term_again v (keeping w f g k p u) zero c rest small deep few_terms few_expressions known = absurd (omega arith)
+  term_again v (primitive (bare b)) (suc d) c rest small deep few_terms few_expressions known =
+      rw (head_again (heads.Bare b) tt) (within (c.terms + 1) (primitive (bare b)) (keyword (bare_word b) ∷ rest) rest few_terms)
+  term_again v (primitive (never t)) (suc d) c rest small deep few_terms few_expressions known =
+      rw (inner_type_again v t d (spell_type v t ++ rest) 0 rest known.shallow (omega (arith, known.few)) known.known)
+      (within (c.terms + 1) (primitive (never t)) (keyword words.Never ∷ (spell_type v t ++ rest)) rest few_terms)
+  term_again v (primitive (with_value values.Constant e)) (suc d) c rest small deep few_terms few_expressions known =
+      value_again v values.Constant e d c rest refl (expression_again v e d c rest (omega arith) few_expressions known) few_terms
+  term_again v (primitive (with_value values.InitialPre e)) (suc d) c rest small deep few_terms few_expressions known =
+      value_again v values.InitialPre e d c rest refl (expression_again v e d c rest (omega arith) few_expressions known) few_terms
+  term_again v (primitive (with_value values.Now e)) (suc d) c rest small deep few_terms few_expressions known =
+      value_again v values.Now e d c rest refl (expression_again v e d c rest (omega arith) few_expressions known) few_terms
+  term_again v (primitive (with_value values.Hold e)) (suc d) c rest small deep few_terms few_expressions known =
+      value_again v values.Hold e d c rest refl (expression_again v e d c rest (omega arith) few_expressions known) few_terms
+  term_again v (primitive (with_value values.InitializedPre e)) (suc d) c rest small deep few_terms few_expressions known =
+      initialized_again v e d c rest (λ rest. expression_again v e d c rest (omega arith) few_expressions known) (omega (arith, stands_deep e, deep)) few_terms
+  term_again v (primitive (timed k q e)) (suc d) c rest small deep few_terms few_expressions known =
+      rw (head_again (heads.Timed k) tt, expression_again v e d c rest (omega arith) few_expressions known)
+      (within (c.terms + 1) (primitive (timed k q e)) (keyword (timing_word k) ∷ number q ∷ (spell_expression v e ++ rest)) rest few_terms)
+  term_again v (primitive (arrow f)) (suc d) c rest small deep few_terms few_expressions known =
+      rw (function_again v f d c rest (omega arith) few_expressions known)
+      (within (c.terms + 1) (primitive (arrow f)) (keyword words.Arr ∷ (spell_function v f ++ rest)) rest few_terms)
+  term_again v (primitive (accumulated k e f)) (suc d) c rest small deep few_terms few_expressions known =
+      let behind : List Tok = spell_function v f ++ (symbol symbols.Close ∷ rest) in
+      let start : List Tok = keyword (accumulation_word k) ∷ symbol symbols.Open ∷ (spell_expression v e ++ (symbol symbols.Comma ∷ behind)) in
+      ap (λ (r : List Tok). parse_term (suc d) v c (keyword (accumulation_word k) ∷ symbol symbols.Open ∷ r)) (brackets_behind (spell_expression v e) (spell_function v f) rest (symbol symbols.Comma))
+      ∙ rw (head_again (heads.Accumulated k) tt) (parts_again (parse_expression d v c) (parse_symbol symbols.Comma) (λ e. parse_function d v (counts_with_expression c e)) (λ e _ f rest. term_read c (primitive (accumulated k e f)) start rest) e tt f
+      (spell_expression v e ++ (symbol symbols.Comma ∷ behind)) (symbol symbols.Comma ∷ behind) behind rest
+      (expression_again v e d c (symbol symbols.Comma ∷ behind) (omega arith) (omega arith) known.0) refl
+      (function_again v f d (counts_with_expression c e) (symbol symbols.Close ∷ rest) (omega arith) (omega arith) known.1))
+      ∙ within (c.terms + 1) (primitive (accumulated k e f)) start rest few_terms
+  term_again v (joined j f g) (suc d) c rest small deep few_terms few_expressions known =
+      let behind : List Tok = spell_term v g ++ (symbol symbols.Close ∷ rest) in
+      let start : List Tok = symbol symbols.Open ∷ (spell_term v f ++ (symbol (join_symbol j) ∷ behind)) in
+      ap (λ (r : List Tok). parse_term (suc d) v c (symbol symbols.Open ∷ r)) (brackets_behind (spell_term v f) (spell_term v g) rest (symbol (join_symbol j)))
+      ∙ parts_again (parse_term d v c) parse_join (λ f. parse_term d v (counts_with c f)) (λ f j g rest. term_read c (joined j f g) start rest) f j g
+      (spell_term v f ++ (symbol (join_symbol j) ∷ behind)) (symbol (join_symbol j) ∷ behind) behind rest
+      (term_again v f d c (symbol (join_symbol j) ∷ behind) (omega arith) (omega arith) (omega arith) (omega arith) known.0) (rw (join_again j) refl)
+      (term_again v g d (counts_with c f) (symbol symbols.Close ∷ rest) (omega arith) (omega arith) (omega arith) (omega arith) known.1)
+      ∙ within (c.terms + terms_in (joined j f g)) (joined j f g) start rest few_terms
+  term_again v (sided s f) (suc d) c rest small deep few_terms few_expressions known =
+      rw (head_again (heads.Sided s) tt, term_again v f d c rest (omega arith) (omega arith) (omega arith) (omega arith) known)
+      (within (c.terms + terms_in (sided s f)) (sided s f) (keyword (side_word s) ∷ (spell_term v f ++ rest)) rest few_terms)
+  term_again v (headed h e f) (suc d) c rest small deep few_terms few_expressions known =
+      let behind : List Tok = spell_term v f ++ (symbol symbols.Close ∷ rest) in
+      let start : List Tok = heading_token h ∷ symbol symbols.Open ∷ (spell_expression v e ++ (symbol symbols.Comma ∷ behind)) in
+      ap (λ (r : List Tok). parse_term (suc d) v c (heading_token h ∷ symbol symbols.Open ∷ r)) (brackets_behind (spell_expression v e) (spell_term v f) rest (symbol symbols.Comma))
+      ∙ rw (head_again (heads.Headed h) tt) (parts_again (parse_expression d v c) (parse_symbol symbols.Comma) (λ e. parse_term d v (counts_with_expression c e)) (λ e _ f rest. term_read c (head_makes h e f) start rest) e tt f
+      (spell_expression v e ++ (symbol symbols.Comma ∷ behind)) (symbol symbols.Comma ∷ behind) behind rest
+      (expression_again v e d c (symbol symbols.Comma ∷ behind) (omega arith) (omega arith) known.1) refl
+      (term_again v f d (counts_with_expression c e) (symbol symbols.Close ∷ rest) (omega arith) (omega arith) (omega arith) (omega arith) known.2))
+      ∙ ap (λ (t : Term). term_read c t start rest) known.0
+      ∙ within (c.terms + terms_in (headed h e f)) (headed h e f) start rest few_terms
+  term_again v (switching w f p g) (suc d) c rest small deep few_terms few_expressions known =
+      let body : List Tok = spell_mapping (spell_pattern p) (spell_term v g) in
+      let behind : List Tok = body ++ (symbol symbols.Close ∷ rest) in
+      let start : List Tok = keyword (switching_word w) ∷ symbol symbols.Open ∷ (spell_term v f ++ (symbol symbols.Comma ∷ behind)) in
+      ap (λ (r : List Tok). parse_term (suc d) v c (keyword (switching_word w) ∷ symbol symbols.Open ∷ r)) (brackets_behind (spell_term v f) body rest (symbol symbols.Comma))
+      ∙ rw (head_again (heads.Switching w) tt) (parts_again (parse_term d v c) (parse_symbol symbols.Comma) (λ f. parse_body d (parse_term d v) (counts_with c f)) (λ f _ b rest. term_read c (switching w f b.0 b.1) start rest) f tt (p, g)
+      (spell_term v f ++ (symbol symbols.Comma ∷ behind)) (symbol symbols.Comma ∷ behind) behind rest
+      (term_again v f d c (symbol symbols.Comma ∷ behind) (omega arith) (omega arith) (omega arith) (omega arith) known.0) refl
+      (body_again v p g d (counts_with c f) (symbol symbols.Close ∷ rest) (omega arith) (λ rest. term_again v g d (counts_with c f) rest (omega arith) (omega arith) (omega arith) (omega arith) known.1)))
+      ∙ within (c.terms + terms_in (switching w f p g)) (switching w f p g) start rest few_terms
+  term_again v (reference (run k)) (suc d) c rest small deep few_terms few_expressions known = within (c.terms + 1) (reference (run k)) (keyword words.Run ∷ name k ∷ rest) rest few_terms
+  term_again v (reference (call g vs)) (suc d) c rest small deep few_terms few_expressions known =
+      rw (listed_arguments_again v vs d c rest (omega arith) (omega arith) (omega arith) few_expressions known)
+      (within (c.terms + terms_in (reference (call g vs))) (reference (call g vs)) (name g ∷ symbol symbols.Open ∷ (spell_listed (spell_arguments v vs) ++ rest)) rest few_terms)
+  term_again v (keeping w f g k p u) (suc d) c rest small deep few_terms few_expressions known =
+      let mapping : List Tok = spell_mapping (spell_pattern p) (spell_term v u) in
+      let closing : List Tok = symbol symbols.Close ∷ rest in
+      let third : List Tok = symbol symbols.Comma ∷ (mapping ++ closing) in
+      let second : List Tok = symbol symbols.Comma ∷ name k ∷ third in
+      let first : List Tok = symbol symbols.Comma ∷ (spell_term v g ++ second) in
+      rw (
+        brackets_behind (spell_term v f) (spell_term v g ++ (symbol symbols.Comma ∷ name k ∷ symbol symbols.Comma ∷ mapping)) rest (symbol symbols.Comma),
+        append_assoc (spell_term v g) (symbol symbols.Comma ∷ name k ∷ symbol symbols.Comma ∷ mapping) closing,
+        head_again (heads.Keeping w) tt,
+        term_again v f d c first (omega arith) (omega arith) (omega arith) (omega arith) known.0,
+        term_again v g d (counts_with c f) second (omega arith) (omega arith) (omega arith) (omega arith) known.1,
+        body_again v p u d (counts_with (counts_with c f) g) closing (omega arith) (λ rest. term_again v u d (counts_with (counts_with c f) g) rest (omega arith) (omega arith) (omega arith) (omega arith) known.2),
+      ) (within (c.terms + terms_in (keeping w f g k p u)) (keeping w f g k p u) (keyword (keeping_word w) ∷ symbol symbols.Open ∷ (spell_term v f ++ first)) rest few_terms)
+
+  -- the arguments of a call, behind its opening bracket
+  listed_arguments_again : (v : Version) (vs : Arguments) (d : ℕ) (c : Counts) (rest : List Tok) → d ≤ 63 → arguments_depth vs ≤ d → c.terms + terms_in_arguments vs ≤ 100000 → c.expressions + expressions_in_arguments vs ≤ 100000 → WritesArguments v d vs
+      → parse_listed no_arguments (λ tokens. parse_arguments (suc (length tokens)) d v (parse_term d v) c tokens) (spell_listed (spell_arguments v vs) ++ rest) ≡ got vs rest
+  listed_arguments_again v no_arguments d c rest small deep few_terms few_expressions known = refl
+  listed_arguments_again v (closed_argument t vs) d c rest small deep few_terms few_expressions known = absurd (omega (arith, small, deep))
+  listed_arguments_again v (value_argument e vs) d c rest small deep few_terms few_expressions known =
+      let further : List Tok = spell_further (spell_arguments v vs) in
+      let tokens : List Tok = (spell_expression v e ++ further) ++ rest in
+      rw (append_assoc (spell_expression v e) further rest, no_close v e (further ++ rest)) refl
+      ∙ arguments_step v (actual_value e) vs d c (length tokens) rest (value_argument_again v e d c (further ++ rest) (expression_again v e d c (further ++ rest) (omega arith) (omega arith) known.0))
+      (further_arguments_again v vs d (length tokens) (counts_with_expression c e) rest small (long_enough (spell_expression v e) (spell_arguments v vs) rest) (omega arith) few_terms (omega arith) known.1)
+  listed_arguments_again v (process_argument t vs) d c rest small deep few_terms few_expressions known =
+      let further : List Tok = spell_further (spell_arguments v vs) in
+      let front : List Tok = keyword words.SignalFunction ∷ spell_term v t in
+      arguments_step v (actual_process t) vs d c (length ((front ++ further) ++ rest)) rest (process_argument_again v t d c (further ++ rest) (term_again v t d c (further ++ rest) (omega (arith, small)) (omega arith) (omega arith) (omega arith) known.0))
+      (further_arguments_again v vs d (length ((front ++ further) ++ rest)) (counts_with c t) rest small (long_enough front (spell_arguments v vs) rest) (omega arith) (omega arith) (omega arith) known.1)
+
+  -- further arguments
+  further_arguments_again : (v : Version) (vs : Arguments) (d n : ℕ) (c : Counts) (rest : List Tok) → d ≤ 63 → length (spell_arguments v vs) ≤ n → arguments_depth vs ≤ d → c.terms + terms_in_arguments vs ≤ 100000 → c.expressions + expressions_in_arguments vs ≤ 100000 → WritesArguments v d vs
+      → parse_further no_arguments (parse_arguments n d v (parse_term d v) c) (spell_further (spell_arguments v vs) ++ rest) ≡ got vs rest
+  further_arguments_again v no_arguments d n c rest small enough deep few_terms few_expressions known = refl
+  further_arguments_again v (closed_argument t vs) d n c rest small enough deep few_terms few_expressions known = absurd (omega (arith, small, deep))
+  further_arguments_again v (value_argument e vs) d zero c rest small enough deep few_terms few_expressions known = absurd (omega arith)
+  further_arguments_again v (process_argument t vs) d zero c rest small enough deep few_terms few_expressions known = absurd (omega arith)
+  further_arguments_again v (value_argument e vs) d (suc n) c rest small enough deep few_terms few_expressions known =
+      let behind : List Tok = spell_further (spell_arguments v vs) ++ rest in
+      arguments_step v (actual_value e) vs d c n rest (value_argument_again v e d c behind (expression_again v e d c behind (omega arith) (omega arith) known.0))
+      (further_arguments_again v vs d n (counts_with_expression c e) rest small (omega arith) (omega arith) few_terms (omega arith) known.1)
+  further_arguments_again v (process_argument t vs) d (suc n) c rest small enough deep few_terms few_expressions known =
+      let behind : List Tok = spell_further (spell_arguments v vs) ++ rest in
+      arguments_step v (actual_process t) vs d c n rest (process_argument_again v t d c behind (term_again v t d c behind (omega (arith, small)) (omega arith) (omega arith) (omega arith) known.0))
+      (further_arguments_again v vs d n (counts_with c t) rest small (omega arith) (omega arith) (omega arith) (omega arith) known.1)
+
+-- a parameter
+parameter_again : (v : Version) (q : Name × NameKind) (rest : List Tok) → behind_leads rest ≡ None → WritesNameKind v q.1 → parse_parameter v (spell_parameter v q ++ rest) ≡ got q rest
+unfolding parse_parameter parse_name_kind
+parameter_again v (x, value_kind t) rest next known = rw (inner_type_again v t 64 (spell_type v t ++ rest) 0 rest known.shallow (omega (arith, known.few)) known.known, next) refl
+parameter_again v (x, process_kind t u) rest next known =
+    let behind : List Tok = symbol symbols.Leads ∷ (spell_type v u ++ rest) in
     rw (
-      brackets_behind (spell_term v f) (spell_term v g ++ (symbol symbols.Comma ∷ name k ∷ symbol symbols.Comma ∷ mapping)) rest (symbol symbols.Comma),
-      append_assoc (spell_term v g) (symbol symbols.Comma ∷ name k ∷ symbol symbols.Comma ∷ mapping) closing,
-      head_again (heads.Keeping w) tt,
-      term_again v f d c first (omega arith) (omega arith) (omega arith) (omega arith) known.0,
-      term_again v g d (counts_with c f) second (omega arith) (omega arith) (omega arith) (omega arith) known.1,
-      body_again v p u d (counts_with (counts_with c f) g) closing (omega arith) (λ rest. term_again v u d (counts_with (counts_with c f) g) rest (omega arith) (omega arith) (omega arith) (omega arith) known.2),
-    ) (within (c.terms + terms_in (keeping w f g k p u)) (keeping w f g k p u) (keyword (keeping_word w) ∷ symbol symbols.Open ∷ (spell_term v f ++ first)) rest few_terms)
+      append_assoc (spell_type v t) (symbol symbols.Leads ∷ spell_type v u) rest,
+      inner_type_again v t 64 (spell_type v t ++ behind) 0 behind known.0.shallow (omega (arith, known.0.few)) known.0.known,
+      inner_type_again v u 64 (spell_type v u ++ rest) 0 rest known.1.shallow (omega (arith, known.1.few)) known.1.known,
+    ) refl
+
+-- a parameter in front of further ones
+parameters_step : (v : Version) (q : Name × NameKind) (qs : Bindings) (n : ℕ) (rest : List Tok) → WritesNameKind v q.1
+    → parse_further [] (parse_parameters n v) (spell_further (map (spell_parameter v) qs) ++ rest) ≡ got qs rest
+    → parse_parameters (suc n) v ((spell_parameter v q ++ spell_further (map (spell_parameter v) qs)) ++ rest) ≡ got (q ∷ qs) rest
+unfolding parse_parameters
+parameters_step v q qs n rest known others =
+    let xs : List (List Tok) = map (spell_parameter v) qs in
+    rw (append_assoc (spell_parameter v q) (spell_further xs) rest, parameter_again v q (spell_further xs ++ rest) (no_leads xs rest) known, others) refl
+
+abbrev AreWritten : Version → Bindings → Type 0
+AreWritten v qs = All (λ (q : Name × NameKind). WritesNameKind v q.1) qs
+
+-- further parameters
+further_parameters_again : (v : Version) (qs : Bindings) (n : ℕ) (rest : List Tok) → length qs ≤ n → AreWritten v qs
+    → parse_further [] (parse_parameters n v) (spell_further (map (spell_parameter v) qs) ++ rest) ≡ got qs rest
+further_parameters_again v [] n rest enough known = refl
+further_parameters_again v (q ∷ qs) zero rest enough known = absurd (omega arith)
+further_parameters_again v (q ∷ qs) (suc n) rest enough known =
+    parameters_step v q qs n rest (All-head (λ (q : Name × NameKind). WritesNameKind v q.1) q qs known)
+    (further_parameters_again v qs n rest (omega arith) (All-tail (λ (q : Name × NameKind). WritesNameKind v q.1) q qs known))
+
+-- the parameters of a template, behind the opening bracket
+listed_parameters_again : (v : Version) (qs : Bindings) (rest : List Tok) → AreWritten v qs
+    → parse_listed [] (λ tokens. parse_parameters (suc (length tokens)) v tokens) (spell_listed (map (spell_parameter v) qs) ++ rest) ≡ got qs rest
+listed_parameters_again v [] rest known = refl
+listed_parameters_again v (q ∷ qs) rest known =
+    let xs : List (List Tok) = map (spell_parameter v) qs in
+    let tokens : List Tok = (spell_parameter v q ++ spell_further xs) ++ rest in
+    let counted : length xs ≡ length qs = simp length-map in
+    parameters_step v q qs (length tokens) rest (All-head (λ (q : Name × NameKind). WritesNameKind v q.1) q qs known)
+    (further_parameters_again v qs (length tokens) rest (omega (arith, long_enough (spell_parameter v q) xs rest)) (All-tail (λ (q : Name × NameKind). WritesNameKind v q.1) q qs known))
+
+heading_again : (v : Version) (t : Template) (rest : List Tok) → HasWrittenTypes v t → parse_heading v (spell_heading v t ++ rest) ≡ got (t.name, t.parameters) rest
+unfolding parse_heading
+heading_again v t rest typed = rw (listed_parameters_again v t.parameters rest typed.parameters) refl
 
 pub signature_again : (v : Version) (t : Template) (rest : List Tok) → HasWrittenTypes v t → parse_signature v (spell_signature v t ++ rest) ≡ got (t.input, t.output) rest
 unfolding parse_signature
@@ -416,10 +530,12 @@ signature_again v t rest typed =
 
 pub template_again : (v : Version) (t : Template) (c : Counts) (rest : List Tok) → HasWrittenTypes v t → term_depth t.body ≤ 64 → c.terms + terms_in t.body ≤ 100000 → c.expressions + expressions_in t.body ≤ 100000
     → parse_template v c (spell_template v t ++ rest) ≡ got t rest
-unfolding parse_template parse_heading
+unfolding parse_template
 template_again v t c rest typed deep few_terms few_expressions =
     let closing : List Tok = spell_term v t.body ++ (symbol symbols.Semicolon ∷ []) in
     rw (
+      append_assoc (spell_heading v t) (spell_signature v t ++ closing) rest,
+      heading_again v t ((spell_signature v t ++ closing) ++ rest) typed,
       append_assoc (spell_signature v t) closing rest,
       signature_again v t (closing ++ rest) typed,
       append_assoc (spell_term v t.body) (symbol symbols.Semicolon ∷ []) rest,

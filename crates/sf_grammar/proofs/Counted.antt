@@ -1,5 +1,5 @@
 -- What is placed has as many places as the tokens that spell it.
-use Rattle.std.proofs.Common.{◌≡◌, suc, true, false, List, [], ◌∷◌, ◌++◌, length, refl, ap, arith}
+use Rattle.std.proofs.Common.{◌≡◌, suc, ◌+◌, true, false, List, [], ◌∷◌, ◌++◌, length, map, refl, ap, arith}
 use Rattle.std.proofs.lemmas.List.{length-append}
 use Rattle.sf_operator.specs.declared.operator.Unary.{Unary}
 use Rattle.sf_operator.specs.declared.operator.Operator.{Operator}
@@ -17,17 +17,20 @@ use Rattle.sf_expr.specs.Arena.{name_at}
 use Rattle.sf_expr.proofs.Entered.{node_builds as expression_builds}
 use Rattle.sf_expr.proofs.Typed.{is_unit, is_truth, is_int, is_name, is_pair, is_applied, is_operation, is_conditional, is_mapped, is_folded, is_called}
 use Rattle.sf_term.specs.declared.node.TermId.{TermId}
+use Rattle.sf_term.specs.declared.node.Argument.{Argument}
+use Rattle.sf_term.specs.declared.node.Argument.TheVariants as argument_forms
 use Rattle.sf_term.specs.declared.program.Program.{Program}
+use Rattle.sf_term.specs.Parameters.{PlacedParameter, parameters_of}
 use Rattle.sf_term.specs.Headers.{Header}
-use Rattle.sf_term.specs.Arena.{expressions_of, expression_under, expression_node_at, pattern_under, function_in, tree, template_in}
+use Rattle.sf_term.specs.Arena.{expressions_of, expression_under, expression_node_at, pattern_under, arguments_under, arguments_of, function_in, tree, template_in}
 use Rattle.sf_term.proofs.Kept.{node_builds}
 use Rattle.sf_lex.specs.declared.word.Keyword.TheVariants as words
 use Rattle.sf_lex.specs.declared.symbol.Symbol.TheVariants as symbols
 use Rattle.sf_refusal.specs.declared.spot.Spot.{Spot}
 use Rattle.sf_lex.specs.Tokens.{Tok, keyword, name, symbol}
 use Rattle.sf_grammar.specs.declared.ty.Version.{Version}
-use Rattle.sf_grammar.specs.Spelling.{value_word, in_brackets, operator_token, join_symbol, spell_mapping, spell_pattern, spell_expression, spell_function, spell_term, spell_heading, spell_signature, spell_template}
-use Rattle.sf_grammar.specs.Placing.{around, PatternPlaced, unnamed_placed, name_placed, both_placed, ExpressionPlaced, unit_placed, truth_placed, number_placed, constant_placed, variable_placed, pair_placed, prefixed_placed, one_in_brackets_placed, operation_placed, two_in_brackets_placed, conditional_placed, let_placed, one_and_function_placed, two_and_function_placed, called_placed, FunctionPlaced, function_placed, TermPlaced, bare_placed, never_placed, with_value_placed, initialized_placed, timed_placed, arrow_placed, accumulated_placed, joined_placed, sided_placed, headed_placed, switching_placed, run_placed, keeping_placed, TemplatePlaced}
+use Rattle.sf_grammar.specs.Spelling.{value_word, in_brackets, operator_token, join_symbol, spell_mapping, spell_pattern, spell_expression, spell_function, spell_further, spell_listed, spell_term, spell_arguments, spell_parameter, spell_signature, spell_template}
+use Rattle.sf_grammar.specs.Placing.{around, PatternPlaced, unnamed_placed, name_placed, both_placed, ExpressionPlaced, unit_placed, truth_placed, number_placed, constant_placed, variable_placed, pair_placed, prefixed_placed, one_in_brackets_placed, operation_placed, two_in_brackets_placed, conditional_placed, let_placed, one_and_function_placed, two_and_function_placed, called_placed, FunctionPlaced, function_placed, TermPlaced, bare_placed, never_placed, with_value_placed, initialized_placed, timed_placed, arrow_placed, accumulated_placed, joined_placed, sided_placed, headed_placed, switching_placed, run_placed, keeping_placed, call_placed, ArgumentsPlaced, no_arguments_placed, some_arguments_placed, EachArgumentPlaced, no_argument_placed, argument_placed, ArgumentPlaced, value_argument_placed, process_argument_placed, EachParameterPlaced, no_parameter_placed, parameter_placed, ParametersPlaced, no_parameters_placed, some_parameters_placed, TemplatePlaced}
 
 around_counted : (xs ys : List Spot) (us vs : List Tok) (opening between closing : Spot) (t : Tok) → length xs ≡ length us → length ys ≡ length vs → length (around opening xs between ys closing) ≡ length (in_brackets us t vs)
 around_counted xs ys us vs opening between closing t one two =
@@ -142,51 +145,96 @@ function_counted v p f xs (function_placed {xs = us} {ys = vs} leads held patter
     let two = expression_counted v p _ vs body in
     omega (arith, length-append {A = Spot}, length-append {A = Tok}, one, two)
 
-pub term_counted : (v : Version) (p : Program) (t : TermId) (xs : List Spot) → TermPlaced v p t xs → length xs ≡ length (spell_term v (tree p t))
-term_counted v p t xs (bare_placed s) = rw (node_builds p t _ s.node) refl
-term_counted v p t xs (never_placed s counted) = counted
-term_counted v p t xs (with_value_placed {e = e} {xs = us} behind s value) = rw (node_builds p t _ s.node, behind) (omega (arith, expression_counted v p e us value))
-term_counted v p t xs (initialized_placed {k = k} {e = e} {xs = us} opening comma word closing front s value) =
-    rw (node_builds p t _ s.node, front)
-    (ap suc (around_counted us (word ∷ []) (spell_expression v (expression_under p e)) (keyword (value_word k) ∷ []) opening comma closing (symbol symbols.Comma) (expression_counted v p e us value) refl))
-term_counted v p t xs (timed_placed {e = e} {xs = us} time s value) = rw (node_builds p t _ s.node) (omega (arith, expression_counted v p e us value))
-term_counted v p t xs (arrow_placed {f = f} {xs = us} s function) = rw (node_builds p t _ s.node) (omega (arith, function_counted v p f us function))
-term_counted v p t xs (accumulated_placed {e = e} {f = f} {xs = us} {ys = vs} opening comma closing s value function) =
-    rw (node_builds p t _ s.node)
-    (ap suc (around_counted us vs (spell_expression v (expression_under p e)) (spell_function v (function_in p f)) opening comma closing (symbol symbols.Comma) (expression_counted v p e us value) (function_counted v p f vs function)))
-term_counted v p t xs (joined_placed {a = a} {b = b} {j = j} {xs = us} {ys = vs} {opening = opening} between closing s one two) =
-    rw (node_builds p t _ s.node) (around_counted us vs (spell_term v (tree p a)) (spell_term v (tree p b)) opening between closing (symbol (join_symbol j)) (term_counted v p a us one) (term_counted v p b vs two))
-term_counted v p t xs (sided_placed {a = a} {xs = us} s part) = rw (node_builds p t _ s.node) (omega (arith, term_counted v p a us part))
-term_counted v p t xs (headed_placed {a = a} {e = e} {xs = us} {ys = vs} opening comma closing s value part) =
-    rw (node_builds p t _ s.node)
-    (ap suc (around_counted us vs (spell_expression v (expression_under p e)) (spell_term v (tree p a)) opening comma closing (symbol symbols.Comma) (expression_counted v p e us value) (term_counted v p a vs part)))
-term_counted v p t xs (switching_placed {a = a} {b = b} {q = q} {xs = us} {ps = ps} {ys = vs} opening comma leads closing s one pattern two) =
-    let names : List Tok = spell_pattern (pattern_of (pattern_under p q)) in
-    let body : List Tok = spell_term v (tree p b) in
-    rw (node_builds p t _ s.node)
-    (ap suc (around_counted us (ps ++ (leads ∷ vs)) (spell_term v (tree p a)) (spell_mapping names body) opening comma closing (symbol symbols.Comma) (term_counted v p a us one)
-    (between_counted ps vs names body leads (symbol symbols.MapsTo) (pattern_counted (pattern_under p q) ps pattern.placed) (term_counted v p b vs two))))
-term_counted v p t xs (run_placed s) = rw (node_builds p t _ s.node) refl
-term_counted v p t xs (keeping_placed {a = a} {b = b} {c = c} {k = k} {q = q} {xs = us} {ys = vs} {ps = ps} {zs = zs} {place = place} opening comma second third leads closing s one two pattern three) =
-    let names : List Tok = spell_pattern (pattern_of (pattern_under p q)) in
-    let body : List Tok = spell_term v (tree p c) in
-    let mapping = between_counted ps zs names body leads (symbol symbols.MapsTo) (pattern_counted (pattern_under p q) ps pattern.placed) (term_counted v p c zs three) in
-    rw (node_builds p t _ s.node)
-    (ap suc (around_counted us (vs ++ (second ∷ place ∷ third ∷ (ps ++ (leads ∷ zs)))) (spell_term v (tree p a)) (spell_term v (tree p b) ++ (symbol symbols.Comma ∷ name (name_at (expressions_of p) k) ∷ symbol symbols.Comma ∷ spell_mapping names body)) opening comma closing (symbol symbols.Comma) (term_counted v p a us one)
-    (between_counted vs (place ∷ third ∷ (ps ++ (leads ∷ zs))) (spell_term v (tree p b)) (name (name_at (expressions_of p) k) ∷ symbol symbols.Comma ∷ spell_mapping names body) second (symbol symbols.Comma) (term_counted v p b vs two) (ap suc (ap suc mapping)))))
+-- the tokens of an argument
+abbrev argument_tokens : Version → Program → Argument → List Tok
+argument_tokens v p (argument_forms.Value e) = spell_expression v (expression_under p e)
+argument_tokens v p (argument_forms.Process t) = keyword words.SignalFunction ∷ spell_term v (tree p t)
+
+-- further arguments, one by one
+further_one : (v : Version) (p : Program) (a : Argument) (bs : List Argument)
+    → length (spell_further (spell_arguments v (arguments_of p (a ∷ bs)))) ≡ suc (length (argument_tokens v p a) + length (spell_further (spell_arguments v (arguments_of p bs))))
+further_one v p (argument_forms.Value e) bs = ap suc (length-append (spell_expression v (expression_under p e)) (spell_further (spell_arguments v (arguments_of p bs))))
+further_one v p (argument_forms.Process t) bs = omega (arith, length-append (spell_term v (tree p t)) (spell_further (spell_arguments v (arguments_of p bs))))
+
+-- the first of further arguments stands behind a comma
+listed_one : (v : Version) (p : Program) (a : Argument) (bs : List Argument)
+    → length (spell_further (spell_arguments v (arguments_of p (a ∷ bs)))) ≡ suc (length (spell_listed (spell_arguments v (arguments_of p (a ∷ bs)))))
+listed_one v p (argument_forms.Value e) bs = refl
+listed_one v p (argument_forms.Process t) bs = refl
+
+mutual
+  pub term_counted : (v : Version) (p : Program) (t : TermId) (xs : List Spot) → TermPlaced v p t xs → length xs ≡ length (spell_term v (tree p t))
+  term_counted v p t xs (bare_placed s) = rw (node_builds p t _ s.node) refl
+  term_counted v p t xs (never_placed s counted) = counted
+  term_counted v p t xs (with_value_placed {e = e} {xs = us} behind s value) = rw (node_builds p t _ s.node, behind) (omega (arith, expression_counted v p e us value))
+  term_counted v p t xs (initialized_placed {k = k} {e = e} {xs = us} opening comma word closing front s value) =
+      rw (node_builds p t _ s.node, front)
+      (ap suc (around_counted us (word ∷ []) (spell_expression v (expression_under p e)) (keyword (value_word k) ∷ []) opening comma closing (symbol symbols.Comma) (expression_counted v p e us value) refl))
+  term_counted v p t xs (timed_placed {e = e} {xs = us} time s value) = rw (node_builds p t _ s.node) (omega (arith, expression_counted v p e us value))
+  term_counted v p t xs (arrow_placed {f = f} {xs = us} s function) = rw (node_builds p t _ s.node) (omega (arith, function_counted v p f us function))
+  term_counted v p t xs (accumulated_placed {e = e} {f = f} {xs = us} {ys = vs} opening comma closing s value function) =
+      rw (node_builds p t _ s.node)
+      (ap suc (around_counted us vs (spell_expression v (expression_under p e)) (spell_function v (function_in p f)) opening comma closing (symbol symbols.Comma) (expression_counted v p e us value) (function_counted v p f vs function)))
+  term_counted v p t xs (joined_placed {a = a} {b = b} {j = j} {xs = us} {ys = vs} {opening = opening} between closing s one two) =
+      rw (node_builds p t _ s.node) (around_counted us vs (spell_term v (tree p a)) (spell_term v (tree p b)) opening between closing (symbol (join_symbol j)) (term_counted v p a us one) (term_counted v p b vs two))
+  term_counted v p t xs (sided_placed {a = a} {xs = us} s part) = rw (node_builds p t _ s.node) (omega (arith, term_counted v p a us part))
+  term_counted v p t xs (headed_placed {a = a} {e = e} {xs = us} {ys = vs} opening comma closing s value part) =
+      rw (node_builds p t _ s.node)
+      (ap suc (around_counted us vs (spell_expression v (expression_under p e)) (spell_term v (tree p a)) opening comma closing (symbol symbols.Comma) (expression_counted v p e us value) (term_counted v p a vs part)))
+  term_counted v p t xs (switching_placed {a = a} {b = b} {q = q} {xs = us} {ps = ps} {ys = vs} opening comma leads closing s one pattern two) =
+      let names : List Tok = spell_pattern (pattern_of (pattern_under p q)) in
+      let body : List Tok = spell_term v (tree p b) in
+      rw (node_builds p t _ s.node)
+      (ap suc (around_counted us (ps ++ (leads ∷ vs)) (spell_term v (tree p a)) (spell_mapping names body) opening comma closing (symbol symbols.Comma) (term_counted v p a us one)
+      (between_counted ps vs names body leads (symbol symbols.MapsTo) (pattern_counted (pattern_under p q) ps pattern.placed) (term_counted v p b vs two))))
+  term_counted v p t xs (run_placed s) = rw (node_builds p t _ s.node) refl
+  term_counted v p t xs (call_placed {a = a} {xs = us} opening s arguments) =
+      rw (node_builds p t _ s.node) (ap (λ n. suc (suc n)) (arguments_counted v p (arguments_under p a) us arguments))
+  term_counted v p t xs (keeping_placed {a = a} {b = b} {c = c} {k = k} {q = q} {xs = us} {ys = vs} {ps = ps} {zs = zs} {place = place} opening comma second third leads closing s one two pattern three) =
+      let names : List Tok = spell_pattern (pattern_of (pattern_under p q)) in
+      let body : List Tok = spell_term v (tree p c) in
+      let mapping = between_counted ps zs names body leads (symbol symbols.MapsTo) (pattern_counted (pattern_under p q) ps pattern.placed) (term_counted v p c zs three) in
+      rw (node_builds p t _ s.node)
+      (ap suc (around_counted us (vs ++ (second ∷ place ∷ third ∷ (ps ++ (leads ∷ zs)))) (spell_term v (tree p a)) (spell_term v (tree p b) ++ (symbol symbols.Comma ∷ name (name_at (expressions_of p) k) ∷ symbol symbols.Comma ∷ spell_mapping names body)) opening comma closing (symbol symbols.Comma) (term_counted v p a us one)
+      (between_counted vs (place ∷ third ∷ (ps ++ (leads ∷ zs))) (spell_term v (tree p b)) (name (name_at (expressions_of p) k) ∷ symbol symbols.Comma ∷ spell_mapping names body) second (symbol symbols.Comma) (term_counted v p b vs two) (ap suc (ap suc mapping)))))
+
+  arguments_counted : (v : Version) (p : Program) (bs : List Argument) (xs : List Spot) → ArgumentsPlaced v p bs xs → length xs ≡ length (spell_listed (spell_arguments v (arguments_of p bs)))
+  arguments_counted v p bs xs (no_arguments_placed closing) = refl
+  arguments_counted v p bs xs (some_arguments_placed {a = a} {bs = others} each) = omega (arith, each_argument_counted v p (a ∷ others) xs each, listed_one v p a others)
+
+  each_argument_counted : (v : Version) (p : Program) (bs : List Argument) (xs : List Spot) → EachArgumentPlaced v p bs xs → length xs + 1 ≡ length (spell_further (spell_arguments v (arguments_of p bs)))
+  each_argument_counted v p bs xs no_argument_placed = refl
+  each_argument_counted v p bs xs (argument_placed {a = a} {bs = others} {xs = us} {ys = vs} separator one rest) =
+      omega (arith, length-append us (separator ∷ vs), argument_counted v p a us one, each_argument_counted v p others vs rest, further_one v p a others)
+
+  argument_counted : (v : Version) (p : Program) (a : Argument) (xs : List Spot) → ArgumentPlaced v p a xs → length xs ≡ length (argument_tokens v p a)
+  argument_counted v p a xs (value_argument_placed {e = e} value) = expression_counted v p e xs value
+  argument_counted v p a xs (process_argument_placed {t = t} {xs = us} word process) = ap suc (term_counted v p t us process)
+
+each_parameter_counted : (v : Version) (qs : List PlacedParameter) (xs : List Spot) → EachParameterPlaced v qs xs → length xs + 1 ≡ length (spell_further (map (spell_parameter v) (parameters_of qs)))
+each_parameter_counted v qs xs no_parameter_placed = refl
+each_parameter_counted v qs xs (parameter_placed {q = q} {qs = others} {xs = us} {ys = vs} separator one rest) =
+    omega (arith, length-append us (separator ∷ vs), one.counted, each_parameter_counted v others vs rest, length-append (spell_parameter v (q.name, q.kind)) (spell_further (map (spell_parameter v) (parameters_of others))))
+
+parameters_counted : (v : Version) (qs : List PlacedParameter) (xs : List Spot) → ParametersPlaced v qs xs → length xs ≡ length (spell_listed (map (spell_parameter v) (parameters_of qs)))
+parameters_counted v qs xs (no_parameters_placed closing) = refl
+parameters_counted v qs xs (some_parameters_placed {q = q} {qs = others} each) = omega (arith, each_parameter_counted v (q ∷ others) xs each)
 
 pub template_counted : (v : Version) (p : Program) (h : Header) (xs : List Spot) → TemplatePlaced v p h xs → length xs ≡ length (spell_template v (template_in p h))
 template_counted v p h xs t =
     let t' = template_in p h in
+    let parameters : List Tok = spell_listed (map (spell_parameter v) (parameters_of h.parameters)) in
     let ending : List Tok = spell_term v (tree p h.body) ++ (symbol symbols.Semicolon ∷ []) in
     omega (
       arith,
       ap length t.split,
       t.typed,
+      parameters_counted v h.parameters t.listed t.parameters,
       term_counted v p h.body t.body t.placed,
+      length-append t.listed (t.signature ++ (t.body ++ (t.end ∷ []))),
       length-append t.signature (t.body ++ (t.end ∷ [])),
       length-append t.body (t.end ∷ []),
-      length-append (spell_heading t') (spell_signature v t' ++ ending),
+      length-append parameters (spell_signature v t' ++ ending),
       length-append (spell_signature v t') ending,
       length-append (spell_term v (tree p h.body)) (symbol symbols.Semicolon ∷ []),
     )

@@ -1,5 +1,5 @@
 -- What is read at the front of tokens stands there.
-use Rattle.std.proofs.Common.{◌≡◌, ℕ, ◌<◌, ◌≤◌, nat_le, nat_lt, Bool, true, false, ℤ, pos, List, [], ◌∷◌, ◌++◌, if◌then◌else◌, refl, ap, append_assoc, subst}
+use Rattle.std.proofs.Common.{◌≡◌, ℕ, ◌<◌, ◌≤◌, nat_le, nat_lt, Bool, true, false, ℤ, pos, List, [], ◌∷◌, ◌++◌, length, None, if◌then◌else◌, refl, ap, append_assoc, subst, arith}
 use Rattle.std.specs.Ordering.{int_eq}
 use denote.Enum.Bare.{sameb, same_true}
 use Rattle.sf_value.specs.Values.{Name, Kind}
@@ -13,12 +13,13 @@ use Rattle.sf_refusal.specs.declared.rule.Rule.{Rule}
 use Rattle.sf_refusal.specs.declared.rule.Rule.TheVariants.{Unexpected, TooDeep, Version as NoVersion, WrittenTypeTooLarge, TooMany}
 use Rattle.std.proofs.lemmas.Bool.{leb-true, le-leb, ltb-true, lt-ltb}
 use Rattle.std.proofs.lemmas.Bool.Decides.{Decides-int_eq}
+use Rattle.std.proofs.lemmas.List.{length-append}
 use Rattle.sf_value.specs.Values.{KeyKind, int_keys, text_keys}
 use Rattle.sf_grammar.specs.declared.ty.Version.{Version}
 use Rattle.sf_grammar.specs.declared.ty.Version.TheVariants as versions
 use Rattle.sf_lex.specs.declared.word.Keyword.TheVariants as words
-use Rattle.sf_grammar.specs.Spelling.{in_brackets, version_number, spell_keys, WritesKeys}
-use Rattle.sf_grammar.specs.Reading.{Read, got, stop, ◌and_then◌, parse_symbol, parse_keyword, parse_name, parse_version, parse_keys, too_deep, type_met, parse_parts}
+use Rattle.sf_grammar.specs.Spelling.{in_brackets, spell_expression, spell_further, spell_term, version_number, spell_keys, WritesKeys}
+use Rattle.sf_grammar.specs.Reading.{Read, got, stop, ◌and_then◌, parse_symbol, parse_keyword, parse_name, parse_version, parse_keys, parse_separator, Actual, actual_value, actual_process, behind_leads, too_deep, type_met, parse_parts}
 
 -- what was got, and the tokens behind it
 pub record Same {A : Type 0} (a b : A) (r s : List Tok) : Type 0 where
@@ -146,3 +147,28 @@ parts_takes one between two whole tokens c rest is then_p =
 -- two parts that were taken stood in brackets
 pub brackets_took : (xs ys tokens r1 r2 r3 rest : List Tok) (m : Tok) → tokens ≡ xs ++ r1 → r1 ≡ m ∷ r2 → r2 ≡ ys ++ r3 → r3 ≡ symbol symbols.Close ∷ rest → symbol symbols.Open ∷ tokens ≡ in_brackets xs m ys ++ rest
 brackets_took xs ys tokens r1 r2 r3 rest m a b c d = rw (a, b, c, d, brackets_behind xs ys rest m) refl
+
+-- the token behind a part of a list
+abbrev pub separator_token : Bool → Tok
+separator_token true = symbol symbols.Comma
+separator_token false = symbol symbols.Close
+
+pub separator_takes : (tokens : List Tok) (more : Bool) (rest : List Tok) → parse_separator tokens ≡ got more rest → tokens ≡ separator_token more ∷ rest
+separator_takes (symbol symbols.Comma ∷ tokens) more rest e = let s = got_same true more tokens rest e in rw (← s.value, s.rest) refl
+separator_takes (symbol symbols.Close ∷ tokens) more rest e = let s = got_same false more tokens rest e in rw (← s.value, s.rest) refl
+separator_takes _ more rest e = cc
+
+-- the tokens of an argument
+abbrev pub spell_actual : Version → Actual → List Tok
+spell_actual v (actual_value e) = spell_expression v e
+spell_actual v (actual_process t) = keyword words.SignalFunction ∷ spell_term v t
+
+-- no process leads on behind a part of a list
+pub no_leads : (xs : List (List Tok)) (rest : List Tok) → behind_leads (spell_further xs ++ rest) ≡ None
+no_leads [] rest = refl
+no_leads (x ∷ xs) rest = refl
+
+-- there are at least as many tokens as parts
+pub further_long : (xs : List (List Tok)) → length xs ≤ length (spell_further xs)
+further_long [] = omega arith
+further_long (x ∷ xs) = omega (arith, further_long xs, length-append x (spell_further xs))

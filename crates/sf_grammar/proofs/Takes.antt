@@ -1,5 +1,7 @@
 -- What is read is spelled so, within the limits.
-use Rattle.std.proofs.Common.{◌≡◌, ℕ, zero, suc, ◌+◌, ◌<◌, ◌≤◌, true, false, pos, List, [], ◌∷◌, ◌++◌, Option, Some, None, refl, sym, ◌∙◌, ap, subst, append_assoc, arith, ℤ}
+use Rattle.std.proofs.Common.{◌≡◌, ℕ, zero, suc, ◌+◌, ◌<◌, ◌≤◌, true, false, pos, List, [], ◌∷◌, ◌++◌, Option, Some, None, refl, sym, ◌∙◌, ap, subst, append_assoc, arith, ℤ, Bool, length, map}
+use Rattle.std.specs.List.{All}
+use Rattle.std.proofs.lemmas.List.Elements.{All-cons, All-nil}
 use Rattle.sf_value.specs.Values.{Name, Kind, pair_kind, event_kind, table_kind, nodes}
 use Rattle.sf_expr.specs.Expressions.{Pattern, unnamed, named, both, pattern_depth, unit_literal, truth_literal, int_literal, text_literal, none_literal, Expression, variable, literal, applied, operation, conditional, mapped, called, depth as expression_depth, size, Function, function, function_depth, function_size}
 use Rattle.sf_operator.specs.declared.operator.Unary.{Unary}
@@ -18,7 +20,8 @@ use Rattle.sf_term.specs.declared.form.Heading.{Heading}
 use Rattle.sf_term.specs.declared.form.Heading.TheVariants as headings
 use Rattle.sf_term.specs.declared.form.Observation.{Observation}
 use Rattle.sf_term.specs.declared.form.Switching.{Switching}
-use Rattle.sf_term.specs.Trees.{Primitive, terms_with_value, bare, never, with_value, timed, arrow, accumulated, Term, primitive, run, joined, sided, headed, switching, keeping, Template, term_depth, terms_in, expressions_in}
+use Rattle.sf_term.specs.Parameters.{NameKind, value as value_kind, process as process_kind, Bindings}
+use Rattle.sf_term.specs.Trees.{Primitive, terms_with_value, bare, never, with_value, timed, arrow, accumulated, Term, primitive, reference, joined, sided, headed, switching, keeping, run, call, Arguments, no_arguments, Template, term_depth, arguments_depth, terms_in, expressions_in, expressions_in_arguments}
 use Rattle.sf_lex.specs.declared.word.Keyword.{Keyword}
 use Rattle.sf_lex.specs.declared.word.Keyword.TheVariants as words
 use Rattle.sf_lex.specs.declared.symbol.Symbol.{Symbol}
@@ -33,10 +36,10 @@ use Rattle.sf_grammar.specs.declared.head.ExpressionHead.{ExpressionHead}
 use Rattle.sf_grammar.specs.declared.head.ExpressionHead.TheVariants as expression_heads
 use Rattle.sf_grammar.specs.declared.head.Link.{Link}
 use Rattle.sf_grammar.specs.declared.head.Link.TheVariants as links
-use Rattle.sf_grammar.specs.Spelling.{stands_initially, spell_value, head_makes, in_brackets, version_number, mapping_word, folding_word, spell_keys, spell_type, spell_mapping, spell_pattern, spell_expression, spell_function, spell_term, spell_signature, spell_template, value_word, side_word, heading_token, timing_word, accumulation_word, switching_word, keeping_word, join_symbol, type_depth, WritesType, IsWrittenType, WritesExpression, WritesFunction, WritesTerm, HasWrittenTypes}
-use Rattle.sf_grammar.specs.Reading.{parse_number, parse_never, parse_timed, Read, got, ◌and_then◌, Counts, counts_with, counts_with_expression, begins_type, begins_pattern, begins_expression, begins_term, type_head, word_kind, parse_keys, parse_outer_type, parse_headed_type, type_from, parse_inner_type, parse_pair_type, parse_pattern, parse_pattern_pair, link_of, link_from, parse_link, linked, parse_linked, behind_close, bracketed_from, parse_none, expression_head, parse_prefixed, parse_one_in_brackets, parse_two_in_brackets, parse_conditional, parse_mapping, parse_let, mapped_by, folded_by, parse_one_and_function, parse_two_and_function, parse_called, parse_worded_expression, parse_expression, expression_read, parse_function, parse_term, parse_joined, parse_value, parse_arrow, parse_accumulated, parse_sided, parse_headed, parse_body, parse_switching, parse_run, parse_keeping, parse_behind_head, head_of, join_of, parse_join, join_from, term_read, parse_parts, parse_opening, parse_heading, parse_signature, parse_template, template_of, parse_symbol, parse_name, parse_type, parse_keyword, parse_version}
-use Rattle.sf_grammar.proofs.Words.{IsHeadToken, head_takes, join_takes, link_token, LinksBetween, IsLinkToken, link_takes, BeginsWith, expression_head_takes, type_word, type_token, type_head_takes, IsWordKind, word_kind_is, close_takes}
-use Rattle.sf_grammar.proofs.Parts.{Same, bind_got, got_same, within_takes, deep_takes, met_takes, parts_takes, brackets_took, three_behind, symbol_takes, keyword_takes, name_takes, version_takes, TookKeys, keys_takes}
+use Rattle.sf_grammar.specs.Spelling.{stands_initially, spell_value, head_makes, in_brackets, version_number, mapping_word, folding_word, spell_keys, spell_type, spell_mapping, spell_pattern, spell_expression, spell_function, spell_further, spell_listed, spell_term, spell_arguments, spell_name_kind, spell_parameter, spell_heading, spell_signature, spell_template, value_word, side_word, heading_token, timing_word, accumulation_word, switching_word, keeping_word, join_symbol, type_depth, WritesType, IsWrittenType, WritesExpression, WritesFunction, WritesTerm, WritesArguments, WritesNameKind, HasWrittenTypes}
+use Rattle.sf_grammar.specs.Reading.{parse_number, parse_never, parse_timed, Read, got, ◌and_then◌, Counts, counts_with, counts_with_expression, begins_type, begins_pattern, begins_expression, begins_term, type_head, word_kind, parse_keys, parse_outer_type, parse_headed_type, type_from, parse_inner_type, parse_pair_type, parse_pattern, parse_pattern_pair, link_of, link_from, parse_link, linked, parse_linked, behind_close, bracketed_from, parse_none, expression_head, parse_prefixed, parse_one_in_brackets, parse_two_in_brackets, parse_conditional, parse_mapping, parse_let, mapped_by, folded_by, parse_one_and_function, parse_two_and_function, parse_called, parse_worded_expression, parse_expression, expression_read, parse_function, parse_term, parse_joined, parse_value, parse_arrow, parse_accumulated, parse_sided, parse_headed, parse_body, parse_switching, parse_run, parse_keeping, Actual, actual_value, actual_process, with_actual, counts_with_actual, behind_sf, argument_from, parse_argument, parse_arguments, parse_call, behind_leads, further_from, parse_further, listed_from, parse_listed, parameter_kind_from, parse_name_kind, parse_parameter, parse_parameters, parse_separator, parse_behind_head, head_of, join_of, parse_join, join_from, term_read, parse_parts, parse_opening, parse_heading, parse_signature, parse_template, template_of, parse_symbol, parse_name, parse_type, parse_keyword, parse_version}
+use Rattle.sf_grammar.proofs.Words.{IsHeadToken, head_takes, join_takes, link_token, LinksBetween, IsLinkToken, link_takes, BeginsWith, expression_head_takes, type_word, type_token, type_head_takes, IsWordKind, word_kind_is, close_takes, leads_takes, sf_takes}
+use Rattle.sf_grammar.proofs.Parts.{spell_actual, separator_token, separator_takes, Same, bind_got, got_same, within_takes, deep_takes, met_takes, parts_takes, brackets_took, three_behind, symbol_takes, keyword_takes, name_takes, version_takes, TookKeys, keys_takes}
 
 pub record TookType (v : Version) (d met : ℕ) (tokens : List Tok) (k : Kind) (rest : List Tok) : Type 0 where
   pub spelled : tokens ≡ spell_type v k ++ rest
@@ -688,9 +691,9 @@ run_takes : (v : Version) (d : ℕ) (c : Counts) (tokens : List Tok) (t : Term) 
 unfolding parse_run
 run_takes v d c tokens t rest few is =
     let start : List Tok = keyword words.Run ∷ tokens in
-    bind_got (λ k r. term_read c (run k) start r) (parse_name tokens) t rest is (λ k behind at_k is_k.
-    within_takes (c.terms + 1) (run k) t start behind rest is_k (λ few_terms same.
-    took_as v (suc d) c start (run k) t behind rest same
+    bind_got (λ k r. term_read c (reference (run k)) start r) (parse_name tokens) t rest is (λ k behind at_k is_k.
+    within_takes (c.terms + 1) (reference (run k)) t start behind rest is_k (λ few_terms same.
+    took_as v (suc d) c start (reference (run k)) t behind rest same
     (record { spelled = ap (λ r. keyword words.Run ∷ r) (name_takes tokens k behind at_k); shallow = omega arith; few_terms = few_terms; few_expressions = omega arith; known = tt })))
 
 -- two terms, a name and the body that knows the first by it, in brackets
@@ -760,36 +763,191 @@ by_token : (v : Version) (d : ℕ) (c : Counts) (k w : Tok) (tokens : List Tok) 
 by_token v d c k w tokens t rest read is reads takes =
     subst (λ (u : Tok). Took v (suc d) c (u ∷ tokens) t rest) (sym is) (takes (subst (λ (u : Tok). read (u ∷ tokens) ≡ got t rest) is reads))
 
+-- an argument was taken
+record TookActual (v : Version) (d : ℕ) (c : Counts) (tokens : List Tok) (a : Actual) (rest : List Tok) : Type 0 where
+  pub spelled : tokens ≡ spell_actual v a ++ rest
+  pub shallow : arguments_depth (with_actual a no_arguments) ≤ d
+  pub few : (counts_with_actual c a).expressions ≤ 100000
+  pub known : WritesArguments v d (with_actual a no_arguments)
+
+took_actual_as : (v : Version) (d : ℕ) (c : Counts) (tokens : List Tok) (a b : Actual) (r u : List Tok) → got a r ≡ got b u → TookActual v d c tokens a r → TookActual v d c tokens b u
+took_actual_as v d c tokens a b r u is took =
+    let same : Same a b r u = got_same a b r u is in
+    subst (λ (b : Actual). TookActual v d c tokens b u) same.value (subst (λ (r : List Tok). TookActual v d c tokens a r) same.rest took)
+
+argument_from_takes : (v : Version) (d : ℕ) (c : Counts) (o : Option (List Tok)) (tokens : List Tok) (a : Actual) (rest : List Tok) → Takes v d → c.expressions ≤ 100000 → behind_sf tokens ≡ o
+    → argument_from d v (parse_term d v) c o tokens ≡ got a rest → TookActual v d c tokens a rest
+argument_from_takes v d c (Some r0) tokens a rest part few found is =
+    bind_got (λ t r. got (actual_process t) r) (parse_term d v c r0) a rest is (λ t r1 at_t is_t.
+    let one : Took v d c r0 t r1 = part c r0 t r1 few at_t in
+    took_actual_as v d c tokens (actual_process t) a r1 rest is_t (record {
+      spelled = sf_takes tokens r0 found ∙ ap (λ r. keyword words.SignalFunction ∷ r) one.spelled;
+      shallow = omega (arith, one.shallow);
+      few = one.few_expressions;
+      known = (one.known, tt);
+    }))
+argument_from_takes v d c None tokens a rest part few found is =
+    bind_got (λ e r. got (actual_value e) r) (parse_expression d v c tokens) a rest is (λ e r1 at_e is_e.
+    let one : TookExpression v d c tokens e r1 = expression_takes v d c tokens e r1 at_e in
+    took_actual_as v d c tokens (actual_value e) a r1 rest is_e (record { spelled = one.spelled; shallow = omega (arith, one.shallow); few = one.few; known = (one.known, tt) }))
+
+argument_takes : (v : Version) (d : ℕ) (c : Counts) (tokens : List Tok) (a : Actual) (rest : List Tok) → Takes v d → c.expressions ≤ 100000
+    → parse_argument d v (parse_term d v) c tokens ≡ got a rest → TookActual v d c tokens a rest
+unfolding parse_argument
+argument_takes v d c tokens a rest part few is = argument_from_takes v d c (behind_sf tokens) tokens a rest part few refl is
+
+-- arguments were taken that are spelled so
+pub record TookArguments (v : Version) (d : ℕ) (c : Counts) (spelled : List Tok) (tokens : List Tok) (vs : Arguments) (rest : List Tok) : Type 0 where
+  pub split : tokens ≡ spelled ++ rest
+  pub shallow : arguments_depth vs ≤ d
+  pub few : c.expressions + expressions_in_arguments vs ≤ 100000
+  pub known : WritesArguments v d vs
+
+-- the arguments of a call
+abbrev pub TookListed : Version → ℕ → Counts → List Tok → Arguments → List Tok → Type 0
+TookListed v d c tokens vs rest = TookArguments v d c (spell_listed (spell_arguments v vs)) tokens vs rest
+
+-- further arguments
+abbrev TookFurther : Version → ℕ → Counts → List Tok → Arguments → List Tok → Type 0
+TookFurther v d c tokens vs rest = TookArguments v d c (spell_further (spell_arguments v vs)) tokens vs rest
+
+-- arguments, of which there is one at least
+record TookSome (v : Version) (d : ℕ) (c : Counts) (tokens : List Tok) (vs : Arguments) (rest : List Tok) : Type 0 where
+  pub listed : TookListed v d c tokens vs rest
+  pub further : spell_further (spell_arguments v vs) ≡ symbol symbols.Comma ∷ spell_listed (spell_arguments v vs)
+
+-- an argument in front of further ones
+some_took : (v : Version) (d : ℕ) (c : Counts) (a : Actual) (vs : Arguments) (tokens r1 rest : List Tok) → TookActual v d c tokens a r1 → TookFurther v d (counts_with_actual c a) r1 vs rest → TookSome v d c tokens (with_actual a vs) rest
+some_took v d c (actual_value e) vs tokens r1 rest one others = record {
+  listed = record {
+    split = one.spelled ∙ ap (λ r. spell_expression v e ++ r) others.split ∙ sym (append_assoc (spell_expression v e) (spell_further (spell_arguments v vs)) rest);
+    shallow = omega (arith, one.shallow, others.shallow);
+    few = omega (arith, others.few);
+    known = (one.known.0, others.known);
+  };
+  further = refl;
+}
+some_took v d c (actual_process t) vs tokens r1 rest one others =
+    let front : List Tok = keyword words.SignalFunction ∷ spell_term v t in
+    record {
+      listed = record {
+        split = one.spelled ∙ ap (λ r. front ++ r) others.split ∙ sym (append_assoc front (spell_further (spell_arguments v vs)) rest);
+        shallow = omega (arith, one.shallow, others.shallow);
+        few = omega (arith, others.few);
+        known = (one.known.0, others.known);
+      };
+      further = refl;
+    }
+
+no_arguments_took : (v : Version) (d : ℕ) (c : Counts) (tokens rest : List Tok) → c.expressions ≤ 100000 → tokens ≡ symbol symbols.Close ∷ rest → TookArguments v d c (symbol symbols.Close ∷ []) tokens no_arguments rest
+no_arguments_took v d c tokens rest few closed = record { split = closed; shallow = omega arith; few = omega (arith, few); known = tt }
+
+took_some_as : (v : Version) (d : ℕ) (c : Counts) (tokens : List Tok) (vs ws : Arguments) (r u : List Tok) → got vs r ≡ got ws u → TookSome v d c tokens vs r → TookSome v d c tokens ws u
+took_some_as v d c tokens vs ws r u is took =
+    let same : Same vs ws r u = got_same vs ws r u is in
+    subst (λ (ws : Arguments). TookSome v d c tokens ws u) same.value (subst (λ (r : List Tok). TookSome v d c tokens vs r) same.rest took)
+
+took_further_as : (v : Version) (d : ℕ) (c : Counts) (tokens : List Tok) (vs ws : Arguments) (r u : List Tok) → got vs r ≡ got ws u → TookFurther v d c tokens vs r → TookFurther v d c tokens ws u
+took_further_as v d c tokens vs ws r u is took =
+    let same : Same vs ws r u = got_same vs ws r u is in
+    subst (λ (ws : Arguments). TookFurther v d c tokens ws u) same.value (subst (λ (r : List Tok). TookFurther v d c tokens vs r) same.rest took)
+
+took_listed_as : (v : Version) (d : ℕ) (c : Counts) (tokens : List Tok) (vs ws : Arguments) (r u : List Tok) → got vs r ≡ got ws u → TookListed v d c tokens vs r → TookListed v d c tokens ws u
+took_listed_as v d c tokens vs ws r u is took =
+    let same : Same vs ws r u = got_same vs ws r u is in
+    subst (λ (ws : Arguments). TookListed v d c tokens ws u) same.value (subst (λ (r : List Tok). TookListed v d c tokens vs r) same.rest took)
+
+-- each arguments that are read, so many at most, were taken
+abbrev TakesSome : Version → ℕ → ℕ → Type 0
+TakesSome v d n = (c : Counts) (tokens : List Tok) (vs : Arguments) (rest : List Tok) → c.expressions ≤ 100000 → parse_arguments n d v (parse_term d v) c tokens ≡ got vs rest → TookSome v d c tokens vs rest
+
+further_from_takes : (v : Version) (d n : ℕ) (c : Counts) (more : Bool) (tokens r0 : List Tok) (vs : Arguments) (rest : List Tok) → TakesSome v d n → c.expressions ≤ 100000 → tokens ≡ separator_token more ∷ r0
+    → further_from no_arguments (parse_arguments n d v (parse_term d v) c) more r0 ≡ got vs rest → TookFurther v d c tokens vs rest
+further_from_takes v d n c true tokens r0 vs rest takes few comma is =
+    let some : TookSome v d c r0 vs rest = takes c r0 vs rest few is in
+    record {
+      split = comma ∙ ap (λ r. symbol symbols.Comma ∷ r) some.listed.split ∙ ap (λ r. r ++ rest) (sym some.further);
+      shallow = some.listed.shallow;
+      few = some.listed.few;
+      known = some.listed.known;
+    }
+further_from_takes v d n c false tokens r0 vs rest takes few closed is = took_further_as v d c tokens no_arguments vs r0 rest is (no_arguments_took v d c tokens r0 few closed)
+
+further_takes : (v : Version) (d n : ℕ) (c : Counts) (tokens : List Tok) (vs : Arguments) (rest : List Tok) → TakesSome v d n → c.expressions ≤ 100000
+    → parse_further no_arguments (parse_arguments n d v (parse_term d v) c) tokens ≡ got vs rest → TookFurther v d c tokens vs rest
+further_takes v d n c tokens vs rest takes few is =
+    bind_got (λ more r. further_from no_arguments (parse_arguments n d v (parse_term d v) c) more r) (parse_separator tokens) vs rest is (λ more r0 at is_more.
+    further_from_takes v d n c more tokens r0 vs rest takes few (separator_takes tokens more r0 at) is_more)
+
+some_takes : (v : Version) (d n : ℕ) → Takes v d → TakesSome v d n
+unfolding parse_arguments
+some_takes v d zero part c tokens vs rest few is = cc
+some_takes v d (suc n) part c tokens vs rest few is =
+    bind_got (λ a r. parse_further no_arguments (parse_arguments n d v (parse_term d v) (counts_with_actual c a)) r and_then λ ws r. got (with_actual a ws) r) (parse_argument d v (parse_term d v) c tokens) vs rest is (λ a r1 at_a is_a.
+    bind_got (λ ws r. got (with_actual a ws) r) (parse_further no_arguments (parse_arguments n d v (parse_term d v) (counts_with_actual c a)) r1) vs rest is_a (λ ws r2 at_ws is_ws.
+    let one : TookActual v d c tokens a r1 = argument_takes v d c tokens a r1 part few at_a in
+    let others : TookFurther v d (counts_with_actual c a) r1 ws r2 = further_takes v d n (counts_with_actual c a) r1 ws r2 (some_takes v d n part) one.few at_ws in
+    took_some_as v d c tokens (with_actual a ws) vs r2 rest is_ws (some_took v d c a ws tokens r1 r2 one others)))
+
+listed_takes : (v : Version) (d : ℕ) (c : Counts) (o : Option (List Tok)) (tokens : List Tok) (vs : Arguments) (rest : List Tok) → Takes v d → c.expressions ≤ 100000 → behind_close tokens ≡ o
+    → listed_from no_arguments (λ tokens. parse_arguments (suc (length tokens)) d v (parse_term d v) c tokens) o tokens ≡ got vs rest → TookListed v d c tokens vs rest
+listed_takes v d c (Some r0) tokens vs rest part few found is = took_listed_as v d c tokens no_arguments vs r0 rest is (no_arguments_took v d c tokens r0 few (close_takes tokens r0 found))
+listed_takes v d c None tokens vs rest part few found is = (some_takes v d (suc (length tokens)) part c tokens vs rest few is).listed
+
+-- the arguments of a call were taken
+pub arguments_take : (v : Version) (d : ℕ) (c : Counts) (tokens : List Tok) (vs : Arguments) (rest : List Tok) → Takes v d → c.expressions ≤ 100000
+    → parse_listed no_arguments (λ tokens. parse_arguments (suc (length tokens)) d v (parse_term d v) c tokens) tokens ≡ got vs rest → TookListed v d c tokens vs rest
+arguments_take v d c tokens vs rest part few is = listed_takes v d c (behind_close tokens) tokens vs rest part few refl is
+
+-- a name and arguments in brackets
+call_takes : (v : Version) (d : ℕ) (c : Counts) (start : List Tok) (t : Term) (rest : List Tok) → Takes v d → c.expressions ≤ 100000 → parse_call d v (parse_term d v) c start ≡ got t rest → Took v (suc d) c start t rest
+unfolding parse_call
+call_takes v d c start t rest part few is =
+    let arguments : List Tok → Read Arguments = λ r. parse_listed no_arguments (λ tokens. parse_arguments (suc (length tokens)) d v (parse_term d v) c tokens) r in
+    bind_got (λ g r. parse_symbol symbols.Open r and_then λ _ r. arguments r and_then λ vs r. term_read c (reference (call g vs)) start r) (parse_name start) t rest is (λ g r0 at_g is_g.
+    bind_got (λ _ r. arguments r and_then λ vs r. term_read c (reference (call g vs)) start r) (parse_symbol symbols.Open r0) t rest is_g (λ u r1 opened is_u.
+    bind_got (λ vs r. term_read c (reference (call g vs)) start r) (arguments r1) t rest is_u (λ vs r2 at_vs is_vs.
+    within_takes (c.terms + terms_in (reference (call g vs))) (reference (call g vs)) t start r2 rest is_vs (λ few_terms same.
+    let took : TookListed v d c r1 vs r2 = arguments_take v d c r1 vs r2 part few at_vs in
+    took_as v (suc d) c start (reference (call g vs)) t r2 rest same (record {
+      spelled = rw (name_takes start g r0 at_g, symbol_takes symbols.Open r0 u r1 opened, took.split) refl;
+      shallow = omega (arith, took.shallow);
+      few_terms = few_terms;
+      few_expressions = took.few;
+      known = took.known;
+    })))))
+
 behind_head_takes : (v : Version) (d : ℕ) (c : Counts) (h : Option Head) (k : Tok) (tokens : List Tok) (t : Term) (rest : List Tok) → Takes v d → head_of k ≡ h → c.expressions ≤ 100000
     → parse_behind_head d v (parse_term d v) c h (k ∷ tokens) tokens ≡ got t rest → Took v (suc d) c (k ∷ tokens) t rest
 behind_head_takes v d c (Some (heads.Bare b)) k tokens t rest part found few is =
-    let head : IsHeadToken k (heads.Bare b) = head_takes k (heads.Bare b) found in
+    let head : IsHeadToken k (heads.Bare b) = head_takes k (heads.Bare b) tt found in
     within_takes (c.terms + 1) (primitive (bare b)) t (k ∷ tokens) tokens rest is (λ few_terms same.
     took_as v (suc d) c (k ∷ tokens) (primitive (bare b)) t tokens rest same
     (record { spelled = ap (λ w. w ∷ tokens) head.token; shallow = omega arith; few_terms = few_terms; few_expressions = omega arith; known = tt }))
 behind_head_takes v d c (Some (heads.WithValue w)) k tokens t rest part found few is =
-    let head : IsHeadToken k (heads.WithValue w) = head_takes k (heads.WithValue w) found in
+    let head : IsHeadToken k (heads.WithValue w) = head_takes k (heads.WithValue w) tt found in
     by_token v d c k (keyword (value_word w)) tokens t rest (λ start. parse_value d v c w start tokens) head.token is (value_takes v d c w tokens t rest head.begins)
 behind_head_takes v d c (Some (heads.Timed w)) k tokens t rest part found few is =
-    by_token v d c k (keyword (timing_word w)) tokens t rest (λ start. parse_timed d v c w start tokens) (head_takes k (heads.Timed w) found).token is (timed_takes v d c w tokens t rest)
+    by_token v d c k (keyword (timing_word w)) tokens t rest (λ start. parse_timed d v c w start tokens) (head_takes k (heads.Timed w) tt found).token is (timed_takes v d c w tokens t rest)
 behind_head_takes v d c (Some heads.Never) k tokens t rest part found few is =
-    by_token v d c k (keyword words.Never) tokens t rest (λ start. parse_never d v c start tokens) (head_takes k heads.Never found).token is (never_takes v d c tokens t rest few)
+    by_token v d c k (keyword words.Never) tokens t rest (λ start. parse_never d v c start tokens) (head_takes k heads.Never tt found).token is (never_takes v d c tokens t rest few)
 behind_head_takes v d c (Some heads.Arrow) k tokens t rest part found few is =
-    by_token v d c k (keyword words.Arr) tokens t rest (λ start. parse_arrow d v c start tokens) (head_takes k heads.Arrow found).token is (arrow_takes v d c tokens t rest)
+    by_token v d c k (keyword words.Arr) tokens t rest (λ start. parse_arrow d v c start tokens) (head_takes k heads.Arrow tt found).token is (arrow_takes v d c tokens t rest)
 behind_head_takes v d c (Some (heads.Accumulated a)) k tokens t rest part found few is =
-    by_token v d c k (keyword (accumulation_word a)) tokens t rest (λ start. parse_accumulated d v c a start tokens) (head_takes k (heads.Accumulated a) found).token is (accumulated_takes v d c a tokens t rest)
+    by_token v d c k (keyword (accumulation_word a)) tokens t rest (λ start. parse_accumulated d v c a start tokens) (head_takes k (heads.Accumulated a) tt found).token is (accumulated_takes v d c a tokens t rest)
 behind_head_takes v d c (Some heads.Joined) k tokens t rest part found few is =
-    by_token v d c k (symbol symbols.Open) tokens t rest (λ start. parse_joined (parse_term d v) c start tokens) (head_takes k heads.Joined found).token is (joined_takes v d c tokens t rest part few)
+    by_token v d c k (symbol symbols.Open) tokens t rest (λ start. parse_joined (parse_term d v) c start tokens) (head_takes k heads.Joined tt found).token is (joined_takes v d c tokens t rest part few)
 behind_head_takes v d c (Some (heads.Sided s)) k tokens t rest part found few is =
-    by_token v d c k (keyword (side_word s)) tokens t rest (λ start. parse_sided (parse_term d v) c s start tokens) (head_takes k (heads.Sided s) found).token is (sided_takes v d c s tokens t rest part few)
+    by_token v d c k (keyword (side_word s)) tokens t rest (λ start. parse_sided (parse_term d v) c s start tokens) (head_takes k (heads.Sided s) tt found).token is (sided_takes v d c s tokens t rest part few)
 behind_head_takes v d c (Some (heads.Headed h)) k tokens t rest part found few is =
-    by_token v d c k (heading_token h) tokens t rest (λ start. parse_headed d v (parse_term d v) c h start tokens) (head_takes k (heads.Headed h) found).token is (headed_takes v d c h tokens t rest part)
+    by_token v d c k (heading_token h) tokens t rest (λ start. parse_headed d v (parse_term d v) c h start tokens) (head_takes k (heads.Headed h) tt found).token is (headed_takes v d c h tokens t rest part)
 behind_head_takes v d c (Some (heads.Switching w)) k tokens t rest part found few is =
-    by_token v d c k (keyword (switching_word w)) tokens t rest (λ start. parse_switching d (parse_term d v) c w start tokens) (head_takes k (heads.Switching w) found).token is (switching_takes v d c w tokens t rest part few)
+    by_token v d c k (keyword (switching_word w)) tokens t rest (λ start. parse_switching d (parse_term d v) c w start tokens) (head_takes k (heads.Switching w) tt found).token is (switching_takes v d c w tokens t rest part few)
 behind_head_takes v d c (Some heads.Run) k tokens t rest part found few is =
-    by_token v d c k (keyword words.Run) tokens t rest (λ start. parse_run c start tokens) (head_takes k heads.Run found).token is (run_takes v d c tokens t rest few)
+    by_token v d c k (keyword words.Run) tokens t rest (λ start. parse_run c start tokens) (head_takes k heads.Run tt found).token is (run_takes v d c tokens t rest few)
 behind_head_takes v d c (Some (heads.Keeping w)) k tokens t rest part found few is =
-    by_token v d c k (keyword (keeping_word w)) tokens t rest (λ start. parse_keeping d (parse_term d v) c w start tokens) (head_takes k (heads.Keeping w) found).token is (keeping_takes v d c w tokens t rest part few)
+    by_token v d c k (keyword (keeping_word w)) tokens t rest (λ start. parse_keeping d (parse_term d v) c w start tokens) (head_takes k (heads.Keeping w) tt found).token is (keeping_takes v d c w tokens t rest part few)
+behind_head_takes v d c (Some heads.Call) k tokens t rest part found few is = call_takes v d c (k ∷ tokens) t rest part few is
 behind_head_takes v d c None k tokens t rest part found few is = cc
 
 pub term_takes : (v : Version) (d : ℕ) → Takes v d
@@ -830,16 +988,141 @@ signature_takes v tokens s rest is =
     } in
     subst (λ (s : Kind × Kind). TookSignature v tokens s rest) same.value (subst (λ (r : List Tok). TookSignature v tokens (a, b) r) same.rest took))))))
 
-pub heading_takes : (tokens : List Tok) (n : Name) (rest : List Tok) → parse_heading tokens ≡ got n rest
-    → tokens ≡ keyword words.Template ∷ name n ∷ symbol symbols.Open ∷ symbol symbols.Close ∷ rest
+-- what a name stands for was taken
+record TookNameKind (v : Version) (tokens : List Tok) (k : NameKind) (rest : List Tok) : Type 0 where
+  pub spelled : tokens ≡ spell_name_kind v k ++ rest
+  pub known : WritesNameKind v k
+
+took_name_kind_as : (v : Version) (tokens : List Tok) (j k : NameKind) (r u : List Tok) → got j r ≡ got k u → TookNameKind v tokens j r → TookNameKind v tokens k u
+took_name_kind_as v tokens j k r u is took =
+    let same : Same j k r u = got_same j k r u is in
+    subst (λ (k : NameKind). TookNameKind v tokens k u) same.value (subst (λ (r : List Tok). TookNameKind v tokens j r) same.rest took)
+
+parameter_kind_from_takes : (v : Version) (t : Kind) (o : Option (List Tok)) (tokens r1 : List Tok) (k : NameKind) (rest : List Tok) → TookType v 64 0 tokens t r1 → behind_leads r1 ≡ o
+    → parameter_kind_from v t o r1 ≡ got k rest → TookNameKind v tokens k rest
+parameter_kind_from_takes v t (Some r2) tokens r1 k rest one found is =
+    bind_got (λ u r. got (process_kind t u) r) (parse_type v r2) k rest is (λ u r3 at_u is_u.
+    let two : TookType v 64 0 r2 u r3 = inner_type_takes v 64 r2 0 r2 u r3 at_u in
+    took_name_kind_as v tokens (process_kind t u) k r3 rest is_u (record {
+      spelled = rw (one.spelled, leads_takes r1 r2 found, two.spelled, append_assoc (spell_type v t) (symbol symbols.Leads ∷ spell_type v u) r3) refl;
+      known = (written_type v 64 tokens t r1 one, written_type v 64 r2 u r3 two);
+    }))
+parameter_kind_from_takes v t None tokens r1 k rest one found is =
+    took_name_kind_as v tokens (value_kind t) k r1 rest is (record { spelled = one.spelled; known = written_type v 64 tokens t r1 one })
+
+name_kind_takes : (v : Version) (tokens : List Tok) (k : NameKind) (rest : List Tok) → parse_name_kind v tokens ≡ got k rest → TookNameKind v tokens k rest
+unfolding parse_name_kind
+name_kind_takes v tokens k rest is =
+    bind_got (λ t r. parameter_kind_from v t (behind_leads r) r) (parse_type v tokens) k rest is (λ t r1 at_t is_t.
+    parameter_kind_from_takes v t (behind_leads r1) tokens r1 k rest (inner_type_takes v 64 tokens 0 tokens t r1 at_t) refl is_t)
+
+pub record TookParameter (v : Version) (tokens : List Tok) (q : Name × NameKind) (rest : List Tok) : Type 0 where
+  pub spelled : tokens ≡ spell_parameter v q ++ rest
+  pub known : WritesNameKind v q.1
+
+pub parameter_takes : (v : Version) (tokens : List Tok) (q : Name × NameKind) (rest : List Tok) → parse_parameter v tokens ≡ got q rest → TookParameter v tokens q rest
+unfolding parse_parameter
+parameter_takes v tokens q rest is =
+    bind_got (λ x r. parse_symbol symbols.Colon r and_then λ _ r. parse_name_kind v r and_then λ k r. got (x, k) r) (parse_name tokens) q rest is (λ x r0 at_x is_x.
+    bind_got (λ _ r. parse_name_kind v r and_then λ k r. got (x, k) r) (parse_symbol symbols.Colon r0) q rest is_x (λ u r1 colon is_u.
+    bind_got (λ k r. got (x, k) r) (parse_name_kind v r1) q rest is_u (λ k r2 at_k is_k.
+    let one : TookNameKind v r1 k r2 = name_kind_takes v r1 k r2 at_k in
+    let same : Same (x, k) q r2 rest = got_same (x, k) q r2 rest is_k in
+    let took : TookParameter v tokens (x, k) r2 = record { spelled = rw (name_takes tokens x r0 at_x, symbol_takes symbols.Colon r0 u r1 colon, one.spelled) refl; known = one.known } in
+    subst (λ (q : Name × NameKind). TookParameter v tokens q rest) same.value (subst (λ (r : List Tok). TookParameter v tokens (x, k) r) same.rest took))))
+
+abbrev AreWritten : Version → Bindings → Type 0
+AreWritten v qs = All (λ (q : Name × NameKind). WritesNameKind v q.1) qs
+
+-- parameters were taken that are spelled so
+record TookBindings (v : Version) (spelled : List Tok) (tokens : List Tok) (qs : Bindings) (rest : List Tok) : Type 0 where
+  pub split : tokens ≡ spelled ++ rest
+  pub known : AreWritten v qs
+
+-- the parameters of a template
+abbrev TookParameters : Version → List Tok → Bindings → List Tok → Type 0
+TookParameters v tokens qs rest = TookBindings v (spell_listed (map (spell_parameter v) qs)) tokens qs rest
+
+-- further parameters
+abbrev TookMore : Version → List Tok → Bindings → List Tok → Type 0
+TookMore v tokens qs rest = TookBindings v (spell_further (map (spell_parameter v) qs)) tokens qs rest
+
+-- parameters, of which there is one at least
+record TookAny (v : Version) (tokens : List Tok) (qs : Bindings) (rest : List Tok) : Type 0 where
+  pub listed : TookParameters v tokens qs rest
+  pub further : spell_further (map (spell_parameter v) qs) ≡ symbol symbols.Comma ∷ spell_listed (map (spell_parameter v) qs)
+
+took_any_as : (v : Version) (tokens : List Tok) (ps qs : Bindings) (r u : List Tok) → got ps r ≡ got qs u → TookAny v tokens ps r → TookAny v tokens qs u
+took_any_as v tokens ps qs r u is took =
+    let same : Same ps qs r u = got_same ps qs r u is in
+    subst (λ (qs : Bindings). TookAny v tokens qs u) same.value (subst (λ (r : List Tok). TookAny v tokens ps r) same.rest took)
+
+took_more_as : (v : Version) (tokens : List Tok) (ps qs : Bindings) (r u : List Tok) → got ps r ≡ got qs u → TookMore v tokens ps r → TookMore v tokens qs u
+took_more_as v tokens ps qs r u is took =
+    let same : Same ps qs r u = got_same ps qs r u is in
+    subst (λ (qs : Bindings). TookMore v tokens qs u) same.value (subst (λ (r : List Tok). TookMore v tokens ps r) same.rest took)
+
+took_parameters_as : (v : Version) (tokens : List Tok) (ps qs : Bindings) (r u : List Tok) → got ps r ≡ got qs u → TookParameters v tokens ps r → TookParameters v tokens qs u
+took_parameters_as v tokens ps qs r u is took =
+    let same : Same ps qs r u = got_same ps qs r u is in
+    subst (λ (qs : Bindings). TookParameters v tokens qs u) same.value (subst (λ (r : List Tok). TookParameters v tokens ps r) same.rest took)
+
+no_parameters_took : (v : Version) (tokens rest : List Tok) → tokens ≡ symbol symbols.Close ∷ rest → TookBindings v (symbol symbols.Close ∷ []) tokens [] rest
+no_parameters_took v tokens rest closed = record { split = closed; known = All-nil (λ (q : Name × NameKind). WritesNameKind v q.1) }
+
+-- each parameters that are read, so many at most, were taken
+abbrev TakesAny : Version → ℕ → Type 0
+TakesAny v n = (tokens : List Tok) (qs : Bindings) (rest : List Tok) → parse_parameters n v tokens ≡ got qs rest → TookAny v tokens qs rest
+
+more_from_takes : (v : Version) (n : ℕ) (more : Bool) (tokens r0 : List Tok) (qs : Bindings) (rest : List Tok) → TakesAny v n → tokens ≡ separator_token more ∷ r0
+    → further_from [] (parse_parameters n v) more r0 ≡ got qs rest → TookMore v tokens qs rest
+more_from_takes v n true tokens r0 qs rest takes comma is =
+    let any : TookAny v r0 qs rest = takes r0 qs rest is in
+    record { split = comma ∙ ap (λ r. symbol symbols.Comma ∷ r) any.listed.split ∙ ap (λ r. r ++ rest) (sym any.further); known = any.listed.known }
+more_from_takes v n false tokens r0 qs rest takes closed is = took_more_as v tokens [] qs r0 rest is (no_parameters_took v tokens r0 closed)
+
+any_takes : (v : Version) (n : ℕ) → TakesAny v n
+unfolding parse_parameters
+any_takes v zero tokens qs rest is = cc
+any_takes v (suc n) tokens qs rest is =
+    bind_got (λ q r. parse_further [] (parse_parameters n v) r and_then λ ps r. got (q ∷ ps) r) (parse_parameter v tokens) qs rest is (λ q r1 at_q is_q.
+    bind_got (λ ps r. got (q ∷ ps) r) (parse_further [] (parse_parameters n v) r1) qs rest is_q (λ ps r2 at_ps is_ps.
+    bind_got (λ more r. further_from [] (parse_parameters n v) more r) (parse_separator r1) ps r2 at_ps (λ more r0 at is_more.
+    let one : TookParameter v tokens q r1 = parameter_takes v tokens q r1 at_q in
+    let others : TookMore v r1 ps r2 = more_from_takes v n more r1 r0 ps r2 (any_takes v n) (separator_takes r1 more r0 at) is_more in
+    took_any_as v tokens (q ∷ ps) qs r2 rest is_ps (record {
+      listed = record {
+        split = one.spelled ∙ ap (λ r. spell_parameter v q ++ r) others.split ∙ sym (append_assoc (spell_parameter v q) (spell_further (map (spell_parameter v) ps)) r2);
+        known = All-cons (λ (q : Name × NameKind). WritesNameKind v q.1) q ps one.known others.known;
+      };
+      further = refl;
+    }))))
+
+parameters_from_takes : (v : Version) (o : Option (List Tok)) (tokens : List Tok) (qs : Bindings) (rest : List Tok) → behind_close tokens ≡ o
+    → listed_from [] (λ tokens. parse_parameters (suc (length tokens)) v tokens) o tokens ≡ got qs rest → TookParameters v tokens qs rest
+parameters_from_takes v (Some r0) tokens qs rest found is = took_parameters_as v tokens [] qs r0 rest is (no_parameters_took v tokens r0 (close_takes tokens r0 found))
+parameters_from_takes v None tokens qs rest found is = (any_takes v (suc (length tokens)) tokens qs rest is).listed
+
+-- a template's name and its parameters were taken
+pub record TookHeading (v : Version) (tokens : List Tok) (h : Name × Bindings) (rest : List Tok) : Type 0 where
+  pub spelled : tokens ≡ keyword words.Template ∷ name h.0 ∷ symbol symbols.Open ∷ (spell_listed (map (spell_parameter v) h.1) ++ rest)
+  pub known : AreWritten v h.1
+
+pub heading_takes : (v : Version) (tokens : List Tok) (h : Name × Bindings) (rest : List Tok) → parse_heading v tokens ≡ got h rest → TookHeading v tokens h rest
 unfolding parse_heading
-heading_takes tokens n rest is =
-    bind_got (λ _ r. parse_name r and_then λ n r. parse_symbol symbols.Open r and_then λ _ r. parse_symbol symbols.Close r and_then λ _ r. got n r) (parse_keyword words.Template tokens) n rest is (λ u r1 word is_word.
-    bind_got (λ n r. parse_symbol symbols.Open r and_then λ _ r. parse_symbol symbols.Close r and_then λ _ r. got n r) (parse_name r1) n rest is_word (λ m r2 named is_named.
-    bind_got (λ _ r. parse_symbol symbols.Close r and_then λ _ r. got m r) (parse_symbol symbols.Open r2) n rest is_named (λ v r3 opened is_opened.
-    bind_got (λ _ r. got m r) (parse_symbol symbols.Close r3) n rest is_opened (λ w r4 closed is_closed.
-    let same : Same m n r4 rest = got_same m n r4 rest is_closed in
-    rw (keyword_takes words.Template tokens u r1 word, name_takes r1 m r2 named, symbol_takes symbols.Open r2 v r3 opened, symbol_takes symbols.Close r3 w r4 closed, same.value, same.rest) refl))))
+heading_takes v tokens h rest is =
+    let parameters : List Tok → Read Bindings = λ r. parse_listed [] (λ tokens. parse_parameters (suc (length tokens)) v tokens) r in
+    bind_got (λ _ r. parse_name r and_then λ n r. parse_symbol symbols.Open r and_then λ _ r. parameters r and_then λ qs r. got (n, qs) r) (parse_keyword words.Template tokens) h rest is (λ u r1 word is_word.
+    bind_got (λ n r. parse_symbol symbols.Open r and_then λ _ r. parameters r and_then λ qs r. got (n, qs) r) (parse_name r1) h rest is_word (λ n r2 named is_named.
+    bind_got (λ _ r. parameters r and_then λ qs r. got (n, qs) r) (parse_symbol symbols.Open r2) h rest is_named (λ w r3 opened is_opened.
+    bind_got (λ qs r. got (n, qs) r) (parameters r3) h rest is_opened (λ qs r4 at_qs is_qs.
+    let took : TookParameters v r3 qs r4 = parameters_from_takes v (behind_close r3) r3 qs r4 refl at_qs in
+    let same : Same (n, qs) h r4 rest = got_same (n, qs) h r4 rest is_qs in
+    let heading : TookHeading v tokens (n, qs) r4 = record {
+      spelled = rw (keyword_takes words.Template tokens u r1 word, name_takes r1 n r2 named, symbol_takes symbols.Open r2 w r3 opened, took.split) refl;
+      known = took.known;
+    } in
+    subst (λ (h : Name × Bindings). TookHeading v tokens h rest) same.value (subst (λ (r : List Tok). TookHeading v tokens (n, qs) r) same.rest heading)))))
 
 pub record TookTemplate (v : Version) (c : Counts) (tokens : List Tok) (t : Template) (rest : List Tok) : Type 0 where
   pub spelled : tokens ≡ spell_template v t ++ rest
@@ -849,33 +1132,30 @@ pub record TookTemplate (v : Version) (c : Counts) (tokens : List Tok) (t : Temp
   pub few_expressions : c.expressions + expressions_in t.body ≤ 100000
 
 -- the parts of a template, one behind the other
-template_took : (v : Version) (c : Counts) (tokens r1 r2 r3 rest : List Tok) (n : Name) (s : Kind × Kind) (t : Term)
-    → tokens ≡ keyword words.Template ∷ name n ∷ symbol symbols.Open ∷ symbol symbols.Close ∷ r1
-    → TookSignature v r1 s r2 → Took v 64 c r2 t r3 → r3 ≡ symbol symbols.Semicolon ∷ rest → TookTemplate v c tokens (template_of n s t) rest
-template_took v c tokens r1 r2 r3 rest n s t titled signed took closed = record {
-  spelled = rw (
-    titled,
-    signed.spelled,
-    took.spelled,
-    closed,
-    append_assoc (spell_signature v (template_of n s t)) (spell_term v t ++ (symbol symbols.Semicolon ∷ [])) rest,
-    append_assoc (spell_term v t) (symbol symbols.Semicolon ∷ []) rest,
-  ) refl;
-  typed = record { input = signed.input; output = signed.output; body = took.known };
-  shallow = took.shallow;
-  few_terms = took.few_terms;
-  few_expressions = took.few_expressions;
-}
+template_took : (v : Version) (c : Counts) (tokens r1 r2 r3 rest : List Tok) (h : Name × Bindings) (s : Kind × Kind) (t : Term)
+    → TookHeading v tokens h r1 → TookSignature v r1 s r2 → Took v 64 c r2 t r3 → r3 ≡ symbol symbols.Semicolon ∷ rest → TookTemplate v c tokens (template_of h s t) rest
+template_took v c tokens r1 r2 r3 rest h s t titled signed took closed =
+    let heading : List Tok = spell_heading v (template_of h s t) in
+    let signature : List Tok = spell_signature v (template_of h s t) in
+    let ending : List Tok = spell_term v t ++ (symbol symbols.Semicolon ∷ []) in
+    let behind : r1 ≡ (signature ++ ending) ++ rest = rw (signed.spelled, took.spelled, closed, append_assoc signature ending rest, append_assoc (spell_term v t) (symbol symbols.Semicolon ∷ []) rest) refl in
+    record {
+      spelled = titled.spelled ∙ ap (λ r. heading ++ r) behind ∙ sym (append_assoc heading (signature ++ ending) rest);
+      typed = record { parameters = titled.known; input = signed.input; output = signed.output; body = took.known };
+      shallow = took.shallow;
+      few_terms = took.few_terms;
+      few_expressions = took.few_expressions;
+    }
 
 pub template_takes : (v : Version) (c : Counts) (tokens : List Tok) (t : Template) (rest : List Tok) → c.expressions ≤ 100000 → parse_template v c tokens ≡ got t rest → TookTemplate v c tokens t rest
 unfolding parse_template
 template_takes v c tokens t rest few is =
-    bind_got (λ n r. parse_signature v r and_then λ s r. parse_term 64 v c r and_then λ b r. parse_symbol symbols.Semicolon r and_then λ _ r. got (template_of n s b) r) (parse_heading tokens) t rest is (λ n r1 heading is_heading.
-    bind_got (λ s r. parse_term 64 v c r and_then λ b r. parse_symbol symbols.Semicolon r and_then λ _ r. got (template_of n s b) r) (parse_signature v r1) t rest is_heading (λ s r2 signed is_signed.
-    bind_got (λ b r. parse_symbol symbols.Semicolon r and_then λ _ r. got (template_of n s b) r) (parse_term 64 v c r2) t rest is_signed (λ b r3 at_b is_b.
-    bind_got (λ _ r. got (template_of n s b) r) (parse_symbol symbols.Semicolon r3) t rest is_b (λ u r4 closed is_closed.
-    let same : Same (template_of n s b) t r4 rest = got_same (template_of n s b) t r4 rest is_closed in
-    let took : TookTemplate v c tokens (template_of n s b) r4 = template_took v c tokens r1 r2 r3 r4 n s b (heading_takes tokens n r1 heading) (signature_takes v r1 s r2 signed) (term_takes v 64 c r2 b r3 few at_b) (symbol_takes symbols.Semicolon r3 u r4 closed) in
+    bind_got (λ h r. parse_signature v r and_then λ s r. parse_term 64 v c r and_then λ b r. parse_symbol symbols.Semicolon r and_then λ _ r. got (template_of h s b) r) (parse_heading v tokens) t rest is (λ h r1 heading is_heading.
+    bind_got (λ s r. parse_term 64 v c r and_then λ b r. parse_symbol symbols.Semicolon r and_then λ _ r. got (template_of h s b) r) (parse_signature v r1) t rest is_heading (λ s r2 signed is_signed.
+    bind_got (λ b r. parse_symbol symbols.Semicolon r and_then λ _ r. got (template_of h s b) r) (parse_term 64 v c r2) t rest is_signed (λ b r3 at_b is_b.
+    bind_got (λ _ r. got (template_of h s b) r) (parse_symbol symbols.Semicolon r3) t rest is_b (λ u r4 closed is_closed.
+    let same : Same (template_of h s b) t r4 rest = got_same (template_of h s b) t r4 rest is_closed in
+    let took : TookTemplate v c tokens (template_of h s b) r4 = template_took v c tokens r1 r2 r3 r4 h s b (heading_takes v tokens h r1 heading) (signature_takes v r1 s r2 signed) (term_takes v 64 c r2 b r3 few at_b) (symbol_takes symbols.Semicolon r3 u r4 closed) in
     subst (λ (r : List Tok). TookTemplate v c tokens t r) same.rest (subst (λ (t : Template). TookTemplate v c tokens t r4) same.value took)))))
 
 pub opening_takes : (tokens : List Tok) (v : Version) (rest : List Tok) → parse_opening tokens ≡ got v rest → tokens ≡ keyword words.Network ∷ number (pos (version_number v)) ∷ symbol symbols.Semicolon ∷ rest

@@ -1,5 +1,5 @@
 -- Words and symbols, and the forms that they stand for.
-use Rattle.std.proofs.Common.{◌≡◌, Bool, true, false, List, [], ◌∷◌, ◌++◌, Option, Some, None, option_map, refl, subst}
+use Rattle.std.proofs.Common.{◌≡◌, Bool, true, false, List, [], ◌∷◌, ◌++◌, Option, Some, None, option_map, refl, sym, subst}
 use Rattle.sf_term.specs.declared.form.Bare.TheVariants as bares
 use Rattle.sf_term.specs.declared.form.WithValue.TheVariants as values
 use Rattle.sf_term.specs.declared.form.Timing.TheVariants as timings
@@ -19,6 +19,7 @@ use Rattle.sf_operator.specs.declared.operator.Equality.TheVariants as equalitie
 use Rattle.sf_operator.specs.declared.operator.Comparison.TheVariants as comparisons
 use Rattle.sf_operator.specs.declared.operator.Logic.TheVariants as logics
 use Rattle.sf_operator.specs.declared.operator.Merge.TheVariants as merges
+use Rattle.sf_operator.specs.declared.operator.Mapping.{Mapping}
 use Rattle.sf_operator.specs.declared.operator.Mapping.TheVariants as mappings
 use Rattle.sf_operator.specs.declared.operator.Folding.{Folding}
 use Rattle.sf_operator.specs.declared.operator.Folding.TheVariants as foldings
@@ -27,7 +28,7 @@ use Rattle.sf_lex.specs.declared.word.Keyword.{Keyword}
 use Rattle.sf_lex.specs.declared.word.Keyword.TheVariants as words
 use Rattle.sf_lex.specs.declared.symbol.Symbol.{Symbol}
 use Rattle.sf_lex.specs.declared.symbol.Symbol.TheVariants as symbols
-use Rattle.sf_lex.specs.Tokens.{Tok, keyword, symbol}
+use Rattle.sf_lex.specs.Tokens.{Tok, keyword, name, symbol}
 use Rattle.sf_value.specs.Values.{KeyKind, int_keys, text_keys, nodes}
 use Rattle.sf_grammar.specs.declared.ty.Version.{Version}
 use Rattle.sf_grammar.specs.declared.ty.Version.TheVariants as versions
@@ -41,10 +42,10 @@ use Rattle.sf_grammar.specs.declared.head.ExpressionHead.{ExpressionHead}
 use Rattle.sf_grammar.specs.declared.head.ExpressionHead.TheVariants as expression_heads
 use Rattle.sf_grammar.specs.declared.head.Link.{Link}
 use Rattle.sf_grammar.specs.declared.head.Link.TheVariants as links
-use Rattle.sf_grammar.specs.Spelling.{bare_word, value_word, stands_initially, timing_word, accumulation_word, side_word, heading_token, switching_word, keeping_word, join_symbol, unary_word, takes_brackets, operator_token, stands_between, mapping_word, maps_in_brackets, folding_word, spell_operands, spell_type, spell_keys, type_depth, WritesKeys, WritesType, spell_expression}
-use Rattle.sf_grammar.specs.Reading.{head_of, join_of, operator_of, link_of, expression_head, type_head, word_kind, got, parse_keys, behind_close}
+use Rattle.sf_grammar.specs.Spelling.{bare_word, value_word, stands_initially, timing_word, accumulation_word, side_word, heading_token, switching_word, keeping_word, join_symbol, unary_word, takes_brackets, operator_token, stands_between, mapping_word, maps_in_brackets, folding_word, in_brackets, spell_operand, spell_operands, spell_mapping, spell_mapped_so, spell_pattern, spell_type, spell_keys, type_depth, WritesKeys, WritesType, spell_expression}
+use Rattle.sf_grammar.specs.Reading.{head_of, join_of, operator_of, link_of, expression_head, type_head, word_kind, got, parse_keys, behind_close, behind_leads, behind_sf}
 
--- the first token of a form
+-- the first token of a form; a call begins with any name, of which this is one
 abbrev pub head_token : Head → Tok
 head_token (heads.Bare b) = keyword (bare_word b)
 head_token (heads.WithValue v) = keyword (value_word v)
@@ -58,6 +59,7 @@ head_token (heads.Headed h) = heading_token h
 head_token (heads.Switching w) = keyword (switching_word w)
 head_token heads.Run = keyword words.Run
 head_token (heads.Keeping w) = keyword (keeping_word w)
+head_token heads.Call = name []
 
 -- the form begins with that token: a value stands behind its word
 abbrev pub BeginsSo : Head → Type 0
@@ -95,6 +97,12 @@ head_again (heads.Switching (switches.Recurring observations.Delayed)) begins = 
 head_again heads.Run begins = refl
 head_again (heads.Keeping observations.Immediate) begins = refl
 head_again (heads.Keeping observations.Delayed) begins = refl
+head_again heads.Call begins = refl
+
+-- each form but a call has its own first token
+abbrev pub HasOwnToken : Head → Type 0
+HasOwnToken heads.Call = ⊥
+HasOwnToken h = Unit {0}
 
 -- a token is the first one of a form
 pub record IsHeadToken (t : Tok) (h : Head) : Type 0 where
@@ -104,37 +112,38 @@ pub record IsHeadToken (t : Tok) (h : Head) : Type 0 where
 head_as : (t : Tok) (g h : Head) → Some g ≡ Some h → t ≡ head_token g → BeginsSo g → IsHeadToken t h
 head_as t g h same token begins = let p : g ≡ h = cc in subst (IsHeadToken t) p (record { token = token; begins = begins })
 
-pub head_takes : (t : Tok) (h : Head) → head_of t ≡ Some h → IsHeadToken t h
-head_takes (keyword words.Identity) h e = head_as (keyword words.Identity) (heads.Bare bares.Identity) h e refl tt
-head_takes (keyword words.LocalTime) h e = head_as (keyword words.LocalTime) (heads.Bare bares.LocalTime) h e refl tt
-head_takes (keyword words.Integral) h e = head_as (keyword words.Integral) (heads.Bare bares.Integral) h e refl tt
-head_takes (keyword words.Edge) h e = head_as (keyword words.Edge) (heads.Bare bares.Edge) h e refl tt
-head_takes (keyword words.NotYet) h e = head_as (keyword words.NotYet) (heads.Bare bares.NotYet) h e refl tt
-head_takes (keyword words.Count) h e = head_as (keyword words.Count) (heads.Bare bares.Count) h e refl tt
-head_takes (keyword words.Pre) h e = head_as (keyword words.Pre) (heads.Bare bares.Pre) h e refl tt
-head_takes (keyword words.Constant) h e = head_as (keyword words.Constant) (heads.WithValue values.Constant) h e refl refl
-head_takes (keyword words.IPre) h e = head_as (keyword words.IPre) (heads.WithValue values.InitialPre) h e refl refl
-head_takes (keyword words.Now) h e = head_as (keyword words.Now) (heads.WithValue values.Now) h e refl refl
-head_takes (keyword words.Hold) h e = head_as (keyword words.Hold) (heads.WithValue values.Hold) h e refl refl
-head_takes (keyword words.After) h e = head_as (keyword words.After) (heads.Timed timings.After) h e refl tt
-head_takes (keyword words.Never) h e = head_as (keyword words.Never) heads.Never h e refl tt
-head_takes (keyword words.Arr) h e = head_as (keyword words.Arr) heads.Arrow h e refl tt
-head_takes (keyword words.AccumBy) h e = head_as (keyword words.AccumBy) (heads.Accumulated accumulations.AccumBy) h e refl tt
-head_takes (keyword words.AccumHoldBy) h e = head_as (keyword words.AccumHoldBy) (heads.Accumulated accumulations.AccumHoldBy) h e refl tt
-head_takes (keyword words.Sscan) h e = head_as (keyword words.Sscan) (heads.Accumulated accumulations.Scan) h e refl tt
-head_takes (symbol symbols.Open) h e = head_as (symbol symbols.Open) heads.Joined h e refl tt
-head_takes (keyword words.First) h e = head_as (keyword words.First) (heads.Sided sides.First) h e refl tt
-head_takes (keyword words.Second) h e = head_as (keyword words.Second) (heads.Sided sides.Second) h e refl tt
-head_takes (keyword words.LoopPre) h e = head_as (keyword words.LoopPre) (heads.Headed headings.LoopPre) h e refl tt
-head_takes (symbol symbols.Initially) h e = head_as (symbol symbols.Initially) (heads.Headed headings.Initialized) h e refl tt
-head_takes (keyword words.Switch) h e = head_as (keyword words.Switch) (heads.Switching (switches.Basic observations.Immediate)) h e refl tt
-head_takes (keyword words.DSwitch) h e = head_as (keyword words.DSwitch) (heads.Switching (switches.Basic observations.Delayed)) h e refl tt
-head_takes (keyword words.RSwitch) h e = head_as (keyword words.RSwitch) (heads.Switching (switches.Recurring observations.Immediate)) h e refl tt
-head_takes (keyword words.DrSwitch) h e = head_as (keyword words.DrSwitch) (heads.Switching (switches.Recurring observations.Delayed)) h e refl tt
-head_takes (keyword words.Run) h e = head_as (keyword words.Run) heads.Run h e refl tt
-head_takes (keyword words.KSwitch) h e = head_as (keyword words.KSwitch) (heads.Keeping observations.Immediate) h e refl tt
-head_takes (keyword words.DkSwitch) h e = head_as (keyword words.DkSwitch) (heads.Keeping observations.Delayed) h e refl tt
-head_takes _ h e = cc
+pub head_takes : (t : Tok) (h : Head) → HasOwnToken h → head_of t ≡ Some h → IsHeadToken t h
+head_takes (keyword words.Identity) h own e = head_as (keyword words.Identity) (heads.Bare bares.Identity) h e refl tt
+head_takes (keyword words.LocalTime) h own e = head_as (keyword words.LocalTime) (heads.Bare bares.LocalTime) h e refl tt
+head_takes (keyword words.Integral) h own e = head_as (keyword words.Integral) (heads.Bare bares.Integral) h e refl tt
+head_takes (keyword words.Edge) h own e = head_as (keyword words.Edge) (heads.Bare bares.Edge) h e refl tt
+head_takes (keyword words.NotYet) h own e = head_as (keyword words.NotYet) (heads.Bare bares.NotYet) h e refl tt
+head_takes (keyword words.Count) h own e = head_as (keyword words.Count) (heads.Bare bares.Count) h e refl tt
+head_takes (keyword words.Pre) h own e = head_as (keyword words.Pre) (heads.Bare bares.Pre) h e refl tt
+head_takes (keyword words.Constant) h own e = head_as (keyword words.Constant) (heads.WithValue values.Constant) h e refl refl
+head_takes (keyword words.IPre) h own e = head_as (keyword words.IPre) (heads.WithValue values.InitialPre) h e refl refl
+head_takes (keyword words.Now) h own e = head_as (keyword words.Now) (heads.WithValue values.Now) h e refl refl
+head_takes (keyword words.Hold) h own e = head_as (keyword words.Hold) (heads.WithValue values.Hold) h e refl refl
+head_takes (keyword words.After) h own e = head_as (keyword words.After) (heads.Timed timings.After) h e refl tt
+head_takes (keyword words.Never) h own e = head_as (keyword words.Never) heads.Never h e refl tt
+head_takes (keyword words.Arr) h own e = head_as (keyword words.Arr) heads.Arrow h e refl tt
+head_takes (keyword words.AccumBy) h own e = head_as (keyword words.AccumBy) (heads.Accumulated accumulations.AccumBy) h e refl tt
+head_takes (keyword words.AccumHoldBy) h own e = head_as (keyword words.AccumHoldBy) (heads.Accumulated accumulations.AccumHoldBy) h e refl tt
+head_takes (keyword words.Sscan) h own e = head_as (keyword words.Sscan) (heads.Accumulated accumulations.Scan) h e refl tt
+head_takes (symbol symbols.Open) h own e = head_as (symbol symbols.Open) heads.Joined h e refl tt
+head_takes (keyword words.First) h own e = head_as (keyword words.First) (heads.Sided sides.First) h e refl tt
+head_takes (keyword words.Second) h own e = head_as (keyword words.Second) (heads.Sided sides.Second) h e refl tt
+head_takes (keyword words.LoopPre) h own e = head_as (keyword words.LoopPre) (heads.Headed headings.LoopPre) h e refl tt
+head_takes (symbol symbols.Initially) h own e = head_as (symbol symbols.Initially) (heads.Headed headings.Initialized) h e refl tt
+head_takes (keyword words.Switch) h own e = head_as (keyword words.Switch) (heads.Switching (switches.Basic observations.Immediate)) h e refl tt
+head_takes (keyword words.DSwitch) h own e = head_as (keyword words.DSwitch) (heads.Switching (switches.Basic observations.Delayed)) h e refl tt
+head_takes (keyword words.RSwitch) h own e = head_as (keyword words.RSwitch) (heads.Switching (switches.Recurring observations.Immediate)) h e refl tt
+head_takes (keyword words.DrSwitch) h own e = head_as (keyword words.DrSwitch) (heads.Switching (switches.Recurring observations.Delayed)) h e refl tt
+head_takes (keyword words.Run) h own e = head_as (keyword words.Run) heads.Run h e refl tt
+head_takes (keyword words.KSwitch) h own e = head_as (keyword words.KSwitch) (heads.Keeping observations.Immediate) h e refl tt
+head_takes (keyword words.DkSwitch) h own e = head_as (keyword words.DkSwitch) (heads.Keeping observations.Delayed) h e refl tt
+head_takes (name n) h own e = absurd (let p : heads.Call ≡ h = cc in subst HasOwnToken (sym p) own)
+head_takes _ h own e = cc
 
 pub join_again : (j : Join) → join_of (join_symbol j) ≡ Some j
 join_again joins.InSequence = refl
@@ -333,6 +342,14 @@ pub close_takes : (tokens rest : List Tok) → behind_close tokens ≡ Some rest
 close_takes (symbol symbols.Close ∷ tokens) rest e = let p : tokens ≡ rest = cc in rw p refl
 close_takes _ rest e = cc
 
+pub leads_takes : (tokens rest : List Tok) → behind_leads tokens ≡ Some rest → tokens ≡ symbol symbols.Leads ∷ rest
+leads_takes (symbol symbols.Leads ∷ tokens) rest e = let p : tokens ≡ rest = cc in rw p refl
+leads_takes _ rest e = cc
+
+pub sf_takes : (tokens rest : List Tok) → behind_sf tokens ≡ Some rest → tokens ≡ keyword words.SignalFunction ∷ rest
+sf_takes (keyword words.SignalFunction ∷ tokens) rest e = let p : tokens ≡ rest = cc in rw p refl
+sf_takes _ rest e = cc
+
 operands_open : (between : Bool) (o : Operator) (xs ys rest : List Tok) → stands_between o ≡ between → behind_close (spell_operands between (operator_token o) xs ys ++ rest) ≡ None
 operands_open true o xs ys rest is = refl
 operands_open false o xs ys rest is = let front = operator_again o is in rw front.token refl
@@ -353,3 +370,52 @@ no_close v (conditional e f g) rest = refl
 no_close v (mapped e m p f) rest = refl
 no_close v (folded e o f p g) rest = refl
 no_close v (called g e) rest = refl
+
+unary_no_sf : (o : Unary) (rest : List Tok) → behind_sf (keyword (unary_word o) ∷ rest) ≡ None
+unary_no_sf unaries.Not rest = refl
+unary_no_sf unaries.Event rest = refl
+unary_no_sf unaries.First rest = refl
+unary_no_sf unaries.Second rest = refl
+unary_no_sf unaries.IsEvent rest = refl
+unary_no_sf unaries.Size rest = refl
+
+mapping_no_sf : (m : Mapping) (rest : List Tok) → behind_sf (keyword (mapping_word m) ∷ rest) ≡ None
+mapping_no_sf mappings.Let rest = refl
+mapping_no_sf mappings.Filter rest = refl
+mapping_no_sf mappings.Map rest = refl
+
+folding_no_sf : (o : Folding) (rest : List Tok) → behind_sf (keyword (folding_word o) ∷ rest) ≡ None
+folding_no_sf foldings.Match rest = refl
+folding_no_sf foldings.Merge rest = refl
+folding_no_sf foldings.Fold rest = refl
+
+operands_no_sf : (o : Operator) (xs ys rest : List Tok) → behind_sf (spell_operands (stands_between o) (operator_token o) xs ys ++ rest) ≡ None
+operands_no_sf (operators.Arithmetic o) xs ys rest = refl
+operands_no_sf (operators.Equality o) xs ys rest = refl
+operands_no_sf (operators.Comparison o) xs ys rest = refl
+operands_no_sf (operators.Logic o) xs ys rest = refl
+operands_no_sf operators.Tag xs ys rest = refl
+operands_no_sf operators.Attach xs ys rest = refl
+operands_no_sf operators.FromEvent xs ys rest = refl
+operands_no_sf operators.Gate xs ys rest = refl
+operands_no_sf (operators.Merge merges.Left) xs ys rest = refl
+operands_no_sf (operators.Merge merges.Right) xs ys rest = refl
+operands_no_sf (operators.Merge merges.Exclusive) xs ys rest = refl
+operands_no_sf operators.Get xs ys rest = refl
+
+-- no expression begins with `sf`
+pub no_sf : (v : Version) (e : Expression) (rest : List Tok) → behind_sf (spell_expression v e ++ rest) ≡ None
+no_sf v (variable x) rest = refl
+no_sf v (literal unit_literal) rest = refl
+no_sf v (literal (truth_literal true)) rest = refl
+no_sf v (literal (truth_literal false)) rest = refl
+no_sf v (literal (int_literal z)) rest = refl
+no_sf v (literal (text_literal s)) rest = refl
+no_sf v (literal (none_literal t)) rest = refl
+no_sf v (paired e f) rest = refl
+no_sf v (applied o e) rest = unary_no_sf o (spell_operand (takes_brackets o) (spell_expression v e) ++ rest)
+no_sf v (operation e o f) rest = operands_no_sf o (spell_expression v e) (spell_expression v f) rest
+no_sf v (conditional e f g) rest = refl
+no_sf v (mapped e m p f) rest = mapping_no_sf m (spell_mapped_so (maps_in_brackets m) (spell_expression v e) (spell_pattern p) (spell_expression v f) ++ rest)
+no_sf v (folded e o f p g) rest = folding_no_sf o (in_brackets (spell_expression v e) (symbol symbols.Comma) (spell_expression v f ++ (symbol symbols.Comma ∷ spell_mapping (spell_pattern p) (spell_expression v g))) ++ rest)
+no_sf v (called g e) rest = refl

@@ -25,15 +25,19 @@ use Rattle.sf_term.specs.declared.form.Heading.{Heading}
 use Rattle.sf_term.specs.declared.form.Observation.{Observation}
 use Rattle.sf_term.specs.declared.form.Switching.{Switching}
 use Rattle.sf_term.specs.declared.node.TermId.{TermId}
+use Rattle.sf_term.specs.declared.node.ArgumentsId.{ArgumentsId}
+use Rattle.sf_term.specs.declared.node.Argument.{Argument}
+use Rattle.sf_term.specs.declared.node.Argument.TheVariants as arguments
 use Rattle.sf_term.specs.declared.node.Primitive.TheVariants as primitives
 use Rattle.sf_term.specs.declared.node.Node.{Node}
 use Rattle.sf_term.specs.declared.node.Node.TheVariants as nodes
 use Rattle.sf_term.specs.declared.program.Program.{Program}
+use Rattle.sf_term.specs.Parameters.{PlacedParameter, binding_of}
 use Rattle.sf_term.specs.Headers.{Header}
-use Rattle.sf_term.specs.Arena.{HoldsTerm, HoldsExpression, HoldsPatternIn, ProgramHoldsFunction, term_node_at, term_spot_at, expression_under, expression_node_at, expression_spot_at, function_pattern_at, function_body_at, pattern_under, headers_of, template_in, templates_of, tree}
+use Rattle.sf_term.specs.Arena.{HoldsTerm, HoldsExpression, HoldsPatternIn, ProgramHoldsFunction, term_node_at, term_spot_at, expression_under, expression_node_at, expression_spot_at, function_pattern_at, function_body_at, pattern_under, arguments_under, headers_of, template_in, templates_of, tree}
 use Rattle.sf_lex.specs.Tokens.{Located, place_at}
 use Rattle.sf_grammar.specs.declared.ty.Version.{Version}
-use Rattle.sf_grammar.specs.Spelling.{stands_initially, takes_brackets, stands_between, maps_in_brackets, spell_expression, spell_signature, IsNetworkText, spell_term}
+use Rattle.sf_grammar.specs.Spelling.{stands_initially, takes_brackets, stands_between, maps_in_brackets, spell_expression, spell_parameter, spell_signature, IsNetworkText, spell_term}
 
 -- the places of two parts in brackets, with a token between them
 abbrev pub around : Spot → List Spot → Spot → List Spot → Spot → List Spot
@@ -96,42 +100,77 @@ pub record TermStands (p : Program) (id : TermId) (n : Node) (at : Spot) : Type 
   pub node : term_node_at p id ≡ n
   pub spot : term_spot_at p id ≡ at
 
--- the term at an id, whose tokens have these places
-pub data TermPlaced (v : Version) (p : Program) : TermId → List Spot → Type 0 where
-  bare_placed : {id : TermId} {k : Bare} {at : Spot} → TermStands p id (nodes.Primitive (primitives.Bare k)) at → TermPlaced v p id (at ∷ [])
-  never_placed : {id : TermId} {n : ConstantId} {xs : List Spot} {at : Spot} → TermStands p id (nodes.Primitive (primitives.Never n)) at
-      → length (at ∷ xs) ≡ length (spell_term v (tree p id)) → TermPlaced v p id (at ∷ xs)
-  with_value_placed : {id : TermId} {k : WithValue} {e : ExprId} {xs : List Spot} {at : Spot} → stands_initially k ≡ false → TermStands p id (nodes.Primitive (primitives.WithValue k e)) at
-      → ExpressionPlaced v p e xs → TermPlaced v p id (at ∷ xs)
-  initialized_placed : {id : TermId} {k : WithValue} {e : ExprId} {xs : List Spot} {at : Spot} (opening comma word closing : Spot) → stands_initially k ≡ true → TermStands p id (nodes.Primitive (primitives.WithValue k e)) at
-      → ExpressionPlaced v p e xs → TermPlaced v p id (at ∷ around opening xs comma (word ∷ []) closing)
-  timed_placed : {id : TermId} {k : Timing} {q : ℤ} {e : ExprId} {xs : List Spot} {at : Spot} (time : Spot) → TermStands p id (nodes.Primitive (primitives.Timed k q e)) at
-      → ExpressionPlaced v p e xs → TermPlaced v p id (at ∷ time ∷ xs)
-  arrow_placed : {id : TermId} {f : FunctionId} {xs : List Spot} {at : Spot} → TermStands p id (nodes.Primitive (primitives.Arrow f)) at
-      → FunctionPlaced v p f xs → TermPlaced v p id (at ∷ xs)
-  accumulated_placed : {id : TermId} {k : Accumulation} {e : ExprId} {f : FunctionId} {xs ys : List Spot} {at : Spot} (opening comma closing : Spot) → TermStands p id (nodes.Primitive (primitives.Accumulated k e f)) at
-      → ExpressionPlaced v p e xs → FunctionPlaced v p f ys → TermPlaced v p id (at ∷ around opening xs comma ys closing)
-  joined_placed : {id a b : TermId} {j : Join} {xs ys : List Spot} {opening : Spot} (between closing : Spot) → TermStands p id (nodes.Joined j a b) opening
-      → TermPlaced v p a xs → TermPlaced v p b ys → TermPlaced v p id (around opening xs between ys closing)
-  sided_placed : {id a : TermId} {s : Side} {xs : List Spot} {at : Spot} → TermStands p id (nodes.Sided s a) at
-      → TermPlaced v p a xs → TermPlaced v p id (at ∷ xs)
-  headed_placed : {id a : TermId} {e : ExprId} {h : Heading} {xs ys : List Spot} {at : Spot} (opening comma closing : Spot) → TermStands p id (nodes.Headed h e a) at
-      → ExpressionPlaced v p e xs → TermPlaced v p a ys → TermPlaced v p id (at ∷ around opening xs comma ys closing)
-  switching_placed : {id a b : TermId} {w : Switching} {q : PatternId} {xs ps ys : List Spot} {at : Spot} (opening comma leads closing : Spot) → TermStands p id (nodes.Switching w a q b) at
-      → TermPlaced v p a xs → PatternStands p q ps → TermPlaced v p b ys → TermPlaced v p id (at ∷ around opening xs comma (ps ++ (leads ∷ ys)) closing)
-  run_placed : {id : TermId} {k : NameId} {at place : Spot} → TermStands p id (nodes.Run k place) at → TermPlaced v p id (at ∷ place ∷ [])
-  keeping_placed : {id a b c : TermId} {w : Observation} {k : NameId} {q : PatternId} {xs ys ps zs : List Spot} {at place : Spot} (opening comma second third leads closing : Spot) → TermStands p id (nodes.Keeping w a b k place q c) at
-      → TermPlaced v p a xs → TermPlaced v p b ys → PatternStands p q ps → TermPlaced v p c zs → TermPlaced v p id (at ∷ around opening xs comma (ys ++ (second ∷ place ∷ third ∷ (ps ++ (leads ∷ zs)))) closing)
+mutual
+  -- the term at an id, whose tokens have these places
+  pub data TermPlaced (v : Version) (p : Program) : TermId → List Spot → Type 0 where
+    bare_placed : {id : TermId} {k : Bare} {at : Spot} → TermStands p id (nodes.Primitive (primitives.Bare k)) at → TermPlaced v p id (at ∷ [])
+    never_placed : {id : TermId} {n : ConstantId} {xs : List Spot} {at : Spot} → TermStands p id (nodes.Primitive (primitives.Never n)) at
+        → length (at ∷ xs) ≡ length (spell_term v (tree p id)) → TermPlaced v p id (at ∷ xs)
+    with_value_placed : {id : TermId} {k : WithValue} {e : ExprId} {xs : List Spot} {at : Spot} → stands_initially k ≡ false → TermStands p id (nodes.Primitive (primitives.WithValue k e)) at
+        → ExpressionPlaced v p e xs → TermPlaced v p id (at ∷ xs)
+    initialized_placed : {id : TermId} {k : WithValue} {e : ExprId} {xs : List Spot} {at : Spot} (opening comma word closing : Spot) → stands_initially k ≡ true → TermStands p id (nodes.Primitive (primitives.WithValue k e)) at
+        → ExpressionPlaced v p e xs → TermPlaced v p id (at ∷ around opening xs comma (word ∷ []) closing)
+    timed_placed : {id : TermId} {k : Timing} {q : ℤ} {e : ExprId} {xs : List Spot} {at : Spot} (time : Spot) → TermStands p id (nodes.Primitive (primitives.Timed k q e)) at
+        → ExpressionPlaced v p e xs → TermPlaced v p id (at ∷ time ∷ xs)
+    arrow_placed : {id : TermId} {f : FunctionId} {xs : List Spot} {at : Spot} → TermStands p id (nodes.Primitive (primitives.Arrow f)) at
+        → FunctionPlaced v p f xs → TermPlaced v p id (at ∷ xs)
+    accumulated_placed : {id : TermId} {k : Accumulation} {e : ExprId} {f : FunctionId} {xs ys : List Spot} {at : Spot} (opening comma closing : Spot) → TermStands p id (nodes.Primitive (primitives.Accumulated k e f)) at
+        → ExpressionPlaced v p e xs → FunctionPlaced v p f ys → TermPlaced v p id (at ∷ around opening xs comma ys closing)
+    joined_placed : {id a b : TermId} {j : Join} {xs ys : List Spot} {opening : Spot} (between closing : Spot) → TermStands p id (nodes.Joined j a b) opening
+        → TermPlaced v p a xs → TermPlaced v p b ys → TermPlaced v p id (around opening xs between ys closing)
+    sided_placed : {id a : TermId} {s : Side} {xs : List Spot} {at : Spot} → TermStands p id (nodes.Sided s a) at
+        → TermPlaced v p a xs → TermPlaced v p id (at ∷ xs)
+    headed_placed : {id a : TermId} {e : ExprId} {h : Heading} {xs ys : List Spot} {at : Spot} (opening comma closing : Spot) → TermStands p id (nodes.Headed h e a) at
+        → ExpressionPlaced v p e xs → TermPlaced v p a ys → TermPlaced v p id (at ∷ around opening xs comma ys closing)
+    switching_placed : {id a b : TermId} {w : Switching} {q : PatternId} {xs ps ys : List Spot} {at : Spot} (opening comma leads closing : Spot) → TermStands p id (nodes.Switching w a q b) at
+        → TermPlaced v p a xs → PatternStands p q ps → TermPlaced v p b ys → TermPlaced v p id (at ∷ around opening xs comma (ps ++ (leads ∷ ys)) closing)
+    run_placed : {id : TermId} {k : NameId} {at place : Spot} → TermStands p id (nodes.Run k place) at → TermPlaced v p id (at ∷ place ∷ [])
+    keeping_placed : {id a b c : TermId} {w : Observation} {k : NameId} {q : PatternId} {xs ys ps zs : List Spot} {at place : Spot} (opening comma second third leads closing : Spot) → TermStands p id (nodes.Keeping w a b k place q c) at
+        → TermPlaced v p a xs → TermPlaced v p b ys → PatternStands p q ps → TermPlaced v p c zs → TermPlaced v p id (at ∷ around opening xs comma (ys ++ (second ∷ place ∷ third ∷ (ps ++ (leads ∷ zs)))) closing)
+    call_placed : {id : TermId} {g : NameId} {a : ArgumentsId} {xs : List Spot} {at : Spot} (opening : Spot) → TermStands p id (nodes.Call g a) at
+        → ArgumentsPlaced v p (arguments_under p a) xs → TermPlaced v p id (at ∷ opening ∷ xs)
 
--- a template whose tokens have these places, in a text of the version: its name stands at the second, and its body behind as many as spell its types
+  -- the arguments of a call and the closing bracket, whose tokens have these places
+  pub data ArgumentsPlaced (v : Version) (p : Program) : List Argument → List Spot → Type 0 where
+    no_arguments_placed : (closing : Spot) → ArgumentsPlaced v p [] (closing ∷ [])
+    some_arguments_placed : {a : Argument} {bs : List Argument} {xs : List Spot} → EachArgumentPlaced v p (a ∷ bs) xs → ArgumentsPlaced v p (a ∷ bs) xs
+
+  -- arguments, each with a token behind it: a comma, or behind the last one the closing bracket
+  pub data EachArgumentPlaced (v : Version) (p : Program) : List Argument → List Spot → Type 0 where
+    no_argument_placed : EachArgumentPlaced v p [] []
+    argument_placed : {a : Argument} {bs : List Argument} {xs ys : List Spot} (separator : Spot) → ArgumentPlaced v p a xs → EachArgumentPlaced v p bs ys → EachArgumentPlaced v p (a ∷ bs) (xs ++ (separator ∷ ys))
+
+  -- an argument, whose tokens have these places
+  pub data ArgumentPlaced (v : Version) (p : Program) : Argument → List Spot → Type 0 where
+    value_argument_placed : {e : ExprId} {xs : List Spot} → ExpressionPlaced v p e xs → ArgumentPlaced v p (arguments.Value e) xs
+    process_argument_placed : {t : TermId} {xs : List Spot} (word : Spot) → TermPlaced v p t xs → ArgumentPlaced v p (arguments.Process t) (word ∷ xs)
+
+-- a parameter whose tokens have these places: its name stands at the first
+pub record ParameterPlaced (v : Version) (q : PlacedParameter) (places : List Spot) : Type 0 where
+  pub behind : List Spot
+  pub split : places ≡ q.spot ∷ behind
+  pub counted : length places ≡ length (spell_parameter v (binding_of q))
+
+-- parameters, each with a token behind it: a comma, or behind the last one the closing bracket
+pub data EachParameterPlaced (v : Version) : List PlacedParameter → List Spot → Type 0 where
+  no_parameter_placed : EachParameterPlaced v [] []
+  parameter_placed : {q : PlacedParameter} {qs : List PlacedParameter} {xs ys : List Spot} (separator : Spot) → ParameterPlaced v q xs → EachParameterPlaced v qs ys → EachParameterPlaced v (q ∷ qs) (xs ++ (separator ∷ ys))
+
+-- the parameters of a template and the closing bracket, whose tokens have these places
+pub data ParametersPlaced (v : Version) : List PlacedParameter → List Spot → Type 0 where
+  no_parameters_placed : (closing : Spot) → ParametersPlaced v [] (closing ∷ [])
+  some_parameters_placed : {q : PlacedParameter} {qs : List PlacedParameter} {xs : List Spot} → EachParameterPlaced v (q ∷ qs) xs → ParametersPlaced v (q ∷ qs) xs
+
+-- a template whose tokens have these places, in a text of the version: its name stands at the second, its parameters behind the bracket, and its body behind as many as spell its types
 pub record TemplatePlaced (v : Version) (p : Program) (h : Header) (places : List Spot) : Type 0 where
   pub word : Spot
   pub opening : Spot
-  pub closing : Spot
+  pub listed : List Spot
   pub signature : List Spot
   pub body : List Spot
   pub end : Spot
-  pub split : places ≡ word ∷ h.spot ∷ opening ∷ closing ∷ (signature ++ (body ++ (end ∷ [])))
+  pub split : places ≡ word ∷ h.spot ∷ opening ∷ (listed ++ (signature ++ (body ++ (end ∷ []))))
+  pub parameters : ParametersPlaced v h.parameters listed
   pub typed : length signature ≡ length (spell_signature v (template_in p h))
   pub placed : TermPlaced v p h.body body
 

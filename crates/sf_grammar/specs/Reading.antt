@@ -1,5 +1,5 @@
 -- What reading a list of tokens from left to right gives.
-use Rattle.std.specs.Prelude.{ℕ, zero, suc, ◌+◌, nat_le, nat_lt, Bool, true, false, pos, List, [], ◌∷◌, Option, Some, None, is_some, option_map, if◌then◌else◌, ℤ}
+use Rattle.std.specs.Prelude.{ℕ, zero, suc, ◌+◌, nat_le, nat_lt, Bool, true, false, pos, List, [], ◌∷◌, length, Option, Some, None, is_some, option_map, if◌then◌else◌, ℤ}
 use Rattle.std.specs.Ordering.{int_eq}
 use denote.Enum.Bare.{sameb}
 use Rattle.sf_value.specs.Values.{Name, KeyKind, int_keys, text_keys, Kind, unit_kind, bool_kind, int_kind, text_kind, pair_kind, event_kind, table_kind, nodes}
@@ -34,7 +34,8 @@ use Rattle.sf_term.specs.declared.form.Switching.{Switching}
 use Rattle.sf_term.specs.declared.form.Observation.{Observation}
 use Rattle.sf_term.specs.declared.form.Observation.TheVariants as observations
 use Rattle.sf_term.specs.declared.form.Switching.TheVariants as switches
-use Rattle.sf_term.specs.Trees.{Term, primitive, run, joined, sided, switching, keeping, bare, never, with_value, timed, arrow, accumulated, Template, terms_in, expressions_in}
+use Rattle.sf_term.specs.Parameters.{NameKind, value as value_kind, process as process_kind, Bindings}
+use Rattle.sf_term.specs.Trees.{Term, primitive, reference, joined, sided, switching, keeping, run, call, Arguments, no_arguments, value_argument, process_argument, bare, never, with_value, timed, arrow, accumulated, Template, terms_in, expressions_in}
 use Rattle.sf_lex.specs.declared.word.Keyword.{Keyword}
 use Rattle.sf_lex.specs.declared.word.Keyword.TheVariants as words
 use Rattle.sf_lex.specs.declared.symbol.Symbol.{Symbol}
@@ -168,9 +169,66 @@ parse_type v tokens = parse_inner_type 64 v tokens 0 tokens
 unfoldable pub parse_opening : List Tok → Read Version
 parse_opening tokens = parse_keyword words.Network tokens and_then λ _ rest. parse_version rest and_then λ v rest. parse_symbol symbols.Semicolon rest and_then λ _ rest. got v rest
 
--- a template's name, and its empty list of parameters
-unfoldable pub parse_heading : List Tok → Read Name
-parse_heading tokens = parse_keyword words.Template tokens and_then λ _ rest. parse_name rest and_then λ n rest. parse_symbol symbols.Open rest and_then λ _ rest. parse_symbol symbols.Close rest and_then λ _ rest. got n rest
+-- behind a closing bracket, if it stands in front
+abbrev pub behind_close : List Tok → Option (List Tok)
+behind_close (symbol symbols.Close ∷ rest) = Some rest
+behind_close _ = None
+
+-- behind the symbol between two types of a process, if it stands in front
+abbrev pub behind_leads : List Tok → Option (List Tok)
+behind_leads (symbol symbols.Leads ∷ rest) = Some rest
+behind_leads _ = None
+
+-- what stands behind a part of a list: a comma, and so a further part, or the closing bracket
+abbrev pub parse_separator : List Tok → Read Bool
+parse_separator (symbol symbols.Comma ∷ rest) = got true rest
+parse_separator (symbol symbols.Close ∷ rest) = got false rest
+parse_separator tokens = stop Unexpected tokens
+
+-- further parts, where they are read so, if there are any; else none
+abbrev pub further_from : {A : Type 0} → A → (List Tok → Read A) → Bool → List Tok → Read A
+further_from none parts true tokens = parts tokens
+further_from none parts false tokens = got none tokens
+
+-- what stands behind a part of a list
+abbrev pub parse_further : {A : Type 0} → A → (List Tok → Read A) → List Tok → Read A
+parse_further none parts tokens = parse_separator tokens and_then λ more rest. further_from none parts more rest
+
+abbrev pub listed_from : {A : Type 0} → A → (List Tok → Read A) → Option (List Tok) → List Tok → Read A
+listed_from none parts (Some rest) tokens = got none rest
+listed_from none parts None tokens = parts tokens
+
+-- behind the opening bracket of a list: the closing one, or parts, where they are read so
+abbrev pub parse_listed : {A : Type 0} → A → (List Tok → Read A) → List Tok → Read A
+parse_listed none parts tokens = listed_from none parts (behind_close tokens) tokens
+
+abbrev pub parameter_kind_from : Version → Kind → Option (List Tok) → List Tok → Read NameKind
+parameter_kind_from v t (Some rest) tokens = parse_type v rest and_then λ u rest. got (process_kind t u) rest
+parameter_kind_from v t None tokens = got (value_kind t) tokens
+
+-- what a parameter stands for: a value of a type, or a process from a type to a type
+unfoldable pub parse_name_kind : Version → List Tok → Read NameKind
+parse_name_kind v tokens = parse_type v tokens and_then λ t rest. parameter_kind_from v t (behind_leads rest) rest
+
+unfoldable pub parse_parameter : Version → List Tok → Read (Name × NameKind)
+parse_parameter v tokens = parse_name tokens and_then λ x rest. parse_symbol symbols.Colon rest and_then λ _ rest. parse_name_kind v rest and_then λ k rest. got (x, k) rest
+
+-- parameters, so many at most, and the closing bracket behind them
+unfoldable pub parse_parameters : ℕ → Version → List Tok → Read Bindings
+parse_parameters zero v tokens = stop Unexpected tokens
+parse_parameters (suc n) v tokens =
+    parse_parameter v tokens and_then λ q rest.
+    parse_further [] (parse_parameters n v) rest and_then λ qs rest.
+    got (q ∷ qs) rest
+
+-- a template's name and its parameters, which are fewer than the tokens
+unfoldable pub parse_heading : Version → List Tok → Read (Name × Bindings)
+parse_heading v tokens =
+    parse_keyword words.Template tokens and_then λ _ rest.
+    parse_name rest and_then λ n rest.
+    parse_symbol symbols.Open rest and_then λ _ rest.
+    parse_listed [] (λ tokens. parse_parameters (suc (length tokens)) v tokens) rest and_then λ qs rest.
+    got (n, qs) rest
 
 -- the types of a template's inputs and outputs
 unfoldable pub parse_signature : Version → List Tok → Read (Kind × Kind)
@@ -252,11 +310,6 @@ linked (links.Operation o) e f = operation e o f
 -- behind an opening bracket, with which `start` begins, where the parts are read so
 unfoldable pub parse_linked : (Counts → List Tok → Read Expression) → Counts → List Tok → List Tok → Read Expression
 parse_linked part c start tokens = parse_parts (part c) parse_link (λ e. part (counts_with_expression c e)) (λ e l f rest. expression_read c (linked l e f) start rest) tokens
-
--- behind a closing bracket
-abbrev pub behind_close : List Tok → Option (List Tok)
-behind_close (symbol symbols.Close ∷ rest) = Some rest
-behind_close _ = None
 
 -- behind an opening bracket, with which `start` begins: the closing one makes the only value of its type
 abbrev pub bracketed_from : (Counts → List Tok → Read Expression) → Counts → Option (List Tok) → List Tok → List Tok → Read Expression
@@ -448,6 +501,7 @@ head_of (keyword words.DrSwitch) = Some (heads.Switching (switches.Recurring obs
 head_of (keyword words.Run) = Some heads.Run
 head_of (keyword words.KSwitch) = Some (heads.Keeping observations.Immediate)
 head_of (keyword words.DkSwitch) = Some (heads.Keeping observations.Delayed)
+head_of (name n) = Some heads.Call
 head_of _ = None
 
 abbrev pub join_of : Symbol → Option Join
@@ -509,7 +563,51 @@ parse_switching left part c w start tokens =
 
 -- behind `run`
 unfoldable pub parse_run : Counts → List Tok → List Tok → Read Term
-parse_run c start tokens = parse_name tokens and_then λ k rest. term_read c (run k) start rest
+parse_run c start tokens = parse_name tokens and_then λ k rest. term_read c (reference (run k)) start rest
+
+-- an argument of a call: a value, or a term that is a process
+pub data Actual : Type 0 where
+  actual_value : Expression → Actual
+  actual_process : Term → Actual
+
+-- arguments with one in front of them
+abbrev pub with_actual : Actual → Arguments → Arguments
+with_actual (actual_value e) vs = value_argument e vs
+with_actual (actual_process t) vs = process_argument t vs
+
+-- how many terms and expressions a program has with an argument
+abbrev pub counts_with_actual : Counts → Actual → Counts
+counts_with_actual c (actual_value e) = counts_with_expression c e
+counts_with_actual c (actual_process t) = counts_with c t
+
+-- behind `sf`, if it stands in front
+abbrev pub behind_sf : List Tok → Option (List Tok)
+behind_sf (keyword words.SignalFunction ∷ rest) = Some rest
+behind_sf _ = None
+
+abbrev pub argument_from : ℕ → Version → (Counts → List Tok → Read Term) → Counts → Option (List Tok) → List Tok → Read Actual
+argument_from left v part c (Some rest) tokens = part c rest and_then λ t rest. got (actual_process t) rest
+argument_from left v part c None tokens = parse_expression left v c tokens and_then λ e rest. got (actual_value e) rest
+
+-- an argument, whose expression is of so much depth at most, and whose term is read so
+unfoldable pub parse_argument : ℕ → Version → (Counts → List Tok → Read Term) → Counts → List Tok → Read Actual
+parse_argument left v part c tokens = argument_from left v part c (behind_sf tokens) tokens
+
+-- arguments, so many at most, and the closing bracket behind them
+unfoldable pub parse_arguments : ℕ → ℕ → Version → (Counts → List Tok → Read Term) → Counts → List Tok → Read Arguments
+parse_arguments zero left v part c tokens = stop Unexpected tokens
+parse_arguments (suc n) left v part c tokens =
+    parse_argument left v part c tokens and_then λ a rest.
+    parse_further no_arguments (parse_arguments n left v part (counts_with_actual c a)) rest and_then λ vs rest.
+    got (with_actual a vs) rest
+
+-- a call: a template's name and arguments, which are fewer than the tokens
+unfoldable pub parse_call : ℕ → Version → (Counts → List Tok → Read Term) → Counts → List Tok → Read Term
+parse_call left v part c start =
+    parse_name start and_then λ g rest.
+    parse_symbol symbols.Open rest and_then λ _ rest.
+    parse_listed no_arguments (λ tokens. parse_arguments (suc (length tokens)) left v part c tokens) rest and_then λ vs rest.
+    term_read c (reference (call g vs)) start rest
 
 -- behind the word of a term that gives way to another, which knows it by a name, where all are read so
 unfoldable pub parse_keeping : ℕ → (Counts → List Tok → Read Term) → Counts → Observation → List Tok → List Tok → Read Term
@@ -547,6 +645,7 @@ parse_behind_head left v part c (Some (heads.Headed h)) start tokens = parse_hea
 parse_behind_head left v part c (Some (heads.Switching w)) start tokens = parse_switching left part c w start tokens
 parse_behind_head left v part c (Some heads.Run) start tokens = parse_run c start tokens
 parse_behind_head left v part c (Some (heads.Keeping w)) start tokens = parse_keeping left part c w start tokens
+parse_behind_head left v part c (Some heads.Call) start tokens = parse_call left v part c start
 parse_behind_head left v part c None start tokens = stop Unexpected start
 
 -- a term by its first token
@@ -562,13 +661,13 @@ unfoldable pub parse_term : ℕ → Version → Counts → List Tok → Read Ter
 parse_term zero v c tokens = too_deep begins_term tokens
 parse_term (suc left) v c tokens = parse_form left v (parse_term left v) c tokens
 
-abbrev pub template_of : Name → Kind × Kind → Term → Template
-template_of n s t = record { name = n; input = s.0; output = s.1; body = t }
+abbrev pub template_of : Name × Bindings → Kind × Kind → Term → Template
+template_of h s t = record { name = h.0; parameters = h.1; input = s.0; output = s.1; body = t }
 
 unfoldable pub parse_template : Version → Counts → List Tok → Read Template
 parse_template v c tokens =
-    parse_heading tokens and_then λ n rest.
+    parse_heading v tokens and_then λ h rest.
     parse_signature v rest and_then λ s rest.
     parse_term 64 v c rest and_then λ t rest.
     parse_symbol symbols.Semicolon rest and_then λ _ rest.
-    got (template_of n s t) rest
+    got (template_of h s t) rest

@@ -34,7 +34,8 @@ use Rattle.sf_term.specs.declared.form.Switching.{Switching}
 use Rattle.sf_term.specs.declared.form.Observation.{Observation}
 use Rattle.sf_term.specs.declared.form.Observation.TheVariants as observations
 use Rattle.sf_term.specs.declared.form.Switching.TheVariants as switches
-use Rattle.sf_term.specs.Trees.{bare, never, with_value, timed, arrow, accumulated, fused, Term, primitive, run, joined, sided, headed, switching, keeping, staged, Template, Templates, term_depth, terms_in, expressions_in}
+use Rattle.sf_term.specs.Parameters.{NameKind, value as value_kind, process as process_kind}
+use Rattle.sf_term.specs.Trees.{bare, never, with_value, timed, arrow, accumulated, fused, Term, primitive, reference, joined, sided, headed, switching, keeping, staged, Reference, run, call, Arguments, no_arguments, value_argument, process_argument, closed_argument, Template, Templates, term_depth, terms_in, expressions_in}
 use Rattle.sf_lex.specs.declared.word.Keyword.{Keyword}
 use Rattle.sf_lex.specs.declared.word.Keyword.TheVariants as words
 use Rattle.sf_lex.specs.declared.symbol.Symbol.{Symbol}
@@ -224,6 +225,16 @@ spell_keeping w source observer k pattern body = keyword (keeping_word w) ∷ in
 abbrev pub spell_called : Name → List Tok → List Tok
 spell_called g argument = keyword words.Call ∷ name g ∷ spell_operand true argument
 
+-- further parts of a list, each behind a comma, and the closing bracket
+abbrev pub spell_further : List (List Tok) → List Tok
+spell_further [] = symbol symbols.Close ∷ []
+spell_further (x ∷ xs) = symbol symbols.Comma ∷ (x ++ spell_further xs)
+
+-- the parts of a list with commas between them, and the closing bracket
+abbrev pub spell_listed : List (List Tok) → List Tok
+spell_listed [] = symbol symbols.Close ∷ []
+spell_listed (x ∷ xs) = x ++ spell_further xs
+
 -- only version 2 writes the type of the keys of a table
 abbrev pub spell_keys : Version → KeyKind → List Tok
 spell_keys versions.One k = []
@@ -272,31 +283,53 @@ abbrev pub spell_value : Bool → Keyword → List Tok → List Tok
 spell_value false word value = keyword word ∷ value
 spell_value true word value = symbol symbols.Initially ∷ in_brackets value (symbol symbols.Comma) (keyword word ∷ [])
 
--- the forms of plans stand in no text
-abbrev pub spell_term : Version → Term → List Tok
-spell_term v (primitive (bare k)) = keyword (bare_word k) ∷ []
-spell_term v (primitive (never t)) = keyword words.Never ∷ spell_type v t
-spell_term v (primitive (with_value k e)) = spell_value (stands_initially k) (value_word k) (spell_expression v e)
-spell_term v (primitive (timed k q e)) = keyword (timing_word k) ∷ number q ∷ spell_expression v e
-spell_term v (primitive (arrow f)) = keyword words.Arr ∷ spell_function v f
-spell_term v (primitive (accumulated k e f)) = keyword (accumulation_word k) ∷ in_brackets (spell_expression v e) (symbol symbols.Comma) (spell_function v f)
-spell_term v (primitive (fused f)) = []
-spell_term v (joined j f g) = in_brackets (spell_term v f) (symbol (join_symbol j)) (spell_term v g)
-spell_term v (sided s f) = keyword (side_word s) ∷ spell_term v f
-spell_term v (headed h e f) = heading_token h ∷ in_brackets (spell_expression v e) (symbol symbols.Comma) (spell_term v f)
-spell_term v (switching w f p g) = keyword (switching_word w) ∷ in_brackets (spell_term v f) (symbol symbols.Comma) (spell_mapping (spell_pattern p) (spell_term v g))
-spell_term v (run k) = keyword words.Run ∷ name k ∷ []
-spell_term v (keeping w f g k p u) = spell_keeping w (spell_term v f) (spell_term v g) k (spell_pattern p) (spell_term v u)
-spell_term v (staged x f g) = []
+abbrev mutual
+  -- the forms of plans stand in no text
+  pub spell_term : Version → Term → List Tok
+  spell_term v (primitive (bare k)) = keyword (bare_word k) ∷ []
+  spell_term v (primitive (never t)) = keyword words.Never ∷ spell_type v t
+  spell_term v (primitive (with_value k e)) = spell_value (stands_initially k) (value_word k) (spell_expression v e)
+  spell_term v (primitive (timed k q e)) = keyword (timing_word k) ∷ number q ∷ spell_expression v e
+  spell_term v (primitive (arrow f)) = keyword words.Arr ∷ spell_function v f
+  spell_term v (primitive (accumulated k e f)) = keyword (accumulation_word k) ∷ in_brackets (spell_expression v e) (symbol symbols.Comma) (spell_function v f)
+  spell_term v (primitive (fused f)) = []
+  spell_term v (reference r) = spell_reference v r
+  spell_term v (joined j f g) = in_brackets (spell_term v f) (symbol (join_symbol j)) (spell_term v g)
+  spell_term v (sided s f) = keyword (side_word s) ∷ spell_term v f
+  spell_term v (headed h e f) = heading_token h ∷ in_brackets (spell_expression v e) (symbol symbols.Comma) (spell_term v f)
+  spell_term v (switching w f p g) = keyword (switching_word w) ∷ in_brackets (spell_term v f) (symbol symbols.Comma) (spell_mapping (spell_pattern p) (spell_term v g))
+  spell_term v (keeping w f g k p u) = spell_keeping w (spell_term v f) (spell_term v g) k (spell_pattern p) (spell_term v u)
+  spell_term v (staged x f g) = []
 
-abbrev pub spell_heading : Template → List Tok
-spell_heading t = keyword words.Template ∷ name t.name ∷ symbol symbols.Open ∷ symbol symbols.Close ∷ []
+  -- the name of a process, or that of a template with arguments in brackets
+  pub spell_reference : Version → Reference → List Tok
+  spell_reference v (run k) = keyword words.Run ∷ name k ∷ []
+  spell_reference v (call g vs) = name g ∷ symbol symbols.Open ∷ spell_listed (spell_arguments v vs)
+
+  -- arguments, one by one: an expression, or a term behind `sf`
+  pub spell_arguments : Version → Arguments → List (List Tok)
+  spell_arguments v no_arguments = []
+  spell_arguments v (value_argument e vs) = spell_expression v e ∷ spell_arguments v vs
+  spell_arguments v (process_argument t vs) = (keyword words.SignalFunction ∷ spell_term v t) ∷ spell_arguments v vs
+  spell_arguments v (closed_argument t vs) = [] ∷ spell_arguments v vs
+
+-- what a name stands for: the type of a value, or both types of a process
+abbrev pub spell_name_kind : Version → NameKind → List Tok
+spell_name_kind v (value_kind t) = spell_type v t
+spell_name_kind v (process_kind t u) = spell_type v t ++ (symbol symbols.Leads ∷ spell_type v u)
+
+-- a parameter of a template
+abbrev pub spell_parameter : Version → Name × NameKind → List Tok
+spell_parameter v q = name q.0 ∷ symbol symbols.Colon ∷ spell_name_kind v q.1
+
+abbrev pub spell_heading : Version → Template → List Tok
+spell_heading v t = keyword words.Template ∷ name t.name ∷ symbol symbols.Open ∷ spell_listed (map (spell_parameter v) t.parameters)
 
 abbrev pub spell_signature : Version → Template → List Tok
 spell_signature v t = symbol symbols.Colon ∷ (spell_type v t.input ++ (symbol symbols.Leads ∷ (spell_type v t.output ++ (symbol symbols.Equals ∷ []))))
 
 abbrev pub spell_template : Version → Template → List Tok
-spell_template v t = spell_heading t ++ (spell_signature v t ++ (spell_term v t.body ++ (symbol symbols.Semicolon ∷ [])))
+spell_template v t = spell_heading v t ++ (spell_signature v t ++ (spell_term v t.body ++ (symbol symbols.Semicolon ∷ [])))
 
 abbrev pub spell_templates : Version → Templates → List Tok
 spell_templates v p = flat_map (spell_template v) p
@@ -364,22 +397,42 @@ abbrev pub head_makes : Heading → Expression → Term → Term
 head_makes headings.Initialized e (primitive (bare bares.Pre)) = primitive (with_value values.InitializedPre e)
 head_makes h e f = headed h e f
 
--- a text of the version has a term and the types in it, where so much depth is left
-abbrev pub WritesTerm : Version → ℕ → Term → Type 0
-WritesTerm v (suc d) (primitive (never t)) = IsWrittenType v d t
-WritesTerm v (suc d) (primitive (with_value k e)) = WritesExpression v d e
-WritesTerm v (suc d) (primitive (timed k q e)) = WritesExpression v d e
-WritesTerm v (suc d) (primitive (arrow f)) = WritesFunction v d f
-WritesTerm v (suc d) (primitive (accumulated k e f)) = WritesExpression v d e × WritesFunction v d f
-WritesTerm v (suc d) (joined j f g) = WritesTerm v d f × WritesTerm v d g
-WritesTerm v (suc d) (sided s f) = WritesTerm v d f
-WritesTerm v (suc d) (headed h e f) = (head_makes h e f ≡ headed h e f) × WritesExpression v d e × WritesTerm v d f
-WritesTerm v (suc d) (switching w f p g) = WritesTerm v d f × WritesTerm v d g
-WritesTerm v (suc d) (keeping w f g k p u) = WritesTerm v d f × WritesTerm v d g × WritesTerm v d u
-WritesTerm v d t = ⊤
+abbrev mutual
+  -- a text of the version has a term and the types in it, where so much depth is left
+  pub WritesTerm : Version → ℕ → Term → Type 0
+  WritesTerm v (suc d) (primitive (never t)) = IsWrittenType v d t
+  WritesTerm v (suc d) (primitive (with_value k e)) = WritesExpression v d e
+  WritesTerm v (suc d) (primitive (timed k q e)) = WritesExpression v d e
+  WritesTerm v (suc d) (primitive (arrow f)) = WritesFunction v d f
+  WritesTerm v (suc d) (primitive (accumulated k e f)) = WritesExpression v d e × WritesFunction v d f
+  WritesTerm v (suc d) (reference r) = WritesReference v d r
+  WritesTerm v (suc d) (joined j f g) = WritesTerm v d f × WritesTerm v d g
+  WritesTerm v (suc d) (sided s f) = WritesTerm v d f
+  WritesTerm v (suc d) (headed h e f) = (head_makes h e f ≡ headed h e f) × WritesExpression v d e × WritesTerm v d f
+  WritesTerm v (suc d) (switching w f p g) = WritesTerm v d f × WritesTerm v d g
+  WritesTerm v (suc d) (keeping w f g k p u) = WritesTerm v d f × WritesTerm v d g × WritesTerm v d u
+  WritesTerm v d t = ⊤
+
+  -- the same of what stands within a reference
+  pub WritesReference : Version → ℕ → Reference → Type 0
+  WritesReference v d (run k) = ⊤
+  WritesReference v d (call g vs) = WritesArguments v d vs
+
+  -- the same of arguments
+  pub WritesArguments : Version → ℕ → Arguments → Type 0
+  WritesArguments v d no_arguments = ⊤
+  WritesArguments v d (value_argument e vs) = WritesExpression v d e × WritesArguments v d vs
+  WritesArguments v d (process_argument t vs) = WritesTerm v d t × WritesArguments v d vs
+  WritesArguments v d (closed_argument t vs) = WritesArguments v d vs
+
+-- a text of the version has the types of what a name stands for
+abbrev pub WritesNameKind : Version → NameKind → Type 0
+WritesNameKind v (value_kind t) = IsWrittenType v 64 t
+WritesNameKind v (process_kind t u) = IsWrittenType v 64 t × IsWrittenType v 64 u
 
 -- a text of the version has the types of a template
 pub record HasWrittenTypes (v : Version) (t : Template) : Type 0 where
+  pub parameters : All (λ (q : Name × NameKind). WritesNameKind v q.1) t.parameters
   pub input : IsWrittenType v 64 t.input
   pub output : IsWrittenType v 64 t.output
   pub body : WritesTerm v 64 t.body

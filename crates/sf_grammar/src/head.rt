@@ -34,6 +34,8 @@ pub enum Head {
     Run,
     /// A word, and behind it two terms, a name, a pattern and a third term in brackets.
     Keeping(Observation),
+    /// The name of a template, and arguments in brackets behind it.
+    Call,
 }
 
 /// An expression that a word begins, by its shape.
@@ -112,6 +114,7 @@ pub fn head_of(token: &Token) -> Option<Head>
         Token::Keyword(Keyword::Run) => Some(Head::Run),
         Token::Keyword(Keyword::KSwitch) => Some(Head::Keeping(Observation::Immediate)),
         Token::Keyword(Keyword::DkSwitch) => Some(Head::Keeping(Observation::Delayed)),
+        Token::Name(_) => Some(Head::Call),
         _ => None,
     }
 }

@@ -1,15 +1,18 @@
 -- Plans that show the terms of a program.
-use Rattle.std.proofs.Common.{◌≡◌, ℕ, ◌+◌, ◌<◌, ◌≤◌, List, [], ◌∷◌, map, IsTrue, ℤ, Option, refl, sym, ◌∙◌, ap, subst, arith, ⊎_elim}
+use Rattle.std.proofs.Common.{◌≡◌, ℕ, ◌+◌, ◌<◌, ◌≤◌, List, [], ◌∷◌, map, All, IsTrue, ℤ, Option, Some, None, refl, sym, ◌∙◌, ap, subst, arith, ⊎_elim}
 use mathlib.Core.Path.{ap₂}
+use Rattle.std.specs.List.{AllZip}
 use Rattle.std.proofs.lemmas.Bool.{cases_lt}
+use Rattle.std.proofs.lemmas.List.Elements.{All-head, All-tail}
 use Rattle.sf_func.specs.Registries.{AnswersByName}
 use Rattle.sf_expr.specs.declared.exprs.ExprId.{ExprId}
 use Rattle.sf_expr.specs.declared.exprs.FunctionId.{FunctionId}
-use Rattle.sf_expr.specs.Expressions.{function}
+use Rattle.sf_expr.specs.declared.exprs.NameId.{NameId}
 use Rattle.sf_expr.specs.Patterns.{pattern_of}
 use Rattle.sf_expr.specs.declared.exprs.PatternId.{PatternId}
-use Rattle.sf_expr.specs.Arena.{expression, function_at, name_at, pattern_at, placed_at, body_at, IsCopy}
+use Rattle.sf_expr.specs.Arena.{expression, function_at, name_at, placed_at, HoldsName, Keeps}
 use Rattle.sf_term.specs.declared.node.TermId.{TermId}
+use Rattle.sf_term.specs.declared.node.Argument.{Argument}
 use Rattle.sf_term.specs.declared.node.Node.{Node}
 use Rattle.sf_term.specs.declared.node.Node.TheVariants as ast
 use Rattle.sf_term.specs.declared.node.Primitive.{Primitive}
@@ -17,20 +20,23 @@ use Rattle.sf_term.specs.declared.node.Primitive.TheVariants as ast_primitives
 use Rattle.sf_term.specs.declared.form.Timing.{Timing}
 use Rattle.sf_code.specs.declared.code.Code.{Code}
 use Rattle.sf_term.specs.declared.program.Program.{Program}
-use Rattle.sf_term.specs.Trees.{Term, Template, Templates, primitive, run, joined, sided, headed, never, switching, keeping, with_value, timed, arrow, accumulated}
+use Rattle.sf_term.specs.Trees.{Term, Template, Templates, Arguments, value_argument, process_argument, primitive, reference, run, call, joined, sided, headed, never, switching, keeping, with_value, timed, arrow, accumulated}
+use Rattle.sf_term.specs.Parameters.{PlacedParameter, parameters_of}
 use Rattle.sf_term.specs.Headers.{Header as TermHeader}
 use Rattle.sf_term.specs.Entries.{absent_payload}
-use Rattle.sf_term.specs.Arena.{term_count, tree as term, expression_under, pattern_under, function_in, expressions_of as program_expressions, term_of, TermPartsBelow, headers_of as program_headers, template_in as term_template}
+use Rattle.sf_term.specs.Arena.{term_count, tree as term, expression_under, pattern_under, function_in, expressions_of as program_expressions, arguments_under, arguments_of, term_node_at, term_entry_of, term_of, ArgumentBelow, TermPartsBelow, HoldsExpression, ProgramHoldsFunction, HoldsPatternIn, HoldsArgument, HoldsTermParts, headers_of as program_headers, template_in as term_template}
 use Rattle.sf_mean.specs.Networks.{network_of}
-use Rattle.sf_term.proofs.Kept.{term_past, expression_in, pattern_under_in, function_at_in}
+use Rattle.sf_term.proofs.Kept.{term_past, node_builds, parts_held, expression_in, holds_in, pattern_under_in, pattern_holds_in, function_at_in, function_holds_in}
 use Rattle.sf_law.specs.declared.node.PlanId.{PlanId}
+use Rattle.sf_law.specs.declared.node.PlanArgument.{PlanArgument}
 use Rattle.sf_law.specs.declared.node.PlanNode.{PlanNode}
 use Rattle.sf_law.specs.declared.node.PlanPrimitive.{PlanPrimitive}
 use Rattle.sf_law.specs.declared.node.PlanPrimitive.TheVariants as plan_primitives
 use Rattle.sf_law.specs.declared.plan.Plan.{Plan}
-use Rattle.sf_law.specs.Entries.{primitive_over, parts_end, is_whole}
-use Rattle.sf_law.specs.Arena.{plan_expressions, node_count, plan_tree, plan_headers, plan_template, network_of_plan, BuildsPlan, builds_primitive, builds_run, builds_joined, builds_sided, builds_headed, builds_switching, builds_keeping, KeepsPlan, AddsNode}
-use Rattle.sf_law.specs.Copies.{plan_id, CopiesPrimitive, copies_bare, copies_never, copies_with_value, copies_timed, copies_accumulated, copies_arrow, CopiesNode, copies_primitive, copies_run, copies_joined, copies_sided, copies_headed, copies_switching, copies_keeping, plan_header, ShowsTerms}
+use Rattle.sf_law.specs.Headers.{ParameterHeader, PlanHeader}
+use Rattle.sf_law.specs.Entries.{primitive_over, closed_before, arguments_end, parts_end, is_whole}
+use Rattle.sf_law.specs.Arena.{plan_expressions, node_count, plan_tree, plan_headers, plan_binding, plan_template, plan_arguments, network_of_plan, BuildsPlan, builds_primitive, builds_run, builds_call, builds_joined, builds_sided, builds_headed, builds_switching, builds_keeping, KeepsPlan, AddsNode}
+use Rattle.sf_law.specs.Copies.{plan_id, name_run, CopiesArgument, copies_value, copies_named, copies_closed, CopiesPrimitive, copies_bare, copies_never, copies_with_value, copies_timed, copies_accumulated, copies_arrow, CopiesNode, copies_primitive, copies_run, copies_call, copies_joined, copies_sided, copies_headed, copies_switching, copies_keeping, CopiesParameter, CopiesTemplate, ShowsTerms}
 use Rattle.sf_law.proofs.Kept.{tree_past}
 
 -- a primitive with an equal time is copied
@@ -41,88 +47,167 @@ timed_copied {k} {q} {z} {e} {c} is = subst (λ (z : ℤ). CopiesPrimitive (ast_
 abbrev pub ShowsBelow : Program → Plan → ℕ → Type 0
 ShowsBelow p q i = (t : TermId) → t.0 < i → plan_tree q (plan_id t) ≡ term p t
 
+-- the terms of arguments are below a number where the program's are
+arguments_fit : (p : Program) (vs : List Argument) (ws : List PlanArgument) (i : ℕ) → AllZip (CopiesArgument p) vs ws → All (ArgumentBelow i) vs → arguments_end ws ≤ i
+arguments_fit p [] [] i z h = omega arith
+arguments_fit p [] (w ∷ ws) i z h = absurd z
+arguments_fit p (v ∷ vs) [] i z h = absurd z
+arguments_fit p (v ∷ vs) (w ∷ ws) i z h = one v w z.0 (All-head (ArgumentBelow i) v vs h) (arguments_fit p vs ws i z.1 (All-tail (ArgumentBelow i) v vs h))
+  where
+    one : (v : Argument) (w : PlanArgument) → CopiesArgument p v w → ArgumentBelow i v → arguments_end ws ≤ i → arguments_end (w ∷ ws) ≤ i
+    one _ _ copies_value b more = more
+    one _ _ (copies_named is) b more = more
+    one _ _ (copies_closed is) b more = omega (arith, b, more)
+
 -- a node's parts are below a number where the program's are
-pub parts_fit : (n : Node) (m : PlanNode) (i : ℕ) → CopiesNode n m → TermPartsBelow n i → parts_end m ≤ i
-parts_fit _ _ i (copies_primitive c) h = omega arith
-parts_fit _ _ i copies_run h = omega arith
-parts_fit _ _ i copies_joined h = omega (arith, h.0, h.1)
-parts_fit _ _ i copies_sided h = omega arith
-parts_fit _ _ i copies_headed h = omega arith
-parts_fit _ _ i copies_switching h = omega (arith, h.0, h.1)
-parts_fit _ _ i copies_keeping h = omega (arith, h.0, h.1, h.2)
+pub parts_fit : (p : Program) (n : Node) (m : PlanNode) (i : ℕ) → CopiesNode p n m → TermPartsBelow p n i → parts_end m ≤ i
+parts_fit p _ _ i (copies_primitive c) h = omega arith
+parts_fit p _ _ i copies_run h = omega arith
+parts_fit p _ _ i (copies_call {a = a} {v = v} z) h = arguments_fit p (arguments_under p a) v.items i z h
+parts_fit p _ _ i copies_joined h = omega (arith, h.0, h.1)
+parts_fit p _ _ i copies_sided h = omega arith
+parts_fit p _ _ i copies_headed h = omega arith
+parts_fit p _ _ i copies_switching h = omega (arith, h.0, h.1)
+parts_fit p _ _ i copies_keeping h = omega (arith, h.0, h.1, h.2)
 
 -- no program has a pipeline
-pub no_pipeline : (n : Node) (m : PlanNode) → CopiesNode n m → IsTrue (is_whole m)
-no_pipeline _ _ (copies_primitive c) = refl
-no_pipeline _ _ copies_run = refl
-no_pipeline _ _ copies_joined = refl
-no_pipeline _ _ copies_sided = refl
-no_pipeline _ _ copies_headed = refl
-no_pipeline _ _ copies_switching = refl
-no_pipeline _ _ copies_keeping = refl
+pub no_pipeline : (p : Program) (n : Node) (m : PlanNode) → CopiesNode p n m → IsTrue (is_whole m)
+no_pipeline p _ _ (copies_primitive c) = refl
+no_pipeline p _ _ copies_run = refl
+no_pipeline p _ _ (copies_call z) = refl
+no_pipeline p _ _ copies_joined = refl
+no_pipeline p _ _ copies_sided = refl
+no_pipeline p _ _ copies_headed = refl
+no_pipeline p _ _ copies_switching = refl
+no_pipeline p _ _ copies_keeping = refl
 
-module _ (p : Program) (q : Plan) (copy : IsCopy (program_expressions p) (plan_expressions q)) where
-  value_same : (e : ExprId) → expression (plan_expressions q) e ≡ expression_under p e
-  value_same e = copy.trees e ∙ expression_in p e
+-- a node that is a named process, and any other as an argument
+module _ (p : Program) where
+  named_node : (n : Node) (k : NameId) → HoldsTermParts p n → name_run n ≡ Some k → (term_of p n ≡ reference (run (name_at (program_expressions p) k))) × HoldsName (program_expressions p) k
+  named_node (ast.Primitive q) k held h = absurd cc
+  named_node (ast.Run j s) k held h = let same : j ≡ k = cc in (ap (λ j. reference (run (name_at (program_expressions p) j))) same, subst (λ j. HoldsName (program_expressions p) j) same held)
+  named_node (ast.Call j a) k held h = absurd cc
+  named_node (ast.Joined j a b) k held h = absurd cc
+  named_node (ast.Sided d a) k held h = absurd cc
+  named_node (ast.Headed g e a) k held h = absurd cc
+  named_node (ast.Switching w a q b) k held h = absurd cc
+  named_node (ast.Keeping w a o j s q b) k held h = absurd cc
 
-  function_same : (f : FunctionId) → function_at (plan_expressions q) f ≡ function_in p f
-  function_same f =
-      let x = program_expressions p in
-      ap₂ (λ r b. function (pattern_of r) (expression (plan_expressions q) b)) (copy.patterns f) (copy.bodies f)
-      ∙ ap (λ v. function (pattern_of (pattern_at x f)) v) (copy.trees (body_at x f)) ∙ function_at_in p f
+  closed_node : (n : Node) (vs : Arguments) → name_run n ≡ None → closed_before (term_of p n) vs ≡ process_argument (term_of p n) vs
+  closed_node (ast.Primitive (ast_primitives.Bare k)) vs h = refl
+  closed_node (ast.Primitive (ast_primitives.Never n)) vs h = refl
+  closed_node (ast.Primitive (ast_primitives.WithValue k e)) vs h = refl
+  closed_node (ast.Primitive (ast_primitives.Timed k q e)) vs h = refl
+  closed_node (ast.Primitive (ast_primitives.Arrow f)) vs h = refl
+  closed_node (ast.Primitive (ast_primitives.Accumulated k e f)) vs h = refl
+  closed_node (ast.Run j s) vs h = absurd cc
+  closed_node (ast.Call j a) vs h = refl
+  closed_node (ast.Joined j a b) vs h = refl
+  closed_node (ast.Sided d a) vs h = refl
+  closed_node (ast.Headed g e a) vs h = refl
+  closed_node (ast.Switching w a q b) vs h = refl
+  closed_node (ast.Keeping w a o j s q b) vs h = refl
 
-  pattern_same : (i : PatternId) → placed_at (plan_expressions q) i ≡ pattern_under p i
-  pattern_same i = copy.placed i ∙ pattern_under_in p i
+  named_tree : (a : TermId) (k : NameId) → name_run (term_node_at p a) ≡ Some k → (term p a ≡ reference (run (name_at (program_expressions p) k))) × HoldsName (program_expressions p) k
+  unfolding term_node_at term_entry_of
+  named_tree a k h =
+      let n = named_node (term_node_at p a) k (parts_held p a) h in
+      (node_builds p a (term_node_at p a) refl ∙ n.0, n.1)
 
-  same_primitive : (a : Primitive) (b : PlanPrimitive) → CopiesPrimitive a b → primitive (primitive_over (plan_expressions q) b) ≡ term_of p (ast.Primitive a)
-  same_primitive _ _ copies_bare = refl
-  same_primitive _ _ (copies_never {n}) = ap (λ l. primitive (never (absent_payload l))) (copy.constants n)
-  same_primitive _ _ (copies_with_value {k} {e}) = ap (λ v. primitive (with_value k v)) (value_same e)
-  same_primitive _ _ (copies_timed {k} {q} {e}) = ap (λ v. primitive (timed k q v)) (value_same e)
-  same_primitive _ _ (copies_accumulated {k} {e} {f = f}) = ap₂ (λ v g. primitive (accumulated k v g)) (value_same e) (function_same f)
-  same_primitive _ _ (copies_arrow {f}) = ap (λ v. primitive (arrow v)) (function_same f)
+  closed_tree : (a : TermId) (vs : Arguments) → name_run (term_node_at p a) ≡ None → closed_before (term p a) vs ≡ process_argument (term p a) vs
+  closed_tree a vs h = subst (λ t. closed_before t vs ≡ process_argument t vs) (sym (node_builds p a (term_node_at p a) refl)) (closed_node (term_node_at p a) vs h)
+
+module _ (p : Program) (q : Plan) (kept : Keeps (program_expressions p) (plan_expressions q)) where
+  value_same : (e : ExprId) → HoldsExpression p e → expression (plan_expressions q) e ≡ expression_under p e
+  value_same e h = kept.trees e (holds_in p e h) ∙ expression_in p e
+
+  function_same : (f : FunctionId) → ProgramHoldsFunction p f → function_at (plan_expressions q) f ≡ function_in p f
+  function_same f h = kept.meanings f (function_holds_in p f h) ∙ function_at_in p f
+
+  pattern_same : (i : PatternId) → HoldsPatternIn p i → placed_at (plan_expressions q) i ≡ pattern_under p i
+  pattern_same i h = kept.placed i (pattern_holds_in p i h) ∙ pattern_under_in p i
+
+  same_primitive : (a : Primitive) (b : PlanPrimitive) → CopiesPrimitive a b → HoldsTermParts p (ast.Primitive a) → primitive (primitive_over (plan_expressions q) b) ≡ term_of p (ast.Primitive a)
+  same_primitive _ _ copies_bare h = refl
+  same_primitive _ _ (copies_never {n}) h = ap (λ l. primitive (never (absent_payload l))) (kept.constants n h)
+  same_primitive _ _ (copies_with_value {k} {e}) h = ap (λ v. primitive (with_value k v)) (value_same e h)
+  same_primitive _ _ (copies_timed {k} {q} {e}) h = ap (λ v. primitive (timed k q v)) (value_same e h)
+  same_primitive _ _ (copies_accumulated {k} {e} {f = f}) h = ap₂ (λ v g. primitive (accumulated k v g)) (value_same e h.0) (function_same f h.1)
+  same_primitive _ _ (copies_arrow {f}) h = ap (λ v. primitive (arrow v)) (function_same f h)
+
+  -- the same arguments stand for the same
+  same_arguments : (vs : List Argument) (ws : List PlanArgument) (i : ℕ) → AllZip (CopiesArgument p) vs ws → All (ArgumentBelow i) vs → All (HoldsArgument p) vs → ShowsBelow p q i → plan_arguments q ws ≡ arguments_of p vs
+  same_arguments [] [] i z below held shows = refl
+  same_arguments [] (w ∷ ws) i z below held shows = absurd z
+  same_arguments (v ∷ vs) [] i z below held shows = absurd z
+  same_arguments (v ∷ vs) (w ∷ ws) i z below held shows =
+      one v w z.0 (All-head (ArgumentBelow i) v vs below) (All-head (HoldsArgument p) v vs held) (same_arguments vs ws i z.1 (All-tail (ArgumentBelow i) v vs below) (All-tail (HoldsArgument p) v vs held) shows)
+    where
+      one : (v : Argument) (w : PlanArgument) → CopiesArgument p v w → ArgumentBelow i v → HoldsArgument p v → plan_arguments q ws ≡ arguments_of p vs → plan_arguments q (w ∷ ws) ≡ arguments_of p (v ∷ vs)
+      one _ _ (copies_value {e}) b h more = ap₂ (λ x us. value_argument x us) (value_same e h) more
+      one _ _ (copies_named {a} {k} is) b h more =
+          ap₂ (λ t us. process_argument t us) (ap (λ x. reference (run x)) (kept.names k (named_tree p a k is).1) ∙ sym (named_tree p a k is).0) more
+      one _ _ (copies_closed {a} is) b h more = ap₂ (λ t us. closed_before t us) (shows a b) more ∙ closed_tree p a (arguments_of p vs) is
 
   -- the same node stands for the same term
-  same_term : (n : Node) (m : PlanNode) (u : Term) (i : ℕ) → CopiesNode n m → TermPartsBelow n i → ShowsBelow p q i → BuildsPlan q m u → u ≡ term_of p n
-  same_term _ _ _ i (copies_primitive {q = a} {r = b} c) below shows (builds_primitive k) = same_primitive a b c
-  same_term _ _ _ i (copies_run {k}) below shows builds_run = ap run (copy.names k)
-  same_term _ _ _ i (copies_joined {j} {a} {b}) below shows builds_joined = ap₂ (λ f g. joined j f g) (shows a below.0) (shows b below.1)
-  same_term _ _ _ i (copies_sided {d} {a}) below shows builds_sided = ap (λ f. sided d f) (shows a below)
-  same_term _ _ _ i (copies_headed {h = k} {e} {c} {a}) below shows (builds_headed w) = ap₂ (λ v f. headed k v f) (value_same e) (shows a below)
-  same_term _ _ _ i (copies_switching {w = k} {a} {b} {q = r}) below shows builds_switching =
-      ap₂ (λ f g. switching k f (pattern_of (placed_at (plan_expressions q) r)) g) (shows a below.0) (shows b below.1) ∙ ap (λ z. switching k (term p a) (pattern_of z) (term p b)) (pattern_same r)
-  same_term _ _ _ i (copies_keeping {w} {a} {o} {b} {k} {q = r}) below shows builds_keeping =
+  same_term : (n : Node) (m : PlanNode) (u : Term) (i : ℕ) → CopiesNode p n m → TermPartsBelow p n i → HoldsTermParts p n → ShowsBelow p q i → BuildsPlan q m u → u ≡ term_of p n
+  same_term _ _ _ i (copies_primitive {q = a} {r = b} c) below held shows (builds_primitive k) = same_primitive a b c held
+  same_term _ _ _ i (copies_run {k}) below held shows builds_run = ap (λ x. reference (run x)) (kept.names k held)
+  same_term _ _ _ i (copies_call {k} {a} {v = v} z) below held shows (builds_call c w) =
+      ap₂ (λ x vs. reference (call x vs)) (kept.names k held.0) (same_arguments (arguments_under p a) v.items i z below held.2 shows)
+  same_term _ _ _ i (copies_joined {j} {a} {b}) below held shows builds_joined = ap₂ (λ f g. joined j f g) (shows a below.0) (shows b below.1)
+  same_term _ _ _ i (copies_sided {d} {a}) below held shows builds_sided = ap (λ f. sided d f) (shows a below)
+  same_term _ _ _ i (copies_headed {h = k} {e} {c} {a}) below held shows (builds_headed w) = ap₂ (λ v f. headed k v f) (value_same e held.0) (shows a below)
+  same_term _ _ _ i (copies_switching {w = k} {a} {b} {q = r}) below held shows builds_switching =
+      ap₂ (λ f g. switching k f (pattern_of (placed_at (plan_expressions q) r)) g) (shows a below.0) (shows b below.1) ∙ ap (λ z. switching k (term p a) (pattern_of z) (term p b)) (pattern_same r held.1)
+  same_term _ _ _ i (copies_keeping {w} {a} {o} {b} {k} {q = r}) below held shows builds_keeping =
       let name = name_at (plan_expressions q) k in
       let pattern = pattern_of (placed_at (plan_expressions q) r) in
       ap₂ (λ f g. keeping w f g name pattern (plan_tree q (plan_id b))) (shows a below.0) (shows o below.1)
       ∙ ap (λ u. keeping w (term p a) (term p o) name pattern u) (shows b below.2)
-      ∙ ap₂ (λ x z. keeping w (term p a) (term p o) x (pattern_of z) (term p b)) (copy.names k) (pattern_same r)
+      ∙ ap₂ (λ x z. keeping w (term p a) (term p o) x (pattern_of z) (term p b)) (kept.names k held.2) (pattern_same r held.3)
 
 -- one more term is shown
-pub shows_next : (p : Program) (old new : Plan) (n : Node) (m : PlanNode) (t : TermId) (a : PlanId) (i : ℕ) → IsCopy (program_expressions p) (plan_expressions old) → node_count old ≡ i → t.0 ≡ i → ShowsBelow p old i
-    → term p t ≡ term_of p n → TermPartsBelow n i → CopiesNode n m → AddsNode old new a m → KeepsPlan old new → ShowsBelow p new (i + 1)
-shows_next p old new n m t a i copy count at shows was below same_node added kept u h = ⊎_elim before here (cases_lt u.0 i)
+pub shows_next : (p : Program) (old new : Plan) (n : Node) (m : PlanNode) (t : TermId) (a : PlanId) (i : ℕ) → Keeps (program_expressions p) (plan_expressions old) → node_count old ≡ i → t.0 ≡ i → ShowsBelow p old i
+    → term p t ≡ term_of p n → TermPartsBelow p n i → HoldsTermParts p n → CopiesNode p n m → AddsNode old new a m → KeepsPlan old new → ShowsBelow p new (i + 1)
+shows_next p old new n m t a i same count at shows was below held same_node added kept u h = ⊎_elim before here (cases_lt u.0 i)
   where
     before : u.0 < i → plan_tree new (plan_id u) ≡ term p u
     before b = kept.trees (plan_id u) (omega (arith, count)) ∙ shows u b
 
     here : i ≤ u.0 → plan_tree new (plan_id u) ≡ term p u
     here b =
-        let same : u.0 ≡ i = omega arith in
-        let id : plan_id u ≡ a = ap (λ k. record { 0 = k }) (same ∙ sym count ∙ sym added.next) in
-        let term_id : t ≡ u = ap (λ k. record { 0 = k }) (at ∙ sym same) in
-        ap (λ a. plan_tree new a) id ∙ same_term p old copy n m (plan_tree new a) i same_node below shows added.builds ∙ sym was ∙ ap (λ t. term p t) term_id
+        let here : u.0 ≡ i = omega arith in
+        let id : plan_id u ≡ a = ap (λ k. record { 0 = k }) (here ∙ sym count ∙ sym added.next) in
+        let term_id : t ≡ u = ap (λ k. record { 0 = k }) (at ∙ sym here) in
+        ap (λ a. plan_tree new a) id ∙ same_term p old same n m (plan_tree new a) i same_node below held shows added.builds ∙ sym was ∙ ap (λ t. term p t) term_id
 
 -- all terms are shown
 pub shows_all : (p : Program) (q : Plan) (i : ℕ) → term_count p ≤ i → node_count q ≡ i → ShowsBelow p q i → ShowsTerms p q
 shows_all p q i all count shows t = ⊎_elim (λ h. shows t h) (λ h. tree_past q (plan_id t) (omega (arith, count)) ∙ sym (term_past p t (omega (arith, all)))) (cases_lt t.0 i)
 
+-- the parameters are the same
+same_parameters : (q : Plan) (xs : List PlacedParameter) (ys : List ParameterHeader) → AllZip (CopiesParameter (plan_expressions q)) xs ys → map (plan_binding q) ys ≡ parameters_of xs
+same_parameters q [] [] z = refl
+same_parameters q [] (y ∷ ys) z = absurd z
+same_parameters q (x ∷ xs) [] z = absurd z
+same_parameters q (x ∷ xs) (y ∷ ys) z = λ i. (z.0.named i, z.0.kind i) ∷ same_parameters q xs ys z.1 i
+
 -- the templates are the same where the terms are
-same_templates : (p : Program) (q : Plan) (hs : List TermHeader) → ShowsTerms p q → map (plan_template q) (map plan_header hs) ≡ map (term_template p) hs
-same_templates p q [] shows = refl
-same_templates p q (h ∷ hs) shows =
-    ap₂ (λ (b : Term) (us : List Template). record { name = h.name; input = h.input; output = h.output; body = b } ∷ us) (shows h.body) (same_templates p q hs shows)
+same_templates : (p : Program) (q : Plan) (hs : List TermHeader) (ms : List PlanHeader) → ShowsTerms p q → AllZip (CopiesTemplate (plan_expressions q)) hs ms → map (plan_template q) ms ≡ map (term_template p) hs
+same_templates p q [] [] shows z = refl
+same_templates p q [] (m ∷ ms) shows z = absurd z
+same_templates p q (h ∷ hs) [] shows z = absurd z
+same_templates p q (h ∷ hs) (m ∷ ms) shows z =
+    let one : plan_template q m ≡ term_template p h = λ i. record {
+      name = z.0.name i;
+      parameters = same_parameters q h.parameters m.parameters z.0.parameters i;
+      input = z.0.input i;
+      output = z.0.output i;
+      body = (ap (λ a. plan_tree q a) z.0.body ∙ shows h.body) i;
+    } in
+    ap₂ (λ (t : Template) us. t ∷ us) one (same_templates p q hs ms shows z.1)
 
 -- a plan that shows the terms and has the templates has the network
-pub same_network : (f : AnswersByName) (p : Program) (q : Plan) → ShowsTerms p q → plan_headers q ≡ map plan_header (program_headers p) → network_of_plan f q ≡ network_of f p
-same_network f p q shows headers = ap (λ (ts : Templates). record { templates = ts; functions = f }) (ap (λ hs. map (plan_template q) hs) headers ∙ same_templates p q (program_headers p) shows)
+pub same_network : (f : AnswersByName) (p : Program) (q : Plan) → ShowsTerms p q → AllZip (CopiesTemplate (plan_expressions q)) (program_headers p) (plan_headers q) → network_of_plan f q ≡ network_of f p
+same_network f p q shows headers = ap (λ (ts : Templates). record { templates = ts; functions = f }) (same_templates p q (program_headers p) (plan_headers q) shows headers)

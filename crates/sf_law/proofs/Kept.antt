@@ -1,36 +1,56 @@
 -- What builders keep of a plan.
-use Rattle.std.proofs.Common.{◌≡◌, ℕ, ◌≤◌, length, IsTrue, sym, ◌∙◌, ap, subst, arith, ⊎_elim}
+use Rattle.std.proofs.Common.{◌≡◌, ℕ, suc, ◌+◌, ◌≤◌, List, [], ◌∷◌, length, map, Bool, true, false, not, cond, bytes_eq, unwrap_or, slice_index_or, Some, IsTrue, refl, sym, ◌∙◌, ap, subst, arith, ⊎_elim}
 use mathlib.Core.Path.{ap₂}
 use Rattle.std.proofs.lemmas.List.{get_or_past}
-use Rattle.std.proofs.lemmas.Bool.{cases_lt}
+use Rattle.std.proofs.lemmas.Bool.{cases_lt, eqb-true}
 use Rattle.sf_arena.specs.Folded.{tree_at}
 use Rattle.sf_arena.specs.Items.{Added}
 use Rattle.sf_arena.proofs.Grown.{trees-length, added_counted, added_item, item_kept, tree_kept, tree_added}
+use Rattle.sf_value.specs.Values.{Name}
+use Rattle.sf_expr.specs.Arena.{name_at}
 use Rattle.sf_term.specs.Entries.{identity_term}
+use Rattle.sf_term.specs.Trees.{template_named}
 use Rattle.sf_law.specs.declared.node.PlanId.{PlanId}
 use Rattle.sf_law.specs.declared.node.PlanNode.{PlanNode}
 use Rattle.sf_law.specs.declared.node.PlanNode.TheVariants as nodes
 use Rattle.sf_law.specs.declared.plan.Plan.{Plan}
-use Rattle.sf_law.specs.Entries.{IsCoded, plan_over, parts_end, is_whole, identity_node, node_among, plan_terms, plan_term}
-use Rattle.sf_law.specs.Arena.{node_count, plan_node_at, plan_tree, BuildsPlan, builds_primitive, builds_run, builds_joined, builds_sided, builds_headed, builds_switching, builds_keeping, builds_pipeline, KeepsPlan, AddsNode}
+use Rattle.sf_law.specs.declared.node.TemplateId.{TemplateId}
+use Rattle.sf_law.specs.Headers.{PlanHeader, place_named, no_header}
+use Rattle.sf_law.specs.Entries.{IsCoded, plan_over, parts_end, is_whole, calls_first, identity_node, node_among, plan_terms, plan_term}
+use Rattle.sf_law.specs.Arena.{node_count, plan_node_at, plan_tree, BuildsPlan, plan_expressions, plan_headers, plan_template, header_at, IsCalled, builds_primitive, builds_run, builds_call, builds_joined, builds_sided, builds_headed, builds_switching, builds_keeping, builds_pipeline, KeepsPlan, AddsNode}
 use Rattle.sf_law.proofs.Placed.{term-built}
 
+-- what is called by a name is the first template of that name, among these
+first_called : (p : Plan) (x : Name) (hs : List PlanHeader) → plan_template p (slice_index_or hs (place_named x hs) no_header) ≡ unwrap_or (template_named x (map (plan_template p) hs)) (plan_template p no_header)
+first_called p x [] = refl
+first_called p x (h ∷ hs) = by (bytes_eq x h.name) (first_called p x hs)
+  where
+    by : (b : Bool) → plan_template p (slice_index_or hs (place_named x hs) no_header) ≡ unwrap_or (template_named x (map (plan_template p) hs)) (plan_template p no_header)
+        → plan_template p (slice_index_or (h ∷ hs) (cond (not b) (1 + place_named x hs) 0) no_header) ≡ unwrap_or (cond b (Some (plan_template p h)) (template_named x (map (plan_template p) hs))) (plan_template p no_header)
+    by true rest = refl
+    by false rest = let next : 1 + place_named x hs ≡ suc (place_named x hs) = omega arith in ap (λ i. plan_template p (slice_index_or (h ∷ hs) i no_header)) next ∙ rest
+
+-- the template of an id, where that is the first of a name, is what is called by the name
+pub is_called : (p : Plan) (x : Name) (g : TemplateId) → g.0 ≡ place_named x (plan_headers p) → IsCalled p x (header_at p g)
+is_called p x g e = ap (λ i. plan_template p (slice_index_or (plan_headers p) i no_header)) e ∙ first_called p x (plan_headers p)
+
 -- a node stands for the term that is made of it
-made : (p : Plan) (n : PlanNode) → IsTrue (is_whole n) → IsCoded p.expressions n → BuildsPlan p n (plan_over p.expressions (plan_terms p.expressions p.nodes.items) n)
+made : (p : Plan) (n : PlanNode) → IsTrue (is_whole n) → IsCoded p.expressions n → IsTrue (calls_first p.expressions p.templates.items n) → BuildsPlan p n (plan_over p.expressions (plan_terms p.expressions p.nodes.items) n)
 unfolding plan_tree tree_at
-made p (nodes.Primitive q) w k = builds_primitive k
-made p (nodes.Run i) w k = builds_run
-made p (nodes.Joined j a b) w k = builds_joined
-made p (nodes.Sided d a) w k = builds_sided
-made p (nodes.Headed h e c a) w k = builds_headed k
-made p (nodes.Switching s a q b) w k = builds_switching
-made p (nodes.Keeping s a o i q b) w k = builds_keeping
-made p (nodes.Pipeline v) w k = builds_pipeline w
+made p (nodes.Primitive q) w k f = builds_primitive k
+made p (nodes.Run i) w k f = builds_run
+made p (nodes.Call i g v) w k f = builds_call (is_called p (name_at (plan_expressions p) i) g (eqb-true g.0 _ f)) k
+made p (nodes.Joined j a b) w k f = builds_joined
+made p (nodes.Sided d a) w k f = builds_sided
+made p (nodes.Headed h e c a) w k f = builds_headed k
+made p (nodes.Switching s a q b) w k f = builds_switching
+made p (nodes.Keeping s a o i q b) w k f = builds_keeping
+made p (nodes.Pipeline v) w k f = builds_pipeline w
 
 -- a node stands for the term at its id
 pub builds : (p : Plan) (a : PlanId) → BuildsPlan p (plan_node_at p a) (plan_tree p a)
 unfolding plan_node_at plan_tree
-builds p a = subst (λ t. BuildsPlan p (node_among p.nodes.items a.0) t) (sym (term-built p.expressions p.nodes.items a.0 p.arena)) (made p (node_among p.nodes.items a.0) (p.arena.wholes a.0) (p.arena.coded a.0))
+builds p a = subst (λ t. BuildsPlan p (node_among p.nodes.items a.0) t) (sym (term-built p.expressions p.templates.items p.nodes.items a.0 p.arena)) (made p (node_among p.nodes.items a.0) (p.arena.wholes a.0) (p.arena.coded a.0) (p.arena.called a.0))
 
 -- the parts of a node stand before it
 pub parts_below : (p : Plan) (a : PlanId) → parts_end (plan_node_at p a) ≤ a.0
@@ -68,11 +88,12 @@ same_keeps old new same nodes = record {
 }
 
 -- a node that is added adds its term
-pub adds_added : (old new : Plan) (n : PlanNode) (a : PlanId) → new.expressions ≡ old.expressions → Added old.nodes.items new.nodes.items n a.0 → IsTrue (is_whole n) → IsCoded old.expressions n → AddsNode old new a n
+pub adds_added : (old new : Plan) (n : PlanNode) (a : PlanId) → new.expressions ≡ old.expressions → Added old.nodes.items new.nodes.items n a.0 → IsTrue (is_whole n) → IsCoded old.expressions n
+    → IsTrue (calls_first old.expressions old.templates.items n) → AddsNode old new a n
 unfolding plan_node_at plan_tree
-adds_added old new n a same added whole coded = record {
+adds_added old new n a same added whole coded called = record {
   next = added.next;
   counted = added_counted _ _ _ _ added;
   is = added_item _ _ _ _ added identity_node;
-  builds = subst (λ t. BuildsPlan old n t) (sym (ap (λ x. plan_term x new.nodes.items a.0) same ∙ tree_added _ _ _ _ added (plan_over old.expressions) identity_term)) (made old n whole coded);
+  builds = subst (λ t. BuildsPlan old n t) (sym (ap (λ x. plan_term x new.nodes.items a.0) same ∙ tree_added _ _ _ _ added (plan_over old.expressions) identity_term)) (made old n whole coded called);
 }

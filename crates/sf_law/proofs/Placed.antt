@@ -1,5 +1,5 @@
 -- The nodes of a plan, of which one more is put behind.
-use Rattle.std.proofs.Common.{◌≡◌, ℕ, suc, ◌≤◌, List, [], ◌∷◌, ◌++◌, length, map, Bool, true, false, cond, IsTrue, refl, sym, ◌∙◌, ap, subst, arith}
+use Rattle.std.proofs.Common.{◌≡◌, ℕ, suc, ◌<◌, ◌≤◌, List, [], ◌∷◌, ◌++◌, length, map, Bool, true, false, cond, IsTrue, refl, sym, ◌∙◌, ap, subst, arith}
 use mathlib.Core.Path.{ap₂}
 use Rattle.std.proofs.lemmas.List.{get_or_append_left}
 use Rattle.sf_arena.specs.Items.{Added}
@@ -7,12 +7,15 @@ use Rattle.sf_arena.proofs.Grown.{each_item, tree_made}
 use Rattle.sf_expr.specs.declared.exprs.Exprs.{Exprs}
 use Rattle.sf_expr.specs.Patterns.{pattern_of}
 use Rattle.sf_expr.specs.Arena.{expression, name_at, placed_at}
-use Rattle.sf_term.specs.Trees.{Term, joined, sided, headed, switching, keeping}
+use Rattle.sf_term.specs.Trees.{Term, reference, call, value_argument, process_argument, run, joined, sided, headed, switching, keeping}
 use Rattle.sf_term.specs.Entries.{identity_term, term_among}
 use Rattle.sf_law.specs.declared.node.PlanId.{PlanId}
+use Rattle.sf_law.specs.declared.node.PlanArgument.{PlanArgument}
+use Rattle.sf_law.specs.declared.node.PlanArgument.TheVariants as arguments
 use Rattle.sf_law.specs.declared.node.PlanNode.{PlanNode}
 use Rattle.sf_law.specs.declared.node.PlanNode.TheVariants as nodes
-use Rattle.sf_law.specs.Entries.{pipeline, IsCoded, plan_over, ids_end, parts_end, is_whole, identity_node, node_among, plan_terms, plan_term, ArePlanNodes}
+use Rattle.sf_law.specs.Headers.{PlanHeader}
+use Rattle.sf_law.specs.Entries.{closed_before, arguments_with, pipeline, IsCoded, plan_over, ids_end, arguments_end, parts_end, is_whole, calls_first, identity_node, node_among, plan_terms, plan_term, ArePlanNodes}
 
 part : (ts more : List Term) (i : ℕ) → suc i ≤ length ts → term_among (ts ++ more) i ≡ term_among ts i
 part ts more i h = get_or_append_left ts more identity_term i (omega arith)
@@ -21,10 +24,18 @@ all-parts : (ts more : List Term) (ids : List PlanId) → ids_end ids ≤ length
 all-parts ts more [] h = refl
 all-parts ts more (a ∷ ids) h = ap₂ (λ t us. t ∷ us) (part ts more a.0 (omega arith)) (all-parts ts more ids (omega arith))
 
+-- arguments depend on the terms below their end alone
+pub same_arguments : (x : Exprs) (t u : PlanId → Term) (vs : List PlanArgument) → ((a : PlanId) → a.0 < arguments_end vs → t a ≡ u a) → arguments_with x t vs ≡ arguments_with x u vs
+same_arguments x t u [] h = refl
+same_arguments x t u (arguments.Value e c ∷ vs) h = ap (λ ws. value_argument (expression x e) ws) (same_arguments x t u vs h)
+same_arguments x t u (arguments.Named k ∷ vs) h = ap (λ ws. process_argument (reference (run (name_at x k))) ws) (same_arguments x t u vs h)
+same_arguments x t u (arguments.Closed a ∷ vs) h = ap₂ (λ f ws. closed_before f ws) (h a (omega arith)) (same_arguments x t u vs (λ b l. h b (omega arith)))
+
 -- a node's term depends on its parts alone
 local : (x : Exprs) (ts more : List Term) (n : PlanNode) → parts_end n ≤ length ts → plan_over x (ts ++ more) n ≡ plan_over x ts n
 local x ts more (nodes.Primitive q) h = refl
 local x ts more (nodes.Run k) h = refl
+local x ts more (nodes.Call k g v) h = ap (λ vs. reference (call (name_at x k) vs)) (same_arguments x (λ (a : PlanId). term_among (ts ++ more) a.0) (λ (a : PlanId). term_among ts a.0) v.items (λ a l. part ts more a.0 (omega arith)))
 local x ts more (nodes.Joined j a b) h = ap₂ (λ s t. joined j s t) (part ts more a.0 (omega arith)) (part ts more b.0 (omega arith))
 local x ts more (nodes.Sided d a) h = ap (λ t. sided d t) (part ts more a.0 h)
 local x ts more (nodes.Headed k e c a) h = ap (λ t. headed k (expression x e) t) (part ts more a.0 h)
@@ -37,20 +48,22 @@ local x ts more (nodes.Keeping w a o k q b) h =
 local x ts more (nodes.Pipeline v) h = ap pipeline (all-parts ts more v.items h)
 
 -- nothing is an arena
-pub arena_empty : (x : Exprs) → ArePlanNodes x []
-arena_empty x = record { in_order = λ i. omega arith; wholes = λ i. refl; coded = λ i. tt }
+pub arena_empty : (x : Exprs) (hs : List PlanHeader) → ArePlanNodes x hs []
+arena_empty x hs = record { in_order = λ i. omega arith; wholes = λ i. refl; coded = λ i. tt; called = λ i. refl }
 
 -- the arena, where it may be that a node was put behind
-pub arena_put : (x : Exprs) (old new : List PlanNode) (n : PlanNode) (put : Bool) → new ≡ cond put (old ++ n ∷ []) old → ArePlanNodes x old → parts_end n ≤ length old → IsTrue (is_whole n) → IsCoded x n → ArePlanNodes x new
-arena_put x old new n true e a below whole coded =
+pub arena_put : (x : Exprs) (hs : List PlanHeader) (old new : List PlanNode) (n : PlanNode) (put : Bool) → new ≡ cond put (old ++ n ∷ []) old → ArePlanNodes x hs old
+    → parts_end n ≤ length old → IsTrue (is_whole n) → IsCoded x n → IsTrue (calls_first x hs n) → ArePlanNodes x hs new
+arena_put x hs old new n true e a below whole coded called =
     let added : Added old new n (length old) = record { next = refl; grown = e } in
     record {
       in_order = each_item old new n _ added (λ i m. parts_end m ≤ i) identity_node a.in_order below;
       wholes = each_item old new n _ added (λ i m. IsTrue (is_whole m)) identity_node a.wholes whole;
       coded = each_item old new n _ added (λ i m. IsCoded x m) identity_node a.coded coded;
+      called = each_item old new n _ added (λ i m. IsTrue (calls_first x hs m)) identity_node a.called called;
     }
-arena_put x old new n false e a below whole coded = subst (λ ns. ArePlanNodes x ns) (sym e) a
+arena_put x hs old new n false e a below whole coded called = subst (λ ns. ArePlanNodes x hs ns) (sym e) a
 
 -- the term at a place is made over all terms
-pub term-built : (x : Exprs) (ns : List PlanNode) (i : ℕ) → ArePlanNodes x ns → plan_term x ns i ≡ plan_over x (plan_terms x ns) (node_among ns i)
-term-built x ns i a = tree_made (plan_over x) parts_end identity_node (local x) ns identity_term (λ ts. refl) a.in_order i
+pub term-built : (x : Exprs) (hs : List PlanHeader) (ns : List PlanNode) (i : ℕ) → ArePlanNodes x hs ns → plan_term x ns i ≡ plan_over x (plan_terms x ns) (node_among ns i)
+term-built x hs ns i a = tree_made (plan_over x) parts_end identity_node (local x) ns identity_term (λ ts. refl) a.in_order i

@@ -1,5 +1,6 @@
 -- Plans, seen by their trees.
-use Rattle.std.specs.Prelude.{◌≡◌, ℕ, ◌+◌, ◌<◌, ◌≤◌, List, length, map, nat_le, IsTrue, Option, IfSome, Vec}
+use Rattle.std.specs.Prelude.{◌≡◌, ℕ, ◌+◌, ◌<◌, ◌≤◌, List, length, map, nat_le, IsTrue, Option, IfSome, unwrap_or, slice_index_or, All, Vec}
+use Rattle.sf_value.specs.Values.{Name}
 use Rattle.std.specs.declared.alloc.Global.{Global}
 use Rattle.sf_func.specs.Registries.{AnswersByName}
 use Rattle.sf_expr.specs.declared.exprs.ExprId.{ExprId}
@@ -16,15 +17,18 @@ use Rattle.sf_term.specs.declared.form.Observation.{Observation}
 use Rattle.sf_term.specs.declared.form.Switching.{Switching}
 use Rattle.sf_code.specs.declared.code.Code.{Code}
 use Rattle.sf_code.specs.Worth.{IsCodeOf}
-use Rattle.sf_term.specs.Trees.{Term, primitive, run, joined, sided, headed, switching, keeping, Template, Templates}
+use Rattle.sf_term.specs.Trees.{Term, primitive, reference, run, call, Arguments, joined, sided, headed, switching, keeping, Template, Templates, template_named}
+use Rattle.sf_term.specs.Parameters.{NameKind}
 use Rattle.sf_mean.specs.Meaning.{Network}
 use Rattle.sf_law.specs.declared.node.PlanId.{PlanId}
+use Rattle.sf_law.specs.declared.node.TemplateId.{TemplateId}
+use Rattle.sf_law.specs.declared.node.PlanArgument.{PlanArgument}
 use Rattle.sf_law.specs.declared.node.PlanNode.{PlanNode}
 use Rattle.sf_law.specs.declared.node.PlanPrimitive.{PlanPrimitive}
 use Rattle.sf_law.specs.declared.node.PlanNode.TheVariants as nodes
 use Rattle.sf_law.specs.declared.plan.Plan.{Plan}
-use Rattle.sf_law.specs.Headers.{PlanHeader}
-use Rattle.sf_law.specs.Entries.{primitive_over, IsCodedPrimitive, pipeline, node_among, plan_term}
+use Rattle.sf_law.specs.Headers.{ParameterHeader, PlanHeader, no_header}
+use Rattle.sf_law.specs.Entries.{primitive_over, IsCodedPrimitive, IsCodedArgument, arguments_with, pipeline, node_among, plan_term}
 
 -- the number of an id
 abbrev pub plan_number : PlanId → ℕ
@@ -58,13 +62,33 @@ trees_at p ids = map (λ a. plan_tree p a) ids
 abbrev pub plan_headers : Plan → List PlanHeader
 plan_headers p = p.templates.items
 
+-- the name of a parameter, with what it stands for
+abbrev pub plan_binding : Plan → ParameterHeader → Name × NameKind
+plan_binding p q = (name_at (plan_expressions p) q.name, q.kind)
+
 -- a template with the tree of its body
 abbrev pub plan_template : Plan → PlanHeader → Template
-plan_template p h = record { name = h.name; input = h.input; output = h.output; body = plan_tree p h.body }
+plan_template p h = record { name = h.name; parameters = map (plan_binding p) h.parameters; input = h.input; output = h.output; body = plan_tree p h.body }
 
 -- the templates of a plan, in order
 abbrev pub plan_templates : Plan → Templates
 plan_templates p = map (plan_template p) (plan_headers p)
+
+-- the number of a template's id
+abbrev pub template_number : TemplateId → ℕ
+template_number g = g.0
+
+-- the template at an id; one without parameters that passes its inputs on where the plan holds none
+abbrev pub header_at : Plan → TemplateId → PlanHeader
+header_at p g = slice_index_or (plan_headers p) g.0 no_header
+
+-- a template is what is called by a name: the first of that name, or, where none has it, one that passes its inputs on
+abbrev pub IsCalled : Plan → Name → PlanHeader → Type 0
+IsCalled p x h = plan_template p h ≡ unwrap_or (template_named x (plan_templates p)) (plan_template p no_header)
+
+-- the arguments of a call, with the trees of their terms
+abbrev pub plan_arguments : Plan → List PlanArgument → Arguments
+plan_arguments p vs = arguments_with (plan_expressions p) (plan_tree p) vs
 
 -- the network of a plan, where stored functions answer this
 abbrev pub network_of_plan : AnswersByName → Plan → Network
@@ -74,10 +98,12 @@ network_of_plan f p = record { templates = plan_templates p; functions = f }
 abbrev pub plan_main : Plan → PlanId
 plan_main p = p.main
 
--- A node with the ids of its parts stands for a term with their trees; the code that it has is that of its expression or its function.
+-- A node with the ids of its parts stands for a term with their trees; the code that it has is that of its expressions or its function.
 pub data BuildsPlan (p : Plan) : PlanNode → Term → Type 0 where
   builds_primitive : {q : PlanPrimitive} → IsCodedPrimitive (plan_expressions p) q → BuildsPlan p (nodes.Primitive q) (primitive (primitive_over (plan_expressions p) q))
-  builds_run : {k : NameId} → BuildsPlan p (nodes.Run k) (run (name_at (plan_expressions p) k))
+  builds_run : {k : NameId} → BuildsPlan p (nodes.Run k) (reference (run (name_at (plan_expressions p) k)))
+  builds_call : {k : NameId} {g : TemplateId} {v : Vec PlanArgument Global} → IsCalled p (name_at (plan_expressions p) k) (header_at p g) → All (IsCodedArgument (plan_expressions p)) v.items
+      → BuildsPlan p (nodes.Call k g v) (reference (call (name_at (plan_expressions p) k) (plan_arguments p v.items)))
   builds_joined : {j : Join} {a b : PlanId} → BuildsPlan p (nodes.Joined j a b) (joined j (plan_tree p a) (plan_tree p b))
   builds_sided : {d : Side} {a : PlanId} → BuildsPlan p (nodes.Sided d a) (sided d (plan_tree p a))
   builds_headed : {h : Heading} {e : ExprId} {c : Option Code} {a : PlanId} → IfSome c (λ i. IsCodeOf (plan_expression_at p e) i) → BuildsPlan p (nodes.Headed h e c a) (headed h (plan_expression_at p e) (plan_tree p a))

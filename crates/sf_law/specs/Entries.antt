@@ -1,7 +1,8 @@
 -- The nodes of an arena of plans.
-use Rattle.std.specs.Prelude.{ℕ, suc, ◌≤◌, max, Bool, true, nat_le, IsTrue, ⊤, Option, IfSome, List, [], ◌∷◌, length, map, slice_index_or}
+use Rattle.std.specs.Prelude.{◌≡◌, ℕ, suc, ◌≤◌, max, Bool, true, nat_le, nat_eq, IsTrue, ⊤, Option, IfSome, List, [], ◌∷◌, length, map, slice_index_or, All}
 use Rattle.sf_expr.specs.declared.exprs.ExprId.{ExprId}
 use Rattle.sf_expr.specs.declared.exprs.Exprs.{Exprs}
+use Rattle.sf_expr.specs.Expressions.{named}
 use Rattle.sf_expr.specs.Patterns.{pattern_of}
 use Rattle.sf_expr.specs.Arena.{expression, function_at, name_at, literal_at, placed_at}
 use Rattle.sf_arena.specs.Folded.{trees, tree_at}
@@ -9,12 +10,15 @@ use Rattle.sf_term.specs.declared.form.Bare.TheVariants.{Identity}
 use Rattle.sf_code.specs.declared.code.Code.{Code}
 use Rattle.sf_code.specs.Worth.{IsCodeOf, IsCodeOfFunction}
 use Rattle.sf_term.specs.Entries.{identity_term, absent_payload, term_among}
-use Rattle.sf_term.specs.Trees.{Extent, whole, rest, Primitive, Term, primitive, run, joined, sided, headed, switching, keeping, staged, bare, never, with_value, timed, arrow, accumulated}
+use Rattle.sf_term.specs.Trees.{Extent, whole, rest, Primitive, Term, primitive, reference, run, call, Arguments, no_arguments, value_argument, process_argument, closed_argument, joined, sided, headed, switching, keeping, staged, bare, never, with_value, timed, arrow, accumulated}
 use Rattle.sf_law.specs.declared.node.PlanId.{PlanId}
+use Rattle.sf_law.specs.declared.node.PlanArgument.{PlanArgument}
+use Rattle.sf_law.specs.declared.node.PlanArgument.TheVariants as arguments
 use Rattle.sf_law.specs.declared.node.PlanNode.{PlanNode}
 use Rattle.sf_law.specs.declared.node.PlanNode.TheVariants as nodes
 use Rattle.sf_law.specs.declared.node.PlanPrimitive.{PlanPrimitive}
 use Rattle.sf_law.specs.declared.node.PlanPrimitive.TheVariants as primitives
+use Rattle.sf_law.specs.Headers.{ParameterHeader, PlanHeader, place_named}
 
 -- a stage with those behind it
 abbrev pub stages : Extent → Term → List Term → Term
@@ -48,10 +52,17 @@ IsCodedPrimitive x (primitives.Accumulated k e d f c) = IfSome d (λ i. IsCodeOf
 abbrev pub IsCodedExpression : Exprs → ExprId → Option Code → Type 0
 IsCodedExpression x e c = IfSome c (λ i. IsCodeOf (expression x e) i)
 
--- the code that a node has is that of its expression or its function
+-- the code that an argument has is that of its expression
+abbrev pub IsCodedArgument : Exprs → PlanArgument → Type 0
+IsCodedArgument x (arguments.Value e c) = IfSome c (λ i. IsCodeOf (expression x e) i)
+IsCodedArgument x (arguments.Named k) = ⊤
+IsCodedArgument x (arguments.Closed a) = ⊤
+
+-- the code that a node has is that of its expressions or its function
 abbrev pub IsCoded : Exprs → PlanNode → Type 0
 IsCoded x (nodes.Primitive q) = IsCodedPrimitive x q
 IsCoded x (nodes.Run k) = ⊤
+IsCoded x (nodes.Call k g v) = All (IsCodedArgument x) v.items
 IsCoded x (nodes.Joined j a b) = ⊤
 IsCoded x (nodes.Sided d a) = ⊤
 IsCoded x (nodes.Headed h e c a) = IfSome c (λ i. IsCodeOf (expression x e) i)
@@ -59,10 +70,31 @@ IsCoded x (nodes.Switching w a q b) = ⊤
 IsCoded x (nodes.Keeping w a o k q b) = ⊤
 IsCoded x (nodes.Pipeline v) = ⊤
 
+-- Arguments with a term that is closed before them. Such a term is written as it is in a network, but for a named process: as an
+-- argument of a network that is the process itself.
+abbrev pub closed_before : Term → Arguments → Arguments
+closed_before (primitive p) vs = process_argument (primitive p) vs
+closed_before (reference (run k)) vs = closed_argument (reference (run k)) vs
+closed_before (reference (call g ws)) vs = process_argument (reference (call g ws)) vs
+closed_before (joined j f g) vs = process_argument (joined j f g) vs
+closed_before (sided d t) vs = process_argument (sided d t) vs
+closed_before (headed h i t) vs = process_argument (headed h i t) vs
+closed_before (switching w t p u) vs = process_argument (switching w t p u) vs
+closed_before (keeping w t q k p u) vs = process_argument (keeping w t q k p u) vs
+closed_before (staged e f g) vs = process_argument (staged e f g) vs
+
+-- arguments, with these terms at their ids
+abbrev pub arguments_with : Exprs → (PlanId → Term) → List PlanArgument → Arguments
+arguments_with x t [] = no_arguments
+arguments_with x t (arguments.Value e c ∷ vs) = value_argument (expression x e) (arguments_with x t vs)
+arguments_with x t (arguments.Named k ∷ vs) = process_argument (reference (run (name_at x k))) (arguments_with x t vs)
+arguments_with x t (arguments.Closed a ∷ vs) = closed_before (t a) (arguments_with x t vs)
+
 -- the term of a node, over the terms before it
 abbrev pub plan_over : Exprs → List Term → PlanNode → Term
 plan_over x ts (nodes.Primitive q) = primitive (primitive_over x q)
-plan_over x ts (nodes.Run k) = run (name_at x k)
+plan_over x ts (nodes.Run k) = reference (run (name_at x k))
+plan_over x ts (nodes.Call k g v) = reference (call (name_at x k) (arguments_with x (λ (a : PlanId). term_among ts a.0) v.items))
 plan_over x ts (nodes.Joined j a b) = joined j (term_among ts a.0) (term_among ts b.0)
 plan_over x ts (nodes.Sided d a) = sided d (term_among ts a.0)
 plan_over x ts (nodes.Headed h e c a) = headed h (expression x e) (term_among ts a.0)
@@ -75,10 +107,18 @@ abbrev pub ids_end : List PlanId → ℕ
 ids_end [] = 0
 ids_end (a ∷ bs) = max (suc a.0) (ids_end bs)
 
+-- the least number above the ids of arguments
+abbrev pub arguments_end : List PlanArgument → ℕ
+arguments_end [] = 0
+arguments_end (arguments.Value e c ∷ vs) = arguments_end vs
+arguments_end (arguments.Named k ∷ vs) = arguments_end vs
+arguments_end (arguments.Closed a ∷ vs) = max (suc a.0) (arguments_end vs)
+
 -- the least number above the ids of a node's parts
 abbrev pub parts_end : PlanNode → ℕ
 parts_end (nodes.Primitive q) = 0
 parts_end (nodes.Run k) = 0
+parts_end (nodes.Call k g v) = arguments_end v.items
 parts_end (nodes.Joined j a b) = suc (max a.0 b.0)
 parts_end (nodes.Sided d a) = suc a.0
 parts_end (nodes.Headed h e c a) = suc a.0
@@ -90,12 +130,25 @@ parts_end (nodes.Pipeline v) = ids_end v.items
 abbrev pub is_whole : PlanNode → Bool
 is_whole (nodes.Primitive q) = true
 is_whole (nodes.Run k) = true
+is_whole (nodes.Call k g v) = true
 is_whole (nodes.Joined j a b) = true
 is_whole (nodes.Sided d a) = true
 is_whole (nodes.Headed h e c a) = true
 is_whole (nodes.Switching w a q b) = true
 is_whole (nodes.Keeping w a o k q b) = true
 is_whole (nodes.Pipeline v) = nat_le 2 (length v.items)
+
+-- a call is of the first template of its name
+abbrev pub calls_first : Exprs → List PlanHeader → PlanNode → Bool
+calls_first x hs (nodes.Primitive q) = true
+calls_first x hs (nodes.Run k) = true
+calls_first x hs (nodes.Call k g v) = nat_eq g.0 (place_named (name_at x k) hs)
+calls_first x hs (nodes.Joined j a b) = true
+calls_first x hs (nodes.Sided d a) = true
+calls_first x hs (nodes.Headed h e c a) = true
+calls_first x hs (nodes.Switching w a q b) = true
+calls_first x hs (nodes.Keeping w a o k q b) = true
+calls_first x hs (nodes.Pipeline v) = true
 
 -- the identity
 abbrev pub identity_node : PlanNode
@@ -113,8 +166,17 @@ plan_terms x ns = trees (plan_over x) ns
 abbrev pub plan_term : Exprs → List PlanNode → ℕ → Term
 plan_term x ns i = tree_at (plan_over x) identity_term ns i
 
--- What holds of the nodes of a plan over these expressions and functions.
-pub record ArePlanNodes (x : Exprs) (ns : List PlanNode) : Type 0 where
+-- the pattern of a parameter binds its name alone
+abbrev pub BindsName : Exprs → ParameterHeader → Type 0
+BindsName x q = pattern_of (placed_at x q.pattern) ≡ named (name_at x q.name)
+
+-- the patterns of a template's parameters bind their names
+abbrev pub BindsNames : Exprs → PlanHeader → Type 0
+BindsNames x h = All (BindsName x) h.parameters
+
+-- What holds of the nodes of a plan over these expressions and functions, beside these templates.
+pub record ArePlanNodes (x : Exprs) (hs : List PlanHeader) (ns : List PlanNode) : Type 0 where
   pub in_order : (i : ℕ) → parts_end (node_among ns i) ≤ i
   pub wholes : (i : ℕ) → IsTrue (is_whole (node_among ns i))
   pub coded : (i : ℕ) → IsCoded x (node_among ns i)
+  pub called : (i : ℕ) → IsTrue (calls_first x hs (node_among ns i))

@@ -1,5 +1,5 @@
 -- That a node is coded has one proof at most, so a plan can keep it.
-use Rattle.std.specs.Prelude.{◌≡◌, refl, ⊤, Option, IfSome, Result, Ok, Err, [], ◌∷◌}
+use Rattle.std.specs.Prelude.{◌≡◌, refl, ⊤, Option, IfSome, Result, Ok, Err, [], ◌∷◌, slice_index_or}
 use Rattle.std.specs.Option.{MatchOption-prop}
 use Rattle.std.specs.Coded.{Coded-set, code_by, coded_result, Unit-prop}
 use Rattle.std.specs.declared.rc.Rc.{Rc}
@@ -9,19 +9,24 @@ use Rattle.sf_value.specs.declared.fault.ValueFault.{ValueFault}
 use Rattle.sf_value.specs.contracts.value.Value as values
 use Rattle.sf_value.specs.contracts.fault.ValueFault as faults
 use Rattle.sf_operator.specs.Outcomes.{Evaluated, answer, failed}
-use Rattle.sf_expr.specs.Expressions.{Expression, Function}
+use Rattle.sf_expr.specs.Expressions.{Pattern, unnamed, named, both, Expression, Function}
+use Rattle.sf_expr.specs.Patterns.{PlacedPattern, placed_unnamed, placed_name, placed_both, pattern_of}
+use Rattle.sf_expr.specs.contracts.pat.Pat as placed
 use Rattle.sf_expr.specs.Evaluation.{functions_in, eval, apply}
-use Rattle.sf_expr.specs.Arena.{expression, function_at}
+use Rattle.sf_expr.specs.Arena.{expression, function_at, name_at, placed_at}
 use Rattle.sf_expr.specs.declared.exprs.Exprs.{Exprs}
 use Rattle.sf_code.specs.declared.code.Code.{Code}
 use Rattle.sf_code.specs.CodeView.{code_of}
 use Rattle.sf_code.specs.Running.{run}
 use Rattle.sf_code.specs.Worth.{IsCodeOf, IsCodeOfFunction}
+use Rattle.sf_law.specs.declared.node.PlanArgument.{PlanArgument}
+use Rattle.sf_law.specs.declared.node.PlanArgument.TheVariants as arguments
 use Rattle.sf_law.specs.declared.node.PlanNode.{PlanNode}
 use Rattle.sf_law.specs.declared.node.PlanNode.TheVariants as nodes
 use Rattle.sf_law.specs.declared.node.PlanPrimitive.{PlanPrimitive}
 use Rattle.sf_law.specs.declared.node.PlanPrimitive.TheVariants as primitives
-use Rattle.sf_law.specs.Entries.{IsCodedPrimitive, IsCoded}
+use Rattle.sf_law.specs.Headers.{ParameterHeader, PlanHeader}
+use Rattle.sf_law.specs.Entries.{IsCodedPrimitive, IsCodedArgument, IsCoded, BindsNames}
 
 -- an evaluation as a result, and back
 abbrev result_in : Evaluated Data → Result Data ValueFault
@@ -38,6 +43,23 @@ evaluated-result (failed x) = refl
 
 evaluated-set : (v w : Evaluated Data) → IsProp (v ≡ w)
 evaluated-set = Coded-set (code_by (Result Data ValueFault) (coded_result values.the_row.coded faults.the_row.coded) result_in evaluated evaluated-result)
+
+-- a pattern with no places, and back
+abbrev placed_nowhere : Pattern → PlacedPattern
+placed_nowhere unnamed = placed_unnamed
+placed_nowhere (named x) = placed_name x (record { line = 0; column = 0 })
+placed_nowhere (both p q) = placed_both (placed_nowhere p) (placed_nowhere q)
+
+pattern-placed : (p : Pattern) → pattern_of (placed_nowhere p) ≡ p
+pattern-placed unnamed = refl
+pattern-placed (named x) = refl
+pattern-placed (both p q) = λ i. both (pattern-placed p i) (pattern-placed q i)
+
+pattern-set : (p q : Pattern) → IsProp (p ≡ q)
+pattern-set = Coded-set (code_by PlacedPattern placed.the_row.coded placed_nowhere pattern_of pattern-placed)
+
+pub BindsNames-prop : (x : Exprs) (h : PlanHeader) → IsProp (BindsNames x h)
+BindsNames-prop x h = λ a b i n d l. let q : ParameterHeader = slice_index_or h.parameters n d in pattern-set (pattern_of (placed_at x q.pattern)) (named (name_at x q.name)) (a n d l) (b n d l) i
 
 IsCodeOf-prop : (e : Expression) (c : Code) → IsProp (IsCodeOf e c)
 IsCodeOf-prop e c a b = λ i. record { worth = λ s. evaluated-set (run (code_of c) [] (functions_in s)) (eval e s) (a.worth s) (b.worth s) i }
@@ -59,9 +81,15 @@ IsCodedPrimitive-prop x (primitives.Timed k q e c) = code-prop (expression x e) 
 IsCodedPrimitive-prop x (primitives.Arrow f c) = function-prop (function_at x f) c
 IsCodedPrimitive-prop x (primitives.Accumulated k e d f c) = λ a b i. (code-prop (expression x e) d a.0 b.0 i, function-prop (function_at x f) c a.1 b.1 i)
 
+IsCodedArgument-prop : (x : Exprs) (v : PlanArgument) → IsProp (IsCodedArgument x v)
+IsCodedArgument-prop x (arguments.Value e c) = code-prop (expression x e) c
+IsCodedArgument-prop x (arguments.Named k) = Unit-prop
+IsCodedArgument-prop x (arguments.Closed a) = Unit-prop
+
 pub IsCoded-prop : (x : Exprs) (n : PlanNode) → IsProp (IsCoded x n)
 IsCoded-prop x (nodes.Primitive q) = IsCodedPrimitive-prop x q
 IsCoded-prop x (nodes.Run k) = Unit-prop
+IsCoded-prop x (nodes.Call k g v) = λ a b i n d h. IsCodedArgument-prop x (slice_index_or v.items n d) (a n d h) (b n d h) i
 IsCoded-prop x (nodes.Joined j a b) = Unit-prop
 IsCoded-prop x (nodes.Sided d a) = Unit-prop
 IsCoded-prop x (nodes.Headed h e c a) = code-prop (expression x e) c

@@ -8,6 +8,21 @@ use std::rc::Rc;
 #[derive(Clone, Copy, Debug, PartialEq, Eq)]
 pub struct PlanId(pub(crate) usize);
 
+/// A template in its plan.
+#[derive(Clone, Copy, Debug, PartialEq, Eq)]
+pub struct TemplateId(pub(crate) usize);
+
+/// An argument of a call.
+#[derive(Drop)]
+pub enum PlanArgument {
+    /// An expression, whose value it is, with the code that is run for it, where that has no names from around it.
+    Value(ExprId, Option<Code>),
+    /// The process of a name.
+    Named(NameId),
+    /// A term, which is closed in the names around the call.
+    Closed(PlanId),
+}
+
 /// A primitive of a plan, with the code that is run for its expression or its function, where that has no names from
 /// around it.
 #[derive(Drop)]
@@ -33,6 +48,8 @@ pub enum PlanNode {
     Primitive(PlanPrimitive),
     /// The process of a name.
     Run(NameId),
+    /// A call of the first template of a name on arguments.
+    Call(NameId, TemplateId, Vec<PlanArgument>),
     /// Two terms joined, the first and the second.
     Joined(Join, PlanId, PlanId),
     /// A term on one part of a pair.

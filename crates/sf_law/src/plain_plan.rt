@@ -1,20 +1,26 @@
 //! The plan that is the network itself.
-ghost use Rattle.std.specs.Prelude.{◌≡◌, ◌<◌, [], map, IfOk, OnOk, IfSome};
-ghost use Rattle.sf_expr.specs.Arena.{function_at, IsCopy};
-ghost use Rattle.sf_term.specs.Arena.{expressions_of as program_expressions, headers_of as program_headers};
+ghost use Rattle.std.specs.Prelude.{◌≡◌, [], map, All, IsTrue, MatchOption, IfOk, OnOk, IfSome};
+ghost use Rattle.std.specs.List.{AllZip};
+ghost use Rattle.sf_expr.specs.Arena.{function_at, IsCopy, Keeps};
+ghost use Rattle.sf_term.specs.Arena.{expressions_of as program_expressions, headers_of as program_headers, HoldsTermParts, TermPartsBelow, HoldsArgument};
+ghost use Rattle.sf_term.specs.ParameterView.{kind_of_form};
+ghost use Rattle.sf_term.specs.declared.node.Node.TheVariants.{Call as call_node};
 ghost use Rattle.sf_code.specs.Worth.{IsCodeOfFunction};
 ghost use Rattle.sf_law.specs.declared.node.PlanId.{PlanId as PlanIdOf};
-ghost use Rattle.sf_law.specs.Entries.{IsCodedPrimitive, IsCoded};
+ghost use Rattle.sf_law.specs.Entries.{BindsNames, IsCodedPrimitive, IsCodedArgument, IsCoded, calls_first};
 ghost use Rattle.sf_law.specs.Arena.{plan_expressions, node_count, plan_tree, plan_headers};
-ghost use Rattle.sf_law.specs.Copies.{plan_id as id_of, CopiesPrimitive, CopiesNode, plan_header, ShowsTerms};
+ghost use Rattle.sf_law.specs.Copies.{plan_id as id_of, name_run, CopiesArgument, CopiesPrimitive, CopiesNode, CopiesParameter, CopiesTemplate, ShowsTerms};
 ghost use Rattle.sf_law.specs.Plans.{IsPlainPlan};
 
-use crate::node::{PlanId, PlanNode, PlanPrimitive};
+use crate::node::{PlanArgument, PlanId, PlanNode, PlanPrimitive};
 use crate::plan::Plan;
+use crate::template::{PlanParameter, PlanTemplate};
 use sf_check::Checked;
 use sf_code::{Code, expression_code, function_code};
-use sf_expr::{Exprs, FunctionId};
-use sf_term::{Node, Primitive, Program, TermId};
+use sf_expr::{Exprs, FunctionId, NameId, Pat};
+use sf_term::{
+    Argument, ArgumentsId, Node, Parameter, ParameterForm, Primitive, Program, Template, TermId,
+};
 use std::alloc::{AllocError, Global};
 use std::rc::Rc;
 
@@ -23,53 +29,116 @@ pub fn plain(alloc: Global, checked: &Checked) -> Result<Plan, AllocError>
     ensures { IfOk result (λ plan. IsPlainPlan checked.now plan) }
 {
     let program = checked.program();
-    let mut plan = Plan::new(alloc, program.expressions().clone_in(alloc)?);
+    let mut expressions = program.expressions().clone_in(alloc)?;
+    let templates = plan_templates(alloc, &mut expressions, program.templates())?;
+    let mut plan = Plan::new(alloc, expressions, templates)?;
     copy_terms(alloc, &mut plan, program)?;
-    copy_templates(alloc, &mut plan, program)?;
     Ok(plan.with_main(plan_id(checked.main())))
+}
+
+// The templates of a program, in order, with names and patterns of their parameters among expressions.
+fn plan_templates(
+    alloc: Global,
+    expressions: &mut Exprs,
+    templates: &[Template],
+) -> Result<Vec<PlanTemplate>, AllocError>
+    ensures kept { OnOk result (Keeps expressions.old expressions.new) }
+    ensures copied { IfOk result (λ copies. AllZip (CopiesTemplate expressions.new) templates.now copies.items) }
+{
+    let mut copies = Vec::new(alloc);
+    for template in templates {
+        copies.push(plan_template(alloc, expressions, template)?)?;
+    }
+    Ok(copies)
+}
+
+// A template, with names and patterns of its parameters among expressions.
+fn plan_template(
+    alloc: Global,
+    expressions: &mut Exprs,
+    template: &Template,
+) -> Result<PlanTemplate, AllocError>
+    ensures kept { OnOk result (Keeps expressions.old expressions.new) }
+    ensures copied { IfOk result (λ copy. CopiesTemplate expressions.new template.now copy) }
+{
+    let mut parameters = Vec::new(alloc);
+    for parameter in template.parameters() {
+        parameters.push(plan_parameter(alloc, expressions, parameter)?)?;
+    }
+    let name = String::from_str(alloc, template.name())?;
+    let input = template.input().clone_in(alloc)?;
+    let output = template.output().clone_in(alloc)?;
+    let body = plan_id(template.body());
+    Ok(PlanTemplate::new(name, parameters, input, output, body))
+}
+
+// A parameter, with its name and the pattern that binds it among expressions.
+fn plan_parameter(
+    alloc: Global,
+    expressions: &mut Exprs,
+    parameter: &Parameter,
+) -> Result<PlanParameter, AllocError>
+    ensures kept { OnOk result (Keeps expressions.old expressions.new) }
+    ensures copied { IfOk result (λ copy. CopiesParameter expressions.new parameter.now copy) }
+{
+    let form = parameter_form(alloc, parameter.form())?;
+    let name = expressions.name(String::from_str(alloc, parameter.name())?)?;
+    let pattern = Pat::name(String::from_str(alloc, parameter.name())?, parameter.spot());
+    match expressions.pattern_in(pattern) {
+        Ok(pattern) => Ok(PlanParameter::new(name, pattern, form)),
+        Err(_) => Err(AllocError),
+    }
+}
+
+// A copy of what a parameter stands for.
+fn parameter_form(alloc: Global, form: &ParameterForm) -> Result<ParameterForm, AllocError>
+    ensures { IfOk result (λ copy. kind_of_form copy ≡ kind_of_form form.now) }
+{
+    match form {
+        ParameterForm::Value(ty) => Ok(ParameterForm::Value(ty.clone_in(alloc)?)),
+        ParameterForm::Process(from, to) => {
+            let from = from.clone_in(alloc)?;
+            let to = to.clone_in(alloc)?;
+            Ok(ParameterForm::Process(from, to))
+        }
+    }
 }
 
 // The terms of a program, under ids of the same numbers, each with its code.
 fn copy_terms(alloc: Global, plan: &mut Plan, program: &Program) -> Result<(), AllocError>
     requires empty { node_count plan.old ≡ 0 }
-    requires same { IsCopy (program_expressions program.now) (plan_expressions plan.old) }
+    requires kept { Keeps (program_expressions program.now) (plan_expressions plan.old) }
     ensures terms { OnOk result (ShowsTerms program.now plan.new) }
     ensures templates { plan_headers plan.new ≡ plan_headers plan.old }
+    ensures expressions { plan_expressions plan.new ≡ plan_expressions plan.old }
 {
     for number in 0..program.len() {
         let node = program.node(program.term(number));
-        let copy = plan_node(alloc, plan.expressions(), node)?;
+        let copy = plan_node(alloc, plan, program, node)?;
         plan.add(copy)?;
     }
     Ok(())
 }
 
-// The templates of a program, behind those of the plan.
-fn copy_templates(alloc: Global, plan: &mut Plan, program: &Program) -> Result<(), AllocError>
-    requires { plan_headers plan.old ≡ [] }
-    ensures templates { OnOk result (plan_headers plan.new ≡ map plan_header (program_headers program.now)) }
-    ensures trees { (a : PlanIdOf) → plan_tree plan.new a ≡ plan_tree plan.old a }
-{
-    for template in program.templates() {
-        let name = String::from_str(alloc, template.name())?;
-        let input = template.input().clone_in(alloc)?;
-        let output = template.output().clone_in(alloc)?;
-        plan.template(name, input, output, plan_id(template.body()))?;
-    }
-    Ok(())
-}
-
 // A node with the ids of the same numbers, and with its code.
-fn plan_node(alloc: Global, exprs: &Exprs, node: Node) -> Result<PlanNode, AllocError>
-    ensures same { IfOk result (λ copy. CopiesNode node copy) }
-    ensures coded { IfOk result (λ copy. IsCoded exprs.now copy) }
+fn plan_node(
+    alloc: Global,
+    plan: &Plan,
+    program: &Program,
+    node: Node,
+) -> Result<PlanNode, AllocError>
+    ensures same { IfOk result (λ copy. CopiesNode program.now node copy) }
+    ensures coded { IfOk result (λ copy. IsCoded (plan_expressions plan.now) copy) }
+    ensures called { IfOk result (λ copy. IsTrue (calls_first (plan_expressions plan.now) (plan_headers plan.now) copy)) }
 {
+    let exprs = plan.expressions();
     match node {
         Node::Primitive(primitive) => {
             let primitive = plan_primitive(alloc, exprs, primitive)?;
             Ok(PlanNode::Primitive(primitive))
         }
         Node::Run(name, _) => Ok(PlanNode::Run(name)),
+        Node::Call(name, arguments) => plan_call(alloc, plan, program, name, arguments),
         Node::Joined(join, first, second) => {
             Ok(PlanNode::Joined(join, plan_id(first), plan_id(second)))
         }
@@ -88,6 +157,73 @@ fn plan_node(alloc: Global, exprs: &Exprs, node: Node) -> Result<PlanNode, Alloc
             let body = plan_id(body);
             Ok(PlanNode::Keeping(shown, source, observer, name, pattern, body))
         }
+    }
+}
+
+// A call of the first template of a name.
+fn plan_call(
+    alloc: Global,
+    plan: &Plan,
+    program: &Program,
+    name: NameId,
+    arguments: ArgumentsId,
+) -> Result<PlanNode, AllocError>
+    ensures same { IfOk result (λ copy. CopiesNode program.now (call_node name arguments) copy) }
+    ensures coded { IfOk result (λ copy. IsCoded (plan_expressions plan.now) copy) }
+    ensures called { IfOk result (λ copy. IsTrue (calls_first (plan_expressions plan.now) (plan_headers plan.now) copy)) }
+{
+    let exprs = plan.expressions();
+    let template = plan.template_named(exprs.name_of(name));
+    let arguments = plan_arguments(alloc, exprs, program, program.arguments(arguments))?;
+    Ok(PlanNode::Call(name, template, arguments))
+}
+
+// The arguments of a call, in order, with their code.
+fn plan_arguments(
+    alloc: Global,
+    exprs: &Exprs,
+    program: &Program,
+    arguments: &[Argument],
+) -> Result<Vec<PlanArgument>, AllocError>
+    ensures same { IfOk result (λ copies. AllZip (CopiesArgument program.now) arguments.now copies.items) }
+    ensures coded { IfOk result (λ copies. All (IsCodedArgument exprs.now) copies.items) }
+{
+    let mut copies = Vec::new(alloc);
+    for argument in arguments {
+        copies.push(plan_argument(alloc, exprs, program, argument)?)?;
+    }
+    Ok(copies)
+}
+
+// An argument, with its code. A named process is told apart here.
+fn plan_argument(
+    alloc: Global,
+    exprs: &Exprs,
+    program: &Program,
+    argument: &Argument,
+) -> Result<PlanArgument, AllocError>
+    ensures same { IfOk result (λ copy. CopiesArgument program.now argument.now copy) }
+    ensures coded { IfOk result (λ copy. IsCodedArgument exprs.now copy) }
+{
+    match *argument {
+        Argument::Value(value) => {
+            let code = expression_code(alloc, exprs, value)?;
+            Ok(PlanArgument::Value(value, code))
+        }
+        Argument::Process(term) => match process_name(program.node(term)) {
+            Some(name) => Ok(PlanArgument::Named(name)),
+            None => Ok(PlanArgument::Closed(plan_id(term))),
+        },
+    }
+}
+
+// The name of the process that a node is, where it is a named one.
+fn process_name(node: Node) -> Option<NameId>
+    ensures { result ≡ name_run node }
+{
+    match node {
+        Node::Run(name, _) => Some(name),
+        _ => None,
     }
 }
 

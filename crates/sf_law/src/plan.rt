@@ -1,16 +1,17 @@
 //! Plans.
-ghost use Rattle.std.specs.Prelude.{◌≡◌, [], ◌∷◌, ◌++◌, ◌≤◌, IsTrue, IfOk, OnOk, OnErr, string_bytes};
+ghost use Rattle.std.specs.Prelude.{◌≡◌, ◌≤◌, All, IsTrue, IfOk, OnErr};
 ghost use Rattle.sf_term.specs.declared.form.Bare.TheVariants.{Identity as identity_form};
 ghost use Rattle.sf_law.specs.declared.node.PlanPrimitive.TheVariants.{Bare as bare_node};
 ghost use Rattle.sf_law.specs.declared.node.PlanNode.TheVariants.{Primitive as primitive_node};
 ghost use Rattle.sf_term.specs.Trees.{primitive, bare};
-ghost use Rattle.sf_law.specs.Headers.{PlanHeader};
-ghost use Rattle.sf_law.specs.Entries.{ArePlanNodes, IsCoded, is_whole, parts_end};
-ghost use Rattle.sf_law.specs.Unique.{IsCoded-prop};
+ghost use Rattle.sf_law.specs.Headers.{place_named, NumbersFirst, no_header};
+ghost use Rattle.sf_law.specs.Entries.{ArePlanNodes, BindsNames, IsCoded, is_whole, calls_first, parts_end};
+ghost use Rattle.sf_law.specs.Unique.{IsCoded-prop, BindsNames-prop};
 ghost use Rattle.std.proofs.Props.{props};
 
-use crate::node::{PlanId, PlanNode, PlanPrimitive};
-use crate::template::PlanTemplate;
+use crate::node::{PlanId, PlanNode, PlanPrimitive, TemplateId};
+use crate::template::{PlanTemplate, first_templates};
+use indexmap::IndexMap;
 use sf_expr::Exprs;
 use sf_term::Bare;
 use sf_value::Ty;
@@ -22,30 +23,43 @@ pub struct Plan {
     expressions: Exprs,
     nodes: Vec<PlanNode>,
     templates: Vec<PlanTemplate>,
+    numbers: IndexMap<String, usize>,
     main: PlanId,
     identity: PlanNode,
-    ghost arena: { ArePlanNodes expressions nodes.items } by { Prim.hlevel (props, IsCoded-prop) },
+    absent: PlanTemplate,
+    ghost arena: { ArePlanNodes expressions templates.items nodes.items } by { Prim.hlevel (props, IsCoded-prop) },
+    ghost bound: { All (BindsNames expressions) templates.items } by { Prim.hlevel (props, BindsNames-prop) },
+    ghost numbered: { NumbersFirst numbers templates.items },
     ghost same: { identity ≡ primitive_node (bare_node identity_form) },
+    ghost nothing: { absent ≡ no_header },
 }
 
 impl Plan {
     ghost use Rattle.sf_law.specs.declared.node.PlanId.{PlanId as PlanIdOf};
     ghost use Rattle.sf_law.specs.Arena.{plan_expressions, node_count, plan_node_at, plan_tree, plan_headers, plan_main};
-    ghost use Rattle.sf_law.specs.Arena.{plan_number, BuildsPlan, KeepsPlan, AddsNode};
+    ghost use Rattle.sf_law.specs.Arena.{plan_number, template_number, header_at, BuildsPlan, KeepsPlan, AddsNode};
 
-    /// A plan over these expressions, with no term and no template yet.
-    pub(crate) fn new(alloc: Global, expressions: Exprs) -> Plan
-        ensures expressions { plan_expressions result ≡ expressions }
-        ensures nodes { node_count result ≡ 0 }
-        ensures templates { plan_headers result ≡ [] }
+    /// A plan over these expressions, with these templates and no term yet.
+    pub(crate) fn new(
+        alloc: Global,
+        expressions: Exprs,
+        templates: Vec<PlanTemplate>,
+    ) -> Result<Plan, AllocError>
+        requires { All (BindsNames expressions) templates.items }
+        ensures expressions { IfOk result (λ plan. plan_expressions plan ≡ expressions) }
+        ensures nodes { IfOk result (λ plan. node_count plan ≡ 0) }
+        ensures templates { IfOk result (λ plan. plan_headers plan ≡ templates.items) }
     {
-        Plan {
+        let numbers = first_templates(alloc, &templates)?;
+        Ok(Plan {
             expressions,
             nodes: Vec::new(alloc),
-            templates: Vec::new(alloc),
+            templates,
+            numbers,
             main: PlanId(0),
             identity: PlanNode::Primitive(PlanPrimitive::Bare(Bare::Identity)),
-        }
+            absent: PlanTemplate::absent(alloc),
+        })
     }
 
     /// Puts a term behind the others. A refused call changes nothing.
@@ -53,6 +67,7 @@ impl Plan {
         requires held { parts_end node ≤ node_count self.old }
         requires whole { IsTrue (is_whole node) }
         requires coded { IsCoded (plan_expressions self.old) node }
+        requires called { IsTrue (calls_first (plan_expressions self.old) (plan_headers self.old) node) }
         ensures ok { IfOk result (λ id. AddsNode self.old self.new id node) }
         ensures err { OnErr result (node_count self.new ≡ node_count self.old) }
         ensures kept { KeepsPlan self.old self.new }
@@ -64,24 +79,14 @@ impl Plan {
         Ok(id)
     }
 
-    /// Puts a template behind the others. A refused call changes nothing.
-    #[tactic(auto, unfolding(crate::specs::Arena::plan_tree))]
-    pub(crate) fn template(
-        &mut self,
-        name: String,
-        input: Ty,
-        output: Ty,
-        body: PlanId,
-    ) -> Result<(), AllocError>
-        ensures ok { let header : PlanHeader = record { name = string_bytes name; input = input; output = output; body = body } in
-            OnOk result (plan_headers self.new ≡ plan_headers self.old ++ header ∷ []) }
-        ensures err { OnErr result (plan_headers self.new ≡ plan_headers self.old) }
-        ensures trees { (a : PlanIdOf) → plan_tree self.new a ≡ plan_tree self.old a }
-        ensures main { plan_main self.new ≡ plan_main self.old }
+    /// The first template of a name; an id that the plan does not hold where none has it.
+    pub(crate) fn template_named(&self, name: &str) -> TemplateId
+        ensures { template_number result ≡ place_named name.now (plan_headers self.now) }
     {
-        self.templates
-            .push(PlanTemplate::new(name, input, output, body))?;
-        Ok(())
+        match self.numbers.get(name) {
+            Some(number) => TemplateId(*number),
+            None => TemplateId(self.templates.len()),
+        }
     }
 
     /// The plan with another term that is run.
@@ -90,6 +95,7 @@ impl Plan {
         ensures main { plan_main result ≡ main }
         ensures trees { (a : PlanIdOf) → plan_tree result a ≡ plan_tree self a }
         ensures templates { plan_headers result ≡ plan_headers self }
+        ensures expressions { plan_expressions result ≡ plan_expressions self }
     {
         let mut plan = self;
         plan.main = main;
@@ -107,6 +113,17 @@ impl Plan {
         match self.nodes.get(id.0) {
             Some(node) => node,
             None => &self.identity,
+        }
+    }
+
+    /// The template at an id; one without parameters that passes its inputs on at an id that the plan does not hold.
+    pub fn template(&self, id: TemplateId) -> &PlanTemplate
+        ensures value { result.now ≡ header_at self.now id }
+        ensures bound { BindsNames (plan_expressions self.now) result.now }
+    {
+        match self.templates.get(id.0) {
+            Some(template) => template,
+            None => &self.absent,
         }
     }
 

@@ -1,7 +1,7 @@
 -- The output types that are found are those that terms take inputs to.
-use Rattle.std.proofs.Common.{ℤ, ◌≡◌, arith, Bool, true, false, cond, Some, None, refl, sym, ap, subst, ◌∙◌}
+use Rattle.std.proofs.Common.{ℤ, ◌≡◌, arith, Bool, true, false, ◌&&◌, cond, [], ◌∷◌, Some, None, refl, sym, ap, subst, ◌∙◌}
 use Rattle.std.specs.Prelude.{Option, nat_le}
-use mathlib.Core.Path.{ap₂}
+use mathlib.Core.Path.{ap₂, subst₂}
 use Rattle.sf_value.specs.Values.{Name, Kind, unit_kind, bool_kind, int_kind, text_kind, pair_kind, event_kind, table_kind, nodes, IsNoPair}
 use Rattle.sf_operator.specs.Kinds.{same_kind, only, parts_of, payload_of}
 use Rattle.sf_operator.proofs.SameKinds.{same_is, is_same, found_is, only_is, parts_is, payload_is}
@@ -16,12 +16,13 @@ use Rattle.sf_term.specs.declared.form.Join.TheVariants.{InSequence, InParallel,
 use Rattle.sf_term.specs.declared.form.Side.{Side}
 use Rattle.sf_term.specs.declared.form.Side.TheVariants.{First, Second}
 use Rattle.sf_term.specs.declared.form.Heading.TheVariants.{LoopPre, Initialized}
-use Rattle.sf_term.specs.Trees.{Chain, lone, chained, on_side, on_both, fanned, Primitive, bare, never, with_value, timed, arrow, accumulated, fused, Extent, Term, primitive, run, joined, sided, headed, switching, keeping, staged}
+use Rattle.sf_term.specs.Trees.{Chain, lone, chained, on_side, on_both, fanned, Primitive, bare, never, with_value, timed, arrow, accumulated, fused, Extent, Term, primitive, Reference, reference, run, call, Arguments, no_arguments, value_argument, process_argument, closed_argument, joined, sided, headed, switching, keeping, staged}
+use Rattle.sf_term.specs.Parameters.{NameKind, value, process, Bindings}
 use Rattle.sf_term.specs.declared.form.Observation.{Observation}
 use Rattle.sf_term.specs.declared.form.Switching.TheVariants.{Basic, Recurring}
-use Rattle.sf_mean.specs.Contexts.{Bindings, values_in, bindings_inside, Context, names_of_values, inside_pattern, inside_process, process_named}
-use Rattle.sf_mean.specs.Typing.{ChainTakes, lone_takes, chained_takes, on_first_takes, on_second_takes, on_both_takes, fanned_takes, bare_kind, value_kind, accumulated_argument, accumulated_kind, takes_time, timed_kind, PrimitiveTakes, bare_takes, never_takes, value_takes, timed_takes, accumulated_takes, arrow_takes, fused_takes, Takes, takes, FormTakes, primitive_takes, run_takes, sequence_takes, parallel_takes, fan_takes, first_takes, second_takes, loop_takes, initialized_takes, switch_takes, keeping_takes, recurring_takes, stages_take}
-use Rattle.sf_mean.specs.Inference.{Finds, both_outputs, join_output, side_output, first_beside, heading_output, body_output, switch_output, keeping_output, process_output, chain_output, primitive_output, with_fitting, form_output, term_output}
+use Rattle.sf_mean.specs.Contexts.{Signature, signature_named, values_in, bindings_inside, Context, names_of_values, inside_pattern, inside_process, process_named}
+use Rattle.sf_mean.specs.Typing.{ChainTakes, lone_takes, chained_takes, on_first_takes, on_second_takes, on_both_takes, fanned_takes, bare_kind, value_kind, accumulated_argument, accumulated_kind, takes_time, timed_kind, PrimitiveTakes, bare_takes, never_takes, value_takes, timed_takes, accumulated_takes, arrow_takes, fused_takes, Takes, takes, FormTakes, primitive_takes, run_takes, call_takes, ArgumentsFit, no_argument_fits, value_fits, process_fits, closed_fits, sequence_takes, parallel_takes, fan_takes, first_takes, second_takes, loop_takes, initialized_takes, switch_takes, keeping_takes, recurring_takes, stages_take}
+use Rattle.sf_mean.specs.Inference.{Finds, both_outputs, join_output, side_output, first_beside, heading_output, body_output, switch_output, keeping_output, process_output, chain_output, primitive_output, with_fitting, is_found, value_is_argument, process_is_argument, call_output, form_output, reference_output, arguments_fit, term_output}
 
 -- ## Types of pairs
 
@@ -317,24 +318,76 @@ keepings Γ w t q k p u F H G a b h =
         let T : Kind → Type 0 = λ d. Takes (inside_pattern p c (inside_process k a d Γ)) u a b in
         keeping_takes (F a b (subst S same h)) (H (pair_kind a b) (event_kind c) (subst Q same i)) (subst B same binds) (subst T same body)
 
-runs : (Γ : Context) (k : Name) (a b : Kind) (o : Option (Kind × Kind)) → process_named k Γ.bindings ≡ o → process_output o a ≡ Some b → FormTakes Γ (run k) a b
+runs : (Γ : Context) (k : Name) (a b : Kind) (o : Option (Kind × Kind)) → process_named k Γ.bindings ≡ o → process_output o a ≡ Some b → FormTakes Γ (reference (run k)) a b
 runs Γ k a b (Some s) h e =
     let same = only_is a s.0 (Some s.1) e in
     let is : s.1 ≡ b = same_some same.1 in
     run_takes (h ∙ ap Some (ap₂ (λ x y. (x, y)) (sym same.0) is))
 runs Γ k a b None h e = absurd cc
 
-form_found : (Γ : Context) (t : Term) → (a b : Kind) → form_output Γ t a ≡ Some b → FormTakes Γ t a b
-form_found Γ (primitive p) a b h = primitive_takes (primitive_found p a b h)
-form_found Γ (run k) a b h = runs Γ k a b (process_named k Γ.bindings) refl h
-form_found Γ (joined j f g) a b h = joins Γ j f g (within Γ f (form_found Γ f)) (within Γ g (form_found Γ g)) (join_found j (term_output Γ f) (term_output Γ g) a b h)
-form_found Γ (sided d t) a b h = sides Γ d t (within Γ t (form_found Γ t)) (side_found d (term_output Γ t) a b h)
-form_found Γ (headed LoopPre e t) a b h = looped Γ e t (within Γ t (form_found Γ t)) a b (expression_type (names_of_values Γ) e) refl h
-form_found Γ (headed Initialized e t) a b h = initialized Γ e t (within Γ t (form_found Γ t)) a b (expression_type (names_of_values Γ) e) refl h
-form_found Γ (switching (Basic w) t p u) a b h = switches Γ w t p u (within Γ t (form_found Γ t)) (λ Δ. within Δ u (form_found Δ u)) a b h
-form_found Γ (switching (Recurring w) t p u) a b h = recurs Γ w t p u (within Γ t (form_found Γ t)) (λ Δ. within Δ u (form_found Δ u)) a b h
-form_found Γ (keeping w t q k p u) a b h = keepings Γ w t q k p u (within Γ t (form_found Γ t)) (within Γ q (form_found Γ q)) (λ Δ. within Δ u (form_found Δ u)) a b h
-form_found Γ (staged x f g) a b h = stages Γ x f g (within Γ f (form_found Γ f)) (within Γ g (form_found Γ g)) (found_went (term_output Γ f) (term_output Γ g) a b h)
+calls : (Γ : Context) (g : Name) (vs : Arguments) (a b : Kind) (o : Option Signature) → signature_named g Γ.signatures ≡ o → ((qs : Bindings) → arguments_fit Γ vs qs ≡ true → ArgumentsFit Γ vs qs)
+    → call_output o (arguments_fit Γ vs) a ≡ Some b → FormTakes Γ (reference (call g vs)) a b
+calls Γ g vs a b None h F e = absurd cc
+calls Γ g vs a b (Some s) h F e = by_test (arguments_fit Γ vs s.parameters) refl e
+  where
+    by_test : (t : Bool) → arguments_fit Γ vs s.parameters ≡ t → cond t (only a s.input (Some s.output)) None ≡ Some b → FormTakes Γ (reference (call g vs)) a b
+    by_test true k e =
+        let same = only_is a s.input (Some s.output) e in
+        subst₂ (FormTakes Γ (reference (call g vs))) (sym same.0) (same_some same.1) (call_takes h (F s.parameters k))
+    by_test false k e = absurd cc
+
+-- what is known of the first argument and of the others
+both_fit : (a b : Bool) → a && b ≡ true → (a ≡ true) × (b ≡ true)
+both_fit true b h = (refl, h)
+both_fit false b h = absurd cc
+
+found_one : (o : Option Kind) (t : Kind) → is_found o t ≡ true → o ≡ Some t
+found_one (Some u) t h = ap Some (same_is u t h)
+found_one None t h = absurd cc
+
+value_found : (Γ : Context) (i : Expression) (vs : Arguments) (x : Name) (k : NameKind) (qs : Bindings) → value_is_argument (expression_type (names_of_values Γ) i) k ≡ true → ArgumentsFit Γ vs qs → ArgumentsFit Γ (value_argument i vs) ((x, k) ∷ qs)
+value_found Γ i vs x (value t) qs h F = value_fits (found_typed (names_of_values Γ) i t (found_one (expression_type (names_of_values Γ) i) t h)) F
+value_found Γ i vs x (process a b) qs h F = absurd cc
+
+process_found : (Γ : Context) (t : Term) (vs : Arguments) (x : Name) (k : NameKind) (qs : Bindings) → ((a b : Kind) → term_output Γ t a ≡ Some b → Takes Γ t a b) → process_is_argument (term_output Γ t) k ≡ true → ArgumentsFit Γ vs qs → ArgumentsFit Γ (process_argument t vs) ((x, k) ∷ qs)
+process_found Γ t vs x (value u) qs G h F = absurd cc
+process_found Γ t vs x (process a b) qs G h F = process_fits (G a b (found_one (term_output Γ t a) b h)) F
+
+closed_of : {Γ : Context} {t : Term} {vs : Arguments} {qs : Bindings} → ArgumentsFit Γ (process_argument t vs) qs → ArgumentsFit Γ (closed_argument t vs) qs
+closed_of (process_fits T F) = closed_fits T F
+
+mutual
+  form_found : (Γ : Context) (t : Term) → (a b : Kind) → form_output Γ t a ≡ Some b → FormTakes Γ t a b
+  form_found Γ (primitive p) a b h = primitive_takes (primitive_found p a b h)
+  form_found Γ (reference r) a b h = reference_found Γ r a b h
+  form_found Γ (joined j f g) a b h = joins Γ j f g (within Γ f (form_found Γ f)) (within Γ g (form_found Γ g)) (join_found j (term_output Γ f) (term_output Γ g) a b h)
+  form_found Γ (sided d t) a b h = sides Γ d t (within Γ t (form_found Γ t)) (side_found d (term_output Γ t) a b h)
+  form_found Γ (headed LoopPre e t) a b h = looped Γ e t (within Γ t (form_found Γ t)) a b (expression_type (names_of_values Γ) e) refl h
+  form_found Γ (headed Initialized e t) a b h = initialized Γ e t (within Γ t (form_found Γ t)) a b (expression_type (names_of_values Γ) e) refl h
+  form_found Γ (switching (Basic w) t p u) a b h = switches Γ w t p u (within Γ t (form_found Γ t)) (λ Δ. within Δ u (form_found Δ u)) a b h
+  form_found Γ (switching (Recurring w) t p u) a b h = recurs Γ w t p u (within Γ t (form_found Γ t)) (λ Δ. within Δ u (form_found Δ u)) a b h
+  form_found Γ (keeping w t q k p u) a b h = keepings Γ w t q k p u (within Γ t (form_found Γ t)) (within Γ q (form_found Γ q)) (λ Δ. within Δ u (form_found Δ u)) a b h
+  form_found Γ (staged x f g) a b h = stages Γ x f g (within Γ f (form_found Γ f)) (within Γ g (form_found Γ g)) (found_went (term_output Γ f) (term_output Γ g) a b h)
+
+  reference_found : (Γ : Context) (r : Reference) → (a b : Kind) → reference_output Γ r a ≡ Some b → FormTakes Γ (reference r) a b
+  reference_found Γ (run k) a b h = runs Γ k a b (process_named k Γ.bindings) refl h
+  reference_found Γ (call g vs) a b h = calls Γ g vs a b (signature_named g Γ.signatures) refl (arguments_found Γ vs) h
+
+  arguments_found : (Γ : Context) (vs : Arguments) → (qs : Bindings) → arguments_fit Γ vs qs ≡ true → ArgumentsFit Γ vs qs
+  arguments_found Γ no_arguments [] h = no_argument_fits
+  arguments_found Γ no_arguments (q ∷ qs) h = absurd cc
+  arguments_found Γ (value_argument i vs) [] h = absurd cc
+  arguments_found Γ (value_argument i vs) ((x, k) ∷ qs) h =
+      let both = both_fit (value_is_argument (expression_type (names_of_values Γ) i) k) (arguments_fit Γ vs qs) h in
+      value_found Γ i vs x k qs both.0 (arguments_found Γ vs qs both.1)
+  arguments_found Γ (process_argument t vs) [] h = absurd cc
+  arguments_found Γ (process_argument t vs) ((x, k) ∷ qs) h =
+      let both = both_fit (process_is_argument (term_output Γ t) k) (arguments_fit Γ vs qs) h in
+      process_found Γ t vs x k qs (within Γ t (form_found Γ t)) both.0 (arguments_found Γ vs qs both.1)
+  arguments_found Γ (closed_argument t vs) [] h = absurd cc
+  arguments_found Γ (closed_argument t vs) ((x, k) ∷ qs) h =
+      let both = both_fit (process_is_argument (term_output Γ t) k) (arguments_fit Γ vs qs) h in
+      closed_of (process_found Γ t vs x k qs (within Γ t (form_found Γ t)) both.0 (arguments_found Γ vs qs both.1))
 
 pub output_found : {Γ : Context} (t : Term) (a b : Kind) → term_output Γ t a ≡ Some b → Takes Γ t a b
 output_found {Γ} t = within Γ t (form_found Γ t)
@@ -358,6 +411,8 @@ mutual
   form_is : {Γ : Context} {t : Term} {a b : Kind} → Fits a → FormTakes Γ t a b → form_output Γ t a ≡ Some b
   form_is f (primitive_takes P) = primitive_is P
   form_is f (run_takes {a = a} {b = b} h) = ap (λ o. process_output o a) h ∙ ap (λ s. cond s (Some b) None) (is_same a)
+  form_is {Γ} f (call_takes {vs = vs} {s = s} h F) =
+      ap (λ o. call_output o (arguments_fit Γ vs) s.input) h ∙ ap (λ t. cond t (only s.input s.input (Some s.output)) None) (arguments_are F) ∙ ap (λ t. cond t (Some s.output) None) (is_same s.input)
   form_is f (sequence_takes F G) = rw (takes_found F) (takes_found G)
   form_is f (parallel_takes F G) = rw (takes_found F, takes_found G) refl
   form_is f (fan_takes F G) = rw (takes_found F, takes_found G) refl
@@ -378,6 +433,12 @@ mutual
       ∙ ap (λ o. found_then o (λ e. found_then (payload_of e) (λ c. body_output (inside_process k a b Γ) p (λ Δ. term_output Δ u) c a b))) (takes_found H)
       ∙ body_found (inside_process k a b Γ) u a (event_part_fits c (output_fits H)) B (takes_found G)
   form_is f (stages_take F G) = rw (takes_found F) (takes_found G)
+
+  arguments_are : {Γ : Context} {vs : Arguments} {qs : Bindings} → ArgumentsFit Γ vs qs → arguments_fit Γ vs qs ≡ true
+  arguments_are no_argument_fits = refl
+  arguments_are (value_fits {t = t} E F) = ap₂ (λ a b. a && b) (ap (λ o. is_found o t) (typed_found E) ∙ is_same t) (arguments_are F)
+  arguments_are (process_fits {b = b} T F) = ap₂ (λ a b. a && b) (ap (λ o. is_found o b) (takes_found T) ∙ is_same b) (arguments_are F)
+  arguments_are (closed_fits {b = b} T F) = ap₂ (λ a b. a && b) (ap (λ o. is_found o b) (takes_found T) ∙ is_same b) (arguments_are F)
 
 -- ## What follows for terms that take inputs
 

@@ -1,5 +1,5 @@
 -- Where each life before gives a value, there is an outcome.
-use Rattle.std.proofs.Common.{ℕ, ◌≡◌, Bool, true, false, cond, List, [], ◌∷◌, Option, Some, None, refl, sym, ap, ◌∙◌, subst}
+use Rattle.std.proofs.Common.{ℕ, ◌≡◌, Bool, true, false, ◌&&◌, IsTrue, cond, List, [], ◌∷◌, Option, Some, None, refl, sym, ap, ◌∙◌, subst}
 use Rattle.std.specs.Prelude.{bytes_eq}
 use Rattle.sf_value.specs.Values.{Name, Data, pair, first_of, second_of}
 use Rattle.sf_value.specs.declared.fault.ValueFault.{ValueFault}
@@ -12,11 +12,11 @@ use Rattle.sf_term.specs.declared.form.Heading.TheVariants.{LoopPre, Initialized
 use Rattle.sf_term.specs.declared.form.Observation.{Observation}
 use Rattle.sf_term.specs.declared.form.Switching.TheVariants.{Basic, Recurring}
 use Rattle.sf_term.specs.declared.form.Heading.{Heading}
-use Rattle.sf_term.specs.Trees.{Extent, Term, primitive, run, joined, sided, headed, switching, keeping, staged}
+use Rattle.sf_term.specs.Trees.{Extent, Term, primitive, reference, run, call, joined, sided, headed, switching, keeping, staged}
 use Rattle.sf_mean.specs.Lives.{Step, step, wait_of, input_of, Life, Process, closure, resumed, Environment, empty, known as known_name, running, process_of, passing, scope_around, bind, after, frozen, with_inputs, observed_life, fed, fed_back, older}
 use Rattle.sf_mean.specs.Formulas.{occurring, side_of}
-use Rattle.sf_mean.specs.Meaning.{Network, Outcome, gave, faulted, Cost, Made, value_made, process_made, left_life, right_life, Watched, itself, observed, Takeover, Standing, waits, fired, stands_after, body_of, whenever, body_with, event_beside, or_earlier, last_event, kept_before, since_event, what_runs, unless_faulted, without_event, Gives, gives, Outputs, not_begun, and_gave, Sample, of_constants, of_form, of_resumed, Form, of_primitive, of_run, of_join, of_side, of_loop, of_initialized, of_switch, of_keeping, of_recurring, of_stages, goes_on, stops, Loops, no_loop, and_looped, Sees, beside_values, by_observer, Since, at_start, watched, had_fired, SwitchTurn, while_waiting, as_body, after_fault, after_value, Fires, no_event_yet, event_now}
-use Rattle.sf_mean.specs.Soundness.{HasLived, closed, was_frozen, HaveLived, none_lived, value_beside, process_lived}
+use Rattle.sf_mean.specs.Meaning.{Network, Outcome, gave, faulted, Cost, Made, value_made, process_made, left_life, right_life, Watched, itself, observed, Takeover, Standing, waits, fired, stands_after, body_of, whenever, body_with, event_beside, or_earlier, last_event, kept_before, since_event, what_runs, unless_faulted, without_event, Gives, gives, Outputs, not_begun, and_gave, Sample, of_constants, of_form, of_resumed, Form, of_primitive, of_reference, of_join, of_side, of_loop, of_initialized, of_switch, of_keeping, of_recurring, of_stages, goes_on, stops, Loops, no_loop, and_looped, Sees, beside_values, by_observer, Since, at_start, watched, had_fired, SwitchTurn, while_waiting, as_body, after_fault, after_value, Fires, no_event_yet, event_now}
+use Rattle.sf_mean.specs.Soundness.{is_without_calls, HasNoCalls, closed_without_calls, frozen_without_calls, HaveNoCalls, none_calls, value_without_calls, process_without_calls, HasLived, closed, was_frozen, HaveLived, none_lived, value_beside, process_lived}
 use Rattle.sf_mean.proofs.TypedProcesses.{made_in}
 use Rattle.sf_mean.proofs.Once.{not_both}
 
@@ -27,6 +27,13 @@ data Known {A : Type 0} (q : Evaluated A) : Type 0 where
 known : {A : Type 0} (q : Evaluated A) → Known q
 known (answer a) = answered a refl
 known (failed x) = refused x refl
+
+no_truth : false ≡ true → ⊥
+no_truth h = cc
+
+both_without : (a b : Bool) → a && b ≡ true → (a ≡ true) × (b ≡ true)
+both_without true b h = (refl, h)
+both_without false b h = absurd (no_truth h)
 
 abbrev IsGave : Outcome → Type 0
 IsGave (gave y r) = Unit {0}
@@ -359,21 +366,21 @@ module _ (n : Network) where
   frozen_goes [] d G H = G
   frozen_goes (s ∷ h) d G H = resumed_goes d G H
 
-  from_run : {k : Name} {e : Environment} {P : Process} {m : Made} {s : Step} {L : Life} {q : Outcome} {c : Cost} → m ≡ process_made P → Form n (run k) e m s L q c → IsGave q → Lived P (s ∷ L)
-  from_run {s = s} {L = L} k (of_run {P = Q} A) h =
+  from_run : {k : Name} {e : Environment} {P : Process} {m : Made} {s : Step} {L : Life} {q : Outcome} {c : Cost} → m ≡ process_made P → Form n (reference (run k)) e m s L q c → IsGave q → Lived P (s ∷ L)
+  from_run {s = s} {L = L} k (of_reference {P = Q} A) h =
       let N : Process → Type 0 = λ P. Lived P (s ∷ L) in
       subst N (ap (λ m. process_in Q m) k) (whole A h)
 
-  run_at : {k : Name} {e : Environment} {s : Step} {L : Life} {q : Outcome} {c : Cost} → Sample n (closure (run k) e) s L q c → IsGave q → Lived (process_of k e) (s ∷ L)
+  run_at : {k : Name} {e : Environment} {s : Step} {L : Life} {q : Outcome} {c : Cost} → Sample n (closure (reference (run k)) e) s L q c → IsGave q → Lived (process_of k e) (s ∷ L)
   run_at (of_constants h) z = absurd z
   run_at (of_form {m = m} h F) z = from_run (ap (λ q. made_of q m) (sym h)) F z
 
-  run_lived : {k : Name} {e : Environment} {L : Life} {ws : List Data} → Outputs n (closure (run k) e) L ws → Lived (process_of k e) L
+  run_lived : {k : Name} {e : Environment} {L : Life} {ws : List Data} → Outputs n (closure (reference (run k)) e) L ws → Lived (process_of k e) L
   run_lived not_begun = lived not_begun
   run_lived (and_gave A B) = run_at B tt
 
-  with_run : {k : Name} {e : Environment} {s : Step} {L : Life} {ys : List Data} → Outputs n (process_of k e) L ys → Has (process_of k e) s L → Has (closure (run k) e) s L
-  with_run A (has S) = has (of_form refl (of_run (gives A S)))
+  with_run : {k : Name} {e : Environment} {s : Step} {L : Life} {ys : List Data} → Outputs n (process_of k e) L ys → Has (process_of k e) s L → Has (closure (reference (run k)) e) s L
+  with_run A (has S) = has (of_form refl (of_reference (gives A S)))
 
   -- what took over had an outcome wherever it may, if that is so of what takes over where the source has lived
   since_goes : {W : Watched} {B : Takeover} {L : Life} {st : Standing} {Q : Process} {M : Life} → Since n W B L st → st ≡ fired Q M
@@ -410,64 +417,71 @@ module _ (n : Network) where
       → (s : Step) (K : Life) (v : Data) → Lived (closure t e) K → Goes (body_with k (closure t e) p u e s K v)
   keeping_goes u p k G U E s K v (lived A) = U _ (bound_go p v (go_process (frozen_goes K (wait_of s) G A) E))
 
-  pub total : (t : Term) (e : Environment) → AllGo e → Goes (closure t e)
-  total (primitive p) e E s L ws O = has (of_form refl (of_primitive refl))
-  total (run k) e E s L ws O = elim (run_lived O) [ lived A ↦ with_run A (process_goes k E s L _ A) ]
-  total (joined j f g) e E s L ws O =
-      elim (join_lived O) [ joined_so A B ↦ with_left A B (total f e E (newest_left j s) (left_life j L) _ A) (λ y zs B'. total g e E (newest_right j s y) _ _ B') ]
-  total (sided d t) e E s L ws O =
-      elim (side_lived O) [ lived A ↦ with_part A (total t e E _ _ _ A) ]
-  total (headed LoopPre i t) e E s L ws O =
+  pub total : (t : Term) (e : Environment) → IsTrue (is_without_calls t) → AllGo e → Goes (closure t e)
+  total (primitive p) e h E s L ws O = has (of_form refl (of_primitive refl))
+  total (reference (run k)) e h E s L ws O = elim (run_lived O) [ lived A ↦ with_run A (process_goes k E s L _ A) ]
+  total (reference (call g vs)) e h E s L ws O = absurd (no_truth h)
+  total (joined j f g) e h E s L ws O =
+      let c = both_without (is_without_calls f) (is_without_calls g) h in
+      elim (join_lived O) [ joined_so A B ↦ with_left A B (total f e c.0 E (newest_left j s) (left_life j L) _ A) (λ y zs B'. total g e c.1 E (newest_right j s y) _ _ B') ]
+  total (sided d t) e h E s L ws O =
+      elim (side_lived O) [ lived A ↦ with_part A (total t e h E _ _ _ A) ]
+  total (headed LoopPre i t) e h E s L ws O =
       elim (known (eval i (scope_around n.functions e))) [
         | refused x k ↦ constants_fail s k O
-        | answered v k ↦ elim (loop_lived k O) [ looped A R ↦ elim R [ lived B ↦ with_loop k A B (total t e E _ _ _ B) ] ]
+        | answered v k ↦ elim (loop_lived k O) [ looped A R ↦ elim R [ lived B ↦ with_loop k A B (total t e h E _ _ _ B) ] ]
       ]
-  total (headed Initialized i t) e E s L ws O =
+  total (headed Initialized i t) e h E s L ws O =
       elim (known (eval i (scope_around n.functions e))) [
         | refused x k ↦ constants_fail s k O
-        | answered v k ↦ elim (initialized_lived O) [ lived A ↦ with_initial k A (total t e E s L _ A) ]
+        | answered v k ↦ elim (initialized_lived O) [ lived A ↦ with_initial k A (total t e h E s L _ A) ]
       ]
-  total (switching (Basic w) t p u) e E s L ws O =
-      let body : (s : Step) (K : Life) (v : Data) → Lived (closure t e) K → Goes (body_of p u e v) = λ s K v A. total u _ (bound_go p v E) in
+  total (switching (Basic w) t p u) e h E s L ws O =
+      let c = both_without (is_without_calls t) (is_without_calls u) h in
+      let body : (s : Step) (K : Life) (v : Data) → Lived (closure t e) K → Goes (body_of p u e v) = λ s K v A. total u _ c.1 (bound_go p v E) in
       elim (switch_stood O) [
         | still_waits S R ↦ elim R [
           | itself_lived A ↦
-              let seen = sees_itself A (total t e E s L _ A) in
+              let seen = sees_itself A (total t e c.0 E s L _ A) in
               switch_has S (waiting_turns w seen.0 seen.1.1 (λ v. body s L v (lived A) s [] _ not_begun))
         ]
         | had_event S R ↦ elim R [ lived A ↦ switch_has S (body_turns A (since_goes S refl body s _ _ A)) ]
       ]
-  total (switching (Recurring w) t p u) e E s L ws O =
+  total (switching (Recurring w) t p u) e h E s L ws O =
+      let c = both_without (is_without_calls t) (is_without_calls u) h in
       elim (recurring_runs O) [
         | lived A ↦
-            with_running A (run_has (body_of p u e) (last_event L) (λ A. total t e E _ _ _ A) (λ v A. total u (bind p v e) (bound_go p v E) _ _ _ A) A) (λ v. total u (bind p v e) (bound_go p v E) _ [] _ not_begun)
+            with_running A (run_has (body_of p u e) (last_event L) (λ A. total t e c.0 E _ _ _ A) (λ v A. total u (bind p v e) c.1 (bound_go p v E) _ _ _ A) A) (λ v. total u (bind p v e) c.1 (bound_go p v E) _ [] _ not_begun)
       ]
-  total (keeping w t q k p u) e E s L ws O =
-      let body = keeping_goes u p k (total t e E) (λ f F. total u f F) E in
+  total (keeping w t q k p u) e h E s L ws O =
+      let c = both_without (is_without_calls t) (is_without_calls q && is_without_calls u) h in
+      let d = both_without (is_without_calls q) (is_without_calls u) c.1 in
+      let body = keeping_goes u p k (total t e c.0 E) (λ f F. total u f d.1 F) E in
       elim (keeping_stood O) [
         | still_waits S R ↦ elim R [
           | both_lived A Z ↦
-              let seen = sees_both A Z (total t e E s L _ A) (λ y. total q e E _ _ _ Z) in
+              let seen = sees_both A Z (total t e c.0 E s L _ A) (λ y. total q e d.0 E _ _ _ Z) in
               keeping_has S (waiting_turns w seen.0 seen.1.1 (λ v. body s L v (lived A) s [] _ not_begun))
         ]
         | had_event S R ↦ elim R [ lived A ↦ keeping_has S (body_turns A (since_goes S refl body s _ _ A)) ]
       ]
-  total (staged x f g) e E s L ws O =
-      elim (join_lived (as_joined O)) [ joined_so A B ↦ as_staged (with_left A B (total f e E s L _ A) (λ y zs B'. total g e E (step (wait_of s) y) _ _ B')) ]
+  total (staged x f g) e h E s L ws O =
+      let c = both_without (is_without_calls f) (is_without_calls g) h in
+      elim (join_lived (as_joined O)) [ joined_so A B ↦ as_staged (with_left A B (total f e c.0 E s L _ A) (λ y zs B'. total g e c.1 E (step (wait_of s) y) _ _ B')) ]
 
   found : {P : Process} {s : Step} {L : Life} {ws : List Data} → Outputs n P L ws → Has P s L → (o : Outcome) × ((c : Cost) × Gives n P (s ∷ L) o c)
   found O (has S) = (_, (_, gives O S))
 
   mutual
-    -- each process whose frozen parts have lived goes
-    pub process_total : {P : Process} → HasLived n P → Goes P
-    process_total (closed {t = t} {e = e} E) = total t e (all_go E)
-    process_total (was_frozen {d = d} P H) = resumed_goes d (process_total P) H
+    -- each process that calls no template, and whose frozen parts have lived, goes
+    pub process_total : {P : Process} → HasNoCalls P → HasLived n P → Goes P
+    process_total (closed_without_calls {t = t} {e = e} h N) (closed E) = total t e h (all_go N E)
+    process_total (frozen_without_calls N) (was_frozen {d = d} P H) = resumed_goes d (process_total N P) H
 
-    all_go : {e : Environment} → HaveLived n e → AllGo e
-    all_go none_lived = go_nothing
-    all_go (value_beside E) = go_value (all_go E)
-    all_go (process_lived P E) = go_process (process_total P) (all_go E)
+    all_go : {e : Environment} → HaveNoCalls e → HaveLived n e → AllGo e
+    all_go none_calls none_lived = go_nothing
+    all_go (value_without_calls N) (value_beside E) = go_value (all_go N E)
+    all_go (process_without_calls M N) (process_lived P E) = go_process (process_total M P) (all_go N E)
 
-  pub some_outcome : {P : Process} → HasLived n P → (s : Step) (L : Life) {ws : List Data} → Outputs n P L ws → (o : Outcome) × ((c : Cost) × Gives n P (s ∷ L) o c)
-  some_outcome H s L O = found O (process_total H s L _ O)
+  pub some_outcome : {P : Process} → HasNoCalls P → HasLived n P → (s : Step) (L : Life) {ws : List Data} → Outputs n P L ws → (o : Outcome) × ((c : Cost) × Gives n P (s ∷ L) o c)
+  some_outcome N H s L O = found O (process_total N H s L _ O)

@@ -1,6 +1,6 @@
 -- A typed process gives values of its output type.
-use Rattle.std.proofs.Common.{ℕ, ◌≡◌, Bool, true, false, cond, List, [], ◌∷◌, Option, Some, None, ap, subst}
-use Rattle.std.specs.Prelude.{⊤, bytes_eq}
+use Rattle.std.proofs.Common.{ℕ, suc, ◌≡◌, ◌∙◌, Bool, true, false, cond, List, [], ◌∷◌, map, Option, Some, None, refl, sym, ap, subst}
+use Rattle.std.specs.Prelude.{⊤, bytes_eq, slice_get}
 use Rattle.std.proofs.lemmas.Option.{same_Some}
 use Rattle.sf_value.specs.Values.{Name, Kind, pair_kind, event_kind, Data, pair, HasKind, has_pair, first_of, second_of, has_no_event}
 use mathlib.Core.Path.{subst₂}
@@ -13,13 +13,13 @@ use Rattle.sf_term.specs.declared.form.Accumulation.{Accumulation}
 use Rattle.sf_term.specs.declared.form.Side.TheVariants.{First, Second}
 use Rattle.sf_term.specs.declared.form.Observation.{Observation}
 use Rattle.sf_term.specs.declared.form.Observation.TheVariants.{Immediate, Delayed}
-use Rattle.sf_term.specs.Trees.{Chain, Primitive, Term}
-use Rattle.sf_mean.specs.Lives.{Step, wait_of, input_of, Life, Environment, scope_around, bind, Process, process_of, passing, frozen, first_input as input_at_first}
+use Rattle.sf_term.specs.Trees.{Chain, Primitive, Term, primitive, reference, run, call, Arguments, joined, sided, headed, switching, keeping, staged, Template, Templates, template_named}
+use Rattle.sf_mean.specs.Lives.{Step, wait_of, input_of, Life, Environment, scope_around, bind, Process, process_of, passing, closure, empty, known, frozen, first_input as input_at_first}
 use Rattle.sf_mean.specs.Formulas.{timed_formula, coming, next_value, accumulation, displayed, value_formula, with_side, apply_chain, formula}
-use Rattle.sf_mean.specs.Meaning.{Network, Outcome, gave, faulted, Cost, Made, value_made, process_made, make, Watched, itself, observed, Takeover, Standing, waits, fired, stands_after, switched_value, body_of, event_beside, or_earlier, last_event, kept_before, since_event, what_runs, unless_faulted, Gives, gives, Outputs, not_begun, and_gave, Sample, of_constants, of_form, of_resumed, Form, of_primitive, of_run, of_join, of_side, of_loop, of_initialized, of_switch, of_keeping, of_recurring, of_stages, Next, goes_on, stops, Loops, no_loop, and_looped, Sees, beside_values, by_observer, Since, at_start, watched, had_fired, SwitchTurn, while_waiting, as_body, Switched, after_fault, after_value, Fires, no_event_yet, event_now}
-use Rattle.sf_mean.specs.Contexts.{value, process, Bindings, bindings_inside, values_in, types_of_process, process_named, context_with, Context, names_of_values}
-use Rattle.sf_mean.specs.Typing.{ChainTakes, lone_takes, chained_takes, on_first_takes, on_second_takes, on_both_takes, fanned_takes, PrimitiveTakes, bare_takes, never_takes, value_takes, timed_takes, accumulated_takes, arrow_takes, fused_takes, Takes, takes, FormTakes, primitive_takes, run_takes, sequence_takes, parallel_takes, fan_takes, first_takes, second_takes, loop_takes, initialized_takes, switch_takes, keeping_takes, recurring_takes, stages_take}
-use Rattle.sf_mean.specs.Soundness.{Have, have_nothing, have_more, LifeHas, no_steps, more_steps, EnvironmentHas, has_nothing, has_value, has_process, ProcessTakes, closure_takes, resumed_takes, OutcomeHas}
+use Rattle.sf_mean.specs.Meaning.{Network, Outcome, gave, faulted, Cost, Made, value_made, process_made, argument_process, argued, process_called, referred, make, Watched, itself, observed, Takeover, Standing, waits, fired, stands_after, switched_value, body_of, event_beside, or_earlier, last_event, kept_before, since_event, what_runs, unless_faulted, Gives, gives, Outputs, not_begun, and_gave, Sample, of_constants, of_form, of_resumed, Form, of_primitive, of_reference, of_join, of_side, of_loop, of_initialized, of_switch, of_keeping, of_recurring, of_stages, Next, goes_on, stops, Loops, no_loop, and_looped, Sees, beside_values, by_observer, Since, at_start, watched, had_fired, SwitchTurn, while_waiting, as_body, Switched, after_fault, after_value, Fires, no_event_yet, event_now}
+use Rattle.sf_mean.specs.Contexts.{Signature, signature_of, signature_named, parameters_inside, value, process, Bindings, bindings_inside, values_in, types_of_process, process_named, context_with, Context, names_of_values}
+use Rattle.sf_mean.specs.Typing.{ChainTakes, lone_takes, chained_takes, on_first_takes, on_second_takes, on_both_takes, fanned_takes, PrimitiveTakes, bare_takes, never_takes, value_takes, timed_takes, accumulated_takes, arrow_takes, fused_takes, Takes, takes, FormTakes, primitive_takes, run_takes, call_takes, ArgumentsFit, no_argument_fits, value_fits, process_fits, closed_fits, sequence_takes, parallel_takes, fan_takes, first_takes, second_takes, loop_takes, initialized_takes, switch_takes, keeping_takes, recurring_takes, stages_take}
+use Rattle.sf_mean.specs.Soundness.{NetworkIsTyped, Have, have_nothing, have_more, LifeHas, no_steps, more_steps, EnvironmentHas, has_nothing, has_value, has_process, ProcessTakes, closure_takes, resumed_takes, OutcomeHas}
 use Rattle.sf_mean.proofs.TypedPrimitives.{first_has, bare_typed, value_typed, timed_typed, event_comes, Comes, comes_none, comes_some, coming_typed, made_typed, shown_typed}
 use Rattle.sf_mean.proofs.TypedLives.{first_is, second_is, with_inputs_has, after_has, fed_has, outcome_is, changed_has, combined_has, LifeIf, life_if, beside_if, relay_if}
 
@@ -89,11 +89,59 @@ abbrev made_process : Process → Evaluated Made → Process
 made_process P (answer m) = process_in P m
 made_process P (failed x) = P
 
+-- ## References
+
+answers_one : {A : Type 0} {a b : A} → answer a ≡ answer b → a ≡ b
+answers_one h = cc
+
+-- what was made of what is referred to
+referred_as : {q : Evaluated Process} {P : Process} → (q >>= λ P. answer (process_made P)) ≡ answer (process_made P) → q ≡ answer P
+referred_as {q} {P} = each q
+  where
+    each : (q : Evaluated Process) → (q >>= λ P. answer (process_made P)) ≡ answer (process_made P) → q ≡ answer P
+    each (answer Q) h = ap answer (ap (made_process P) h)
+    each (failed x) h = absurd cc
+
+-- what was made of an answer
+closed_of : {A : Type 0} {P : Process} (q : Evaluated A) (f : A → Process) → (q >>= λ d. answer (f d)) ≡ answer P → (d : A) × (q ≡ answer d) × (f d ≡ P)
+closed_of (answer d) f h = (d, refl, answers_one h)
+closed_of (failed x) f h = absurd cc
+
+-- the template with the header of a name
+record TemplateOf (g : Name) (ts : Templates) (s : Signature) : Type 0 where
+  template : Template
+  place : ℕ
+  named : template_named g ts ≡ Some template
+  there : slice_get ts place ≡ Some template
+  header : signature_of template ≡ s
+
+template_found : (g : Name) (ts : Templates) (s : Signature) → signature_named g (map signature_of ts) ≡ Some s → TemplateOf g ts s
+template_found g [] s h = absurd cc
+template_found g (t ∷ ts) s h = by_test (bytes_eq g t.name) refl h (template_found g ts s)
+  where
+    by_test : (b : Bool) → bytes_eq g t.name ≡ b → cond b (Some (signature_of t)) (signature_named g (map signature_of ts)) ≡ Some s → (signature_named g (map signature_of ts) ≡ Some s → TemplateOf g ts s) → TemplateOf g (t ∷ ts) s
+    by_test true e h later = record { template = t; place = 0; named = ap (λ b. cond b (Some t) (template_named g ts)) e; there = refl; header = same_Some _ _ h }
+    by_test false e h later =
+        let found = later h in
+        record { template = found.template; place = suc found.place; named = ap (λ b. cond b (Some t) (template_named g ts)) e ∙ found.named; there = found.there; header = found.header }
+
+-- a term as an argument has its types
+argument_has : {n : Network} {fs : TypesByName} {e : Environment} {bs : Bindings} {a b : Kind} → NetworkIsTyped fs n → EnvironmentHas n e bs → (t : Term) → Takes (context_with fs bs n.templates) t a b → ProcessTakes n (argument_process t e) a b
+argument_has K E (primitive p) T = closure_takes K E T
+argument_has K E (reference (run k)) (takes p q (run_takes h)) = process_has k E h
+argument_has K E (reference (call g vs)) T = closure_takes K E T
+argument_has K E (joined j f g) T = closure_takes K E T
+argument_has K E (sided d t) T = closure_takes K E T
+argument_has K E (headed h i t) T = closure_takes K E T
+argument_has K E (switching w t p u) T = closure_takes K E T
+argument_has K E (keeping w t q k p u) T = closure_takes K E T
+argument_has K E (staged x f g) T = closure_takes K E T
+
 -- what a switch watches has types: of its inputs, its values and its events' payloads
 data WatchedTakes (n : Network) : Watched → Kind → Kind → Kind → Type 0 where
   itself_takes : {P : Process} {a b c : Kind} → ProcessTakes n P a (pair_kind b (event_kind c)) → WatchedTakes n (itself P) a b c
   observed_takes : {P : Process} {q : Term} {e : Environment} {fs : TypesByName} {bs : Bindings} {a b c : Kind} → ProcessTakes n P a b
-      → KeepTheirTypes fs n.functions → EnvironmentHas n e bs → Takes (context_with fs bs n.templates) q (pair_kind a b) (event_kind c) → WatchedTakes n (observed P q e) a b c
+      → NetworkIsTyped fs n → EnvironmentHas n e bs → Takes (context_with fs bs n.templates) q (pair_kind a b) (event_kind c) → WatchedTakes n (observed P q e) a b c
 
 -- what takes over has types, where it does so after a life of its inputs' type at a payload of its event's
 abbrev TakeoverHas : Network → Takeover → Kind → Kind → Kind → Type 0
@@ -172,6 +220,35 @@ module _ (n : Network) (eval_is : EvalsTyped) (apply_is : AppliesTyped) where
         (accumulation_is k scope in_scope part.2 (subst (λ c. FunctionTakes (names_of_values Γ) f c u) part.1 F) same i (more_steps {s = s} h l)))
     formula_is s (fused_takes F B) h l = chain_is (input_of s) F h
 
+  -- ## Calls
+
+  -- what is known after an argument that is evaluated
+  argued_next : {t : Kind} {q : Evaluated Data} (f : Data → Evaluated Environment) {d : Environment} → Yields t q → (q >>= f) ≡ answer d → (v : Data) × HasKind v t × (f v ≡ answer d)
+  argued_next f (yields {d = v} h) e = (v, h, e)
+  argued_next f fails e = absurd cc
+
+  -- the environment of arguments has the parameters inside the names that were there
+  argued_has : {fs : TypesByName} {e d c : Environment} {bs cs : Bindings} {vs : Arguments} {qs : Bindings} → NetworkIsTyped fs n → EnvironmentHas n e bs → ArgumentsFit (context_with fs bs n.templates) vs qs
+      → EnvironmentHas n d cs → argued n.functions qs vs e d ≡ answer c → EnvironmentHas n c (parameters_inside qs cs)
+  argued_has {cs = cs} K E no_argument_fits D h = subst (λ c. EnvironmentHas n c cs) (answers_one h) D
+  argued_has {fs = fs} {e = e} {d = d} K E (value_fits {vs = vs} {x = x} {qs = qs} I F) D h =
+      let v = argued_next (λ v. argued n.functions qs vs e (known x v d)) (eval_is _ _ _ _ I (environment_scope n.functions fs K.functions E)) h in
+      argued_has K E F (has_value v.1 D) v.2
+  argued_has K E (process_fits {t = t} T F) D h = argued_has K E F (has_process (argument_has K E t T) D) h
+  argued_has K E (closed_fits T F) D h = argued_has K E F (has_process (closure_takes K E T) D) h
+
+  -- what stands in the place of a call has the types of its template
+  call_has : {fs : TypesByName} {e : Environment} {bs : Bindings} (g : Name) (vs : Arguments) {s : Signature} {P : Process} → NetworkIsTyped fs n → EnvironmentHas n e bs → signature_named g (map signature_of n.templates) ≡ Some s
+      → ArgumentsFit (context_with fs bs n.templates) vs s.parameters → referred n (call g vs) e ≡ answer P → ProcessTakes n P s.input s.output
+  call_has {fs = fs} {e = e} {bs = bs} g vs {s = s} {P = P} K E h F q =
+      let found = template_found g n.templates s h in
+      let t = found.template in
+      let made = closed_of (argued n.functions t.parameters vs e empty) (λ d. closure t.body d) (sym (ap (λ o. process_called n.functions o vs e) found.named) ∙ q) in
+      let fit = subst (λ (u : Signature). ArgumentsFit (context_with fs bs n.templates) vs u.parameters) (sym found.header) F in
+      let typed = K.templates found.place t found.there in
+      let whole : ProcessTakes n (closure t.body made.0) t.input t.output = closure_takes K (argued_has K E fit has_nothing made.1) typed.body in
+      subst (λ (u : Signature). ProcessTakes n P u.input u.output) found.header (subst (λ P. ProcessTakes n P t.input t.output) made.2 whole)
+
   -- what runs in a recurring switch takes the first parts of its inputs
   running_takes : {q : Option Data} {P : Process} (B : Data → Process) {a b c : Kind} → Comes q c → ProcessTakes n P a b → ((v : Data) → HasKind v c → ProcessTakes n (B v) a b) → ProcessTakes n (what_runs P B q) a b
   running_takes B comes_none p body = p
@@ -190,9 +267,10 @@ module _ (n : Network) (eval_is : EvalsTyped) (apply_is : AppliesTyped) where
     sample_has (of_form h F) (closure_takes K E (takes x y T)) l = form_has F h K E T l
     sample_has (of_resumed {d = d} A) (resumed_takes p h) l = gives_has A p (after_has d h l)
 
-    form_has : {t : Term} {e : Environment} {fs : TypesByName} {bs : Bindings} {m : Made} {s : Step} {L : Life} {o : Outcome} {c : Cost} {a b : Kind} → Form n t e m s L o c → make n t e (input_at_first s L) ≡ answer m → KeepTheirTypes fs n.functions → EnvironmentHas n e bs → FormTakes (context_with fs bs n.templates) t a b → LifeHas (s ∷ L) a → OutcomeHas o b
-    form_has {fs = fs} (of_primitive {s = s} h) q K E (primitive_takes T) (more_steps i l) = outcome_is [] (formula_is _ (environment_scope n.functions fs K E) s T i l) h
-    form_has {a = a} {b = b} (of_run {P = P} A) q K E (run_takes {k = k} h) l = gives_has A (subst (λ P. ProcessTakes n P a b) (ap (made_process P) q) (process_has k E h)) l
+    form_has : {t : Term} {e : Environment} {fs : TypesByName} {bs : Bindings} {m : Made} {s : Step} {L : Life} {o : Outcome} {c : Cost} {a b : Kind} → Form n t e m s L o c → make n t e (input_at_first s L) ≡ answer m → NetworkIsTyped fs n → EnvironmentHas n e bs → FormTakes (context_with fs bs n.templates) t a b → LifeHas (s ∷ L) a → OutcomeHas o b
+    form_has {fs = fs} (of_primitive {s = s} h) q K E (primitive_takes T) (more_steps i l) = outcome_is [] (formula_is _ (environment_scope n.functions fs K.functions E) s T i l) h
+    form_has {a = a} {b = b} (of_reference {P = P} A) q K E (run_takes {k = k} h) l = gives_has A (subst (λ P. ProcessTakes n P a b) (ap (made_process P) q) (process_has k E h)) l
+    form_has (of_reference A) q K E (call_takes {g = g} {vs = vs} h F) l = gives_has A (call_has g vs K E h F (referred_as q)) l
     form_has (of_join {o = o} {o' = o'} A B C) q K E (sequence_takes {b = b} {c = d} F H) (more_steps {s = s} i l) =
         let h : OutcomeHas o b = gives_has B (closure_takes K E F) (more_steps {s = s} i l) in
         let j : OutcomeHas o' d = next_has C K E H (relay_if o h (more_steps {s = s} i l) (outputs_have A (closure_takes K E F) l)) in
@@ -212,11 +290,11 @@ module _ (n : Network) (eval_is : EvalsTyped) (apply_is : AppliesTyped) where
         let h : OutcomeHas o b = gives_has A (closure_takes K E T) (with_inputs_has second_of (λ v. second_is) (more_steps {s = s} i l)) in
         changed_has o (λ v j. has_pair (first_is i) j) h
     form_has {fs = fs} (of_loop {o = o} A B) q K E (loop_takes {b = b} {c = d} I T) (more_steps {s = s} i l) =
-        let v = made_has (eval_is _ _ _ _ I (environment_scope n.functions fs K E)) q in
+        let v = made_has (eval_is _ _ _ _ I (environment_scope n.functions fs K.functions E)) q in
         let h : OutcomeHas o (pair_kind b d) = gives_has B (closure_takes K E T) (fed_has b v (more_steps {s = s} i l) (loops_have A (closure_takes K E T) v l)) in
         changed_has o (λ v. first_is) h
     form_has {fs = fs} (of_initialized {v = v} {s = s} {L = L} {o = o} A) q K E (initialized_takes {b = b} I T) l =
-        let i : HasKind v b = made_has (eval_is _ _ _ _ I (environment_scope n.functions fs K E)) q in
+        let i : HasKind v b = made_has (eval_is _ _ _ _ I (environment_scope n.functions fs K.functions E)) q in
         let h : OutcomeHas o b = gives_has A (closure_takes K E T) l in
         changed_has o (λ y k. first_has L i k) h
     form_has (of_switch S T) q K E (switch_takes A B U) (more_steps {s = s} i l) =
@@ -235,7 +313,7 @@ module _ (n : Network) (eval_is : EvalsTyped) (apply_is : AppliesTyped) where
         let j : OutcomeHas o' d = next_has C K E H (relay_if o h (more_steps {s = s} i l) (outputs_have A (closure_takes K E F) l)) in
         combined_has o o' (λ v w x y. y) h j
 
-    next_has : {q : Outcome} {t : Term} {e : Environment} {fs : TypesByName} {bs : Bindings} {L : Life} {o : Outcome} {c : Cost} {a b : Kind} → Next n q t e L o c → KeepTheirTypes fs n.functions → EnvironmentHas n e bs → Takes (context_with fs bs n.templates) t a b → LifeIf q L a → OutcomeHas o b
+    next_has : {q : Outcome} {t : Term} {e : Environment} {fs : TypesByName} {bs : Bindings} {L : Life} {o : Outcome} {c : Cost} {a b : Kind} → Next n q t e L o c → NetworkIsTyped fs n → EnvironmentHas n e bs → Takes (context_with fs bs n.templates) t a b → LifeIf q L a → OutcomeHas o b
     next_has (goes_on A) K E T l = gives_has A (closure_takes K E T) l
     next_has stops K E T l = tt
 

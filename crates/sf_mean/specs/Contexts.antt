@@ -5,29 +5,26 @@ use Rattle.sf_expr.specs.Expressions.{Pattern, unnamed, named, both}
 use Rattle.sf_func.specs.Registries.{TypesByName}
 use Rattle.sf_expr.specs.Typing.{Names, only_functions, typed_name, untyped_name}
 use Rattle.sf_term.specs.Trees.{Template, Templates}
+pub use Rattle.sf_term.specs.Parameters.{NameKind, value, process, Bindings}
 
--- What a name stands for: a value of a type, or a process from a type to a type. Keyed collections of a type will be a
--- further constructor, when there are forms that bind them.
-pub data NameKind : Type 0 where
-  value : Kind → NameKind
-  process : (from to : Kind) → NameKind
-
--- The names that are bound where a term stands, each with what it stands for, the innermost first.
-abbrev pub Bindings : Type 0
-Bindings = List (Name × NameKind)
-
--- What calls know of a template: its name, and the types of its inputs and outputs. Its parameters will stand beside them.
+-- What calls know of a template: its name, its parameters, and the types of its inputs and outputs.
 pub record Signature : Type 0 where
   pub name : Name
+  pub parameters : Bindings
   pub input : Kind
   pub output : Kind
 
 -- the signature in a template's header
 abbrev pub signature_of : Template → Signature
-signature_of t = record { name = t.name; input = t.input; output = t.output }
+signature_of t = record { name = t.name; parameters = t.parameters; input = t.input; output = t.output }
 
--- What a term is typed under: the names that are bound around it, the signatures of the templates, and the types of the
--- stored functions.
+-- the first signature of a name
+abbrev pub signature_named : Name → List Signature → Option Signature
+signature_named x [] = None
+signature_named x (s ∷ ss) = cond (bytes_eq x s.name) (Some s) (signature_named x ss)
+
+-- What a term is typed under: the names that are bound around it, the innermost first, the signatures of the templates, and
+-- the types of the stored functions.
 pub record Context : Type 0 where
   pub bindings : Bindings
   pub signatures : List Signature
@@ -37,9 +34,14 @@ pub record Context : Type 0 where
 abbrev pub context_with : TypesByName → Bindings → Templates → Context
 context_with fs bs ts = record { bindings = bs; signatures = map signature_of ts; functions = fs }
 
--- what the body of a template is typed under: no names
-abbrev pub context_of : TypesByName → Templates → Context
-context_of fs ts = context_with fs [] ts
+-- parameters inside other names, the last one innermost
+abbrev pub parameters_inside : (parameters around : Bindings) → Bindings
+parameters_inside [] bs = bs
+parameters_inside (q ∷ qs) bs = parameters_inside qs (q ∷ bs)
+
+-- what the body of a template with these parameters is typed under
+abbrev pub context_of : TypesByName → Bindings → Templates → Context
+context_of fs qs ts = context_with fs (parameters_inside qs []) ts
 
 -- the names of a pattern before others, each with the type of its part of a type; none for what doesn't fit the type
 abbrev pub bindings_inside : Pattern → Kind → Bindings → Bindings

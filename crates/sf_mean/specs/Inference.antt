@@ -1,5 +1,5 @@
 -- The output types of terms under a context, found by a function.
-use Rattle.std.specs.Prelude.{nat_le, cond, Option, Some, None}
+use Rattle.std.specs.Prelude.{[], ◌∷◌, nat_le, Bool, true, false, ◌&&◌, cond, Option, Some, None}
 use Rattle.sf_expr.specs.Expressions.{Pattern}
 use Rattle.sf_value.specs.Values.{Name, Kind, pair_kind, nodes, event_kind}
 use Rattle.sf_operator.specs.Kinds.{same_kind, only, parts_of, payload_of}
@@ -10,10 +10,11 @@ use Rattle.sf_term.specs.declared.form.Side.{Side}
 use Rattle.sf_term.specs.declared.form.Side.TheVariants.{First, Second}
 use Rattle.sf_term.specs.declared.form.Heading.{Heading}
 use Rattle.sf_term.specs.declared.form.Heading.TheVariants.{LoopPre, Initialized}
-use Rattle.sf_term.specs.Trees.{Chain, lone, chained, on_side, on_both, fanned, Primitive, bare, never, with_value, timed, arrow, accumulated, fused, Term, primitive, run, joined, sided, headed, switching, keeping, staged}
+use Rattle.sf_term.specs.Trees.{Chain, lone, chained, on_side, on_both, fanned, Primitive, bare, never, with_value, timed, arrow, accumulated, fused, Term, primitive, Reference, reference, run, call, Arguments, no_arguments, value_argument, process_argument, closed_argument, joined, sided, headed, switching, keeping, staged}
 use Rattle.sf_term.specs.declared.form.Switching.{Switching}
 use Rattle.sf_term.specs.declared.form.Switching.TheVariants.{Basic, Recurring}
-use Rattle.sf_mean.specs.Contexts.{Context, names_of_values, inside_pattern, inside_process, process_named}
+use Rattle.sf_term.specs.Parameters.{NameKind, value, process, Bindings}
+use Rattle.sf_mean.specs.Contexts.{Context, Signature, signature_named, names_of_values, inside_pattern, inside_process, process_named}
 use Rattle.sf_mean.specs.Typing.{bare_kind, value_kind, takes_time, timed_kind, accumulated_argument, accumulated_kind}
 
 -- What finds an output type for an input type, if inputs of that type are taken.
@@ -90,16 +91,53 @@ primitive_output Γ (fused f) a = found_then (chain_output Γ f a) fitting
 abbrev pub with_fitting : Finds → Finds
 with_fitting f a = cond (nat_le (nodes a) 256) (found_then (f a) fitting) None
 
--- the output of each form of terms, where the types of its parts have at most 256 nodes
-abbrev pub form_output : Context → Term → Finds
-form_output Γ (primitive p) a = primitive_output Γ p a
-form_output Γ (run k) a = process_output (process_named k Γ.bindings) a
-form_output Γ (joined j f g) a = join_output j (with_fitting (form_output Γ f)) (with_fitting (form_output Γ g)) a
-form_output Γ (sided d t) a = side_output d (with_fitting (form_output Γ t)) a
-form_output Γ (headed h e t) a = heading_output h (expression_type (names_of_values Γ) e) (with_fitting (form_output Γ t)) a
-form_output Γ (switching w t p u) a = switch_output Γ w p (with_fitting (form_output Γ t)) (λ Δ. with_fitting (form_output Δ u)) a
-form_output Γ (keeping w t q k p u) a = keeping_output Γ k p (with_fitting (form_output Γ t)) (with_fitting (form_output Γ q)) (λ Δ. with_fitting (form_output Δ u)) a
-form_output Γ (staged x f g) a = join_output InSequence (with_fitting (form_output Γ f)) (with_fitting (form_output Γ g)) a
+-- a type was found, and it is this one
+abbrev pub is_found : Option Kind → Kind → Bool
+is_found None t = false
+is_found (Some u) t = same_kind u t
+
+-- a value of the type that was found is an argument for a parameter
+abbrev pub value_is_argument : Option Kind → NameKind → Bool
+value_is_argument o (value t) = is_found o t
+value_is_argument o (process a b) = false
+
+-- a term is an argument for a parameter
+abbrev pub process_is_argument : Finds → NameKind → Bool
+process_is_argument f (value t) = false
+process_is_argument f (process a b) = is_found (f a) b
+
+-- the output of a call of a template with this header, if there is one, where it is known what its arguments fit
+abbrev pub call_output : Option Signature → (Bindings → Bool) → Finds
+call_output None f a = None
+call_output (Some s) f a = cond (f s.parameters) (only a s.input (Some s.output)) None
+
+abbrev mutual
+  -- the output of each form of terms, where the types of its parts have at most 256 nodes
+  pub form_output : Context → Term → Finds
+  form_output Γ (primitive p) a = primitive_output Γ p a
+  form_output Γ (reference r) a = reference_output Γ r a
+  form_output Γ (joined j f g) a = join_output j (with_fitting (form_output Γ f)) (with_fitting (form_output Γ g)) a
+  form_output Γ (sided d t) a = side_output d (with_fitting (form_output Γ t)) a
+  form_output Γ (headed h e t) a = heading_output h (expression_type (names_of_values Γ) e) (with_fitting (form_output Γ t)) a
+  form_output Γ (switching w t p u) a = switch_output Γ w p (with_fitting (form_output Γ t)) (λ Δ. with_fitting (form_output Δ u)) a
+  form_output Γ (keeping w t q k p u) a = keeping_output Γ k p (with_fitting (form_output Γ t)) (with_fitting (form_output Γ q)) (λ Δ. with_fitting (form_output Δ u)) a
+  form_output Γ (staged x f g) a = join_output InSequence (with_fitting (form_output Γ f)) (with_fitting (form_output Γ g)) a
+
+  -- the output of what is referred to
+  pub reference_output : Context → Reference → Finds
+  reference_output Γ (run k) a = process_output (process_named k Γ.bindings) a
+  reference_output Γ (call g vs) a = call_output (signature_named g Γ.signatures) (arguments_fit Γ vs) a
+
+  -- arguments are as many as parameters, and each is one for its parameter
+  pub arguments_fit : Context → Arguments → Bindings → Bool
+  arguments_fit Γ no_arguments [] = true
+  arguments_fit Γ no_arguments (q ∷ qs) = false
+  arguments_fit Γ (value_argument i vs) [] = false
+  arguments_fit Γ (value_argument i vs) (q ∷ qs) = value_is_argument (expression_type (names_of_values Γ) i) q.1 && arguments_fit Γ vs qs
+  arguments_fit Γ (process_argument t vs) [] = false
+  arguments_fit Γ (process_argument t vs) (q ∷ qs) = process_is_argument (with_fitting (form_output Γ t)) q.1 && arguments_fit Γ vs qs
+  arguments_fit Γ (closed_argument t vs) [] = false
+  arguments_fit Γ (closed_argument t vs) (q ∷ qs) = process_is_argument (with_fitting (form_output Γ t)) q.1 && arguments_fit Γ vs qs
 
 -- the type of the outputs of a term for inputs of a type, if it takes them
 abbrev pub term_output : Context → Term → Finds

@@ -3,6 +3,7 @@ pub mod Formulas
 pub mod Meaning
 pub mod Networks
 pub mod Contexts
+pub mod Calls
 pub mod Typing
 pub mod Soundness
 pub mod Inference

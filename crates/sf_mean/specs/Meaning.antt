@@ -12,8 +12,9 @@ use Rattle.sf_term.specs.declared.form.Heading.TheVariants.{LoopPre, Initialized
 use Rattle.sf_term.specs.declared.form.Observation.{Observation}
 use Rattle.sf_term.specs.declared.form.Observation.TheVariants.{Immediate, Delayed}
 use Rattle.sf_term.specs.declared.form.Switching.TheVariants.{Basic, Recurring}
-use Rattle.sf_term.specs.Trees.{Primitive, Extent, whole, rest, Term, primitive, run, joined, sided, headed, switching, keeping, staged, Templates}
-use Rattle.sf_mean.specs.Lives.{Step, step, wait_of, input_of, Life, Process, closure, resumed, Environment, running, process_of, scope_around, bind, after, frozen, with_inputs, relay, observed_life, fed, first_input as input_at_first}
+use Rattle.sf_term.specs.Trees.{Primitive, Extent, whole, rest, Term, primitive, Reference, reference, run, call, Arguments, no_arguments, value_argument, process_argument, closed_argument, joined, sided, headed, switching, keeping, staged, Template, Templates, template_named}
+use Rattle.sf_term.specs.Parameters.{Bindings}
+use Rattle.sf_mean.specs.Lives.{Step, step, wait_of, input_of, Life, Process, closure, resumed, passing, Environment, empty, known, running, process_of, scope_around, bind, after, frozen, with_inputs, relay, observed_life, fed, first_input as input_at_first}
 use Rattle.sf_mean.specs.Formulas.{at_first, occurring, side_of, with_side, formula}
 
 -- A network: its templates, and what its stored functions answer.
@@ -89,16 +90,40 @@ abbrev pub over_stages : Extent → Cost → Cost
 over_stages whole c = over c
 over_stages rest c = c
 
--- the terms in the text of a term, outside of the bodies of switches
-abbrev pub text_cost : Term → Cost
-text_cost (primitive p) = one_term
-text_cost (run k) = one_term
-text_cost (joined j f g) = over (both_costs (text_cost f) (text_cost g))
-text_cost (sided d t) = over (text_cost t)
-text_cost (headed h e t) = over (text_cost t)
-text_cost (switching w t p u) = over (text_cost t)
-text_cost (keeping w t q k p u) = over (both_costs (text_cost t) (text_cost q))
-text_cost (staged x f g) = over_stages x (both_costs (text_cost f) (text_cost g))
+abbrev mutual
+  -- the terms in the text of a term, outside of the bodies of switches; arguments count
+  pub text_cost : Term → Cost
+  text_cost (primitive p) = one_term
+  text_cost (reference r) = over (reference_cost r)
+  text_cost (joined j f g) = over (both_costs (text_cost f) (text_cost g))
+  text_cost (sided d t) = over (text_cost t)
+  text_cost (headed h e t) = over (text_cost t)
+  text_cost (switching w t p u) = over (text_cost t)
+  text_cost (keeping w t q k p u) = over (both_costs (text_cost t) (text_cost q))
+  text_cost (staged x f g) = over_stages x (both_costs (text_cost f) (text_cost g))
+
+  -- the terms within a reference
+  pub reference_cost : Reference → Cost
+  reference_cost (run k) = no_cost
+  reference_cost (call g vs) = arguments_cost vs
+
+  -- the terms in arguments
+  pub arguments_cost : Arguments → Cost
+  arguments_cost no_arguments = no_cost
+  arguments_cost (value_argument i vs) = arguments_cost vs
+  arguments_cost (process_argument t vs) = both_costs (text_cost t) (arguments_cost vs)
+  arguments_cost (closed_argument t vs) = both_costs (text_cost t) (arguments_cost vs)
+
+-- the terms in the text of a term that was entered: those in its own arguments don't count
+abbrev pub entered_cost : Term → Cost
+entered_cost (primitive p) = text_cost (primitive p)
+entered_cost (reference r) = one_term
+entered_cost (joined j f g) = text_cost (joined j f g)
+entered_cost (sided d t) = text_cost (sided d t)
+entered_cost (headed h i t) = text_cost (headed h i t)
+entered_cost (switching w t p u) = text_cost (switching w t p u)
+entered_cost (keeping w t q k p u) = text_cost (keeping w t q k p u)
+entered_cost (staged x f g) = text_cost (staged x f g)
 
 -- What a form is made with: nothing, the value of its constant, or the process that stands in its place.
 pub data Made : Type 0 where
@@ -106,10 +131,46 @@ pub data Made : Type 0 where
   value_made : Data → Made
   process_made : Process → Made
 
+-- the process that a reference is as an argument: that of its name, or the call in its environment
+abbrev pub process_referred : Reference → Environment → Process
+process_referred (run k) e = process_of k e
+process_referred (call g vs) e = closure (reference (call g vs)) e
+
+-- the process that a term is as an argument
+abbrev pub argument_process : Term → Environment → Process
+argument_process (primitive p) e = closure (primitive p) e
+argument_process (reference r) e = process_referred r e
+argument_process (joined j f g) e = closure (joined j f g) e
+argument_process (sided d t) e = closure (sided d t) e
+argument_process (headed h i t) e = closure (headed h i t) e
+argument_process (switching w t p u) e = closure (switching w t p u) e
+argument_process (keeping w t q k p u) e = closure (keeping w t q k p u) e
+argument_process (staged x f g) e = closure (staged x f g) e
+
+-- The names d with parameters inside them, each bound to its argument, the last one innermost. Arguments are evaluated from
+-- first to last, in the environment e of the call; the first fault is the answer.
+abbrev pub argued : AnswersByName → (parameters : Bindings) → Arguments → (e d : Environment) → Evaluated Environment
+argued φ [] vs e d = answer d
+argued φ (q ∷ qs) no_arguments e d = answer d
+argued φ (q ∷ qs) (value_argument i vs) e d = eval i (scope_around φ e) >>= λ v. argued φ qs vs e (known q.0 v d)
+argued φ (q ∷ qs) (process_argument t vs) e d = argued φ qs vs e (running q.0 (argument_process t e) d)
+argued φ (q ∷ qs) (closed_argument t vs) e d = argued φ qs vs e (running q.0 (closure t e) d)
+
+-- the process that stands in the place of a call: the template's term in the environment of the arguments; what isn't there
+-- passes its inputs on
+abbrev pub process_called : AnswersByName → Option Template → Arguments → Environment → Evaluated Process
+process_called φ None vs e = answer passing
+process_called φ (Some t) vs e = argued φ t.parameters vs e empty >>= λ d. answer (closure t.body d)
+
+-- the process that stands in the place of a reference
+abbrev pub referred : Network → Reference → Environment → Evaluated Process
+referred n (run k) e = answer (process_of k e)
+referred n (call g vs) e = process_called n.functions (template_named g n.templates) vs e
+
 -- What stands before a form's parts, evaluated at its first step. A primitive's constants are in its formula.
 abbrev pub make : Network → Term → Environment → Data → Evaluated Made
 make n (primitive p) e x = answer nothing_made
-make n (run k) e x = answer (process_made (process_of k e))
+make n (reference r) e x = referred n r e >>= λ P. answer (process_made P)
 make n (joined j f g) e x = answer nothing_made
 make n (sided d t) e x = answer nothing_made
 make n (headed h i t) e x = eval i (scope_around n.functions e) >>= λ v. answer (value_made v)
@@ -224,11 +285,12 @@ mutual
     and_gave : {P : Process} {s : Step} {L : Life} {y : Data} {r : Readings} {ys : List Data} {c : Cost}
         → Outputs n P L ys → Sample n P s L (gave y r) c → Outputs n P (s ∷ L) (y ∷ ys)
 
-  -- One step. Constants stand before the parts; their fault is the outcome of the first step, at which all terms in the text count.
+  -- One step. Constants and arguments stand before the parts; their fault is the outcome of the first step, at which all terms
+  -- in the text count, but for those in the form's own arguments.
   pub data Sample (n : Network) : Process → Step → Life → Outcome → Cost → Type 0 where
     of_constants : {t : Term} {e : Environment} {s : Step} {x : ValueFault}
         → make n t e (input_of s) ≡ failed x
-        → Sample n (closure t e) s [] (faulted x) (text_cost t)
+        → Sample n (closure t e) s [] (faulted x) (entered_cost t)
     of_form : {t : Term} {e : Environment} {s : Step} {L : Life} {m : Made} {o : Outcome} {c : Cost}
         → make n t e (input_at_first s L) ≡ answer m
         → Form n t e m s L o c
@@ -244,10 +306,10 @@ mutual
     of_primitive : {p : Primitive} {e : Environment} {m : Made} {s : Step} {L : Life} {o : Outcome}
         → as_outcome (formula p (scope_around n.functions e) s L) [] ≡ o
         → Form n (primitive p) e m s L o one_term
-    -- a named process stands in its place; its first step counts besides
-    of_run : {k : Name} {e : Environment} {P : Process} {s : Step} {L : Life} {o : Outcome} {c : Cost}
+    -- what is referred to stands in the place of a reference; its first step counts besides
+    of_reference : {r : Reference} {e : Environment} {P : Process} {s : Step} {L : Life} {o : Outcome} {c : Cost}
         → Gives n P (s ∷ L) o c
-        → Form n (run k) e (process_made P) s L o (over_first L c)
+        → Form n (reference r) e (process_made P) s L o (over_first L c)
     -- left before right, each on its own life
     of_join : {j : Join} {f g : Term} {e : Environment} {m : Made} {s : Step} {L : Life} {ys : List Data} {o o' : Outcome} {c c' : Cost}
         → Outputs n (closure f e) (left_life j L) ys

@@ -1,12 +1,12 @@
 -- Typed lives and processes.
-use Rattle.std.specs.Prelude.{ℕ, List, [], ◌∷◌, ⊤}
+use Rattle.std.specs.Prelude.{◌≡◌, ℕ, List, [], ◌∷◌, ⊤, Bool, true, false, ◌&&◌, IsTrue, Some, slice_get}
 use Rattle.sf_value.specs.Values.{Name, Kind, Data, HasKind}
 use Rattle.sf_func.specs.Registries.{TypesByName, KeepTheirTypes}
-use Rattle.sf_term.specs.Trees.{Term}
+use Rattle.sf_term.specs.Trees.{Term, primitive, reference, run, call, joined, sided, headed, switching, keeping, staged, Template}
 use Rattle.sf_mean.specs.Lives.{Step, input_of, Life, Environment, empty, known, running, Process, closure, resumed}
 use Rattle.sf_mean.specs.Meaning.{Network, Outcome, gave, faulted, Outputs}
 use Rattle.sf_mean.specs.Contexts.{value, process, Bindings, context_with}
-use Rattle.sf_mean.specs.Typing.{Takes}
+use Rattle.sf_mean.specs.Typing.{Takes, IsTyped}
 
 -- Each value of a list has a type.
 pub data Have : List Data → Kind → Type 0 where
@@ -18,6 +18,11 @@ pub data LifeHas : Life → Kind → Type 0 where
   no_steps : {t : Kind} → LifeHas [] t
   more_steps : {s : Step} {L : Life} {t : Kind} → HasKind (input_of s) t → LifeHas L t → LifeHas (s ∷ L) t
 
+-- In a network with functions of these types each template's term takes its header's types, and the functions keep theirs.
+pub record NetworkIsTyped (fs : TypesByName) (n : Network) : Type 0 where
+  pub functions : KeepTheirTypes fs n.functions
+  pub templates : (i : ℕ) (t : Template) → slice_get n.templates i ≡ Some t → IsTyped fs n.templates t
+
 mutual
   -- In a network, an environment has the names of a context, each with what it stands for.
   pub data EnvironmentHas (n : Network) : Environment → Bindings → Type 0 where
@@ -25,12 +30,11 @@ mutual
     has_value : {x : Name} {d : Data} {t : Kind} {e : Environment} {bs : Bindings} → HasKind d t → EnvironmentHas n e bs → EnvironmentHas n (known x d e) ((x, value t) ∷ bs)
     has_process : {x : Name} {P : Process} {a b : Kind} {e : Environment} {bs : Bindings} → ProcessTakes n P a b → EnvironmentHas n e bs → EnvironmentHas n (running x P e) ((x, process a b) ∷ bs)
 
-  -- In a network, a process takes inputs of one type to outputs of another: the network's functions keep types and its
-  -- environment has names under which, and under the headers of the network, its term takes them; what was frozen has lived
-  -- such inputs.
+  -- In a network, a process takes inputs of one type to outputs of another: the network is typed, and the environment has names
+  -- under which, and under the headers of the network, its term takes them; what was frozen has lived such inputs.
   pub data ProcessTakes (n : Network) : Process → Kind → Kind → Type 0 where
     closure_takes : {t : Term} {e : Environment} {fs : TypesByName} {bs : Bindings} {a b : Kind}
-        → KeepTheirTypes fs n.functions → EnvironmentHas n e bs → Takes (context_with fs bs n.templates) t a b → ProcessTakes n (closure t e) a b
+        → NetworkIsTyped fs n → EnvironmentHas n e bs → Takes (context_with fs bs n.templates) t a b → ProcessTakes n (closure t e) a b
     resumed_takes : {P : Process} {h : Life} {d : ℕ} {a b : Kind} → ProcessTakes n P a b → LifeHas h a → ProcessTakes n (resumed P h d) a b
 
 mutual
@@ -44,6 +48,30 @@ mutual
     none_lived : HaveLived n empty
     value_beside : {x : Name} {d : Data} {e : Environment} → HaveLived n e → HaveLived n (known x d e)
     process_lived : {x : Name} {P : Process} {e : Environment} → HasLived n P → HaveLived n e → HaveLived n (running x P e)
+
+-- no template is called in a term, in the bodies of its switches neither
+abbrev pub is_without_calls : Term → Bool
+is_without_calls (primitive p) = true
+is_without_calls (reference (run k)) = true
+is_without_calls (reference (call g vs)) = false
+is_without_calls (joined j f g) = is_without_calls f && is_without_calls g
+is_without_calls (sided d t) = is_without_calls t
+is_without_calls (headed h i t) = is_without_calls t
+is_without_calls (switching w t p u) = is_without_calls t && is_without_calls u
+is_without_calls (keeping w t q k p u) = is_without_calls t && (is_without_calls q && is_without_calls u)
+is_without_calls (staged x f g) = is_without_calls f && is_without_calls g
+
+mutual
+  -- No template is called in a process, in what its names stand for neither.
+  pub data HasNoCalls : Process → Type 0 where
+    closed_without_calls : {t : Term} {e : Environment} → IsTrue (is_without_calls t) → HaveNoCalls e → HasNoCalls (closure t e)
+    frozen_without_calls : {P : Process} {h : Life} {d : ℕ} → HasNoCalls P → HasNoCalls (resumed P h d)
+
+  -- the same of each process of an environment
+  pub data HaveNoCalls : Environment → Type 0 where
+    none_calls : HaveNoCalls empty
+    value_without_calls : {x : Name} {d : Data} {e : Environment} → HaveNoCalls e → HaveNoCalls (known x d e)
+    process_without_calls : {x : Name} {P : Process} {e : Environment} → HasNoCalls P → HaveNoCalls e → HaveNoCalls (running x P e)
 
 -- the value of an outcome has a type
 abbrev pub OutcomeHas : Outcome → Kind → Type 0

@@ -1,5 +1,5 @@
 -- The types of terms under a context, and the networks that are accepted.
-use Rattle.std.specs.Prelude.{◌≡◌, ◌≢◌, ℕ, ◌<◌, Bool, ◌&&◌, IsTrue, ℤ, pos, int_le, Option, Some, None, slice_get}
+use Rattle.std.specs.Prelude.{◌≡◌, ◌≢◌, ℕ, ◌<◌, [], ◌∷◌, All, Bool, ◌&&◌, IsTrue, ℤ, pos, int_le, Option, Some, None, slice_get}
 use Rattle.sf_value.specs.Values.{Name, Kind, unit_kind, bool_kind, int_kind, pair_kind, event_kind}
 use Rattle.sf_operator.specs.Kinds.{found_then, only, payload_of}
 use Rattle.sf_func.specs.Registries.{TypesByName}
@@ -16,11 +16,13 @@ use Rattle.sf_term.specs.declared.form.Accumulation.TheVariants.{AccumBy, AccumH
 use Rattle.sf_term.specs.declared.form.Join.TheVariants.{InSequence, InParallel, FannedOut}
 use Rattle.sf_term.specs.declared.form.Side.TheVariants.{First, Second}
 use Rattle.sf_term.specs.declared.form.Heading.TheVariants.{LoopPre, Initialized}
-use Rattle.sf_term.specs.Trees.{Chain, lone, chained, on_side, on_both, fanned, Primitive, bare, never, with_value, timed, arrow, accumulated, fused, Extent, Term, primitive, run, joined, sided, headed, switching, keeping, staged, Template, Templates}
+use Rattle.sf_term.specs.Trees.{Chain, lone, chained, on_side, on_both, fanned, Primitive, bare, never, with_value, timed, arrow, accumulated, fused, Extent, Term, primitive, reference, run, call, Arguments, no_arguments, value_argument, process_argument, closed_argument, joined, sided, headed, switching, keeping, staged, Template, Templates}
+use Rattle.sf_term.specs.Parameters.{NameKind, value, process, Bindings}
 use Rattle.sf_term.specs.declared.form.Observation.{Observation}
 use Rattle.sf_term.specs.declared.form.Switching.TheVariants.{Basic, Recurring}
 use Rattle.sf_mean.specs.Networks.{main_of}
-use Rattle.sf_mean.specs.Contexts.{Context, names_of_values, context_of, inside_pattern, inside_process, process_named}
+use Rattle.sf_mean.specs.Contexts.{Context, Signature, signature_named, names_of_values, context_of, inside_pattern, inside_process, process_named}
+use Rattle.sf_mean.specs.Calls.{ReachesTemplate}
 
 -- Functions made into one take inputs of one type to outputs of another.
 pub data ChainTakes (Γ : Context) : Chain → Kind → Kind → Type 0 where
@@ -90,7 +92,8 @@ mutual
   -- the types of each form of terms
   pub data FormTakes : Context → Term → Kind → Kind → Type 0 where
     primitive_takes : {Γ : Context} {p : Primitive} {a b : Kind} → PrimitiveTakes Γ p a b → FormTakes Γ (primitive p) a b
-    run_takes : {Γ : Context} {k : Name} {a b : Kind} → process_named k Γ.bindings ≡ Some (a, b) → FormTakes Γ (run k) a b
+    run_takes : {Γ : Context} {k : Name} {a b : Kind} → process_named k Γ.bindings ≡ Some (a, b) → FormTakes Γ (reference (run k)) a b
+    call_takes : {Γ : Context} {g : Name} {vs : Arguments} {s : Signature} → signature_named g Γ.signatures ≡ Some s → ArgumentsFit Γ vs s.parameters → FormTakes Γ (reference (call g vs)) s.input s.output
     sequence_takes : {Γ : Context} {f g : Term} {a b c : Kind} → Takes Γ f a b → Takes Γ g b c → FormTakes Γ (joined InSequence f g) a c
     parallel_takes : {Γ : Context} {f g : Term} {a b c d : Kind} → Takes Γ f a b → Takes Γ g c d → FormTakes Γ (joined InParallel f g) (pair_kind a c) (pair_kind b d)
     fan_takes : {Γ : Context} {f g : Term} {a b c : Kind} → Takes Γ f a b → Takes Γ g a c → FormTakes Γ (joined FannedOut f g) a (pair_kind b c)
@@ -108,14 +111,33 @@ mutual
         → Takes (inside_pattern p c (inside_process k a b Γ)) u a b → FormTakes Γ (keeping w t q k p u) a b
     stages_take : {Γ : Context} {x : Extent} {f g : Term} {a b c : Kind} → Takes Γ f a b → Takes Γ g b c → FormTakes Γ (staged x f g) a c
 
--- a template's term takes its header's input to its header's output, under the headers of all templates, with functions of
--- these types
-abbrev pub IsTyped : TypesByName → Templates → Template → Type 0
-IsTyped fs ts t = Takes (context_of fs ts) t.body t.input t.output
+  -- Arguments are as many as parameters, and each is of its parameter's type or types.
+  pub data ArgumentsFit : Context → Arguments → Bindings → Type 0 where
+    no_argument_fits : {Γ : Context} → ArgumentsFit Γ no_arguments []
+    value_fits : {Γ : Context} {i : Expression} {vs : Arguments} {x : Name} {t : Kind} {qs : Bindings}
+        → HasType (names_of_values Γ) i t → ArgumentsFit Γ vs qs → ArgumentsFit Γ (value_argument i vs) ((x, value t) ∷ qs)
+    process_fits : {Γ : Context} {t : Term} {vs : Arguments} {x : Name} {a b : Kind} {qs : Bindings}
+        → Takes Γ t a b → ArgumentsFit Γ vs qs → ArgumentsFit Γ (process_argument t vs) ((x, process a b) ∷ qs)
+    closed_fits : {Γ : Context} {t : Term} {vs : Arguments} {x : Name} {a b : Kind} {qs : Bindings}
+        → Takes Γ t a b → ArgumentsFit Γ vs qs → ArgumentsFit Γ (closed_argument t vs) ((x, process a b) ∷ qs)
 
--- With stored functions of these types, a network is accepted where its templates have different names and terms of their
--- headers' types, and one is `main`.
+-- the types of a parameter have at most 256 nodes
+abbrev pub ParameterFits : NameKind → Type 0
+ParameterFits (value t) = Fits t
+ParameterFits (process a b) = Fits a × Fits b
+
+-- With functions of these types and under the headers of all templates, a template has parameters of types within the bound,
+-- and its term takes its header's input to its header's output.
+pub record IsTyped (fs : TypesByName) (ts : Templates) (t : Template) : Type 0 where
+  pub parameters : All (λ (q : Name × NameKind). ParameterFits q.1) t.parameters
+  pub body : Takes (context_of fs t.parameters ts) t.body t.input t.output
+
+-- With stored functions of these types, a network is accepted where its templates have different names, each has different
+-- names of its parameters and a term of its header's types, one is `main` and has no parameters, and none reaches itself by
+-- calls outside the bodies of switches.
 pub record Accepted (fs : TypesByName) (ts : Templates) : Type 0 where
   pub different : (i j : ℕ) (s t : Template) → i < j → slice_get ts i ≡ Some s → slice_get ts j ≡ Some t → s.name ≢ t.name
+  pub different_parameters : (k i j : ℕ) (t : Template) (q r : Name × NameKind) → slice_get ts k ≡ Some t → i < j → slice_get t.parameters i ≡ Some q → slice_get t.parameters j ≡ Some r → q.0 ≢ r.0
   pub typed : (i : ℕ) (t : Template) → slice_get ts i ≡ Some t → IsTyped fs ts t
-  pub has_main : (t : Template) × (main_of ts ≡ Some t)
+  pub endless : (g : Name) → ¬ ReachesTemplate ts g g
+  pub has_main : (t : Template) × (main_of ts ≡ Some t) × (t.parameters ≡ [])

@@ -7,7 +7,7 @@ ghost use Rattle.sf_mean.specs.Typing.{ChainTakes, PrimitiveTakes, Takes};
 ghost use Rattle.sf_mean.specs.Inference.{chain_output, primitive_output, term_output};
 ghost use Rattle.sf_mean.specs.Lives.{Step, Life, Process, resumed, after};
 ghost use Rattle.sf_mean.specs.Meaning.{Network, Outcome, Cost, Gives, Outputs};
-ghost use Rattle.sf_mean.specs.Soundness.{HasLived, ProcessTakes, LifeHas, OutcomeHas};
+ghost use Rattle.sf_mean.specs.Soundness.{HasNoCalls, HasLived, ProcessTakes, LifeHas, OutcomeHas};
 
 /// A process gives one outcome at most on a life, at one cost.
 pub fn one_outcome()
@@ -24,9 +24,10 @@ pub fn typed_process()
     ensures { (n : Network) (P : Process) (L : Life) (o : Outcome) (c : Cost) (a b : Kind) → Gives n P L o c → ProcessTakes n P a b → LifeHas L a → OutcomeHas o b }
 {}
 
-/// Where each life before gives a value, a process has an outcome, if what is frozen in it had lived so.
+/// Where each life before gives a value, a process has an outcome, if what is frozen in it had lived so, and if it calls no
+/// template. Templates that call each other in the bodies of switches, without end at one sample, have none.
 pub fn some_outcome()
-    ensures { (n : Network) (P : Process) (s : Step) (L : Life) (ys : List Data) → HasLived n P → Outputs n P L ys → (o : Outcome) × ((c : Cost) × Gives n P (s ∷ L) o c) }
+    ensures { (n : Network) (P : Process) (s : Step) (L : Life) (ys : List Data) → HasNoCalls P → HasLived n P → Outputs n P L ys → (o : Outcome) × ((c : Cost) × Gives n P (s ∷ L) o c) }
 {}
 
 /// A process that was frozen after a life, and again after another one, goes on as itself after both.

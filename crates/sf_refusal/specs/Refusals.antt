@@ -3,7 +3,7 @@ use Rattle.std.specs.Prelude.{ℕ, List, ◌∷◌, ◌++◌, codes}
 use Rattle.std.specs.Fmt.{decimal}
 use Rattle.sf_refusal.specs.declared.spot.Spot.{Spot}
 use Rattle.sf_refusal.specs.declared.rule.Rule.{Rule}
-use Rattle.sf_refusal.specs.declared.rule.Rule.TheVariants.{BadByte, NumberTooLarge, OpenText, TooLong, Unexpected, TooDeep, Version, WrittenTypeTooLarge, TooMany, UnknownName, DuplicateName, Mismatch, BarePre, NoMain, BadConstant, TypeTooLarge}
+use Rattle.sf_refusal.specs.declared.rule.Rule.TheVariants.{BadByte, NumberTooLarge, OpenText, TooLong, Unexpected, TooDeep, Version, WrittenTypeTooLarge, TooMany, UnknownName, DuplicateName, Arity, Mismatch, BarePre, Endless, NoMain, BadConstant, TypeTooLarge}
 use Rattle.sf_refusal.specs.declared.refusal.Breach.{Breach}
 use Rattle.sf_refusal.specs.declared.refusal.Refusal.{Refusal}
 use Rattle.sf_refusal.specs.declared.refusal.Refusal.TheVariants.{Broken, Memory}
@@ -29,8 +29,10 @@ number_of WrittenTypeTooLarge = codes "P4"
 number_of TooMany = codes "B1"
 number_of UnknownName = codes "C1"
 number_of DuplicateName = codes "C2"
+number_of Arity = codes "C3"
 number_of Mismatch = codes "C4"
 number_of BarePre = codes "C5"
+number_of Endless = codes "C6"
 number_of NoMain = codes "C7"
 number_of BadConstant = codes "C8"
 number_of TypeTooLarge = codes "C9"
@@ -48,8 +50,10 @@ name_of WrittenTypeTooLarge = codes "TypeTooLarge"
 name_of TooMany = codes "TooMany"
 name_of UnknownName = codes "UnknownName"
 name_of DuplicateName = codes "DuplicateName"
+name_of Arity = codes "Arity"
 name_of Mismatch = codes "Mismatch"
 name_of BarePre = codes "BarePre"
+name_of Endless = codes "Endless"
 name_of NoMain = codes "NoMain"
 name_of BadConstant = codes "BadConstant"
 name_of TypeTooLarge = codes "TypeTooLarge"

@@ -27,11 +27,15 @@ pub enum Rule {
     UnknownName,
     /// C2: two names are the same.
     DuplicateName,
+    /// C3: a call has another number of arguments than its template has parameters.
+    Arity,
     /// C4: types do not fit.
     Mismatch,
     /// C5: `pre` isn't the second part of `-->`.
     BarePre,
-    /// C7: no template is named `main`.
+    /// C6: a template reaches itself by calls outside the bodies of switches.
+    Endless,
+    /// C7: no template is named `main` and has no parameters.
     NoMain,
     /// C8: a number of a form is outside its range.
     BadConstant,
@@ -56,8 +60,10 @@ impl Rule {
             Rule::TooMany => "B1",
             Rule::UnknownName => "C1",
             Rule::DuplicateName => "C2",
+            Rule::Arity => "C3",
             Rule::Mismatch => "C4",
             Rule::BarePre => "C5",
+            Rule::Endless => "C6",
             Rule::NoMain => "C7",
             Rule::BadConstant => "C8",
             Rule::TypeTooLarge => "C9",
@@ -80,8 +86,10 @@ impl Rule {
             Rule::TooMany => "TooMany",
             Rule::UnknownName => "UnknownName",
             Rule::DuplicateName => "DuplicateName",
+            Rule::Arity => "Arity",
             Rule::Mismatch => "Mismatch",
             Rule::BarePre => "BarePre",
+            Rule::Endless => "Endless",
             Rule::NoMain => "NoMain",
             Rule::BadConstant => "BadConstant",
         }

@@ -6,17 +6,19 @@ use Rattle.sf_value.specs.Values.{Name, Data, first_of, second_of}
 use Rattle.sf_value.specs.declared.fault.ValueFault.{ValueFault}
 use Rattle.sf_func.specs.Registries.{AnswersByName}
 use Rattle.sf_expr.specs.Expressions.{Pattern, unnamed, named, both, Expression}
-use Rattle.sf_expr.specs.Evaluation.{Evaluated, answer, failed, Scope, no_names, value_name, other_name, eval}
+use Rattle.sf_expr.specs.Evaluation.{Evaluated, answer, failed, ◌>>=◌, Scope, no_names, value_name, other_name, eval}
 use Rattle.sf_term.specs.declared.form.Join.{Join}
 use Rattle.sf_term.specs.declared.form.Side.{Side}
 use Rattle.sf_term.specs.declared.form.Heading.{Heading}
 use Rattle.sf_term.specs.declared.form.Observation.{Observation}
 use Rattle.sf_term.specs.declared.form.Switching.{Switching}
-use Rattle.sf_term.specs.Trees.{Primitive, Term, primitive, run, joined, sided, headed, switching, keeping, staged, Template, Templates}
+use Rattle.sf_term.specs.Trees.{Primitive, Term, primitive, Reference, reference, run, call, Arguments, no_arguments, value_argument, process_argument, closed_argument, template_named, joined, sided, headed, switching, keeping, staged, Template, Templates}
 use Rattle.sf_mean.specs.Lives.{Step, wait_of, input_of, Life, Process, closure, resumed, Environment, empty, known, running, passing, process_of, scope_around, bind, after, frozen, first_input}
 use Rattle.sf_mean.specs.Formulas.{occurring, formula}
-use Rattle.sf_mean.specs.Meaning.{Network, Readings, Outcome, gave, faulted, as_outcome, Cost, over_first, one_term, text_cost, last_event, Made, process_made, make, Watched, itself, observed, Takeover, Standing, waits, fired, stands_after, whenever, body_of, body_with, Gives, gives, Outputs, not_begun, and_gave, Sample, of_constants, of_form, of_resumed, Form, of_primitive, of_run, of_join, of_side, of_loop, of_initialized, of_switch, of_keeping, of_recurring, of_stages, what_runs, Next, goes_on, stops, Loops, no_loop, and_looped, Sees, beside_values, by_observer, Since, at_start, watched, had_fired, SwitchTurn, while_waiting, as_body, Switched, after_fault, after_value, Fires, no_event_yet, event_now}
+use Rattle.sf_mean.specs.Meaning.{Network, Readings, Outcome, gave, faulted, as_outcome, Cost, no_cost, over_first, one_term, text_cost, last_event, Made, process_made, argument_process, argued, process_called, referred, make, entered_cost, arguments_cost, Watched, itself, observed, Takeover, Standing, waits, fired, stands_after, whenever, body_of, body_with, Gives, gives, Outputs, not_begun, and_gave, Sample, of_constants, of_form, of_resumed, Form, of_primitive, of_reference, of_join, of_side, of_loop, of_initialized, of_switch, of_keeping, of_recurring, of_stages, what_runs, Next, goes_on, stops, Loops, no_loop, and_looped, Sees, beside_values, by_observer, Since, at_start, watched, had_fired, SwitchTurn, while_waiting, as_body, Switched, after_fault, after_value, Fires, no_event_yet, event_now}
+use Rattle.sf_term.specs.Parameters.{Bindings}
 use Rattle.sf_rewrite.specs.Laws.{Laws, unchanged}
+use Rattle.sf_rewrite.specs.Plans.{is_run}
 use Rattle.sf_rewrite.proofs.Parts.{Leaves, Stand, waiting, began, later_stand, stand_after, Part, part, Parts, begins, then_gave, At, at_leaf, at_primitive, at_join, at_stages, at_side, at_loop, at_initialized, at_constant, at_switch, at_recurring, Then, then_part, then_stops, Rounds, no_round, one_round, Watches, watch_begins, then_watched, fired_before, Turns, turn_waits, turn_body, Switches, switch_stops, switch_goes, Runs, runs_first, runs_body, Bodies, no_body, body_begins, is_leaf, no_truth, OneLeaf}
 use Rattle.sf_rewrite.proofs.Lowered.{Below, Lowered, lowered, below_same, below_any, below_trans, below_over, below_both, below_first}
 use Rattle.sf_rewrite.proofs.Along.{Sound, parts_along}
@@ -35,12 +37,21 @@ mutual
 
   pub data Formed (d : Bool) : Term → Term → Type 0 where
     same_primitive : {p : Primitive} → Formed d (primitive p) (primitive p)
-    same_run : {k : Name} → Formed d (run k) (run k)
+    same_run : {k : Name} → Formed d (reference (run k)) (reference (run k))
+    same_call : {g : Name} {vs us : Arguments} → AlikeArguments d vs us → Formed d (reference (call g vs)) (reference (call g us))
     same_join : {j : Join} {f f' g g' : Term} → Alike d f f' → Alike d g g' → Formed d (joined j f g) (joined j f' g')
     same_side : {a : Side} {t t' : Term} → Alike d t t' → Formed d (sided a t) (sided a t')
     same_heading : {h : Heading} {i : Expression} {t t' : Term} → Alike d t t' → Formed d (headed h i t) (headed h i t')
     same_switch : {w : Switching} {t t' u u' : Term} {p : Pattern} → Alike d t t' → Alike d u u' → Formed d (switching w t p u) (switching w t' p u')
     same_keeping : {w : Observation} {t t' q q' u u' : Term} {k : Name} {p : Pattern} → Alike d t t' → Alike d q q' → Alike d u u' → Formed d (keeping w t q k p u) (keeping w t' q' k p u')
+
+  -- arguments that are processes of the same meaning
+  pub data AlikeArguments (d : Bool) : Arguments → Arguments → Type 0 where
+    alike_none : AlikeArguments d no_arguments no_arguments
+    alike_value : {i : Expression} {vs us : Arguments} → AlikeArguments d vs us → AlikeArguments d (value_argument i vs) (value_argument i us)
+    alike_named : {k : Name} {vs us : Arguments} → AlikeArguments d vs us → AlikeArguments d (process_argument (reference (run k)) vs) (process_argument (reference (run k)) us)
+    alike_closed : {t u : Term} {vs us : Arguments} → is_run t ≡ false → Alike d t u → AlikeArguments d vs us → AlikeArguments d (process_argument t vs) (closed_argument u us)
+    alike_opened : {t u : Term} {vs us : Arguments} → is_run u ≡ false → Alike d t u → AlikeArguments d vs us → AlikeArguments d (closed_argument t vs) (process_argument u us)
 
 mutual
   pub data AlikeProcess (d : Bool) : Process → Process → Type 0 where
@@ -55,6 +66,7 @@ mutual
 -- a template with a term of the same meaning
 pub record AlikeTemplate (d : Bool) (s t : Template) : Type 0 where
   pub name : t.name ≡ s.name
+  pub parameters : t.parameters ≡ s.parameters
   pub body : Alike d s.body t.body
 
 pub data AlikeAll (d : Bool) : Templates → Templates → Type 0 where
@@ -92,6 +104,95 @@ alike_process {d} k (alike_running {x = x} {P = P} {P' = P'} {e = e} {e' = e'} H
 alike_frozen : {d : Bool} {P P' : Process} (h : Life) (w : ℕ) → AlikeProcess d P P' → AlikeProcess d (frozen P h w) (frozen P' h w)
 alike_frozen [] w R = R
 alike_frozen (s ∷ h) w R = alike_resumed R
+
+-- ## What is referred to
+
+-- two answers with environments of processes alike, or the same fault
+data AlikeArgued (d : Bool) : Evaluated Environment → Evaluated Environment → Type 0 where
+  argued_alike : {e e' : Environment} → AlikeNames d e e' → AlikeArgued d (answer e) (answer e')
+  argued_failed : {x : ValueFault} → AlikeArgued d (failed x) (failed x)
+
+-- two answers with processes alike, or the same fault
+data AlikeReferred (d : Bool) : Evaluated Process → Evaluated Process → Type 0 where
+  referred_alike : {P P' : Process} → AlikeProcess d P P' → AlikeReferred d (answer P) (answer P')
+  referred_failed : {x : ValueFault} → AlikeReferred d (failed x) (failed x)
+
+-- a term that is no named process is closed
+closed_by : (t : Term) (e : Environment) → is_run t ≡ false → argument_process t e ≡ closure t e
+closed_by (primitive p) e h = refl
+closed_by (reference (run k)) e h = absurd cc
+closed_by (reference (call g vs)) e h = refl
+closed_by (joined j f g) e h = refl
+closed_by (sided a t) e h = refl
+closed_by (headed k i t) e h = refl
+closed_by (switching w t p u) e h = refl
+closed_by (keeping w t q k p u) e h = refl
+closed_by (staged x f g) e h = refl
+
+after_each : {d : Bool} (v : Evaluated Data) (f g : Data → Evaluated Environment) → ((x : Data) → AlikeArgued d (f x) (g x)) → AlikeArgued d (v >>= f) (v >>= g)
+after_each (answer x) f g h = h x
+after_each (failed x) f g h = argued_failed
+
+alike_made : {d : Bool} {t u : Term} {v w : Evaluated Environment} → Alike d t u → AlikeArgued d v w → AlikeReferred d (v >>= λ c. answer (closure t c)) (w >>= λ c. answer (closure u c))
+alike_made T (argued_alike C) = referred_alike (alike_closure T C)
+alike_made T argued_failed = referred_failed
+
+module _ {d : Bool} {φ ψ : AnswersByName} (same : ψ ≡ φ) {e e' : Environment} (E : AlikeNames d e e') where
+  alike_argued : (qs : Bindings) {vs us : Arguments} → AlikeArguments d vs us → {c c' : Environment} → AlikeNames d c c' → AlikeArgued d (argued φ qs vs e c) (argued ψ qs us e' c')
+  alike_argued [] A C = argued_alike C
+  alike_argued (q ∷ qs) alike_none C = argued_alike C
+  alike_argued (q ∷ qs) (alike_value {i = i} {vs = vs} {us = us} A) {c} {c'} C =
+      let N : Scope → Type 0 = λ sc. AlikeArgued d (eval i (scope_around φ e) >>= λ v. argued φ qs vs e (known q.0 v c)) (eval i sc >>= λ v. argued ψ qs us e' (known q.0 v c')) in
+      subst N (scopes same E) (after_each (eval i (scope_around φ e)) (λ v. argued φ qs vs e (known q.0 v c)) (λ v. argued ψ qs us e' (known q.0 v c')) (λ v. alike_argued qs A (alike_known C)))
+  alike_argued (q ∷ qs) (alike_named {k = k} A) C = alike_argued qs A (alike_running (alike_process k E) C)
+  alike_argued (q ∷ qs) (alike_closed {t = t} {u = u} h T A) C = alike_argued qs A (alike_running (subst (λ P. AlikeProcess d P (closure u e')) (sym (closed_by t e h)) (alike_closure T E)) C)
+  alike_argued (q ∷ qs) (alike_opened {t = t} {u = u} h T A) C = alike_argued qs A (alike_running (subst (λ P. AlikeProcess d (closure t e) P) (sym (closed_by u e' h)) (alike_closure T E)) C)
+
+  alike_called : (g : Name) {ss ts : Templates} {vs us : Arguments} → AlikeAll d ss ts → AlikeArguments d vs us → AlikeReferred d (process_called φ (template_named g ss) vs e) (process_called ψ (template_named g ts) us e')
+  alike_called g none_alike A = referred_alike (alike_passing d)
+  alike_called g {vs = vs} {us = us} (more_alike {s = s} {t = t} {ss = ss} {ts = ts} T R) A =
+      let N : Name → Type 0 = λ n. AlikeReferred d (process_called φ (cond (bytes_eq g s.name) (Some s) (template_named g ss)) vs e) (process_called ψ (cond (bytes_eq g n) (Some t) (template_named g ts)) us e') in
+      subst N (sym T.name) (by_test (bytes_eq g s.name) (alike_called g R A))
+    where
+      by_test : (b : Bool) → AlikeReferred d (process_called φ (template_named g ss) vs e) (process_called ψ (template_named g ts) us e')
+          → AlikeReferred d (process_called φ (cond b (Some s) (template_named g ss)) vs e) (process_called ψ (cond b (Some t) (template_named g ts)) us e')
+      by_test true H =
+          let N : Bindings → Type 0 = λ qs. AlikeReferred d (argued φ s.parameters vs e empty >>= λ c. answer (closure s.body c)) (argued ψ qs us e' empty >>= λ c. answer (closure t.body c)) in
+          subst N (sym T.parameters) (alike_made T.body (alike_argued s.parameters A alike_empty))
+      by_test false H = H
+
+abbrev answer_or : Process → Evaluated Process → Process
+answer_or P (answer Q) = Q
+answer_or P (failed x) = P
+
+-- what an answer is like that is like another one
+referred_like : {d : Bool} {P : Process} {q q' : Evaluated Process} → q ≡ answer P → AlikeReferred d q q' → (P' : Process) × AlikeProcess d P P' × (q' ≡ answer P')
+referred_like {d} {P} h (referred_alike {P = Q} {P' = Q'} R) = (Q', subst (λ P. AlikeProcess d P Q') (ap (answer_or P) h) R, refl)
+referred_like h referred_failed = absurd cc
+
+fault_like : {d : Bool} {x : ValueFault} {q q' : Evaluated Process} → q ≡ failed x → AlikeReferred d q q' → q' ≡ failed x
+fault_like h (referred_alike R) = absurd cc
+fault_like h referred_failed = cc
+
+-- what was made of what is referred to
+abbrev made_as : Evaluated Process → Evaluated Made
+made_as q = q >>= λ P. answer (process_made P)
+
+abbrev process_or : Process → Made → Process
+process_or P (process_made Q) = Q
+process_or P m = P
+
+abbrev made_or : Process → Evaluated Made → Process
+made_or P (answer m) = process_or P m
+made_or P (failed x) = P
+
+referred_answer : (q : Evaluated Process) {P : Process} → made_as q ≡ answer (process_made P) → q ≡ answer P
+referred_answer (answer Q) {P} h = ap answer (ap (made_or P) h)
+referred_answer (failed x) h = absurd cc
+
+referred_fault : (q : Evaluated Process) {x : ValueFault} → made_as q ≡ failed x → q ≡ failed x
+referred_fault (answer Q) h = absurd cc
+referred_fault (failed y) h = cc
 
 -- ## Where switches stand
 
@@ -142,11 +243,19 @@ mutual
   formed_texts : {d : Bool} {t u : Term} → Formed d t u → Below d (text_cost t) (text_cost u)
   formed_texts {d} same_primitive = below_same d _
   formed_texts {d} same_run = below_same d _
+  formed_texts (same_call A) = below_over _ _ (arguments_texts A)
   formed_texts (same_join A B) = below_over _ _ (below_both _ _ _ _ (alike_texts A) (alike_texts B))
   formed_texts (same_side A) = below_over _ _ (alike_texts A)
   formed_texts (same_heading A) = below_over _ _ (alike_texts A)
   formed_texts (same_switch A B) = below_over _ _ (alike_texts A)
   formed_texts (same_keeping A C B) = below_over _ _ (below_both _ _ _ _ (alike_texts A) (alike_texts C))
+
+  arguments_texts : {d : Bool} {vs us : Arguments} → AlikeArguments d vs us → Below d (arguments_cost vs) (arguments_cost us)
+  arguments_texts {d} alike_none = below_same d no_cost
+  arguments_texts (alike_value A) = arguments_texts A
+  arguments_texts {d} (alike_named A) = below_both _ _ _ _ (below_same d one_term) (arguments_texts A)
+  arguments_texts (alike_closed h T A) = below_both _ _ _ _ (alike_texts T) (arguments_texts A)
+  arguments_texts (alike_opened h T A) = below_both _ _ _ _ (alike_texts T) (arguments_texts A)
 
 module _ (d : Bool) (n n' : Network) (all : AlikeAll d n.templates n'.templates) (same : n'.functions ≡ n.functions) (one : OneLeaf (Leaf n)) (one' : OneLeaf (Leaf n')) where
   -- what a form that no law looks into gives: a step of the network, and for each form like it a step there
@@ -240,8 +349,8 @@ module _ (d : Bool) (n n' : Network) (all : AlikeAll d n.templates n'.templates)
   go_switch {p = p} S T e e' E s L ys o c P (at_recurring A B) =
       elim (goes_runs T p e e' E S A) [ lowered A' h ↦ elim (goes_bodies T p e e' E B) [ lowered B' k ↦ lowered (at_recurring A' B') (below_over _ _ (below_both _ _ _ _ h k)) ] ]
 
-  go_run : {k : Name} → Goes (run k) (run k)
-  go_run e e' E s L ys o c P (at_leaf h A) = go_leaf h h same_run E A
+  go_reference : {r r' : Reference} → Formed d (reference r) (reference r') → Goes (reference r) (reference r')
+  go_reference F e e' E s L ys o c P (at_leaf h A) = go_leaf h refl F E A
 
   go_keeping : {w : Observation} {t t' q q' u u' : Term} {k : Name} {p : Pattern} → Alike d t t' → Alike d q q' → Alike d u u' → Goes (keeping w t q k p u) (keeping w t' q' k p u')
   go_keeping T H U e e' E s L ys o c P (at_leaf h A) = go_leaf h h (same_keeping T H U) E A
@@ -263,7 +372,8 @@ module _ (d : Bool) (n n' : Network) (all : AlikeAll d n.templates n'.templates)
 
     go_form : {t u : Term} → Formed d t u → Goes t u
     go_form same_primitive = go_primitive
-    go_form same_run = go_run
+    go_form same_run = go_reference same_run
+    go_form (same_call A) = go_reference (same_call A)
     go_form (same_join A B) = go_join (go A) (go B) (alike_texts B)
     go_form (same_side A) = go_side (go A)
     go_form (same_heading A) = go_heading (go A) (alike_texts A)
@@ -319,10 +429,24 @@ module _ (d : Bool) (n n' : Network) (all : AlikeAll d n.templates n'.templates)
   meet_all : {P P' : Process} → AlikeProcess d P P' → {L : Life} {ys : List Data} → ReadyAll P L ys → Outputs n' P' L ys
   meet_all R A = meet_outputs (meets R) A
 
+  -- what is referred to is like what a reference like it refers to there
+  refers : {r : Reference} {u : Term} {e e' : Environment} → Formed d (reference r) u → AlikeNames d e e' → (r' : Reference) × (u ≡ reference r') × AlikeReferred d (referred n r e) (referred n' r' e')
+  refers (same_run {k = k}) E = (run k, refl, referred_alike (alike_process k E))
+  refers (same_call {g = g} {us = us} A) E = (call g us, refl, alike_called same E g all A)
+
+  -- a reference whose arguments fail
+  reference_fails : {r : Reference} {e : Environment} {s : Step} {x : ValueFault} → make n (reference r) e (input_of s) ≡ failed x → At Q (reference r) e s [] (faulted x) one_term
+  reference_fails {r} {e} {s} {x} h = at_leaf refl (of_constants h, λ u e' F E. fails (refers F E))
+    where
+      fails : {u : Term} {e' : Environment} → (r' : Reference) × (u ≡ reference r') × AlikeReferred d (referred n r e) (referred n' r' e') → Lowered d ((Leaf n').leaf u e' s [] (faulted x)) one_term
+      fails {u} {e'} like =
+          let N : Term → Type 0 = λ u. Lowered d ((Leaf n').leaf u e' s [] (faulted x)) one_term in
+          subst N (sym like.1) (lowered (of_constants (ap made_as (fault_like (referred_fault (referred n r e) h) like.2))) (below_same d one_term))
+
   -- a form whose constants fail
-  failing : (t : Term) {e : Environment} {s : Step} {x : ValueFault} → make n t e (input_of s) ≡ failed x → At Q t e s [] (faulted x) (text_cost t)
+  failing : (t : Term) {e : Environment} {s : Step} {x : ValueFault} → make n t e (input_of s) ≡ failed x → At Q t e s [] (faulted x) (entered_cost t)
   failing (primitive p) h = absurd cc
-  failing (run k) h = absurd cc
+  failing (reference r) h = reference_fails h
   failing (joined j f g) h = absurd cc
   failing (sided a t) h = absurd cc
   failing (headed k i t) {e} h = at_constant (made_fault (eval i (scope_around n.functions e)) h)
@@ -330,19 +454,16 @@ module _ (d : Bool) (n n' : Network) (all : AlikeAll d n.templates n'.templates)
   failing (keeping w t q k p u) h = absurd cc
   failing (staged x f g) h = absurd cc
 
-  abbrev process_in : Process → Evaluated Made → Process
-  process_in P (answer (process_made P')) = P'
-  process_in P (answer m) = P
-  process_in P (failed x) = P
-
-  -- a named process stands for one like it there
-  run_ready : {k : Name} {e : Environment} {P : Process} {s : Step} {L : Life} {o : Outcome} {c : Cost} → make n (run k) e (first_input s L) ≡ answer (process_made P) → Gives n P (s ∷ L) o c → ReadyNow P (s ∷ L) o c → At Q (run k) e s L o (over_first L c)
-  run_ready {k} {e} {P} {s} {L} {o} {c} h A B =
-      let N : Process → Type 0 = λ P. ReadyNow P (s ∷ L) o c in
-      at_leaf refl (of_form h (of_run A), λ u e' F E. meet_run (subst N (sym (ap (process_in P) h)) B) F E)
+  -- what is referred to stands for one like it there
+  reference_ready : {r : Reference} {e : Environment} {P : Process} {s : Step} {L : Life} {o : Outcome} {c : Cost} → make n (reference r) e (first_input s L) ≡ answer (process_made P) → Gives n P (s ∷ L) o c → ReadyNow P (s ∷ L) o c
+      → At Q (reference r) e s L o (over_first L c)
+  reference_ready {r} {e} {P} {s} {L} {o} {c} h A B = at_leaf refl (of_form h (of_reference A), λ u e' F E. meets_there (refers F E))
     where
-      meet_run : ReadyNow (process_of k e) (s ∷ L) o c → {u : Term} {e' : Environment} → Formed d (run k) u → AlikeNames d e e' → Lowered d ((Leaf n').leaf u e' s L o) (over_first L c)
-      meet_run B same_run E = elim (meet (alike_process k E) B) [ lowered B' h ↦ lowered (of_form refl (of_run B')) (below_first L _ _ h) ]
+      meets_there : {u : Term} {e' : Environment} → (r' : Reference) × (u ≡ reference r') × AlikeReferred d (referred n r e) (referred n' r' e') → Lowered d ((Leaf n').leaf u e' s L o) (over_first L c)
+      meets_there {u} {e'} like =
+          let N : Term → Type 0 = λ u. Lowered d ((Leaf n').leaf u e' s L o) (over_first L c) in
+          let there = referred_like (referred_answer (referred n r e) h) like.2 in
+          subst N (sym like.1) (elim (meet there.1 B) [ lowered B' k ↦ lowered (of_form (ap made_as there.2) (of_reference B')) (below_first L _ _ k) ])
 
   -- a switch that stood so, where what takes over is like another
   stood : {W : Watched} {B : Takeover} {L : Life} {st : Standing} → AlikeStanding d waits st → Since n' W B L st → Since n' W B L waits
@@ -379,7 +500,7 @@ module _ (d : Bool) (n n' : Network) (all : AlikeAll d n.templates n'.templates)
 
     ready_form : {t : Term} {e : Environment} {m : Made} {s : Step} {L : Life} {o : Outcome} {c : Cost} → Form n t e m s L o c → make n t e (first_input s L) ≡ answer m → At Q t e s L o c
     ready_form (of_primitive {p = p} {e = e} {s = s} {L = L} h) k = let N : Outcome → Type 0 = λ o. At Q (primitive p) e s L o one_term in subst N h at_primitive
-    ready_form (of_run A) k = run_ready k A (ready_gives A)
+    ready_form (of_reference A) k = reference_ready k A (ready_gives A)
     ready_form (of_join A B C) k = at_join (opened_all (ready_all A)) (opened_part (ready_gives B)) (ready_next C)
     ready_form (of_side A) k = at_side (opened_part (ready_gives A))
     ready_form (of_loop {i = i} {e = e} A B) k = at_loop (made_answer (eval i (scope_around n.functions e)) k) (ready_loops A) (opened_part (ready_gives B))

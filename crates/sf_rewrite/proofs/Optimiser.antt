@@ -10,12 +10,12 @@ use Rattle.sf_term.specs.declared.form.Side.{Side}
 use Rattle.sf_term.specs.declared.form.Side.TheVariants.{First, Second}
 use Rattle.sf_term.specs.declared.form.Heading.TheVariants.{LoopPre, Initialized}
 use Rattle.sf_term.specs.declared.form.Switching.TheVariants.{Basic, Recurring}
-use Rattle.sf_term.specs.Trees.{Chain, lone, chained, on_side, on_both, fanned, bare, never, with_value, timed, arrow, accumulated, fused, Extent, whole, rest, Term, primitive, run, joined, sided, headed, switching, keeping, staged}
+use Rattle.sf_term.specs.Trees.{Chain, lone, chained, on_side, on_both, fanned, bare, never, with_value, timed, arrow, accumulated, fused, Extent, whole, rest, Term, primitive, reference, run, call, Arguments, no_arguments, value_argument, process_argument, closed_argument, joined, sided, headed, switching, keeping, staged}
 use Rattle.sf_term.specs.declared.form.Observation.TheVariants.{Immediate, Delayed}
 use Rattle.sf_rewrite.specs.Quiet.{is_quiet_expression, is_quiet}
 use Rattle.sf_rewrite.specs.Laws.{identity, constant, arr, loop_pre, Laws, unchanged, in_turn, in_join, in_stages, in_side, as_pipeline, within_pipeline, associate_right, associate_left, identity_before, identity_after, arr_as_chain, arr_composed, arr_on_side, arr_in_parallel, arr_fanned_out, sides_composed, exchanged, constant_after, left_tightened, right_tightened}
-use Rattle.sf_rewrite.specs.Plans.{Plans, plans, of_primitive, of_run, of_join, of_side, of_heading, of_switch, of_keeping}
-use Rattle.sf_rewrite.specs.Normal.{is_arr, is_stage, may_meet, IsPlan, plan_primitive, plan_run, plan_join, plan_side, plan_heading, plan_switch, plan_keeping, plan_pipeline, IsRest, last_stage, more_stages, is_written}
+use Rattle.sf_rewrite.specs.Plans.{Plans, plans, of_primitive, of_run, of_call, PlansArguments, of_no_arguments, of_value_argument, of_named_argument, of_closed_argument, is_run, of_join, of_side, of_heading, of_switch, of_keeping}
+use Rattle.sf_rewrite.specs.Normal.{is_arr, is_stage, may_meet, are_written, IsPlan, plan_primitive, plan_run, plan_call, ArePlans, plan_no_arguments, plan_value_argument, plan_named_argument, plan_closed_argument, plan_join, plan_side, plan_heading, plan_switch, plan_keeping, plan_pipeline, IsRest, last_stage, more_stages, is_written}
 use Rattle.sf_rewrite.proofs.Parts.{no_truth}
 use Rattle.sf_rewrite.proofs.Quiet.{both_true}
 
@@ -43,7 +43,7 @@ arr_view (primitive (arrow f)) = an_arr (lone f) arr_as_chain refl
 arr_view (primitive (timed k q i)) = no_arr refl
 arr_view (primitive (accumulated k i f)) = no_arr refl
 arr_view (primitive (fused f)) = an_arr f unchanged refl
-arr_view (run k) = no_arr refl
+arr_view (reference r) = no_arr refl
 arr_view (joined j f g) = no_arr refl
 arr_view (sided d t) = no_arr refl
 arr_view (headed h i t) = no_arr refl
@@ -67,7 +67,7 @@ constant_view (primitive (arrow f)) = no_constant
 constant_view (primitive (timed k q i)) = no_constant
 constant_view (primitive (accumulated k i f)) = no_constant
 constant_view (primitive (fused f)) = no_constant
-constant_view (run k) = no_constant
+constant_view (reference r) = no_constant
 constant_view (joined j f g) = no_constant
 constant_view (sided d t) = no_constant
 constant_view (headed h i t) = no_constant
@@ -178,6 +178,7 @@ stages (plan_primitive {p = never t}) = one_stage refl
 stages (plan_primitive {p = accumulated k i f}) = one_stage refl
 stages (plan_primitive {p = fused f}) = one_stage refl
 stages plan_run = one_stage refl
+stages (plan_call A) = one_stage refl
 stages (plan_join h P Q) = one_stage h
 stages (plan_side P) = one_stage refl
 stages (plan_heading P) = one_stage refl
@@ -284,51 +285,83 @@ pub record Optimised (t : Term) : Type 0 where
   pub plans : Plans t term
   pub is : IsPlan term
 
-pub optimised : (t : Term) → IsTrue (is_written t) → Optimised t
-optimised (primitive p) h = record { term = primitive p; plans = plans of_primitive unchanged; is = plan_primitive }
-optimised (joined InSequence f g) h =
-    let w = both_true (is_written f) (is_written g) h in
-    let p = optimised f w.0 in
-    let q = optimised g w.1 in
-    let k = in_sequence p.is q.is in
-    record { term = k.term; plans = plans (of_join p.plans q.plans) (in_turn as_pipeline k.law); is = k.is }
-optimised (joined InParallel f g) h =
-    let w = both_true (is_written f) (is_written g) h in
-    let p = optimised f w.0 in
-    let q = optimised g w.1 in
-    let k = in_parallel p.is q.is in
-    record { term = k.term; plans = plans (of_join p.plans q.plans) k.law; is = k.is }
-optimised (joined FannedOut f g) h =
-    let w = both_true (is_written f) (is_written g) h in
-    let p = optimised f w.0 in
-    let q = optimised g w.1 in
-    let k = fanned_out p.is q.is in
-    record { term = k.term; plans = plans (of_join p.plans q.plans) k.law; is = k.is }
-optimised (sided d t) h =
-    let p = optimised t h in
-    let k = on_a_side d p.is in
-    record { term = k.term; plans = plans (of_side p.plans) k.law; is = k.is }
-optimised (headed LoopPre i t) h =
-    let p = optimised t h in
-    let k = in_loop p.is in
-    record { term = k.term; plans = plans (of_heading p.plans) k.law; is = k.is }
-optimised (headed Initialized i t) h =
-    let p = optimised t h in
-    record { term = headed Initialized i p.term; plans = plans (of_heading p.plans) unchanged; is = plan_heading p.is }
-optimised (switching w t p u) h =
-    let k = both_true (is_written t) (is_written u) h in
-    let a = optimised t k.0 in
-    let b = optimised u k.1 in
-    record { term = switching w a.term p b.term; plans = plans (of_switch a.plans b.plans) unchanged; is = plan_switch a.is b.is }
-optimised (run k) h = record { term = run k; plans = plans of_run unchanged; is = plan_run }
-optimised (keeping w t o k p u) h =
-    let l = both_true (is_written t) (is_written o && is_written u) h in
-    let r = both_true (is_written o) (is_written u) l.1 in
-    let a = optimised t l.0 in
-    let b = optimised o r.0 in
-    let c = optimised u r.1 in
-    record { term = keeping w a.term b.term k p c.term; plans = plans (of_keeping a.plans b.plans c.plans) unchanged; is = plan_keeping a.is b.is c.is }
-optimised (staged x f g) h = absurd (no_truth h)
+-- arguments with plans of their terms
+record OptimisedArguments (vs : Arguments) : Type 0 where
+  arguments : Arguments
+  plans : PlansArguments vs arguments
+  are : ArePlans arguments
+
+-- a term that stays closed before other arguments
+closing : {t : Term} {vs : Arguments} → is_run t ≡ false → Optimised t → OptimisedArguments vs → OptimisedArguments (process_argument t vs)
+closing h o a = record { arguments = closed_argument o.term a.arguments; plans = of_closed_argument h o.plans a.plans; are = plan_closed_argument o.is a.are }
+
+-- a term before other arguments
+with_argument : (t : Term) {vs : Arguments} → Optimised t → OptimisedArguments vs → OptimisedArguments (process_argument t vs)
+with_argument (primitive p) o a = closing refl o a
+with_argument (reference (run k)) o a = record { arguments = process_argument (reference (run k)) a.arguments; plans = of_named_argument a.plans; are = plan_named_argument a.are }
+with_argument (reference (call g us)) o a = closing refl o a
+with_argument (joined j f g) o a = closing refl o a
+with_argument (sided d t) o a = closing refl o a
+with_argument (headed k i t) o a = closing refl o a
+with_argument (switching w t p u) o a = closing refl o a
+with_argument (keeping w t q k p u) o a = closing refl o a
+with_argument (staged x f g) o a = closing refl o a
+
+mutual
+  pub optimised : (t : Term) → IsTrue (is_written t) → Optimised t
+  optimised (primitive p) h = record { term = primitive p; plans = plans of_primitive unchanged; is = plan_primitive }
+  optimised (joined InSequence f g) h =
+      let w = both_true (is_written f) (is_written g) h in
+      let p = optimised f w.0 in
+      let q = optimised g w.1 in
+      let k = in_sequence p.is q.is in
+      record { term = k.term; plans = plans (of_join p.plans q.plans) (in_turn as_pipeline k.law); is = k.is }
+  optimised (joined InParallel f g) h =
+      let w = both_true (is_written f) (is_written g) h in
+      let p = optimised f w.0 in
+      let q = optimised g w.1 in
+      let k = in_parallel p.is q.is in
+      record { term = k.term; plans = plans (of_join p.plans q.plans) k.law; is = k.is }
+  optimised (joined FannedOut f g) h =
+      let w = both_true (is_written f) (is_written g) h in
+      let p = optimised f w.0 in
+      let q = optimised g w.1 in
+      let k = fanned_out p.is q.is in
+      record { term = k.term; plans = plans (of_join p.plans q.plans) k.law; is = k.is }
+  optimised (sided d t) h =
+      let p = optimised t h in
+      let k = on_a_side d p.is in
+      record { term = k.term; plans = plans (of_side p.plans) k.law; is = k.is }
+  optimised (headed LoopPre i t) h =
+      let p = optimised t h in
+      let k = in_loop p.is in
+      record { term = k.term; plans = plans (of_heading p.plans) k.law; is = k.is }
+  optimised (headed Initialized i t) h =
+      let p = optimised t h in
+      record { term = headed Initialized i p.term; plans = plans (of_heading p.plans) unchanged; is = plan_heading p.is }
+  optimised (switching w t p u) h =
+      let k = both_true (is_written t) (is_written u) h in
+      let a = optimised t k.0 in
+      let b = optimised u k.1 in
+      record { term = switching w a.term p b.term; plans = plans (of_switch a.plans b.plans) unchanged; is = plan_switch a.is b.is }
+  optimised (reference (run k)) h = record { term = reference (run k); plans = plans of_run unchanged; is = plan_run }
+  optimised (reference (call g vs)) h =
+      let a = optimised_arguments vs h in
+      record { term = reference (call g a.arguments); plans = plans (of_call a.plans) unchanged; is = plan_call a.are }
+  optimised (keeping w t o k p u) h =
+      let l = both_true (is_written t) (is_written o && is_written u) h in
+      let r = both_true (is_written o) (is_written u) l.1 in
+      let a = optimised t l.0 in
+      let b = optimised o r.0 in
+      let c = optimised u r.1 in
+      record { term = keeping w a.term b.term k p c.term; plans = plans (of_keeping a.plans b.plans c.plans) unchanged; is = plan_keeping a.is b.is c.is }
+  optimised (staged x f g) h = absurd (no_truth h)
+
+  optimised_arguments : (vs : Arguments) → IsTrue (are_written vs) → OptimisedArguments vs
+  optimised_arguments no_arguments h = record { arguments = no_arguments; plans = of_no_arguments; are = plan_no_arguments }
+  optimised_arguments (value_argument i vs) h = let a = optimised_arguments vs h in record { arguments = value_argument i a.arguments; plans = of_value_argument a.plans; are = plan_value_argument a.are }
+  optimised_arguments (process_argument t vs) h = let k = both_true (is_written t) (are_written vs) h in with_argument t (optimised t k.0) (optimised_arguments vs k.1)
+  optimised_arguments (closed_argument t vs) h = absurd (no_truth h)
 
 -- ## Each law is applied where its left side stands alone
 
@@ -452,3 +485,9 @@ in_recurring_applied = refl
 in_keeping_applied : (optimised (keeping Immediate (joined InSequence identity f) (joined InSequence f identity) [] unnamed (joined InSequence g identity)) refl).term ≡ keeping Immediate f f [] unnamed g
 unfolding optimised in_sequence one_after_another before_tail tail stages headed_by pushed appended merged arrs before_constant arr_view constant_view in_parallel side_by_side fanned_out both_on on_a_side in_loop before_loop looped compose_sides exchange in_planned decided
 in_keeping_applied = refl
+
+-- and in the term of an argument, which stays closed where a named process is left of it
+in_argument_applied : (optimised (reference (call [] (process_argument (joined InSequence identity (reference (run []))) (process_argument (reference (run [])) no_arguments)))) refl).term
+    ≡ reference (call [] (closed_argument (reference (run [])) (process_argument (reference (run [])) no_arguments)))
+unfolding optimised optimised_arguments with_argument closing in_sequence one_after_another before_tail tail stages headed_by pushed appended merged arrs before_constant arr_view constant_view in_parallel side_by_side fanned_out both_on on_a_side in_loop before_loop looped compose_sides exchange in_planned decided
+in_argument_applied = refl

@@ -14,7 +14,7 @@ use Rattle.sf_term.specs.declared.form.Heading.{Heading}
 use Rattle.sf_term.specs.declared.form.Heading.TheVariants.{LoopPre, Initialized}
 use Rattle.sf_term.specs.declared.form.Observation.{Observation}
 use Rattle.sf_term.specs.declared.form.Switching.TheVariants.{Basic, Recurring}
-use Rattle.sf_term.specs.Trees.{Primitive, Extent, Term, primitive, run, joined, sided, headed, switching, keeping, staged}
+use Rattle.sf_term.specs.Trees.{Primitive, Extent, Term, primitive, reference, joined, sided, headed, switching, keeping, staged}
 use Rattle.sf_mean.specs.Lives.{Step, input_of, Life, Environment, scope_around, bind, with_inputs, relay, fed}
 use Rattle.sf_mean.specs.Formulas.{at_first, occurring, side_of, with_side, formula}
 use Rattle.sf_mean.specs.Meaning.{Readings, Outcome, gave, faulted, changed, combined, value_in, as_outcome, Cost, no_cost, both_costs, over, over_stages, one_term, text_cost, left_life, right_life, join_value, switched_value, event_beside, last_event, since_event, unless_faulted, without_event}
@@ -27,7 +27,7 @@ pub record Leaves : Type 1 where
 -- the forms that no law looks into
 abbrev pub is_leaf : Term → Bool
 is_leaf (primitive p) = false
-is_leaf (run k) = true
+is_leaf (reference r) = true
 is_leaf (joined j f g) = false
 is_leaf (sided d t) = false
 is_leaf (headed h i t) = false

@@ -21,7 +21,7 @@ use Rattle.sf_term.specs.declared.form.Accumulation.{Accumulation}
 use Rattle.sf_term.specs.declared.form.Join.{Join}
 use Rattle.sf_term.specs.declared.form.Join.TheVariants.{InSequence, InParallel, FannedOut}
 use Rattle.sf_term.specs.declared.form.Heading.TheVariants.{LoopPre, Initialized}
-use Rattle.sf_term.specs.Trees.{Chain, lone, chained as chained_functions, on_side, on_both, fanned, Primitive, bare, never, with_value, timed, arrow, accumulated, fused, Extent, Term, primitive, run, joined, sided, headed, switching, keeping, staged}
+use Rattle.sf_term.specs.Trees.{Chain, lone, chained as chained_functions, on_side, on_both, fanned, Primitive, bare, never, with_value, timed, arrow, accumulated, fused, Extent, Term, primitive, reference, joined, sided, headed, switching, keeping, staged}
 use Rattle.sf_mean.specs.Lives.{Step, step, wait_of, input_of, Life, Environment, scope_around, with_inputs, relay, fed}
 use Rattle.sf_mean.specs.Formulas.{at_first, timed_formula, coming, next_value, accumulation, displayed, side_of, with_side, apply_chain, value_formula, formula}
 use Rattle.sf_mean.specs.Meaning.{Outcome, gave, as_outcome, Cost, one_term, text_cost}
@@ -267,7 +267,7 @@ module _ (Q : Leaves) (one : OneLeaf Q) where
   quiet_steps (headed LoopPre i t) h = let k = both_true (is_quiet_expression i) (is_quiet t) h in steps_loop i k.0 (quiet_steps t k.1)
   quiet_steps (headed Initialized i t) h = let k = both_true (is_quiet_expression i) (is_quiet t) h in steps_initialized i k.0 (quiet_steps t k.1)
   quiet_steps (switching w t p u) h = absurd (no_truth h)
-  quiet_steps (run k) h = absurd (no_truth h)
+  quiet_steps (reference r) h = absurd (no_truth h)
   quiet_steps (keeping w t q k p u) h = absurd (no_truth h)
   quiet_steps (staged x f g) h = let k = both_true (is_quiet f) (is_quiet g) h in steps_stages (quiet_steps f k.0) (quiet_steps g k.1)
 

@@ -1,19 +1,19 @@
 -- The theorems on plans.
 use Rattle.std.proofs.Common.{◌≤◌, true, false, IsTrue, [], ◌∷◌, refl, sym}
 use Rattle.sf_value.specs.Values.{Data}
-use Rattle.sf_term.specs.Trees.{Term, Templates}
+use Rattle.sf_term.specs.Trees.{Term, Arguments, Templates}
 use Rattle.sf_mean.specs.Lives.{Step, Process, closure, Environment, Life}
 use Rattle.sf_mean.specs.Meaning.{Network, Outcome, gave, Cost, count, height, text_cost, Gives}
 use Rattle.sf_mean.proofs.Once.{once_sample}
 use Rattle.sf_rewrite.specs.Quiet.{is_quiet}
 use Rattle.sf_rewrite.specs.Laws.{unchanged}
 use Rattle.sf_rewrite.specs.Plans.{Plans, plans, PlansParts, PlansProcess, of_closure, of_frozen, PlansNames, of_nothing, of_value, of_process, PlansAll, no_templates, one_more, PlansNetwork}
-use Rattle.sf_rewrite.specs.Plans.{of_primitive, of_run, of_join, of_side, of_heading, of_switch, of_keeping}
+use Rattle.sf_rewrite.specs.Plans.{of_primitive, of_run, of_call, PlansArguments, of_no_arguments, of_value_argument, of_named_argument, of_closed_argument, of_join, of_side, of_heading, of_switch, of_keeping}
 use Rattle.sf_rewrite.proofs.Parts.{OneLeaf}
 use Rattle.sf_rewrite.proofs.Quiet.{last_step, quiet_steps}
 use Rattle.sf_rewrite.proofs.Lowered.{lowered}
 use Rattle.sf_rewrite.proofs.Opening.{Leaf, closed_part}
-use Rattle.sf_rewrite.proofs.Main.{to_plan, from_plan, Alike, alike, Formed, same_primitive, same_run, same_join, same_side, same_heading, same_switch, same_keeping, AlikeProcess, alike_closure, alike_resumed, AlikeNames, alike_empty, alike_known, alike_running, AlikeAll, none_alike, more_alike, keeps}
+use Rattle.sf_rewrite.proofs.Main.{to_plan, from_plan, Alike, alike, Formed, same_primitive, same_run, same_call, AlikeArguments, alike_none, alike_value, alike_named, alike_closed, alike_opened, same_join, same_side, same_heading, same_switch, same_keeping, AlikeProcess, alike_closure, alike_resumed, AlikeNames, alike_empty, alike_known, alike_running, AlikeAll, none_alike, more_alike, keeps}
 
 mutual
   onto : {t u : Term} → Plans t u → Alike true t u
@@ -22,11 +22,18 @@ mutual
   onto_parts : {t u : Term} → PlansParts t u → Formed true t u
   onto_parts of_primitive = same_primitive
   onto_parts of_run = same_run
+  onto_parts (of_call A) = same_call (onto_arguments A)
   onto_parts (of_join A B) = same_join (onto A) (onto B)
   onto_parts (of_side A) = same_side (onto A)
   onto_parts (of_heading A) = same_heading (onto A)
   onto_parts (of_switch A B) = same_switch (onto A) (onto B)
   onto_parts (of_keeping A C B) = same_keeping (onto A) (onto C) (onto B)
+
+  onto_arguments : {vs us : Arguments} → PlansArguments vs us → AlikeArguments true vs us
+  onto_arguments of_no_arguments = alike_none
+  onto_arguments (of_value_argument A) = alike_value (onto_arguments A)
+  onto_arguments (of_named_argument A) = alike_named (onto_arguments A)
+  onto_arguments (of_closed_argument h P A) = alike_closed h (onto P) (onto_arguments A)
 
 mutual
   from : {t u : Term} → Plans t u → Alike false u t
@@ -35,11 +42,18 @@ mutual
   from_parts : {t u : Term} → PlansParts t u → Formed false u t
   from_parts of_primitive = same_primitive
   from_parts of_run = same_run
+  from_parts (of_call A) = same_call (from_arguments A)
   from_parts (of_join A B) = same_join (from A) (from B)
   from_parts (of_side A) = same_side (from A)
   from_parts (of_heading A) = same_heading (from A)
   from_parts (of_switch A B) = same_switch (from A) (from B)
   from_parts (of_keeping A C B) = same_keeping (from A) (from C) (from B)
+
+  from_arguments : {vs us : Arguments} → PlansArguments vs us → AlikeArguments false us vs
+  from_arguments of_no_arguments = alike_none
+  from_arguments (of_value_argument A) = alike_value (from_arguments A)
+  from_arguments (of_named_argument A) = alike_named (from_arguments A)
+  from_arguments (of_closed_argument h P A) = alike_opened h (from P) (from_arguments A)
 
 mutual
   onto_process : {P P' : Process} → PlansProcess P P' → AlikeProcess true P P'
@@ -63,11 +77,11 @@ mutual
 
 onto_all : {n m : Templates} → PlansAll n m → AlikeAll true n m
 onto_all no_templates = none_alike
-onto_all (one_more A B) = more_alike (record { name = A.name; body = onto A.body }) (onto_all B)
+onto_all (one_more A B) = more_alike (record { name = A.name; parameters = A.parameters; body = onto A.body }) (onto_all B)
 
 from_all : {n m : Templates} → PlansAll n m → AlikeAll false m n
 from_all no_templates = none_alike
-from_all (one_more A B) = more_alike (record { name = sym A.name; body = from A.body }) (from_all B)
+from_all (one_more A B) = more_alike (record { name = sym A.name; parameters = sym A.parameters; body = from A.body }) (from_all B)
 
 one_leaf : (n : Network) → OneLeaf (Leaf n)
 one_leaf n t e s L a b c d A B = once_sample n A B

@@ -10,12 +10,12 @@ use Rattle.sf_term.specs.declared.form.Side.{Side}
 use Rattle.sf_term.specs.declared.form.Heading.{Heading}
 use Rattle.sf_term.specs.declared.form.Observation.{Observation}
 use Rattle.sf_term.specs.declared.form.Switching.{Switching}
-use Rattle.sf_term.specs.Trees.{Chain, Extent, Term, joined, sided, headed, switching, keeping, staged, Template, Templates}
+use Rattle.sf_term.specs.Trees.{Chain, Extent, Term, Arguments, joined, sided, headed, switching, keeping, staged, Template, Templates}
 use Rattle.sf_mean.specs.Contexts.{Context, Bindings, Signature, signature_of, context_with, inside_pattern, inside_process}
-use Rattle.sf_mean.specs.Typing.{ChainTakes, lone_takes, chained_takes, on_first_takes, on_second_takes, on_both_takes, fanned_takes, bare_takes, value_takes, arrow_takes, fused_takes, Takes, takes, primitive_takes, sequence_takes, parallel_takes, fan_takes, first_takes, second_takes, loop_takes, initialized_takes, switch_takes, keeping_takes, recurring_takes, stages_take}
+use Rattle.sf_mean.specs.Typing.{ChainTakes, lone_takes, chained_takes, on_first_takes, on_second_takes, on_both_takes, fanned_takes, bare_takes, value_takes, arrow_takes, fused_takes, Takes, takes, primitive_takes, call_takes, ArgumentsFit, value_fits, process_fits, closed_fits, sequence_takes, parallel_takes, fan_takes, first_takes, second_takes, loop_takes, initialized_takes, switch_takes, keeping_takes, recurring_takes, stages_take}
 use Rattle.sf_mean.proofs.Inferred.{input_fits, output_fits}
 use Rattle.sf_rewrite.specs.Laws.{arr, Laws, unchanged, in_turn, in_join, in_stages, in_side, in_heading, in_switch, as_pipeline, within_pipeline, associate_right, associate_left, identity_before, identity_after, arr_as_chain, chain_as_arr, arr_composed, arr_on_side, arr_in_parallel, arr_fanned_out, sides_composed, exchanged, constant_after, left_tightened, right_tightened}
-use Rattle.sf_rewrite.specs.Plans.{Plans, plans, PlansParts, of_primitive, of_run, of_join, of_side, of_heading, of_switch, of_keeping, PlansTemplate, PlansAll, no_templates, one_more}
+use Rattle.sf_rewrite.specs.Plans.{Plans, plans, PlansParts, of_primitive, of_run, of_call, PlansArguments, of_no_arguments, of_value_argument, of_named_argument, of_closed_argument, of_join, of_side, of_heading, of_switch, of_keeping, PlansTemplate, PlansAll, no_templates, one_more}
 
 abbrev Keeps : Context → Term → Term → Type 0
 Keeps Γ t u = (a b : Kind) → Takes Γ t a b → Takes Γ u a b
@@ -84,11 +84,18 @@ mutual
   parts_take : {Γ : Context} {t u : Term} → PlansParts t u → Keeps Γ t u
   parts_take of_primitive a b k = k
   parts_take of_run a b k = k
+  parts_take (of_call A) a b (takes p q (call_takes h F)) = takes p q (call_takes h (arguments_take A F))
   parts_take (of_join A B) a b k = keeps_join (plan_takes A) (plan_takes B) a b k
   parts_take (of_side A) a b k = keeps_side (plan_takes A) a b k
   parts_take (of_heading A) a b k = keeps_heading (plan_takes A) a b k
   parts_take (of_switch A B) a b k = keeps_switch (plan_takes A) (λ c. plan_takes B) a b k
   parts_take (of_keeping A C B) a b k = keeps_keeping (plan_takes A) (plan_takes C) (λ a b c. plan_takes B) a b k
+
+  arguments_take : {Γ : Context} {vs vs' : Arguments} {qs : Bindings} → PlansArguments vs vs' → ArgumentsFit Γ vs qs → ArgumentsFit Γ vs' qs
+  arguments_take of_no_arguments F = F
+  arguments_take (of_value_argument A) (value_fits E F) = value_fits E (arguments_take A F)
+  arguments_take (of_named_argument A) (process_fits T F) = process_fits T (arguments_take A F)
+  arguments_take (of_closed_argument h P A) (process_fits {a = a} {b = b} T F) = closed_fits (plan_takes P a b T) (arguments_take A F)
 
 -- ## The contexts that plans are typed under
 
@@ -97,7 +104,7 @@ signatures_are no_templates = refl
 signatures_are (one_more A B) = ap₂ (λ (s : Signature) (l : List Signature). s ∷ l) (sym (same_signature A)) (signatures_are B)
   where
     same_signature : {s t : Template} → PlansTemplate s t → signature_of t ≡ signature_of s
-    same_signature A = (λ x. record { name = A.name x; input = A.input x; output = A.output x })
+    same_signature A = (λ x. record { name = A.name x; parameters = A.parameters x; input = A.input x; output = A.output x })
 
 pub same_context : {ss ts : Templates} (fs : TypesByName) (bs : Bindings) → PlansAll ss ts → context_with fs bs ss ≡ context_with fs bs ts
 same_context fs bs P = ap (λ (l : List Signature). record { bindings = bs; signatures = l; functions = fs }) (signatures_are P)

@@ -9,7 +9,7 @@ use Rattle.sf_term.specs.declared.form.Side.{Side}
 use Rattle.sf_term.specs.declared.form.Heading.{Heading}
 use Rattle.sf_term.specs.declared.form.Observation.{Observation}
 use Rattle.sf_term.specs.declared.form.Switching.{Switching}
-use Rattle.sf_term.specs.Trees.{Primitive, bare, never, with_value, timed, arrow, accumulated, fused, whole, rest, Term, primitive, run, joined, sided, headed, switching, keeping, staged}
+use Rattle.sf_term.specs.Trees.{Primitive, bare, never, with_value, timed, arrow, accumulated, fused, whole, rest, Term, primitive, Reference, reference, run, call, Arguments, no_arguments, value_argument, process_argument, closed_argument, joined, sided, headed, switching, keeping, staged}
 
 -- `arr`, of one function or of functions made into one
 abbrev pub is_arr : Term → Bool
@@ -20,7 +20,7 @@ is_arr (primitive (arrow f)) = true
 is_arr (primitive (timed k q i)) = false
 is_arr (primitive (accumulated k i f)) = false
 is_arr (primitive (fused f)) = true
-is_arr (run k) = false
+is_arr (reference r) = false
 is_arr (joined j f g) = false
 is_arr (sided d t) = false
 is_arr (headed h i t) = false
@@ -49,7 +49,7 @@ is_stage (primitive (arrow f)) = true
 is_stage (primitive (timed k q i)) = true
 is_stage (primitive (accumulated k i f)) = true
 is_stage (primitive (fused f)) = true
-is_stage (run k) = true
+is_stage (reference r) = true
 is_stage (joined j f g) = is_left j
 is_stage (sided d t) = true
 is_stage (headed h i t) = true
@@ -64,10 +64,11 @@ may_meet true false = true
 may_meet false b = true
 
 mutual
-  -- A plan has no `>>>`, and the bodies in it are plans. Its pipelines have two stages or more.
+  -- A plan has no `>>>`, and the bodies and the terms of arguments in it are plans. Its pipelines have two stages or more.
   pub data IsPlan : Term → Type 0 where
     plan_primitive : {p : Primitive} → IsPlan (primitive p)
-    plan_run : {k : Name} → IsPlan (run k)
+    plan_run : {k : Name} → IsPlan (reference (run k))
+    plan_call : {g : Name} {vs : Arguments} → ArePlans vs → IsPlan (reference (call g vs))
     plan_join : {j : Join} {f g : Term} → IsTrue (is_left j) → IsPlan f → IsPlan g → IsPlan (joined j f g)
     plan_side : {d : Side} {t : Term} → IsPlan t → IsPlan (sided d t)
     plan_heading : {h : Heading} {i : Expression} {t : Term} → IsPlan t → IsPlan (headed h i t)
@@ -75,24 +76,48 @@ mutual
     plan_keeping : {w : Observation} {t q u : Term} {k : Name} {p : Pattern} → IsPlan t → IsPlan q → IsPlan u → IsPlan (keeping w t q k p u)
     plan_pipeline : {f r : Term} → IsPlan f → IsTrue (is_stage f) → IsRest f r → IsPlan (staged whole f r)
 
+  -- the terms of arguments: those that are closed, and named processes
+  pub data ArePlans : Arguments → Type 0 where
+    plan_no_arguments : ArePlans no_arguments
+    plan_value_argument : {i : Expression} {vs : Arguments} → ArePlans vs → ArePlans (value_argument i vs)
+    plan_named_argument : {k : Name} {vs : Arguments} → ArePlans vs → ArePlans (process_argument (reference (run k)) vs)
+    plan_closed_argument : {t : Term} {vs : Arguments} → IsPlan t → ArePlans vs → ArePlans (closed_argument t vs)
+
   -- the rest of a pipeline after a stage: no two neighbours are `arr`
   pub data IsRest : Term → Term → Type 0 where
     last_stage : {f t : Term} → IsPlan t → IsTrue (is_stage t) → IsTrue (may_meet (is_arr f) (is_arr t)) → IsRest f t
     more_stages : {f t r : Term} → IsPlan t → IsTrue (is_stage t) → IsTrue (may_meet (is_arr f) (is_arr t)) → IsRest t r → IsRest f (staged rest t r)
 
--- a term of a network: no form of plans stands in it
-abbrev pub is_written : Term → Bool
-is_written (primitive (bare k)) = true
-is_written (primitive (never t)) = true
-is_written (primitive (with_value k i)) = true
-is_written (primitive (arrow f)) = true
-is_written (primitive (timed k q i)) = true
-is_written (primitive (accumulated k i f)) = true
-is_written (primitive (fused f)) = false
-is_written (run k) = true
-is_written (joined j f g) = is_written f && is_written g
-is_written (sided d t) = is_written t
-is_written (headed h i t) = is_written t
-is_written (switching w t p u) = is_written t && is_written u
-is_written (keeping w t q k p u) = is_written t && (is_written q && is_written u)
-is_written (staged x f g) = false
+-- a primitive of a network
+abbrev pub is_written_primitive : Primitive → Bool
+is_written_primitive (bare k) = true
+is_written_primitive (never t) = true
+is_written_primitive (with_value k i) = true
+is_written_primitive (arrow f) = true
+is_written_primitive (timed k q i) = true
+is_written_primitive (accumulated k i f) = true
+is_written_primitive (fused f) = false
+
+abbrev mutual
+  -- a term of a network: no form of plans stands in it
+  pub is_written : Term → Bool
+  is_written (primitive p) = is_written_primitive p
+  is_written (reference r) = is_written_reference r
+  is_written (joined j f g) = is_written f && is_written g
+  is_written (sided d t) = is_written t
+  is_written (headed h i t) = is_written t
+  is_written (switching w t p u) = is_written t && is_written u
+  is_written (keeping w t q k p u) = is_written t && (is_written q && is_written u)
+  is_written (staged x f g) = false
+
+  -- the same of what is referred to
+  pub is_written_reference : Reference → Bool
+  is_written_reference (run k) = true
+  is_written_reference (call g vs) = are_written vs
+
+  -- the same of the terms of arguments
+  pub are_written : Arguments → Bool
+  are_written no_arguments = true
+  are_written (value_argument i vs) = are_written vs
+  are_written (process_argument t vs) = is_written t && are_written vs
+  are_written (closed_argument t vs) = false

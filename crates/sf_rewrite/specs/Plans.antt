@@ -1,5 +1,5 @@
 -- The plans of networks.
-use Rattle.std.specs.Prelude.{ℕ, ◌≡◌, [], ◌∷◌}
+use Rattle.std.specs.Prelude.{ℕ, ◌≡◌, [], ◌∷◌, Bool, true, false}
 use Rattle.sf_value.specs.Values.{Name, Data}
 use Rattle.sf_expr.specs.Expressions.{Pattern, Expression}
 use Rattle.sf_term.specs.declared.form.Join.{Join}
@@ -7,24 +7,45 @@ use Rattle.sf_term.specs.declared.form.Side.{Side}
 use Rattle.sf_term.specs.declared.form.Heading.{Heading}
 use Rattle.sf_term.specs.declared.form.Observation.{Observation}
 use Rattle.sf_term.specs.declared.form.Switching.{Switching}
-use Rattle.sf_term.specs.Trees.{Primitive, Term, primitive, run, joined, sided, headed, switching, keeping, Template, Templates}
+use Rattle.sf_term.specs.Trees.{Primitive, Term, primitive, reference, run, call, Arguments, no_arguments, value_argument, process_argument, closed_argument, joined, sided, headed, switching, keeping, staged, Template, Templates}
 use Rattle.sf_mean.specs.Lives.{Life, Process, closure, resumed, Environment, empty, known, running}
 use Rattle.sf_mean.specs.Meaning.{Network}
 use Rattle.sf_rewrite.specs.Laws.{Laws}
 
+-- a named process: as an argument it is the process itself
+abbrev pub is_run : Term → Bool
+is_run (primitive p) = false
+is_run (reference (run k)) = true
+is_run (reference (call g vs)) = false
+is_run (joined j f g) = false
+is_run (sided d t) = false
+is_run (headed h i t) = false
+is_run (switching w t p u) = false
+is_run (keeping w t q k p u) = false
+is_run (staged x f g) = false
+
 mutual
-  -- A plan of a term: its parts and bodies are plans, then laws are applied.
+  -- A plan of a term: its parts, its bodies and the terms of its arguments are plans, then laws are applied.
   pub data Plans : Term → Term → Type 0 where
     plans : {t u v : Term} → PlansParts t u → Laws u v → Plans t v
 
   pub data PlansParts : Term → Term → Type 0 where
     of_primitive : {p : Primitive} → PlansParts (primitive p) (primitive p)
-    of_run : {k : Name} → PlansParts (run k) (run k)
+    of_run : {k : Name} → PlansParts (reference (run k)) (reference (run k))
+    of_call : {g : Name} {vs vs' : Arguments} → PlansArguments vs vs' → PlansParts (reference (call g vs)) (reference (call g vs'))
     of_join : {j : Join} {f f' g g' : Term} → Plans f f' → Plans g g' → PlansParts (joined j f g) (joined j f' g')
     of_side : {d : Side} {t t' : Term} → Plans t t' → PlansParts (sided d t) (sided d t')
     of_heading : {h : Heading} {i : Expression} {t t' : Term} → Plans t t' → PlansParts (headed h i t) (headed h i t')
     of_switch : {w : Switching} {t t' u u' : Term} {p : Pattern} → Plans t t' → Plans u u' → PlansParts (switching w t p u) (switching w t' p u')
     of_keeping : {w : Observation} {t t' q q' u u' : Term} {k : Name} {p : Pattern} → Plans t t' → Plans q q' → Plans u u' → PlansParts (keeping w t q k p u) (keeping w t' q' k p u')
+
+  -- Arguments with plans of their terms, which stay closed in the environment of the call, though laws may leave a named process
+  -- of them; a named process stays as it is.
+  pub data PlansArguments : Arguments → Arguments → Type 0 where
+    of_no_arguments : PlansArguments no_arguments no_arguments
+    of_value_argument : {i : Expression} {vs vs' : Arguments} → PlansArguments vs vs' → PlansArguments (value_argument i vs) (value_argument i vs')
+    of_named_argument : {k : Name} {vs vs' : Arguments} → PlansArguments vs vs' → PlansArguments (process_argument (reference (run k)) vs) (process_argument (reference (run k)) vs')
+    of_closed_argument : {t t' : Term} {vs vs' : Arguments} → is_run t ≡ false → Plans t t' → PlansArguments vs vs' → PlansArguments (process_argument t vs) (closed_argument t' vs')
 
 mutual
   -- A process with plans of its terms; what was frozen has lived the same.
@@ -41,6 +62,7 @@ mutual
 -- a template with the plan of its term
 pub record PlansTemplate (s t : Template) : Type 0 where
   pub name : t.name ≡ s.name
+  pub parameters : t.parameters ≡ s.parameters
   pub input : t.input ≡ s.input
   pub output : t.output ≡ s.output
   pub body : Plans s.body t.body

@@ -49,7 +49,7 @@ after_begun h d s (r ∷ L) = refl
 turned_begun : {n : Network} {P Q : Process} {L M : Life} → Turned n P L Q M → (has_step L ≡ true) × (has_step M ≡ true)
 turned_begun (fired_to S O) = since_begun S
 turned_begun (kept_to S O) = since_begun S
-turned_begun (ran O) = (refl, refl)
+turned_begun (ran h O) = (refl, refl)
 turned_begun (went_on {h = h} {d = d} {s = s} {L = L} O) = (refl, after_begun h d s L)
 
 module _ (φ : AnswersByName) (p : Plan) where

@@ -18,10 +18,10 @@ use Rattle.sf_term.specs.declared.form.Heading.TheVariants.{LoopPre, Initialized
 use Rattle.sf_term.specs.declared.form.Observation.{Observation}
 use Rattle.sf_term.specs.declared.form.Switching.{Switching}
 use Rattle.sf_term.specs.declared.form.Switching.TheVariants.{Basic, Recurring}
-use Rattle.sf_term.specs.Trees.{Primitive, whole, rest, Term, primitive, run, joined, sided, headed, switching, keeping, staged}
-use Rattle.sf_mean.specs.Lives.{Step, Life, Process, closure, resumed, Environment, empty, running, bind, passing, process_of, scope_around, first_input, with_inputs, relay, observed_life, after, fed_back, older, fed}
+use Rattle.sf_term.specs.Trees.{Primitive, whole, rest, Term, primitive, Reference, reference, joined, sided, headed, switching, keeping, staged}
+use Rattle.sf_mean.specs.Lives.{Step, Life, Process, closure, resumed, Environment, empty, running, bind, passing, scope_around, first_input, with_inputs, relay, observed_life, after, fed_back, older, fed}
 use Rattle.sf_mean.specs.Formulas.{at_first, side_of}
-use Rattle.sf_mean.specs.Meaning.{Network, Made, value_made, make, left_life, right_life, itself as watched_itself, observed, waits, fired, body_of, body_with, whenever, last_event, since_event, what_runs, Outputs, Loops, Since}
+use Rattle.sf_mean.specs.Meaning.{Network, Made, value_made, referred, make, left_life, right_life, itself as watched_itself, observed, waits, fired, body_of, body_with, whenever, last_event, since_event, what_runs, Outputs, Loops, Since}
 use Rattle.sf_law.specs.declared.node.PlanId.{PlanId}
 use Rattle.sf_law.specs.declared.plan.Plan.{Plan}
 use Rattle.sf_law.specs.Arena.{plan_tree, plan_expressions, network_of_plan}
@@ -89,9 +89,9 @@ pub data Turned (n : Network) : Process → Life → Process → Life → Type 0
   kept_to : {w : Observation} {t r u : Term} {k : Name} {q : Pattern} {e : Environment} {B : Process} {L M : Life} {ys : List Data}
       → Since n (observed (closure t e) r e) (body_with k (closure t e) q u e) L (fired B M) → Outputs n (closure (keeping w t r k q u) e) L ys
       → Turned n (closure (keeping w t r k q u) e) L B M
-  -- the process of a name, once it has begun
-  ran : {k : Name} {e : Environment} {s : Step} {L : Life} {ys : List Data}
-      → Outputs n (closure (run k) e) (s ∷ L) ys → Turned n (closure (run k) e) (s ∷ L) (process_of k e) (s ∷ L)
+  -- what is referred to, once it has begun
+  ran : {r : Reference} {e : Environment} {P : Process} {s : Step} {L : Life} {ys : List Data}
+      → referred n r e ≡ answer P → Outputs n (closure (reference r) e) (s ∷ L) ys → Turned n (closure (reference r) e) (s ∷ L) P (s ∷ L)
   -- a frozen process, once it has gone on
   went_on : {P : Process} {h : Life} {d : ℕ} {s : Step} {L : Life} {ys : List Data}
       → Outputs n (resumed P h d) (s ∷ L) ys → Turned n (resumed P h d) (s ∷ L) P (after h d (s ∷ L))

@@ -1,6 +1,7 @@
 -- What each function of a sample answers, from what it calls.
 use Rattle.std.proofs.Common.{◌≡◌, ◌≢◌, ℕ, ◌+◌, ◌≤◌, List, [], ◌∷◌, ◌++◌, Option, Some, None, Result, Ok, Err, refl, sym, ap, ◌∙◌, subst, arith}
-use Rattle.std.specs.Prelude.{IsErrAnd}
+use Rattle.std.specs.Prelude.{IsErrAnd, All, Vec}
+use Rattle.std.specs.declared.alloc.Global.{Global}
 use Rattle.sf_value.specs.Values.{Data}
 use Rattle.sf_value.specs.declared.fault.ValueFault.{ValueFault}
 use Rattle.sf_value.specs.declared.fault.Fault.{Fault}
@@ -25,16 +26,18 @@ use Rattle.sf_term.specs.declared.form.Join.TheVariants.{InSequence, InParallel,
 use Rattle.sf_term.specs.declared.form.Side.{Side}
 use Rattle.sf_term.specs.declared.form.Heading.{Heading}
 use Rattle.sf_law.specs.declared.node.PlanId.{PlanId}
-use Rattle.sf_law.specs.declared.node.PlanNode.TheVariants.{Primitive as NPrimitive, Joined as NJoined, Sided as NSided, Headed as NHeaded, Switching as NSwitching, Keeping as NKeeping, Run as NRun}
+use Rattle.sf_law.specs.declared.node.TemplateId.{TemplateId}
+use Rattle.sf_law.specs.declared.node.PlanArgument.{PlanArgument}
+use Rattle.sf_law.specs.declared.node.PlanNode.TheVariants.{Primitive as NPrimitive, Joined as NJoined, Sided as NSided, Headed as NHeaded, Switching as NSwitching, Keeping as NKeeping, Run as NRun, Call as NCall}
 use Rattle.sf_law.specs.declared.node.PlanPrimitive.{PlanPrimitive}
-use Rattle.sf_law.specs.Entries.{primitive_over, IsCodedPrimitive, IsCodedExpression}
+use Rattle.sf_law.specs.Entries.{primitive_over, IsCodedPrimitive, IsCodedExpression, IsCodedArgument}
 use Rattle.sf_func.specs.Registries.{AnswersByName}
 use Rattle.sf_law.specs.declared.plan.Plan.{Plan}
-use Rattle.sf_term.specs.Trees.{Primitive, bare, Term, primitive, joined, sided, headed}
-use Rattle.sf_law.specs.Arena.{plan_tree, plan_expressions, BuildsPlan, builds_primitive, builds_joined, builds_sided, builds_headed, builds_switching, builds_keeping, builds_run}
+use Rattle.sf_term.specs.Trees.{Primitive, bare, Term, primitive, reference, call, joined, sided, headed}
+use Rattle.sf_law.specs.Arena.{plan_tree, plan_expressions, plan_arguments, header_at, BuildsPlan, builds_primitive, builds_joined, builds_sided, builds_headed, builds_switching, builds_keeping, builds_run, builds_call}
 use Rattle.sf_mean.specs.Lives.{Step, step, Life, Process, closure, Environment, empty, passing, process_of, scope_around, first_input}
 use Rattle.sf_mean.specs.Formulas.{formula}
-use Rattle.sf_mean.specs.Meaning.{Network, Readings, Outcome, gave, faulted, as_outcome, Cost, count, height, both_costs, over, one_term, Made, nothing_made, value_made, make, left_life, right_life, join_value, Gives, gives, Outputs, not_begun, and_gave, of_constants, of_form, Form, of_primitive, of_join, goes_on, at_start}
+use Rattle.sf_mean.specs.Meaning.{Network, Readings, Outcome, gave, faulted, as_outcome, Cost, count, height, both_costs, over, one_term, Made, nothing_made, value_made, process_made, make, left_life, right_life, join_value, Gives, gives, Outputs, not_begun, and_gave, of_constants, of_form, Form, of_primitive, of_join, goes_on, at_start}
 use Rattle.sf_law.specs.Arena.{network_of_plan}
 use Rattle.sf_prim.specs.declared.prim_state.PrimState.{PrimState}
 use Rattle.sf_prim.specs.Keeping.{Remembers, Begins, begins, begins_with_fault, GoesOn, goes_on as goes_on_with, goes_on_with_fault}
@@ -55,9 +58,11 @@ use Rattle.sf_step.specs.declared.sample.Opened.TheVariants as opened
 use Rattle.sf_step.specs.declared.meter.Meter.{Meter}
 use Rattle.sf_step.specs.Meters.{entered_of, height_of}
 use Rattle.sf_step.specs.Routing.{left_input, right_input, part_input, wrap_value, kept_after}
-use Rattle.sf_step.specs.Sampling.{Rel, fault_from, Ticks, Ticked, ticked, refused, readings, Spent, AtMost, Within, StopsFor, faults, large, memory, Answers, answers, fails, PartSteps, StateSteps, LiveSteps, left_or, kept, Opens, opens, opens_watching, opens_keeping, opens_running, opens_with_fault, opens_without_memory}
+use Rattle.sf_step.specs.Sampling.{Rel, fault_from, Ticks, Ticked, ticked, refused, readings, Spent, AtMost, Within, StopsFor, faults, large, memory, Answers, answers, fails, PartSteps, StateSteps, LiveSteps, left_or, kept, Opens, opens, opens_watching, opens_keeping, opens_running, opens_with_fault, opens_without_memory, makes, makes_fault, makes_nothing}
 use Rattle.sf_step.specs.Stepping.{EachCostsAtLeast, Steps, stepped, faulted_so, too_large, no_memory}
 use Rattle.sf_step.proofs.Parts.{counted, with_change, over_spent, one_spent, both_spent, fails_alike, over_fails, change_fails, then_fails, rest_fails, spent_within, answered, failed, memory_exit}
+use Rattle.sf_law.proofs.Called.{called}
+use Rattle.sf_step.proofs.Arguments.{StandsCalled}
 use Rattle.sf_step.proofs.Turning.{lift_steps, running_steps}
 use Rattle.sf_step.proofs.Forms.{left_and, right_and, left_none, right_none, single_gives, gave_outputs, form_alike, join_alike, wrap_alike, wraps_on, counts}
 
@@ -286,9 +291,12 @@ module _ (φ : AnswersByName) (p : Plan) where
   prim_opens_with_fault q e (EValue x) (begins_with_fault h) = opens_with_fault (λ s. gives not_begun (of_form refl (of_primitive (ap (λ o. as_outcome o []) (h s)))))
   prim_opens_with_fault q e EMemory h = opens_without_memory
 
+  pub open_failure : (t : Term) (e : Environment) (r : Result Opened Fault) (f : Fault) → IsErrAnd r (λ e. e ≡ f) → Opens φ p t e (Err f) → Opens φ p t e r
+  open_failure t e (Ok l) f h O = absurd h
+  open_failure t e (Err g) f h O = subst (λ (f : Fault). Opens φ p t e (Err f)) (sym h) O
+
   pub open_exit : (t : Term) (e : Environment) (r : Result Opened Fault) → IsErrAnd r (λ e. e ≡ Memory) → Opens φ p t e r
-  open_exit t e (Ok l) h = absurd h
-  open_exit t e (Err f) h = subst (λ (f : Fault). Opens φ p t e (Err f)) (sym h) opens_without_memory
+  open_exit t e r h = open_failure t e r Memory h opens_without_memory
 
   -- the scope around a part, as its names have it
   abbrev scope_in : Env → Scope
@@ -355,7 +363,26 @@ module _ (φ : AnswersByName) (p : Plan) where
   pub open_run : (k : NameId) (t : Term) (names : Env) (a : State) → BuildsPlan p (NRun k) t
       → ((e : Environment) → IsNames φ p names e → Stands φ p a (process_of (name_at (plan_expressions p) k) e) [])
       → (e : Environment) → IsNames φ p names e → Opens φ p t e (Ok (opened.Running a))
-  open_run k t names a builds_run f e N = opens_running refl (f e N)
+  open_run k t names a builds_run f e N = opens_running refl refl (f e N)
+
+  -- a call opens as its template, whose arguments have their code
+  pub coded_arguments : {k : NameId} {g : TemplateId} {v : Vec PlanArgument Global} {t : Term} → BuildsPlan p (NCall k g v) t → All (IsCodedArgument (plan_expressions p)) v.items
+  coded_arguments (builds_call is C) = C
+
+  pub open_call : (k : NameId) (g : TemplateId) (v : Vec PlanArgument Global) (t : Term) (names : Env) (a : State) → BuildsPlan p (NCall k g v) t
+      → ((e : Environment) → IsNames φ p names e → StandsCalled φ p (header_at p g) v.items e (Ok a)) → (e : Environment) → IsNames φ p names e → Opens φ p t e (Ok (opened.Running a))
+  open_call k g v t names a (builds_call is C) f e N = by (f e N)
+    where
+      by : StandsCalled φ p (header_at p g) v.items e (Ok a) → Opens φ p (reference (call (name_at (plan_expressions p) k) (plan_arguments p v.items))) e (Ok (opened.Running a))
+      by (makes h A) = opens_running refl (called φ p (name_at (plan_expressions p) k) (header_at p g) is (plan_arguments p v.items) e ∙ h) A
+
+  pub open_call_fails : (k : NameId) (g : TemplateId) (v : Vec PlanArgument Global) (t : Term) (names : Env) (f : Fault) → BuildsPlan p (NCall k g v) t
+      → ((e : Environment) → IsNames φ p names e → StandsCalled φ p (header_at p g) v.items e (Err f)) → (e : Environment) → IsNames φ p names e → Opens φ p t e (Err f)
+  open_call_fails k g v t names f (builds_call is C) h e N = by f (h e N)
+    where
+      by : (f : Fault) → StandsCalled φ p (header_at p g) v.items e (Err f) → Opens φ p (reference (call (name_at (plan_expressions p) k) (plan_arguments p v.items))) e (Err f)
+      by f (makes_fault w) = opens_with_fault (λ s. gives not_begun (of_constants (ap (λ w. w >>= λ P. answer (process_made P)) (called φ p (name_at (plan_expressions p) k) (header_at p g) is (plan_arguments p v.items) e ∙ w))))
+      by f makes_nothing = opens_without_memory
 
   -- the process that was found, or what passes inputs on
   pub found_process : (r : Option State) (a : State) (P : Process) → r ≡ Some a → IsFound φ p r P → Stands φ p a P []

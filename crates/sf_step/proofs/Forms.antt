@@ -5,9 +5,9 @@ use Rattle.sf_expr.specs.Evaluation.{Evaluated, answer, failed as no_answer}
 use Rattle.sf_term.specs.declared.form.Join.{Join}
 use Rattle.sf_term.specs.declared.form.Join.TheVariants.{InSequence, InParallel, FannedOut}
 use Rattle.sf_term.specs.declared.form.Observation.{Observation}
-use Rattle.sf_term.specs.Trees.{Extent, whole, rest, Term, primitive, run, joined, sided, headed, switching, keeping, staged}
+use Rattle.sf_term.specs.Trees.{Extent, whole, rest, Term, primitive, reference, joined, sided, headed, switching, keeping, staged}
 use Rattle.sf_mean.specs.Lives.{Step, step, Life, Process, closure, Environment, first_input, fed}
-use Rattle.sf_mean.specs.Meaning.{Network, Readings, Outcome, gave, faulted, combined, value_in, Cost, count, height, both_costs, over_first, over_stages, text_cost, Made, make, left_life, right_life, join_value, Gives, gives, Outputs, and_gave, Sample, of_constants, of_form, of_resumed, Form, of_primitive, of_join, of_side, of_loop, of_initialized, of_run, of_switch, of_keeping, of_recurring, of_stages, Next, goes_on, stops, and_looped, Watched, Takeover, Standing, SwitchTurn, while_waiting, as_body}
+use Rattle.sf_mean.specs.Meaning.{Network, Readings, Outcome, gave, faulted, combined, value_in, Cost, count, height, both_costs, over_first, over_stages, text_cost, entered_cost, Made, make, left_life, right_life, join_value, Gives, gives, Outputs, and_gave, Sample, of_constants, of_form, of_resumed, Form, of_primitive, of_join, of_side, of_loop, of_initialized, of_reference, of_switch, of_keeping, of_recurring, of_stages, Next, goes_on, stops, and_looped, Watched, Takeover, Standing, SwitchTurn, while_waiting, as_body}
 use Rattle.sf_mean.proofs.Once.{once, onces, once_loops}
 use Rattle.sf_state.specs.declared.state.Wrap.{Wrap}
 use Rattle.sf_state.specs.Standing.{Wraps, wraps_first, wraps_second, wraps_loop, wraps_initialized}
@@ -132,7 +132,7 @@ module _ (n : Network) where
 
   pub text_counts : (t : Term) → (1 ≤ count (text_cost t)) × (1 ≤ height (text_cost t))
   text_counts (primitive p) = (omega arith, omega arith)
-  text_counts (run k) = (omega arith, omega arith)
+  text_counts (reference r) = (omega arith, omega arith)
   text_counts (joined j f g) = (omega arith, omega arith)
   text_counts (sided d t) = (omega arith, omega arith)
   text_counts (headed h i t) = (omega arith, omega arith)
@@ -140,10 +140,20 @@ module _ (n : Network) where
   text_counts (keeping w t r k q u) = (omega arith, omega arith)
   text_counts (staged x f g) = stages_count x (text_cost f) (text_cost g) (text_counts f)
 
+  entered_counts : (t : Term) → (1 ≤ count (entered_cost t)) × (1 ≤ height (entered_cost t))
+  entered_counts (primitive p) = text_counts (primitive p)
+  entered_counts (reference r) = (omega arith, omega arith)
+  entered_counts (joined j f g) = text_counts (joined j f g)
+  entered_counts (sided d t) = text_counts (sided d t)
+  entered_counts (headed h i t) = text_counts (headed h i t)
+  entered_counts (switching w t q u) = text_counts (switching w t q u)
+  entered_counts (keeping w t r k q u) = text_counts (keeping w t r k q u)
+  entered_counts (staged x f g) = text_counts (staged x f g)
+
   mutual
     form_counts : {t : Term} {e : Environment} {m : Made} {s : Step} {L : Life} {o : Outcome} {k : Cost} → Form n t e m s L o k → (1 ≤ count k) × (1 ≤ height k)
     form_counts (of_primitive h) = (omega arith, omega arith)
-    form_counts (of_run {L = L} {c = c} G) = first_counts L c (counts G)
+    form_counts (of_reference {L = L} {c = c} G) = first_counts L c (counts G)
     form_counts (of_join O G N) = (omega arith, omega arith)
     form_counts (of_side G) = (omega arith, omega arith)
     form_counts (of_loop O G) = (omega arith, omega arith)
@@ -158,7 +168,7 @@ module _ (n : Network) where
     turn_counts (as_body G) = counts G
 
     sample_counts : {P : Process} {s : Step} {L : Life} {o : Outcome} {k : Cost} → Sample n P s L o k → (1 ≤ count k) × (1 ≤ height k)
-    sample_counts (of_constants {t = t} h) = text_counts t
+    sample_counts (of_constants {t = t} h) = entered_counts t
     sample_counts (of_form h F) = form_counts F
     sample_counts (of_resumed G) = counts G
 

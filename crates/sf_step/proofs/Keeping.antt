@@ -12,7 +12,7 @@ use Rattle.sf_term.specs.declared.form.Observation.{Observation}
 use Rattle.sf_term.specs.Trees.{Term, keeping}
 use Rattle.sf_mean.specs.Lives.{Step, step, Life, Process, closure, frozen, running, bind, Environment, observed_life}
 use Rattle.sf_mean.specs.Formulas.{occurring}
-use Rattle.sf_mean.specs.Meaning.{Network, Readings, Outcome, gave, faulted, combined, value_in, Cost, no_cost, both_costs, over, text_cost, Made, nothing_made, observed, Takeover, body_with, waits, stands_after, switched_value, Gives, gives, Outputs, and_gave, of_form, Form, of_keeping, Next, goes_on, stops, Sees, by_observer, Since, watched, while_waiting, after_value, Fires, no_event_yet, event_now}
+use Rattle.sf_mean.specs.Meaning.{Network, Outcome, gave, faulted, combined, value_in, Cost, no_cost, both_costs, over, text_cost, Made, nothing_made, observed, body_with, waits, stands_after, switched_value, Gives, gives, Outputs, and_gave, of_form, Form, of_keeping, Next, goes_on, stops, Sees, by_observer, Since, watched, while_waiting, after_value, Fires, no_event_yet, event_now}
 use Rattle.sf_mean.proofs.Once.{once_since, once_sees, onces}
 use Rattle.sf_law.specs.declared.plan.Plan.{Plan}
 use Rattle.sf_law.specs.Arena.{plan_tree, plan_expressions, network_of_plan}
@@ -22,7 +22,7 @@ use Rattle.sf_state.specs.declared.env.Env.{Env}
 use Rattle.sf_state.specs.Standing.{IsNames, kept_to, Stands, took_over, WaitsKeeping, keeps_so}
 use Rattle.sf_step.specs.declared.meter.Meter.{Meter}
 use Rattle.sf_step.specs.Meters.{entered_of, height_of}
-use Rattle.sf_step.specs.Sampling.{Rel, Ticks, Spent, Within, StopsFor, answers, StateSteps, KeepingSteps}
+use Rattle.sf_step.specs.Sampling.{Rel, Ticks, Within, StopsFor, answers, StateSteps, KeepingSteps}
 use Rattle.sf_step.proofs.Parts.{Single, single, Then, then_on, then_stop, Alike, over_spent, both_spent, alike_within, over_within, then_within, fails_alike, over_fails, then_fails, rest_fails, spent_within, answered, failed}
 use Rattle.sf_step.proofs.Forms.{single_gives, gave_outputs, form_alike}
 use Rattle.sf_step.proofs.Switches.{no_more_spent, Beside, way_alike, after_event, SeenRel, seen_alike, turn_to, turn_back}

@@ -1,4 +1,5 @@
 pub mod Parts
+pub mod Arguments
 pub mod Forms
 pub mod Turning
 pub mod Exits

@@ -1,18 +1,16 @@
 -- Recurring switches: what runs is stepped on inputs without their events, and at an event the body takes its place.
-use Rattle.std.proofs.Common.{◌≡◌, ℕ, List, [], ◌∷◌, ◌++◌, Option, Some, None, Result, Ok, Err, refl, sym, ap, ◌∙◌, subst}
-use Rattle.std.specs.Prelude.{IsErr}
-use Rattle.sf_value.specs.Values.{Data, first_of, second_of}
+use Rattle.std.proofs.Common.{◌≡◌, ℕ, [], ◌∷◌, ◌++◌, Some, None, Result, Ok, Err, refl, sym, ap, ◌∙◌, subst}
+use Rattle.sf_value.specs.Values.{Data, first_of}
 use Rattle.sf_value.specs.declared.fault.Fault.{Fault}
 use Rattle.sf_func.specs.Registries.{AnswersByName}
 use Rattle.sf_expr.specs.Expressions.{Pattern}
 use Rattle.sf_expr.specs.Patterns.{pattern_of}
 use Rattle.sf_expr.specs.Arena.{placed_at}
 use Rattle.sf_term.specs.declared.form.Observation.{Observation}
-use Rattle.sf_term.specs.declared.form.Switching.{Switching}
-use Rattle.sf_term.specs.declared.form.Switching.TheVariants.{Basic, Recurring}
+use Rattle.sf_term.specs.declared.form.Switching.TheVariants.{Recurring}
 use Rattle.sf_term.specs.Trees.{Term, switching}
 use Rattle.sf_mean.specs.Lives.{Step, step, Life, Process, closure, Environment, with_inputs}
-use Rattle.sf_mean.specs.Meaning.{Network, Readings, Outcome, gave, faulted, combined, Cost, no_cost, both_costs, over, Made, nothing_made, switched_value, body_of, event_beside, or_earlier, last_event, kept_before, since_event, what_runs, unless_faulted, without_event, Gives, gives, and_gave, of_form, Form, of_recurring, Fires, no_event_yet, event_now}
+use Rattle.sf_mean.specs.Meaning.{Network, Readings, Outcome, gave, faulted, Cost, no_cost, both_costs, over, Made, nothing_made, switched_value, body_of, event_beside, or_earlier, last_event, kept_before, since_event, what_runs, without_event, Gives, gives, and_gave, of_form, Form, of_recurring, Fires, no_event_yet, event_now}
 use Rattle.sf_law.specs.declared.plan.Plan.{Plan}
 use Rattle.sf_law.specs.Arena.{plan_tree, plan_expressions, network_of_plan}
 use Rattle.sf_state.specs.declared.state.State.{State}
@@ -21,7 +19,7 @@ use Rattle.sf_state.specs.declared.env.Env.{Env}
 use Rattle.sf_state.specs.Standing.{IsNames, Stands, Waits, waits_so, recurs_so}
 use Rattle.sf_step.specs.declared.meter.Meter.{Meter}
 use Rattle.sf_step.specs.Meters.{entered_of, height_of}
-use Rattle.sf_step.specs.Sampling.{Rel, Ticks, Within, StopsFor, Answers, answers, fails, left_or, StateSteps, SwitchSteps}
+use Rattle.sf_step.specs.Sampling.{Rel, Ticks, Within, StopsFor, answers, fails, left_or, StateSteps, SwitchSteps}
 use Rattle.sf_step.proofs.Parts.{Over, counted, Then, then_on, then_stop, Alike, over_spent, both_spent, alike_within, over_within, then_within, fails_alike, over_fails, then_fails, rest_fails, spent_within, answered, failed}
 use Rattle.sf_step.proofs.Forms.{single_gives, form_alike}
 use Rattle.sf_step.proofs.Switches.{not_recurring, same_recurring, no_more_spent, Beside, fires_to, FromFires, from_fires, fires_back, way_alike}

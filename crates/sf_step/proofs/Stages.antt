@@ -99,7 +99,7 @@ module _ (φ : AnswersByName) (p : Plan) where
   turned_gave : {P Q : Process} {L M : Life} → Turned net P L Q M → Gave P L
   turned_gave (fired_to S O) = (_, O)
   turned_gave (kept_to S O) = (_, O)
-  turned_gave (ran O) = (_, O)
+  turned_gave (ran h O) = (_, O)
   turned_gave (went_on O) = (_, O)
 
   state_gave : {a : State} {P : Process} {L : Life} → Stands φ p a P L → Gave P L

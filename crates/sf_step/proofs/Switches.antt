@@ -1,5 +1,5 @@
 -- Switches: while they wait, and at their event.
-use Rattle.std.proofs.Common.{◌≡◌, ℕ, List, [], ◌∷◌, ◌++◌, Option, Some, None, Result, Ok, Err, refl, sym, ap, ◌∙◌, subst, append-nil, arith}
+use Rattle.std.proofs.Common.{◌≡◌, ℕ, [], ◌∷◌, ◌++◌, Option, Some, None, Ok, Err, refl, sym, ap, ◌∙◌, subst, append-nil, arith}
 use Rattle.std.specs.Option.{option_map}
 use Rattle.sf_value.specs.Values.{Data, first_of, second_of}
 use Rattle.sf_value.specs.declared.fault.Fault.{Fault}
@@ -14,7 +14,7 @@ use Rattle.sf_term.specs.declared.form.Switching.TheVariants.{Basic, Recurring}
 use Rattle.sf_term.specs.Trees.{Term, switching}
 use Rattle.sf_mean.specs.Lives.{Step, Life, Process, closure, Environment}
 use Rattle.sf_mean.specs.Formulas.{occurring}
-use Rattle.sf_mean.specs.Meaning.{Network, Readings, Outcome, gave, faulted, combined, Cost, no_cost, both_costs, over, Made, nothing_made, Watched, itself, Takeover, whenever, Standing, waits, fired, stands_after, switched_value, body_of, Gives, gives, Outputs, and_gave, of_form, Form, of_switch, Sees, beside_values, Since, watched, SwitchTurn, while_waiting, as_body, Switched, after_fault, after_value, Fires, no_event_yet, event_now}
+use Rattle.sf_mean.specs.Meaning.{Network, Readings, Outcome, gave, faulted, combined, Cost, no_cost, both_costs, over, Made, nothing_made, Watched, itself, Takeover, whenever, Standing, waits, fired, stands_after, switched_value, body_of, Gives, gives, and_gave, of_form, Form, of_switch, Sees, beside_values, Since, watched, SwitchTurn, while_waiting, as_body, after_fault, after_value, Fires, no_event_yet, event_now}
 use Rattle.sf_mean.proofs.Once.{once_since}
 use Rattle.sf_law.specs.declared.plan.Plan.{Plan}
 use Rattle.sf_law.specs.Arena.{plan_tree, plan_expressions, network_of_plan}
@@ -24,7 +24,7 @@ use Rattle.sf_state.specs.declared.env.Env.{Env}
 use Rattle.sf_state.specs.Standing.{IsNames, Stands, fired_to, took_over, Waits, waits_so, recurs_so}
 use Rattle.sf_step.specs.declared.meter.Meter.{Meter}
 use Rattle.sf_step.specs.Meters.{entered_of, height_of}
-use Rattle.sf_step.specs.Sampling.{Rel, Ticks, Spent, Within, StopsFor, Answers, answers, StateSteps, SwitchSteps}
+use Rattle.sf_step.specs.Sampling.{Rel, Ticks, Spent, Within, StopsFor, answers, StateSteps, SwitchSteps}
 use Rattle.sf_step.proofs.Parts.{Over, counted, Then, then_on, then_stop, Alike, over_spent, both_spent, alike_within, over_within, then_within, fails_alike, over_fails, then_fails, rest_fails, spent_within, answered, failed}
 use Rattle.sf_step.proofs.Forms.{single_gives, form_alike}
 

@@ -1,16 +1,17 @@
 -- What a process gives that gives way to another one, and what is left waiting by a switch.
-use Rattle.std.proofs.Common.{◌≡◌, ℕ, [], ◌∷◌, Option, Some, None, Result, Ok, Err, refl, sym, ap, ◌∙◌, subst}
+use Rattle.std.proofs.Common.{◌≡◌, ℕ, [], ◌∷◌, Option, Some, None, Result, Ok, Err, refl, sym, ap, subst}
 use Rattle.std.specs.Prelude.{IsErr}
 use Rattle.sf_value.specs.Values.{Name, Data}
 use Rattle.sf_value.specs.declared.fault.Fault.{Fault}
 use Rattle.sf_value.specs.declared.fault.Fault.TheVariants.{Memory}
 use Rattle.sf_func.specs.Registries.{AnswersByName}
 use Rattle.sf_expr.specs.Expressions.{Pattern}
+use Rattle.sf_expr.specs.Evaluation.{Evaluated, answer, ◌>>=◌}
 use Rattle.sf_term.specs.declared.form.Observation.{Observation}
 use Rattle.sf_term.specs.declared.form.Switching.TheVariants.{Basic}
-use Rattle.sf_term.specs.Trees.{Term, run, switching, keeping}
-use Rattle.sf_mean.specs.Lives.{Step, step, Life, Process, closure, resumed, Environment, process_of, after}
-use Rattle.sf_mean.specs.Meaning.{Network, Readings, Outcome, gave, Cost, over, Made, process_made, Watched, itself as watched_itself, observed, Takeover, whenever, body_of, body_with, Standing, waits, fired, Since, Gives, gives, Outputs, not_begun, and_gave, Sample, of_form, of_resumed, Form, of_run, of_switch, of_keeping, had_fired, SwitchTurn, while_waiting, as_body}
+use Rattle.sf_term.specs.Trees.{Term, Reference, reference, switching, keeping}
+use Rattle.sf_mean.specs.Lives.{Step, step, Life, Process, closure, resumed, Environment, after}
+use Rattle.sf_mean.specs.Meaning.{Network, Readings, Outcome, gave, Cost, Made, process_made, referred, Watched, itself as watched_itself, observed, Takeover, whenever, body_of, body_with, Standing, waits, fired, Since, Gives, gives, not_begun, and_gave, of_form, of_resumed, Form, of_reference, of_switch, of_keeping, had_fired, SwitchTurn, while_waiting, as_body}
 use Rattle.sf_mean.proofs.Once.{once_since}
 use Rattle.sf_law.specs.declared.plan.Plan.{Plan}
 use Rattle.sf_law.specs.Arena.{network_of_plan}
@@ -24,7 +25,7 @@ use Rattle.sf_state.specs.Standing.{IsNames, Turned, fired_to, kept_to, ran, wen
 use Rattle.sf_step.specs.declared.sample.Opened.TheVariants as opened
 use Rattle.sf_step.specs.declared.meter.Meter.{Meter}
 use Rattle.sf_step.specs.Meters.{entered_of, height_of}
-use Rattle.sf_step.specs.Sampling.{Rel, Ticks, Spent, StopsFor, Answers, answers, fails, Opens, opens_running, PartSteps, StateSteps, Waiting, StandsFor, WaitingSteps, WatchSteps, left_beside}
+use Rattle.sf_step.specs.Sampling.{Rel, Ticks, StopsFor, Answers, answers, fails, Opens, opens_running, PartSteps, StateSteps, Waiting, StandsFor, WaitingSteps, WatchSteps, left_beside}
 use Rattle.sf_step.proofs.Parts.{Over, counted, Alike, over_spent, fails_alike, over_fails, spent_within, answered, failed, memory_exit}
 use Rattle.sf_step.proofs.Forms.{single_gives, gave_outputs, gives_form}
 
@@ -55,8 +56,12 @@ module _ (φ : AnswersByName) (p : Plan) where
   from_resumed : {P : Process} {h : Life} {d : ℕ} {s : Step} {L : Life} {o : Outcome} {k : Cost} → Gives net (resumed P h d) (s ∷ L) o k → Gives net P (after h d (s ∷ L)) o k
   from_resumed (gives O (of_resumed G)) = G
 
-  from_run : {c : Name} {e : Environment} {Q : Process} {s r : Step} {L : Life} {o : Outcome} {k : Cost} → Form net (run c) e (process_made Q) s (r ∷ L) o k → Gives net Q (s ∷ r ∷ L) o k
-  from_run (of_run G) = G
+  -- what a reference is made with, from what it refers to
+  abbrev as_made : Evaluated Process → Evaluated Made
+  as_made q = q >>= λ P. answer (process_made P)
+
+  from_reference : {c : Reference} {e : Environment} {Q : Process} {s r : Step} {L : Life} {o : Outcome} {k : Cost} → Form net (reference c) e (process_made Q) s (r ∷ L) o k → Gives net Q (s ∷ r ∷ L) o k
+  from_reference (of_reference G) = G
 
   from_switch : {w : Observation} {t u : Term} {q : Pattern} {e : Environment} {m : Made} {s : Step} {L M : Life} {Q : Process} {o : Outcome} {k : Cost} → Since net (watched_itself (closure t e)) (whenever (body_of q u e)) L (fired Q M)
       → Form net (switching (Basic w) t q u) e m s L o k → Gives net Q (s ∷ M) o k
@@ -69,19 +74,19 @@ module _ (φ : AnswersByName) (p : Plan) where
   turned_to : {P Q : Process} {L M : Life} → Turned net P L Q M → (s : Step) (o : Outcome) (k : Cost) → Gives net Q (s ∷ M) o k → Gives net P (s ∷ L) o k
   turned_to (fired_to S O) s o k G = gives O (of_form refl (of_switch S (as_body G)))
   turned_to (kept_to S O) s o k G = gives O (of_form refl (of_keeping S (as_body G)))
-  turned_to (ran O) s o k G = gives O (of_form refl (of_run G))
+  turned_to (ran h O) s o k G = gives O (of_form (ap as_made h) (of_reference G))
   turned_to (went_on O) s o k G = gives O (of_resumed G)
 
   turned_back : {P Q : Process} {L M : Life} → Turned net P L Q M → (s : Step) (o : Outcome) (k : Cost) → Gives net P (s ∷ L) o k → Gives net Q (s ∷ M) o k
   turned_back (fired_to {L = L} S O) s o k G = from_switch S (gives_form net s L refl G)
   turned_back (kept_to {L = L} S O) s o k G = from_keeping S (gives_form net s L refl G)
-  turned_back (ran {s = r} {L = L} O) s o k G = from_run (gives_form net s (r ∷ L) refl G)
+  turned_back (ran {s = r} {L = L} h O) s o k G = from_reference (gives_form net s (r ∷ L) (ap as_made h) G)
   turned_back (went_on O) s o k G = from_resumed G
 
   turned_on : {P Q : Process} {L M : Life} {s : Step} {y : Data} {r : Readings} {k : Cost} → Turned net P L Q M → Gives net P (s ∷ L) (gave y r) k → Turned net P (s ∷ L) Q (s ∷ M)
   turned_on (fired_to S O) G = fired_to (had_fired S) (gave_outputs net O G)
   turned_on (kept_to S O) G = kept_to (had_fired S) (gave_outputs net O G)
-  turned_on (ran O) G = ran (gave_outputs net O G)
+  turned_on (ran h O) G = ran h (gave_outputs net O G)
   turned_on (went_on O) G = went_on (gave_outputs net O G)
 
   took_answers : {P Q : Process} {L M : Life} {s : Step} {r : Result (State × Data) Fault} {m n : Meter} {depth : ℕ} → Turned net P L Q M → PartSteps φ p Q M s r m n depth → PartSteps φ p P L s r m n depth
@@ -108,25 +113,26 @@ module _ (φ : AnswersByName) (p : Plan) where
       go : (P : Process) (L : Life) → StandsItself φ p (Frozen' at d names k) P L → PartSteps φ p P L (step w x) r m n depth
       go P L (was_frozen A) = gone_on (h _ _ (f _ _ A))
 
-  -- ## A named process
+  -- ## What is referred to
 
-  run_from : {c : Name} {e : Environment} {Q : Process} {s : Step} {o : Outcome} {k : Cost} → Form net (run c) e (process_made Q) s [] o k → Over (Gives net Q (s ∷ [])) o k
-  run_from (of_run G) = counted G
+  referred_from : {c : Reference} {e : Environment} {Q : Process} {s : Step} {o : Outcome} {k : Cost} → Form net (reference c) e (process_made Q) s [] o k → Over (Gives net Q (s ∷ [])) o k
+  referred_from (of_reference G) = counted G
 
-  run_to : {c : Name} {e : Environment} {s : Step} {o : Outcome} {k : Cost} → Over (Gives net (process_of c e) (s ∷ [])) o k → Gives net (closure (run c) e) (s ∷ []) o k
-  run_to (counted G) = gives not_begun (of_form refl (of_run G))
+  module _ {c : Reference} {e : Environment} {P : Process} (is : referred net c e ≡ answer P) where
+    referred_to : {s : Step} {o : Outcome} {k : Cost} → Over (Gives net P (s ∷ [])) o k → Gives net (closure (reference c) e) (s ∷ []) o k
+    referred_to (counted G) = gives not_begun (of_form (ap as_made is) (of_reference G))
 
-  run_alike : (c : Name) (e : Environment) (s : Step) → Alike (Over (Gives net (process_of c e) (s ∷ []))) (Gives net (closure (run c) e) (s ∷ []))
-  run_alike c e s = record { to = λ o k G. run_to G; back = λ o k G. run_from (gives_form net s [] refl G) }
+    referred_alike : (s : Step) → Alike (Over (Gives net P (s ∷ []))) (Gives net (closure (reference c) e) (s ∷ []))
+    referred_alike s = record { to = λ o k G. referred_to G; back = λ o k G. referred_from (gives_form net s [] (ap as_made is) G) }
 
-  run_steps : {c : Name} {e : Environment} {s : Step} {r : Result (State × Data) Fault} {m n n' : Meter} {depth inside : ℕ} → Ticks m n depth inside → PartSteps φ p (process_of c e) [] s r n n' inside → PartSteps φ p (closure (run c) e) [] s r m n' depth
-  run_steps t (answers G sp A) = answers (gives not_begun (of_form refl (of_run G))) (over_spent t sp) (took_over (ran (and_gave not_begun (of_form refl (of_run G)))) A)
-  run_steps {c = c} {e = e} {s = s} t (fails h) = fails (fails_alike (run_alike c e s) (over_fails t h))
+    referred_steps : {s : Step} {r : Result (State × Data) Fault} {m n n' : Meter} {depth inside : ℕ} → Ticks m n depth inside → PartSteps φ p P [] s r n n' inside → PartSteps φ p (closure (reference c) e) [] s r m n' depth
+    referred_steps t (answers G sp A) = let H = referred_to (counted G) in answers H (over_spent t sp) (took_over (ran is (gave_outputs net not_begun H)) A)
+    referred_steps {s = s} t (fails h) = fails (fails_alike (referred_alike s) (over_fails t h))
 
   pub running_steps : {u : Term} {e : Environment} {a : State} {s : Step} {r : Result (State × Data) Fault} {m n n' : Meter} {depth inside : ℕ} → Ticks m n depth inside → Opens φ p u e (Ok (opened.Running a)) → StateSteps φ p a s r n n' inside
       → PartSteps φ p (closure u e) [] s r m n' depth
-  running_steps {e = e} {s = s} {r = r} {m = m} {n' = n'} {depth = depth} t (opens_running same A) h =
-      subst (λ u. PartSteps φ p (closure u e) [] s r m n' depth) (sym same) (run_steps t (h _ _ A))
+  running_steps {e = e} {s = s} {r = r} {m = m} {n' = n'} {depth = depth} t (opens_running same is A) h =
+      subst (λ u. PartSteps φ p (closure u e) [] s r m n' depth) (sym same) (referred_steps is t (h _ _ A))
 
   -- ## A switch that waits
 

@@ -1,16 +1,17 @@
 -- What the parts of a sample answer.
 use Rattle.std.specs.Prelude.{◌≡◌, ℕ, ◌+◌, ◌≤◌, max, List, [], ◌∷◌, ◌++◌, ◌⊎◌, Option, Some, None, Result, Ok, Err}
-use Rattle.sf_value.specs.Values.{Name, Data}
+use Rattle.sf_value.specs.Values.{Data}
 use Rattle.sf_value.specs.declared.fault.ValueFault.{ValueFault}
 use Rattle.sf_value.specs.declared.fault.Fault.{Fault}
 use Rattle.sf_value.specs.declared.fault.Fault.TheVariants.{Value, Large, Memory}
 use Rattle.sf_func.specs.Registries.{AnswersByName}
+use Rattle.sf_expr.specs.Evaluation.{Evaluated, answer, failed}
 use Rattle.sf_operator.specs.declared.fault.EvalFault.{EvalFault}
 use Rattle.sf_operator.specs.declared.fault.EvalFault.TheVariants.{Value as EValue, Memory as EMemory}
 use Rattle.sf_law.specs.declared.plan.Plan.{Plan}
-use Rattle.sf_term.specs.Trees.{Term, run}
-use Rattle.sf_mean.specs.Lives.{Step, Life, Process, closure, Environment, process_of, first_input}
-use Rattle.sf_mean.specs.Meaning.{Readings, Outcome, gave, faulted, Cost, count, height, text_cost, Gives}
+use Rattle.sf_term.specs.Trees.{Term, Reference, reference}
+use Rattle.sf_mean.specs.Lives.{Step, Life, Process, closure, Environment, first_input}
+use Rattle.sf_mean.specs.Meaning.{Readings, Outcome, gave, faulted, Cost, count, height, entered_cost, referred, Gives}
 use Rattle.sf_law.specs.declared.node.PlanId.{PlanId}
 use Rattle.sf_law.specs.Arena.{plan_tree, network_of_plan}
 use Rattle.sf_state.specs.declared.state.State.{State}
@@ -128,14 +129,20 @@ SwitchSteps φ p = WaitingSteps φ p (Waits φ p)
 abbrev pub KeepingSteps : AnswersByName → Plan → Env → Keeping → Step → Result ((Option State × Keeping) × Data) Fault → Meter → Meter → ℕ → Type 0
 KeepingSteps φ p = WaitingSteps φ p (WaitsKeeping φ p)
 
+-- What is made of something that is evaluated: it stands for the answer, or is its fault. Want of memory says nothing of it.
+pub data Makes {A B : Type 0} (stands : A → B → Type 0) (w : Evaluated B) : Result A Fault → Type 0 where
+  makes : {a : A} {b : B} → w ≡ answer b → stands a b → Makes stands w (Ok a)
+  makes_fault : {x : ValueFault} → w ≡ failed x → Makes stands w (Err (Value x))
+  makes_nothing : Makes stands w (Err Memory)
+
 -- a part before its first sample, or the fault of its constants
 pub data Opens (φ : AnswersByName) (p : Plan) (t : Term) (e : Environment) : Result Opened Fault → Type 0 where
   opens : {l : Live} → ((x : Data) → Ready φ p l (closure t e) x []) → Opens φ p t e (Ok (opened.Live l))
   opens_watching : {s : Switch} → Waits φ p s (closure t e) [] → Opens φ p t e (Ok (opened.Switch s))
   opens_keeping : {s : Keeping} → WaitsKeeping φ p s (closure t e) [] → Opens φ p t e (Ok (opened.Keeping s))
-  -- a named process stands in the place of the term, which counts at this sample alone
-  opens_running : {a : State} {k : Name} → t ≡ run k → Stands φ p a (process_of k e) [] → Opens φ p t e (Ok (opened.Running a))
-  opens_with_fault : {x : ValueFault} → ((s : Step) → Gives (network_of_plan φ p) (closure t e) (s ∷ []) (faulted x) (text_cost t)) → Opens φ p t e (Err (Value x))
+  -- what is referred to stands in the place of the term, which counts at this sample alone
+  opens_running : {a : State} {r : Reference} {P : Process} → t ≡ reference r → referred (network_of_plan φ p) r e ≡ answer P → Stands φ p a P [] → Opens φ p t e (Ok (opened.Running a))
+  opens_with_fault : {x : ValueFault} → ((s : Step) → Gives (network_of_plan φ p) (closure t e) (s ∷ []) (faulted x) (entered_cost t)) → Opens φ p t e (Err (Value x))
   opens_without_memory : Opens φ p t e (Err Memory)
 
 -- States of terms before their first sample.

@@ -1,5 +1,10 @@
 //! What the parts of a sample share.
+ghost use Rattle.std.specs.Prelude.{◌≡◌};
+ghost use Rattle.sf_step.specs.Sampling.{fault_from};
+
 use sf_law::Plan;
+use sf_operator::EvalFault;
+use sf_value::Fault;
 use std::alloc::Global;
 
 /// What each part of one sample is stepped with.
@@ -11,4 +16,14 @@ pub(crate) struct SampleContext<'a, R> {
     pub(crate) functions: &'a R,
     /// Milliseconds since the sample before.
     pub(crate) dt: u64,
+}
+
+/// The fault of an expression, as that of the sample.
+pub(crate) fn fault_of(fault: EvalFault) -> Fault
+    ensures { result ≡ fault_from fault }
+{
+    match fault {
+        EvalFault::Value(fault) => Fault::Value(fault),
+        EvalFault::Memory => Fault::Memory,
+    }
 }

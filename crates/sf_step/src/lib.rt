@@ -1,6 +1,7 @@
 //! One sample of a network.
 #![tactic(auto)]
 
+mod calling;
 mod context;
 mod meter;
 mod routing;

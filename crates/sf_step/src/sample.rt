@@ -3,28 +3,26 @@ ghost use Rattle.std.specs.Prelude.{◌≡◌, ◌≤◌, ℕ, [], ◌∷◌, No
 ghost use Rattle.sf_value.specs.Values.{Data, pair};
 ghost use Rattle.sf_func.specs.Registries.{AnswersByName};
 ghost use Rattle.sf_expr.specs.Evaluation.{answer};
-ghost use Rattle.sf_expr.specs.Arena.{name_at};
 ghost use Rattle.sf_law.specs.declared.plan.Plan.{Plan as PlanOf};
 ghost use Rattle.sf_term.specs.Trees.{Term, joined as joined_term};
-ghost use Rattle.sf_law.specs.Arena.{plan_expressions, plan_tree, network_of_plan};
-ghost use Rattle.sf_mean.specs.Lives.{step, closure, frozen as frozen_process, process_of, Life, Process as ProcessOf, Environment};
+ghost use Rattle.sf_law.specs.Arena.{plan_tree, network_of_plan};
+ghost use Rattle.sf_mean.specs.Lives.{step, closure, frozen as frozen_process, Life, Process as ProcessOf, Environment};
 ghost use Rattle.sf_mean.specs.Meaning.{Made, make};
 ghost use Rattle.sf_state.specs.Standing.{Stands, IsNames, Waits, WaitsKeeping, Wraps, closed_over};
 ghost use Rattle.sf_step.specs.declared.meter.Meter.{Meter as MeterOf};
 ghost use Rattle.sf_step.specs.Contexts.{plan_in, dt_in};
 ghost use Rattle.sf_step.specs.Meters.{entered_of, height_of, fault_of as fault_in};
-ghost use Rattle.sf_step.specs.Sampling.{fault_from, Opens, AllBegin, Ticks, PartSteps, StateSteps, LiveSteps, SwitchSteps, KeepingSteps, WatchSteps, left_or, left_beside};
+ghost use Rattle.sf_step.specs.Sampling.{Opens, AllBegin, Ticks, PartSteps, StateSteps, LiveSteps, SwitchSteps, KeepingSteps, WatchSteps, left_or, left_beside};
 ghost use Rattle.sf_step.specs.Stepping.{Steps};
 
-use crate::context::SampleContext;
+use crate::calling::{called, named};
+use crate::context::{SampleContext, fault_of};
 use crate::meter::{Meter, Stop};
 use crate::routing::{
     halves, on_side, parts, payload_of, put_first, switched, unshare_half, with_head,
 };
-use sf_expr::NameId;
 use sf_func::Holds;
 use sf_law::{Plan, PlanId, PlanNode};
-use sf_operator::EvalFault;
 use sf_prim::{PrimState, constant};
 use sf_state::{
     Env, Keeping, Live, NamesIn, Process, State, Switch, Wrap, unshare, unshare_keeping,
@@ -39,7 +37,7 @@ use std::rc::Rc;
 /// The value at the next sample of a network, `dt` milliseconds after the one before; at the first
 /// sample `dt` isn't looked at. The input may be any value: what takes a pair apart takes a value
 /// that is none for both its parts. The meter counts the nodes that this sample enters, and none of
-/// the samples before. The error is the first fault of the network's values, `Large` at the 100,001st
+/// the samples before. The error is the first fault of the network's values, `Large` at the 1,000,001st
 /// node or at more than 1,600 one inside another, or `Memory`; the meter then counts no more nodes than
 /// the sample would have entered. After an error the state stands for nothing. No state that was
 /// frozen from it changes.
@@ -686,7 +684,7 @@ pub(crate) enum Opened {
     Switch(Switch),
     /// A switch that keeps its source.
     Keeping(Keeping),
-    /// The process of a name, which stands in its place.
+    /// What is referred to, which stands in the place of its name or call.
     Running(State),
 }
 
@@ -763,18 +761,10 @@ fn open<R: Holds>(context: &SampleContext<R>, term: PlanId, names: &Env) -> Resu
             let process = named(context.plan, names, *name)?;
             Ok(Opened::Running(process))
         }
-    }
-}
-
-// The process of a name, shared; what passes its inputs on where the name stands for none.
-fn named(plan: &Plan, names: &Env, name: NameId) -> Result<State, AllocError>
-    ensures { IfOk result (λ process. (φ : AnswersByName) (e : Environment) → IsNames φ plan.now names.now e →
-        Stands φ plan.now process (process_of (name_at (plan_expressions plan.now) name) e) []) }
-{
-    let exprs = plan.expressions();
-    match names.process(exprs, exprs.name_of(name))? {
-        Some(process) => Ok(process),
-        None => Ok(State::unborn(plan.passing())),
+        PlanNode::Call(_, template, arguments) => {
+            let body = called(context, context.plan.template(*template), arguments, names)?;
+            Ok(Opened::Running(body))
+        }
     }
 }
 
@@ -834,14 +824,4 @@ fn wrapped(wrap: Wrap, part: PlanId, names: &Env) -> Result<Opened, Fault>
         names: inner,
     });
     Ok(Opened::Live(Live::Wrap(wrap, part)))
-}
-
-// The fault of an expression, as that of the sample.
-fn fault_of(fault: EvalFault) -> Fault
-    ensures { result ≡ fault_from fault }
-{
-    match fault {
-        EvalFault::Value(fault) => Fault::Value(fault),
-        EvalFault::Memory => Fault::Memory,
-    }
 }

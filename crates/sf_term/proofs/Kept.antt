@@ -1,7 +1,9 @@
 -- What builders keep of a program.
+use Rattle.std.specs.Prelude.{slice_index_or}
 use Rattle.std.proofs.Common.{◌≡◌, ◌↔◌, ℕ, zero, suc, max, ◌<◌, ◌≤◌, List, [], ◌∷◌, ◌++◌, length, get_or, map, Bool, true, false, cond, Result, Ok, Err, IfOk, OnOk, OnErr, refl, sym, ◌∙◌, ap, subst, arith, ◌⊎◌, inl, inr, All}
 use mathlib.Core.Path.{ap₂}
 use Rattle.std.proofs.lemmas.List.{map-append, get_or_past}
+use Rattle.std.proofs.lemmas.List.Elements.{All-nil, All-cons, All-head, All-tail, All-weaker}
 use Rattle.std.proofs.lemmas.Bool.{cases_lt}
 use Rattle.sf_refusal.specs.declared.spot.Spot.{Spot}
 use Rattle.sf_arena.specs.declared.entry.Entry.{Entry}
@@ -19,42 +21,76 @@ use Rattle.sf_expr.specs.declared.exprs.ExprNode.{ExprNode}
 use Rattle.sf_expr.specs.declared.exprs.Exprs.{Exprs}
 use Rattle.sf_expr.specs.Patterns.{PlacedPattern, pattern_of}
 use Rattle.sf_expr.specs.Expressions.{Literal, Expression}
-use Rattle.sf_expr.specs.Arena.{expression, name_at, HoldsName, next_name, count_of, function_count, name_count, constant_count, pattern_count, Holds, HoldsFunction as HoldsFunctionIn, function_at, pattern_at as pattern_at_in, body_at as body_at_in, node_at as value_node_at, spot_at as value_spot_at, Keeps as KeepsExpressions, Adds as AddsToExpressions, AddsName, AddsConstant, HoldsPattern, placed_at, next_pattern, AddsPattern, expression_of, AddsFunction as AddsFunctionIn, IsUnchanged as ExpressionsUnchanged}
+use Rattle.sf_expr.specs.Arena.{expression, name_at, HoldsName, next_name, count_of, pattern_count, Holds, HoldsFunction as HoldsFunctionIn, function_at, pattern_at as pattern_at_in, body_at as body_at_in, node_at as value_node_at, spot_at as value_spot_at, Keeps as KeepsExpressions, Adds as AddsToExpressions, AddsName, AddsConstant, HoldsPattern, placed_at, next_pattern, AddsPattern, expression_of, AddsFunction as AddsFunctionIn, IsUnchanged as ExpressionsUnchanged}
 use Rattle.sf_expr.proofs.Entered.{below_holds, holds_below, below_function, function_below, name_below, below_name, constant_below, below_constant, pattern_below, below_pattern, few_expressions, adds_keeps as expressions_kept, unchanged_keeps as unchanged_expressions_kept, keeps_trans as expressions_kept_trans}
 use Rattle.sf_term.specs.declared.refusal.BuildRefusal.{BuildRefusal}
 use Rattle.sf_term.specs.declared.refusal.BuildRefusal.TheVariants.{TooDeep}
 use Rattle.sf_term.specs.declared.node.TermId.{TermId}
+use Rattle.sf_term.specs.declared.node.ArgumentsId.{ArgumentsId}
+use Rattle.sf_term.specs.declared.node.Argument.{Argument}
+use Rattle.sf_term.specs.declared.node.Argument.TheVariants as arguments
 use Rattle.sf_term.specs.declared.node.Primitive.TheVariants as primitives
 use Rattle.sf_term.specs.declared.node.Node.{Node}
 use Rattle.sf_term.specs.declared.node.Node.TheVariants as nodes
 use Rattle.sf_term.specs.declared.program.Program.{Program}
 use Rattle.sf_term.specs.declared.form.Observation.{Observation}
 use Rattle.sf_term.specs.declared.form.Switching.{Switching}
-use Rattle.sf_term.specs.Trees.{Term, switching, keeping, Template, term_depth}
+use Rattle.sf_term.specs.Parameters.{parameters_of}
+use Rattle.sf_term.specs.Trees.{Term, reference, call, value_argument, process_argument, switching, keeping, Template, term_depth}
 use Rattle.sf_term.specs.Headers.{Header, bodies_end}
-use Rattle.sf_term.specs.Entries.{identity_term, term_over, needs_terms, needs_expressions, needs_functions, constants_needed, patterns_needed, names_needed, identity_entry, term_entry, term_made, terms_made, term_entered}
-use Rattle.sf_term.specs.Arena.{term_number, expressions_of, term_count, expression_count, HoldsTerm, HoldsExpression, ProgramHoldsFunction, HoldsPatternIn, function_pattern_at, function_body_at, pattern_under, function_in, tree, expression_under, term_entry_of, term_node_at, expression_node_at, term_spot_at, expression_spot_at, term_of, headers_of, template_in, TermPartsBelow, HoldsTermParts, KeepsTrees, KeepsProgram, AddsTerm, AddsExpression, AddsProgramFunction, AddsTemplate, IsSameProgram}
-use Rattle.sf_term.proofs.Entered.{term-built, term-same}
+use Rattle.sf_term.specs.Entries.{arguments_over, terms_end, expressions_end, identity_term, term_over, needs_terms, identity_entry, term_entry, term_made, terms_made, term_entered}
+use Rattle.sf_term.specs.Arena.{term_number, expressions_of, base_of, HoldsArguments, HoldsArgument, ArgumentBelow, arguments_under, arguments_of, next_arguments, term_count, expression_count, HoldsTerm, HoldsExpression, ProgramHoldsFunction, HoldsPatternIn, function_pattern_at, function_body_at, pattern_under, function_in, tree, expression_under, term_entry_of, term_node_at, expression_node_at, term_spot_at, expression_spot_at, term_of, headers_of, template_in, TermPartsBelow, HoldsTermParts, KeepsTrees, KeepsProgram, AddsTerm, AddsExpression, AddsProgramFunction, AddsTemplate, IsSameProgram}
+use Rattle.sf_term.proofs.Entered.{term-built, term-same, NeedsAreThere, MoreArguments, arguments_copied}
+
+-- what arguments need is there where they are held
+arguments_end : (p : Program) (vs : List Argument) → All (HoldsArgument p) vs → (terms_end vs ≤ length (entries_of p.terms)) × (expressions_end vs ≤ count_of p.expressions)
+unfolding HoldsTerm HoldsExpression
+arguments_end p [] h = (omega arith, omega arith)
+arguments_end p (arguments.Value e ∷ vs) h =
+    let k = arguments_end p vs (All-tail (HoldsArgument p) _ vs h) in
+    (k.0, omega (arith, k.1, holds_below p.expressions e (All-head (HoldsArgument p) _ vs h)))
+arguments_end p (arguments.Process t ∷ vs) h =
+    let k = arguments_end p vs (All-tail (HoldsArgument p) _ vs h) in
+    let held : t.0 < length (entries_of p.terms) = All-head (HoldsArgument p) _ vs h in
+    (omega (arith, k.0), k.1)
 
 -- what a node needs is there where its parts are held
-pub parts_needed : (p : Program) (n : Node) → HoldsTermParts p n → (needs_terms n ≤ length (entries_of p.terms)) × (needs_expressions n ≤ count_of p.expressions) × (needs_functions n ≤ function_count p.expressions) × (patterns_needed n ≤ pattern_count p.expressions) × (names_needed n ≤ name_count p.expressions) × (constants_needed n ≤ constant_count p.expressions)
-unfolding expressions_of HoldsTerm HoldsExpression ProgramHoldsFunction HoldsPatternIn
-parts_needed p (nodes.Primitive (primitives.Bare k)) h = (omega arith, omega arith, omega arith, omega arith, omega arith, omega arith)
-parts_needed p (nodes.Primitive (primitives.Never n)) h = (omega arith, omega arith, omega arith, omega arith, omega arith, omega (arith, constant_below p.expressions n h))
-parts_needed p (nodes.Primitive (primitives.WithValue k e)) h = (omega arith, omega (arith, holds_below p.expressions e h), omega arith, omega arith, omega arith, omega arith)
-parts_needed p (nodes.Primitive (primitives.Timed k q e)) h = (omega arith, omega (arith, holds_below p.expressions e h), omega arith, omega arith, omega arith, omega arith)
-parts_needed p (nodes.Primitive (primitives.Arrow f)) h = (omega arith, omega arith, omega (arith, function_below p.expressions f h), omega arith, omega arith, omega arith)
-parts_needed p (nodes.Primitive (primitives.Accumulated k e f)) h = (omega arith, omega (arith, holds_below p.expressions e h.0), omega (arith, function_below p.expressions f h.1), omega arith, omega arith, omega arith)
-parts_needed p (nodes.Run k s) h = (omega arith, omega arith, omega arith, omega arith, omega (arith, name_below p.expressions k h), omega arith)
-parts_needed p (nodes.Joined j a b) h = (omega arith, omega arith, omega arith, omega arith, omega arith, omega arith)
-parts_needed p (nodes.Sided d a) h = (omega arith, omega arith, omega arith, omega arith, omega arith, omega arith)
-parts_needed p (nodes.Headed q e a) h = (omega arith, omega (arith, holds_below p.expressions e h.0), omega arith, omega arith, omega arith, omega arith)
-parts_needed p (nodes.Switching w a q b) h = (omega (arith, h.0, h.2), omega arith, omega arith, omega (arith, pattern_below p.expressions q h.1), omega arith, omega arith)
-parts_needed p (nodes.Keeping w a o k s q b) h = (omega (arith, h.0, h.1, h.4), omega arith, omega arith, omega (arith, pattern_below p.expressions q h.3), omega (arith, name_below p.expressions k h.2), omega arith)
+pub parts_needed : (p : Program) (n : Node) → HoldsTermParts p n → NeedsAreThere (base_of p) (entries_of p.terms) n
+unfolding expressions_of HoldsTerm HoldsExpression ProgramHoldsFunction HoldsPatternIn HoldsArguments arguments_under
+parts_needed p (nodes.Primitive (primitives.Bare k)) h = record { terms = omega arith; expressions = omega arith; functions = omega arith; patterns = omega arith; names = omega arith; constants = omega arith; arguments = omega arith }
+parts_needed p (nodes.Primitive (primitives.Never n)) h = record { terms = omega arith; expressions = omega arith; functions = omega arith; patterns = omega arith; names = omega arith; constants = omega (arith, constant_below p.expressions n h); arguments = omega arith }
+parts_needed p (nodes.Primitive (primitives.WithValue k e)) h = record { terms = omega arith; expressions = omega (arith, holds_below p.expressions e h); functions = omega arith; patterns = omega arith; names = omega arith; constants = omega arith; arguments = omega arith }
+parts_needed p (nodes.Primitive (primitives.Timed k q e)) h = record { terms = omega arith; expressions = omega (arith, holds_below p.expressions e h); functions = omega arith; patterns = omega arith; names = omega arith; constants = omega arith; arguments = omega arith }
+parts_needed p (nodes.Primitive (primitives.Arrow f)) h = record { terms = omega arith; expressions = omega arith; functions = omega (arith, function_below p.expressions f h); patterns = omega arith; names = omega arith; constants = omega arith; arguments = omega arith }
+parts_needed p (nodes.Primitive (primitives.Accumulated k e f)) h = record { terms = omega arith; expressions = omega (arith, holds_below p.expressions e h.0); functions = omega (arith, function_below p.expressions f h.1); patterns = omega arith; names = omega arith; constants = omega arith; arguments = omega arith }
+parts_needed p (nodes.Run k s) h = record { terms = omega arith; expressions = omega arith; functions = omega arith; patterns = omega arith; names = omega (arith, name_below p.expressions k h); constants = omega arith; arguments = omega arith }
+parts_needed p (nodes.Call k a) h =
+    let within = arguments_end p (arguments_under p a) h.2 in
+    record { terms = within.0; expressions = within.1; functions = omega arith; patterns = omega arith; names = omega (arith, name_below p.expressions k h.0); constants = omega arith; arguments = omega (arith, h.1) }
+parts_needed p (nodes.Joined j a b) h = record { terms = omega arith; expressions = omega arith; functions = omega arith; patterns = omega arith; names = omega arith; constants = omega arith; arguments = omega arith }
+parts_needed p (nodes.Sided d a) h = record { terms = omega arith; expressions = omega arith; functions = omega arith; patterns = omega arith; names = omega arith; constants = omega arith; arguments = omega arith }
+parts_needed p (nodes.Headed q e a) h = record { terms = omega arith; expressions = omega (arith, holds_below p.expressions e h.0); functions = omega arith; patterns = omega arith; names = omega arith; constants = omega arith; arguments = omega arith }
+parts_needed p (nodes.Switching w a q b) h = record { terms = omega (arith, h.0, h.2); expressions = omega arith; functions = omega arith; patterns = omega (arith, pattern_below p.expressions q h.1); names = omega arith; constants = omega arith; arguments = omega arith }
+parts_needed p (nodes.Keeping w a o k s q b) h = record {
+  terms = omega (arith, h.0, h.1, h.4);
+  expressions = omega arith;
+  functions = omega arith;
+  patterns = omega (arith, pattern_below p.expressions q h.3);
+  names = omega (arith, name_below p.expressions k h.2);
+  constants = omega arith;
+  arguments = omega arith;
+}
+
+-- arguments are made over the terms before them
+arguments-made : (p : Program) (vs : List Argument) → arguments_of p vs ≡ arguments_over p.expressions (terms_made (base_of p) (entries_of p.terms)) vs
+unfolding expressions_of tree expression_under tree_at
+arguments-made p [] = refl
+arguments-made p (arguments.Value e ∷ vs) = ap (value_argument (expression p.expressions e)) (arguments-made p vs)
+arguments-made p (arguments.Process t ∷ vs) = ap (process_argument (tree p t)) (arguments-made p vs)
 
 -- a node stands for the term that is made over the terms before it
-pub node-made : (p : Program) (n : Node) → term_of p n ≡ term_over p.expressions (terms_made p.expressions (entries_of p.terms)) n
-unfolding expressions_of tree expression_under function_pattern_at function_body_at pattern_under tree_at
+pub node-made : (p : Program) (n : Node) → term_of p n ≡ term_over (base_of p) (terms_made (base_of p) (entries_of p.terms)) n
+unfolding expressions_of tree expression_under function_pattern_at function_body_at pattern_under arguments_under tree_at
 node-made p (nodes.Primitive (primitives.Bare k)) = refl
 node-made p (nodes.Primitive (primitives.Never n)) = refl
 node-made p (nodes.Primitive (primitives.WithValue k e)) = refl
@@ -62,6 +98,7 @@ node-made p (nodes.Primitive (primitives.Timed k q e)) = refl
 node-made p (nodes.Primitive (primitives.Arrow f)) = refl
 node-made p (nodes.Primitive (primitives.Accumulated k e f)) = refl
 node-made p (nodes.Run k s) = refl
+node-made p (nodes.Call k a) = ap (λ vs. reference (call (name_at p.expressions k) vs)) (arguments-made p (arguments_under p a))
 node-made p (nodes.Joined j a b) = refl
 node-made p (nodes.Sided d a) = refl
 node-made p (nodes.Headed h e a) = refl
@@ -71,21 +108,28 @@ node-made p (nodes.Keeping w a o k s q b) = refl
 -- a node stands for the term at its id
 pub builds : (p : Program) (t : TermId) → tree p t ≡ term_of p (term_entry_of p t).node
 unfolding term_entry_of tree
-builds p t = term-built p.expressions (entries_of p.terms) t.0 p.arena ∙ sym (node-made p (term_entry (entries_of p.terms) t.0).node)
+builds p t = term-built (base_of p) (entries_of p.terms) t.0 p.arena ∙ sym (node-made p (term_entry (entries_of p.terms) t.0).node)
 
 -- what a node stands for
 pub node_builds : (p : Program) (t : TermId) (n : Node) → term_node_at p t ≡ n → tree p t ≡ term_of p n
 unfolding term_node_at term_entry_of
 node_builds p t n e = builds p t ∙ ap (λ n. term_of p n) e
 
+-- arguments stand before what they are below
+arguments_below : (m : ℕ) (vs : List Argument) → terms_end vs ≤ m → All (ArgumentBelow m) vs
+arguments_below m [] h = All-nil (ArgumentBelow m)
+arguments_below m (arguments.Value e ∷ vs) h = All-cons (ArgumentBelow m) _ vs tt (arguments_below m vs h)
+arguments_below m (arguments.Process t ∷ vs) h = All-cons (ArgumentBelow m) _ vs (omega arith) (arguments_below m vs (omega arith))
+
 -- the parts of a node stand before it
-pub parts_below : (p : Program) (t : TermId) → TermPartsBelow (term_entry_of p t).node (term_number t)
-unfolding term_entry_of
+pub parts_below : (p : Program) (t : TermId) → TermPartsBelow p (term_entry_of p t).node (term_number t)
+unfolding term_entry_of arguments_under
 parts_below p t = of_node (term_entry (entries_of p.terms) t.0).node (p.arena.in_order t.0)
   where
-    of_node : (n : Node) → needs_terms n ≤ t.0 → TermPartsBelow n t.0
+    of_node : (n : Node) → needs_terms (base_of p) n ≤ t.0 → TermPartsBelow p n t.0
     of_node (nodes.Primitive q) h = tt
     of_node (nodes.Run k s) h = tt
+    of_node (nodes.Call k a) h = arguments_below t.0 (arguments_under p a) h
     of_node (nodes.Joined j a b) h = (omega arith, omega arith)
     of_node (nodes.Sided d a) h = omega arith
     of_node (nodes.Headed q e a) h = omega arith
@@ -97,7 +141,7 @@ templates-same : (old new : Program) (hs : List Header) → bodies_end hs ≤ le
 unfolding HoldsTerm
 templates-same old new [] h k = refl
 templates-same old new (t ∷ ts) h k =
-    ap₂ (λ (b : Term) (us : List Template). record { name = t.name; input = t.input; output = t.output; body = b } ∷ us) (k.trees t.body (omega arith)) (templates-same old new ts (omega arith) k)
+    ap₂ (λ (b : Term) (us : List Template). record { name = t.name; parameters = parameters_of t.parameters; input = t.input; output = t.output; body = b } ∷ us) (k.trees t.body (omega arith)) (templates-same old new ts (omega arith) k)
 
 keeps_of : (old new : Program) → KeepsTrees old new → headers_of new ≡ headers_of old → KeepsProgram old new
 unfolding headers_of
@@ -108,13 +152,17 @@ keeps_of old new k e = record {
   spots = ap (λ hs. map (λ (h : Header). h.spot) hs) e;
 }
 
+-- the same expressions and the same arguments
+same_base : (old new : Program) → new.expressions ≡ old.expressions → new.arguments.items ≡ old.arguments.items → base_of new ≡ base_of old
+same_base old new e f = ap₂ (λ (x : Exprs) (vs : List (List Argument)). record { expressions = x; arguments = vs }) e f
+
 -- the trees stay where an entry is added
-added_keeps : (old new : Program) (entry : Entry Node) (n : ℕ) → new.expressions ≡ old.expressions → Added (entries_of old.terms) (entries_of new.terms) entry n → KeepsTrees old new
-unfolding HoldsTerm HoldsExpression ProgramHoldsFunction HoldsPatternIn tree term_node_at term_spot_at expression_under expression_node_at expression_spot_at function_pattern_at function_body_at pattern_under
-added_keeps old new entry n same added = record {
+added_keeps : (old new : Program) (entry : Entry Node) (n : ℕ) → new.expressions ≡ old.expressions → new.arguments.items ≡ old.arguments.items → Added (entries_of old.terms) (entries_of new.terms) entry n → KeepsTrees old new
+unfolding HoldsTerm HoldsExpression ProgramHoldsFunction HoldsPatternIn HoldsArguments tree term_node_at term_spot_at expression_under expression_node_at expression_spot_at function_pattern_at function_body_at pattern_under arguments_under
+added_keeps old new entry n same lists added = record {
   terms = λ t h. omega (arith, added_counted _ _ _ _ added);
   nodes = λ t h. ap (λ (e : Entry Node). e.node) (other t h);
-  trees = λ t h. ap (λ x. term_entered x (entries_of new.terms) t.0) same ∙ tree_kept _ _ _ _ added (term_made old.expressions) identity_term t.0 h;
+  trees = λ t h. ap (λ b. term_entered b (entries_of new.terms) t.0) (same_base old new same lists) ∙ tree_kept _ _ _ _ added (term_made (base_of old)) identity_term t.0 h;
   spots = λ t h. ap (λ (e : Entry Node). e.spot) (other t h);
   expressions = λ e h. subst (λ x. Holds x e) (sym same) h;
   value_nodes = λ e h. ap (λ x. value_node_at x e) same;
@@ -126,22 +174,24 @@ added_keeps old new entry n same added = record {
   meanings = λ f h. ap (λ x. function_at x f) same;
   holds_patterns = λ q h. subst (λ x. HoldsPattern x q) (sym same) h;
   placed = λ q h. ap (λ x. placed_at x q) same;
+  holds_arguments = λ a h. omega (arith, ap (λ (vs : List (List Argument)). length vs) lists);
+  arguments = λ a h. ap (λ (vs : List (List Argument)). slice_index_or vs a.0 []) lists;
 }
   where
     other : (t : TermId) → HoldsTerm old t → term_entry (entries_of new.terms) t.0 ≡ term_entry (entries_of old.terms) t.0
     other t h = item_kept _ _ _ _ added t.0 identity_entry h
 
 -- an entry that is added adds its term
-pub adds_added : (old new : Program) (n : Node) (d : ℕ) (s : Spot) (id : TermId) → new.expressions ≡ old.expressions → Added (entries_of old.terms) (entries_of new.terms) (record { node = n; depth = d; spot = s }) id.0 → headers_of new ≡ headers_of old → d ≡ term_depth (term_of old n) → AddsTerm old new id n (term_of old n) s
+pub adds_added : (old new : Program) (n : Node) (d : ℕ) (s : Spot) (id : TermId) → new.expressions ≡ old.expressions → new.arguments.items ≡ old.arguments.items → Added (entries_of old.terms) (entries_of new.terms) (record { node = n; depth = d; spot = s }) id.0 → headers_of new ≡ headers_of old → d ≡ term_depth (term_of old n) → AddsTerm old new id n (term_of old n) s
 unfolding HoldsTerm tree term_node_at term_spot_at term_count expression_count
-adds_added old new n d s id same added headers measured = record {
+adds_added old new n d s id same lists added headers measured = record {
   within = added_within _ _ _ _ added;
   fresh = added_fresh _ _ _ _ added;
   node = ap (λ (e : Entry Node). e.node) here;
-  is = ap (λ x. term_entered x (entries_of new.terms) id.0) same ∙ tree_added _ _ _ _ added (term_made old.expressions) identity_term ∙ sym (node-made old n);
+  is = ap (λ b. term_entered b (entries_of new.terms) id.0) (same_base old new same lists) ∙ tree_added _ _ _ _ added (term_made (base_of old)) identity_term ∙ sym (node-made old n);
   spotted = ap (λ (e : Entry Node). e.spot) here;
   shallow = omega (arith, measured, ap (λ (e : Entry Node). e.depth) here, shallow_at (entries_of new.terms) identity_entry id.0 (shallow_entries new.terms) (omega arith));
-  kept = keeps_of old new (added_keeps old new _ _ same added) headers;
+  kept = keeps_of old new (added_keeps old new _ _ same lists added) headers;
   term_counted = added_counted _ _ _ _ added;
   expression_counted = ap count_of same;
 }
@@ -150,12 +200,12 @@ adds_added old new n d s id same added headers measured = record {
     here = added_item _ _ _ _ added identity_entry
 
 -- the trees stay where the expressions grow
-grown_keeps : (old new : Program) → KeepsExpressions old.expressions new.expressions → entries_of new.terms ≡ entries_of old.terms → KeepsTrees old new
-unfolding HoldsTerm HoldsExpression ProgramHoldsFunction HoldsPatternIn tree term_node_at term_spot_at expression_under expression_node_at expression_spot_at function_pattern_at function_body_at pattern_under
-grown_keeps old new k e = record {
+grown_keeps : (old new : Program) → KeepsExpressions old.expressions new.expressions → MoreArguments old.arguments.items new.arguments.items → entries_of new.terms ≡ entries_of old.terms → KeepsTrees old new
+unfolding HoldsTerm HoldsExpression ProgramHoldsFunction HoldsPatternIn HoldsArguments tree term_node_at term_spot_at expression_under expression_node_at expression_spot_at function_pattern_at function_body_at pattern_under arguments_under
+grown_keeps old new k m e = record {
   terms = λ t h. omega (arith, ap length e);
   nodes = λ t h. ap (λ es. (term_entry es t.0).node) e;
-  trees = λ t h. ap (λ es. term_entered new.expressions es t.0) e ∙ term-same old.expressions new.expressions (entries_of old.terms) t.0 k old.arena.closed old.arena.functions_closed old.arena.patterns_closed old.arena.names_closed old.arena.constants_closed;
+  trees = λ t h. ap (λ es. term_entered (base_of new) es t.0) e ∙ term-same (base_of old) (base_of new) (entries_of old.terms) t.0 k m old.arena;
   spots = λ t h. ap (λ es. (term_entry es t.0).spot) e;
   expressions = λ x h. k.holds x h;
   value_nodes = λ x h. k.nodes x h;
@@ -167,32 +217,34 @@ grown_keeps old new k e = record {
   meanings = λ f h. k.meanings f h;
   holds_patterns = λ q h. k.holds_patterns q h;
   placed = λ q h. k.placed q h;
+  holds_arguments = λ a h. omega (arith, m.more);
+  arguments = λ a h. m.kept a.0 h;
 }
 
 -- what is added to the expressions is added to the program
-pub adds_expression : (old new : Program) (id : ExprId) (n : ExprNode) (e : Expression) (s : Spot) → AddsToExpressions old.expressions new.expressions id n e s → entries_of new.terms ≡ entries_of old.terms → headers_of new ≡ headers_of old → AddsExpression old new id n e s
+pub adds_expression : (old new : Program) (id : ExprId) (n : ExprNode) (e : Expression) (s : Spot) → AddsToExpressions old.expressions new.expressions id n e s → MoreArguments old.arguments.items new.arguments.items → entries_of new.terms ≡ entries_of old.terms → headers_of new ≡ headers_of old → AddsExpression old new id n e s
 unfolding HoldsExpression expression_under expression_node_at expression_spot_at term_count expression_count
-adds_expression old new id n e s a same headers = record {
+adds_expression old new id n e s a m same headers = record {
   within = a.within;
   fresh = a.fresh;
   node = a.node;
   is = a.is;
   spotted = a.spotted;
-  kept = keeps_of old new (grown_keeps old new (expressions_kept old.expressions new.expressions id n e s a) same) headers;
+  kept = keeps_of old new (grown_keeps old new (expressions_kept old.expressions new.expressions id n e s a) m same) headers;
   term_counted = ap length same;
   expression_counted = a.count;
 }
 
 -- a function that is added to the expressions is added to the program
-pub adds_function : (old new : Program) (f : FunctionId) (q : PlacedPattern) (b : ExprId) → AddsFunctionIn old.expressions new.expressions f q b → entries_of new.terms ≡ entries_of old.terms → headers_of new ≡ headers_of old → AddsProgramFunction old new f q b
+pub adds_function : (old new : Program) (f : FunctionId) (q : PlacedPattern) (b : ExprId) → AddsFunctionIn old.expressions new.expressions f q b → MoreArguments old.arguments.items new.arguments.items → entries_of new.terms ≡ entries_of old.terms → headers_of new ≡ headers_of old → AddsProgramFunction old new f q b
 unfolding ProgramHoldsFunction expression_under function_pattern_at function_body_at term_count expression_count
-adds_function old new f q b a same headers = record {
+adds_function old new f q b a m same headers = record {
   within = a.within;
   fresh = a.fresh;
   pattern = a.pattern;
   body = a.body;
   is = a.is;
-  kept = keeps_of old new (grown_keeps old new a.kept same) headers;
+  kept = keeps_of old new (grown_keeps old new a.kept m same) headers;
   term_counted = ap length same;
   expression_counted = a.count;
 }
@@ -211,9 +263,9 @@ bodies_put old new h true n e a b = omega (arith, ap bodies_end e, bodies_end-ap
 bodies_put old new h false n e a b = omega (arith, ap bodies_end e)
 
 -- a template put behind
-pub adds_template : (old new : Program) (h : Header) → new.expressions ≡ old.expressions → entries_of new.terms ≡ entries_of old.terms → headers_of new ≡ headers_of old ++ h ∷ [] → HoldsTerm old h.body → AddsTemplate old new h
+pub adds_template : (old new : Program) (h : Header) → new.expressions ≡ old.expressions → MoreArguments old.arguments.items new.arguments.items → entries_of new.terms ≡ entries_of old.terms → headers_of new ≡ headers_of old ++ h ∷ [] → HoldsTerm old h.body → AddsTemplate old new h
 unfolding term_count expression_count headers_of HoldsTerm
-adds_template old new h same terms headers held = record {
+adds_template old new h same m terms headers held = record {
   headers = headers;
   templates =
       ap (λ hs. map (template_in new) hs) headers
@@ -226,16 +278,16 @@ adds_template old new h same terms headers held = record {
 }
   where
     kept : KeepsTrees old new
-    kept = grown_keeps old new (same_kept old.expressions new.expressions same) terms
+    kept = grown_keeps old new (same_kept old.expressions new.expressions same) m terms
 
 -- what shows the same
-pub unchanged : (old new : Program) → ExpressionsUnchanged old.expressions new.expressions → entries_of new.terms ≡ entries_of old.terms → headers_of new ≡ headers_of old → IsSameProgram old new
-unfolding term_count expression_count tree term_node_at term_spot_at expression_under expression_node_at expression_spot_at ProgramHoldsFunction HoldsPatternIn function_pattern_at function_body_at pattern_under
-unchanged old new x terms headers = record {
+pub unchanged : (old new : Program) → ExpressionsUnchanged old.expressions new.expressions → MoreArguments old.arguments.items new.arguments.items → entries_of new.terms ≡ entries_of old.terms → headers_of new ≡ headers_of old → IsSameProgram old new
+unfolding term_count expression_count tree term_node_at term_spot_at expression_under expression_node_at expression_spot_at ProgramHoldsFunction HoldsPatternIn HoldsArguments function_pattern_at function_body_at pattern_under arguments_under
+unchanged old new x m terms headers = record {
   term_counted = ap length terms;
   expression_counted = x.count;
   nodes = λ t. ap (λ es. (term_entry es t.0).node) terms;
-  trees = λ t. ap (λ es. term_entered new.expressions es t.0) terms ∙ term-same old.expressions new.expressions (entries_of old.terms) t.0 (unchanged_expressions_kept old.expressions new.expressions x) old.arena.closed old.arena.functions_closed old.arena.patterns_closed old.arena.names_closed old.arena.constants_closed;
+  trees = λ t. ap (λ es. term_entered (base_of new) es t.0) terms ∙ term-same (base_of old) (base_of new) (entries_of old.terms) t.0 (unchanged_expressions_kept old.expressions new.expressions x) m old.arena;
   spots = λ t. ap (λ es. (term_entry es t.0).spot) terms;
   value_nodes = λ e. x.nodes e;
   values = λ e. x.trees e;
@@ -245,6 +297,8 @@ unchanged old new x terms headers = record {
   bodies = λ f. x.bodies f;
   holds_patterns = λ q h. below_pattern new.expressions q (omega (arith, pattern_below old.expressions q h, x.pattern_counted));
   placed = λ q h. x.placed q;
+  holds_arguments = λ a h. omega (arith, m.more);
+  arguments = λ a h. m.kept a.0 h;
   headers = headers;
 }
 
@@ -285,13 +339,13 @@ pub unchanged_beside : (x y : Exprs) → ExpressionsUnchanged x y → AddsBeside
 unchanged_beside x y u = record { kept = unchanged_expressions_kept x y u; nodes = u.nodes; trees = u.trees; spots = u.spots; patterns = u.patterns; bodies = u.bodies; count = u.count }
 
 -- a program shows the same where something is added beside its nodes
-pub put_beside : (old new : Program) → AddsBeside old.expressions new.expressions → entries_of new.terms ≡ entries_of old.terms → headers_of new ≡ headers_of old → IsSameProgram old new
-unfolding term_count expression_count tree term_node_at term_spot_at expression_under expression_node_at expression_spot_at ProgramHoldsFunction HoldsPatternIn function_pattern_at function_body_at pattern_under
-put_beside old new x terms headers = record {
+pub put_beside : (old new : Program) → AddsBeside old.expressions new.expressions → MoreArguments old.arguments.items new.arguments.items → entries_of new.terms ≡ entries_of old.terms → headers_of new ≡ headers_of old → IsSameProgram old new
+unfolding term_count expression_count tree term_node_at term_spot_at expression_under expression_node_at expression_spot_at ProgramHoldsFunction HoldsPatternIn HoldsArguments function_pattern_at function_body_at pattern_under arguments_under
+put_beside old new x m terms headers = record {
   term_counted = ap length terms;
   expression_counted = x.count;
   nodes = λ t. ap (λ es. (term_entry es t.0).node) terms;
-  trees = λ t. ap (λ es. term_entered new.expressions es t.0) terms ∙ term-same old.expressions new.expressions (entries_of old.terms) t.0 x.kept old.arena.closed old.arena.functions_closed old.arena.patterns_closed old.arena.names_closed old.arena.constants_closed;
+  trees = λ t. ap (λ es. term_entered (base_of new) es t.0) terms ∙ term-same (base_of old) (base_of new) (entries_of old.terms) t.0 x.kept m old.arena;
   spots = λ t. ap (λ es. (term_entry es t.0).spot) terms;
   value_nodes = λ e. x.nodes e;
   values = λ e. x.trees e;
@@ -301,6 +355,8 @@ put_beside old new x terms headers = record {
   bodies = λ f. x.bodies f;
   holds_patterns = λ q h. x.kept.holds_patterns q h;
   placed = λ q h. x.kept.placed q h;
+  holds_arguments = λ a h. omega (arith, m.more);
+  arguments = λ a h. m.kept a.0 h;
   headers = headers;
 }
 
@@ -322,6 +378,8 @@ unchanged_keeps old new u = keeps_of old new (record {
   meanings = λ f h. rw (u.patterns f, u.bodies f, u.values (function_body_at old f)) refl;
   holds_patterns = λ q h. u.holds_patterns q h;
   placed = λ q h. u.placed q h;
+  holds_arguments = λ a h. u.holds_arguments a h;
+  arguments = λ a h. u.arguments a h;
 }) u.headers
 
 pub keeps_trees_trans : (a b c : Program) → KeepsTrees a b → KeepsTrees b c → KeepsTrees a c
@@ -340,6 +398,8 @@ keeps_trees_trans a b c f g = record {
   meanings = λ i h. g.meanings i (f.functions i h) ∙ f.meanings i h;
   holds_patterns = λ i h. g.holds_patterns i (f.holds_patterns i h);
   placed = λ i h. g.placed i (f.holds_patterns i h) ∙ f.placed i h;
+  holds_arguments = λ a h. g.holds_arguments a (f.holds_arguments a h);
+  arguments = λ a h. g.arguments a (f.holds_arguments a h) ∙ f.arguments a h;
 }
 
 pub keeps_trans : (a b c : Program) → KeepsProgram a b → KeepsProgram b c → KeepsProgram a c
@@ -367,7 +427,7 @@ tree_shallow p t = omega (arith, p.arena.measured t.0, shallow_at (entries_of p.
 -- past the terms of a program stands the identity
 pub term_past : (p : Program) (t : TermId) → term_count p ≤ term_number t → tree p t ≡ identity_term
 unfolding term_count tree tree_at
-term_past p t h = get_or_past (terms_made p.expressions (entries_of p.terms)) t.0 identity_term (omega (arith, trees-length (term_made p.expressions) (entries_of p.terms)))
+term_past p t h = get_or_past (terms_made (base_of p) (entries_of p.terms)) t.0 identity_term (omega (arith, trees-length (term_made (base_of p)) (entries_of p.terms)))
 
 -- what holds in any case holds where there is an error
 pub on_any_err : {A E P : Type 0} (r : Result A E) → P → OnErr r P
@@ -383,32 +443,47 @@ pub below_count_holds : (p : Program) (t : TermId) → term_number t < term_coun
 unfolding HoldsTerm term_count
 below_count_holds p t h = h
 
+-- arguments are held where what they need is there
+arguments_held : (p : Program) (vs : List Argument) → terms_end vs ≤ length (entries_of p.terms) → expressions_end vs ≤ count_of p.expressions → All (HoldsArgument p) vs
+unfolding HoldsTerm HoldsExpression
+arguments_held p [] h k = All-nil (HoldsArgument p)
+arguments_held p (arguments.Value e ∷ vs) h k = All-cons (HoldsArgument p) _ vs (below_holds p.expressions e (omega arith)) (arguments_held p vs h (omega arith))
+arguments_held p (arguments.Process t ∷ vs) h k = All-cons (HoldsArgument p) _ vs (omega arith) (arguments_held p vs (omega arith) k)
+
 -- the parts of a node are held
 pub parts_held : (p : Program) (t : TermId) → HoldsTermParts p (term_entry_of p t).node
-unfolding expressions_of term_entry_of HoldsTerm HoldsExpression ProgramHoldsFunction HoldsPatternIn
-parts_held p t = of_node (term_entry (entries_of p.terms) t.0).node (p.arena.in_order t.0) (p.arena.closed t.0) (p.arena.functions_closed t.0) (p.arena.patterns_closed t.0) (p.arena.names_closed t.0) (p.arena.constants_closed t.0) within
+unfolding expressions_of term_entry_of HoldsTerm HoldsExpression ProgramHoldsFunction HoldsPatternIn HoldsArguments arguments_under
+parts_held p t = of_node (term_entry (entries_of p.terms) t.0).node needed
   where
-    within : (needs_terms (term_entry (entries_of p.terms) t.0).node ≡ 0) ⊎ (t.0 < length (entries_of p.terms))
-    within = elim (cases_lt t.0 (length (entries_of p.terms))) [ inl h ↦ inr h | inr h ↦ inl (ap (λ (n : Entry Node). needs_terms n.node) (get_or_past (entries_of p.terms) t.0 identity_entry h)) ]
+    entry_needs : (t.0 < length (entries_of p.terms)) ⊎ (length (entries_of p.terms) ≤ t.0) → needs_terms (base_of p) (term_entry (entries_of p.terms) t.0).node ≤ length (entries_of p.terms)
+    entry_needs (inl h) = omega (arith, p.arena.in_order t.0)
+    entry_needs (inr h) = omega (arith, ap (λ (n : Entry Node). needs_terms (base_of p) n.node) (get_or_past (entries_of p.terms) t.0 identity_entry h))
 
-    of_node : (n : Node) → needs_terms n ≤ t.0 → needs_expressions n ≤ count_of p.expressions → needs_functions n ≤ function_count p.expressions → patterns_needed n ≤ pattern_count p.expressions → names_needed n ≤ name_count p.expressions → constants_needed n ≤ constant_count p.expressions → (needs_terms n ≡ 0) ⊎ (t.0 < length (entries_of p.terms)) → HoldsTermParts p n
-    of_node (nodes.Primitive (primitives.Bare k)) b x f y m l w = tt
-    of_node (nodes.Primitive (primitives.Never n)) b x f y m l w = below_constant p.expressions n (omega arith)
-    of_node (nodes.Primitive (primitives.WithValue k e)) b x f y m l w = below_holds p.expressions e (omega arith)
-    of_node (nodes.Primitive (primitives.Timed k q e)) b x f y m l w = below_holds p.expressions e (omega arith)
-    of_node (nodes.Primitive (primitives.Arrow g)) b x f y m l w = below_function p.expressions g (omega arith)
-    of_node (nodes.Primitive (primitives.Accumulated k e g)) b x f y m l w = (below_holds p.expressions e (omega arith), below_function p.expressions g (omega arith))
-    of_node (nodes.Run k s) b x f y m l w = below_name p.expressions k (omega arith)
-    of_node (nodes.Joined j a c) b x f y m l (inl z) = absurd (omega arith)
-    of_node (nodes.Joined j a c) b x f y m l (inr h) = (omega arith, omega arith)
-    of_node (nodes.Sided d a) b x f y m l (inl z) = absurd (omega arith)
-    of_node (nodes.Sided d a) b x f y m l (inr h) = omega arith
-    of_node (nodes.Headed q e a) b x f y m l (inl z) = absurd (omega arith)
-    of_node (nodes.Headed q e a) b x f y m l (inr h) = (below_holds p.expressions e (omega arith), omega arith)
-    of_node (nodes.Switching w a q c) b x f y m l (inl z) = absurd (omega arith)
-    of_node (nodes.Switching w a q c) b x f y m l (inr h) = (omega arith, below_pattern p.expressions q (omega arith), omega arith)
-    of_node (nodes.Keeping k a o n s q c) b x f y m l (inl z) = absurd (omega arith)
-    of_node (nodes.Keeping k a o n s q c) b x f y m l (inr h) = (omega arith, omega arith, below_name p.expressions n (omega arith), below_pattern p.expressions q (omega arith), omega arith)
+    needed : NeedsAreThere (base_of p) (entries_of p.terms) (term_entry (entries_of p.terms) t.0).node
+    needed = record {
+      terms = entry_needs (cases_lt t.0 (length (entries_of p.terms)));
+      expressions = p.arena.closed t.0;
+      functions = p.arena.functions_closed t.0;
+      patterns = p.arena.patterns_closed t.0;
+      names = p.arena.names_closed t.0;
+      constants = p.arena.constants_closed t.0;
+      arguments = p.arena.arguments_closed t.0;
+    }
+
+    of_node : (n : Node) → NeedsAreThere (base_of p) (entries_of p.terms) n → HoldsTermParts p n
+    of_node (nodes.Primitive (primitives.Bare k)) h = tt
+    of_node (nodes.Primitive (primitives.Never n)) h = below_constant p.expressions n (omega (arith, h.constants))
+    of_node (nodes.Primitive (primitives.WithValue k e)) h = below_holds p.expressions e (omega (arith, h.expressions))
+    of_node (nodes.Primitive (primitives.Timed k q e)) h = below_holds p.expressions e (omega (arith, h.expressions))
+    of_node (nodes.Primitive (primitives.Arrow g)) h = below_function p.expressions g (omega (arith, h.functions))
+    of_node (nodes.Primitive (primitives.Accumulated k e g)) h = (below_holds p.expressions e (omega (arith, h.expressions)), below_function p.expressions g (omega (arith, h.functions)))
+    of_node (nodes.Run k s) h = below_name p.expressions k (omega (arith, h.names))
+    of_node (nodes.Call k a) h = (below_name p.expressions k (omega (arith, h.names)), omega (arith, h.arguments), arguments_held p (arguments_under p a) h.terms h.expressions)
+    of_node (nodes.Joined j a c) h = (omega (arith, h.terms), omega (arith, h.terms))
+    of_node (nodes.Sided d a) h = omega (arith, h.terms)
+    of_node (nodes.Headed q e a) h = (below_holds p.expressions e (omega (arith, h.expressions)), omega (arith, h.terms))
+    of_node (nodes.Switching w a q c) h = (omega (arith, h.terms), below_pattern p.expressions q (omega (arith, h.patterns)), omega (arith, h.terms))
+    of_node (nodes.Keeping k a o n s q c) h = (omega (arith, h.terms), omega (arith, h.terms), below_name p.expressions n (omega (arith, h.names)), below_pattern p.expressions q (omega (arith, h.patterns)), omega (arith, h.terms))
 
 bodies_within : (p : Program) (hs : List Header) → bodies_end hs ≤ length (entries_of p.terms) → (k : ℕ) (d : Header) → k < length hs → HoldsTerm p (get_or hs k d).body
 unfolding HoldsTerm
@@ -489,6 +564,8 @@ unchanged_trans a b c f g = record {
   bodies = λ i. g.bodies i ∙ f.bodies i;
   holds_patterns = λ i h. g.holds_patterns i (f.holds_patterns i h);
   placed = λ i h. g.placed i (f.holds_patterns i h) ∙ f.placed i h;
+  holds_arguments = λ a h. g.holds_arguments a (f.holds_arguments a h);
+  arguments = λ a h. g.arguments a (f.holds_arguments a h) ∙ f.arguments a h;
   headers = g.headers ∙ f.headers;
 }
 
@@ -558,25 +635,25 @@ deep_after a b r n t same made h =
     (λ e. let g = h.0 e in (omega (arith, g.0, same.term_counted), omega (arith, g.1, depth)), λ g. h.1 (omega (arith, g.0, same.term_counted), omega (arith, g.1, depth)))
 
 -- the term of a switch, whose pattern is put beside the expressions
-switch_made : (a b : Program) (q : PatternId) (p : PlacedPattern) (w : Switching) (i j : TermId) → AddsPattern a.expressions b.expressions q p → entries_of b.terms ≡ entries_of a.terms → headers_of b ≡ headers_of a
+switch_made : (a b : Program) (q : PatternId) (p : PlacedPattern) (w : Switching) (i j : TermId) → AddsPattern a.expressions b.expressions q p → MoreArguments a.arguments.items b.arguments.items → entries_of b.terms ≡ entries_of a.terms → headers_of b ≡ headers_of a
     → term_of b (nodes.Switching w i q j) ≡ switching w (tree a i) (pattern_of p) (tree a j)
 unfolding pattern_under
-switch_made a b q p w i j added terms headers =
-    let same = put_beside a b (pattern_beside _ _ _ _ added) terms headers in
+switch_made a b q p w i j added m terms headers =
+    let same = put_beside a b (pattern_beside _ _ _ _ added) m terms headers in
     rw (same.trees i, same.trees j, added.is) refl
 
-pub adds_switch : (a b c : Program) (r : Result TermId BuildRefusal) (q : PatternId) (p : PlacedPattern) (w : Switching) (i j : TermId) (s : Spot) → AddsPattern a.expressions b.expressions q p → entries_of b.terms ≡ entries_of a.terms → headers_of b ≡ headers_of a
+pub adds_switch : (a b c : Program) (r : Result TermId BuildRefusal) (q : PatternId) (p : PlacedPattern) (w : Switching) (i j : TermId) (s : Spot) → AddsPattern a.expressions b.expressions q p → MoreArguments a.arguments.items b.arguments.items → entries_of b.terms ≡ entries_of a.terms → headers_of b ≡ headers_of a
     → IfOk r (λ id. AddsTerm b c id (nodes.Switching w i q j) (term_of b (nodes.Switching w i q j)) s)
     → IfOk r (λ id. AddsTerm a c id (nodes.Switching w i (next_pattern a.expressions) j) (switching w (tree a i) (pattern_of p) (tree a j)) s)
-adds_switch a b c r q p w i j s added terms headers adds =
-    term_with a b c r q (next_pattern a.expressions) (λ (q : PatternId). nodes.Switching w i q j) _ s added.next (put_beside a b (pattern_beside _ _ _ _ added) terms headers) (switch_made a b q p w i j added terms headers) adds
+adds_switch a b c r q p w i j s added m terms headers adds =
+    term_with a b c r q (next_pattern a.expressions) (λ (q : PatternId). nodes.Switching w i q j) _ s added.next (put_beside a b (pattern_beside _ _ _ _ added) m terms headers) (switch_made a b q p w i j added m terms headers) adds
 
 -- it is too deep where its parts are
-pub switch_deep : (a b : Program) (r : Result TermId BuildRefusal) (q : PatternId) (p : PlacedPattern) (w : Switching) (i j : TermId) → AddsPattern a.expressions b.expressions q p → entries_of b.terms ≡ entries_of a.terms → headers_of b ≡ headers_of a
+pub switch_deep : (a b : Program) (r : Result TermId BuildRefusal) (q : PatternId) (p : PlacedPattern) (w : Switching) (i j : TermId) → AddsPattern a.expressions b.expressions q p → MoreArguments a.arguments.items b.arguments.items → entries_of b.terms ≡ entries_of a.terms → headers_of b ≡ headers_of a
     → (r ≡ Err TooDeep ↔ (term_count b < 100000) × (64 < term_depth (term_of b (nodes.Switching w i q j))))
     → r ≡ Err TooDeep ↔ (term_count a < 100000) × (64 < term_depth (switching w (tree a i) (pattern_of p) (tree a j)))
-switch_deep a b r q p w i j added terms headers h =
-    deep_after a b r (nodes.Switching w i q j) _ (put_beside a b (pattern_beside _ _ _ _ added) terms headers) (switch_made a b q p w i j added terms headers) h
+switch_deep a b r q p w i j added m terms headers h =
+    deep_after a b r (nodes.Switching w i q j) _ (put_beside a b (pattern_beside _ _ _ _ added) m terms headers) (switch_made a b q p w i j added m terms headers) h
 
 -- A name was put beside the expressions, and a pattern behind it.
 pub record AddsNameAndPattern (x y : Exprs) (n : NameId) (g : Name) (q : PatternId) (p : PlacedPattern) : Type 0 where
@@ -601,25 +678,86 @@ name_and_pattern x y z n g q p a b = record {
 }
 
 -- the term of a switch that knows its source by a name, whose name and pattern are put beside the expressions
-keeping_made : (a b : Program) (n : NameId) (g : Name) (q : PatternId) (p : PlacedPattern) (w : Observation) (i o j : TermId) (at : Spot) → AddsNameAndPattern a.expressions b.expressions n g q p → entries_of b.terms ≡ entries_of a.terms → headers_of b ≡ headers_of a
+keeping_made : (a b : Program) (n : NameId) (g : Name) (q : PatternId) (p : PlacedPattern) (w : Observation) (i o j : TermId) (at : Spot) → AddsNameAndPattern a.expressions b.expressions n g q p → MoreArguments a.arguments.items b.arguments.items → entries_of b.terms ≡ entries_of a.terms → headers_of b ≡ headers_of a
     → term_of b (nodes.Keeping w i o n at q j) ≡ keeping w (tree a i) (tree a o) g (pattern_of p) (tree a j)
 unfolding pattern_under expressions_of
-keeping_made a b n g q p w i o j at added terms headers =
-    let same = put_beside a b added.beside terms headers in
+keeping_made a b n g q p w i o j at added m terms headers =
+    let same = put_beside a b added.beside m terms headers in
     rw (same.trees i, same.trees o, same.trees j, added.name_is, added.pattern_is) refl
 
-pub adds_keeping : (a b c : Program) (r : Result TermId BuildRefusal) (n : NameId) (g : Name) (q : PatternId) (p : PlacedPattern) (w : Observation) (i o j : TermId) (at s : Spot) → AddsNameAndPattern a.expressions b.expressions n g q p → entries_of b.terms ≡ entries_of a.terms → headers_of b ≡ headers_of a
+pub adds_keeping : (a b c : Program) (r : Result TermId BuildRefusal) (n : NameId) (g : Name) (q : PatternId) (p : PlacedPattern) (w : Observation) (i o j : TermId) (at s : Spot) → AddsNameAndPattern a.expressions b.expressions n g q p → MoreArguments a.arguments.items b.arguments.items → entries_of b.terms ≡ entries_of a.terms → headers_of b ≡ headers_of a
     → IfOk r (λ id. AddsTerm b c id (nodes.Keeping w i o n at q j) (term_of b (nodes.Keeping w i o n at q j)) s)
     → IfOk r (λ id. AddsTerm a c id (nodes.Keeping w i o (next_name a.expressions) at (next_pattern a.expressions) j) (keeping w (tree a i) (tree a o) g (pattern_of p) (tree a j)) s)
-adds_keeping a b c r n g q p w i o j at s added terms headers adds =
+adds_keeping a b c r n g q p w i o j at s added m terms headers adds =
     let ids : ◌≡◌ {A = NameId × PatternId} (n, q) (next_name a.expressions, next_pattern a.expressions) = ap₂ (λ (x : NameId) (y : PatternId). (x, y)) added.name_next added.pattern_next in
-    term_with {I = NameId × PatternId} a b c r (n, q) (next_name a.expressions, next_pattern a.expressions) (λ (k : NameId × PatternId). nodes.Keeping w i o k.0 at k.1 j) _ s ids (put_beside a b added.beside terms headers) (keeping_made a b n g q p w i o j at added terms headers) adds
+    term_with {I = NameId × PatternId} a b c r (n, q) (next_name a.expressions, next_pattern a.expressions) (λ (k : NameId × PatternId). nodes.Keeping w i o k.0 at k.1 j) _ s ids (put_beside a b added.beside m terms headers) (keeping_made a b n g q p w i o j at added m terms headers) adds
 
-pub keeping_deep : (a b : Program) (r : Result TermId BuildRefusal) (n : NameId) (g : Name) (q : PatternId) (p : PlacedPattern) (w : Observation) (i o j : TermId) (at : Spot) → AddsNameAndPattern a.expressions b.expressions n g q p → entries_of b.terms ≡ entries_of a.terms → headers_of b ≡ headers_of a
+pub keeping_deep : (a b : Program) (r : Result TermId BuildRefusal) (n : NameId) (g : Name) (q : PatternId) (p : PlacedPattern) (w : Observation) (i o j : TermId) (at : Spot) → AddsNameAndPattern a.expressions b.expressions n g q p → MoreArguments a.arguments.items b.arguments.items → entries_of b.terms ≡ entries_of a.terms → headers_of b ≡ headers_of a
     → (r ≡ Err TooDeep ↔ (term_count b < 100000) × (64 < term_depth (term_of b (nodes.Keeping w i o n at q j))))
     → r ≡ Err TooDeep ↔ (term_count a < 100000) × (64 < term_depth (keeping w (tree a i) (tree a o) g (pattern_of p) (tree a j)))
-keeping_deep a b r n g q p w i o j at added terms headers h = deep_after a b r (nodes.Keeping w i o n at q j) _ (put_beside a b added.beside terms headers) (keeping_made a b n g q p w i o j at added terms headers) h
+keeping_deep a b r n g q p w i o j at added m terms headers h = deep_after a b r (nodes.Keeping w i o n at q j) _ (put_beside a b added.beside m terms headers) (keeping_made a b n g q p w i o j at added m terms headers) h
 
 pub unchanged_after : {A E : Type 0} (a b c : Program) (r : Result A E) → IsSameProgram a b → OnErr r (IsSameProgram b c) → OnErr r (IsSameProgram a c)
 unchanged_after a b c (Ok x) u e = tt
 unchanged_after a b c (Err f) u e = unchanged_trans a b c u e
+
+-- arguments stand for the same where a program shows the same
+arguments_after : (a b : Program) (vs : List Argument) → IsSameProgram a b → arguments_of b vs ≡ arguments_of a vs
+arguments_after a b [] same = refl
+arguments_after a b (arguments.Value e ∷ vs) same = ap₂ value_argument (same.values e) (arguments_after a b vs same)
+arguments_after a b (arguments.Process t ∷ vs) same = ap₂ process_argument (same.trees t) (arguments_after a b vs same)
+
+-- they are held there too
+pub held_after : (a b : Program) (vs : List Argument) → IsSameProgram a b → All (HoldsArgument a) vs → All (HoldsArgument b) vs
+held_after a b vs same h = All-weaker (HoldsArgument a) (HoldsArgument b) each vs h
+  where
+    each : (v : Argument) → HoldsArgument a v → HoldsArgument b v
+    each (arguments.Value e) k = (unchanged_keeps a b same).trees.expressions e k
+    each (arguments.Process t) k = (unchanged_keeps a b same).trees.terms t k
+
+-- A name was put beside the expressions, and then arguments beside the terms.
+pub record PutsCall (a b : Program) (n : NameId) (g : Name) (l : ArgumentsId) (vs : List Argument) : Type 0 where
+  pub same : IsSameProgram a b
+  pub name_next : n ≡ next_name (expressions_of a)
+  pub arguments_next : l ≡ next_arguments a
+  pub name_within : HoldsName (expressions_of b) n
+  pub name_is : name_at (expressions_of b) n ≡ g
+  pub arguments_within : HoldsArguments b l
+  pub arguments_are : arguments_under b l ≡ vs
+
+pub puts_call : (a m b : Program) (n : NameId) (g : Name) (l : ArgumentsId) (vs : List Argument) → AddsName a.expressions m.expressions n g → m.arguments.items ≡ a.arguments.items → entries_of m.terms ≡ entries_of a.terms → headers_of m ≡ headers_of a
+    → l ≡ next_arguments m → HoldsArguments b l → arguments_under b l ≡ vs → IsSameProgram m b → expressions_of b ≡ expressions_of m → PutsCall a b n g l vs
+unfolding expressions_of next_arguments
+puts_call a m b n g l vs added lists terms headers next within are same expressions = record {
+  same = unchanged_trans a m b (put_beside a m (name_beside _ _ _ _ added) (arguments_copied _ _ lists) terms headers) same;
+  name_next = added.next;
+  arguments_next = next ∙ ap (λ (us : List (List Argument)). record { 0 = length us }) lists;
+  name_within = subst (λ x. HoldsName x n) (sym expressions) added.within;
+  name_is = ap (λ x. name_at x n) expressions ∙ added.is;
+  arguments_within = within;
+  arguments_are = are;
+}
+
+-- the term of a call whose name and arguments are put there
+call_made : (a b : Program) (n : NameId) (g : Name) (l : ArgumentsId) (vs : List Argument) → PutsCall a b n g l vs → term_of b (nodes.Call n l) ≡ reference (call g (arguments_of a vs))
+call_made a b n g l vs p = ap₂ (λ k us. reference (call k us)) p.name_is (ap (arguments_of b) p.arguments_are ∙ arguments_after a b vs p.same)
+
+pub adds_call : (a b c : Program) (r : Result TermId BuildRefusal) (n : NameId) (g : Name) (l : ArgumentsId) (vs : List Argument) (s : Spot) → PutsCall a b n g l vs
+    → IfOk r (λ id. AddsTerm b c id (nodes.Call n l) (term_of b (nodes.Call n l)) s)
+    → IfOk r (λ id. AddsTerm a c id (nodes.Call (next_name (expressions_of a)) (next_arguments a)) (reference (call g (arguments_of a vs))) s)
+adds_call a b c r n g l vs s p adds =
+    let ids : ◌≡◌ {A = NameId × ArgumentsId} (n, l) (next_name (expressions_of a), next_arguments a) = ap₂ (λ (x : NameId) (y : ArgumentsId). (x, y)) p.name_next p.arguments_next in
+    term_with {I = NameId × ArgumentsId} a b c r (n, l) (next_name (expressions_of a), next_arguments a) (λ (k : NameId × ArgumentsId). nodes.Call k.0 k.1) _ s ids p.same (call_made a b n g l vs p) adds
+
+pub call_deep : (a b : Program) (r : Result TermId BuildRefusal) (n : NameId) (g : Name) (l : ArgumentsId) (vs : List Argument) → PutsCall a b n g l vs
+    → (r ≡ Err TooDeep ↔ (term_count b < 100000) × (64 < term_depth (term_of b (nodes.Call n l))))
+    → r ≡ Err TooDeep ↔ (term_count a < 100000) × (64 < term_depth (reference (call g (arguments_of a vs))))
+call_deep a b r n g l vs p h = deep_after a b r (nodes.Call n l) _ p.same (call_made a b n g l vs p) h
+
+-- and the arguments are there
+pub arguments_there : (a b c : Program) (r : Result TermId BuildRefusal) (n : NameId) (g : Name) (l : ArgumentsId) (vs : List Argument) (t : Term) (s : Spot) → PutsCall a b n g l vs
+    → IfOk r (λ id. AddsTerm b c id (nodes.Call n l) t s) → OnOk r (HoldsArguments c (next_arguments a) × (arguments_under c (next_arguments a) ≡ vs))
+arguments_there a b c (Ok id) n g l vs t s p adds =
+    subst (λ (k : ArgumentsId). HoldsArguments c k × (arguments_under c k ≡ vs)) p.arguments_next
+    (adds.kept.trees.holds_arguments l p.arguments_within, adds.kept.trees.arguments l p.arguments_within ∙ p.arguments_are)
+arguments_there a b c (Err f) n g l vs t s p adds = tt

@@ -1,5 +1,5 @@
 -- Programs, seen by their trees.
-use Rattle.std.specs.Prelude.{◌≡◌, ℕ, ◌+◌, ◌<◌, ◌≤◌, List, [], ◌∷◌, ◌++◌, length, map}
+use Rattle.std.specs.Prelude.{◌≡◌, ℕ, ◌+◌, ◌<◌, ◌≤◌, List, [], ◌∷◌, ◌++◌, length, slice_index_or, map, All}
 use Rattle.sf_refusal.specs.declared.spot.Spot.{Spot}
 use Rattle.sf_arena.specs.declared.entry.Entry.{Entry}
 use Rattle.sf_arena.specs.Arenas.{entries_of}
@@ -12,13 +12,17 @@ use Rattle.sf_expr.specs.Expressions.{Expression, Function, function}
 use Rattle.sf_expr.specs.Patterns.{PlacedPattern, pattern_of}
 use Rattle.sf_expr.specs.Arena.{expression, count_of, name_at, HoldsName, literal_at, HoldsConstant, Holds, HoldsFunction as HoldsFunctionIn, HoldsPattern, placed_at, pattern_at as pattern_at_in, body_at as body_at_in, node_at as expression_node_in, spot_at as expression_spot_in}
 use Rattle.sf_term.specs.declared.node.TermId.{TermId}
+use Rattle.sf_term.specs.declared.node.ArgumentsId.{ArgumentsId}
+use Rattle.sf_term.specs.declared.node.Argument.{Argument}
+use Rattle.sf_term.specs.declared.node.Argument.TheVariants as arguments
 use Rattle.sf_term.specs.declared.node.Primitive.TheVariants as primitives
 use Rattle.sf_term.specs.declared.node.Node.{Node}
 use Rattle.sf_term.specs.declared.node.Node.TheVariants as nodes
 use Rattle.sf_term.specs.declared.program.Program.{Program}
-use Rattle.sf_term.specs.Trees.{Term, primitive, run, joined, sided, headed, switching, keeping, bare, never, with_value, timed, arrow, accumulated, term_depth, Template, Templates}
+use Rattle.sf_term.specs.Trees.{Term, primitive, reference, run, call, Arguments, no_arguments, value_argument, process_argument, joined, sided, headed, switching, keeping, bare, never, with_value, timed, arrow, accumulated, term_depth, Template, Templates}
+use Rattle.sf_term.specs.Parameters.{parameters_of}
 use Rattle.sf_term.specs.Headers.{Header}
-use Rattle.sf_term.specs.Entries.{absent_payload, term_entry, term_entered}
+use Rattle.sf_term.specs.Entries.{TermBase, absent_payload, term_entry, term_entered}
 
 -- the number of an id
 abbrev pub term_number : TermId → ℕ
@@ -27,6 +31,14 @@ term_number id = id.0
 -- the expressions of a program
 unfoldable pub expressions_of : Program → Exprs
 expressions_of p = p.expressions
+
+-- the arguments of the calls of a program
+unfoldable pub argument_lists : Program → List (List Argument)
+argument_lists p = p.arguments.items
+
+-- what the terms of a program are made over beside terms
+abbrev pub base_of : Program → TermBase
+base_of p = record { expressions = p.expressions; arguments = p.arguments.items }
 
 -- how many terms a program holds
 unfoldable pub term_count : Program → ℕ
@@ -52,9 +64,21 @@ ProgramHoldsFunction p f = HoldsFunctionIn p.expressions f
 unfoldable pub HoldsPatternIn : Program → PatternId → Type 0
 HoldsPatternIn p q = HoldsPattern p.expressions q
 
+-- a program holds arguments under an id
+unfoldable pub HoldsArguments : Program → ArgumentsId → Type 0
+HoldsArguments p a = a.0 < length p.arguments.items
+
+-- the arguments at an id, as ids; none where the program holds none
+unfoldable pub arguments_under : Program → ArgumentsId → List Argument
+arguments_under p a = slice_index_or p.arguments.items a.0 []
+
+-- the id of the next arguments
+unfoldable pub next_arguments : Program → ArgumentsId
+next_arguments p = record { 0 = length p.arguments.items }
+
 -- the term at an id; the identity where the program holds none
 unfoldable pub tree : Program → TermId → Term
-tree p t = term_entered p.expressions (entries_of p.terms) t.0
+tree p t = term_entered (base_of p) (entries_of p.terms) t.0
 
 -- the expression at an id; the number 0 where the program holds none
 unfoldable pub expression_under : Program → ExprId → Expression
@@ -88,6 +112,12 @@ term_node_at p t = (term_entry (entries_of p.terms) t.0).node
 unfoldable pub expression_node_at : Program → ExprId → ExprNode
 expression_node_at p e = expression_node_in p.expressions e
 
+-- what arguments with ids stand for
+abbrev pub arguments_of : Program → List Argument → Arguments
+arguments_of p [] = no_arguments
+arguments_of p (arguments.Value e ∷ vs) = value_argument (expression_under p e) (arguments_of p vs)
+arguments_of p (arguments.Process t ∷ vs) = process_argument (tree p t) (arguments_of p vs)
+
 -- the term that a node with the ids of its parts stands for
 abbrev pub term_of : Program → Node → Term
 term_of p (nodes.Primitive (primitives.Bare k)) = primitive (bare k)
@@ -96,7 +126,8 @@ term_of p (nodes.Primitive (primitives.WithValue k e)) = primitive (with_value k
 term_of p (nodes.Primitive (primitives.Timed k q e)) = primitive (timed k q (expression_under p e))
 term_of p (nodes.Primitive (primitives.Arrow f)) = primitive (arrow (function_in p f))
 term_of p (nodes.Primitive (primitives.Accumulated k e f)) = primitive (accumulated k (expression_under p e) (function_in p f))
-term_of p (nodes.Run k s) = run (name_at (expressions_of p) k)
+term_of p (nodes.Run k s) = reference (run (name_at (expressions_of p) k))
+term_of p (nodes.Call k a) = reference (call (name_at (expressions_of p) k) (arguments_of p (arguments_under p a)))
 term_of p (nodes.Joined j a b) = joined j (tree p a) (tree p b)
 term_of p (nodes.Sided d a) = sided d (tree p a)
 term_of p (nodes.Headed h e a) = headed h (expression_under p e) (tree p a)
@@ -117,7 +148,7 @@ headers_of p = p.templates.items
 
 -- a template with the tree of its body
 abbrev pub template_in : Program → Header → Template
-template_in p h = record { name = h.name; input = h.input; output = h.output; body = tree p h.body }
+template_in p h = record { name = h.name; parameters = parameters_of h.parameters; input = h.input; output = h.output; body = tree p h.body }
 
 -- the templates of a program, in order
 abbrev pub templates_of : Program → Templates
@@ -127,15 +158,26 @@ templates_of p = map (template_in p) (headers_of p)
 abbrev pub spots_of : Program → List Spot
 spots_of p = map (λ (h : Header). h.spot) (headers_of p)
 
+-- the id of the term of an argument, as a number, is below a number
+abbrev pub ArgumentBelow : ℕ → Argument → Type 0
+ArgumentBelow n (arguments.Value e) = Unit {0}
+ArgumentBelow n (arguments.Process t) = term_number t < n
+
 -- the ids of a node's parts, as numbers, are below a number
-abbrev pub TermPartsBelow : Node → ℕ → Type 0
-TermPartsBelow (nodes.Primitive q) n = Unit {0}
-TermPartsBelow (nodes.Run k s) n = Unit {0}
-TermPartsBelow (nodes.Joined j a b) n = (term_number a < n) × (term_number b < n)
-TermPartsBelow (nodes.Sided d a) n = term_number a < n
-TermPartsBelow (nodes.Headed h e a) n = term_number a < n
-TermPartsBelow (nodes.Switching w a q b) n = (term_number a < n) × (term_number b < n)
-TermPartsBelow (nodes.Keeping w a o k s q b) n = (term_number a < n) × (term_number o < n) × (term_number b < n)
+abbrev pub TermPartsBelow : Program → Node → ℕ → Type 0
+TermPartsBelow p (nodes.Primitive q) n = Unit {0}
+TermPartsBelow p (nodes.Run k s) n = Unit {0}
+TermPartsBelow p (nodes.Call k a) n = All (ArgumentBelow n) (arguments_under p a)
+TermPartsBelow p (nodes.Joined j a b) n = (term_number a < n) × (term_number b < n)
+TermPartsBelow p (nodes.Sided d a) n = term_number a < n
+TermPartsBelow p (nodes.Headed h e a) n = term_number a < n
+TermPartsBelow p (nodes.Switching w a q b) n = (term_number a < n) × (term_number b < n)
+TermPartsBelow p (nodes.Keeping w a o k s q b) n = (term_number a < n) × (term_number o < n) × (term_number b < n)
+
+-- what an argument names is held
+abbrev pub HoldsArgument : Program → Argument → Type 0
+HoldsArgument p (arguments.Value e) = HoldsExpression p e
+HoldsArgument p (arguments.Process t) = HoldsTerm p t
 
 -- the parts of a node are held
 abbrev pub HoldsTermParts : Program → Node → Type 0
@@ -146,13 +188,14 @@ HoldsTermParts p (nodes.Primitive (primitives.Timed k q e)) = HoldsExpression p 
 HoldsTermParts p (nodes.Primitive (primitives.Arrow f)) = ProgramHoldsFunction p f
 HoldsTermParts p (nodes.Primitive (primitives.Accumulated k e f)) = HoldsExpression p e × ProgramHoldsFunction p f
 HoldsTermParts p (nodes.Run k s) = HoldsName (expressions_of p) k
+HoldsTermParts p (nodes.Call k a) = HoldsName (expressions_of p) k × HoldsArguments p a × All (HoldsArgument p) (arguments_under p a)
 HoldsTermParts p (nodes.Joined j a b) = HoldsTerm p a × HoldsTerm p b
 HoldsTermParts p (nodes.Sided d a) = HoldsTerm p a
 HoldsTermParts p (nodes.Headed h e a) = HoldsExpression p e × HoldsTerm p a
 HoldsTermParts p (nodes.Switching w a q b) = HoldsTerm p a × HoldsPatternIn p q × HoldsTerm p b
 HoldsTermParts p (nodes.Keeping w a o k s q b) = HoldsTerm p a × HoldsTerm p o × HoldsName (expressions_of p) k × HoldsPatternIn p q × HoldsTerm p b
 
--- Terms, expressions, functions and patterns that a program held are there as they were.
+-- Terms, expressions, functions, patterns and arguments that a program held are there as they were.
 pub record KeepsTrees (old new : Program) : Type 0 where
   pub terms : (t : TermId) → HoldsTerm old t → HoldsTerm new t
   pub nodes : (t : TermId) → HoldsTerm old t → term_node_at new t ≡ term_node_at old t
@@ -168,6 +211,8 @@ pub record KeepsTrees (old new : Program) : Type 0 where
   pub meanings : (f : FunctionId) → ProgramHoldsFunction old f → function_in new f ≡ function_in old f
   pub holds_patterns : (q : PatternId) → HoldsPatternIn old q → HoldsPatternIn new q
   pub placed : (q : PatternId) → HoldsPatternIn old q → pattern_under new q ≡ pattern_under old q
+  pub holds_arguments : (a : ArgumentsId) → HoldsArguments old a → HoldsArguments new a
+  pub arguments : (a : ArgumentsId) → HoldsArguments old a → arguments_under new a ≡ arguments_under old a
 
 -- All that a program held is there as it was, and it has the same templates.
 pub record KeepsProgram (old new : Program) : Type 0 where
@@ -219,7 +264,7 @@ pub record AddsTemplate (old new : Program) (h : Header) : Type 0 where
   pub term_counted : term_count new ≡ term_count old
   pub expression_counted : expression_count new ≡ expression_count old
 
--- two programs show the same, but that there may be more patterns
+-- two programs show the same, but that there may be more patterns and more arguments
 pub record IsSameProgram (old new : Program) : Type 0 where
   pub term_counted : term_count new ≡ term_count old
   pub expression_counted : expression_count new ≡ expression_count old
@@ -234,6 +279,8 @@ pub record IsSameProgram (old new : Program) : Type 0 where
   pub bodies : (f : FunctionId) → function_body_at new f ≡ function_body_at old f
   pub holds_patterns : (q : PatternId) → HoldsPatternIn old q → HoldsPatternIn new q
   pub placed : (q : PatternId) → HoldsPatternIn old q → pattern_under new q ≡ pattern_under old q
+  pub holds_arguments : (a : ArgumentsId) → HoldsArguments old a → HoldsArguments new a
+  pub arguments : (a : ArgumentsId) → HoldsArguments old a → arguments_under new a ≡ arguments_under old a
   pub headers : headers_of new ≡ headers_of old
 
 -- a program is a copy of another: it shows the same

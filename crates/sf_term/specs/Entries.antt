@@ -1,5 +1,5 @@
 -- The entries of an arena of terms.
-use Rattle.std.specs.Prelude.{◌≡◌, ℕ, suc, ◌≤◌, max, List, slice_index_or}
+use Rattle.std.specs.Prelude.{◌≡◌, ℕ, suc, ◌≤◌, max, List, [], ◌∷◌, length, slice_index_or}
 use Rattle.sf_arena.specs.declared.entry.Entry.{Entry}
 use Rattle.sf_arena.specs.Folded.{trees, tree_at}
 use Rattle.sf_expr.specs.declared.exprs.Exprs.{Exprs}
@@ -9,9 +9,17 @@ use Rattle.sf_value.specs.Values.{Kind, unit_kind}
 use Rattle.sf_expr.specs.Expressions.{Literal, unit_literal, truth_literal, int_literal, text_literal, none_literal}
 use Rattle.sf_term.specs.declared.form.Bare.TheVariants.{Identity}
 use Rattle.sf_term.specs.declared.node.Primitive.TheVariants as primitives
+use Rattle.sf_term.specs.declared.node.ArgumentsId.{ArgumentsId}
+use Rattle.sf_term.specs.declared.node.Argument.{Argument}
+use Rattle.sf_term.specs.declared.node.Argument.TheVariants as arguments
 use Rattle.sf_term.specs.declared.node.Node.{Node}
 use Rattle.sf_term.specs.declared.node.Node.TheVariants as nodes
-use Rattle.sf_term.specs.Trees.{Term, primitive, run, joined, sided, headed, switching, keeping, bare, never, with_value, timed, arrow, accumulated, term_depth}
+use Rattle.sf_term.specs.Trees.{Term, primitive, reference, run, call, Arguments, no_arguments, value_argument, process_argument, joined, sided, headed, switching, keeping, bare, never, with_value, timed, arrow, accumulated, term_depth}
+
+-- What terms are made over beside terms: expressions, and the arguments of calls.
+pub record TermBase : Type 0 where
+  pub expressions : Exprs
+  pub arguments : List (List Argument)
 
 -- the identity
 abbrev pub identity_term : Term
@@ -29,45 +37,70 @@ absent_payload (int_literal z) = unit_kind
 absent_payload (text_literal bs) = unit_kind
 absent_payload (none_literal t) = t
 
+-- the arguments at an id; none past the end
+abbrev pub arguments_listed : TermBase → ArgumentsId → List Argument
+arguments_listed b a = slice_index_or b.arguments a.0 []
+
+-- arguments, over the terms before them
+abbrev pub arguments_over : Exprs → List Term → List Argument → Arguments
+arguments_over x ts [] = no_arguments
+arguments_over x ts (arguments.Value e ∷ vs) = value_argument (expression x e) (arguments_over x ts vs)
+arguments_over x ts (arguments.Process t ∷ vs) = process_argument (term_among ts t.0) (arguments_over x ts vs)
+
 -- the term of a node, over the terms before it
-abbrev pub term_over : Exprs → List Term → Node → Term
-term_over x ts (nodes.Primitive (primitives.Bare k)) = primitive (bare k)
-term_over x ts (nodes.Primitive (primitives.Never n)) = primitive (never (absent_payload (literal_at x n)))
-term_over x ts (nodes.Primitive (primitives.WithValue k e)) = primitive (with_value k (expression x e))
-term_over x ts (nodes.Primitive (primitives.Timed k q e)) = primitive (timed k q (expression x e))
-term_over x ts (nodes.Primitive (primitives.Arrow f)) = primitive (arrow (function_at x f))
-term_over x ts (nodes.Primitive (primitives.Accumulated k e f)) = primitive (accumulated k (expression x e) (function_at x f))
-term_over x ts (nodes.Run k s) = run (name_at x k)
-term_over x ts (nodes.Joined j a b) = joined j (term_among ts a.0) (term_among ts b.0)
-term_over x ts (nodes.Sided d a) = sided d (term_among ts a.0)
-term_over x ts (nodes.Headed h e a) = headed h (expression x e) (term_among ts a.0)
-term_over x ts (nodes.Switching w a p b) = switching w (term_among ts a.0) (pattern_of (placed_at x p)) (term_among ts b.0)
-term_over x ts (nodes.Keeping w a o k s p b) = keeping w (term_among ts a.0) (term_among ts o.0) (name_at x k) (pattern_of (placed_at x p)) (term_among ts b.0)
+abbrev pub term_over : TermBase → List Term → Node → Term
+term_over b ts (nodes.Primitive (primitives.Bare k)) = primitive (bare k)
+term_over b ts (nodes.Primitive (primitives.Never n)) = primitive (never (absent_payload (literal_at b.expressions n)))
+term_over b ts (nodes.Primitive (primitives.WithValue k e)) = primitive (with_value k (expression b.expressions e))
+term_over b ts (nodes.Primitive (primitives.Timed k q e)) = primitive (timed k q (expression b.expressions e))
+term_over b ts (nodes.Primitive (primitives.Arrow f)) = primitive (arrow (function_at b.expressions f))
+term_over b ts (nodes.Primitive (primitives.Accumulated k e f)) = primitive (accumulated k (expression b.expressions e) (function_at b.expressions f))
+term_over b ts (nodes.Run k s) = reference (run (name_at b.expressions k))
+term_over b ts (nodes.Call k c) = reference (call (name_at b.expressions k) (arguments_over b.expressions ts (arguments_listed b c)))
+term_over b ts (nodes.Joined j c d) = joined j (term_among ts c.0) (term_among ts d.0)
+term_over b ts (nodes.Sided d a) = sided d (term_among ts a.0)
+term_over b ts (nodes.Headed h e a) = headed h (expression b.expressions e) (term_among ts a.0)
+term_over b ts (nodes.Switching w c p d) = switching w (term_among ts c.0) (pattern_of (placed_at b.expressions p)) (term_among ts d.0)
+term_over b ts (nodes.Keeping w c o k s p d) = keeping w (term_among ts c.0) (term_among ts o.0) (name_at b.expressions k) (pattern_of (placed_at b.expressions p)) (term_among ts d.0)
+
+-- how many terms have to stand before arguments
+abbrev pub terms_end : List Argument → ℕ
+terms_end [] = 0
+terms_end (arguments.Value e ∷ vs) = terms_end vs
+terms_end (arguments.Process t ∷ vs) = max (suc t.0) (terms_end vs)
+
+-- how many expressions have to be there for arguments
+abbrev pub expressions_end : List Argument → ℕ
+expressions_end [] = 0
+expressions_end (arguments.Value e ∷ vs) = max (suc (id_number e)) (expressions_end vs)
+expressions_end (arguments.Process t ∷ vs) = expressions_end vs
 
 -- how many terms have to stand before a node
-abbrev pub needs_terms : Node → ℕ
-needs_terms (nodes.Primitive p) = 0
-needs_terms (nodes.Run k s) = 0
-needs_terms (nodes.Joined j a b) = suc (max a.0 b.0)
-needs_terms (nodes.Sided d a) = suc a.0
-needs_terms (nodes.Headed h e a) = suc a.0
-needs_terms (nodes.Switching w a p b) = suc (max a.0 b.0)
-needs_terms (nodes.Keeping w a o k s p b) = suc (max (max a.0 o.0) b.0)
+abbrev pub needs_terms : TermBase → Node → ℕ
+needs_terms b (nodes.Primitive p) = 0
+needs_terms b (nodes.Run k s) = 0
+needs_terms b (nodes.Call k a) = terms_end (arguments_listed b a)
+needs_terms b (nodes.Joined j a c) = suc (max a.0 c.0)
+needs_terms b (nodes.Sided d a) = suc a.0
+needs_terms b (nodes.Headed h e a) = suc a.0
+needs_terms b (nodes.Switching w a p c) = suc (max a.0 c.0)
+needs_terms b (nodes.Keeping w a o k s p c) = suc (max (max a.0 o.0) c.0)
 
 -- how many expressions have to be there for a node
-abbrev pub needs_expressions : Node → ℕ
-needs_expressions (nodes.Primitive (primitives.Bare k)) = 0
-needs_expressions (nodes.Primitive (primitives.Never n)) = 0
-needs_expressions (nodes.Primitive (primitives.WithValue k e)) = suc (id_number e)
-needs_expressions (nodes.Primitive (primitives.Timed k q e)) = suc (id_number e)
-needs_expressions (nodes.Primitive (primitives.Arrow f)) = 0
-needs_expressions (nodes.Primitive (primitives.Accumulated k e f)) = suc (id_number e)
-needs_expressions (nodes.Run k s) = 0
-needs_expressions (nodes.Joined j a b) = 0
-needs_expressions (nodes.Sided d a) = 0
-needs_expressions (nodes.Headed h e a) = suc (id_number e)
-needs_expressions (nodes.Switching w a p b) = 0
-needs_expressions (nodes.Keeping w a o k s p b) = 0
+abbrev pub needs_expressions : TermBase → Node → ℕ
+needs_expressions b (nodes.Primitive (primitives.Bare k)) = 0
+needs_expressions b (nodes.Primitive (primitives.Never n)) = 0
+needs_expressions b (nodes.Primitive (primitives.WithValue k e)) = suc (id_number e)
+needs_expressions b (nodes.Primitive (primitives.Timed k q e)) = suc (id_number e)
+needs_expressions b (nodes.Primitive (primitives.Arrow f)) = 0
+needs_expressions b (nodes.Primitive (primitives.Accumulated k e f)) = suc (id_number e)
+needs_expressions b (nodes.Run k s) = 0
+needs_expressions b (nodes.Call k a) = expressions_end (arguments_listed b a)
+needs_expressions b (nodes.Joined j a c) = 0
+needs_expressions b (nodes.Sided d a) = 0
+needs_expressions b (nodes.Headed h e a) = suc (id_number e)
+needs_expressions b (nodes.Switching w a p c) = 0
+needs_expressions b (nodes.Keeping w a o k s p c) = 0
 
 -- how many functions have to be there for a node
 abbrev pub needs_functions : Node → ℕ
@@ -78,6 +111,7 @@ needs_functions (nodes.Primitive (primitives.Timed k q e)) = 0
 needs_functions (nodes.Primitive (primitives.Arrow f)) = suc f.0
 needs_functions (nodes.Primitive (primitives.Accumulated k e f)) = suc f.0
 needs_functions (nodes.Run k s) = 0
+needs_functions (nodes.Call k a) = 0
 needs_functions (nodes.Joined j a b) = 0
 needs_functions (nodes.Sided d a) = 0
 needs_functions (nodes.Headed h e a) = 0
@@ -88,6 +122,7 @@ needs_functions (nodes.Keeping w a o k s p b) = 0
 abbrev pub patterns_needed : Node → ℕ
 patterns_needed (nodes.Primitive q) = 0
 patterns_needed (nodes.Run k s) = 0
+patterns_needed (nodes.Call k a) = 0
 patterns_needed (nodes.Joined j a b) = 0
 patterns_needed (nodes.Sided d a) = 0
 patterns_needed (nodes.Headed h e a) = 0
@@ -98,6 +133,7 @@ patterns_needed (nodes.Keeping w a o k s p b) = suc p.0
 abbrev pub names_needed : Node → ℕ
 names_needed (nodes.Primitive q) = 0
 names_needed (nodes.Run k s) = suc k.0
+names_needed (nodes.Call k a) = suc k.0
 names_needed (nodes.Joined j a b) = 0
 names_needed (nodes.Sided d a) = 0
 names_needed (nodes.Headed h e a) = 0
@@ -113,11 +149,23 @@ constants_needed (nodes.Primitive (primitives.Timed k q e)) = 0
 constants_needed (nodes.Primitive (primitives.Arrow f)) = 0
 constants_needed (nodes.Primitive (primitives.Accumulated k e f)) = 0
 constants_needed (nodes.Run k s) = 0
+constants_needed (nodes.Call k a) = 0
 constants_needed (nodes.Joined j a b) = 0
 constants_needed (nodes.Sided d a) = 0
 constants_needed (nodes.Headed h e a) = 0
 constants_needed (nodes.Switching w a p b) = 0
 constants_needed (nodes.Keeping w a o k s p b) = 0
+
+-- how many lists of arguments have to be there for a node
+abbrev pub arguments_needed : Node → ℕ
+arguments_needed (nodes.Primitive q) = 0
+arguments_needed (nodes.Run k s) = 0
+arguments_needed (nodes.Call k a) = suc a.0
+arguments_needed (nodes.Joined j a b) = 0
+arguments_needed (nodes.Sided d a) = 0
+arguments_needed (nodes.Headed h e a) = 0
+arguments_needed (nodes.Switching w a p b) = 0
+arguments_needed (nodes.Keeping w a o k s p b) = 0
 
 -- the identity, without a text
 abbrev pub identity_entry : Entry Node
@@ -128,23 +176,24 @@ abbrev pub term_entry : List (Entry Node) → ℕ → Entry Node
 term_entry entries i = slice_index_or entries i identity_entry
 
 -- the term of an entry, over the terms before it
-abbrev pub term_made : Exprs → List Term → Entry Node → Term
-term_made x ts entry = term_over x ts entry.node
+abbrev pub term_made : TermBase → List Term → Entry Node → Term
+term_made b ts entry = term_over b ts entry.node
 
 -- the terms of entries
-abbrev pub terms_made : Exprs → List (Entry Node) → List Term
-terms_made x entries = trees (term_made x) entries
+abbrev pub terms_made : TermBase → List (Entry Node) → List Term
+terms_made b entries = trees (term_made b) entries
 
 -- the term at a place; the identity past the end
-abbrev pub term_entered : Exprs → List (Entry Node) → ℕ → Term
-term_entered x entries i = tree_at (term_made x) identity_term entries i
+abbrev pub term_entered : TermBase → List (Entry Node) → ℕ → Term
+term_entered b entries i = tree_at (term_made b) identity_term entries i
 
--- What holds of the entries of an arena of terms, beside its expressions.
-pub record AreTerms (x : Exprs) (entries : List (Entry Node)) : Type 0 where
-  pub in_order : (i : ℕ) → needs_terms (term_entry entries i).node ≤ i
-  pub closed : (i : ℕ) → needs_expressions (term_entry entries i).node ≤ count_of x
-  pub functions_closed : (i : ℕ) → needs_functions (term_entry entries i).node ≤ function_count x
-  pub patterns_closed : (i : ℕ) → patterns_needed (term_entry entries i).node ≤ pattern_count x
-  pub names_closed : (i : ℕ) → names_needed (term_entry entries i).node ≤ name_count x
-  pub constants_closed : (i : ℕ) → constants_needed (term_entry entries i).node ≤ constant_count x
-  pub measured : (i : ℕ) → (term_entry entries i).depth ≡ term_depth (term_entered x entries i)
+-- What holds of the entries of an arena of terms, beside what they are made over.
+pub record AreTerms (b : TermBase) (entries : List (Entry Node)) : Type 0 where
+  pub in_order : (i : ℕ) → needs_terms b (term_entry entries i).node ≤ i
+  pub closed : (i : ℕ) → needs_expressions b (term_entry entries i).node ≤ count_of b.expressions
+  pub functions_closed : (i : ℕ) → needs_functions (term_entry entries i).node ≤ function_count b.expressions
+  pub patterns_closed : (i : ℕ) → patterns_needed (term_entry entries i).node ≤ pattern_count b.expressions
+  pub names_closed : (i : ℕ) → names_needed (term_entry entries i).node ≤ name_count b.expressions
+  pub constants_closed : (i : ℕ) → constants_needed (term_entry entries i).node ≤ constant_count b.expressions
+  pub arguments_closed : (i : ℕ) → arguments_needed (term_entry entries i).node ≤ length b.arguments
+  pub measured : (i : ℕ) → (term_entry entries i).depth ≡ term_depth (term_entered b entries i)

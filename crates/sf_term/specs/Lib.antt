@@ -1,3 +1,5 @@
+pub mod Parameters
+pub mod ParameterView
 pub mod Trees
 pub mod Headers
 pub mod Entries

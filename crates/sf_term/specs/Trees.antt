@@ -1,5 +1,5 @@
 -- Networks as trees.
-use Rattle.std.specs.Prelude.{ℕ, suc, ◌+◌, max, ℤ, List}
+use Rattle.std.specs.Prelude.{ℕ, suc, ◌+◌, max, ℤ, List, [], ◌∷◌, cond, Option, Some, None, bytes_eq}
 use Rattle.sf_value.specs.Values.{Name, Kind}
 use Rattle.sf_expr.specs.Expressions.{Pattern, Expression, Function, pattern_depth, depth as expression_depth, size as expression_size, function_depth, function_size}
 use Rattle.sf_term.specs.declared.form.Bare.{Bare}
@@ -12,6 +12,7 @@ use Rattle.sf_term.specs.declared.form.Side.{Side}
 use Rattle.sf_term.specs.declared.form.Heading.{Heading}
 use Rattle.sf_term.specs.declared.form.Observation.{Observation}
 use Rattle.sf_term.specs.declared.form.Switching.{Switching}
+use Rattle.sf_term.specs.Parameters.{Bindings}
 
 -- Functions made into one: one after another, on one part of a pair, each on its part of a pair, both on the input.
 pub data Chain : Type 0 where
@@ -36,23 +37,38 @@ pub data Extent : Type 0 where
   whole : Extent
   rest : Extent
 
--- terms: primitives, a named process, two terms joined, a term on one side of a pair, a term with an expression at its head, a
--- term that gives way to another inside a pattern, and one that does so at the event of a second term and is then known by a
--- name;
--- and, in plans alone, a stage before the rest of its pipeline
-pub data Term : Type 0 where
-  primitive : Primitive → Term
-  run : Name → Term
-  joined : Join → Term → Term → Term
-  sided : Side → Term → Term
-  headed : Heading → Expression → Term → Term
-  switching : Switching → Term → Pattern → Term → Term
-  keeping : Observation → (source observer : Term) → Name → Pattern → Term → Term
-  staged : Extent → Term → Term → Term
+mutual
+  -- terms: primitives, a process in whose place a name stands, two terms joined, a term on one side of a pair, a term with an
+  -- expression at its head, a term that gives way to another inside a pattern, and one that does so at the event of a second
+  -- term and is then known by a name;
+  -- and, in plans alone, a stage before the rest of its pipeline
+  pub data Term : Type 0 where
+    primitive : Primitive → Term
+    reference : Reference → Term
+    joined : Join → Term → Term → Term
+    sided : Side → Term → Term
+    headed : Heading → Expression → Term → Term
+    switching : Switching → Term → Pattern → Term → Term
+    keeping : Observation → (source observer : Term) → Name → Pattern → Term → Term
+    staged : Extent → Term → Term → Term
 
--- a template: its name, the types of its header and its term
+  -- what stands in the place of a process: its name, or a call of a template with arguments
+  pub data Reference : Type 0 where
+    run : Name → Reference
+    call : Name → Arguments → Reference
+
+  -- the arguments of a call, first to last: values, or terms that are processes;
+  -- and, in plans alone, a term that is closed in the environment of its call, whatever it is
+  pub data Arguments : Type 0 where
+    no_arguments : Arguments
+    value_argument : Expression → Arguments → Arguments
+    process_argument : Term → Arguments → Arguments
+    closed_argument : Term → Arguments → Arguments
+
+-- a template: its name, the names of its parameters with what they stand for, the types of its header and its term
 pub record Template : Type 0 where
   pub name : Name
+  pub parameters : Bindings
   pub input : Kind
   pub output : Kind
   pub body : Term
@@ -60,6 +76,11 @@ pub record Template : Type 0 where
 -- the templates of a network, in the order of its text
 abbrev pub Templates : Type 0
 Templates = List Template
+
+-- the first template of a name
+abbrev pub template_named : Name → Templates → Option Template
+template_named x [] = None
+template_named x (t ∷ ts) = cond (bytes_eq x t.name) (Some t) (template_named x ts)
 
 -- how many expressions and patterns stand one inside another in a primitive; the forms of plans are deeper than each text
 abbrev pub primitive_depth : Primitive → ℕ
@@ -71,16 +92,29 @@ primitive_depth (arrow f) = function_depth f
 primitive_depth (accumulated k e f) = max (expression_depth e) (function_depth f)
 primitive_depth (fused f) = 64
 
--- how many terms and expressions stand one inside another; the forms of plans are deeper than each text
-abbrev pub term_depth : Term → ℕ
-term_depth (primitive p) = suc (primitive_depth p)
-term_depth (run k) = 1
-term_depth (joined j f g) = suc (max (term_depth f) (term_depth g))
-term_depth (sided d t) = suc (term_depth t)
-term_depth (headed h e t) = suc (max (expression_depth e) (term_depth t))
-term_depth (switching w t p u) = suc (max (max (term_depth t) (term_depth u)) (pattern_depth p))
-term_depth (keeping w t q k p u) = suc (max (max (max (term_depth t) (term_depth q)) (term_depth u)) (pattern_depth p))
-term_depth (staged x f g) = 65
+abbrev mutual
+  -- how many terms and expressions stand one inside another; the forms of plans are deeper than each text
+  pub term_depth : Term → ℕ
+  term_depth (primitive p) = suc (primitive_depth p)
+  term_depth (reference r) = suc (reference_depth r)
+  term_depth (joined j f g) = suc (max (term_depth f) (term_depth g))
+  term_depth (sided d t) = suc (term_depth t)
+  term_depth (headed h e t) = suc (max (expression_depth e) (term_depth t))
+  term_depth (switching w t p u) = suc (max (max (term_depth t) (term_depth u)) (pattern_depth p))
+  term_depth (keeping w t q k p u) = suc (max (max (max (term_depth t) (term_depth q)) (term_depth u)) (pattern_depth p))
+  term_depth (staged x f g) = 65
+
+  -- the same within a reference
+  pub reference_depth : Reference → ℕ
+  reference_depth (run k) = 0
+  reference_depth (call g vs) = arguments_depth vs
+
+  -- the same in arguments
+  pub arguments_depth : Arguments → ℕ
+  arguments_depth no_arguments = 0
+  arguments_depth (value_argument e vs) = max (expression_depth e) (arguments_depth vs)
+  arguments_depth (process_argument t vs) = max (term_depth t) (arguments_depth vs)
+  arguments_depth (closed_argument t vs) = 64
 
 -- how many terms a primitive with a value is made of: in `-->(e, pre)`, `pre` is one too
 abbrev pub terms_with_value : WithValue → ℕ
@@ -100,30 +134,60 @@ terms_in_primitive (arrow f) = 1
 terms_in_primitive (accumulated k e f) = 1
 terms_in_primitive (fused f) = 1
 
--- how many terms a term is made of
-abbrev pub terms_in : Term → ℕ
-terms_in (primitive p) = terms_in_primitive p
-terms_in (run k) = 1
-terms_in (joined j f g) = suc (terms_in f + terms_in g)
-terms_in (sided d t) = suc (terms_in t)
-terms_in (headed h e t) = suc (terms_in t)
-terms_in (switching w t p u) = suc (terms_in t + terms_in u)
-terms_in (keeping w t q k p u) = suc (terms_in t + terms_in q + terms_in u)
-terms_in (staged x f g) = suc (terms_in f + terms_in g)
+abbrev mutual
+  -- how many terms a term is made of
+  pub terms_in : Term → ℕ
+  terms_in (primitive p) = terms_in_primitive p
+  terms_in (reference r) = suc (terms_referred r)
+  terms_in (joined j f g) = suc (terms_in f + terms_in g)
+  terms_in (sided d t) = suc (terms_in t)
+  terms_in (headed h e t) = suc (terms_in t)
+  terms_in (switching w t p u) = suc (terms_in t + terms_in u)
+  terms_in (keeping w t q k p u) = suc (terms_in t + terms_in q + terms_in u)
+  terms_in (staged x f g) = suc (terms_in f + terms_in g)
 
--- how many expressions stand in a term
-abbrev pub expressions_in : Term → ℕ
-expressions_in (primitive (bare k)) = 0
-expressions_in (primitive (never t)) = 0
-expressions_in (primitive (with_value k e)) = expression_size e
-expressions_in (primitive (timed k q e)) = expression_size e
-expressions_in (primitive (arrow f)) = function_size f
-expressions_in (primitive (accumulated k e f)) = expression_size e + function_size f
-expressions_in (primitive (fused f)) = 0
-expressions_in (run k) = 0
-expressions_in (joined j f g) = expressions_in f + expressions_in g
-expressions_in (sided d t) = expressions_in t
-expressions_in (headed h e t) = expression_size e + expressions_in t
-expressions_in (switching w t p u) = expressions_in t + expressions_in u
-expressions_in (keeping w t q k p u) = expressions_in t + expressions_in q + expressions_in u
-expressions_in (staged x f g) = expressions_in f + expressions_in g
+  -- how many terms stand within a reference
+  pub terms_referred : Reference → ℕ
+  terms_referred (run k) = 0
+  terms_referred (call g vs) = terms_in_arguments vs
+
+  -- how many terms stand in arguments
+  pub terms_in_arguments : Arguments → ℕ
+  terms_in_arguments no_arguments = 0
+  terms_in_arguments (value_argument e vs) = terms_in_arguments vs
+  terms_in_arguments (process_argument t vs) = terms_in t + terms_in_arguments vs
+  terms_in_arguments (closed_argument t vs) = terms_in t + terms_in_arguments vs
+
+-- how many expressions stand in a primitive
+abbrev pub expressions_in_primitive : Primitive → ℕ
+expressions_in_primitive (bare k) = 0
+expressions_in_primitive (never t) = 0
+expressions_in_primitive (with_value k e) = expression_size e
+expressions_in_primitive (timed k q e) = expression_size e
+expressions_in_primitive (arrow f) = function_size f
+expressions_in_primitive (accumulated k e f) = expression_size e + function_size f
+expressions_in_primitive (fused f) = 0
+
+abbrev mutual
+  -- how many expressions stand in a term
+  pub expressions_in : Term → ℕ
+  expressions_in (primitive p) = expressions_in_primitive p
+  expressions_in (reference r) = expressions_referred r
+  expressions_in (joined j f g) = expressions_in f + expressions_in g
+  expressions_in (sided d t) = expressions_in t
+  expressions_in (headed h e t) = expression_size e + expressions_in t
+  expressions_in (switching w t p u) = expressions_in t + expressions_in u
+  expressions_in (keeping w t q k p u) = expressions_in t + expressions_in q + expressions_in u
+  expressions_in (staged x f g) = expressions_in f + expressions_in g
+
+  -- how many expressions stand within a reference
+  pub expressions_referred : Reference → ℕ
+  expressions_referred (run k) = 0
+  expressions_referred (call g vs) = expressions_in_arguments vs
+
+  -- how many expressions stand in arguments
+  pub expressions_in_arguments : Arguments → ℕ
+  expressions_in_arguments no_arguments = 0
+  expressions_in_arguments (value_argument e vs) = expression_size e + expressions_in_arguments vs
+  expressions_in_arguments (process_argument t vs) = expressions_in t + expressions_in_arguments vs
+  expressions_in_arguments (closed_argument t vs) = expressions_in t + expressions_in_arguments vs

@@ -1,6 +1,7 @@
 //! Networks: terms and templates, in an arena.
 #![tactic(auto)]
 
+mod argument;
 mod form;
 mod names;
 mod node;
@@ -11,7 +12,7 @@ mod template;
 pub use form::{
     Accumulation, Bare, Heading, Join, Observation, Side, Switching, Timing, WithValue,
 };
-pub use node::{Node, Primitive, TermId};
+pub use node::{Argument, ArgumentsId, Node, Primitive, TermId};
 pub use program::Program;
 pub use refusal::BuildRefusal;
-pub use template::Template;
+pub use template::{Parameter, ParameterForm, Template};

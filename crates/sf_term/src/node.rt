@@ -21,6 +21,19 @@ impl TermId {
     }
 }
 
+/// The arguments of a call in their program.
+#[derive(Clone, Copy, Debug, PartialEq, Eq)]
+pub struct ArgumentsId(pub(crate) usize);
+
+/// An argument of a call.
+#[derive(Clone, Copy, Debug, PartialEq, Eq)]
+pub enum Argument {
+    /// An expression, whose value it is.
+    Value(ExprId),
+    /// `sf t`: a term, which is a process.
+    Process(TermId),
+}
+
 /// A primitive, with the ids of its constants.
 #[derive(Clone, Copy, Debug, PartialEq, Eq)]
 pub enum Primitive {
@@ -45,6 +58,8 @@ pub enum Node {
     Primitive(Primitive),
     /// `run k`: the process of a name, which stands at a place of its own.
     Run(NameId, Spot),
+    /// `g(..)`: a call of the template of a name, with which the term begins, on arguments.
+    Call(NameId, ArgumentsId),
     /// Two terms joined, the first and the second.
     Joined(Join, TermId, TermId),
     /// A term on one part of a pair.

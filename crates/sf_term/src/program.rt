@@ -1,5 +1,5 @@
 //! Programs: terms and templates, in an arena.
-ghost use Rattle.std.specs.Prelude.{◌≡◌, ◌<◌, ◌≤◌, ◌↔◌, max, IfOk, OnOk, OnErr, [], length, string_bytes, All};
+ghost use Rattle.std.specs.Prelude.{◌≡◌, ◌<◌, ◌≤◌, ◌↔◌, max, IfOk, IfErr, OnOk, OnErr, [], length, string_bytes, All};
 ghost use Rattle.sf_lex.specs.Words.{IsName};
 ghost use Rattle.sf_expr.specs.Expressions.{variable, literal, int_literal, paired, applied as applied_of, operation as operation_of, conditional as conditional_of};
 ghost use Rattle.sf_expr.specs.Expressions.{mapped as mapped_of, folded as folded_of, called as called_of, pattern_depth};
@@ -10,15 +10,16 @@ ghost use Rattle.sf_expr.specs.declared.exprs.ExprNode.TheVariants as expression
 ghost use Rattle.sf_term.specs.Headers.{bodies_end};
 ghost use Rattle.sf_arena.specs.Arenas.{entries_of};
 ghost use Rattle.sf_term.specs.Entries.{AreTerms};
-ghost use Rattle.sf_term.specs.Names.{HasNames};
+ghost use Rattle.sf_term.specs.Names.{HasNames, AreNamed};
 ghost use Rattle.sf_term.specs.declared.node.Node.TheVariants as terms;
-ghost use Rattle.sf_term.specs.Trees.{primitive as primitive_of, never as never_of, run as run_of, switching as switching_of, keeping as keeping_of, term_depth as depth_of};
+ghost use Rattle.sf_term.specs.Trees.{primitive as primitive_of, never as never_of, reference as reference_of, run as run_of, call as call_of, arguments_depth as arguments_depth_of, switching as switching_of, keeping as keeping_of, term_depth as depth_of};
 
+use crate::argument::{StoredArguments, clone_lists};
 use crate::form::{Bare, Observation, Switching};
-use crate::names::has_names;
-use crate::node::{Node, Primitive, TermId};
+use crate::names::{are_named, has_names};
+use crate::node::{Argument, ArgumentsId, Node, Primitive, TermId};
 use crate::refusal::BuildRefusal;
-use crate::template::{Template, clone_all};
+use crate::template::{Parameter, Template, clone_all};
 use sf_arena::{Arena, Entry};
 use sf_expr::{
     Constant, ExprId, ExprNode, Exprs, Folding, FunctionId, Mapping, Operator, Pat, PatternId,
@@ -34,8 +35,9 @@ use std::alloc::{AllocError, Global};
 pub struct Program {
     expressions: Exprs,
     terms: Arena<Node>,
+    arguments: Vec<StoredArguments>,
     templates: Vec<Template>,
-    ghost arena: { AreTerms expressions (entries_of terms) },
+    ghost arena: { AreTerms (record { expressions = expressions; arguments = arguments.items }) (entries_of terms) },
     ghost bodies: { bodies_end templates.items ≤ length (entries_of terms) },
 }
 
@@ -43,6 +45,7 @@ impl Program {
     ghost use Rattle.sf_term.specs.Arena.{term_count, expression_count, HoldsTerm, HoldsExpression, ProgramHoldsFunction};
     ghost use Rattle.sf_term.specs.Arena.{tree, expression_under, function_in, term_entry_of, term_node_at, term_spot_at, term_of, term_number};
     ghost use Rattle.sf_term.specs.Arena.{expressions_of, headers_of, HoldsPatternIn, pattern_under, TermPartsBelow, HoldsTermParts};
+    ghost use Rattle.sf_term.specs.Arena.{HoldsArgument, HoldsArguments, arguments_under, arguments_of, next_arguments};
     ghost use Rattle.sf_term.specs.Arena.{AddsTerm, AddsExpression, AddsProgramFunction, AddsTemplate, IsSameProgram, IsProgramCopy};
 
     /// No term, no expression and no template.
@@ -55,6 +58,7 @@ impl Program {
         Program {
             expressions: Exprs::new(alloc),
             terms: Arena::new(alloc),
+            arguments: Vec::new(alloc),
             templates: Vec::new(alloc),
         }
     }
@@ -112,7 +116,25 @@ impl Program {
                 let terms = watched.max(self.depth(body));
                 1 + terms.max(self.expressions.pattern_depth(pattern))
             }
+            Node::Call(_, arguments) => 1 + self.depth_in(self.arguments(arguments)),
         }
+    }
+
+    // How many terms and expressions stand one inside another in arguments.
+    #[tactic(auto, unfolding(crate::specs::Arena::expression_under))]
+    fn depth_in(&self, arguments: &[Argument]) -> u32
+        ensures value { result ≡ arguments_depth_of (arguments_of self.now arguments.now) }
+        ensures bound { result ≤ 64 }
+    {
+        let mut depth = 0;
+        for argument in arguments {
+            let part = match argument {
+                Argument::Value(value) => self.expressions.depth(*value),
+                Argument::Process(term) => self.depth(*term),
+            };
+            depth = part.max(depth);
+        }
+        depth
     }
 
     /// Adds the expression of a node, whose parts are held. Refused with `TooMany` where 100,000 expressions are there,
@@ -586,7 +608,7 @@ impl Program {
     #[tactic(auto, unfolding(crate::specs::Arena::term_count))]
     pub fn run(&mut self, process: String, place: Spot, spot: Spot) -> Result<TermId, BuildRefusal>
         ensures ok { let next = next_name (expressions_of self.old) in
-            IfOk result (λ id. AddsTerm self.old self.new id (terms.Run next place) (run_of (string_bytes process)) spot) }
+            IfOk result (λ id. AddsTerm self.old self.new id (terms.Run next place) (reference_of (run_of (string_bytes process))) spot) }
         ensures named { OnOk result (IsName (string_bytes process)) }
         ensures many { result ≡ Err BuildRefusal.TooMany ↔ 100000 ≤ term_count self.old }
         ensures not_deep { ¬ (result ≡ Err BuildRefusal.TooDeep) }
@@ -603,6 +625,63 @@ impl Program {
             Ok(name) => self.add(Node::Run(name, place), spot),
             Err(_) => Err(BuildRefusal::Memory),
         }
+    }
+
+    /// Adds a call of the template of a name, with which it begins, on arguments to the terms. Refused with `TooMany` where
+    /// 100,000 terms are there, then with `TooDeep` where more than 64 terms and expressions would stand one inside another,
+    /// then with `BadName` where it is no name of the language, and with `Memory`. A refused call changes nothing.
+    #[tactic(auto, unfolding(crate::specs::Arena::expressions_of, crate::specs::Arena::term_count))]
+    pub fn call(
+        &mut self,
+        template: String,
+        arguments: Vec<Argument>,
+        spot: Spot,
+    ) -> Result<TermId, BuildRefusal>
+        requires { All (HoldsArgument self.old) arguments.items }
+        ensures ok { let name = next_name (expressions_of self.old) in
+            let next = next_arguments self.old in
+            let whole = reference_of (call_of (string_bytes template) (arguments_of self.old arguments.items)) in
+            IfOk result (λ id. AddsTerm self.old self.new id (terms.Call name next) whole spot) }
+        ensures placed { let next = next_arguments self.old in
+            OnOk result (HoldsArguments self.new next × (arguments_under self.new next ≡ arguments.items)) }
+        ensures named { OnOk result (IsName (string_bytes template)) }
+        ensures many { result ≡ Err BuildRefusal.TooMany ↔ 100000 ≤ term_count self.old }
+        ensures deep { let whole = reference_of (call_of (string_bytes template) (arguments_of self.old arguments.items)) in
+            result ≡ Err BuildRefusal.TooDeep ↔ (term_count self.old < 100000) × (64 < depth_of whole) }
+        ensures bad_name { let whole = reference_of (call_of (string_bytes template) (arguments_of self.old arguments.items)) in
+            result ≡ Err BuildRefusal.BadName ↔ (term_count self.old < 100000) × (depth_of whole ≤ 64) × ¬ IsName (string_bytes template) }
+        ensures err { OnErr result (IsSameProgram self.old self.new) }
+    {
+        if 100_000 <= self.terms.len() {
+            return Err(BuildRefusal::TooMany);
+        }
+        if 64 <= self.depth_in(&arguments) {
+            return Err(BuildRefusal::TooDeep);
+        }
+        if !is_name(template.as_bytes()) {
+            return Err(BuildRefusal::BadName);
+        }
+        match self.expressions.name(template) {
+            Ok(name) => match self.place_arguments(arguments) {
+                Ok(id) => self.add(Node::Call(name, id), spot),
+                Err(refusal) => Err(refusal),
+            },
+            Err(_) => Err(BuildRefusal::Memory),
+        }
+    }
+
+    // Puts the arguments of a call beside the terms. Refused with `Memory` alone.
+    fn place_arguments(&mut self, arguments: Vec<Argument>) -> Result<ArgumentsId, BuildRefusal>
+        ensures next { IfOk result (λ id. id ≡ next_arguments self.old) }
+        ensures within { IfOk result (λ id. HoldsArguments self.new id) }
+        ensures is { IfOk result (λ id. arguments_under self.new id ≡ arguments.items) }
+        ensures memory { IfErr result (λ refusal. refusal ≡ BuildRefusal.Memory) }
+        ensures same { IsSameProgram self.old self.new }
+        ensures expressions { expressions_of self.new ≡ expressions_of self.old }
+    {
+        let id = ArgumentsId(self.arguments.len());
+        self.arguments.push(StoredArguments::new(arguments))?;
+        Ok(id)
     }
 
     /// Adds `never` for payloads of a type to the terms. Refused with `TooMany` where 100,000 terms are there, and with
@@ -625,30 +704,32 @@ impl Program {
         }
     }
 
-    /// Puts a template behind the others. Refused with `BadName` where its name is no name of the language, and with
-    /// `Memory`. A refused call changes nothing.
+    /// Puts a template behind the others. Refused with `BadName` where its name or that of a parameter is no name of the
+    /// language, and with `Memory`. A refused call changes nothing.
     pub fn template(
         &mut self,
         name: String,
         spot: Spot,
+        parameters: Vec<Parameter>,
         input: Ty,
         output: Ty,
         body: TermId,
     ) -> Result<(), BuildRefusal>
         requires { HoldsTerm self.old body }
         ensures ok { OnOk result (AddsTemplate self.old self.new
-            (record { name = string_bytes name; spot = spot; input = input; output = output; body = body })) }
-        ensures named { OnOk result (IsName (string_bytes name)) }
-        ensures bad_name { result ≡ Err BuildRefusal.BadName ↔ ¬ IsName (string_bytes name) }
+            (record { name = string_bytes name; spot = spot; parameters = parameters.items; input = input; output = output; body = body })) }
+        ensures named { OnOk result (IsName (string_bytes name) × AreNamed parameters.items) }
+        ensures bad_name { result ≡ Err BuildRefusal.BadName ↔ ¬ (IsName (string_bytes name) × AreNamed parameters.items) }
         ensures not_many { ¬ (result ≡ Err BuildRefusal.TooMany) }
         ensures not_deep { ¬ (result ≡ Err BuildRefusal.TooDeep) }
         ensures err { OnErr result (IsSameProgram self.old self.new) }
     {
-        if !is_name(name.as_bytes()) {
+        let all_named = is_name(name.as_bytes()) && are_named(&parameters);
+        if !all_named {
             return Err(BuildRefusal::BadName);
         }
         self.templates
-            .push(Template::new(name, spot, input, output, body))?;
+            .push(Template::new(name, spot, parameters, input, output, body))?;
         Ok(())
     }
 
@@ -658,10 +739,12 @@ impl Program {
     {
         let expressions = self.expressions.clone_in(alloc)?;
         let terms = self.terms.clone_in(alloc)?;
+        let arguments = clone_lists(alloc, &self.arguments)?;
         let templates = clone_all(alloc, &self.templates)?;
         Ok(Program {
             expressions,
             terms,
+            arguments,
             templates,
         })
     }
@@ -688,10 +771,21 @@ impl Program {
     pub fn node(&self, id: TermId) -> Node
         ensures value { result ≡ term_node_at self.now id }
         ensures builds { tree self.now id ≡ term_of self.now result }
-        ensures below { TermPartsBelow result (term_number id) }
+        ensures below { TermPartsBelow self.now result (term_number id) }
         ensures held { HoldsTermParts self.now result }
     {
         self.entry(id).node
+    }
+
+    /// The arguments at an id, in order; none at an id that the program does not hold.
+    #[tactic(auto, unfolding(crate::specs::Arena::arguments_under))]
+    pub fn arguments(&self, id: ArgumentsId) -> &[Argument]
+        ensures { result.now ≡ arguments_under self.now id }
+    {
+        match self.arguments.get(id.0) {
+            Some(arguments) => arguments.items(),
+            None => &[],
+        }
     }
 
     /// Where the term at an id stands in the text; `Spot::NONE` at an id that the program does not hold.

@@ -1,10 +1,12 @@
-//! Engines that return to what they kept, and that run a list of steps: each call once.
+//! Engines that return to what they kept, that run a list of steps, and that have an actuator: each call once.
+ghost use Rattle.std.specs.Prelude.{◌≡◌, ◌↔◌, IsTrue};
+ghost use Rattle.sf_value.specs.Values.{number};
 
 use sf_check::{Checked, check};
-use sf_engine::{Embedded, Engine, EngineError, Mode, Sample};
+use sf_engine::{Actuator, Embedded, Engine, EngineError, Mode, React, Sample};
 use sf_func::{Holds, Registry};
 use sf_text::read_network;
-use sf_value::{Value, same};
+use sf_value::{Form, Value, same};
 use std::alloc::Global;
 use std::test::Fail;
 
@@ -84,5 +86,52 @@ fn a_list_of_steps_ends_at_the_first_error(rt: HostRuntime) -> Result<(), Fail> 
     for (sample, (time, number)) in run.samples.iter().zip([(0, 7), (16, 1)]) {
         assert!(rt; is_sample(sample, time, number));
     }
+    Ok(())
+}
+
+/// The end at a number.
+#[derive(Drop)]
+struct EndsAt {
+    number: i64,
+}
+
+impl Actuator for EndsAt {
+    ghost acts = { λ a s answer b. (IsTrue answer ↔ (s.value ≡ number a.number)) × (b ≡ a) };
+
+    fn act(&mut self, sample: &Sample) -> bool {
+        match sample.value.form() {
+            Form::Int(n) => *n == self.number,
+            _ => false,
+        }
+    }
+}
+
+/// What an engine with an actuator answers to a step before its start, to a start with 1, and to steps to 2 and 3.
+fn reacted<F: Holds + Drop, A: Actuator>(
+    alloc: Global,
+    checked: Checked,
+    functions: F,
+    actuator: A,
+) -> Result<(Option<EngineError>, bool, bool, bool), Fail> {
+    let Ok(engine) = Engine::new(alloc, checked, functions, Mode::Plain) else {
+        return Err(Fail::new("no memory"));
+    };
+    let mut react = React::new(engine, actuator);
+    let early = react.react(16, None).err();
+    let first = react.react_init(Value::int(1))?;
+    let second = react.react(16, Some(Value::int(2)))?;
+    let third = react.react(16, Some(Value::int(3)))?;
+    Ok((early, first, second, third))
+}
+
+#[test]
+fn an_actuator_ends_a_run(rt: HostRuntime) -> Result<(), Fail> {
+    let alloc = rt.alloc();
+    let functions = Registry::new(alloc);
+    let network = checked(alloc, DELAY, &functions)?;
+    let actuator: Box<dyn Actuator> = Box::new(alloc, EndsAt { number: 2 })?;
+    let (early, first, second, third) = reacted(alloc, network, functions, actuator)?;
+    assert_eq!(rt; early, Some(EngineError::NotStarted));
+    assert!(rt; !first && !second && third);
     Ok(())
 }

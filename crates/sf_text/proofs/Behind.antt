@@ -1,7 +1,7 @@
 -- A template behind those that were read.
 use Rattle.std.proofs.Common.{◌≡◌, ℕ, ◌+◌, ◌-◌, ◌<◌, ◌≤◌, List, [], ◌∷◌, ◌++◌, length, take, drop, map, refl, sym, ◌∙◌, ap, append_assoc, subst, arith}
 use Rattle.std.specs.List.{All}
-use Rattle.std.proofs.lemmas.List.{length-append, length-drop, length-map, flat_map_more, take-append-drop, take_rest, drop_at, drop-map, drop_all, append-nil}
+use Rattle.std.proofs.lemmas.List.{length-append, length-drop, length-map, flat_map_more, take-append-drop, drop_all, append-nil}
 use Rattle.std.proofs.lemmas.List.Elements.{All-append, All-cons, All-nil}
 use Rattle.std.proofs.lemmas.List.Sums.{sum_by_push}
 use Rattle.sf_term.specs.declared.program.Program.{Program}
@@ -10,7 +10,7 @@ use Rattle.sf_term.specs.Headers.{Header}
 use Rattle.sf_term.specs.Arena.{templates_of, headers_of, template_in, term_count, expression_count}
 use Rattle.sf_term.proofs.Kept.{few_terms, few_program_expressions}
 use Rattle.sf_lex.specs.declared.token.PlacedToken.{PlacedToken}
-use Rattle.sf_lex.specs.Tokens.{Tok, token_of}
+use Rattle.sf_lex.specs.Tokens.{Tok}
 use Rattle.sf_parse.specs.declared.stop.Stop.{Stop}
 use Rattle.sf_parse.specs.declared.stop.Stop.TheVariants.{At as At', Memory}
 use Rattle.sf_grammar.specs.declared.ty.Version.{Version}
@@ -24,6 +24,7 @@ use Rattle.sf_grammar.specs.Placing.{TemplatesPlaced, none_placed}
 use Rattle.sf_parse.specs.Consuming.{places, Consumes}
 use Rattle.sf_text.specs.Consuming.{PlacesTemplate}
 use Rattle.sf_text.proofs.Placed.{templates_keep, templates_more}
+use Rattle.sf_text.proofs.Slices.{ends, toks_from, places_from}
 use Rattle.sf_grammar.proofs.Takes.{TookTemplate, template_takes}
 
 took : (v : Version) (old new : Program) (rest behind : List Tok) (f : FoundTemplate old new behind (parse_template v (counts_of old) rest)) → TookTemplate v (counts_of old) rest f.template behind
@@ -60,19 +61,6 @@ pub record At (v : Version) (tokens : List Tok) (p : Program) (at : ℕ) : Type 
   pub within : at ≤ length tokens
   pub behind : Behind v tokens p (drop at tokens)
 
--- the end of a list, by its length
-ends : {A : Type 0} (xs front ys zs : List A) → xs ≡ front ++ (ys ++ zs) → drop (length xs - length zs) xs ≡ zs
-ends xs front ys zs same = drop-end
-  where
-    split : xs ≡ (front ++ ys) ++ zs
-    split = same ∙ sym (append_assoc front ys zs)
-
-    counted : length (front ++ ys) ≡ length xs - length zs
-    counted = omega (arith, simp length-append at (ap length split), length-append front ys)
-
-    drop-end : drop (length xs - length zs) xs ≡ zs
-    drop-end = ap (drop (length xs - length zs)) split ∙ drop_at (front ++ ys) zs (length xs - length zs) counted
-
 pub at_more : (v : Version) (tokens behind : List Tok) (at : ℕ) (old new : Program) → At v tokens old at → FoundTemplate old new behind (parse_template v (counts_of old) (drop at tokens))
     → At v tokens new (length tokens - length behind)
 at_more v tokens behind at old new a f =
@@ -82,14 +70,6 @@ at_more v tokens behind at old new a f =
       within = omega arith;
       behind = subst (Behind v tokens new) (sym (ends tokens (take at tokens) (spell_template v f.template) behind whole)) (behind_more v tokens (drop at tokens) behind old new a.behind f);
     }
-
--- tokens from an index on, as a slice
-pub toks_from : (tokens : List PlacedToken) (at : ℕ) → toks (take (length tokens - at) (drop at tokens)) ≡ drop at (toks tokens)
-toks_from tokens at = ap toks (take_rest tokens at) ∙ sym (drop-map (λ (p : PlacedToken). token_of p.token) at tokens)
-
--- the places of tokens from an index on, as a slice
-places_from : (tokens : List PlacedToken) (at : ℕ) → places (take (length tokens - at) (drop at tokens)) ≡ drop at (places tokens)
-places_from tokens at = ap places (take_rest tokens at) ∙ sym (drop-map (λ (p : PlacedToken). p.spot) at tokens)
 
 -- the templates in front of an index were read, and stand where their tokens do
 pub record Reached (v : Version) (tokens : List PlacedToken) (p : Program) (at : ℕ) : Type 0 where

@@ -15,13 +15,14 @@ use Rattle.sf_term.specs.declared.form.Observation.{Observation}
 use Rattle.sf_term.specs.declared.form.Switching.{Switching}
 use Rattle.sf_term.specs.declared.node.TermId.{TermId}
 use Rattle.sf_term.specs.declared.node.Node.{Node}
+use Rattle.sf_term.specs.declared.node.Argument.{Argument}
 use Rattle.sf_term.specs.declared.program.Program.{Program}
 use Rattle.sf_term.specs.declared.refusal.BuildRefusal.{BuildRefusal}
 use Rattle.sf_term.specs.declared.refusal.BuildRefusal.TheVariants as refusals
-use Rattle.sf_lex.specs.Words.{IsName}
-use Rattle.sf_term.specs.Trees.{terms_with_value, Term, primitive, never, with_value, timed, arrow, accumulated, run, joined, sided, switching, keeping, term_depth, terms_in, expressions_in}
+use Rattle.sf_term.specs.Trees.{terms_with_value, Term, primitive, never, with_value, timed, arrow, accumulated, run, joined, sided, switching, keeping, reference, call, no_arguments, term_depth, terms_in, expressions_in}
 use Rattle.sf_term.specs.Names.{HasNames}
-use Rattle.sf_term.specs.Arena.{tree, term_of, term_node_at, expression_under as expression_in, function_in, term_count, expression_count, KeepsProgram, AddsTerm}
+use Rattle.sf_term.specs.Parameters.{NameKind}
+use Rattle.sf_term.specs.Arena.{tree, arguments_of, term_of, term_node_at, expression_under as expression_in, function_in, term_count, expression_count, KeepsProgram, AddsTerm}
 use Rattle.sf_term.proofs.Kept.{few_program_expressions, keeps_trans}
 use Rattle.sf_refusal.specs.declared.spot.Spot.{Spot}
 use Rattle.sf_lex.specs.declared.symbol.Symbol.TheVariants as symbols
@@ -30,10 +31,10 @@ use Rattle.sf_lex.specs.Tokens.{Tok}
 use Rattle.sf_grammar.specs.declared.ty.Version.{Version}
 use Rattle.sf_parse.specs.declared.stop.Stop.{Stop}
 use Rattle.sf_grammar.specs.Spelling.{stands_initially, head_makes}
-use Rattle.sf_grammar.specs.Reading.{parse_number, parse_never, parse_timed, Read, got, Counts, counts_with, counts_with_expression, parse_symbol, parse_inner_type, parse_pattern, parse_expression, parse_function, parse_value, parse_arrow, parse_accumulated, parse_sided, parse_headed, parse_body, parse_switching, parse_name, parse_run, parse_keeping, term_read, parse_join, parse_joined, parse_term}
+use Rattle.sf_grammar.specs.Reading.{parse_number, parse_never, parse_timed, Read, got, Counts, counts_with, counts_with_expression, parse_symbol, parse_inner_type, parse_pattern, parse_expression, parse_function, parse_value, parse_arrow, parse_accumulated, parse_sided, parse_headed, parse_body, parse_switching, parse_name, parse_run, parse_keeping, parse_listed, parse_arguments, parse_call, parse_name_kind, parse_parameter, term_read, parse_join, parse_joined, parse_term}
 use Rattle.sf_parse.specs.Answers.{StopsReading, FoundExpression, FoundFunction, counts_of, stop_for, toks}
-use Rattle.sf_text.specs.Answers.{FoundTerm, FoundBody}
-use Rattle.sf_grammar.proofs.Takes.{HeadMakes, with_pre, stays_headed, head_view, TookFunction, Took, TookBody, function_takes, body_takes, term_takes}
+use Rattle.sf_text.specs.Answers.{FoundTerm, FoundBody, FoundArguments}
+use Rattle.sf_grammar.proofs.Takes.{HeadMakes, with_pre, stays_headed, head_view, TookFunction, Took, TookBody, TookListed, function_takes, body_takes, arguments_take, term_takes}
 use Rattle.sf_text.specs.Consuming.{headed_node}
 use Rattle.sf_text.proofs.Placed.{headed_makes}
 use Rattle.sf_parse.proofs.Found.{refused_as_read, read_within, expression_taken, behind_expression}
@@ -227,9 +228,9 @@ switching_ready v {old} {one} {two} {start} {r0} {r1} {r2} {r3} {rest} {a} {b} {
     }
 
 -- the process of a name
-pub run_ready : {old : Program} {start rest : List Tok} {k n : Name} (tokens : List Tok) → parse_name tokens ≡ got k rest → n ≡ k → Ready old old (run n) start rest (parse_run (counts_of old) start tokens)
+pub run_ready : {old : Program} {start rest : List Tok} {k n : Name} (tokens : List Tok) → parse_name tokens ≡ got k rest → n ≡ k → Ready old old (reference (run n)) start rest (parse_run (counts_of old) start tokens)
 unfolding parse_run
-run_ready {k = k} tokens named bytes = record { term = run k; is = rw named refl; same = ap run bytes; shallow = omega arith; terms = omega arith; expressions = omega arith }
+run_ready {k = k} tokens named bytes = record { term = reference (run k); is = rw named refl; same = ap (λ (k : Name). reference (run k)) bytes; shallow = omega arith; terms = omega arith; expressions = omega arith }
 
 -- a term that gives way to another, which knows it by a name
 pub keeping_ready : (v : Version) {old one two three : Program} {start r0 r1 r2 r3 r4 r5 r6 r7 rest : List Tok} {a b c : TermId} {k n : Name} {p : Pattern} {w : Observation} (d : ℕ) (tokens : List Tok) → d ≤ 63 → parse_symbol symbols.Open tokens ≡ got tt r0
@@ -256,6 +257,22 @@ keeping_ready v {old} {one} {two} {three} {start} {r0} {r1} {r2} {r3} {r4} {r5} 
       expressions = omega (arith, f.expressions, g.expressions, h.expressions);
     }
 
+-- a call of a template
+pub call_ready : (v : Version) {old mid : Program} {r0 r1 rest : List Tok} {bs : List Argument} {g n : Name} (d : ℕ) (tokens : List Tok) → d ≤ 63 → parse_name tokens ≡ got g r0 → parse_symbol symbols.Open r0 ≡ got tt r1
+    → FoundArguments old mid bs rest (parse_listed no_arguments (λ ts. parse_arguments (suc (length ts)) d v (parse_term d v) (counts_of old) ts) r1) → n ≡ g
+    → Ready old mid (reference (call n (arguments_of mid bs))) tokens rest (parse_call d v (parse_term d v) (counts_of old) tokens)
+unfolding parse_call
+call_ready v {old} {mid} {r0} {r1} {rest} {bs} {g} {n} d tokens small named opening f bytes =
+    let took : TookListed v d (counts_of old) r1 f.value rest = arguments_take v d (counts_of old) r1 f.value rest (term_takes v d) (few_program_expressions old) f.is in
+    record {
+      term = reference (call g f.value);
+      is = rw (named, opening, f.is) refl;
+      same = rw (bytes, f.same) refl;
+      shallow = omega (arith, took.shallow);
+      terms = omega (arith, f.terms);
+      expressions = f.expressions;
+    }
+
 -- two terms joined
 pub joined_ready : (v : Version) {old one two : Program} {start r1 r2 r3 rest : List Tok} {a b : TermId} {j : Join} (d : ℕ) (tokens : List Tok) → d ≤ 63 → FoundTerm old one a r1 (parse_term d v (counts_of old) tokens)
     → parse_join r1 ≡ got j r2 → FoundTerm one two b r3 (parse_term d v (counts_of one) r2) → parse_symbol symbols.Close r3 ≡ got tt rest
@@ -276,10 +293,16 @@ joined_ready v {old} {one} {two} {start} {r1} {r2} {r3} {rest} {a} {b} {j} d tok
       expressions = omega (arith, f.expressions, g.expressions);
     }
 
--- a program takes each template whose name is one
-pub template_refused : {A : Type 0} (refusal : BuildRefusal) (left : ℕ) (n : Name) (read : Read A) → IsName n
-    → (refusal ≡ refusals.BadName → ¬ IsName n) → (refusal ≡ refusals.TooMany → ⊥) → (refusal ≡ refusals.TooDeep → ⊥) → StopsReading (stop_for refusal left) read
-template_refused refusals.BadName left n read named bad many deep = absurd (bad refl named)
-template_refused refusals.TooMany left n read named bad many deep = absurd (many refl)
-template_refused refusals.TooDeep left n read named bad many deep = absurd (deep refl)
-template_refused refusals.Memory left n read named bad many deep = tt
+-- a parameter
+pub parameter_found : (v : Version) {r0 r1 rest : List Tok} {x n : Name} {k : NameKind} (tokens : List Tok) → parse_name tokens ≡ got x r0 → parse_symbol symbols.Colon r0 ≡ got tt r1 → parse_name_kind v r1 ≡ got k rest → n ≡ x
+    → parse_parameter v tokens ≡ got (n, k) rest
+unfolding parse_parameter
+parameter_found v tokens name colon kind bytes = rw (name, colon, kind, bytes) refl
+
+-- a program takes each template whose names are names
+pub template_refused : {A Named : Type 0} (refusal : BuildRefusal) (left : ℕ) (read : Read A) → Named
+    → (refusal ≡ refusals.BadName → ¬ Named) → (refusal ≡ refusals.TooMany → ⊥) → (refusal ≡ refusals.TooDeep → ⊥) → StopsReading (stop_for refusal left) read
+template_refused refusals.BadName left read named bad many deep = absurd (bad refl named)
+template_refused refusals.TooMany left read named bad many deep = absurd (many refl)
+template_refused refusals.TooDeep left read named bad many deep = absurd (deep refl)
+template_refused refusals.Memory left read named bad many deep = tt

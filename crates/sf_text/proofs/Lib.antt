@@ -1,6 +1,8 @@
+pub mod Slices
 pub mod Placed
 pub mod Deeper
 pub mod Found
+pub mod Lists
 pub mod Behind
 pub mod Whole
 pub mod Places

@@ -1,5 +1,8 @@
 -- Terms and templates stay where they stand, and stand at their first token.
-use Rattle.std.proofs.Common.{◌≡◌, ℕ, suc, false, List, [], ◌∷◌, ◌++◌, length, map, refl, sym, ◌∙◌, ap, append_assoc, subst, ℤ}
+use Rattle.std.proofs.Common.{◌≡◌, ◌≢◌, ℕ, suc, false, List, [], ◌∷◌, ◌++◌, length, map, Result, Ok, Err, Bor, refl, sym, ◌∙◌, ap, append_assoc, subst, ℤ}
+use Rattle.std.specs.Prelude.{IfOk, Vec}
+use Rattle.std.specs.declared.alloc.Global.{Global}
+use Rattle.sf_parse.specs.declared.stop.Stop.{Stop}
 use mathlib.Core.Path.{ap₂}
 use Rattle.std.proofs.lemmas.List.{append-nil}
 use Rattle.sf_refusal.specs.declared.spot.Spot.{Spot}
@@ -22,6 +25,10 @@ use Rattle.sf_term.specs.declared.form.Heading.TheVariants as headings
 use Rattle.sf_term.specs.declared.form.Observation.{Observation}
 use Rattle.sf_term.specs.declared.form.Switching.{Switching}
 use Rattle.sf_term.specs.declared.node.TermId.{TermId}
+use Rattle.sf_term.specs.declared.node.ArgumentsId.{ArgumentsId}
+use Rattle.sf_term.specs.declared.node.Argument.{Argument}
+use Rattle.sf_term.specs.declared.node.Argument.TheVariants as arguments
+use Rattle.sf_term.specs.Parameters.{PlacedParameter, binding_of}
 use Rattle.sf_term.specs.declared.node.Primitive.{Primitive}
 use Rattle.sf_term.specs.declared.node.Primitive.TheVariants as primitives
 use Rattle.sf_term.specs.declared.node.Node.{Node}
@@ -29,19 +36,19 @@ use Rattle.sf_term.specs.declared.node.Node.TheVariants as nodes
 use Rattle.sf_term.specs.declared.program.Program.{Program}
 use Rattle.sf_term.specs.Trees.{Term, headed, primitive, never}
 use Rattle.sf_term.specs.Headers.{Header}
-use Rattle.sf_term.specs.Arena.{KeepsTrees, KeepsProgram, HoldsPatternIn, tree, term_of, term_node_at, expression_under, pattern_under, AddsTerm, AddsTemplate, headers_of, template_in}
-use Rattle.sf_term.proofs.Kept.{keeps_trees_trans, node_builds}
+use Rattle.sf_term.specs.Arena.{KeepsTrees, KeepsProgram, HoldsTerm, HoldsTermParts, HoldsPatternIn, HoldsArguments, tree, term_of, term_entry_of, term_node_at, expression_under, pattern_under, arguments_under, AddsTerm, AddsTemplate, headers_of, template_in}
+use Rattle.sf_term.proofs.Kept.{keeps_trees_trans, node_builds, parts_held}
 use Rattle.sf_value.specs.Values.{Kind}
 use Rattle.sf_lex.specs.Tokens.{Tok, Located, seen, shown, place_at, symbol}
 use Rattle.sf_lex.specs.Cutting.{AreTokensOf}
 use Rattle.sf_lex.specs.declared.symbol.Symbol.TheVariants as symbols
 use Rattle.sf_grammar.specs.declared.ty.Version.{Version}
-use Rattle.sf_grammar.specs.Spelling.{stands_initially, head_makes, spell_type, spell_signature, spell_term}
-use Rattle.sf_grammar.specs.Reading.{got, parse_inner_type, parse_signature}
+use Rattle.sf_grammar.specs.Spelling.{stands_initially, head_makes, spell_type, spell_parameter, spell_signature, spell_term}
+use Rattle.sf_grammar.specs.Reading.{got, parse_inner_type, parse_parameter, parse_signature}
 use Rattle.sf_parse.specs.Answers.{toks}
-use Rattle.sf_grammar.proofs.Takes.{TookType, inner_type_takes, TookSignature, signature_takes}
+use Rattle.sf_grammar.proofs.Takes.{TookType, inner_type_takes, parameter_takes, TookSignature, signature_takes}
 use Rattle.sf_lex.specs.declared.token.PlacedToken.{PlacedToken}
-use Rattle.sf_grammar.specs.Placing.{around, PatternPlaced, ExpressionPlaced, FunctionPlaced, TermStands, TermPlaced, bare_placed, never_placed, with_value_placed, initialized_placed, timed_placed, arrow_placed, accumulated_placed, joined_placed, sided_placed, headed_placed, switching_placed, run_placed, keeping_placed, TemplatePlaced, TemplatesPlaced, none_placed, template_placed, NetworkPlaced, IsPlacedIn}
+use Rattle.sf_grammar.specs.Placing.{around, PatternPlaced, ExpressionPlaced, FunctionPlaced, TermStands, TermPlaced, bare_placed, never_placed, with_value_placed, initialized_placed, timed_placed, arrow_placed, accumulated_placed, joined_placed, sided_placed, headed_placed, switching_placed, run_placed, keeping_placed, call_placed, ArgumentsPlaced, no_arguments_placed, some_arguments_placed, EachArgumentPlaced, no_argument_placed, argument_placed, ArgumentPlaced, value_argument_placed, process_argument_placed, ParameterPlaced, EachParameterPlaced, ParametersPlaced, no_parameters_placed, some_parameters_placed, TemplatePlaced, TemplatesPlaced, none_placed, template_placed, NetworkPlaced, IsPlacedIn}
 use Rattle.sf_text.specs.Progress.{IsSpelled}
 use Rattle.sf_text.proofs.Whole.{toks_same}
 use Rattle.sf_parse.specs.Consuming.{places, BehindOne, BehindSome, NamePlaced, Consumes, Parted}
@@ -51,27 +58,47 @@ use Rattle.sf_parse.proofs.Placed.{pattern_stays, expression_keeps, function_kee
 term_stays : (old new : Program) → KeepsTrees old new → (id : TermId) (n : Node) (at : Spot) → TermStands old id n at → TermStands new id n at
 term_stays old new k id n at s = record { held = k.terms id s.held; node = k.nodes id s.held ∙ s.node; spot = k.spots id s.held ∙ s.spot }
 
-pub term_keeps : (v : Version) (old new : Program) → KeepsTrees old new → (id : TermId) (xs : List Spot) → TermPlaced v old id xs → TermPlaced v new id xs
-term_keeps v old new k id xs (bare_placed s) = bare_placed (term_stays old new k _ _ _ s)
-term_keeps v old new k id xs (never_placed s counted) =
-    never_placed (term_stays old new k _ _ _ s) (counted ∙ ap (λ (t : Term). length (spell_term v t)) (sym (k.trees id s.held)))
-term_keeps v old new k id xs (with_value_placed behind s value) = with_value_placed behind (term_stays old new k _ _ _ s) (expression_keeps v old new k _ _ value)
-term_keeps v old new k id xs (initialized_placed opening comma word closing front s value) =
-    initialized_placed opening comma word closing front (term_stays old new k _ _ _ s) (expression_keeps v old new k _ _ value)
-term_keeps v old new k id xs (timed_placed time s value) = timed_placed time (term_stays old new k _ _ _ s) (expression_keeps v old new k _ _ value)
-term_keeps v old new k id xs (arrow_placed s function) = arrow_placed (term_stays old new k _ _ _ s) (function_keeps v old new k _ _ function)
-term_keeps v old new k id xs (accumulated_placed opening comma closing s value function) =
-    accumulated_placed opening comma closing (term_stays old new k _ _ _ s) (expression_keeps v old new k _ _ value) (function_keeps v old new k _ _ function)
-term_keeps v old new k id xs (joined_placed between closing s one two) =
-    joined_placed between closing (term_stays old new k _ _ _ s) (term_keeps v old new k _ _ one) (term_keeps v old new k _ _ two)
-term_keeps v old new k id xs (sided_placed s part) = sided_placed (term_stays old new k _ _ _ s) (term_keeps v old new k _ _ part)
-term_keeps v old new k id xs (headed_placed opening comma closing s value part) =
-    headed_placed opening comma closing (term_stays old new k _ _ _ s) (expression_keeps v old new k _ _ value) (term_keeps v old new k _ _ part)
-term_keeps v old new k id xs (switching_placed opening comma leads closing s source pattern body) =
-    switching_placed opening comma leads closing (term_stays old new k _ _ _ s) (term_keeps v old new k _ _ source) (pattern_stays old new k _ _ pattern) (term_keeps v old new k _ _ body)
-term_keeps v old new k id xs (run_placed s) = run_placed (term_stays old new k _ _ _ s)
-term_keeps v old new k id xs (keeping_placed opening comma second third leads closing s source observer pattern body) =
-    keeping_placed opening comma second third leads closing (term_stays old new k _ _ _ s) (term_keeps v old new k _ _ source) (term_keeps v old new k _ _ observer) (pattern_stays old new k _ _ pattern) (term_keeps v old new k _ _ body)
+-- the arguments of a call are held
+arguments_held : (p : Program) (id : TermId) (g : NameId) (a : ArgumentsId) → HoldsTerm p id → term_node_at p id ≡ nodes.Call g a → HoldsArguments p a
+unfolding term_node_at term_entry_of
+arguments_held p id g a held is = let parts : HoldsTermParts p (nodes.Call g a) = subst (HoldsTermParts p) is (parts_held p id) in parts.1
+
+mutual
+  pub term_keeps : (v : Version) (old new : Program) → KeepsTrees old new → (id : TermId) (xs : List Spot) → TermPlaced v old id xs → TermPlaced v new id xs
+  term_keeps v old new k id xs (bare_placed s) = bare_placed (term_stays old new k _ _ _ s)
+  term_keeps v old new k id xs (never_placed s counted) =
+      never_placed (term_stays old new k _ _ _ s) (counted ∙ ap (λ (t : Term). length (spell_term v t)) (sym (k.trees id s.held)))
+  term_keeps v old new k id xs (with_value_placed behind s value) = with_value_placed behind (term_stays old new k _ _ _ s) (expression_keeps v old new k _ _ value)
+  term_keeps v old new k id xs (initialized_placed opening comma word closing front s value) =
+      initialized_placed opening comma word closing front (term_stays old new k _ _ _ s) (expression_keeps v old new k _ _ value)
+  term_keeps v old new k id xs (timed_placed time s value) = timed_placed time (term_stays old new k _ _ _ s) (expression_keeps v old new k _ _ value)
+  term_keeps v old new k id xs (arrow_placed s function) = arrow_placed (term_stays old new k _ _ _ s) (function_keeps v old new k _ _ function)
+  term_keeps v old new k id xs (accumulated_placed opening comma closing s value function) =
+      accumulated_placed opening comma closing (term_stays old new k _ _ _ s) (expression_keeps v old new k _ _ value) (function_keeps v old new k _ _ function)
+  term_keeps v old new k id xs (joined_placed between closing s one two) =
+      joined_placed between closing (term_stays old new k _ _ _ s) (term_keeps v old new k _ _ one) (term_keeps v old new k _ _ two)
+  term_keeps v old new k id xs (sided_placed s part) = sided_placed (term_stays old new k _ _ _ s) (term_keeps v old new k _ _ part)
+  term_keeps v old new k id xs (headed_placed opening comma closing s value part) =
+      headed_placed opening comma closing (term_stays old new k _ _ _ s) (expression_keeps v old new k _ _ value) (term_keeps v old new k _ _ part)
+  term_keeps v old new k id xs (switching_placed opening comma leads closing s source pattern body) =
+      switching_placed opening comma leads closing (term_stays old new k _ _ _ s) (term_keeps v old new k _ _ source) (pattern_stays old new k _ _ pattern) (term_keeps v old new k _ _ body)
+  term_keeps v old new k id xs (run_placed s) = run_placed (term_stays old new k _ _ _ s)
+  term_keeps v old new k id xs (keeping_placed opening comma second third leads closing s source observer pattern body) =
+      keeping_placed opening comma second third leads closing (term_stays old new k _ _ _ s) (term_keeps v old new k _ _ source) (term_keeps v old new k _ _ observer) (pattern_stays old new k _ _ pattern) (term_keeps v old new k _ _ body)
+  term_keeps v old new k id xs (call_placed {g = g} {a = a} {xs = ys} opening s actuals) =
+      call_placed opening (term_stays old new k _ _ _ s) (subst (λ (bs : List Argument). ArgumentsPlaced v new bs ys) (sym (k.arguments a (arguments_held old id g a s.held s.node))) (arguments_keep v old new k (arguments_under old a) ys actuals))
+
+  pub arguments_keep : (v : Version) (old new : Program) → KeepsTrees old new → (bs : List Argument) (xs : List Spot) → ArgumentsPlaced v old bs xs → ArgumentsPlaced v new bs xs
+  arguments_keep v old new k bs xs (no_arguments_placed closing) = no_arguments_placed closing
+  arguments_keep v old new k bs xs (some_arguments_placed each) = some_arguments_placed (each_argument_keeps v old new k bs xs each)
+
+  pub each_argument_keeps : (v : Version) (old new : Program) → KeepsTrees old new → (bs : List Argument) (xs : List Spot) → EachArgumentPlaced v old bs xs → EachArgumentPlaced v new bs xs
+  each_argument_keeps v old new k bs xs no_argument_placed = no_argument_placed
+  each_argument_keeps v old new k bs xs (argument_placed separator one others) = argument_placed separator (argument_keeps v old new k _ _ one) (each_argument_keeps v old new k _ _ others)
+
+  pub argument_keeps : (v : Version) (old new : Program) → KeepsTrees old new → (b : Argument) (xs : List Spot) → ArgumentPlaced v old b xs → ArgumentPlaced v new b xs
+  argument_keeps v old new k b xs (value_argument_placed value) = value_argument_placed (expression_keeps v old new k _ _ value)
+  argument_keeps v old new k b xs (process_argument_placed word part) = process_argument_placed word (term_keeps v old new k _ _ part)
 
 pub templates_keep : (v : Version) (old new : Program) → KeepsTrees old new → (hs : List Header) (xs : List Spot) → TemplatesPlaced v old hs xs → TemplatesPlaced v new hs xs
 templates_keep v old new k hs xs none_placed = none_placed
@@ -79,11 +106,12 @@ templates_keep v old new k hs xs (template_placed {h = h} t ts) =
     template_placed (record {
       word = t.word;
       opening = t.opening;
-      closing = t.closing;
+      listed = t.listed;
       signature = t.signature;
       body = t.body;
       end = t.end;
       split = t.split;
+      parameters = t.parameters;
       typed = t.typed;
       placed = term_keeps v old new k h.body t.body t.placed;
     }) (templates_keep v old new k _ _ ts)
@@ -163,6 +191,7 @@ bare_places is (headed_placed opening comma closing s value part) = absurd (let 
 bare_places is (switching_placed opening comma leads closing s source pattern body) = absurd (let e = sym s.node ∙ is in cc)
 bare_places is (run_placed s) = absurd (let e = sym s.node ∙ is in cc)
 bare_places is (keeping_placed opening comma second third leads closing s source observer pattern body) = absurd (let e = sym s.node ∙ is in cc)
+bare_places is (call_placed opening s actuals) = absurd (let e = sym s.node ∙ is in cc)
 
 -- what a head makes stands so, with these places of the value and the part
 headed_placed_so : {v : Version} {two new : Program} {id a : TermId} {h : Heading} {e : ExprId} {n m : Node} {t : Term} {spot : Spot} {xs ys : List Spot} (opening comma closing : Spot) → HeadedNode h e a n m → term_node_at two a ≡ n
@@ -210,6 +239,16 @@ keeping_read {v} {one} {two} {three} {new} {id} {a} {b} {c} {w} {k} {p} {q} {t} 
     keeping_placed opening.at comma second.at third.at leads closing (term_stands three new id _ t spot added) (stays a xs (term_keeps v two three L a xs (term_keeps v one two K a xs x)))
     (stays b observer.front (term_keeps v two three L b observer.front observer.holds)) (pattern_stands new q p ps there placed) (stays c zs z)))))
 
+-- a name, and arguments in brackets behind it
+pub call_read : {v : Version} {mid new : Program} {id : TermId} {g : NameId} {a : ArgumentsId} {bs : List Argument} {t : Term} {spot : Spot} {r r0 r1 rest : List Spot} → AddsTerm mid new id (nodes.Call g a) t spot → HoldsArguments new a × (arguments_under new a ≡ bs)
+    → NamePlaced spot r r0 → BehindOne r0 r1 → Consumes (ArgumentsPlaced v mid bs) r1 rest → Consumes (TermPlaced v new id) r rest
+call_read {v} {mid} {new} {id} {g} {a} {bs} {t} {spot} added there name opening actuals = record {
+  front = spot ∷ opening.at ∷ actuals.front;
+  split = rw (name.split, opening.split, actuals.split) refl;
+  holds = call_placed opening.at (term_stands mid new id _ t spot added)
+      (subst (λ (cs : List Argument). ArgumentsPlaced v new cs actuals.front) (sym there.1) (arguments_keep v mid new added.kept.trees bs actuals.front actuals.holds));
+}
+
 -- two terms joined
 pub joined_read : {v : Version} {one two new : Program} {id a b : TermId} {j : Join} {t : Term} {spot : Spot} {r0 r1 r2 r3 rest : List Spot} → KeepsTrees one two → AddsTerm two new id (nodes.Joined j a b) t spot
     → Consumes (TermPlaced v one a) r0 r1 → BehindOne r1 r2 → Consumes (TermPlaced v two b) r2 r3 → BehindOne r3 rest → Consumes (TermPlaced v new id) (spot ∷ r0) rest
@@ -234,31 +273,90 @@ signature_counted v tokens rest s is b =
     let took : TookSignature v (toks tokens) s (toks rest) = signature_takes v (toks tokens) s (toks rest) is in
     front_counted tokens rest b.front (symbol symbols.Colon ∷ (spell_type v s.0 ++ (symbol symbols.Leads ∷ (spell_type v s.1 ++ (symbol symbols.Equals ∷ []))))) b.split took.spelled
 
+-- a name, and behind it what it stands for
+pub parameter_read : (v : Version) (tokens rest : List PlacedToken) (q : PlacedParameter) {r0 r1 : List Spot} → parse_parameter v (toks tokens) ≡ got (binding_of q) (toks rest)
+    → NamePlaced q.spot (places tokens) r0 → BehindOne r0 r1 → BehindSome r1 (places rest) → Consumes (ParameterPlaced v q) (places tokens) (places rest)
+parameter_read v tokens rest q is name colon kind =
+    let split : places tokens ≡ (q.spot ∷ colon.at ∷ kind.front) ++ places rest = rw (name.split, colon.split, kind.split) refl in
+    record {
+      front = q.spot ∷ colon.at ∷ kind.front;
+      split = split;
+      holds = record {
+        behind = colon.at ∷ kind.front;
+        split = refl;
+        counted = front_counted tokens rest (q.spot ∷ colon.at ∷ kind.front) (spell_parameter v (binding_of q)) split (parameter_takes v (toks tokens) (binding_of q) (toks rest) is).spelled;
+      };
+    }
+
+-- the closing bracket alone
+pub no_parameters_placed_behind : (v : Version) {tokens rest : List Spot} → BehindOne tokens rest → Consumes (ParametersPlaced v []) tokens rest
+no_parameters_placed_behind v closing = record { front = closing.at ∷ []; split = closing.split; holds = no_parameters_placed closing.at }
+
+some_parameters_so : (v : Version) (qs : List PlacedParameter) (xs : List Spot) → qs ≢ [] → EachParameterPlaced v qs xs → ParametersPlaced v qs xs
+some_parameters_so v [] xs some each = absurd (some refl)
+some_parameters_so v (q ∷ qs) xs some each = some_parameters_placed each
+
+pub some_parameters_placed_behind : (v : Version) (qs : List PlacedParameter) {tokens rest : List Spot} → qs ≢ [] → Consumes (EachParameterPlaced v qs) tokens rest → Consumes (ParametersPlaced v qs) tokens rest
+some_parameters_placed_behind v qs some c = record { front = c.front; split = c.split; holds = some_parameters_so v qs c.front some c.holds }
+
+pub each_placed : (v : Version) (tokens : List PlacedToken) (answer : Result (Vec PlacedParameter Global × Bor (List PlacedToken)) Stop) → IfOk answer (λ x. x.0.items ≢ [])
+    → IfOk answer (λ x. Consumes (EachParameterPlaced v x.0.items) (places tokens) (places x.1.now)) → IfOk answer (λ x. Consumes (ParametersPlaced v x.0.items) (places tokens) (places x.1.now))
+each_placed v tokens (Ok x) some placed = some_parameters_placed_behind v x.0.items some placed
+each_placed v tokens (Err e) some placed = tt
+
+pub no_arguments_placed_behind : (v : Version) (p : Program) {tokens rest : List Spot} → BehindOne tokens rest → Consumes (ArgumentsPlaced v p []) tokens rest
+no_arguments_placed_behind v p closing = record { front = closing.at ∷ []; split = closing.split; holds = no_arguments_placed closing.at }
+
+some_arguments_so : (v : Version) (p : Program) (bs : List Argument) (xs : List Spot) → bs ≢ [] → EachArgumentPlaced v p bs xs → ArgumentsPlaced v p bs xs
+some_arguments_so v p [] xs some each = absurd (some refl)
+some_arguments_so v p (b ∷ bs) xs some each = some_arguments_placed each
+
+pub some_arguments_placed_behind : (v : Version) (p : Program) (bs : List Argument) {tokens rest : List Spot} → bs ≢ [] → Consumes (EachArgumentPlaced v p bs) tokens rest → Consumes (ArgumentsPlaced v p bs) tokens rest
+some_arguments_placed_behind v p bs some c = record { front = c.front; split = c.split; holds = some_arguments_so v p bs c.front some c.holds }
+
+pub each_argument_placed : (v : Version) (p : Program) (tokens : List PlacedToken) (answer : Result (Vec Argument Global × Bor (List PlacedToken)) Stop) → IfOk answer (λ x. x.0.items ≢ [])
+    → IfOk answer (λ x. Consumes (EachArgumentPlaced v p x.0.items) (places tokens) (places x.1.now)) → IfOk answer (λ x. Consumes (ArgumentsPlaced v p x.0.items) (places tokens) (places x.1.now))
+each_argument_placed v p tokens (Ok x) some placed = some_arguments_placed_behind v p x.0.items some placed
+each_argument_placed v p tokens (Err e) some placed = tt
+
+-- an expression, or a term behind `sf`
+pub value_read : {v : Version} {p : Program} {e : ExprId} {tokens rest : List Spot} → Consumes (ExpressionPlaced v p e) tokens rest → Consumes (ArgumentPlaced v p (arguments.Value e)) tokens rest
+value_read c = record { front = c.front; split = c.split; holds = value_argument_placed c.holds }
+
+pub process_read : {v : Version} {p : Program} {t : TermId} {tokens r0 rest : List Spot} → BehindOne tokens r0 → Consumes (TermPlaced v p t) r0 rest → Consumes (ArgumentPlaced v p (arguments.Process t)) tokens rest
+process_read word c = record { front = word.at ∷ c.front; split = rw (word.split, c.split) refl; holds = process_argument_placed word.at c.holds }
+
+-- what stands in front of a template's types
+pub heading_read : {v : Version} {spot : Spot} {qs : List PlacedParameter} {r0 r1 r2 r3 rest : List Spot} → BehindOne r0 r1 → NamePlaced spot r1 r2 → BehindOne r2 r3 → Consumes (ParametersPlaced v qs) r3 rest → HeadingPlaced v spot qs r0 rest
+heading_read word name opening listed = record { word = word.at; opening = opening.at; listed = listed.front; split = rw (word.split, name.split, opening.split, listed.split) refl; parameters = listed.holds }
+
 -- the parts of a template, one behind the other
-pub template_read : {v : Version} {old mid new : Program} {h : Header} {r0 r1 r2 r3 rest : List Spot} → KeepsProgram old mid → AddsTemplate mid new h → HeadingPlaced h.spot r0 r1
+pub template_read : {v : Version} {old mid new : Program} {h : Header} {r0 r1 r2 r3 rest : List Spot} → KeepsProgram old mid → AddsTemplate mid new h → HeadingPlaced v h.spot h.parameters r0 r1
     → (s : BehindSome r1 r2) → length s.front ≡ length (spell_signature v (template_in new h)) → Consumes (TermPlaced v mid h.body) r2 r3 → BehindOne r3 rest → PlacesTemplate v old new r0 rest
 template_read {v} {old} {mid} {new} {h} {r0} {r1} {r2} {r3} {rest} kept added heading signature typed body end = record {
   header = h;
   headers = added.headers ∙ ap (λ (hs : List Header). hs ++ h ∷ []) kept.headers;
   kept = keeps_trees_trans old mid new kept.trees added.kept;
   placed = record {
-    front = heading.word ∷ h.spot ∷ heading.opening ∷ heading.closing ∷ (signature.front ++ (body.front ++ (end.at ∷ [])));
+    front = heading.word ∷ h.spot ∷ heading.opening ∷ (heading.listed ++ (signature.front ++ (body.front ++ (end.at ∷ []))));
     split = rw (
       heading.split,
       signature.split,
       body.split,
       end.split,
+      append_assoc heading.listed (signature.front ++ (body.front ++ (end.at ∷ []))) rest,
       append_assoc signature.front (body.front ++ (end.at ∷ [])) rest,
       append_assoc body.front (end.at ∷ []) rest,
     ) refl;
     holds = record {
       word = heading.word;
       opening = heading.opening;
-      closing = heading.closing;
+      listed = heading.listed;
       signature = signature.front;
       body = body.front;
       end = end.at;
       split = refl;
+      parameters = heading.parameters;
       typed = typed;
       placed = term_keeps v mid new added.kept h.body body.front body.holds;
     };

@@ -1,23 +1,40 @@
 -- What the functions answer that read terms and templates.
-use Rattle.std.specs.Prelude.{◌≡◌, ◌+◌, List, [], ◌∷◌, ◌++◌, Result, Ok, Err}
+use Rattle.std.specs.Prelude.{◌≡◌, ◌+◌, All, List, [], ◌∷◌, ◌++◌, Option, Some, None, Result, Ok, Err, Vec}
 use Rattle.std.proofs.Common.{Bor}
-use Rattle.sf_value.specs.Values.{Kind}
+use Rattle.std.specs.declared.alloc.Global.{Global}
+use Rattle.sf_value.specs.Values.{Name, Kind}
 use Rattle.sf_text.specs.declared.header.Types.{Types}
+use Rattle.sf_text.specs.declared.header.Titled.{Titled}
 use Rattle.sf_expr.specs.Expressions.{Pattern}
 use Rattle.sf_expr.specs.Patterns.{PlacedPattern, pattern_of}
 use Rattle.sf_term.specs.Names.{HasNames}
 use Rattle.sf_term.specs.declared.node.TermId.{TermId}
+use Rattle.sf_term.specs.declared.node.Argument.{Argument}
+use Rattle.sf_term.specs.declared.node.Argument.TheVariants as arguments
 use Rattle.sf_term.specs.declared.program.Program.{Program}
-use Rattle.sf_term.specs.Trees.{Term, Template, terms_in, expressions_in}
-use Rattle.sf_term.specs.Arena.{HoldsTerm, tree, term_count, expression_count, templates_of, KeepsProgram}
+use Rattle.sf_term.specs.Parameters.{PlacedParameter, Bindings, parameters_of}
+use Rattle.sf_term.specs.Trees.{Term, Arguments, no_arguments, Template, terms_in, terms_in_arguments, expressions_in, expressions_in_arguments}
+use Rattle.sf_term.specs.Arena.{HoldsTerm, HoldsArgument, tree, expression_under, arguments_of, term_count, expression_count, templates_of, KeepsProgram}
 use Rattle.sf_lex.specs.Tokens.{Tok}
 use Rattle.sf_lex.specs.declared.token.PlacedToken.{PlacedToken}
 use Rattle.sf_parse.specs.declared.stop.Stop.{Stop}
-use Rattle.sf_grammar.specs.Reading.{Read, got}
-use Rattle.sf_parse.specs.Answers.{toks, StopsReading}
+use Rattle.sf_grammar.specs.Reading.{Read, got, Actual, actual_value, actual_process, with_actual}
+use Rattle.sf_parse.specs.Answers.{toks, StopsReading, named_bytes}
+use Rattle.sf_parse.specs.Consuming.{places, BehindOne}
 
 abbrev pub kinds_in : Types → Kind × Kind
 kinds_in s = (s.input, s.output)
+
+abbrev pub bindings_in : Vec PlacedParameter Global → Bindings
+bindings_in qs = parameters_of qs.items
+
+abbrev pub heading_in : Titled → Name × Bindings
+heading_in h = (named_bytes h.name, parameters_of h.parameters.items)
+
+-- the tokens behind what may stand in front
+abbrev pub IsBehind : Option (Bor (List PlacedToken)) → (List Tok → Option (List Tok)) → List PlacedToken → Type 0
+IsBehind (Some rest) behind tokens = (behind (toks tokens) ≡ Some (toks rest.now)) × BehindOne (places tokens) (places rest.now)
+IsBehind None behind tokens = behind (toks tokens) ≡ None
 
 -- a term was read into the program
 pub record FoundTerm (old new : Program) (id : TermId) (rest : List Tok) (read : Read Term) : Type 0 where
@@ -47,6 +64,39 @@ pub record FoundBody (old new : Program) (p : Pattern) (id : TermId) (rest : Lis
 abbrev pub ReadsBody : Program → Program → Result (PlacedPattern × TermId × Bor (List PlacedToken)) Stop → Read (Pattern × Term) → Type 0
 ReadsBody old new (Ok x) read = FoundBody old new (pattern_of x.0) x.1 (toks x.2.now) read
 ReadsBody old new (Err e) read = StopsReading e read
+
+-- the argument that one with ids stands for
+abbrev pub actual_of : Program → Argument → Actual
+actual_of p (arguments.Value e) = actual_value (expression_under p e)
+actual_of p (arguments.Process t) = actual_process (tree p t)
+
+-- an argument was read into the program
+pub record FoundArgument (old new : Program) (a : Argument) (rest : List Tok) (read : Read Actual) : Type 0 where
+  pub value : Actual
+  pub is : read ≡ got value rest
+  pub held : HoldsArgument new a
+  pub same : actual_of new a ≡ value
+  pub kept : KeepsProgram old new
+  pub terms : term_count new ≡ term_count old + terms_in_arguments (with_actual value no_arguments)
+  pub expressions : expression_count new ≡ expression_count old + expressions_in_arguments (with_actual value no_arguments)
+
+abbrev pub ReadsArgument : Program → Program → Result (Argument × Bor (List PlacedToken)) Stop → Read Actual → Type 0
+ReadsArgument old new (Ok x) read = FoundArgument old new x.0 (toks x.1.now) read
+ReadsArgument old new (Err e) read = StopsReading e read
+
+-- arguments were read into the program
+pub record FoundArguments (old new : Program) (bs : List Argument) (rest : List Tok) (read : Read Arguments) : Type 0 where
+  pub value : Arguments
+  pub is : read ≡ got value rest
+  pub held : All (HoldsArgument new) bs
+  pub same : arguments_of new bs ≡ value
+  pub kept : KeepsProgram old new
+  pub terms : term_count new ≡ term_count old + terms_in_arguments value
+  pub expressions : expression_count new ≡ expression_count old + expressions_in_arguments value
+
+abbrev pub ReadsArguments : Program → Program → Result (Vec Argument Global × Bor (List PlacedToken)) Stop → Read Arguments → Type 0
+ReadsArguments old new (Ok x) read = FoundArguments old new x.0.items (toks x.1.now) read
+ReadsArguments old new (Err e) read = StopsReading e read
 
 -- a template was read into the program, behind the others
 pub record FoundTemplate (old new : Program) (rest : List Tok) (read : Read Template) : Type 0 where

@@ -11,21 +11,23 @@ use Rattle.sf_term.specs.declared.node.Primitive.TheVariants as primitives
 use Rattle.sf_term.specs.declared.node.Node.{Node}
 use Rattle.sf_term.specs.declared.node.Node.TheVariants as nodes
 use Rattle.sf_term.specs.declared.program.Program.{Program}
+use Rattle.sf_term.specs.Parameters.{PlacedParameter}
 use Rattle.sf_term.specs.Headers.{Header}
 use Rattle.sf_term.specs.Arena.{KeepsTrees, headers_of}
 use Rattle.sf_grammar.specs.declared.ty.Version.{Version}
 use Rattle.sf_grammar.specs.declared.head.Head.{Head}
 use Rattle.sf_grammar.specs.declared.head.Head.TheVariants as heads
 use Rattle.sf_grammar.specs.Spelling.{stands_initially}
-use Rattle.sf_grammar.specs.Placing.{TemplatePlaced}
+use Rattle.sf_grammar.specs.Placing.{ParametersPlaced, TemplatePlaced}
 use Rattle.sf_parse.specs.Consuming.{Consumes}
 
--- the first tokens of a template were read, up to its types; its name stands here
-pub record HeadingPlaced (spot : Spot) (tokens rest : List Spot) : Type 0 where
+-- the first tokens of a template were read, up to its types; its name stands here, and so do its parameters
+pub record HeadingPlaced (v : Version) (spot : Spot) (qs : List PlacedParameter) (tokens rest : List Spot) : Type 0 where
   pub word : Spot
   pub opening : Spot
-  pub closing : Spot
-  pub split : tokens ≡ word ∷ spot ∷ opening ∷ closing ∷ rest
+  pub listed : List Spot
+  pub split : tokens ≡ word ∷ spot ∷ opening ∷ (listed ++ rest)
+  pub parameters : ParametersPlaced v qs listed
 
 -- the tokens in front of the templates were read
 pub record OpeningPlaced (tokens rest : List Spot) : Type 0 where

@@ -2,6 +2,7 @@
 #![tactic(auto)]
 
 mod header;
+mod listed;
 mod network;
 mod place;
 mod template;

@@ -25,12 +25,20 @@ pub(crate) fn template<'a>(
     ensures reads { ReadsTemplate program.old program.new result (parse_template version (counts_of program.old) (toks tokens.now)) }
     ensures placed { IfOk result (λ rest. PlacesTemplate version program.old program.new (places tokens.now) (places rest.now)) }
 {
-    let (heading, rest) = heading(tokens)?;
+    let (titled, rest) = heading(alloc, version, tokens)?;
     let (types, rest) = signature(alloc, version, rest)?;
     let (body, rest) = term(alloc, version, rest, program, 64)?;
     let rest = symbol(rest, Symbol::Semicolon)?;
-    let name = String::from_str(alloc, heading.name.as_str())?;
-    match program.template(name, heading.spot, types.input, types.output, body) {
+    let name = String::from_str(alloc, titled.name.name.as_str())?;
+    let spot = titled.name.spot;
+    match program.template(
+        name,
+        spot,
+        titled.parameters,
+        types.input,
+        types.output,
+        body,
+    ) {
         Ok(()) => Ok(rest),
         Err(refusal) => Err(refused(refusal, tokens)),
     }

@@ -1,15 +1,16 @@
 //! Terms.
-ghost use Rattle.std.specs.Prelude.{◌≡◌, ◌≤◌, IfOk, ◌∷◌, false};
-ghost use Rattle.sf_term.specs.Trees.{Term, primitive as primitive_form, bare as bare_form};
+ghost use Rattle.std.specs.Prelude.{◌≡◌, ◌≢◌, ◌≤◌, IfOk, suc, [], ◌∷◌, length, false};
+ghost use Rattle.sf_term.specs.Trees.{Term, no_arguments, primitive as primitive_form, bare as bare_form};
 ghost use Rattle.sf_parse.specs.Answers.{toks, StopsReading, ReadsAs, counts_of};
-ghost use Rattle.sf_text.specs.Answers.{ReadsTerm, ReadsBody};
-ghost use Rattle.sf_grammar.specs.Placing.{PatternPlaced, TermPlaced};
+ghost use Rattle.sf_text.specs.Answers.{ReadsTerm, ReadsBody, ReadsArgument, ReadsArguments};
+ghost use Rattle.sf_grammar.specs.Placing.{PatternPlaced, TermPlaced, ArgumentPlaced, EachArgumentPlaced, ArgumentsPlaced};
 ghost use Rattle.sf_parse.specs.Consuming.{places, BehindOne, Consumes, Parted};
 ghost use Rattle.sf_text.specs.Consuming.{headed_node, HasValueSo};
-ghost use Rattle.sf_grammar.specs.Reading.{begins_term, too_deep, term_read, parse_never, parse_value, parse_timed, parse_arrow, parse_accumulated, parse_sided, parse_headed, parse_body, parse_switching, parse_run, parse_keeping, parse_join, parse_joined, parse_form, parse_behind_head, parse_term};
+ghost use Rattle.sf_grammar.specs.Reading.{begins_term, too_deep, term_read, parse_never, parse_value, parse_timed, parse_arrow, parse_accumulated, parse_sided, parse_headed, parse_body, parse_switching, parse_run, parse_keeping, parse_argument, parse_arguments, parse_listed, parse_call, parse_join, parse_joined, parse_form, parse_behind_head, parse_term};
 ghost use Rattle.sf_term.specs.Arena.{HoldsExpression, HoldsTerm, HoldsTermParts, term_node_at};
 ghost use Rattle.sf_grammar.specs.Spelling.{stands_initially};
 
+use crate::listed::{behind_close, behind_sf, separator};
 use sf_expr::{ExprId, Pat};
 use sf_grammar::{Head, Version, head_of, join_of};
 use sf_lex::{PlacedToken, Symbol, Token};
@@ -18,8 +19,8 @@ use sf_parse::{
 };
 use sf_refusal::{Rule, Spot};
 use sf_term::{
-    Accumulation, Bare, Heading, Join, Node, Observation, Primitive, Program, Side, Switching,
-    TermId, Timing, WithValue,
+    Accumulation, Argument, Bare, Heading, Join, Node, Observation, Primitive, Program, Side,
+    Switching, TermId, Timing, WithValue,
 };
 use std::alloc::Global;
 
@@ -265,6 +266,7 @@ fn behind_head<'a>(
 ) -> Result<(TermId, &'a [PlacedToken<'a>]), Stop>
     requires shallow { left ≤ 63 }
     requires stands { HasValueSo head }
+    requires first { places tokens.now ≡ spot ∷ places rest.now }
     ensures reads { ReadsTerm program.old program.new result (parse_behind_head left version (parse_term left version) (counts_of program.old) (Some head) (toks tokens.now) (toks rest.now)) }
     ensures placed { IfOk result (λ x. Consumes (TermPlaced version program.new x.0) (spot ∷ places rest.now) (places x.1.now)) }
 {
@@ -285,6 +287,7 @@ fn behind_head<'a>(
         Head::Switching(kind) => switching(alloc, version, tokens, rest, program, kind, spot, left),
         Head::Run => run(alloc, version, tokens, rest, program, spot),
         Head::Keeping(kind) => keeping(alloc, version, tokens, rest, program, kind, spot, left),
+        Head::Call => call(alloc, version, tokens, program, left),
     }
 }
 
@@ -470,6 +473,102 @@ fn joined<'a>(
     let (two, rest) = term(alloc, version, rest, program, left)?;
     let rest = symbol(rest, Symbol::Close)?;
     match program.add(Node::Joined(join, one, two), spot) {
+        Ok(id) => Ok((id, rest)),
+        Err(refusal) => Err(refused(refusal, tokens)),
+    }
+}
+
+/// An argument of a call, of so much depth at most, and the tokens behind it.
+#[cycle(term)]
+#[tactic(auto, unfolding(sf_grammar::specs::Reading::parse_argument))]
+fn argument<'a>(
+    alloc: Global,
+    version: Version,
+    tokens: &'a [PlacedToken<'a>],
+    program: &mut Program,
+    left: u32,
+) -> Result<(Argument, &'a [PlacedToken<'a>]), Stop>
+    requires shallow { left ≤ 63 }
+    ensures reads { ReadsArgument program.old program.new result (parse_argument left version (parse_term left version) (counts_of program.old) (toks tokens.now)) }
+    ensures placed { IfOk result (λ x. Consumes (ArgumentPlaced version program.new x.0) (places tokens.now) (places x.1.now)) }
+{
+    match behind_sf(tokens) {
+        Some(rest) => {
+            let (process, rest) = term(alloc, version, rest, program, left)?;
+            Ok((Argument::Process(process), rest))
+        }
+        None => {
+            let (value, rest) = expression(alloc, version, tokens, program, left)?;
+            Ok((Argument::Value(value), rest))
+        }
+    }
+}
+
+/// Arguments of a call, one at least, each of so much depth at most, and the tokens behind the closing bracket.
+#[cycle(term)]
+fn some_arguments<'a>(
+    alloc: Global,
+    version: Version,
+    tokens: &'a [PlacedToken<'a>],
+    program: &mut Program,
+    left: u32,
+) -> Result<(Vec<Argument>, &'a [PlacedToken<'a>]), Stop>
+    requires shallow { left ≤ 63 }
+    ensures reads { ReadsArguments program.old program.new result (parse_arguments (suc (length (toks tokens.now))) left version (parse_term left version) (counts_of program.old) (toks tokens.now)) }
+    ensures some { IfOk result (λ x. x.0.items ≢ []) }
+    ensures placed { IfOk result (λ x. Consumes (EachArgumentPlaced version program.new x.0.items) (places tokens.now) (places x.1.now)) }
+{
+    let mut arguments = Vec::new(alloc);
+    let mut at = 0;
+    let mut more = true;
+    while more {
+        let (argument, rest) = argument(alloc, version, &tokens[at..], program, left)?;
+        arguments.push(argument)?;
+        let (another, rest) = separator(rest)?;
+        more = another;
+        at = tokens.len() - rest.len();
+    }
+    Ok((arguments, &tokens[at..]))
+}
+
+/// The arguments of a call, if there are any, each of so much depth at most, and the tokens behind the closing bracket.
+#[cycle(term)]
+fn arguments<'a>(
+    alloc: Global,
+    version: Version,
+    tokens: &'a [PlacedToken<'a>],
+    program: &mut Program,
+    left: u32,
+) -> Result<(Vec<Argument>, &'a [PlacedToken<'a>]), Stop>
+    requires shallow { left ≤ 63 }
+    ensures reads { ReadsArguments program.old program.new result (parse_listed no_arguments (λ ts. parse_arguments (suc (length ts)) left version (parse_term left version) (counts_of program.old) ts) (toks tokens.now)) }
+    ensures placed { IfOk result (λ x. Consumes (ArgumentsPlaced version program.new x.0.items) (places tokens.now) (places x.1.now)) }
+{
+    match behind_close(tokens) {
+        Some(rest) => Ok((Vec::new(alloc), rest)),
+        None => some_arguments(alloc, version, tokens, program, left),
+    }
+}
+
+/// A call, whose name is the first of these tokens, and the tokens behind its arguments.
+#[cycle(term)]
+#[tactic(auto, unfolding(sf_grammar::specs::Reading::parse_call))]
+fn call<'a>(
+    alloc: Global,
+    version: Version,
+    tokens: &'a [PlacedToken<'a>],
+    program: &mut Program,
+    left: u32,
+) -> Result<(TermId, &'a [PlacedToken<'a>]), Stop>
+    requires shallow { left ≤ 63 }
+    ensures reads { ReadsTerm program.old program.new result (parse_call left version (parse_term left version) (counts_of program.old) (toks tokens.now)) }
+    ensures placed { IfOk result (λ x. Consumes (TermPlaced version program.new x.0) (places tokens.now) (places x.1.now)) }
+{
+    let (template, rest) = name(tokens)?;
+    let rest = symbol(rest, Symbol::Open)?;
+    let (arguments, rest) = arguments(alloc, version, rest, program, left)?;
+    let known = String::from_str(alloc, template.name.as_str())?;
+    match program.call(known, arguments, template.spot) {
         Ok(id) => Ok((id, rest)),
         Err(refusal) => Err(refused(refusal, tokens)),
     }

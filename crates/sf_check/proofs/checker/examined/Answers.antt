@@ -1,31 +1,23 @@
-use Rattle.std.proofs.Common.{codes, ◌∙◌, refl, sym}
-use Rattle.sf_func.specs.Signatures.{signatures_in}
-use Rattle.sf_term.specs.Arena.{templates_of}
-use Rattle.sf_check.specs.Names.{program_names}
-use Rattle.sf_check.specs.Refusing.{main_missing}
-use Rattle.sf_refusal.specs.declared.rule.Rule.TheVariants.{NoMain}
-use Rattle.sf_refusal.proofs.Explained.{breaks_at}
+use Rattle.std.proofs.Common.{Option, MatchOption, refl, subst}
+use Rattle.sf_refusal.specs.declared.spot.Spot.{Spot}
+use Rattle.sf_term.specs.declared.program.Program.{Program}
+use Rattle.sf_reach.specs.Endless.{IsFirstEndlessCall, ReachesItselfNowhere}
 use Rattle.std.proofs.lemmas.Result.{err_from_is_err_and}
-use Rattle.sf_check.proofs.Accepted.{accepted_by, types_refuse}
-use Rattle.sf_check.proofs.Finding.{place_in, named_at, none_named}
+use Rattle.sf_func.specs.Signatures.{signatures_in}
+use Rattle.sf_refusal.specs.declared.rule.Rule.TheVariants.{Endless, NoMain}
+use Rattle.sf_refusal.proofs.Explained.{breaks_at, memory_on}
+use Rattle.sf_check.specs.Refusing.{endless_refused, main_missing}
+use Rattle.sf_check.proofs.Accepted.{accepted_by, names_refuse, types_refuse}
 use Rattle.sf_check.proofs.checker.examined.Goals as goal
 
-pub returns-in-Some-clause-main : goal.returns-in-Some-clause-main
-returns-in-Some-clause-main c =
-    sym (place_in c.in_ok-names.names (codes "main") (program_names c.args.program.now) c.in_ok-names.ensures.names) ∙ sym c.in-Some.ensures.index
+-- what is answered of endless calls
+abbrev IsAnswer : Program → Option Spot → Type 0
+IsAnswer p o = MatchOption o (ReachesItselfNowhere p) (IsFirstEndlessCall p)
 
-pub returns-in-Some-clause-accepted : goal.returns-in-Some-clause-accepted
-returns-in-Some-clause-accepted c =
-    let p = c.args.program.now in
-    let there = sym (place_in c.in_ok-names.names (codes "main") (program_names p) c.in_ok-names.ensures.names) ∙ sym c.in-Some.ensures.index in
-    let found = named_at (codes "main") (templates_of p) c.in-Some.main there in
-    accepted_by (signatures_in c.args.functions.now) p found.template c.in_ok-names.ensures.different c.in_ok-check_templates.ensures.ok found.named
-
-pub returns-in-None-clause-refused : goal.returns-in-None-clause-refused
-returns-in-None-clause-refused c =
-    let p = c.args.program.now in
-    let there = sym (place_in c.in_ok-names.names (codes "main") (program_names p) c.in_ok-names.ensures.names) ∙ sym c.in-None.ensures.index in
-    breaks_at NoMain c.broken.ensures refl (main_missing c.in_ok-names.ensures.different c.in_ok-check_templates.ensures.ok (none_named (codes "main") (templates_of p) there))
+pub returns-in_err-names-clause-refused : goal.returns-in_err-names-clause-refused
+returns-in_err-names-clause-refused c =
+    let p = err_from_is_err_and c.from_residual.result c.from_residual.ensures.1 in
+    rw (p.1, p.2) (names_refuse (signatures_in c.args.functions.now) c.args.program.now _ c.in_err-names.ensures.refused)
 
 pub returns-in_err-check_templates-clause-refused : goal.returns-in_err-check_templates-clause-refused
 returns-in_err-check_templates-clause-refused c =
@@ -33,7 +25,20 @@ returns-in_err-check_templates-clause-refused c =
     let p = err_from_is_err_and left.result left.ensures.1 in
     rw (p.1, p.2) (types_refuse (signatures_in c.args.functions.now) c.args.program.now _ c.in_ok-names.ensures.different c.in_err-check_templates.ensures.err)
 
-pub returns-in_err-names-clause-refused : goal.returns-in_err-names-clause-refused
-returns-in_err-names-clause-refused c =
-    let p = err_from_is_err_and c.from_residual.result c.from_residual.ensures.1 in
-    rw (p.1, p.2) (c.in_err-names.ensures.refused (signatures_in c.args.functions.now))
+pub returns-in_err-spot-clause-refused : goal.returns-in_err-spot-clause-refused
+returns-in_err-spot-clause-refused c = memory_on _ _ c.from_residual-in_err-spot.ensures.1
+
+pub returns-in-Some-clause-refused : goal.returns-in-Some-clause-refused
+returns-in-Some-clause-refused c =
+    breaks_at Endless c.broken.ensures refl (endless_refused c.in_ok-names.ensures.different c.in_ok-check_templates.ensures.ok (subst (IsAnswer c.args.program.now) c.in-Some.is c.in_ok-spot.ensures))
+
+pub returns-in-Some-place_of_main-clause-accepted : goal.returns-in-Some-place_of_main-clause-accepted
+returns-in-Some-place_of_main-clause-accepted c =
+    let main = c.in-Some-place_of_main.ensures.bare in
+    let nowhere = subst (IsAnswer c.args.program.now) c.in_default.is c.in_ok-spot.ensures in
+    accepted_by c.args.program.now (signatures_in c.args.functions.now) main.0 c.in_ok-names.ensures.different c.in_ok-check_templates.ensures.ok nowhere main.1 main.2
+
+pub returns-in-None-clause-refused : goal.returns-in-None-clause-refused
+returns-in-None-clause-refused c =
+    let nowhere = subst (IsAnswer c.args.program.now) c.in_default.is c.in_ok-spot.ensures in
+    breaks_at NoMain c.broken-in-None.ensures refl (main_missing c.in_ok-names.ensures.different c.in_ok-check_templates.ensures.ok nowhere c.in-None.ensures.absent)

@@ -1,9 +1,22 @@
-use Rattle.std.proofs.Common.{◌∙◌, sym, refl, ap, Ok, Err}
+use Rattle.std.proofs.Common.{◌≡◌, ◌≢◌, ◌∙◌, sym, refl, ap, Ok, Err, true, true≢false, length, subst}
+use Rattle.std.specs.Iterator.Adapters.{zip_first, zip_second}
+use Rattle.std.specs.Slice.Iter.{iter_rest}
+use Rattle.std.proofs.lemmas.List.Elements.{All-same, All-rest}
+use Rattle.std.proofs.lemmas.List.{length-map}
+use Rattle.std.proofs.lemmas.Slice.Zip.{Zip-more, either_empty_from_Zip}
 use Rattle.sf_value.specs.Values.{pair_kind}
+use Rattle.sf_refusal.specs.declared.rule.Rule.TheVariants.{Mismatch}
+use Rattle.sf_refusal.specs.Refusals.{broken}
 use Rattle.sf_check.specs.Breaking.{initialized_part, sequence_left, fan_right, parallel_input, side_input}
-use Rattle.sf_term.specs.Arena.{expressions_of}
+use Rattle.sf_term.specs.Arena.{term_number, expressions_of, term_spot_at, arguments_under, ArgumentBelow}
 use Rattle.sf_check.specs.Contexts.{context_in}
 use Rattle.sf_check.proofs.Terms.{part_refused, err_answers, memory_answers, joined_there, sided_there, mismatch_refused, primitive_answers, sequence_answers, fan_answers, copy_reached, copy_takes, left_reached, right_reached, first_reached, second_reached, parallel_answers, first_answers, second_answers, start_answers, initialized_refused, initialized_answers, fed_refused, loop_reached, loop_answers, answers_under, body_under, err_body, pattern_stops, within_stops, other_stops, body_answered, switch_answers, source_reached, source_answers, source_wants, input_answers, first_term_reached, input_wants, switching_there, kept_reached, watched_answers, observer_reached, observer_answers, keeping_answers}
+use Rattle.sf_term.specs.ParameterView.{kind_of_form}
+use Rattle.sf_check.specs.Contexts.{program_in}
+use Rattle.sf_check.proofs.Calls.{err_argument, value_refused, value_answers, misplaced, term_stops, process_answers, memory_argument, no_template_answers, other_number_answers, none_absent, all_so, so_next, so_end, next_so, answer_for, argument_answers, differs_answers, call_answers}
+use Rattle.sf_term.specs.Parameters.{binding_of}
+use Rattle.sf_expr.specs.Typing.{Fits}
+use Rattle.sf_check.proofs.typing.+output.Goals.{call_output-else-fit-via-then-fit+else-same_type, call_output-else-fit-via-else-fit}
 use Rattle.sf_check.proofs.typing.+output.Goals as goal
 
 pub output_of-returns-in-Primitive : goal.output_of-returns-in-Primitive
@@ -240,3 +253,93 @@ keeping_output-returns t c =
 
 pub output_of-returns-in-Run : goal.output_of-returns-in-Run
 output_of-returns-in-Run t c = c.process_output.ensures
+
+-- ## An argument of a call
+
+pub argument_fits-returns-in_err-given-in-Value-default : goal.argument_fits-returns-in_err-given-in-Value-default
+argument_fits-returns-in_err-given-in-Value-default t c =
+    err_argument _ _ _ _ _ _ _ c.from_residual.ensures.1 (value_refused _ _ _ _ _ _ c.in-Value-default.is-0 _ c.in_err-given-in-Value-default.ensures)
+
+pub argument_fits-returns-in_err-clone_in-in-Process-Process : goal.argument_fits-returns-in_err-clone_in-in-Process-Process
+argument_fits-returns-in_err-clone_in-in-Process-Process t c = memory_argument _ _ _ _ _ _ c.from_residual-in_err-clone_in-in-Process-Process.ensures.1
+
+pub argument_fits-returns-in_err-given-in-Process-Process : goal.argument_fits-returns-in_err-given-in-Process-Process
+argument_fits-returns-in_err-given-in-Process-Process t c =
+    err_argument _ _ _ _ _ _ _ c.from_residual-in_err-given-in-Process-Process.ensures.1
+    (term_stops _ _ _ _ _ _ c.in-Process-Process.is-0 _ _ (ap kind_of_form c.in-Process-Process.is-1) _ c.in_ok-clone_in-in-Process-Process.ensures.same _ c.in_err-given-in-Process-Process.ensures)
+
+pub argument_fits-returns-in_ok-given-in-Value-default : goal.argument_fits-returns-in_ok-given-in-Value-default
+argument_fits-returns-in_ok-given-in-Value-default t c =
+    value_answers _ _ (term_spot_at (program_in c.args.context.now) c.args.term) _ _ _ c.in-Value-default.is-0 _ _ c.in_ok-given-in-Value-default.ensures c.takes_value.ensures
+
+pub argument_fits-returns-in-Process-Value : goal.argument_fits-returns-in-Process-Value
+argument_fits-returns-in-Process-Value t c =
+    misplaced _ _ _ _ _ _ c.in-Process-Value.is-0 _ (ap kind_of_form c.in-Process-Value.is-1) _ (c.broken.ensures ∙ ap (broken Mismatch) c.spot.ensures)
+
+pub argument_fits-returns-in_ok-given-in-Process-Process : goal.argument_fits-returns-in_ok-given-in-Process-Process
+argument_fits-returns-in_ok-given-in-Process-Process t c =
+    process_answers _ _ (term_spot_at (program_in c.args.context.now) c.args.term) _ _ _ c.in-Process-Process.is-0 _ _ (ap kind_of_form c.in-Process-Process.is-1) _ c.in_ok-clone_in-in-Process-Process.ensures.same _ _ c.in_ok-given-in-Process-Process.ensures c.same_type.ensures
+
+-- ## A call
+
+pub call_output-returns-in_default : goal.call_output-returns-in_default
+call_output-returns-in_default t c =
+    no_template_answers _ _ c.args.term _ _ c.spot-spot.ensures _ _ c.requires.there _ (none_absent c.in_default.not-Some c.template.ensures.absent) c.broken.ensures
+
+pub call_output-returns-then-arguments-parameters : goal.call_output-returns-then-arguments-parameters
+call_output-returns-then-arguments-parameters t c =
+    let p = program_in c.args.context.now in
+    let count = length-map c.in-Some.template.now.parameters binding_of in
+    let arguments = ap length c.arguments-arguments.ensures in
+    let parameters = ap length c.parameters-parameters.ensures in
+    other_number_answers p _ c.args.term _ _ c.spot-spot.ensures _ _ c.requires.there _ c.in-Some.ensures.found _
+    (λ same. c.if-arguments-parameters.true (arguments ∙ same ∙ count ∙ sym parameters)) c.broken-then-arguments-parameters.ensures
+
+pub call_output-loop-argument-init : goal.call_output-loop-argument-init
+call_output-loop-argument-init t c =
+    let p = program_in c.args.context.now in
+    let gives = c.into_iter-argument-iterator.ensures.into_iter_gives in
+    let first : iter_rest (zip_first c.into_iter-argument-iterator.result) ≡ arguments_under p c.args.arguments =
+    ap (λ z. iter_rest (zip_first z)) gives ∙ ap iter_rest c.zip-argument-items.ensures.first ∙ c.iter.ensures.rest ∙ c.arguments-arguments.ensures in
+    let given : iter_rest (zip_second c.zip-argument-items.result) ≡ c.parameters-parameters.result.now = c.zip-argument-items.ensures.second.0 in
+    let second : iter_rest (zip_second c.into_iter-argument-iterator.result) ≡ c.in-Some.template.now.parameters =
+    ap (λ z. iter_rest (zip_second z)) gives ∙ given ∙ c.parameters-parameters.ensures in
+    let count = ap length (sym c.arguments-arguments.ensures) ∙ c.if-arguments-parameters.false ∙ ap length c.parameters-parameters.ensures in
+    record { so = all_so first second count; below = All-same (ArgumentBelow (term_number c.args.term)) _ _ first c.requires.below }
+
+pub call_output-loop-argument-preserved : goal.call_output-loop-argument-preserved
+call_output-loop-argument-preserved t c =
+    let step = Zip-more c.loop-argument.argument-iterator c.next.new.self _ _ c.in-Some-2.is c.next.ensures.steps in
+    let answer = answer_for (program_in c.args.context.now) _ (term_spot_at (program_in c.args.context.now) c.args.term) _ (Ok c.in_ok-fit.field-0) c.form.ensures c.in_ok-fit.ensures in
+    record {
+      so = next_so c.loop-argument.fit c.in_ok-fit.field-0 (so_next c.loop-argument.invariant.so step.0 step.1) answer.0 answer.1;
+      below = All-rest (ArgumentBelow (term_number c.args.term)) _ _ _ step.0 c.loop-argument.invariant.below;
+    }
+
+pub call_output-returns-in_err-fit : goal.call_output-returns-in_err-fit
+call_output-returns-in_err-fit t c =
+    let p = program_in c.args.context.now in
+    let step = Zip-more c.loop-argument.argument-iterator c.next.new.self _ _ c.in-Some-2.is c.next.ensures.steps in
+    let so = so_next c.loop-argument.invariant.so step.0 step.1 in
+    let answer = answer_for p _ (term_spot_at p c.args.term) _ (Err c.in_err-fit.field-0.0) c.form.ensures c.in_err-fit.ensures in
+    err_answers _ _ _ _ _ _ c.from_residual.ensures.1 (argument_answers p _ c.args.term _ (term_spot_at p c.args.term) refl _ _ c.requires.there _ c.in-Some.ensures.found _ so.left answer)
+
+pub call_output-returns-in_err-clone_in : goal.call_output-returns-in_err-clone_in
+call_output-returns-in_err-clone_in t c = memory_answers _ _ c.args.term _ _ c.from_residual-in_err-clone_in.ensures.1
+
+pub call_output-returns-in_ok-clone_in : goal.call_output-returns-in_ok-clone_in
+call_output-returns-in_ok-clone_in t c =
+    let p = program_in c.args.context.now in
+    let so = so_end c.loop-argument.invariant.so (either_empty_from_Zip c.loop-argument.argument-iterator c.next.new.self _ c.in-None.is c.next.ensures.steps) in
+    call_answers p _ c.args.term _ _ c.spot-spot.ensures _ _ c.requires.there _ c.in-Some.ensures.found _ so c.if-fit.true c.requires.fits
+    (subst Fits c.output.ensures c.in_ok-clone_in.ensures.small) (c.same_type.ensures.0 c.if-same_type.true ∙ c.input.ensures) (c.in_ok-clone_in.ensures.same ∙ c.output.ensures)
+
+pub call_output-returns-else-fit : goal.call_output-returns-else-fit
+call_output-returns-else-fit t c =
+    let p = program_in c.args.context.now in
+    let so = so_end c.loop-argument.invariant.so (either_empty_from_Zip c.loop-argument.argument-iterator c.next.new.self _ c.in-None.is c.next.ensures.steps) in
+    let other : c.loop-argument.fit ≡ true → c.args.input.now ≢ c.in-Some.template.now.input = elim c.else-fit.branch [
+      | call_output-else-fit-via-then-fit+else-same_type w ↦ (λ whole e. true≢false (sym (w.if-same_type.ensures.1 (e ∙ sym w.input.ensures))))
+      | call_output-else-fit-via-else-fit w ↦ (λ whole. absurd (true≢false (sym whole ∙ w.if-fit.false)))
+    ] in
+    differs_answers p _ c.args.term _ _ c.spot-spot.ensures _ _ c.requires.there _ c.in-Some.ensures.found _ so other c.broken-else-fit.ensures

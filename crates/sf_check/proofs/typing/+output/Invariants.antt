@@ -1,5 +1,10 @@
-use Rattle.std.proofs.Common.{◌+◌, ◌*◌}
-use Rattle.sf_term.specs.Arena.{term_number}
+use Rattle.std.proofs.Common.{◌+◌, ◌*◌, All}
+use Rattle.std.specs.Iterator.Adapters.{zip_first, zip_second}
+use Rattle.std.specs.Slice.Iter.{iter_rest}
+use Rattle.sf_term.specs.Arena.{term_number, arguments_under, ArgumentBelow}
+use Rattle.sf_term.specs.Parameters.{parameters_of}
+use Rattle.sf_check.specs.Contexts.{program_in, context_in}
+use Rattle.sf_check.proofs.Calls.{ArgumentsSo}
 use Rattle.sf_check.proofs.typing.+output.Given as goal
 
 -- a term, and then its form
@@ -27,3 +32,19 @@ decreases-keeping_output l = 3 * term_number l.term + 1
 -- what a body is typed by stands between the form and the body
 abbrev pub decreases-body_output : goal.decreases-body_output
 decreases-body_output l = 3 * term_number l.body + 3
+
+abbrev pub decreases-call_output : goal.decreases-call_output
+decreases-call_output l = 3 * term_number l.term + 1
+
+-- an argument stands between its call and its term
+abbrev pub decreases-argument_fits : goal.decreases-argument_fits
+decreases-argument_fits l = 3 * term_number l.term
+
+-- which arguments are left
+abbrev pub invariant-call_output-loop-argument : goal.invariant-call_output-loop-argument
+invariant-call_output-loop-argument l =
+    let left = iter_rest (zip_first l.argument-iterator) in
+    record {
+      so : ArgumentsSo (program_in l.context) (context_in l.context) (arguments_under (program_in l.context) l.fn.arguments) (parameters_of l.template.parameters) left (parameters_of (iter_rest (zip_second l.argument-iterator))) l.fit;
+      below : All (ArgumentBelow (term_number l.term)) left;
+    }

@@ -1,17 +1,18 @@
 use Rattle.std.proofs.Common.{◌∙◌, sym, subst, arith}
-use Rattle.sf_expr.specs.Arena.{IsCopy}
+use Rattle.sf_expr.specs.Arena.{Keeps}
 use Rattle.sf_term.specs.Arena.{expressions_of as program_expressions, TermPartsBelow}
 use Rattle.sf_law.proofs.Copied.{shows_next, shows_all, parts_fit, no_pipeline}
 use Rattle.sf_law.proofs.plain_plan.copy_terms.Goals as goal
 
 pub add-requires-clause-held : goal.add-requires-clause-held
 add-requires-clause-held c =
+    let p = c.args.program.now in
     let node = c.node-node.result in
-    let below = subst (λ k. TermPartsBelow node k) c.term.ensures c.node-node.ensures.below in
-    rw c.loop-number.invariant.count (parts_fit node c.in_ok-copy.copy c.loop-number.number c.in_ok-copy.ensures.same below)
+    let below = subst (λ k. TermPartsBelow p node k) c.term.ensures c.node-node.ensures.below in
+    rw c.loop-number.invariant.count (parts_fit p node c.in_ok-copy.copy c.loop-number.number c.in_ok-copy.ensures.same below)
 
 pub add-requires-clause-whole : goal.add-requires-clause-whole
-add-requires-clause-whole c = no_pipeline c.node-node.result c.in_ok-copy.copy c.in_ok-copy.ensures.same
+add-requires-clause-whole c = no_pipeline c.args.program.now c.node-node.result c.in_ok-copy.copy c.in_ok-copy.ensures.same
 
 pub loop-number-preserved : goal.loop-number-preserved
 loop-number-preserved c =
@@ -19,14 +20,14 @@ loop-number-preserved c =
     let old = c.loop-number.plan in
     let i = c.loop-number in
     let node = c.node-node.result in
-    let copy = subst (λ x. IsCopy (program_expressions p) x) (sym i.invariant.expressions) c.requires.same in
-    let below = subst (λ k. TermPartsBelow node k) c.term.ensures c.node-node.ensures.below in
+    let kept = subst (λ x. Keeps (program_expressions p) x) (sym i.invariant.expressions) c.requires.kept in
+    let below = subst (λ k. TermPartsBelow p node k) c.term.ensures c.node-node.ensures.below in
     let added = c.in_ok-add.ensures.ok in
     record {
       expressions = c.add.ensures.kept.expressions ∙ i.invariant.expressions;
       count = omega (arith, added.counted, i.invariant.count);
       headers = c.add.ensures.templates ∙ i.invariant.headers;
-      shows = shows_next p old c.add.new.self node c.in_ok-copy.copy c.term.result c.in_ok-add.field-0 i.number copy i.invariant.count c.term.ensures i.invariant.shows c.node-node.ensures.builds below c.in_ok-copy.ensures.same added c.add.ensures.kept;
+      shows = shows_next p old c.add.new.self node c.in_ok-copy.copy c.term.result c.in_ok-add.field-0 i.number kept i.invariant.count c.term.ensures i.invariant.shows c.node-node.ensures.builds below c.node-node.ensures.held c.in_ok-copy.ensures.same added c.add.ensures.kept;
     }
 
 pub returns-clause-terms : goal.returns-clause-terms

@@ -9,12 +9,12 @@ use Rattle.sf_state.specs.declared.state.Frozen.{Frozen}
 use Rattle.sf_state.specs.Standing.{Stands, kept_state}
 use Rattle.sf_mean.specs.Meaning.{switched_value}
 use Rattle.sf_step.specs.Meters.{fault_of}
-use Rattle.sf_step.specs.Sampling.{fails, left_or, StateSteps}
+use Rattle.sf_step.specs.Sampling.{left_or, StateSteps}
 use Rattle.sf_step.proofs.Parts.{pass_exit, failed, memory_exit}
 use Rattle.sf_step.proofs.Recurring.{run_fails, run_memory, new_fails, new_runs, runs_alone}
 use Rattle.sf_step.proofs.Switches.{comes_some, comes_none, source_fails, switch_memory, switch_waits_on, body_fails, body_takes_over}
 use Rattle.sf_step.proofs.Keeping.{kept_fails, kept_memory, observer_fails, observer_memory, keeps_on, kept_body_fails, kept_body_takes_over, some_occurs, none_occurs}
-use Rattle.sf_step.proofs.Turning.{frozen_steps, late_part, pass_beside, starts_over, start_takes, start_waits, start_keeps, watch_steps, watching_goes, watching_stays, watching_fails, keeping_goes, keeping_stays, keeping_fails}
+use Rattle.sf_step.proofs.Turning.{frozen_steps, late_part, pass_beside, starts_over, start_takes, start_waits, start_keeps, watching_goes, watching_stays, watching_fails, keeping_goes, keeping_stays, keeping_fails}
 use Rattle.sf_step.proofs.Stages.{StagesStep, continues_first, continues_next, continues_fails, continues_last, pipeline_steps, pipeline_fails}
 use Rattle.sf_step.proofs.Exits.{ticked_by, tick_fails, first_memory, join_left_fails, join_right_fails, join_steps, other_join, wrap_fails, wrap_steps, early_memory, late_memory, state_steps, start_steps, start_fails, start_switches, start_keepings, start_runs, start_open_fails}
 use Rattle.sf_step.proofs.sample.+step.Goals as goal

@@ -1,6 +1,9 @@
-use Rattle.std.proofs.Common.{subst}
+use Rattle.std.proofs.Common.{Result, Ok, Err, subst}
+use Rattle.sf_value.specs.declared.fault.Fault.{Fault}
+use Rattle.sf_state.specs.declared.state.State.{State}
 use Rattle.sf_step.specs.Sampling.{AllBegin}
-use Rattle.sf_step.proofs.Exits.{open_exit, open_prim, open_prim_fails, open_joined, open_sided, open_headed, open_headed_fails, open_switch, open_keeping, open_run}
+use Rattle.sf_step.proofs.Exits.{open_exit, open_failure, open_prim, open_prim_fails, open_joined, open_sided, open_headed, open_headed_fails, open_switch, open_keeping, open_run, open_call, open_call_fails, coded_arguments}
+use Rattle.sf_step.proofs.Arguments.{StandsCalled}
 use Rattle.sf_step.proofs.Stages.{open_staged}
 use Rattle.sf_step.proofs.sample.open.Goals as goal
 
@@ -66,3 +69,28 @@ returns-in_err-process-in-Run g c = λ e N. open_exit (g.R.Holds.answers c.args.
 pub returns-in_ok-process-in-Run : goal.returns-in_ok-process-in-Run
 returns-in_ok-process-in-Run g c =
     open_run (g.R.Holds.answers c.args.context.now.functions.now) c.args.context.now.plan.now c.in-Run.name _ c.args.names.now c.in_ok-process-in-Run.process (rw c.in-Run.is at c.node.ensures.builds) (c.in_ok-process-in-Run.ensures (g.R.Holds.answers c.args.context.now.functions.now))
+
+pub called-requires : goal.called-requires
+called-requires g c = record {
+  bound = c.template.ensures.bound;
+  coded = rw c.deref-in-Call.ensures.value (coded_arguments (g.R.Holds.answers c.args.context.now.functions.now) c.args.context.now.plan.now (rw c.in-Call.is at c.node.ensures.builds));
+}
+
+pub returns-in_ok-body-in-Call : goal.returns-in_ok-body-in-Call
+returns-in_ok-body-in-Call g c =
+    let φ = g.R.Holds.answers c.args.context.now.functions.now in
+    let p = c.args.context.now.plan.now in
+    let v = c.in-Call.arguments in
+    let r : Result State Fault = Ok c.in_ok-body-in-Call.body in
+    open_call φ p c.in-Call.field-0 c.in-Call.template v _ c.args.names.now c.in_ok-body-in-Call.body (rw c.in-Call.is at c.node.ensures.builds) (λ e N.
+    subst (λ h. StandsCalled φ p h v.items e r) c.template.ensures.value (subst (λ us. StandsCalled φ p c.template.result.now us e r) c.deref-in-Call.ensures.value (c.in_ok-body-in-Call.ensures e N)))
+
+pub returns-in_err-body-in-Call : goal.returns-in_err-body-in-Call
+returns-in_err-body-in-Call g c = λ e N.
+    let φ = g.R.Holds.answers c.args.context.now.functions.now in
+    let p = c.args.context.now.plan.now in
+    let v = c.in-Call.arguments in
+    let r : Result State Fault = Err c.in_err-body-in-Call.field-0.0 in
+    open_failure φ p _ e _ c.in_err-body-in-Call.field-0.0 c.from_residual-in_err-body-in-Call.ensures.1
+    (open_call_fails φ p c.in-Call.field-0 c.in-Call.template v _ c.args.names.now c.in_err-body-in-Call.field-0.0 (rw c.in-Call.is at c.node.ensures.builds) (λ e N.
+    subst (λ h. StandsCalled φ p h v.items e r) c.template.ensures.value (subst (λ us. StandsCalled φ p c.template.result.now us e r) c.deref-in-Call.ensures.value (c.in_err-body-in-Call.ensures e N))) e N)

@@ -13,11 +13,11 @@ returns-in-Err-clause-reads c =
     let is : c.refused.result ≡ stop_for c.in-Err.refusal (length c.args.tokens.now) = c.refused.ensures in
     let named : IsName (string_bytes c.in_ok-name.name) = subst IsName (sym c.in_ok-name.ensures.ok) c.as_str.ensures.named in
     subst (λ (s : Stop). StopsReading s (parse_template c.args.version (counts_of c.args.program.now) (toks c.args.tokens.now))) (sym is)
-    (template_refused c.in-Err.refusal (length c.args.tokens.now) (string_bytes c.in_ok-name.name) (parse_template c.args.version (counts_of c.args.program.now) (toks c.args.tokens.now)) named
+    (template_refused c.in-Err.refusal (length c.args.tokens.now) (parse_template c.args.version (counts_of c.args.program.now) (toks c.args.tokens.now)) (named, c.in_ok-titled.ensures.named)
     (λ same. c.in-Err.ensures.bad_name.0 (ap Err same)) (λ same. c.in-Err.ensures.not_many (ap Err same)) (λ same. c.in-Err.ensures.not_deep (ap Err same)))
 
 pub returns-in-Ok-clause-placed : goal.returns-in-Ok-clause-placed
 returns-in-Ok-clause-placed c =
-    template_read c.in_ok-body.ensures.reads.kept c.in-Ok.ensures.ok c.in_ok-heading.ensures.placed c.in_ok-types.ensures.behind
-    (signature_counted c.args.version c.in_ok-heading.rest.now c.in_ok-types.rest.now (kinds_in c.in_ok-types.types) c.in_ok-types.ensures.reads c.in_ok-types.ensures.behind)
+    template_read c.in_ok-body.ensures.reads.kept c.in-Ok.ensures.ok c.in_ok-titled.ensures.placed c.in_ok-types.ensures.behind
+    (signature_counted c.args.version c.in_ok-titled.rest.now c.in_ok-types.rest.now (kinds_in c.in_ok-types.types) c.in_ok-types.ensures.reads c.in_ok-types.ensures.behind)
     c.in_ok-body.ensures.placed c.in_ok-rest.ensures.behind

@@ -1,29 +1,48 @@
-use Rattle.std.proofs.Common.{◌+◌, ◌*◌}
+use Rattle.std.proofs.Common.{◌+◌, ◌-◌, ◌*◌, length}
+use Rattle.sf_text.proofs.Lists.{ArgumentsTo}
 use Rattle.sf_text.proofs.term.+term.Given as goal
 
 abbrev pub decreases-term : goal.decreases-term
-decreases-term l = 5 * l.left
+decreases-term l = 8 * l.left
 
 abbrev pub decreases-form : goal.decreases-form
-decreases-form l = 5 * l.left + 4
+decreases-form l = 8 * l.left + 7
 
 abbrev pub decreases-behind_head : goal.decreases-behind_head
-decreases-behind_head l = 5 * l.left + 3
+decreases-behind_head l = 8 * l.left + 6
 
 abbrev pub decreases-sided : goal.decreases-sided
-decreases-sided l = 5 * l.left + 2
+decreases-sided l = 8 * l.left + 5
 
 abbrev pub decreases-headed : goal.decreases-headed
-decreases-headed l = 5 * l.left + 2
+decreases-headed l = 8 * l.left + 5
 
 abbrev pub decreases-switching : goal.decreases-switching
-decreases-switching l = 5 * l.left + 2
+decreases-switching l = 8 * l.left + 5
 
 abbrev pub decreases-joined : goal.decreases-joined
-decreases-joined l = 5 * l.left + 2
+decreases-joined l = 8 * l.left + 5
 
 abbrev pub decreases-keeping : goal.decreases-keeping
-decreases-keeping l = 5 * l.left + 2
+decreases-keeping l = 8 * l.left + 5
 
 abbrev pub decreases-body : goal.decreases-body
-decreases-body l = 5 * l.left + 1
+decreases-body l = 8 * l.left + 1
+
+abbrev pub decreases-call : goal.decreases-call
+decreases-call l = 8 * l.left + 5
+
+abbrev pub decreases-arguments : goal.decreases-arguments
+decreases-arguments l = 8 * l.left + 4
+
+abbrev pub decreases-some_arguments : goal.decreases-some_arguments
+decreases-some_arguments l = 8 * l.left + 3
+
+abbrev pub decreases-argument : goal.decreases-argument
+decreases-argument l = 8 * l.left + 2
+
+abbrev pub invariant-some_arguments-loop-more : goal.invariant-some_arguments-loop-more
+invariant-some_arguments-loop-more l = ArgumentsTo l.version l.left l.fn.program l.program l.tokens l.arguments.items l.more l.at
+
+abbrev pub decreases-some_arguments-loop-more : goal.decreases-some_arguments-loop-more
+decreases-some_arguments-loop-more l = length l.tokens - l.at

@@ -26,4 +26,4 @@ pub returns-in_err-processes-clause-refused : goal.returns-in_err-processes-clau
 returns-in_err-processes-clause-refused c = memory_on _ _ c.from_residual-in_err-processes.ensures.1
 
 pub invariant_of-result : goal.invariant_of-result
-invariant_of-result c = record { kept = kept_inside c.in_ok-names.ensures.bound c.in_ok-processes.ensures c.args.self.now.kept }
+invariant_of-result c = record { listed = c.args.self.now.listed; kept = kept_inside c.in_ok-names.ensures.bound c.in_ok-processes.ensures c.args.self.now.kept }

@@ -7,15 +7,18 @@ pub invariant_of-self : goal.invariant_of-self
 invariant_of-self c =
     let p = c.args.self.now in
     record {
-      arena = arena_put p.expressions p.nodes.items c.push.new.self.items c.args.node _ c.push.ensures.items p.arena c.requires.held c.requires.whole c.requires.coded;
+      arena = arena_put p.expressions p.templates.items p.nodes.items c.push.new.self.items c.args.node _ c.push.ensures.items p.arena c.requires.held c.requires.whole c.requires.coded c.requires.called;
+      bound = p.bound;
+      numbered = p.numbered;
       same = p.same;
+      nothing = p.nothing;
     }
 
 pub returns-in_err-push-clause-kept : goal.returns-in_err-push-clause-kept
 returns-in_err-push-clause-kept c = same_keeps c.args.self.now _ refl c.in_err-push.ensures.items
 
 pub returns-clause-ok : goal.returns-clause-ok
-returns-clause-ok c = adds_added c.args.self.now _ c.args.node _ refl (record { next = omega (arith, c.len.ensures, c.args.self.now.nodes.ok.0); grown = c.in_ok-push.ensures.items }) c.requires.whole c.requires.coded
+returns-clause-ok c = adds_added c.args.self.now _ c.args.node _ refl (record { next = omega (arith, c.len.ensures, c.args.self.now.nodes.ok.0); grown = c.in_ok-push.ensures.items }) c.requires.whole c.requires.coded c.requires.called
 
 pub returns-clause-kept : goal.returns-clause-kept
 returns-clause-kept c = added_keeps c.args.self.now _ c.args.node _ refl (record { next = refl; grown = c.in_ok-push.ensures.items })

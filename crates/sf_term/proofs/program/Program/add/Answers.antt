@@ -2,8 +2,8 @@ use Rattle.std.proofs.Common.{◌∙◌, ap, refl, arith}
 use Rattle.sf_arena.specs.Arenas.{entries_of}
 use Rattle.sf_arena.proofs.Grown.{more_put}
 use Rattle.sf_term.specs.Trees.{term_depth}
-use Rattle.sf_term.specs.Arena.{headers_of, term_count}
-use Rattle.sf_term.proofs.Entered.{arena_put}
+use Rattle.sf_term.specs.Arena.{base_of, headers_of, term_count}
+use Rattle.sf_term.proofs.Entered.{arena_put, same_arguments}
 use Rattle.sf_term.proofs.Refused.{many_as, deep_with}
 use Rattle.sf_term.proofs.Kept.{node-made, parts_needed, adds_added, unchanged, same_expressions}
 use Rattle.sf_term.proofs.program.Program.add.Goals as goal
@@ -13,13 +13,13 @@ invariant_of-self c =
     let p = c.args.self.now in
     let needed = parts_needed p c.args.node c.requires in
     record {
-      arena = arena_put p.expressions (entries_of p.terms) (entries_of c.add.new.self) (record { node = c.args.node; depth = c.depth_with-depth.result; spot = c.args.spot }) c.add.result c.add.ensures.ok c.add.ensures.err p.arena needed.0 needed.1 needed.2 needed.3 needed.4 needed.5 (c.depth_with-depth.ensures ∙ ap term_depth (node-made p c.args.node));
+      arena = arena_put (base_of p) (entries_of p.terms) (entries_of c.add.new.self) (record { node = c.args.node; depth = c.depth_with-depth.result; spot = c.args.spot }) c.add.result c.add.ensures.ok c.add.ensures.err p.arena needed (c.depth_with-depth.ensures ∙ ap term_depth (node-made p c.args.node));
       bodies = omega (arith, p.bodies, more_put _ _ _ c.add.result c.add.ensures.ok c.add.ensures.err);
     }
 
 pub returns-in-Ok-clause-ok : goal.returns-in-Ok-clause-ok
 unfolding headers_of
-returns-in-Ok-clause-ok c = adds_added c.args.self.now _ _ _ _ _ refl c.in-Ok.ensures.ok refl c.depth_with-depth.ensures
+returns-in-Ok-clause-ok c = adds_added c.args.self.now _ _ _ _ _ refl refl c.in-Ok.ensures.ok refl c.depth_with-depth.ensures
 
 pub returns-in-Err-clause-many : goal.returns-in-Err-clause-many
 unfolding term_count
@@ -31,4 +31,4 @@ returns-in-Err-clause-deep c = deep_with _ _ _ _ c.from.ensures c.depth_with-dep
 
 pub returns-in-Err-clause-err : goal.returns-in-Err-clause-err
 unfolding headers_of
-returns-in-Err-clause-err c = unchanged c.args.self.now _ (same_expressions c.args.self.now.expressions) c.in-Err.ensures.err refl
+returns-in-Err-clause-err c = unchanged c.args.self.now _ (same_expressions c.args.self.now.expressions) (same_arguments _) c.in-Err.ensures.err refl

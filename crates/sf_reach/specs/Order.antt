@@ -1,0 +1,52 @@
+-- The calls of programs, in the order of the text.
+use Rattle.std.specs.Prelude.{List, [], ◌∷◌, ◌++◌}
+use Rattle.sf_value.specs.Values.{Name}
+use Rattle.sf_refusal.specs.declared.spot.Spot.{Spot}
+use Rattle.sf_expr.specs.declared.exprs.ExprId.{ExprId}
+use Rattle.sf_expr.specs.declared.exprs.NameId.{NameId}
+use Rattle.sf_expr.specs.declared.exprs.PatternId.{PatternId}
+use Rattle.sf_expr.specs.Arena.{name_at}
+use Rattle.sf_term.specs.declared.form.Join.{Join}
+use Rattle.sf_term.specs.declared.form.Side.{Side}
+use Rattle.sf_term.specs.declared.form.Heading.{Heading}
+use Rattle.sf_term.specs.declared.form.Observation.{Observation}
+use Rattle.sf_term.specs.declared.form.Switching.{Switching}
+use Rattle.sf_term.specs.declared.node.TermId.{TermId}
+use Rattle.sf_term.specs.declared.node.ArgumentsId.{ArgumentsId}
+use Rattle.sf_term.specs.declared.node.Argument.{Argument}
+use Rattle.sf_term.specs.declared.node.Argument.TheVariants as arguments
+use Rattle.sf_term.specs.declared.node.Primitive.{Primitive}
+use Rattle.sf_term.specs.declared.node.Node.{Node}
+use Rattle.sf_term.specs.declared.node.Node.TheVariants as nodes
+use Rattle.sf_term.specs.declared.program.Program.{Program}
+use Rattle.sf_term.specs.Arena.{term_node_at, term_spot_at, expressions_of, arguments_under}
+
+-- A call: the name of the template that is called, and where that name stands in the text.
+pub record PlacedCall : Type 0 where
+  pub name : Name
+  pub spot : Spot
+
+mutual
+  -- The calls in the term at an id, outside the bodies of switches, in the order of the text: a call's own name comes before the
+  -- calls in its arguments.
+  pub data CallsInOrder (p : Program) : TermId → List PlacedCall → Type 0 where
+    calls_there : {t : TermId} {cs : List PlacedCall} → FormCalls p (term_spot_at p t) (term_node_at p t) cs → CallsInOrder p t cs
+
+  -- the same in a form at a spot, which is where the name of a call stands
+  pub data FormCalls (p : Program) : Spot → Node → List PlacedCall → Type 0 where
+    in_primitive : {s : Spot} {q : Primitive} → FormCalls p s (nodes.Primitive q) []
+    in_run : {s n : Spot} {k : NameId} → FormCalls p s (nodes.Run k n) []
+    in_call : {s : Spot} {k : NameId} {a : ArgumentsId} {cs : List PlacedCall} → ArgumentCalls p (arguments_under p a) cs
+        → FormCalls p s (nodes.Call k a) (record { name = name_at (expressions_of p) k; spot = s } ∷ cs)
+    in_joined : {s : Spot} {j : Join} {f g : TermId} {cs ds : List PlacedCall} → CallsInOrder p f cs → CallsInOrder p g ds → FormCalls p s (nodes.Joined j f g) (cs ++ ds)
+    in_sided : {s : Spot} {d : Side} {f : TermId} {cs : List PlacedCall} → CallsInOrder p f cs → FormCalls p s (nodes.Sided d f) cs
+    in_headed : {s : Spot} {w : Heading} {e : ExprId} {f : TermId} {cs : List PlacedCall} → CallsInOrder p f cs → FormCalls p s (nodes.Headed w e f) cs
+    in_switching : {s : Spot} {w : Switching} {f u : TermId} {q : PatternId} {cs : List PlacedCall} → CallsInOrder p f cs → FormCalls p s (nodes.Switching w f q u) cs
+    in_keeping : {s n : Spot} {w : Observation} {f o u : TermId} {k : NameId} {q : PatternId} {cs ds : List PlacedCall}
+        → CallsInOrder p f cs → CallsInOrder p o ds → FormCalls p s (nodes.Keeping w f o k n q u) (cs ++ ds)
+
+  -- the same in arguments
+  pub data ArgumentCalls (p : Program) : List Argument → List PlacedCall → Type 0 where
+    in_none : ArgumentCalls p [] []
+    past_value : {e : ExprId} {vs : List Argument} {cs : List PlacedCall} → ArgumentCalls p vs cs → ArgumentCalls p (arguments.Value e ∷ vs) cs
+    in_process : {t : TermId} {vs : List Argument} {cs ds : List PlacedCall} → CallsInOrder p t cs → ArgumentCalls p vs ds → ArgumentCalls p (arguments.Process t ∷ vs) (cs ++ ds)

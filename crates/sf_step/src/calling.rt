@@ -1,0 +1,110 @@
+//! What stands in the place of a reference: the process of a name, or a template under the arguments of a call.
+ghost use Rattle.std.specs.Prelude.{[], ◌∷◌, Some, All, IfOk};
+ghost use Rattle.sf_func.specs.Registries.{AnswersByName};
+ghost use Rattle.sf_expr.specs.Arena.{name_at};
+ghost use Rattle.sf_law.specs.Arena.{plan_expressions, plan_binding, plan_template, plan_arguments};
+ghost use Rattle.sf_law.specs.Entries.{BindsName, BindsNames, IsCodedArgument};
+ghost use Rattle.sf_mean.specs.Lives.{Environment, process_of};
+ghost use Rattle.sf_mean.specs.Meaning.{argued, process_called};
+ghost use Rattle.sf_state.specs.Standing.{IsNames, Stands};
+ghost use Rattle.sf_step.specs.Contexts.{plan_in};
+ghost use Rattle.sf_step.specs.Sampling.{Makes};
+
+use crate::context::{SampleContext, fault_of};
+use sf_expr::NameId;
+use sf_func::Holds;
+use sf_law::{Plan, PlanArgument, PlanParameter, PlanTemplate};
+use sf_prim::constant;
+use sf_state::{Env, NamesIn, Process, State};
+use sf_value::Fault;
+use std::alloc::AllocError;
+use std::rc::Rc;
+
+/// The process of a name, shared; what passes its inputs on where the name stands for none.
+pub(crate) fn named(plan: &Plan, names: &Env, name: NameId) -> Result<State, AllocError>
+    ensures { IfOk result (λ process. (φ : AnswersByName) (e : Environment) → IsNames φ plan.now names.now e →
+        Stands φ plan.now process (process_of (name_at (plan_expressions plan.now) name) e) []) }
+{
+    let exprs = plan.expressions();
+    match names.process(exprs, exprs.name_of(name))? {
+        Some(process) => Ok(process),
+        None => Ok(State::unborn(plan.passing())),
+    }
+}
+
+/// The body of a template before its first sample, inside its parameters, each bound to its argument, the first one
+/// first, where these names are around the call. The error is the first fault of the arguments.
+#[cold]
+#[inline(never)]
+pub(crate) fn called<R: Holds>(
+    context: &SampleContext<R>,
+    template: &PlanTemplate,
+    arguments: &[PlanArgument],
+    names: &Env,
+) -> Result<State, Fault>
+    requires bound { BindsNames (plan_expressions (plan_in context.now)) template.now }
+    requires coded { All (IsCodedArgument (plan_expressions (plan_in context.now))) arguments.now }
+    ensures { (e : Environment) → IsNames (R.answers context.now.functions.now) (plan_in context.now) names.now e →
+        Makes (λ a P. Stands (R.answers context.now.functions.now) (plan_in context.now) a P [])
+        (process_called (R.answers context.now.functions.now) (Some (plan_template (plan_in context.now) template.now)) (plan_arguments (plan_in context.now) arguments.now) e) result }
+{
+    let mut bound = Env::Empty;
+    for (parameter, argument) in template.parameters().iter().zip(arguments) {
+        bound = bind(context, parameter, argument, names, &bound)?;
+    }
+    Ok(State::Unborn(Process {
+        term: template.body(),
+        names: bound,
+    }))
+}
+
+// Names, and inside them that of a parameter, bound to its argument with the names around the call.
+fn bind<R: Holds>(
+    context: &SampleContext<R>,
+    parameter: &PlanParameter,
+    argument: &PlanArgument,
+    names: &Env,
+    bound: &Env,
+) -> Result<Env, Fault>
+    requires bound { BindsName (plan_expressions (plan_in context.now)) parameter.now }
+    requires coded { IsCodedArgument (plan_expressions (plan_in context.now)) argument.now }
+    ensures { (e d : Environment) → IsNames (R.answers context.now.functions.now) (plan_in context.now) names.now e → IsNames (R.answers context.now.functions.now) (plan_in context.now) bound.now d →
+        Makes (IsNames (R.answers context.now.functions.now) (plan_in context.now))
+        (argued (R.answers context.now.functions.now) (plan_binding (plan_in context.now) parameter.now ∷ []) (plan_arguments (plan_in context.now) (argument.now ∷ [])) e d) result }
+{
+    match argument {
+        PlanArgument::Value(value, code) => {
+            let exprs = context.plan.expressions();
+            let around = NamesIn {
+                expressions: exprs,
+                names,
+            };
+            match constant(
+                context.alloc,
+                exprs,
+                *value,
+                code,
+                context.functions,
+                &around,
+            ) {
+                Ok(value) => {
+                    let shared = Rc::new(context.alloc, value)?;
+                    Ok(bound.inside(context.alloc, parameter.pattern(), shared)?)
+                }
+                Err(fault) => Err(fault_of(fault)),
+            }
+        }
+        PlanArgument::Named(name) => {
+            let process = named(context.plan, names, *name)?;
+            Ok(bound.with_process(context.alloc, parameter.name(), process)?)
+        }
+        PlanArgument::Closed(term) => {
+            let around = names.share()?;
+            let process = State::Unborn(Process {
+                term: *term,
+                names: around,
+            });
+            Ok(bound.with_process(context.alloc, parameter.name(), process)?)
+        }
+    }
+}
