@@ -46,6 +46,7 @@ NETWORKS = {
     "50 fired switches": ("Int ~> Int", chain("switch((identity &&& now ()), _ => identity)", 50), 99, 60, 0),
     "50 run processes": ("Int ~> Int", chain("kSwitch(identity, now (), k, _ => run k)", 50), 99, 60, 0),
     "50 called templates": ("Int ~> Int", chain("passed(1)", 50), 99, 60, 0),
+    "50 probes": ("Int ~> Int", chain("probe p", 50), 99, None, None),
     "50 iPre 0 to freeze": ("Int ~> Int", f"kSwitch({chain('iPre 0', 50)}, never Int, k, _ => identity)", 101, 260, None),
     "running total": ("Int ~> Int", TIMED["total"], None, 2000, 4),
 }
@@ -92,7 +93,7 @@ def main():
             sample = a_sample(instructions, words)
             allocated = a_sample(allocations, words)
             line = line or sample
-            node = "" if most is None or nodes is None else f"{(sample - line) / (nodes - 1):.0f}"
+            node = "" if nodes in (None, 1) else f"{(sample - line) / (nodes - 1):.0f}"
             print(row(name, f"{sample:.0f}", node, most or "", f"{allocated:.1f}", "" if most_allocated is None else most_allocated))
 
 

@@ -1,6 +1,6 @@
-"""Plays eight networks, a delay of numbers, a loop over pairs, one of texts, events and tables with functions inside, one that calls
-stored functions, one that switches, one that freezes a process and runs it twice, one whose state is saved and returned to, and one
-of templates that are given values and processes, on a few lines with each growth of memory refused in turn.
+"""Plays nine networks, a delay of numbers, a loop over pairs, one of texts, events and tables with functions inside, one that calls
+stored functions, one that switches, one that freezes a process and runs it twice, one whose state is saved and returned to, one of
+templates that are given values and processes, and one with a probe in what is begun anew, on a few lines with each growth of memory refused in turn.
 
     python3 rows/refuse_growths.py --exe PATH
 
@@ -23,7 +23,7 @@ def samples(inputs, values):
     return [(f"{16 if at else 0} {given}", f"> {16 * at} {value}") for at, (given, value) in enumerate(zip(inputs, values))]
 
 
-# Networks, each with its input lines and what each line writes.
+# Networks, each with its input lines, what each line writes, and words for the program.
 RUNS = [
     ("Int ~> Int = iPre 7", samples(["1", "2", "3"], ["7", "1", "2"])),
     ("(Int, Int) ~> (Int, Int) = loopPre(0, arr ((x, y), total) => ((x, total), (y + total)))",
@@ -49,6 +49,8 @@ RUNS = [
      "\ntemplate scaled(f: Int ~> Int, n: Int): Int ~> Int = twice(sf run f, sf (run f >>> arr x => (x * n)));"
      "\ntemplate twice(f: Int ~> Int, g: Int ~> Int): Int ~> Int = (run f >>> run g)",
      samples(["1", "2", "3"], ["1", "180", "220"])),
+    ("Int ~> Int = kSwitch((iPre 7 >>> probe before), arr (x, _) => gate(event x, (x > 1)), k, c => ((fresh k &&& run k) >>> arr (u, v) => ((u + v) * c)))",
+     [("0 1", "? before 7\n> 0 7"), ("16 2", "? before 1\n? before 7\n? before 1\n> 16 16"), ("16 3", "? before 2\n? before 2\n> 32 8")], "--probes"),
 ]
 
 
@@ -59,12 +61,13 @@ def allowed(script):
     for number, (_, text) in enumerate(script, 1):
         found.add((4, before + b"! line %d Memory\n" % number, b""))
         if text:
-            found.add((3, before + b"! %s Memory\n" % text.split()[1].encode("ascii"), b""))
+            time = text.splitlines()[-1].split()[1]
+            found.add((3, before + b"! %s Memory\n" % time.encode("ascii"), b""))
             before += text.encode("ascii") + b"\n"
     return found | {(0, before, b"")}
 
 
-def play(exe, place, shim, network, script):
+def play(exe, place, shim, network, script, *arguments):
     """How many refused growths went well and how many didn't."""
     path = os.path.join(place, "network")
     with open(path, "w") as file:
@@ -76,7 +79,7 @@ def play(exe, place, shim, network, script):
     while 0 not in ends and number < 1000:
         number += 1
         settings = {**os.environ, "LD_PRELOAD": shim, "REFUSED_GROWTH": str(number)}
-        done = subprocess.run([exe, path], input=lines, capture_output=True, env=settings, timeout=60)
+        done = subprocess.run([exe, path, *arguments], input=lines, capture_output=True, env=settings, timeout=60)
         answer = (done.returncode, done.stdout, done.stderr)
         # (before the network is read, the words themselves may find no memory: status 2 and nothing written)
         well = answer in wanted or (done.returncode == 2 and not done.stdout)

@@ -21,6 +21,7 @@ use Rattle.sf_expr.specs.Typing.{Names, functions_of, with_types, call_kind, Add
 use Rattle.sf_expr.proofs.Bound.{type_with, functions_with, binds_with}
 use Rattle.sf_expr.proofs.Entered.{node_builds, parts_below}
 use Rattle.sf_term.proofs.Kept.{parts_below as term_parts_below, expression_in}
+use Rattle.sf_term.specs.declared.form.Naming.TheVariants.{Process, Probe}
 use Rattle.sf_term.specs.declared.node.TermId.{TermId}
 use Rattle.sf_term.specs.declared.node.Argument.{Argument}
 use Rattle.sf_term.specs.declared.node.Argument.TheVariants as arguments
@@ -30,10 +31,10 @@ use Rattle.sf_term.specs.declared.node.Node.{Node}
 use Rattle.sf_term.specs.declared.node.Node.TheVariants as terms
 use Rattle.sf_term.specs.declared.program.Program.{Program}
 use Rattle.sf_term.specs.Headers.{Header}
-use Rattle.sf_term.specs.Trees.{Primitive, bare, never, with_value, timed, arrow, accumulated, fused, Term, primitive, Reference, reference, run, call, Arguments, no_arguments, value_argument, process_argument, closed_argument, joined, sided, headed, switching, keeping, staged, Template, Templates}
+use Rattle.sf_term.specs.Trees.{Primitive, bare, probe, never, with_value, timed, arrow, accumulated, fused, Term, primitive, Reference, reference, started, call, Arguments, no_arguments, value_argument, process_argument, closed_argument, joined, sided, headed, switching, keeping, staged, Template, Templates}
 use Rattle.sf_term.specs.Arena.{term_number, tree, term_node_at, term_entry_of, expressions_of, arguments_under, arguments_of, headers_of, template_in, templates_of, ArgumentBelow, TermPartsBelow}
 use Rattle.sf_mean.specs.Contexts.{NameKind, value, process, Bindings, parameters_inside, context_with, bindings_inside, with_name_of, values_in}
-use Rattle.sf_mean.specs.Typing.{PrimitiveTakes, bare_takes, never_takes, value_takes, timed_takes, accumulated_takes, arrow_takes, fused_takes, Takes, takes, FormTakes, primitive_takes, run_takes, call_takes, ArgumentsFit, no_argument_fits, value_fits, process_fits, closed_fits, sequence_takes, parallel_takes, fan_takes, first_takes, second_takes, loop_takes, initialized_takes, switch_takes, recurring_takes, keeping_takes, stages_take, Accepted}
+use Rattle.sf_mean.specs.Typing.{PrimitiveTakes, bare_takes, probe_takes, never_takes, value_takes, timed_takes, accumulated_takes, arrow_takes, fused_takes, Takes, takes, FormTakes, primitive_takes, started_takes, call_takes, ArgumentsFit, no_argument_fits, value_fits, process_fits, closed_fits, sequence_takes, parallel_takes, fan_takes, first_takes, second_takes, loop_takes, initialized_takes, switch_takes, recurring_takes, keeping_takes, stages_take, Accepted}
 use Rattle.sf_check.specs.Answering.{primitive_in}
 use Rattle.sf_check.specs.Calling.{IsCalledAlike, AreCalledAlike}
 use Rattle.sf_check.proofs.Made.{made, tree_made}
@@ -60,6 +61,7 @@ module _ (fs gs : TypesByName) where
   -- programs have no functions made into one, and no pipelines
   abbrev pub PrimitiveAlike : Primitive → Type 0
   PrimitiveAlike (bare k) = Unit {0}
+  PrimitiveAlike (probe k) = Unit {0}
   PrimitiveAlike (never t) = Unit {0}
   PrimitiveAlike (with_value k e) = Alike e
   PrimitiveAlike (arrow f) = FunctionAlike f
@@ -79,7 +81,7 @@ module _ (fs gs : TypesByName) where
     TermAlike (staged x f g) = ⊥
 
     pub ReferenceAlike : Reference → Type 0
-    ReferenceAlike (run k) = Unit {0}
+    ReferenceAlike (started w k) = Unit {0}
     ReferenceAlike (call g vs) = ArgumentsAlike vs
 
     pub ArgumentsAlike : Arguments → Type 0
@@ -142,6 +144,7 @@ module _ (fs gs : TypesByName) where
   module _ (ts : Templates) where
     primitive_over : (bs : Bindings) {p : Primitive} {a b : Kind} → PrimitiveAlike p → PrimitiveTakes (context_with fs bs ts) p a b → PrimitiveTakes (context_with gs bs ts) p a b
     primitive_over bs k (bare_takes h f) = bare_takes h f
+    primitive_over bs k (probe_takes f) = probe_takes f
     primitive_over bs k (never_takes f) = never_takes f
     primitive_over bs k (value_takes v h f) = value_takes (typed_around bs k v) h f
     primitive_over bs k (timed_takes v w h f) = timed_takes (typed_around bs k v) w h f
@@ -155,7 +158,7 @@ module _ (fs gs : TypesByName) where
 
       form_over : (bs : Bindings) {t : Term} {a b : Kind} → TermAlike t → FormTakes (context_with fs bs ts) t a b → FormTakes (context_with gs bs ts) t a b
       form_over bs k (primitive_takes T) = primitive_takes (primitive_over bs k T)
-      form_over bs k (run_takes h) = run_takes h
+      form_over bs k (started_takes h) = started_takes h
       form_over bs k (call_takes h fit) = call_takes h (arguments_over bs k fit)
       form_over bs k (sequence_takes f g) = sequence_takes (takes_over bs k.0 f) (takes_over bs k.1 g)
       form_over bs k (parallel_takes f g) = parallel_takes (takes_over bs k.0 f) (takes_over bs k.1 g)
@@ -223,7 +226,8 @@ module _ (fs gs : TypesByName) where
 
     made_alike : (n : Node) (k : ℕ) → TermPartsBelow p n k → ((j : TermId) → term_number j < k → TermAlike (tree p j)) → TermAlike (made p n)
     made_alike (terms.Primitive q) k b parts = node_alike (expressions_of p) all q
-    made_alike (terms.Run x s) k b parts = tt
+    made_alike (terms.Named (Process w) x s) k b parts = tt
+    made_alike (terms.Named Probe x s) k b parts = tt
     made_alike (terms.Call x vs) k b parts = arguments_alike (arguments_under p vs) k b parts
     made_alike (terms.Joined j f g) k b parts = (parts f b.0, parts g b.1)
     made_alike (terms.Sided d f) k b parts = parts f b

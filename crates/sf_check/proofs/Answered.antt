@@ -29,6 +29,8 @@ use Rattle.sf_term.specs.declared.form.Join.TheVariants.{InSequence, InParallel,
 use Rattle.sf_term.specs.declared.form.Side.TheVariants.{First, Second}
 use Rattle.sf_term.specs.declared.form.Heading.TheVariants.{LoopPre, Initialized}
 use Rattle.sf_term.specs.declared.form.Observation.{Observation}
+use Rattle.sf_term.specs.declared.form.Start.{Start}
+use Rattle.sf_term.specs.declared.form.Naming.TheVariants.{Process, Probe}
 use Rattle.sf_term.specs.declared.form.Switching.{Switching}
 use Rattle.sf_term.specs.declared.form.Switching.TheVariants.{Basic, Recurring}
 use Rattle.sf_term.specs.declared.node.TermId.{TermId}
@@ -44,7 +46,7 @@ use Rattle.sf_term.specs.Entries.{absent_payload}
 use Rattle.sf_term.specs.Arena.{term_number, tree, term_node_at, term_entry_of, term_spot_at, expressions_of, arguments_under, ArgumentBelow, TermPartsBelow}
 use Rattle.sf_term.proofs.Kept.{parts_below}
 use Rattle.sf_mean.specs.Contexts.{NameKind, value, process, process_named, Bindings, bindings_inside, Signature, signature_named, Context, names_of_values, inside_pattern, inside_process}
-use Rattle.sf_mean.specs.Typing.{bare_kind, value_kind, takes_time, timed_kind, accumulated_argument, accumulated_kind, PrimitiveTakes, bare_takes, never_takes, value_takes, timed_takes, accumulated_takes, arrow_takes, Takes, FormTakes, primitive_takes, run_takes, call_takes, no_argument_fits, ParameterFits, sequence_takes, parallel_takes, fan_takes, first_takes, second_takes, loop_takes, initialized_takes, keeping_takes}
+use Rattle.sf_mean.specs.Typing.{bare_kind, value_kind, takes_time, timed_kind, accumulated_argument, accumulated_kind, PrimitiveTakes, bare_takes, probe_takes, never_takes, value_takes, timed_takes, accumulated_takes, arrow_takes, Takes, FormTakes, primitive_takes, started_takes, call_takes, no_argument_fits, ParameterFits, sequence_takes, parallel_takes, fan_takes, first_takes, second_takes, loop_takes, initialized_takes, keeping_takes}
 use Rattle.sf_operator.specs.Kinds.{same_kind, payload_of}
 use Rattle.sf_operator.proofs.SameKinds.{same_is, is_same, payload_is}
 use Rattle.sf_mean.proofs.Inferred.{PartsAre, two_parts, no_parts, parts_are, names_inside, output_fits}
@@ -323,8 +325,11 @@ module _ (p : Program) (Γ : Context) (around : ContextFits Γ) where
       ]
     ]
 
-  of_run : (t : TermId) (m : NameId) (n : Spot) (a : Kind) → term_node_at p t ≡ nodes.Run m n → Fits a → IsAnswered p Γ t a
-  of_run t m n a is k = each (kind_named (name_in p m) Γ.bindings) refl
+  of_probe : (t : TermId) (m : NameId) (n : Spot) (a : Kind) → term_node_at p t ≡ nodes.Named Probe m n → Fits a → IsAnswered p Γ t a
+  of_probe t m n a is k = taken t _ a is k a k (primitive_takes (probe_takes k))
+
+  of_process : (t : TermId) (w : Start) (m : NameId) (n : Spot) (a : Kind) → term_node_at p t ≡ nodes.Named (Process w) m n → Fits a → IsAnswered p Γ t a
+  of_process t w m n a is k = each (kind_named (name_in p m) Γ.bindings) refl
     where
       each : (o : Option NameKind) → kind_named (name_in p m) Γ.bindings ≡ o → IsAnswered p Γ t a
       each None e = broken t _ a is k (no_process (subst (λ o. ProcessRefused o n (breach_of UnknownName n)) (sym e) refl))
@@ -333,7 +338,7 @@ module _ (p : Program) (Γ : Context) (around : ContextFits Γ) where
         | inr other ↦ broken t _ a is k (process_differs e other)
         | inl same ↦
             let named : kind_named (name_in p m) Γ.bindings ≡ Some (process a c) = e ∙ ap (λ b. Some (process b c)) (sym same) in
-            taken t _ a is k c (around.1 (name_in p m) b c (process_is (name_in p m) Γ.bindings e)) (run_takes (process_is (name_in p m) Γ.bindings named))
+            taken t _ a is k c (around.1 (name_in p m) b c (process_is (name_in p m) Γ.bindings e)) (started_takes (process_is (name_in p m) Γ.bindings named))
       ]
 
   -- ## Calls
@@ -399,7 +404,8 @@ answered_within p (suc fuel) Γ around t h a f = by_node (term_node_at p t) refl
     by_node : (n : Node) → term_node_at p t ≡ n → TermPartsBelow p n (term_number t)
         → ((Δ : Context) → ContextFits Δ → (j : TermId) → term_number j < term_number t → (b : Kind) → Fits b → IsAnswered p Δ j b) → IsAnswered p Γ t a
     by_node (nodes.Primitive q) is b parts = of_primitive p Γ around t q a is f
-    by_node (nodes.Run k n) is b parts = of_run p Γ around t k n a is f
+    by_node (nodes.Named (Process w) k n) is b parts = of_process p Γ around t w k n a is f
+    by_node (nodes.Named Probe k n) is b parts = of_probe p Γ around t k n a is f
     by_node (nodes.Call k vs) is b parts = of_call p Γ around t k vs a is f (parts Γ around) b (signature_named (name_in p k) Γ.signatures) refl
     by_node (nodes.Joined InSequence l r) is b parts = of_sequence p Γ around t l r a is f (parts Γ around l b.0 a f) (parts Γ around r b.1)
     by_node (nodes.Joined InParallel l r) is b parts = of_parallel p Γ around t l r a is f (parts Γ around l b.0) (parts Γ around r b.1)

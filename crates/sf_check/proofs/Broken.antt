@@ -31,7 +31,7 @@ use Rattle.sf_term.specs.declared.form.Bare.{Bare}
 use Rattle.sf_term.specs.declared.form.Bare.TheVariants.{Pre}
 use Rattle.sf_term.specs.declared.form.Accumulation.{Accumulation}
 use Rattle.sf_mean.specs.Contexts.{Context, names_of_values, inside_pattern, Bindings, process_named}
-use Rattle.sf_mean.specs.Typing.{bare_kind, value_kind, timed_kind, accumulated_argument, accumulated_kind, PrimitiveTakes, bare_takes, never_takes, value_takes, timed_takes, accumulated_takes, arrow_takes, Takes, FormTakes, primitive_takes, run_takes, sequence_takes, parallel_takes, fan_takes, first_takes, second_takes, loop_takes, initialized_takes, switch_takes, recurring_takes, keeping_takes, call_takes, IsTyped}
+use Rattle.sf_mean.specs.Typing.{bare_kind, value_kind, timed_kind, accumulated_argument, accumulated_kind, PrimitiveTakes, bare_takes, never_takes, value_takes, timed_takes, accumulated_takes, arrow_takes, Takes, FormTakes, primitive_takes, started_takes, sequence_takes, parallel_takes, fan_takes, first_takes, second_takes, loop_takes, initialized_takes, switch_takes, recurring_takes, keeping_takes, call_takes, IsTyped}
 use Rattle.sf_check.specs.Answering.{primitive_in}
 use Rattle.sf_check.specs.Breaking.{kind_named, ProcessRefused, BareRefused, pattern_in, name_in, keeping_inside, BindsInside, Exceeds, PrimitiveBreaks, AccumulationBreaks, argument_refused, accumulator_refused, made_refused, value_refused, bare_refused, never_refused, given_refused, timed_value_refused, time_outside, timed_refused, start_value_refused, accumulation_breaks, function_refused, FormBreaks, primitive_breaks, no_process, process_differs, call_breaks, parallel_input, parallel_exceeds, fan_exceeds, side_input, first_exceeds, second_exceeds, start_refused, fed_exceeds, loop_differs, initialized_differs, BodyWanted, after_source, beside_input, BodyBreaks, pattern_refused, body_differs, source_differs, recurring_input, switch_body_breaks, observed_exceeds, observer_differs, keeping_body_breaks, Reaches, call_argument, sequence_left, sequence_right, parallel_left, parallel_right, fan_left, fan_right, first_part, second_part, loop_part, initialized_part, switch_source, recurring_first, switch_body, keeping_source, keeping_observer, keeping_body, TermBreaks, itself, within, TemplateBreaks, breaks_within, breaks_header}
 use Rattle.sf_check.proofs.Made.{made, tree_made}
@@ -120,8 +120,8 @@ module _ {p : Program} {Γ : Context} where
   itself_untyped (recurring_input none) (recurring_takes f binds g) fits = none _ _ refl
   itself_untyped (switch_body_breaks (after_source f) h) (switch_takes f' binds g) fits = let same = beside_one f' f in body_untyped h same.1 same.0 binds g
   itself_untyped (switch_body_breaks (beside_input f) h) (recurring_takes f' binds g) fits = body_untyped h refl (takes_one f' f) binds g
-  itself_untyped (no_process {k = k} {n = n} {r = r} refused) (run_takes named) fits = no_kept Γ.bindings (name_in p k) n r refused named
-  itself_untyped (process_differs {k = k} named other) (run_takes kept) fits = let is = sym (is_process (name_in p k) Γ.bindings kept) ∙ named in other cc
+  itself_untyped (no_process {k = k} {n = n} {r = r} refused) (started_takes named) fits = no_kept Γ.bindings (name_in p k) n r refused named
+  itself_untyped (process_differs {k = k} named other) (started_takes kept) fits = let is = sym (is_process (name_in p k) Γ.bindings kept) ∙ named in other cc
   itself_untyped (call_breaks h) (call_takes named fit) fits = call_untyped h named fit refl
   itself_untyped (observed_exceeds {a = a} f big) (keeping_takes f' o binds g) fits = too_large big (input_fits o) (ap (pair_kind a) (takes_one f f'))
   itself_untyped (observer_differs f o none) (keeping_takes f' o' binds g) fits = none _ (seen_one f o f' o').1

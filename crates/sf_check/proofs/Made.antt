@@ -9,7 +9,7 @@ use Rattle.sf_term.specs.declared.node.Primitive.TheVariants as primitives
 use Rattle.sf_term.specs.declared.node.Node.{Node}
 use Rattle.sf_term.specs.declared.node.Node.TheVariants as nodes
 use Rattle.sf_term.specs.declared.program.Program.{Program}
-use Rattle.sf_term.specs.Trees.{Term, primitive, reference, run, call, joined, sided, headed, switching, keeping, with_value, timed, arrow, accumulated}
+use Rattle.sf_term.specs.Trees.{Term, primitive, reference, named_term, call, joined, sided, headed, switching, keeping, with_value, timed, arrow, accumulated}
 use Rattle.sf_term.specs.Arena.{tree, term_node_at, expressions_of, arguments_under, arguments_of, pattern_under, term_of}
 use Rattle.sf_term.proofs.Kept.{node_builds, expression_in, function_at_in}
 use Rattle.sf_check.specs.Breaking.{pattern_in, name_in}
@@ -18,7 +18,7 @@ use Rattle.sf_check.specs.Answering.{primitive_in}
 -- the term that a node makes of its parts
 abbrev pub made : Program → Node → Term
 made p (nodes.Primitive q) = primitive (primitive_in (expressions_of p) q)
-made p (nodes.Run k s) = reference (run (name_in p k))
+made p (nodes.Named w k s) = named_term w (name_in p k)
 made p (nodes.Call k vs) = reference (call (name_in p k) (arguments_of p (arguments_under p vs)))
 made p (nodes.Joined j f g) = joined j (tree p f) (tree p g)
 made p (nodes.Sided d f) = sided d (tree p f)
@@ -40,7 +40,7 @@ tree_made p t n e = node_builds p t n e ∙ by n
     by (nodes.Primitive (primitives.Arrow f)) = ap (λ f. primitive (arrow f)) (sym (function_at_in p f))
     by (nodes.Primitive (primitives.Timed k q v)) = ap (λ e. primitive (timed k q e)) (sym (expression_in p v))
     by (nodes.Primitive (primitives.Accumulated k v f)) = ap₂ (λ e g. primitive (accumulated k e g)) (sym (expression_in p v)) (sym (function_at_in p f))
-    by (nodes.Run k s) = refl
+    by (nodes.Named w k s) = refl
     by (nodes.Call k vs) = refl
     by (nodes.Joined j f g) = refl
     by (nodes.Sided d f) = refl

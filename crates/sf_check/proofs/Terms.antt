@@ -37,6 +37,9 @@ use Rattle.sf_term.specs.declared.form.Side.{Side}
 use Rattle.sf_term.specs.declared.form.Side.TheVariants.{First, Second}
 use Rattle.sf_term.specs.declared.form.Heading.TheVariants.{LoopPre, Initialized}
 use Rattle.sf_term.specs.declared.form.Observation.{Observation}
+use Rattle.sf_term.specs.declared.form.Start.{Start}
+use Rattle.sf_term.specs.declared.form.Naming.{Naming}
+use Rattle.sf_term.specs.declared.form.Naming.TheVariants.{Process, Probe}
 use Rattle.sf_term.specs.declared.form.Heading.{Heading}
 use Rattle.sf_term.specs.declared.form.Switching.{Switching}
 use Rattle.sf_term.specs.declared.form.Switching.TheVariants.{Basic, Recurring}
@@ -53,7 +56,7 @@ use Rattle.sf_term.specs.Entries.{absent_payload}
 use Rattle.sf_term.specs.Parameters.{parameters_of}
 use Rattle.sf_term.specs.Arena.{tree, term_node_at, term_spot_at, expressions_of, templates_of}
 use Rattle.sf_mean.specs.Contexts.{process, Context, names_of_values, context_of, inside_pattern}
-use Rattle.sf_mean.specs.Typing.{value_kind, takes_time, timed_kind, accumulated_argument, accumulated_kind, PrimitiveTakes, bare_takes, never_takes, value_takes, timed_takes, accumulated_takes, arrow_takes, Takes, takes, FormTakes, primitive_takes, run_takes, sequence_takes, parallel_takes, fan_takes, first_takes, second_takes, loop_takes, initialized_takes, switch_takes, recurring_takes, keeping_takes}
+use Rattle.sf_mean.specs.Typing.{value_kind, takes_time, timed_kind, accumulated_argument, accumulated_kind, PrimitiveTakes, bare_takes, probe_takes, never_takes, value_takes, timed_takes, accumulated_takes, arrow_takes, Takes, takes, FormTakes, primitive_takes, started_takes, sequence_takes, parallel_takes, fan_takes, first_takes, second_takes, loop_takes, initialized_takes, switch_takes, recurring_takes, keeping_takes}
 use Rattle.sf_check.specs.Breaking.{IsNoPairWith, IsNoEventBeside, kind_named, ProcessRefused, pattern_in, name_in, keeping_inside, BindsInside, Exceeds, PrimitiveBreaks, argument_refused, accumulator_refused, made_refused, value_refused, bare_refused, never_refused, given_refused, timed_value_refused, time_outside, timed_refused, start_value_refused, accumulation_breaks, function_refused, FormBreaks, primitive_breaks, no_process, process_differs, parallel_exceeds, fan_exceeds, first_exceeds, second_exceeds, start_refused, fed_exceeds, loop_differs, initialized_differs, BodyWanted, after_source, beside_input, BodyBreaks, pattern_refused, body_differs, source_differs, recurring_input, switch_body_breaks, observed_exceeds, observer_differs, keeping_body_breaks, Reaches, sequence_right, fan_left, parallel_left, parallel_right, first_part, second_part, loop_part, switch_source, recurring_first, switch_body, keeping_source, keeping_observer, keeping_body, TermBreaks, itself, within, TemplateBreaks, breaks_within, breaks_header}
 use Rattle.sf_check.specs.Answering.{primitive_in, AnswersBare, AnswersPrimitive, AnswersTerm, AnswersBody}
 use Rattle.sf_check.proofs.Made.{made, tree_made}
@@ -95,6 +98,9 @@ pub memory_answers : (p : Program) (Γ : Context) (t : TermId) (a : Kind) (r : R
 memory_answers p Γ t a r h = err_answers p Γ t a r Memory h no_memory
 
 -- ## The node at an id
+
+pub named_there : (p : Program) (t : TermId) {w x : Naming} {k : NameId} {n : Spot} → w ≡ x → term_node_at p t ≡ nodes.Named w k n → term_node_at p t ≡ nodes.Named x k n
+named_there p t {k = k} {n = n} e there = there ∙ ap (λ w. nodes.Named w k n) e
 
 pub joined_there : (p : Program) (t : TermId) {j k : Join} {f g : TermId} → j ≡ k → term_node_at p t ≡ nodes.Joined j f g → term_node_at p t ≡ nodes.Joined k f g
 joined_there p t {f = f} {g = g} e there = there ∙ ap (λ j. nodes.Joined j f g) e
@@ -293,19 +299,23 @@ module _ (p : Program) (Γ : Context) (t : TermId) (a : Kind) (s : Spot) (at : s
               by_body (nodes.Keeping w f o k n q g) is (keeping_inside p k a b Γ) q g a b c (λ r h. keeping_body_breaks kept_given O h) (keeping_body kept_given O) (keeping_takes kept_given O) r fit
               (subst (λ y. AnswersBody p (keeping_inside p k a b Γ) s q g y b c r) same h)
 
-  -- `run`
-  module _ (k : NameId) (n : Spot) (is : term_node_at p t ≡ nodes.Run k n) where
+  -- a name alone: `probe`
+  pub probe_answers : (k : NameId) (n : Spot) → term_node_at p t ≡ nodes.Named Probe k n → Fits a → Takes Γ (tree p t) a a
+  probe_answers k n is fit = form_ok p Γ t (nodes.Named Probe k n) a is a fit fit (primitive_takes (probe_takes fit))
+
+  -- and the process of a name
+  module _ (w : Start) (k : NameId) (n : Spot) (is : term_node_at p t ≡ nodes.Named (Process w) k n) where
     pub no_process_answers : (e : Refusal) → OrMemory (ProcessRefused (kind_named (name_in p k) Γ.bindings) n) e → OrMemory (TermBreaks p Γ t a) e
-    no_process_answers e h = itself_refused p Γ t (nodes.Run k n) a is s e at (or_memory (λ r h. no_process h) h)
+    no_process_answers e h = itself_refused p Γ t (nodes.Named (Process w) k n) a is s e at (or_memory (λ r h. no_process h) h)
 
     module _ (b c : Kind) (kept : kind_named (name_in p k) Γ.bindings ≡ Some (process b c)) where
       pub other_process_answers : (e : Refusal) → same_kind a b ≡ false → e ≡ broken Mismatch s → OrMemory (TermBreaks p Γ t a) e
-      other_process_answers e other wrong = itself_refused p Γ t (nodes.Run k n) a is s e at (breaks_at Mismatch wrong refl (process_differs kept (other_kind a b other)))
+      other_process_answers e other wrong = itself_refused p Γ t (nodes.Named (Process w) k n) a is s e at (breaks_at Mismatch wrong refl (process_differs kept (other_kind a b other)))
 
       pub process_answers : (d : Kind) → Fits a → Fits c → same_kind a b ≡ true → d ≡ c → Takes Γ (tree p t) a d
       process_answers d fit fits same is' =
           let named : kind_named (name_in p k) Γ.bindings ≡ Some (process a c) = kept ∙ ap (λ b. Some (process b c)) (sym (same_is a b same)) in
-          subst (Takes Γ (tree p t) a) (sym is') (form_ok p Γ t (nodes.Run k n) a is c fit fits (run_takes (process_is (name_in p k) Γ.bindings named)))
+          subst (Takes Γ (tree p t) a) (sym is') (form_ok p Γ t (nodes.Named (Process w) k n) a is c fit fits (started_takes (process_is (name_in p k) Γ.bindings named)))
 
 -- ## A template
 

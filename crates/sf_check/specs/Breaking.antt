@@ -28,6 +28,8 @@ use Rattle.sf_term.specs.declared.form.Side.{Side}
 use Rattle.sf_term.specs.declared.form.Side.TheVariants.{First, Second}
 use Rattle.sf_term.specs.declared.form.Heading.{Heading}
 use Rattle.sf_term.specs.declared.form.Heading.TheVariants.{LoopPre, Initialized}
+use Rattle.sf_term.specs.declared.form.Start.{Start}
+use Rattle.sf_term.specs.declared.form.Naming.TheVariants.{Process}
 use Rattle.sf_term.specs.declared.form.Observation.{Observation}
 use Rattle.sf_term.specs.declared.form.Switching.{Switching}
 use Rattle.sf_term.specs.declared.form.Switching.TheVariants.{Basic, Recurring}
@@ -163,8 +165,8 @@ pub data CallBreaks (p : Program) (Γ : Context) (s : Spot) (vs : List Argument)
 -- On inputs of a type, a form at a spot, with these parts, breaks a rule of its own, at a place.
 pub data FormBreaks (p : Program) (Γ : Context) (s : Spot) : Node → Kind → Breach → Type 0 where
   primitive_breaks : {q : Primitive} {a : Kind} {e : Breach} → PrimitiveBreaks (expressions_of p) Γ s q a e → FormBreaks p Γ s (nodes.Primitive q) a e
-  no_process : {k : NameId} {n : Spot} {a : Kind} {r : Breach} → ProcessRefused (kind_named (name_in p k) Γ.bindings) n r → FormBreaks p Γ s (nodes.Run k n) a r
-  process_differs : {k : NameId} {n : Spot} {a b c : Kind} → kind_named (name_in p k) Γ.bindings ≡ Some (process b c) → a ≢ b → FormBreaks p Γ s (nodes.Run k n) a (breach_of Mismatch s)
+  no_process : {w : Start} {k : NameId} {n : Spot} {a : Kind} {r : Breach} → ProcessRefused (kind_named (name_in p k) Γ.bindings) n r → FormBreaks p Γ s (nodes.Named (Process w) k n) a r
+  process_differs : {w : Start} {k : NameId} {n : Spot} {a b c : Kind} → kind_named (name_in p k) Γ.bindings ≡ Some (process b c) → a ≢ b → FormBreaks p Γ s (nodes.Named (Process w) k n) a (breach_of Mismatch s)
   call_breaks : {k : NameId} {vs : ArgumentsId} {a : Kind} {r : Breach} → CallBreaks p Γ s (arguments_under p vs) a (signature_named (name_in p k) Γ.signatures) r → FormBreaks p Γ s (nodes.Call k vs) a r
   parallel_input : {f g : TermId} {a : Kind} → IsNoPair a → FormBreaks p Γ s (nodes.Joined InParallel f g) a (breach_of Mismatch s)
   parallel_exceeds : {f g : TermId} {a b c d : Kind} → Takes Γ (tree p f) a b → Takes Γ (tree p g) c d → Exceeds (pair_kind b d) → FormBreaks p Γ s (nodes.Joined InParallel f g) (pair_kind a c) (breach_of TypeTooLarge s)

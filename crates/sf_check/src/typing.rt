@@ -8,6 +8,7 @@ ghost use Rattle.sf_expr.specs.Refusals.{Judges, JudgesFunction};
 ghost use Rattle.sf_expr.specs.Typing.{Fits};
 ghost use Rattle.sf_term.specs.Arena.{term_number, term_node_at, term_spot_at, expressions_of, arguments_under, ArgumentBelow, template_in, templates_of};
 ghost use Rattle.sf_term.specs.ParameterView.{kind_of_form};
+ghost use Rattle.sf_term.specs.declared.form.Start.{Start};
 ghost use Rattle.sf_mean.specs.Contexts.{value, names_of_values};
 ghost use Rattle.sf_operator.specs.Breaches.{AnswersKind};
 ghost use Rattle.sf_mean.specs.Typing.{value_kind, takes_time as a_time, timed_kind, accumulated_argument, accumulated_kind, IsTyped};
@@ -26,8 +27,8 @@ use sf_func::Signatures;
 use sf_operator::{event_type, pair_type as pair_of, payload, same};
 use sf_refusal::{Refusal, Rule, Spot};
 use sf_term::{
-    Accumulation, Argument, ArgumentsId, Bare, Heading, Join, Node, Observation, ParameterForm,
-    Primitive, Program, Side, Switching, Template, TermId, Timing, WithValue,
+    Accumulation, Argument, ArgumentsId, Bare, Heading, Join, Naming, Node, Observation,
+    ParameterForm, Primitive, Program, Side, Switching, Template, TermId, Timing, WithValue,
 };
 use sf_value::{Ty, same_type};
 use std::alloc::Global;
@@ -522,7 +523,7 @@ fn process_output(
     input: &Ty,
 ) -> Result<Ty, Refusal>
     requires fits { Fits input.now }
-    requires there { term_node_at (program_in context.now) term ≡ Node.Run name place }
+    requires there { (start : Start) × (term_node_at (program_in context.now) term ≡ Node.Named (Naming.Process start) name place) }
     ensures { AnswersTerm (program_in context.now) (context_in context.now) term input.now result }
 {
     let process = context.process(name, place)?;
@@ -615,7 +616,10 @@ fn output_of(alloc: Global, context: &TypingContext, term: TermId, input: Ty) ->
         Node::Primitive(primitive) => {
             primitive_output(alloc, context, primitive, input, context.program.spot(term))
         }
-        Node::Run(name, place) => process_output(alloc, context, term, name, place, &input),
+        Node::Named(Naming::Process(_), name, place) => {
+            process_output(alloc, context, term, name, place, &input)
+        }
+        Node::Named(Naming::Probe, _, _) => Ok(input),
         Node::Call(name, arguments) => {
             call_output(alloc, context, term, name, arguments, &input)
         }

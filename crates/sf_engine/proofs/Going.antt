@@ -14,6 +14,8 @@ use Rattle.sf_law.specs.Arena.{plan_main}
 use Rattle.sf_state.specs.declared.state.State.{State}
 use Rattle.sf_state.specs.Standing.{Stands}
 use Rattle.sf_step.specs.declared.meter.Meter.{Meter}
+use Rattle.sf_step.specs.Meters.{readings}
+use Rattle.sf_probe.specs.Readings.{readings_of}
 use Rattle.sf_step.specs.Stepping.{Steps, stepped, faulted_so, too_large, no_memory}
 use Rattle.sf_engine.specs.declared.engine.Engine.{Engine}
 use Rattle.sf_engine.specs.declared.engine.Sample.{Sample}
@@ -60,14 +62,15 @@ goes_to {h = h} {o = o} {m = m} {L = L} {S = S} {d = d} {x = x} R H plan functio
     H
     (subst (λ s. AreSavesOf (h.answers o.functions) o.plan m s.entries S) (sym saves) R.saves)
 
--- a value is the sample's
+-- a value and readings are the sample's
 pub sampled_value : {F : Type 0} {h : _} {φ : AnswersByName} {p : Plan} {n : Network} {m : Template} {L : Life} {S : Saves} {y : Data} {s : State} {t : Meter} {e : Engine F h} {z : Sample}
     → network_of_plan φ p ≡ n → Steps φ p (closure m.body empty) L (Ok y) s t
     → (Stands φ p s (closure m.body empty) L → Runs e n m L S)
-    → z.time ≡ e.time → z.value ≡ y → Sampled n m L S (Ok z) e
-sampled_value {n = n} {m = m} {L = L} {y = y} q (stepped {k = k} G entered high stands) f at value =
+    → z.time ≡ e.time → z.value ≡ y → readings_of z.readings ≡ readings t → Sampled n m L S (Ok z) e
+sampled_value {n = n} {m = m} {L = L} {y = y} {t = t} {z = z} q (stepped {k = k} G entered high stands) f at value read =
     gave_value
-    (subst (λ v. Gives n (closure m.body empty) L (gave v []) k) (sym value) (subst (λ n. Gives n (closure m.body empty) L (gave y []) k) q G))
+    (subst (λ r. Gives n (closure m.body empty) L (gave z.value r) k) (sym read)
+    (subst (λ v. Gives n (closure m.body empty) L (gave v (readings t)) k) (sym value) (subst (λ n. Gives n (closure m.body empty) L (gave y (readings t)) k) q G)))
     (at ∙ (f stands).time)
     (f stands)
 

@@ -1,6 +1,7 @@
 -- What an engine answers that takes a list of steps, and what it leaves.
 use Rattle.std.specs.Prelude.{◌≡◌, ◌≢◌, ℕ, List, [], ◌∷◌, Option, Some, None, IfSome, Result, Ok, Err}
 use Rattle.sf_value.specs.Values.{Data, HasKind}
+use Rattle.sf_probe.specs.Readings.{readings_of}
 use Rattle.sf_term.specs.Trees.{Template}
 use Rattle.sf_mean.specs.Lives.{Life, time}
 use Rattle.sf_mean.specs.Meaning.{Network, gave, Cost}
@@ -16,7 +17,7 @@ use Rattle.sf_engine.specs.Sampling.{GivesOutcome, Starts, Advances}
 -- a sample is that at the end of a history
 pub record IsSampleAt (n : Network) (m : Template) (L : Life) (s : Sample) : Type 0 where
   pub cost : Cost
-  pub given : GivesOutcome n m L (gave s.value []) cost
+  pub given : GivesOutcome n m L (gave s.value (readings_of s.readings)) cost
   pub at : s.time ≡ time L
 
 -- Engines over functions that are held by name.

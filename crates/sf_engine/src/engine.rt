@@ -11,6 +11,7 @@ use save::Save;
 use sf_check::Checked;
 use sf_func::Holds;
 use sf_law::{Plan, plain};
+use sf_probe::Readings;
 use sf_state::State;
 use sf_step::{Meter, step};
 use sf_value::{Fault, Ty, Value, has_type};
@@ -33,6 +34,8 @@ pub struct Sample {
     pub time: u64,
     /// The output.
     pub value: Value,
+    /// What its probes read, in order.
+    pub readings: Readings,
 }
 
 /// Why a call doesn't do what it is for. All but `Fault` leave the engine as it was.
@@ -269,7 +272,7 @@ impl<F: Holds> Engine<F> {
         let Ok(kept) = input.clone_in(self.alloc) else {
             return Err(stop(&mut self.stopped, Fault::Memory));
         };
-        let mut meter = Meter::new();
+        let mut meter = Meter::new(self.alloc);
         match step(
             self.alloc,
             &mut self.state,
@@ -285,6 +288,7 @@ impl<F: Holds> Engine<F> {
                 Ok(Sample {
                     time: self.time,
                     value,
+                    readings: meter.take_readings(self.alloc),
                 })
             }
             Err(fault) => Err(stop(&mut self.stopped, fault)),

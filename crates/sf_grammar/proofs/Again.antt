@@ -14,8 +14,10 @@ use Rattle.sf_term.specs.declared.form.Bare.TheVariants as bares
 use Rattle.sf_term.specs.declared.form.WithValue.{WithValue}
 use Rattle.sf_term.specs.declared.form.WithValue.TheVariants as values
 use Rattle.sf_term.specs.declared.form.Heading.TheVariants as headings
+use Rattle.sf_term.specs.declared.form.Naming.{Naming}
+use Rattle.sf_term.specs.declared.form.Naming.TheVariants as namings
 use Rattle.sf_term.specs.Parameters.{NameKind, value as value_kind, process as process_kind, Bindings}
-use Rattle.sf_term.specs.Trees.{terms_with_value, bare, never, with_value, timed, arrow, accumulated, fused, Term, primitive, reference, joined, sided, headed, switching, keeping, staged, run, call, Arguments, no_arguments, value_argument, process_argument, closed_argument, Template, term_depth, arguments_depth, terms_in, terms_in_arguments, expressions_in, expressions_in_arguments}
+use Rattle.sf_term.specs.Trees.{terms_with_value, bare, probe, never, with_value, timed, arrow, accumulated, fused, Term, primitive, reference, joined, sided, headed, switching, keeping, staged, started, call, named_term, Arguments, no_arguments, value_argument, process_argument, closed_argument, Template, term_depth, arguments_depth, terms_in, terms_in_arguments, expressions_in, expressions_in_arguments}
 use Rattle.sf_lex.specs.declared.word.Keyword.TheVariants as words
 use Rattle.sf_lex.specs.declared.symbol.Symbol.TheVariants as symbols
 use Rattle.sf_lex.specs.Tokens.{Tok, keyword, name, number, text, symbol}
@@ -24,9 +26,9 @@ use Rattle.sf_grammar.specs.declared.head.Head.TheVariants as heads
 use Rattle.sf_grammar.specs.declared.head.ExpressionHead.TheVariants as expression_heads
 use Rattle.sf_grammar.specs.declared.head.Link.{Link}
 use Rattle.sf_grammar.specs.declared.head.Link.TheVariants as links
-use Rattle.sf_grammar.specs.Spelling.{stands_initially, head_makes, unary_word, takes_brackets, operator_token, stands_between, mapping_word, maps_in_brackets, folding_word, spell_operand, spell_operands, spell_choice, spell_mapped, spell_folded, spell_called, spell_mapping, spell_keys, spell_type, spell_pattern, spell_literal, spell_expression, spell_function, spell_further, spell_listed, spell_term, spell_arguments, spell_parameter, spell_heading, spell_signature, spell_template, bare_word, value_word, side_word, heading_token, timing_word, accumulation_word, switching_word, keeping_word, join_symbol, in_brackets, type_depth, WritesType, WritesExpression, WritesFunction, WritesTerm, WritesArguments, WritesNameKind, HasWrittenTypes}
-use Rattle.sf_grammar.specs.Reading.{parse_never, parse_timed, Read, got, ◌and_then◌, Counts, counts_with, counts_with_expression, parse_symbol, parse_keys, parse_outer_type, parse_inner_type, parse_pair_type, parse_pattern, parse_pattern_pair, parse_link, linked, parse_linked, bracketed_from, parse_none, parse_prefixed, parse_one_in_brackets, parse_two_in_brackets, parse_conditional, parse_mapping, parse_let, parse_one_and_function, parse_two_and_function, parse_called, expression_head, parse_expression, expression_read, parse_function, parse_join, parse_term, term_read, parse_joined, parse_value, parse_arrow, parse_accumulated, parse_sided, parse_headed, parse_body, parse_switching, parse_run, parse_keeping, Actual, actual_value, actual_process, with_actual, counts_with_actual, parse_argument, parse_arguments, parse_call, behind_leads, parse_further, parse_listed, parse_name_kind, parse_parameter, parse_parameters, parse_heading, parse_signature, parse_template}
-use Rattle.sf_grammar.proofs.Words.{head_again, join_again, link_again, link_token, LinksBetween, unary_again, IsInFront, operator_again, folding_again, keys_again, no_close, no_sf}
+use Rattle.sf_grammar.specs.Spelling.{stands_initially, head_makes, unary_word, takes_brackets, operator_token, stands_between, mapping_word, maps_in_brackets, folding_word, spell_operand, spell_operands, spell_choice, spell_mapped, spell_folded, spell_called, spell_mapping, spell_keys, spell_type, spell_pattern, spell_literal, spell_expression, spell_function, spell_further, spell_listed, spell_term, spell_arguments, spell_parameter, spell_heading, spell_signature, spell_template, bare_word, value_word, side_word, heading_token, timing_word, accumulation_word, switching_word, keeping_word, naming_token, join_symbol, in_brackets, type_depth, WritesType, WritesExpression, WritesFunction, WritesTerm, WritesArguments, WritesNameKind, HasWrittenTypes}
+use Rattle.sf_grammar.specs.Reading.{parse_never, parse_timed, Read, got, ◌and_then◌, Counts, counts_with, counts_with_expression, parse_symbol, parse_keys, parse_outer_type, parse_inner_type, parse_pair_type, parse_pattern, parse_pattern_pair, parse_link, linked, parse_linked, bracketed_from, parse_none, parse_prefixed, parse_one_in_brackets, parse_two_in_brackets, parse_conditional, parse_mapping, parse_let, parse_one_and_function, parse_two_and_function, parse_called, expression_head, parse_expression, expression_read, parse_function, parse_join, parse_term, term_read, parse_joined, parse_value, parse_arrow, parse_accumulated, parse_sided, parse_headed, parse_body, parse_switching, head_at, parse_named, parse_keeping, Actual, actual_value, actual_process, with_actual, counts_with_actual, parse_argument, parse_arguments, parse_call, behind_leads, parse_further, parse_listed, parse_name_kind, parse_parameter, parse_parameters, parse_heading, parse_signature, parse_template}
+use Rattle.sf_grammar.proofs.Words.{head_again, heading_begins, start_again, join_again, link_again, link_token, LinksBetween, unary_again, IsInFront, operator_again, folding_again, keys_again, no_close, no_sf}
 use Rattle.sf_grammar.proofs.Parts.{spell_actual, within, type_within, brackets_behind, three_behind, parts_again, no_leads, further_long}
 
 -- a type that is made of one part
@@ -312,6 +314,12 @@ initialized_again v e d c rest value deep few =
     (pre_again v d (counts_with_expression c e) (symbol symbols.Close ∷ rest) deep (omega (arith, few)))
     ∙ within (c.terms + 2) (primitive (with_value values.InitializedPre e)) start rest few
 
+-- a form that is a name alone
+named_again : (v : Version) (w : Naming) (k : Name) (d : ℕ) (c : Counts) (rest : List Tok) → head_at v (naming_token w ∷ name k ∷ rest) ≡ Some (heads.Named w) → c.terms + terms_in (named_term w k) ≤ 100000
+    → parse_term (suc d) v c (naming_token w ∷ name k ∷ rest) ≡ got (named_term w k) rest
+unfolding parse_term parse_named
+named_again v w k d c rest head few = rw head (within (c.terms + terms_in (named_term w k)) (named_term w k) (naming_token w ∷ name k ∷ rest) rest few)
+
 -- an argument that is an expression
 value_argument_again : (v : Version) (e : Expression) (d : ℕ) (c : Counts) (rest : List Tok) → parse_expression d v c (spell_expression v e ++ rest) ≡ got e rest
     → parse_argument d v (parse_term d v) c (spell_expression v e ++ rest) ≡ got (actual_value e) rest
@@ -337,11 +345,12 @@ long_enough : (front : List Tok) (xs : List (List Tok)) (rest : List Tok) → le
 long_enough front xs rest = omega (arith, further_long xs, length-append (front ++ spell_further xs) rest, length-append front (spell_further xs))
 
 mutual
-  unfolding parse_term parse_joined parse_never parse_value parse_timed parse_arrow parse_accumulated parse_sided parse_headed parse_switching parse_run parse_keeping parse_call
+  unfolding parse_term parse_joined parse_never parse_value parse_timed parse_arrow parse_accumulated parse_sided parse_headed parse_switching parse_keeping parse_call
 
   pub term_again : (v : Version) (t : Term) (d : ℕ) (c : Counts) (rest : List Tok) → d ≤ 64 → term_depth t ≤ d → c.terms + terms_in t ≤ 100000 → c.expressions + expressions_in t ≤ 100000 → WritesTerm v d t
       → parse_term d v c (spell_term v t ++ rest) ≡ got t rest
   term_again v (primitive (bare b)) zero c rest small deep few_terms few_expressions known = absurd (omega arith)
+  term_again v (primitive (probe k)) zero c rest small deep few_terms few_expressions known = absurd (omega arith)
   term_again v (primitive (never t)) zero c rest small deep few_terms few_expressions known = absurd (omega arith)
   term_again v (primitive (with_value k e)) zero c rest small deep few_terms few_expressions known = absurd (omega arith)
   term_again v (primitive (timed k q e)) zero c rest small deep few_terms few_expressions known = absurd (omega arith)
@@ -357,6 +366,7 @@ mutual
   term_again v (keeping w f g k p u) zero c rest small deep few_terms few_expressions known = absurd (omega arith)
   term_again v (primitive (bare b)) (suc d) c rest small deep few_terms few_expressions known =
       rw (head_again (heads.Bare b) tt) (within (c.terms + 1) (primitive (bare b)) (keyword (bare_word b) ∷ rest) rest few_terms)
+  term_again v (primitive (probe k)) (suc d) c rest small deep few_terms few_expressions known = named_again v namings.Probe k d c rest refl few_terms
   term_again v (primitive (never t)) (suc d) c rest small deep few_terms few_expressions known =
       rw (inner_type_again v t d (spell_type v t ++ rest) 0 rest known.shallow (omega (arith, known.few)) known.known)
       (within (c.terms + 1) (primitive (never t)) (keyword words.Never ∷ (spell_type v t ++ rest)) rest few_terms)
@@ -401,7 +411,7 @@ mutual
       let behind : List Tok = spell_term v f ++ (symbol symbols.Close ∷ rest) in
       let start : List Tok = heading_token h ∷ symbol symbols.Open ∷ (spell_expression v e ++ (symbol symbols.Comma ∷ behind)) in
       ap (λ (r : List Tok). parse_term (suc d) v c (heading_token h ∷ symbol symbols.Open ∷ r)) (brackets_behind (spell_expression v e) (spell_term v f) rest (symbol symbols.Comma))
-      ∙ rw (head_again (heads.Headed h) tt) (parts_again (parse_expression d v c) (parse_symbol symbols.Comma) (λ e. parse_term d v (counts_with_expression c e)) (λ e _ f rest. term_read c (head_makes h e f) start rest) e tt f
+      ∙ rw (heading_begins v h (symbol symbols.Open ∷ (spell_expression v e ++ (symbol symbols.Comma ∷ behind)))) (parts_again (parse_expression d v c) (parse_symbol symbols.Comma) (λ e. parse_term d v (counts_with_expression c e)) (λ e _ f rest. term_read c (head_makes h e f) start rest) e tt f
       (spell_expression v e ++ (symbol symbols.Comma ∷ behind)) (symbol symbols.Comma ∷ behind) behind rest
       (expression_again v e d c (symbol symbols.Comma ∷ behind) (omega arith) (omega arith) known.1) refl
       (term_again v f d (counts_with_expression c e) (symbol symbols.Close ∷ rest) (omega arith) (omega arith) (omega arith) (omega arith) known.2))
@@ -417,7 +427,7 @@ mutual
       (term_again v f d c (symbol symbols.Comma ∷ behind) (omega arith) (omega arith) (omega arith) (omega arith) known.0) refl
       (body_again v p g d (counts_with c f) (symbol symbols.Close ∷ rest) (omega arith) (λ rest. term_again v g d (counts_with c f) rest (omega arith) (omega arith) (omega arith) (omega arith) known.1)))
       ∙ within (c.terms + terms_in (switching w f p g)) (switching w f p g) start rest few_terms
-  term_again v (reference (run k)) (suc d) c rest small deep few_terms few_expressions known = within (c.terms + 1) (reference (run k)) (keyword words.Run ∷ name k ∷ rest) rest few_terms
+  term_again v (reference (started w k)) (suc d) c rest small deep few_terms few_expressions known = named_again v (namings.Process w) k d c rest (start_again v w k rest known) few_terms
   term_again v (reference (call g vs)) (suc d) c rest small deep few_terms few_expressions known =
       rw (listed_arguments_again v vs d c rest (omega arith) (omega arith) (omega arith) few_expressions known)
       (within (c.terms + terms_in (reference (call g vs))) (reference (call g vs)) (name g ∷ symbol symbols.Open ∷ (spell_listed (spell_arguments v vs) ++ rest)) rest few_terms)

@@ -30,7 +30,8 @@ use Rattle.sf_refusal.specs.declared.spot.Spot.{Spot}
 use Rattle.sf_lex.specs.Tokens.{Tok, keyword, name, symbol}
 use Rattle.sf_grammar.specs.declared.ty.Version.{Version}
 use Rattle.sf_grammar.specs.Spelling.{value_word, in_brackets, operator_token, join_symbol, spell_mapping, spell_pattern, spell_expression, spell_function, spell_further, spell_listed, spell_term, spell_arguments, spell_parameter, spell_signature, spell_template}
-use Rattle.sf_grammar.specs.Placing.{around, PatternPlaced, unnamed_placed, name_placed, both_placed, ExpressionPlaced, unit_placed, truth_placed, number_placed, constant_placed, variable_placed, pair_placed, prefixed_placed, one_in_brackets_placed, operation_placed, two_in_brackets_placed, conditional_placed, let_placed, one_and_function_placed, two_and_function_placed, called_placed, FunctionPlaced, function_placed, TermPlaced, bare_placed, never_placed, with_value_placed, initialized_placed, timed_placed, arrow_placed, accumulated_placed, joined_placed, sided_placed, headed_placed, switching_placed, run_placed, keeping_placed, call_placed, ArgumentsPlaced, no_arguments_placed, some_arguments_placed, EachArgumentPlaced, no_argument_placed, argument_placed, ArgumentPlaced, value_argument_placed, process_argument_placed, EachParameterPlaced, no_parameter_placed, parameter_placed, ParametersPlaced, no_parameters_placed, some_parameters_placed, TemplatePlaced}
+use Rattle.sf_grammar.specs.Placing.{around, PatternPlaced, unnamed_placed, name_placed, both_placed, ExpressionPlaced, unit_placed, truth_placed, number_placed, constant_placed, variable_placed, pair_placed, prefixed_placed, one_in_brackets_placed, operation_placed, two_in_brackets_placed, conditional_placed, let_placed, one_and_function_placed, two_and_function_placed, called_placed, FunctionPlaced, function_placed, TermPlaced, bare_placed, never_placed, with_value_placed, initialized_placed, timed_placed, arrow_placed, accumulated_placed, joined_placed, sided_placed, headed_placed, switching_placed, named_placed, keeping_placed, call_placed, ArgumentsPlaced, no_arguments_placed, some_arguments_placed, EachArgumentPlaced, no_argument_placed, argument_placed, ArgumentPlaced, value_argument_placed, process_argument_placed, EachParameterPlaced, no_parameter_placed, parameter_placed, ParametersPlaced, no_parameters_placed, some_parameters_placed, TemplatePlaced}
+use Rattle.sf_grammar.proofs.Words.{named_alone}
 
 around_counted : (xs ys : List Spot) (us vs : List Tok) (opening between closing : Spot) (t : Tok) → length xs ≡ length us → length ys ≡ length vs → length (around opening xs between ys closing) ≡ length (in_brackets us t vs)
 around_counted xs ys us vs opening between closing t one two =
@@ -187,7 +188,7 @@ mutual
       rw (node_builds p t _ s.node)
       (ap suc (around_counted us (ps ++ (leads ∷ vs)) (spell_term v (tree p a)) (spell_mapping names body) opening comma closing (symbol symbols.Comma) (term_counted v p a us one)
       (between_counted ps vs names body leads (symbol symbols.MapsTo) (pattern_counted (pattern_under p q) ps pattern.placed) (term_counted v p b vs two))))
-  term_counted v p t xs (run_placed s) = rw (node_builds p t _ s.node) refl
+  term_counted v p t xs (named_placed {w = w} {k = k} s) = rw (node_builds p t _ s.node, (named_alone v w (name_at (expressions_of p) k)).spelled) refl
   term_counted v p t xs (call_placed {a = a} {xs = us} opening s arguments) =
       rw (node_builds p t _ s.node) (ap (λ n. suc (suc n)) (arguments_counted v p (arguments_under p a) us arguments))
   term_counted v p t xs (keeping_placed {a = a} {b = b} {c = c} {k = k} {q = q} {xs = us} {ys = vs} {ps = ps} {zs = zs} {place = place} opening comma second third leads closing s one two pattern three) =

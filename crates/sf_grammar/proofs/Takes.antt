@@ -1,5 +1,5 @@
 -- What is read is spelled so, within the limits.
-use Rattle.std.proofs.Common.{◌≡◌, ℕ, zero, suc, ◌+◌, ◌<◌, ◌≤◌, true, false, pos, List, [], ◌∷◌, ◌++◌, Option, Some, None, refl, sym, ◌∙◌, ap, subst, append_assoc, arith, ℤ, Bool, length, map}
+use Rattle.std.proofs.Common.{◌≡◌, ℕ, zero, suc, ◌+◌, ◌<◌, ◌≤◌, true, false, pos, List, [], ◌∷◌, ◌++◌, Option, Some, None, refl, sym, ◌∙◌, ap, subst, append_assoc, arith, ℤ, Bool, if◌then◌else◌, length, map}
 use Rattle.std.specs.List.{All}
 use Rattle.std.proofs.lemmas.List.Elements.{All-cons, All-nil}
 use Rattle.sf_value.specs.Values.{Name, Kind, pair_kind, event_kind, table_kind, nodes}
@@ -20,8 +20,11 @@ use Rattle.sf_term.specs.declared.form.Heading.{Heading}
 use Rattle.sf_term.specs.declared.form.Heading.TheVariants as headings
 use Rattle.sf_term.specs.declared.form.Observation.{Observation}
 use Rattle.sf_term.specs.declared.form.Switching.{Switching}
+use Rattle.sf_term.specs.declared.form.Start.TheVariants as starts
+use Rattle.sf_term.specs.declared.form.Naming.{Naming}
+use Rattle.sf_term.specs.declared.form.Naming.TheVariants as namings
 use Rattle.sf_term.specs.Parameters.{NameKind, value as value_kind, process as process_kind, Bindings}
-use Rattle.sf_term.specs.Trees.{Primitive, terms_with_value, bare, never, with_value, timed, arrow, accumulated, Term, primitive, reference, joined, sided, headed, switching, keeping, run, call, Arguments, no_arguments, Template, term_depth, arguments_depth, terms_in, expressions_in, expressions_in_arguments}
+use Rattle.sf_term.specs.Trees.{Primitive, terms_with_value, bare, never, with_value, timed, arrow, accumulated, Term, primitive, reference, joined, sided, headed, switching, keeping, call, named_term, Arguments, no_arguments, Template, term_depth, arguments_depth, terms_in, expressions_in, expressions_in_arguments}
 use Rattle.sf_lex.specs.declared.word.Keyword.{Keyword}
 use Rattle.sf_lex.specs.declared.word.Keyword.TheVariants as words
 use Rattle.sf_lex.specs.declared.symbol.Symbol.{Symbol}
@@ -36,9 +39,9 @@ use Rattle.sf_grammar.specs.declared.head.ExpressionHead.{ExpressionHead}
 use Rattle.sf_grammar.specs.declared.head.ExpressionHead.TheVariants as expression_heads
 use Rattle.sf_grammar.specs.declared.head.Link.{Link}
 use Rattle.sf_grammar.specs.declared.head.Link.TheVariants as links
-use Rattle.sf_grammar.specs.Spelling.{stands_initially, spell_value, head_makes, in_brackets, version_number, mapping_word, folding_word, spell_keys, spell_type, spell_mapping, spell_pattern, spell_expression, spell_function, spell_further, spell_listed, spell_term, spell_arguments, spell_name_kind, spell_parameter, spell_heading, spell_signature, spell_template, value_word, side_word, heading_token, timing_word, accumulation_word, switching_word, keeping_word, join_symbol, type_depth, WritesType, IsWrittenType, WritesExpression, WritesFunction, WritesTerm, WritesArguments, WritesNameKind, HasWrittenTypes}
-use Rattle.sf_grammar.specs.Reading.{parse_number, parse_never, parse_timed, Read, got, ◌and_then◌, Counts, counts_with, counts_with_expression, begins_type, begins_pattern, begins_expression, begins_term, type_head, word_kind, parse_keys, parse_outer_type, parse_headed_type, type_from, parse_inner_type, parse_pair_type, parse_pattern, parse_pattern_pair, link_of, link_from, parse_link, linked, parse_linked, behind_close, bracketed_from, parse_none, expression_head, parse_prefixed, parse_one_in_brackets, parse_two_in_brackets, parse_conditional, parse_mapping, parse_let, mapped_by, folded_by, parse_one_and_function, parse_two_and_function, parse_called, parse_worded_expression, parse_expression, expression_read, parse_function, parse_term, parse_joined, parse_value, parse_arrow, parse_accumulated, parse_sided, parse_headed, parse_body, parse_switching, parse_run, parse_keeping, Actual, actual_value, actual_process, with_actual, counts_with_actual, behind_sf, argument_from, parse_argument, parse_arguments, parse_call, behind_leads, further_from, parse_further, listed_from, parse_listed, parameter_kind_from, parse_name_kind, parse_parameter, parse_parameters, parse_separator, parse_behind_head, head_of, join_of, parse_join, join_from, term_read, parse_parts, parse_opening, parse_heading, parse_signature, parse_template, template_of, parse_symbol, parse_name, parse_type, parse_keyword, parse_version}
-use Rattle.sf_grammar.proofs.Words.{IsHeadToken, head_takes, join_takes, link_token, LinksBetween, IsLinkToken, link_takes, BeginsWith, expression_head_takes, type_word, type_token, type_head_takes, IsWordKind, word_kind_is, close_takes, leads_takes, sf_takes}
+use Rattle.sf_grammar.specs.Spelling.{stands_initially, spell_value, head_makes, in_brackets, version_number, mapping_word, folding_word, spell_keys, spell_type, spell_mapping, spell_pattern, spell_expression, spell_function, spell_further, spell_listed, spell_term, spell_arguments, spell_name_kind, spell_parameter, spell_heading, spell_signature, spell_template, value_word, side_word, heading_token, timing_word, accumulation_word, switching_word, keeping_word, naming_token, join_symbol, type_depth, WritesType, IsWrittenType, WritesExpression, WritesFunction, WritesTerm, WritesArguments, WritesNameKind, HasWrittenTypes}
+use Rattle.sf_grammar.specs.Reading.{parse_number, parse_never, parse_timed, Read, got, ◌and_then◌, Counts, counts_with, counts_with_expression, begins_type, begins_pattern, begins_expression, begins_term, type_head, word_kind, parse_keys, parse_outer_type, parse_headed_type, type_from, parse_inner_type, parse_pair_type, parse_pattern, parse_pattern_pair, link_of, link_from, parse_link, linked, parse_linked, behind_close, bracketed_from, parse_none, expression_head, parse_prefixed, parse_one_in_brackets, parse_two_in_brackets, parse_conditional, parse_mapping, parse_let, mapped_by, folded_by, parse_one_and_function, parse_two_and_function, parse_called, parse_worded_expression, parse_expression, expression_read, parse_function, parse_term, parse_joined, parse_value, parse_arrow, parse_accumulated, parse_sided, parse_headed, parse_body, parse_switching, parse_named, parse_keeping, Actual, actual_value, actual_process, with_actual, counts_with_actual, behind_sf, argument_from, parse_argument, parse_arguments, parse_call, behind_leads, further_from, parse_further, listed_from, parse_listed, parameter_kind_from, parse_name_kind, parse_parameter, parse_parameters, parse_separator, parse_behind_head, begins_fresh, head_of, join_of, parse_join, join_from, term_read, parse_parts, parse_opening, parse_heading, parse_signature, parse_template, template_of, parse_symbol, parse_name, parse_type, parse_keyword, parse_version}
+use Rattle.sf_grammar.proofs.Words.{IsHeadToken, head_takes, IsFresh, fresh_takes, IsLone, named_alone, keyword_written, join_takes, link_token, LinksBetween, IsLinkToken, link_takes, BeginsWith, expression_head_takes, type_word, type_token, type_head_takes, IsWordKind, word_kind_is, close_takes, leads_takes, sf_takes}
 use Rattle.sf_grammar.proofs.Parts.{spell_actual, separator_token, separator_takes, Same, bind_got, got_same, within_takes, deep_takes, met_takes, parts_takes, brackets_took, three_behind, symbol_takes, keyword_takes, name_takes, version_takes, TookKeys, keys_takes}
 
 pub record TookType (v : Version) (d met : ℕ) (tokens : List Tok) (k : Kind) (rest : List Tok) : Type 0 where
@@ -686,15 +689,22 @@ switching_takes v d c w tokens t rest part few is =
       known = (one.known, two.known);
     }))))
 
-run_takes : (v : Version) (d : ℕ) (c : Counts) (tokens : List Tok) (t : Term) (rest : List Tok) → c.expressions ≤ 100000
-    → parse_run c (keyword words.Run ∷ tokens) tokens ≡ got t rest → Took v (suc d) c (keyword words.Run ∷ tokens) t rest
-unfolding parse_run
-run_takes v d c tokens t rest few is =
-    let start : List Tok = keyword words.Run ∷ tokens in
-    bind_got (λ k r. term_read c (reference (run k)) start r) (parse_name tokens) t rest is (λ k behind at_k is_k.
-    within_takes (c.terms + 1) (reference (run k)) t start behind rest is_k (λ few_terms same.
-    took_as v (suc d) c start (reference (run k)) t behind rest same
-    (record { spelled = ap (λ r. keyword words.Run ∷ r) (name_takes tokens k behind at_k); shallow = omega arith; few_terms = few_terms; few_expressions = omega arith; known = tt })))
+-- a form that is a name alone
+named_takes : (v : Version) (d : ℕ) (c : Counts) (w : Naming) (tokens : List Tok) (t : Term) (rest : List Tok) → c.expressions ≤ 100000 → ((k : Name) → WritesTerm v (suc d) (named_term w k))
+    → parse_named w c (naming_token w ∷ tokens) tokens ≡ got t rest → Took v (suc d) c (naming_token w ∷ tokens) t rest
+unfolding parse_named
+named_takes v d c w tokens t rest few known is =
+    let start : List Tok = naming_token w ∷ tokens in
+    bind_got (λ k r. term_read c (named_term w k) start r) (parse_name tokens) t rest is (λ k behind at_k is_k.
+    within_takes (c.terms + terms_in (named_term w k)) (named_term w k) t start behind rest is_k (λ few_terms same.
+    let lone : IsLone v w k = named_alone v w k in
+    took_as v (suc d) c start (named_term w k) t behind rest same (record {
+      spelled = ap (λ r. naming_token w ∷ r) (name_takes tokens k behind at_k) ∙ ap (λ r. r ++ behind) (sym lone.spelled);
+      shallow = omega (arith, lone.depth);
+      few_terms = few_terms;
+      few_expressions = omega (arith, lone.expressions);
+      known = known k;
+    })))
 
 -- two terms, a name and the body that knows the first by it, in brackets
 keeping_takes : (v : Version) (d : ℕ) (c : Counts) (w : Observation) (tokens : List Tok) (t : Term) (rest : List Tok) → Takes v d → c.expressions ≤ 100000
@@ -943,17 +953,27 @@ behind_head_takes v d c (Some (heads.Headed h)) k tokens t rest part found few i
     by_token v d c k (heading_token h) tokens t rest (λ start. parse_headed d v (parse_term d v) c h start tokens) (head_takes k (heads.Headed h) tt found).token is (headed_takes v d c h tokens t rest part)
 behind_head_takes v d c (Some (heads.Switching w)) k tokens t rest part found few is =
     by_token v d c k (keyword (switching_word w)) tokens t rest (λ start. parse_switching d (parse_term d v) c w start tokens) (head_takes k (heads.Switching w) tt found).token is (switching_takes v d c w tokens t rest part few)
-behind_head_takes v d c (Some heads.Run) k tokens t rest part found few is =
-    by_token v d c k (keyword words.Run) tokens t rest (λ start. parse_run c start tokens) (head_takes k heads.Run tt found).token is (run_takes v d c tokens t rest few)
+behind_head_takes v d c (Some (heads.Named w)) k tokens t rest part found few is =
+    let head : IsHeadToken k (heads.Named w) = head_takes k (heads.Named w) tt found in
+    by_token v d c k (naming_token w) tokens t rest (λ start. parse_named w c start tokens) head.token is (named_takes v d c w tokens t rest few (λ n. keyword_written v w d n head.begins))
 behind_head_takes v d c (Some (heads.Keeping w)) k tokens t rest part found few is =
     by_token v d c k (keyword (keeping_word w)) tokens t rest (λ start. parse_keeping d (parse_term d v) c w start tokens) (head_takes k (heads.Keeping w) tt found).token is (keeping_takes v d c w tokens t rest part few)
 behind_head_takes v d c (Some heads.Call) k tokens t rest part found few is = call_takes v d c (k ∷ tokens) t rest part few is
 behind_head_takes v d c None k tokens t rest part found few is = cc
 
+-- a form that begins a process anew, or that its first token begins
+head_at_takes : (v : Version) (d : ℕ) (c : Counts) (fresh : Bool) (k : Tok) (tokens : List Tok) (t : Term) (rest : List Tok) → Takes v d → begins_fresh v (k ∷ tokens) ≡ fresh → c.expressions ≤ 100000
+    → parse_behind_head d v (parse_term d v) c (if fresh then Some (heads.Named (namings.Process starts.Fresh)) else head_of k) (k ∷ tokens) tokens ≡ got t rest → Took v (suc d) c (k ∷ tokens) t rest
+head_at_takes v d c true k tokens t rest part found few is =
+    let first : IsFresh v k = fresh_takes v k tokens found in
+    by_token v d c k (naming_token (namings.Process starts.Fresh)) tokens t rest (λ start. parse_named (namings.Process starts.Fresh) c start tokens) first.token is
+    (named_takes v d c (namings.Process starts.Fresh) tokens t rest few (λ n. first.written))
+head_at_takes v d c false k tokens t rest part found few is = behind_head_takes v d c (head_of k) k tokens t rest part refl few is
+
 pub term_takes : (v : Version) (d : ℕ) → Takes v d
 unfolding parse_term
 term_takes v zero c tokens t rest few is = deep_takes begins_term tokens t rest is
-term_takes v (suc d) c (k ∷ tokens) t rest few is = behind_head_takes v d c (head_of k) k tokens t rest (term_takes v d) refl few is
+term_takes v (suc d) c (k ∷ tokens) t rest few is = head_at_takes v d c (begins_fresh v (k ∷ tokens)) k tokens t rest (term_takes v d) refl few is
 term_takes v (suc d) c [] t rest few is = cc
 
 -- what was read in front of a header's types and between them and behind

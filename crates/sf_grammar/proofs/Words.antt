@@ -1,5 +1,7 @@
 -- Words and symbols, and the forms that they stand for.
-use Rattle.std.proofs.Common.{◌≡◌, Bool, true, false, List, [], ◌∷◌, ◌++◌, Option, Some, None, option_map, refl, sym, subst}
+use Rattle.std.proofs.Common.{◌≡◌, ℕ, suc, Bool, true, false, List, [], ◌∷◌, ◌++◌, Option, Some, None, option_map, refl, sym, ap, subst}
+use Rattle.std.specs.Prelude.{◌&&◌, bytes_eq, codes}
+use Rattle.std.proofs.lemmas.Slice.Eq.{bytes_eq-Decides}
 use Rattle.sf_term.specs.declared.form.Bare.TheVariants as bares
 use Rattle.sf_term.specs.declared.form.WithValue.TheVariants as values
 use Rattle.sf_term.specs.declared.form.Timing.TheVariants as timings
@@ -7,9 +9,15 @@ use Rattle.sf_term.specs.declared.form.Accumulation.TheVariants as accumulations
 use Rattle.sf_term.specs.declared.form.Join.{Join}
 use Rattle.sf_term.specs.declared.form.Join.TheVariants as joins
 use Rattle.sf_term.specs.declared.form.Side.TheVariants as sides
+use Rattle.sf_term.specs.declared.form.Heading.{Heading}
 use Rattle.sf_term.specs.declared.form.Heading.TheVariants as headings
 use Rattle.sf_term.specs.declared.form.Observation.TheVariants as observations
 use Rattle.sf_term.specs.declared.form.Switching.TheVariants as switches
+use Rattle.sf_term.specs.declared.form.Start.{Start}
+use Rattle.sf_term.specs.declared.form.Start.TheVariants as starts
+use Rattle.sf_term.specs.declared.form.Naming.{Naming}
+use Rattle.sf_term.specs.declared.form.Naming.TheVariants as namings
+use Rattle.sf_term.specs.Trees.{named_term, term_depth, terms_in, expressions_in}
 use Rattle.sf_operator.specs.declared.operator.Unary.{Unary}
 use Rattle.sf_operator.specs.declared.operator.Unary.TheVariants as unaries
 use Rattle.sf_operator.specs.declared.operator.Operator.{Operator}
@@ -29,7 +37,7 @@ use Rattle.sf_lex.specs.declared.word.Keyword.TheVariants as words
 use Rattle.sf_lex.specs.declared.symbol.Symbol.{Symbol}
 use Rattle.sf_lex.specs.declared.symbol.Symbol.TheVariants as symbols
 use Rattle.sf_lex.specs.Tokens.{Tok, keyword, name, symbol}
-use Rattle.sf_value.specs.Values.{KeyKind, int_keys, text_keys, nodes}
+use Rattle.sf_value.specs.Values.{Name, KeyKind, int_keys, text_keys, nodes}
 use Rattle.sf_grammar.specs.declared.ty.Version.{Version}
 use Rattle.sf_grammar.specs.declared.ty.Version.TheVariants as versions
 use Rattle.sf_grammar.specs.declared.ty.WordType.{WordType}
@@ -42,8 +50,8 @@ use Rattle.sf_grammar.specs.declared.head.ExpressionHead.{ExpressionHead}
 use Rattle.sf_grammar.specs.declared.head.ExpressionHead.TheVariants as expression_heads
 use Rattle.sf_grammar.specs.declared.head.Link.{Link}
 use Rattle.sf_grammar.specs.declared.head.Link.TheVariants as links
-use Rattle.sf_grammar.specs.Spelling.{bare_word, value_word, stands_initially, timing_word, accumulation_word, side_word, heading_token, switching_word, keeping_word, join_symbol, unary_word, takes_brackets, operator_token, stands_between, mapping_word, maps_in_brackets, folding_word, in_brackets, spell_operand, spell_operands, spell_mapping, spell_mapped_so, spell_pattern, spell_type, spell_keys, type_depth, WritesKeys, WritesType, spell_expression}
-use Rattle.sf_grammar.specs.Reading.{head_of, join_of, operator_of, link_of, expression_head, type_head, word_kind, got, parse_keys, behind_close, behind_leads, behind_sf}
+use Rattle.sf_grammar.specs.Spelling.{bare_word, value_word, stands_initially, timing_word, accumulation_word, side_word, heading_token, switching_word, keeping_word, naming_token, spell_term, has_fresh, WritesStart, WritesTerm, join_symbol, unary_word, takes_brackets, operator_token, stands_between, mapping_word, maps_in_brackets, folding_word, in_brackets, spell_operand, spell_operands, spell_mapping, spell_mapped_so, spell_pattern, spell_type, spell_keys, type_depth, WritesKeys, WritesType, spell_expression}
+use Rattle.sf_grammar.specs.Reading.{head_of, begins_fresh, head_at, join_of, operator_of, link_of, expression_head, type_head, word_kind, got, parse_keys, behind_close, behind_leads, behind_sf}
 
 -- the first token of a form; a call begins with any name, of which this is one
 abbrev pub head_token : Head → Tok
@@ -57,13 +65,19 @@ head_token heads.Joined = symbol symbols.Open
 head_token (heads.Sided s) = keyword (side_word s)
 head_token (heads.Headed h) = heading_token h
 head_token (heads.Switching w) = keyword (switching_word w)
-head_token heads.Run = keyword words.Run
+head_token (heads.Named w) = naming_token w
 head_token (heads.Keeping w) = keyword (keeping_word w)
 head_token heads.Call = name []
 
--- the form begins with that token: a value stands behind its word
+-- a form that is a name alone begins with a keyword
+abbrev pub HasKeyword : Naming → Type 0
+HasKeyword (namings.Process starts.Fresh) = ⊥
+HasKeyword w = Unit {0}
+
+-- the form begins with that token: a value stands behind its word, and `fresh` is none
 abbrev pub BeginsSo : Head → Type 0
 BeginsSo (heads.WithValue k) = stands_initially k ≡ false
+BeginsSo (heads.Named w) = HasKeyword w
 BeginsSo h = Unit {0}
 
 pub head_again : (h : Head) → BeginsSo h → head_of (head_token h) ≡ Some h
@@ -94,7 +108,9 @@ head_again (heads.Switching (switches.Basic observations.Immediate)) begins = re
 head_again (heads.Switching (switches.Basic observations.Delayed)) begins = refl
 head_again (heads.Switching (switches.Recurring observations.Immediate)) begins = refl
 head_again (heads.Switching (switches.Recurring observations.Delayed)) begins = refl
-head_again heads.Run begins = refl
+head_again (heads.Named (namings.Process starts.Run)) begins = refl
+head_again (heads.Named (namings.Process starts.Fresh)) begins = absurd begins
+head_again (heads.Named namings.Probe) begins = refl
 head_again (heads.Keeping observations.Immediate) begins = refl
 head_again (heads.Keeping observations.Delayed) begins = refl
 head_again heads.Call begins = refl
@@ -139,11 +155,54 @@ head_takes (keyword words.Switch) h own e = head_as (keyword words.Switch) (head
 head_takes (keyword words.DSwitch) h own e = head_as (keyword words.DSwitch) (heads.Switching (switches.Basic observations.Delayed)) h e refl tt
 head_takes (keyword words.RSwitch) h own e = head_as (keyword words.RSwitch) (heads.Switching (switches.Recurring observations.Immediate)) h e refl tt
 head_takes (keyword words.DrSwitch) h own e = head_as (keyword words.DrSwitch) (heads.Switching (switches.Recurring observations.Delayed)) h e refl tt
-head_takes (keyword words.Run) h own e = head_as (keyword words.Run) heads.Run h e refl tt
+head_takes (keyword words.Run) h own e = head_as (keyword words.Run) (heads.Named (namings.Process starts.Run)) h e refl tt
+head_takes (keyword words.Probe) h own e = head_as (keyword words.Probe) (heads.Named namings.Probe) h e refl tt
 head_takes (keyword words.KSwitch) h own e = head_as (keyword words.KSwitch) (heads.Keeping observations.Immediate) h e refl tt
 head_takes (keyword words.DkSwitch) h own e = head_as (keyword words.DkSwitch) (heads.Keeping observations.Delayed) h e refl tt
 head_takes (name n) h own e = absurd (let p : heads.Call ≡ h = cc in subst HasOwnToken (sym p) own)
 head_takes _ h own e = cc
+
+-- the form with an expression at its head begins again, whatever follows
+pub heading_begins : (v : Version) (h : Heading) (rest : List Tok) → head_at v (heading_token h ∷ rest) ≡ Some (heads.Headed h)
+heading_begins v headings.LoopPre rest = refl
+heading_begins v headings.Initialized rest = refl
+
+-- a process begins again where it is written to begin
+pub start_again : (v : Version) (w : Start) (k : Name) (rest : List Tok) → WritesStart v w → head_at v (naming_token (namings.Process w) ∷ name k ∷ rest) ≡ Some (heads.Named (namings.Process w))
+start_again v starts.Run k rest written = refl
+start_again versions.One starts.Fresh k rest written = absurd cc
+start_again versions.Two starts.Fresh k rest written = refl
+
+-- `fresh` in front of a name, in a text that has it
+pub record IsFresh (v : Version) (t : Tok) : Type 0 where
+  pub token : t ≡ naming_token (namings.Process starts.Fresh)
+  pub written : WritesStart v starts.Fresh
+
+fresh_name : (v : Version) (w : Name) (has same : Bool) → has_fresh v ≡ has → bytes_eq w (codes "fresh") ≡ same → has && same ≡ true → IsFresh v (name w)
+fresh_name v w true true has same e = record { token = ap name ((bytes_eq-Decides w (codes "fresh")).0 same); written = has }
+fresh_name v w true false has same e = cc
+fresh_name v w false _ has same e = cc
+
+pub fresh_takes : (v : Version) (t : Tok) (rest : List Tok) → begins_fresh v (t ∷ rest) ≡ true → IsFresh v t
+fresh_takes v (name w) (name k ∷ rest) e = fresh_name v w (has_fresh v) (bytes_eq w (codes "fresh")) refl refl e
+fresh_takes v _ _ e = cc
+
+-- a form that is a name alone is one term, of its first token and its name
+pub record IsLone (v : Version) (w : Naming) (k : Name) : Type 0 where
+  pub spelled : spell_term v (named_term w k) ≡ naming_token w ∷ name k ∷ []
+  pub depth : term_depth (named_term w k) ≡ 1
+  pub terms : terms_in (named_term w k) ≡ 1
+  pub expressions : expressions_in (named_term w k) ≡ 0
+
+pub named_alone : (v : Version) (w : Naming) (k : Name) → IsLone v w k
+named_alone v (namings.Process w) k = record { spelled = refl; depth = refl; terms = refl; expressions = refl }
+named_alone v namings.Probe k = record { spelled = refl; depth = refl; terms = refl; expressions = refl }
+
+-- each version has the forms that begin with a keyword
+pub keyword_written : (v : Version) (w : Naming) (d : ℕ) (k : Name) → HasKeyword w → WritesTerm v (suc d) (named_term w k)
+keyword_written v (namings.Process starts.Run) d k begins = tt
+keyword_written v (namings.Process starts.Fresh) d k begins = absurd begins
+keyword_written v namings.Probe d k begins = tt
 
 pub join_again : (j : Join) → join_of (join_symbol j) ≡ Some j
 join_again joins.InSequence = refl

@@ -24,6 +24,7 @@ use Rattle.sf_term.specs.declared.form.Side.{Side}
 use Rattle.sf_term.specs.declared.form.Heading.{Heading}
 use Rattle.sf_term.specs.declared.form.Observation.{Observation}
 use Rattle.sf_term.specs.declared.form.Switching.{Switching}
+use Rattle.sf_term.specs.declared.form.Naming.{Naming}
 use Rattle.sf_term.specs.declared.node.TermId.{TermId}
 use Rattle.sf_term.specs.declared.node.ArgumentsId.{ArgumentsId}
 use Rattle.sf_term.specs.declared.node.Argument.{Argument}
@@ -124,7 +125,7 @@ mutual
         → ExpressionPlaced v p e xs → TermPlaced v p a ys → TermPlaced v p id (at ∷ around opening xs comma ys closing)
     switching_placed : {id a b : TermId} {w : Switching} {q : PatternId} {xs ps ys : List Spot} {at : Spot} (opening comma leads closing : Spot) → TermStands p id (nodes.Switching w a q b) at
         → TermPlaced v p a xs → PatternStands p q ps → TermPlaced v p b ys → TermPlaced v p id (at ∷ around opening xs comma (ps ++ (leads ∷ ys)) closing)
-    run_placed : {id : TermId} {k : NameId} {at place : Spot} → TermStands p id (nodes.Run k place) at → TermPlaced v p id (at ∷ place ∷ [])
+    named_placed : {id : TermId} {w : Naming} {k : NameId} {at place : Spot} → TermStands p id (nodes.Named w k place) at → TermPlaced v p id (at ∷ place ∷ [])
     keeping_placed : {id a b c : TermId} {w : Observation} {k : NameId} {q : PatternId} {xs ys ps zs : List Spot} {at place : Spot} (opening comma second third leads closing : Spot) → TermStands p id (nodes.Keeping w a b k place q c) at
         → TermPlaced v p a xs → TermPlaced v p b ys → PatternStands p q ps → TermPlaced v p c zs → TermPlaced v p id (at ∷ around opening xs comma (ys ++ (second ∷ place ∷ third ∷ (ps ++ (leads ∷ zs)))) closing)
     call_placed : {id : TermId} {g : NameId} {a : ArgumentsId} {xs : List Spot} {at : Spot} (opening : Spot) → TermStands p id (nodes.Call g a) at

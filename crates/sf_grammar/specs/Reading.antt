@@ -1,5 +1,5 @@
 -- What reading a list of tokens from left to right gives.
-use Rattle.std.specs.Prelude.{ℕ, zero, suc, ◌+◌, nat_le, nat_lt, Bool, true, false, pos, List, [], ◌∷◌, length, Option, Some, None, is_some, option_map, if◌then◌else◌, ℤ}
+use Rattle.std.specs.Prelude.{ℕ, zero, suc, ◌+◌, nat_le, nat_lt, Bool, true, false, pos, List, [], ◌∷◌, length, Option, Some, None, is_some, option_map, if◌then◌else◌, ◌&&◌, bytes_eq, codes, ℤ}
 use Rattle.std.specs.Ordering.{int_eq}
 use denote.Enum.Bare.{sameb}
 use Rattle.sf_value.specs.Values.{Name, KeyKind, int_keys, text_keys, Kind, unit_kind, bool_kind, int_kind, text_kind, pair_kind, event_kind, table_kind, nodes}
@@ -34,8 +34,11 @@ use Rattle.sf_term.specs.declared.form.Switching.{Switching}
 use Rattle.sf_term.specs.declared.form.Observation.{Observation}
 use Rattle.sf_term.specs.declared.form.Observation.TheVariants as observations
 use Rattle.sf_term.specs.declared.form.Switching.TheVariants as switches
+use Rattle.sf_term.specs.declared.form.Start.TheVariants as starts
+use Rattle.sf_term.specs.declared.form.Naming.{Naming}
+use Rattle.sf_term.specs.declared.form.Naming.TheVariants as namings
 use Rattle.sf_term.specs.Parameters.{NameKind, value as value_kind, process as process_kind, Bindings}
-use Rattle.sf_term.specs.Trees.{Term, primitive, reference, joined, sided, switching, keeping, run, call, Arguments, no_arguments, value_argument, process_argument, bare, never, with_value, timed, arrow, accumulated, Template, terms_in, expressions_in}
+use Rattle.sf_term.specs.Trees.{Term, primitive, reference, joined, sided, switching, keeping, call, named_term, Arguments, no_arguments, value_argument, process_argument, bare, never, with_value, timed, arrow, accumulated, Template, terms_in, expressions_in}
 use Rattle.sf_lex.specs.declared.word.Keyword.{Keyword}
 use Rattle.sf_lex.specs.declared.word.Keyword.TheVariants as words
 use Rattle.sf_lex.specs.declared.symbol.Symbol.{Symbol}
@@ -46,7 +49,7 @@ use Rattle.sf_lex.specs.Tokens.{Tok, keyword, name, number, text, symbol}
 use Rattle.sf_refusal.specs.declared.rule.Rule.{Rule}
 use Rattle.sf_refusal.specs.declared.rule.Rule.TheVariants.{Unexpected, TooDeep, Version as NoVersion, WrittenTypeTooLarge, TooMany}
 use Rattle.sf_grammar.specs.declared.ty.Version.{Version}
-use Rattle.sf_grammar.specs.Spelling.{head_makes}
+use Rattle.sf_grammar.specs.Spelling.{has_fresh, head_makes}
 use Rattle.sf_grammar.specs.declared.ty.Version.TheVariants as versions
 use Rattle.sf_grammar.specs.declared.ty.WordType.{WordType}
 use Rattle.sf_grammar.specs.declared.ty.WordType.TheVariants as word_types
@@ -498,11 +501,22 @@ head_of (keyword words.Switch) = Some (heads.Switching (switches.Basic observati
 head_of (keyword words.DSwitch) = Some (heads.Switching (switches.Basic observations.Delayed))
 head_of (keyword words.RSwitch) = Some (heads.Switching (switches.Recurring observations.Immediate))
 head_of (keyword words.DrSwitch) = Some (heads.Switching (switches.Recurring observations.Delayed))
-head_of (keyword words.Run) = Some heads.Run
+head_of (keyword words.Run) = Some (heads.Named (namings.Process starts.Run))
+head_of (keyword words.Probe) = Some (heads.Named namings.Probe)
 head_of (keyword words.KSwitch) = Some (heads.Keeping observations.Immediate)
 head_of (keyword words.DkSwitch) = Some (heads.Keeping observations.Delayed)
 head_of (name n) = Some heads.Call
 head_of _ = None
+
+-- `fresh` in front of a name begins a process anew, in a text of a version that has it
+abbrev pub begins_fresh : Version → List Tok → Bool
+begins_fresh v (name w ∷ name k ∷ rest) = has_fresh v && bytes_eq w (codes "fresh")
+begins_fresh v tokens = false
+
+-- the form that tokens begin
+abbrev pub head_at : Version → List Tok → Option Head
+head_at v (t ∷ rest) = if begins_fresh v (t ∷ rest) then Some (heads.Named (namings.Process starts.Fresh)) else head_of t
+head_at v [] = None
 
 abbrev pub join_of : Symbol → Option Join
 join_of symbols.InSequence = Some joins.InSequence
@@ -561,9 +575,9 @@ parse_switching left part c w start tokens =
     parse_symbol symbols.Open tokens and_then λ _ rest.
     parse_parts (part c) (parse_symbol symbols.Comma) (λ f. parse_body left part (counts_with c f)) (λ f _ b rest. term_read c (switching w f b.0 b.1) start rest) rest
 
--- behind `run`
-unfoldable pub parse_run : Counts → List Tok → List Tok → Read Term
-parse_run c start tokens = parse_name tokens and_then λ k rest. term_read c (reference (run k)) start rest
+-- behind the first token of a form that is a name alone
+unfoldable pub parse_named : Naming → Counts → List Tok → List Tok → Read Term
+parse_named w c start tokens = parse_name tokens and_then λ k rest. term_read c (named_term w k) start rest
 
 -- an argument of a call: a value, or a term that is a process
 pub data Actual : Type 0 where
@@ -643,14 +657,14 @@ parse_behind_head left v part c (Some heads.Joined) start tokens = parse_joined 
 parse_behind_head left v part c (Some (heads.Sided s)) start tokens = parse_sided part c s start tokens
 parse_behind_head left v part c (Some (heads.Headed h)) start tokens = parse_headed left v part c h start tokens
 parse_behind_head left v part c (Some (heads.Switching w)) start tokens = parse_switching left part c w start tokens
-parse_behind_head left v part c (Some heads.Run) start tokens = parse_run c start tokens
+parse_behind_head left v part c (Some (heads.Named w)) start tokens = parse_named w c start tokens
 parse_behind_head left v part c (Some (heads.Keeping w)) start tokens = parse_keeping left part c w start tokens
 parse_behind_head left v part c (Some heads.Call) start tokens = parse_call left v part c start
 parse_behind_head left v part c None start tokens = stop Unexpected start
 
--- a term by its first token
+-- a term by its first tokens
 abbrev pub parse_form : ℕ → Version → (Counts → List Tok → Read Term) → Counts → List Tok → Read Term
-parse_form left v part c (t ∷ rest) = parse_behind_head left v part c (head_of t) (t ∷ rest) rest
+parse_form left v part c (t ∷ rest) = parse_behind_head left v part c (head_at v (t ∷ rest)) (t ∷ rest) rest
 parse_form left v part c [] = stop Unexpected []
 
 abbrev pub begins_term : Tok → Bool

@@ -1,5 +1,5 @@
 -- Networks, and the tokens that spell them.
-use Rattle.std.specs.Prelude.{◌≡◌, ℕ, suc, max, Bool, true, false, ◌≤◌, pos, List, [], ◌∷◌, ◌++◌, map, ⊤}
+use Rattle.std.specs.Prelude.{◌≡◌, ℕ, suc, max, Bool, true, false, IsTrue, ◌≤◌, pos, List, [], ◌∷◌, ◌++◌, map, ⊤, codes}
 use Rattle.std.specs.List.{All, flat_map, sum_by}
 use Rattle.sf_value.specs.Values.{Name, KeyKind, int_keys, text_keys, Kind, unit_kind, bool_kind, int_kind, text_kind, pair_kind, event_kind, table_kind, nodes}
 use Rattle.sf_operator.specs.declared.operator.Unary.{Unary}
@@ -34,8 +34,12 @@ use Rattle.sf_term.specs.declared.form.Switching.{Switching}
 use Rattle.sf_term.specs.declared.form.Observation.{Observation}
 use Rattle.sf_term.specs.declared.form.Observation.TheVariants as observations
 use Rattle.sf_term.specs.declared.form.Switching.TheVariants as switches
+use Rattle.sf_term.specs.declared.form.Start.{Start}
+use Rattle.sf_term.specs.declared.form.Start.TheVariants as starts
+use Rattle.sf_term.specs.declared.form.Naming.{Naming}
+use Rattle.sf_term.specs.declared.form.Naming.TheVariants as namings
 use Rattle.sf_term.specs.Parameters.{NameKind, value as value_kind, process as process_kind}
-use Rattle.sf_term.specs.Trees.{bare, never, with_value, timed, arrow, accumulated, fused, Term, primitive, reference, joined, sided, headed, switching, keeping, staged, Reference, run, call, Arguments, no_arguments, value_argument, process_argument, closed_argument, Template, Templates, term_depth, terms_in, expressions_in}
+use Rattle.sf_term.specs.Trees.{bare, probe, never, with_value, timed, arrow, accumulated, fused, Term, primitive, reference, joined, sided, headed, switching, keeping, staged, Reference, started, call, Arguments, no_arguments, value_argument, process_argument, closed_argument, Template, Templates, term_depth, terms_in, expressions_in}
 use Rattle.sf_lex.specs.declared.word.Keyword.{Keyword}
 use Rattle.sf_lex.specs.declared.word.Keyword.TheVariants as words
 use Rattle.sf_lex.specs.declared.symbol.Symbol.{Symbol}
@@ -108,6 +112,12 @@ switching_word (switches.Recurring observations.Delayed) = words.DrSwitch
 abbrev pub keeping_word : Observation → Keyword
 keeping_word observations.Immediate = words.KSwitch
 keeping_word observations.Delayed = words.DkSwitch
+
+-- the first token of a form that is a name alone: `fresh` is no keyword
+abbrev pub naming_token : Naming → Tok
+naming_token (namings.Process starts.Run) = keyword words.Run
+naming_token (namings.Process starts.Fresh) = name (codes "fresh")
+naming_token namings.Probe = keyword words.Probe
 
 -- the word of an operator on one value
 abbrev pub unary_word : Unary → Keyword
@@ -287,6 +297,7 @@ abbrev mutual
   -- the forms of plans stand in no text
   pub spell_term : Version → Term → List Tok
   spell_term v (primitive (bare k)) = keyword (bare_word k) ∷ []
+  spell_term v (primitive (probe k)) = naming_token namings.Probe ∷ name k ∷ []
   spell_term v (primitive (never t)) = keyword words.Never ∷ spell_type v t
   spell_term v (primitive (with_value k e)) = spell_value (stands_initially k) (value_word k) (spell_expression v e)
   spell_term v (primitive (timed k q e)) = keyword (timing_word k) ∷ number q ∷ spell_expression v e
@@ -301,9 +312,9 @@ abbrev mutual
   spell_term v (keeping w f g k p u) = spell_keeping w (spell_term v f) (spell_term v g) k (spell_pattern p) (spell_term v u)
   spell_term v (staged x f g) = []
 
-  -- the name of a process, or that of a template with arguments in brackets
+  -- the name of a process behind where it begins, or that of a template with arguments in brackets
   pub spell_reference : Version → Reference → List Tok
-  spell_reference v (run k) = keyword words.Run ∷ name k ∷ []
+  spell_reference v (started w k) = naming_token (namings.Process w) ∷ name k ∷ []
   spell_reference v (call g vs) = name g ∷ symbol symbols.Open ∷ spell_listed (spell_arguments v vs)
 
   -- arguments, one by one: an expression, or a term behind `sf`
@@ -392,6 +403,16 @@ WritesExpression v d e = ⊤
 abbrev pub WritesFunction : Version → ℕ → Function → Type 0
 WritesFunction v d (function p e) = WritesExpression v d e
 
+-- texts of version 2 alone have `fresh`
+abbrev pub has_fresh : Version → Bool
+has_fresh versions.One = false
+has_fresh versions.Two = true
+
+-- a text of the version has where a process begins
+abbrev pub WritesStart : Version → Start → Type 0
+WritesStart v starts.Run = ⊤
+WritesStart v starts.Fresh = IsTrue (has_fresh v)
+
 -- what a head makes with an expression and a term: behind `-->`, `pre` and the expression are one primitive
 abbrev pub head_makes : Heading → Expression → Term → Term
 head_makes headings.Initialized e (primitive (bare bares.Pre)) = primitive (with_value values.InitializedPre e)
@@ -415,7 +436,7 @@ abbrev mutual
 
   -- the same of what stands within a reference
   pub WritesReference : Version → ℕ → Reference → Type 0
-  WritesReference v d (run k) = ⊤
+  WritesReference v d (started w k) = WritesStart v w
   WritesReference v d (call g vs) = WritesArguments v d vs
 
   -- the same of arguments

@@ -5,7 +5,10 @@ ghost use Rattle.sf_grammar.specs.Reading.{expression_head, head_of, join_of, li
 
 use sf_expr::{Arithmetic, Comparison, Equality, Folding, Logic, Mapping, Merge, Operator, Unary};
 use sf_lex::{Keyword, Symbol, Token};
-use sf_term::{Accumulation, Bare, Heading, Join, Observation, Side, Switching, Timing, WithValue};
+use sf_term::{
+    Accumulation, Bare, Heading, Join, Naming, Observation, Side, Start, Switching, Timing,
+    WithValue,
+};
 
 /// A form by its first token, by its shape.
 #[derive(Clone, Copy, Debug, PartialEq, Eq)]
@@ -30,8 +33,8 @@ pub enum Head {
     Headed(Heading),
     /// A word, and behind it a term, a pattern and another term in brackets.
     Switching(Switching),
-    /// `run`, and a name behind it.
-    Run,
+    /// A word, and a name behind it.
+    Named(Naming),
     /// A word, and behind it two terms, a name, a pattern and a third term in brackets.
     Keeping(Observation),
     /// The name of a template, and arguments in brackets behind it.
@@ -111,7 +114,8 @@ pub fn head_of(token: &Token) -> Option<Head>
         Token::Keyword(Keyword::DrSwitch) => Some(Head::Switching(Switching::Recurring(
             Observation::Delayed,
         ))),
-        Token::Keyword(Keyword::Run) => Some(Head::Run),
+        Token::Keyword(Keyword::Run) => Some(Head::Named(Naming::Process(Start::Run))),
+        Token::Keyword(Keyword::Probe) => Some(Head::Named(Naming::Probe)),
         Token::Keyword(Keyword::KSwitch) => Some(Head::Keeping(Observation::Immediate)),
         Token::Keyword(Keyword::DkSwitch) => Some(Head::Keeping(Observation::Delayed)),
         Token::Name(_) => Some(Head::Call),

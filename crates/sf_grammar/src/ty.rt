@@ -8,9 +8,9 @@ use sf_lex::{Keyword, Symbol, Token};
 /// The version of a text.
 #[derive(Clone, Copy, Debug, PartialEq, Eq)]
 pub enum Version {
-    /// Tables are written without the type of their keys, which is Int.
+    /// Tables are written without the type of their keys, which is Int, and `fresh` is a name alone.
     One,
-    /// Tables are written with the type of their keys.
+    /// Tables are written with the type of their keys, and `fresh` begins processes anew.
     Two,
 }
 

@@ -4,7 +4,7 @@ use Rattle.sf_value.specs.Values.{Name}
 use Rattle.sf_func.specs.Registries.{AnswersByName}
 use Rattle.sf_expr.specs.Evaluation.{answer}
 use Rattle.sf_term.specs.Parameters.{NameKind, Bindings}
-use Rattle.sf_term.specs.Trees.{Term, primitive, reference, run, call, Arguments, joined, sided, headed, switching, keeping, staged, Template, template_named}
+use Rattle.sf_term.specs.Trees.{Term, primitive, reference, started, call, Arguments, joined, sided, headed, switching, keeping, staged, Template, template_named}
 use Rattle.sf_term.specs.Entries.{identity_term}
 use Rattle.sf_mean.specs.Lives.{Environment, empty, running, closure}
 use Rattle.sf_mean.specs.Meaning.{argued, process_called}
@@ -17,7 +17,7 @@ use Rattle.sf_law.proofs.Kept.{tree_past}
 -- a term that is closed before arguments is bound as its closure, whatever it is
 pub argued_closed : (φ : AnswersByName) (q : Name × NameKind) (qs : Bindings) (t : Term) (vs : Arguments) (e d : Environment) → argued φ (q ∷ qs) (closed_before t vs) e d ≡ argued φ qs vs e (running q.0 (closure t e) d)
 argued_closed φ q qs (primitive p) vs e d = refl
-argued_closed φ q qs (reference (run k)) vs e d = refl
+argued_closed φ q qs (reference (started w k)) vs e d = refl
 argued_closed φ q qs (reference (call g ws)) vs e d = refl
 argued_closed φ q qs (joined j f g) vs e d = refl
 argued_closed φ q qs (sided s t) vs e d = refl

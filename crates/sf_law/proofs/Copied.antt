@@ -3,6 +3,7 @@ use Rattle.std.proofs.Common.{◌≡◌, ℕ, ◌+◌, ◌<◌, ◌≤◌, List,
 use mathlib.Core.Path.{ap₂}
 use Rattle.std.specs.List.{AllZip}
 use Rattle.std.proofs.lemmas.Bool.{cases_lt}
+use Rattle.std.proofs.lemmas.Option.{same_Some}
 use Rattle.std.proofs.lemmas.List.Elements.{All-head, All-tail}
 use Rattle.sf_func.specs.Registries.{AnswersByName}
 use Rattle.sf_expr.specs.declared.exprs.ExprId.{ExprId}
@@ -11,6 +12,8 @@ use Rattle.sf_expr.specs.declared.exprs.NameId.{NameId}
 use Rattle.sf_expr.specs.Patterns.{pattern_of}
 use Rattle.sf_expr.specs.declared.exprs.PatternId.{PatternId}
 use Rattle.sf_expr.specs.Arena.{expression, function_at, name_at, placed_at, HoldsName, Keeps}
+use Rattle.sf_term.specs.declared.form.Start.{Start}
+use Rattle.sf_term.specs.declared.form.Naming.TheVariants.{Process, Probe}
 use Rattle.sf_term.specs.declared.node.TermId.{TermId}
 use Rattle.sf_term.specs.declared.node.Argument.{Argument}
 use Rattle.sf_term.specs.declared.node.Node.{Node}
@@ -20,7 +23,7 @@ use Rattle.sf_term.specs.declared.node.Primitive.TheVariants as ast_primitives
 use Rattle.sf_term.specs.declared.form.Timing.{Timing}
 use Rattle.sf_code.specs.declared.code.Code.{Code}
 use Rattle.sf_term.specs.declared.program.Program.{Program}
-use Rattle.sf_term.specs.Trees.{Term, Template, Templates, Arguments, value_argument, process_argument, primitive, reference, run, call, joined, sided, headed, never, switching, keeping, with_value, timed, arrow, accumulated}
+use Rattle.sf_term.specs.Trees.{Term, Template, Templates, Arguments, value_argument, process_argument, primitive, reference, started, call, probe, joined, sided, headed, never, switching, keeping, with_value, timed, arrow, accumulated}
 use Rattle.sf_term.specs.Parameters.{PlacedParameter, parameters_of}
 use Rattle.sf_term.specs.Headers.{Header as TermHeader}
 use Rattle.sf_term.specs.Entries.{absent_payload}
@@ -35,8 +38,8 @@ use Rattle.sf_law.specs.declared.node.PlanPrimitive.TheVariants as plan_primitiv
 use Rattle.sf_law.specs.declared.plan.Plan.{Plan}
 use Rattle.sf_law.specs.Headers.{ParameterHeader, PlanHeader}
 use Rattle.sf_law.specs.Entries.{primitive_over, closed_before, arguments_end, parts_end, is_whole}
-use Rattle.sf_law.specs.Arena.{plan_expressions, node_count, plan_tree, plan_headers, plan_binding, plan_template, plan_arguments, network_of_plan, BuildsPlan, builds_primitive, builds_run, builds_call, builds_joined, builds_sided, builds_headed, builds_switching, builds_keeping, KeepsPlan, AddsNode}
-use Rattle.sf_law.specs.Copies.{plan_id, name_run, CopiesArgument, copies_value, copies_named, copies_closed, CopiesPrimitive, copies_bare, copies_never, copies_with_value, copies_timed, copies_accumulated, copies_arrow, CopiesNode, copies_primitive, copies_run, copies_call, copies_joined, copies_sided, copies_headed, copies_switching, copies_keeping, CopiesParameter, CopiesTemplate, ShowsTerms}
+use Rattle.sf_law.specs.Arena.{plan_expressions, node_count, plan_tree, plan_headers, plan_binding, plan_template, plan_arguments, network_of_plan, BuildsPlan, builds_primitive, builds_started, builds_probe, builds_call, builds_joined, builds_sided, builds_headed, builds_switching, builds_keeping, KeepsPlan, AddsNode}
+use Rattle.sf_law.specs.Copies.{plan_id, named_process, CopiesArgument, copies_value, copies_started, copies_closed, CopiesPrimitive, copies_bare, copies_never, copies_with_value, copies_timed, copies_accumulated, copies_arrow, CopiesNode, copies_primitive, copies_process, copies_probe, copies_call, copies_joined, copies_sided, copies_headed, copies_switching, copies_keeping, CopiesParameter, CopiesTemplate, ShowsTerms}
 use Rattle.sf_law.proofs.Kept.{tree_past}
 
 -- a primitive with an equal time is copied
@@ -56,13 +59,14 @@ arguments_fit p (v ∷ vs) (w ∷ ws) i z h = one v w z.0 (All-head (ArgumentBel
   where
     one : (v : Argument) (w : PlanArgument) → CopiesArgument p v w → ArgumentBelow i v → arguments_end ws ≤ i → arguments_end (w ∷ ws) ≤ i
     one _ _ copies_value b more = more
-    one _ _ (copies_named is) b more = more
+    one _ _ (copies_started is) b more = more
     one _ _ (copies_closed is) b more = omega (arith, b, more)
 
 -- a node's parts are below a number where the program's are
 pub parts_fit : (p : Program) (n : Node) (m : PlanNode) (i : ℕ) → CopiesNode p n m → TermPartsBelow p n i → parts_end m ≤ i
 parts_fit p _ _ i (copies_primitive c) h = omega arith
-parts_fit p _ _ i copies_run h = omega arith
+parts_fit p _ _ i copies_process h = omega arith
+parts_fit p _ _ i (copies_probe is) h = omega arith
 parts_fit p _ _ i (copies_call {a = a} {v = v} z) h = arguments_fit p (arguments_under p a) v.items i z h
 parts_fit p _ _ i copies_joined h = omega (arith, h.0, h.1)
 parts_fit p _ _ i copies_sided h = omega arith
@@ -73,7 +77,8 @@ parts_fit p _ _ i copies_keeping h = omega (arith, h.0, h.1, h.2)
 -- no program has a pipeline
 pub no_pipeline : (p : Program) (n : Node) (m : PlanNode) → CopiesNode p n m → IsTrue (is_whole m)
 no_pipeline p _ _ (copies_primitive c) = refl
-no_pipeline p _ _ copies_run = refl
+no_pipeline p _ _ copies_process = refl
+no_pipeline p _ _ (copies_probe is) = refl
 no_pipeline p _ _ (copies_call z) = refl
 no_pipeline p _ _ copies_joined = refl
 no_pipeline p _ _ copies_sided = refl
@@ -83,24 +88,28 @@ no_pipeline p _ _ copies_keeping = refl
 
 -- a node that is a named process, and any other as an argument
 module _ (p : Program) where
-  named_node : (n : Node) (k : NameId) → HoldsTermParts p n → name_run n ≡ Some k → (term_of p n ≡ reference (run (name_at (program_expressions p) k))) × HoldsName (program_expressions p) k
-  named_node (ast.Primitive q) k held h = absurd cc
-  named_node (ast.Run j s) k held h = let same : j ≡ k = cc in (ap (λ j. reference (run (name_at (program_expressions p) j))) same, subst (λ j. HoldsName (program_expressions p) j) same held)
-  named_node (ast.Call j a) k held h = absurd cc
-  named_node (ast.Joined j a b) k held h = absurd cc
-  named_node (ast.Sided d a) k held h = absurd cc
-  named_node (ast.Headed g e a) k held h = absurd cc
-  named_node (ast.Switching w a q b) k held h = absurd cc
-  named_node (ast.Keeping w a o j s q b) k held h = absurd cc
+  named_node : (n : Node) (w : Start) (k : NameId) → HoldsTermParts p n → named_process n ≡ Some (w, k) → (term_of p n ≡ reference (started w (name_at (program_expressions p) k))) × HoldsName (program_expressions p) k
+  named_node (ast.Primitive q) w k held h = absurd cc
+  named_node (ast.Named (Process v) j s) w k held h =
+      let same : (v, j) ≡ (w, k) = same_Some _ _ h in
+      (ap (λ x. reference (started x.0 (name_at (program_expressions p) x.1))) same, subst (λ x. HoldsName (program_expressions p) x.1) same held)
+  named_node (ast.Named Probe j s) w k held h = absurd cc
+  named_node (ast.Call j a) w k held h = absurd cc
+  named_node (ast.Joined j a b) w k held h = absurd cc
+  named_node (ast.Sided d a) w k held h = absurd cc
+  named_node (ast.Headed g e a) w k held h = absurd cc
+  named_node (ast.Switching w a q b) v k held h = absurd cc
+  named_node (ast.Keeping w a o j s q b) v k held h = absurd cc
 
-  closed_node : (n : Node) (vs : Arguments) → name_run n ≡ None → closed_before (term_of p n) vs ≡ process_argument (term_of p n) vs
+  closed_node : (n : Node) (vs : Arguments) → named_process n ≡ None → closed_before (term_of p n) vs ≡ process_argument (term_of p n) vs
   closed_node (ast.Primitive (ast_primitives.Bare k)) vs h = refl
   closed_node (ast.Primitive (ast_primitives.Never n)) vs h = refl
   closed_node (ast.Primitive (ast_primitives.WithValue k e)) vs h = refl
   closed_node (ast.Primitive (ast_primitives.Timed k q e)) vs h = refl
   closed_node (ast.Primitive (ast_primitives.Arrow f)) vs h = refl
   closed_node (ast.Primitive (ast_primitives.Accumulated k e f)) vs h = refl
-  closed_node (ast.Run j s) vs h = absurd cc
+  closed_node (ast.Named (Process w) j s) vs h = absurd cc
+  closed_node (ast.Named Probe j s) vs h = refl
   closed_node (ast.Call j a) vs h = refl
   closed_node (ast.Joined j a b) vs h = refl
   closed_node (ast.Sided d a) vs h = refl
@@ -108,13 +117,13 @@ module _ (p : Program) where
   closed_node (ast.Switching w a q b) vs h = refl
   closed_node (ast.Keeping w a o j s q b) vs h = refl
 
-  named_tree : (a : TermId) (k : NameId) → name_run (term_node_at p a) ≡ Some k → (term p a ≡ reference (run (name_at (program_expressions p) k))) × HoldsName (program_expressions p) k
+  named_tree : (a : TermId) (w : Start) (k : NameId) → named_process (term_node_at p a) ≡ Some (w, k) → (term p a ≡ reference (started w (name_at (program_expressions p) k))) × HoldsName (program_expressions p) k
   unfolding term_node_at term_entry_of
-  named_tree a k h =
-      let n = named_node (term_node_at p a) k (parts_held p a) h in
+  named_tree a w k h =
+      let n = named_node (term_node_at p a) w k (parts_held p a) h in
       (node_builds p a (term_node_at p a) refl ∙ n.0, n.1)
 
-  closed_tree : (a : TermId) (vs : Arguments) → name_run (term_node_at p a) ≡ None → closed_before (term p a) vs ≡ process_argument (term p a) vs
+  closed_tree : (a : TermId) (vs : Arguments) → named_process (term_node_at p a) ≡ None → closed_before (term p a) vs ≡ process_argument (term p a) vs
   closed_tree a vs h = subst (λ t. closed_before t vs ≡ process_argument t vs) (sym (node_builds p a (term_node_at p a) refl)) (closed_node (term_node_at p a) vs h)
 
 module _ (p : Program) (q : Plan) (kept : Keeps (program_expressions p) (plan_expressions q)) where
@@ -145,14 +154,15 @@ module _ (p : Program) (q : Plan) (kept : Keeps (program_expressions p) (plan_ex
     where
       one : (v : Argument) (w : PlanArgument) → CopiesArgument p v w → ArgumentBelow i v → HoldsArgument p v → plan_arguments q ws ≡ arguments_of p vs → plan_arguments q (w ∷ ws) ≡ arguments_of p (v ∷ vs)
       one _ _ (copies_value {e}) b h more = ap₂ (λ x us. value_argument x us) (value_same e h) more
-      one _ _ (copies_named {a} {k} is) b h more =
-          ap₂ (λ t us. process_argument t us) (ap (λ x. reference (run x)) (kept.names k (named_tree p a k is).1) ∙ sym (named_tree p a k is).0) more
+      one _ _ (copies_started {a} {w} {k} is) b h more =
+          ap₂ (λ t us. process_argument t us) (ap (λ x. reference (started w x)) (kept.names k (named_tree p a w k is).1) ∙ sym (named_tree p a w k is).0) more
       one _ _ (copies_closed {a} is) b h more = ap₂ (λ t us. closed_before t us) (shows a b) more ∙ closed_tree p a (arguments_of p vs) is
 
   -- the same node stands for the same term
   same_term : (n : Node) (m : PlanNode) (u : Term) (i : ℕ) → CopiesNode p n m → TermPartsBelow p n i → HoldsTermParts p n → ShowsBelow p q i → BuildsPlan q m u → u ≡ term_of p n
   same_term _ _ _ i (copies_primitive {q = a} {r = b} c) below held shows (builds_primitive k) = same_primitive a b c held
-  same_term _ _ _ i (copies_run {k}) below held shows builds_run = ap (λ x. reference (run x)) (kept.names k held)
+  same_term _ _ _ i (copies_process {w} {k}) below held shows builds_started = ap (λ x. reference (started w x)) (kept.names k held)
+  same_term _ _ _ i (copies_probe is) below held shows builds_probe = ap (λ x. primitive (probe x)) is
   same_term _ _ _ i (copies_call {k} {a} {v = v} z) below held shows (builds_call c w) =
       ap₂ (λ x vs. reference (call x vs)) (kept.names k held.0) (same_arguments (arguments_under p a) v.items i z below held.2 shows)
   same_term _ _ _ i (copies_joined {j} {a} {b}) below held shows builds_joined = ap₂ (λ f g. joined j f g) (shows a below.0) (shows b below.1)

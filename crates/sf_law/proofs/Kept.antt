@@ -17,7 +17,7 @@ use Rattle.sf_law.specs.declared.plan.Plan.{Plan}
 use Rattle.sf_law.specs.declared.node.TemplateId.{TemplateId}
 use Rattle.sf_law.specs.Headers.{PlanHeader, place_named, no_header}
 use Rattle.sf_law.specs.Entries.{IsCoded, plan_over, parts_end, is_whole, calls_first, identity_node, node_among, plan_terms, plan_term}
-use Rattle.sf_law.specs.Arena.{node_count, plan_node_at, plan_tree, BuildsPlan, plan_expressions, plan_headers, plan_template, header_at, IsCalled, builds_primitive, builds_run, builds_call, builds_joined, builds_sided, builds_headed, builds_switching, builds_keeping, builds_pipeline, KeepsPlan, AddsNode}
+use Rattle.sf_law.specs.Arena.{node_count, plan_node_at, plan_tree, BuildsPlan, plan_expressions, plan_headers, plan_template, header_at, IsCalled, builds_primitive, builds_started, builds_probe, builds_call, builds_joined, builds_sided, builds_headed, builds_switching, builds_keeping, builds_pipeline, KeepsPlan, AddsNode}
 use Rattle.sf_law.proofs.Placed.{term-built}
 
 -- what is called by a name is the first template of that name, among these
@@ -38,7 +38,8 @@ is_called p x g e = ap (λ i. plan_template p (slice_index_or (plan_headers p) i
 made : (p : Plan) (n : PlanNode) → IsTrue (is_whole n) → IsCoded p.expressions n → IsTrue (calls_first p.expressions p.templates.items n) → BuildsPlan p n (plan_over p.expressions (plan_terms p.expressions p.nodes.items) n)
 unfolding plan_tree tree_at
 made p (nodes.Primitive q) w k f = builds_primitive k
-made p (nodes.Run i) w k f = builds_run
+made p (nodes.Started s i) w k f = builds_started
+made p (nodes.Probe r) w k f = builds_probe
 made p (nodes.Call i g v) w k f = builds_call (is_called p (name_at (plan_expressions p) i) g (eqb-true g.0 _ f)) k
 made p (nodes.Joined j a b) w k f = builds_joined
 made p (nodes.Sided d a) w k f = builds_sided

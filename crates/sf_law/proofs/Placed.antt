@@ -7,7 +7,7 @@ use Rattle.sf_arena.proofs.Grown.{each_item, tree_made}
 use Rattle.sf_expr.specs.declared.exprs.Exprs.{Exprs}
 use Rattle.sf_expr.specs.Patterns.{pattern_of}
 use Rattle.sf_expr.specs.Arena.{expression, name_at, placed_at}
-use Rattle.sf_term.specs.Trees.{Term, reference, call, value_argument, process_argument, run, joined, sided, headed, switching, keeping}
+use Rattle.sf_term.specs.Trees.{Term, reference, call, value_argument, process_argument, started, joined, sided, headed, switching, keeping}
 use Rattle.sf_term.specs.Entries.{identity_term, term_among}
 use Rattle.sf_law.specs.declared.node.PlanId.{PlanId}
 use Rattle.sf_law.specs.declared.node.PlanArgument.{PlanArgument}
@@ -28,13 +28,14 @@ all-parts ts more (a ∷ ids) h = ap₂ (λ t us. t ∷ us) (part ts more a.0 (o
 pub same_arguments : (x : Exprs) (t u : PlanId → Term) (vs : List PlanArgument) → ((a : PlanId) → a.0 < arguments_end vs → t a ≡ u a) → arguments_with x t vs ≡ arguments_with x u vs
 same_arguments x t u [] h = refl
 same_arguments x t u (arguments.Value e c ∷ vs) h = ap (λ ws. value_argument (expression x e) ws) (same_arguments x t u vs h)
-same_arguments x t u (arguments.Named k ∷ vs) h = ap (λ ws. process_argument (reference (run (name_at x k))) ws) (same_arguments x t u vs h)
+same_arguments x t u (arguments.Started w k ∷ vs) h = ap (λ ws. process_argument (reference (started w (name_at x k))) ws) (same_arguments x t u vs h)
 same_arguments x t u (arguments.Closed a ∷ vs) h = ap₂ (λ f ws. closed_before f ws) (h a (omega arith)) (same_arguments x t u vs (λ b l. h b (omega arith)))
 
 -- a node's term depends on its parts alone
 local : (x : Exprs) (ts more : List Term) (n : PlanNode) → parts_end n ≤ length ts → plan_over x (ts ++ more) n ≡ plan_over x ts n
 local x ts more (nodes.Primitive q) h = refl
-local x ts more (nodes.Run k) h = refl
+local x ts more (nodes.Started w k) h = refl
+local x ts more (nodes.Probe r) h = refl
 local x ts more (nodes.Call k g v) h = ap (λ vs. reference (call (name_at x k) vs)) (same_arguments x (λ (a : PlanId). term_among (ts ++ more) a.0) (λ (a : PlanId). term_among ts a.0) v.items (λ a l. part ts more a.0 (omega arith)))
 local x ts more (nodes.Joined j a b) h = ap₂ (λ s t. joined j s t) (part ts more a.0 (omega arith)) (part ts more b.0 (omega arith))
 local x ts more (nodes.Sided d a) h = ap (λ t. sided d t) (part ts more a.0 h)

@@ -1,6 +1,7 @@
 -- Plans, seen by their trees.
-use Rattle.std.specs.Prelude.{◌≡◌, ℕ, ◌+◌, ◌<◌, ◌≤◌, List, length, map, nat_le, IsTrue, Option, IfSome, unwrap_or, slice_index_or, All, Vec}
+use Rattle.std.specs.Prelude.{◌≡◌, ℕ, ◌+◌, ◌<◌, ◌≤◌, List, length, map, nat_le, IsTrue, Option, IfSome, unwrap_or, slice_index_or, All, Vec, String, string_bytes}
 use Rattle.sf_value.specs.Values.{Name}
+use Rattle.std.specs.declared.rc.Rc.{Rc}
 use Rattle.std.specs.declared.alloc.Global.{Global}
 use Rattle.sf_func.specs.Registries.{AnswersByName}
 use Rattle.sf_expr.specs.declared.exprs.ExprId.{ExprId}
@@ -11,13 +12,14 @@ use Rattle.sf_expr.specs.declared.exprs.PatternId.{PatternId}
 use Rattle.sf_expr.specs.Patterns.{pattern_of}
 use Rattle.sf_expr.specs.Arena.{expression, name_at, placed_at}
 use Rattle.sf_term.specs.declared.form.Join.{Join}
+use Rattle.sf_term.specs.declared.form.Start.{Start}
 use Rattle.sf_term.specs.declared.form.Side.{Side}
 use Rattle.sf_term.specs.declared.form.Heading.{Heading}
 use Rattle.sf_term.specs.declared.form.Observation.{Observation}
 use Rattle.sf_term.specs.declared.form.Switching.{Switching}
 use Rattle.sf_code.specs.declared.code.Code.{Code}
 use Rattle.sf_code.specs.Worth.{IsCodeOf}
-use Rattle.sf_term.specs.Trees.{Term, primitive, reference, run, call, Arguments, joined, sided, headed, switching, keeping, Template, Templates, template_named}
+use Rattle.sf_term.specs.Trees.{Term, primitive, probe, reference, started, call, Arguments, joined, sided, headed, switching, keeping, Template, Templates, template_named}
 use Rattle.sf_term.specs.Parameters.{NameKind}
 use Rattle.sf_mean.specs.Meaning.{Network}
 use Rattle.sf_law.specs.declared.node.PlanId.{PlanId}
@@ -101,7 +103,8 @@ plan_main p = p.main
 -- A node with the ids of its parts stands for a term with their trees; the code that it has is that of its expressions or its function.
 pub data BuildsPlan (p : Plan) : PlanNode → Term → Type 0 where
   builds_primitive : {q : PlanPrimitive} → IsCodedPrimitive (plan_expressions p) q → BuildsPlan p (nodes.Primitive q) (primitive (primitive_over (plan_expressions p) q))
-  builds_run : {k : NameId} → BuildsPlan p (nodes.Run k) (reference (run (name_at (plan_expressions p) k)))
+  builds_started : {w : Start} {k : NameId} → BuildsPlan p (nodes.Started w k) (reference (started w (name_at (plan_expressions p) k)))
+  builds_probe : {r : Rc (String Global) Global} → BuildsPlan p (nodes.Probe r) (primitive (probe (string_bytes r.value)))
   builds_call : {k : NameId} {g : TemplateId} {v : Vec PlanArgument Global} → IsCalled p (name_at (plan_expressions p) k) (header_at p g) → All (IsCodedArgument (plan_expressions p)) v.items
       → BuildsPlan p (nodes.Call k g v) (reference (call (name_at (plan_expressions p) k) (plan_arguments p v.items)))
   builds_joined : {j : Join} {a b : PlanId} → BuildsPlan p (nodes.Joined j a b) (joined j (plan_tree p a) (plan_tree p b))

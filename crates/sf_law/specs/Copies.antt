@@ -1,5 +1,5 @@
 -- What a plan copies of a program.
-use Rattle.std.specs.Prelude.{◌≡◌, ℤ, Option, Some, None, Vec}
+use Rattle.std.specs.Prelude.{◌≡◌, ℤ, Option, Some, None, Vec, String, string_bytes}
 use Rattle.std.specs.List.{AllZip}
 use Rattle.std.specs.declared.rc.Rc.{Rc}
 use Rattle.std.specs.declared.alloc.Global.{Global}
@@ -20,6 +20,8 @@ use Rattle.sf_term.specs.declared.form.Side.{Side}
 use Rattle.sf_term.specs.declared.form.Heading.{Heading}
 use Rattle.sf_term.specs.declared.form.Observation.{Observation}
 use Rattle.sf_term.specs.declared.form.Switching.{Switching}
+use Rattle.sf_term.specs.declared.form.Start.{Start}
+use Rattle.sf_term.specs.declared.form.Naming.TheVariants.{Process, Probe}
 use Rattle.sf_term.specs.declared.node.TermId.{TermId}
 use Rattle.sf_term.specs.declared.node.ArgumentsId.{ArgumentsId}
 use Rattle.sf_term.specs.declared.node.Argument.{Argument}
@@ -31,7 +33,7 @@ use Rattle.sf_term.specs.declared.node.Primitive.TheVariants as primitives
 use Rattle.sf_term.specs.declared.program.Program.{Program}
 use Rattle.sf_term.specs.Parameters.{PlacedParameter}
 use Rattle.sf_term.specs.Headers.{Header as TermHeader}
-use Rattle.sf_term.specs.Arena.{tree as term, term_node_at, arguments_under}
+use Rattle.sf_term.specs.Arena.{tree as term, expressions_of, term_node_at, arguments_under}
 use Rattle.sf_code.specs.declared.code.Code.{Code}
 use Rattle.sf_law.specs.declared.node.PlanId.{PlanId}
 use Rattle.sf_law.specs.declared.node.TemplateId.{TemplateId}
@@ -58,27 +60,29 @@ pub data CopiesPrimitive : Primitive → PlanPrimitive → Type 0 where
   copies_accumulated : {k : Accumulation} {e : ExprId} {d : Option Code} {f : FunctionId} {c : Option (Rc Code Global)} → CopiesPrimitive (primitives.Accumulated k e f) (plan_primitives.Accumulated k e d f c)
   copies_arrow : {f : FunctionId} {c : Option (Rc Code Global)} → CopiesPrimitive (primitives.Arrow f) (plan_primitives.Arrow f c)
 
--- the name of the process that a node is, if it is a named one
-abbrev pub name_run : Node → Option NameId
-name_run (terms.Primitive q) = None
-name_run (terms.Run k s) = Some k
-name_run (terms.Call k a) = None
-name_run (terms.Joined j a b) = None
-name_run (terms.Sided d a) = None
-name_run (terms.Headed h e a) = None
-name_run (terms.Switching w a q b) = None
-name_run (terms.Keeping w a o k s q b) = None
+-- where the process begins that a node is, and its name, if it is a named one
+abbrev pub named_process : Node → Option (Start × NameId)
+named_process (terms.Primitive q) = None
+named_process (terms.Named (Process w) k s) = Some (w, k)
+named_process (terms.Named Probe k s) = None
+named_process (terms.Call k a) = None
+named_process (terms.Joined j a b) = None
+named_process (terms.Sided d a) = None
+named_process (terms.Headed h e a) = None
+named_process (terms.Switching w a q b) = None
+named_process (terms.Keeping w a o k s q b) = None
 
 -- A plan's argument is a program's, whatever its code: the same expression, the same named process, or the id of the same number.
 pub data CopiesArgument (p : Program) : Argument → PlanArgument → Type 0 where
   copies_value : {e : ExprId} {c : Option Code} → CopiesArgument p (arguments.Value e) (plan_arguments.Value e c)
-  copies_named : {a : TermId} {k : NameId} → name_run (term_node_at p a) ≡ Some k → CopiesArgument p (arguments.Process a) (plan_arguments.Named k)
-  copies_closed : {a : TermId} → name_run (term_node_at p a) ≡ None → CopiesArgument p (arguments.Process a) (plan_arguments.Closed (plan_id a))
+  copies_started : {a : TermId} {w : Start} {k : NameId} → named_process (term_node_at p a) ≡ Some (w, k) → CopiesArgument p (arguments.Process a) (plan_arguments.Started w k)
+  copies_closed : {a : TermId} → named_process (term_node_at p a) ≡ None → CopiesArgument p (arguments.Process a) (plan_arguments.Closed (plan_id a))
 
 -- A plan's node is a program's, whatever its code and the template that it calls: of the same form, with the same id of its expression and the ids of the same numbers.
 pub data CopiesNode (p : Program) : Node → PlanNode → Type 0 where
   copies_primitive : {q : Primitive} {r : PlanPrimitive} → CopiesPrimitive q r → CopiesNode p (terms.Primitive q) (plans.Primitive r)
-  copies_run : {k : NameId} {s : _} → CopiesNode p (terms.Run k s) (plans.Run k)
+  copies_process : {w : Start} {k : NameId} {s : _} → CopiesNode p (terms.Named (Process w) k s) (plans.Started w k)
+  copies_probe : {k : NameId} {s : _} {r : Rc (String Global) Global} → string_bytes r.value ≡ name_at (expressions_of p) k → CopiesNode p (terms.Named Probe k s) (plans.Probe r)
   copies_call : {k : NameId} {a : ArgumentsId} {g : TemplateId} {v : Vec PlanArgument Global} → AllZip (CopiesArgument p) (arguments_under p a) v.items → CopiesNode p (terms.Call k a) (plans.Call k g v)
   copies_joined : {j : Join} {a b : TermId} → CopiesNode p (terms.Joined j a b) (plans.Joined j (plan_id a) (plan_id b))
   copies_sided : {d : Side} {a : TermId} → CopiesNode p (terms.Sided d a) (plans.Sided d (plan_id a))

@@ -1,5 +1,5 @@
 -- The nodes of an arena of plans.
-use Rattle.std.specs.Prelude.{◌≡◌, ℕ, suc, ◌≤◌, max, Bool, true, nat_le, nat_eq, IsTrue, ⊤, Option, IfSome, List, [], ◌∷◌, length, map, slice_index_or, All}
+use Rattle.std.specs.Prelude.{◌≡◌, ℕ, suc, ◌≤◌, max, Bool, true, nat_le, nat_eq, IsTrue, ⊤, Option, IfSome, List, [], ◌∷◌, length, map, slice_index_or, All, string_bytes}
 use Rattle.sf_expr.specs.declared.exprs.ExprId.{ExprId}
 use Rattle.sf_expr.specs.declared.exprs.Exprs.{Exprs}
 use Rattle.sf_expr.specs.Expressions.{named}
@@ -10,7 +10,7 @@ use Rattle.sf_term.specs.declared.form.Bare.TheVariants.{Identity}
 use Rattle.sf_code.specs.declared.code.Code.{Code}
 use Rattle.sf_code.specs.Worth.{IsCodeOf, IsCodeOfFunction}
 use Rattle.sf_term.specs.Entries.{identity_term, absent_payload, term_among}
-use Rattle.sf_term.specs.Trees.{Extent, whole, rest, Primitive, Term, primitive, reference, run, call, Arguments, no_arguments, value_argument, process_argument, closed_argument, joined, sided, headed, switching, keeping, staged, bare, never, with_value, timed, arrow, accumulated}
+use Rattle.sf_term.specs.Trees.{Extent, whole, rest, Primitive, Term, primitive, reference, started, call, probe, Arguments, no_arguments, value_argument, process_argument, closed_argument, joined, sided, headed, switching, keeping, staged, bare, never, with_value, timed, arrow, accumulated}
 use Rattle.sf_law.specs.declared.node.PlanId.{PlanId}
 use Rattle.sf_law.specs.declared.node.PlanArgument.{PlanArgument}
 use Rattle.sf_law.specs.declared.node.PlanArgument.TheVariants as arguments
@@ -55,13 +55,14 @@ IsCodedExpression x e c = IfSome c (λ i. IsCodeOf (expression x e) i)
 -- the code that an argument has is that of its expression
 abbrev pub IsCodedArgument : Exprs → PlanArgument → Type 0
 IsCodedArgument x (arguments.Value e c) = IfSome c (λ i. IsCodeOf (expression x e) i)
-IsCodedArgument x (arguments.Named k) = ⊤
+IsCodedArgument x (arguments.Started w k) = ⊤
 IsCodedArgument x (arguments.Closed a) = ⊤
 
 -- the code that a node has is that of its expressions or its function
 abbrev pub IsCoded : Exprs → PlanNode → Type 0
 IsCoded x (nodes.Primitive q) = IsCodedPrimitive x q
-IsCoded x (nodes.Run k) = ⊤
+IsCoded x (nodes.Started w k) = ⊤
+IsCoded x (nodes.Probe r) = ⊤
 IsCoded x (nodes.Call k g v) = All (IsCodedArgument x) v.items
 IsCoded x (nodes.Joined j a b) = ⊤
 IsCoded x (nodes.Sided d a) = ⊤
@@ -74,7 +75,7 @@ IsCoded x (nodes.Pipeline v) = ⊤
 -- argument of a network that is the process itself.
 abbrev pub closed_before : Term → Arguments → Arguments
 closed_before (primitive p) vs = process_argument (primitive p) vs
-closed_before (reference (run k)) vs = closed_argument (reference (run k)) vs
+closed_before (reference (started w k)) vs = closed_argument (reference (started w k)) vs
 closed_before (reference (call g ws)) vs = process_argument (reference (call g ws)) vs
 closed_before (joined j f g) vs = process_argument (joined j f g) vs
 closed_before (sided d t) vs = process_argument (sided d t) vs
@@ -87,13 +88,14 @@ closed_before (staged e f g) vs = process_argument (staged e f g) vs
 abbrev pub arguments_with : Exprs → (PlanId → Term) → List PlanArgument → Arguments
 arguments_with x t [] = no_arguments
 arguments_with x t (arguments.Value e c ∷ vs) = value_argument (expression x e) (arguments_with x t vs)
-arguments_with x t (arguments.Named k ∷ vs) = process_argument (reference (run (name_at x k))) (arguments_with x t vs)
+arguments_with x t (arguments.Started w k ∷ vs) = process_argument (reference (started w (name_at x k))) (arguments_with x t vs)
 arguments_with x t (arguments.Closed a ∷ vs) = closed_before (t a) (arguments_with x t vs)
 
 -- the term of a node, over the terms before it
 abbrev pub plan_over : Exprs → List Term → PlanNode → Term
 plan_over x ts (nodes.Primitive q) = primitive (primitive_over x q)
-plan_over x ts (nodes.Run k) = reference (run (name_at x k))
+plan_over x ts (nodes.Started w k) = reference (started w (name_at x k))
+plan_over x ts (nodes.Probe r) = primitive (probe (string_bytes r.value))
 plan_over x ts (nodes.Call k g v) = reference (call (name_at x k) (arguments_with x (λ (a : PlanId). term_among ts a.0) v.items))
 plan_over x ts (nodes.Joined j a b) = joined j (term_among ts a.0) (term_among ts b.0)
 plan_over x ts (nodes.Sided d a) = sided d (term_among ts a.0)
@@ -111,13 +113,14 @@ ids_end (a ∷ bs) = max (suc a.0) (ids_end bs)
 abbrev pub arguments_end : List PlanArgument → ℕ
 arguments_end [] = 0
 arguments_end (arguments.Value e c ∷ vs) = arguments_end vs
-arguments_end (arguments.Named k ∷ vs) = arguments_end vs
+arguments_end (arguments.Started w k ∷ vs) = arguments_end vs
 arguments_end (arguments.Closed a ∷ vs) = max (suc a.0) (arguments_end vs)
 
 -- the least number above the ids of a node's parts
 abbrev pub parts_end : PlanNode → ℕ
 parts_end (nodes.Primitive q) = 0
-parts_end (nodes.Run k) = 0
+parts_end (nodes.Started w k) = 0
+parts_end (nodes.Probe r) = 0
 parts_end (nodes.Call k g v) = arguments_end v.items
 parts_end (nodes.Joined j a b) = suc (max a.0 b.0)
 parts_end (nodes.Sided d a) = suc a.0
@@ -129,7 +132,8 @@ parts_end (nodes.Pipeline v) = ids_end v.items
 -- a pipeline has two stages or more
 abbrev pub is_whole : PlanNode → Bool
 is_whole (nodes.Primitive q) = true
-is_whole (nodes.Run k) = true
+is_whole (nodes.Started w k) = true
+is_whole (nodes.Probe r) = true
 is_whole (nodes.Call k g v) = true
 is_whole (nodes.Joined j a b) = true
 is_whole (nodes.Sided d a) = true
@@ -141,7 +145,8 @@ is_whole (nodes.Pipeline v) = nat_le 2 (length v.items)
 -- a call is of the first template of its name
 abbrev pub calls_first : Exprs → List PlanHeader → PlanNode → Bool
 calls_first x hs (nodes.Primitive q) = true
-calls_first x hs (nodes.Run k) = true
+calls_first x hs (nodes.Started w k) = true
+calls_first x hs (nodes.Probe r) = true
 calls_first x hs (nodes.Call k g v) = nat_eq g.0 (place_named (name_at x k) hs)
 calls_first x hs (nodes.Joined j a b) = true
 calls_first x hs (nodes.Sided d a) = true

@@ -83,12 +83,13 @@ IsCodedPrimitive-prop x (primitives.Accumulated k e d f c) = λ a b i. (code-pro
 
 IsCodedArgument-prop : (x : Exprs) (v : PlanArgument) → IsProp (IsCodedArgument x v)
 IsCodedArgument-prop x (arguments.Value e c) = code-prop (expression x e) c
-IsCodedArgument-prop x (arguments.Named k) = Unit-prop
+IsCodedArgument-prop x (arguments.Started w k) = Unit-prop
 IsCodedArgument-prop x (arguments.Closed a) = Unit-prop
 
 pub IsCoded-prop : (x : Exprs) (n : PlanNode) → IsProp (IsCoded x n)
 IsCoded-prop x (nodes.Primitive q) = IsCodedPrimitive-prop x q
-IsCoded-prop x (nodes.Run k) = Unit-prop
+IsCoded-prop x (nodes.Started w k) = Unit-prop
+IsCoded-prop x (nodes.Probe r) = Unit-prop
 IsCoded-prop x (nodes.Call k g v) = λ a b i n d h. IsCodedArgument-prop x (slice_index_or v.items n d) (a n d h) (b n d h) i
 IsCoded-prop x (nodes.Joined j a b) = Unit-prop
 IsCoded-prop x (nodes.Sided d a) = Unit-prop

@@ -1,7 +1,9 @@
 //! Nodes of an arena of plans.
 use sf_code::Code;
 use sf_expr::{ConstantId, ExprId, FunctionId, NameId, PatternId};
-use sf_term::{Accumulation, Bare, Heading, Join, Observation, Side, Switching, Timing, WithValue};
+use sf_term::{
+    Accumulation, Bare, Heading, Join, Observation, Side, Start, Switching, Timing, WithValue,
+};
 use std::rc::Rc;
 
 /// A term in its plan.
@@ -17,8 +19,8 @@ pub struct TemplateId(pub(crate) usize);
 pub enum PlanArgument {
     /// An expression, whose value it is, with the code that is run for it, where that has no names from around it.
     Value(ExprId, Option<Code>),
-    /// The process of a name.
-    Named(NameId),
+    /// The process of a name, with where it begins.
+    Started(Start, NameId),
     /// A term, which is closed in the names around the call.
     Closed(PlanId),
 }
@@ -46,8 +48,10 @@ pub enum PlanPrimitive {
 pub enum PlanNode {
     /// A primitive.
     Primitive(PlanPrimitive),
-    /// The process of a name.
-    Run(NameId),
+    /// The process of a name, with where it begins.
+    Started(Start, NameId),
+    /// A probe. What it records shares its name.
+    Probe(Rc<String>),
     /// A call of the first template of a name on arguments.
     Call(NameId, TemplateId, Vec<PlanArgument>),
     /// Two terms joined, the first and the second.

@@ -1,15 +1,17 @@
 //! The plan that is the network itself.
-ghost use Rattle.std.specs.Prelude.{◌≡◌, [], map, All, IsTrue, MatchOption, IfOk, OnOk, IfSome};
+ghost use Rattle.std.specs.Prelude.{◌≡◌, List, [], map, All, IsTrue, MatchOption, IfOk, OnOk, IfSome};
 ghost use Rattle.std.specs.List.{AllZip};
 ghost use Rattle.sf_expr.specs.Arena.{function_at, IsCopy, Keeps};
 ghost use Rattle.sf_term.specs.Arena.{expressions_of as program_expressions, headers_of as program_headers, HoldsTermParts, TermPartsBelow, HoldsArgument};
 ghost use Rattle.sf_term.specs.ParameterView.{kind_of_form};
-ghost use Rattle.sf_term.specs.declared.node.Node.TheVariants.{Call as call_node};
+ghost use Rattle.sf_term.specs.declared.node.Node.TheVariants.{Call as call_node, Named as named_node};
 ghost use Rattle.sf_code.specs.Worth.{IsCodeOfFunction};
+ghost use Rattle.sf_refusal.specs.declared.spot.Spot.{Spot};
+ghost use Rattle.sf_law.specs.Headers.{PlanHeader};
 ghost use Rattle.sf_law.specs.declared.node.PlanId.{PlanId as PlanIdOf};
 ghost use Rattle.sf_law.specs.Entries.{BindsNames, IsCodedPrimitive, IsCodedArgument, IsCoded, calls_first};
 ghost use Rattle.sf_law.specs.Arena.{plan_expressions, node_count, plan_tree, plan_headers};
-ghost use Rattle.sf_law.specs.Copies.{plan_id as id_of, name_run, CopiesArgument, CopiesPrimitive, CopiesNode, CopiesParameter, CopiesTemplate, ShowsTerms};
+ghost use Rattle.sf_law.specs.Copies.{plan_id as id_of, named_process, CopiesArgument, CopiesPrimitive, CopiesNode, CopiesParameter, CopiesTemplate, ShowsTerms};
 ghost use Rattle.sf_law.specs.Plans.{IsPlainPlan};
 
 use crate::node::{PlanArgument, PlanId, PlanNode, PlanPrimitive};
@@ -19,7 +21,8 @@ use sf_check::Checked;
 use sf_code::{Code, expression_code, function_code};
 use sf_expr::{Exprs, FunctionId, NameId, Pat};
 use sf_term::{
-    Argument, ArgumentsId, Node, Parameter, ParameterForm, Primitive, Program, Template, TermId,
+    Argument, ArgumentsId, Naming, Node, Parameter, ParameterForm, Primitive, Program, Start,
+    Template, TermId,
 };
 use std::alloc::{AllocError, Global};
 use std::rc::Rc;
@@ -137,7 +140,10 @@ fn plan_node(
             let primitive = plan_primitive(alloc, exprs, primitive)?;
             Ok(PlanNode::Primitive(primitive))
         }
-        Node::Run(name, _) => Ok(PlanNode::Run(name)),
+        Node::Named(form, name, _) => {
+            let named = plan_named(alloc, program, form, name)?;
+            Ok(named)
+        }
         Node::Call(name, arguments) => plan_call(alloc, plan, program, name, arguments),
         Node::Joined(join, first, second) => {
             Ok(PlanNode::Joined(join, plan_id(first), plan_id(second)))
@@ -156,6 +162,27 @@ fn plan_node(
             let observer = plan_id(observer);
             let body = plan_id(body);
             Ok(PlanNode::Keeping(shown, source, observer, name, pattern, body))
+        }
+    }
+}
+
+// A form that is a name alone.
+fn plan_named(
+    alloc: Global,
+    program: &Program,
+    form: Naming,
+    name: NameId,
+) -> Result<PlanNode, AllocError>
+    ensures same { IfOk result (λ copy. (place : Spot) → CopiesNode program.now (named_node form name place) copy) }
+    ensures coded { IfOk result (λ copy. (x : Exprs) → IsCoded x copy) }
+    ensures called { IfOk result (λ copy. (x : Exprs) (headers : List PlanHeader) → IsTrue (calls_first x headers copy)) }
+{
+    match form {
+        Naming::Process(start) => Ok(PlanNode::Started(start, name)),
+        Naming::Probe => {
+            let text = String::from_str(alloc, program.expressions().name_of(name))?;
+            let shared = Rc::new(alloc, text)?;
+            Ok(PlanNode::Probe(shared))
         }
     }
 }
@@ -210,19 +237,19 @@ fn plan_argument(
             let code = expression_code(alloc, exprs, value)?;
             Ok(PlanArgument::Value(value, code))
         }
-        Argument::Process(term) => match process_name(program.node(term)) {
-            Some(name) => Ok(PlanArgument::Named(name)),
+        Argument::Process(term) => match started(program.node(term)) {
+            Some((start, name)) => Ok(PlanArgument::Started(start, name)),
             None => Ok(PlanArgument::Closed(plan_id(term))),
         },
     }
 }
 
-// The name of the process that a node is, where it is a named one.
-fn process_name(node: Node) -> Option<NameId>
-    ensures { result ≡ name_run node }
+// Where the process begins that a node is, and its name, where it is a named one.
+fn started(node: Node) -> Option<(Start, NameId)>
+    ensures { result ≡ named_process node }
 {
     match node {
-        Node::Run(name, _) => Some(name),
+        Node::Named(Naming::Process(start), name, _) => Some((start, name)),
         _ => None,
     }
 }

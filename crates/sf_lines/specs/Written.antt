@@ -1,7 +1,7 @@
 -- The lines of an output.
 use Rattle.std.specs.Prelude.{ℕ, List, ◌++◌, codes}
 use Rattle.sf_value.specs.declared.fault.Fault.{Fault}
-use Rattle.sf_value.specs.Values.{Data}
+use Rattle.sf_value.specs.Values.{Name, Data}
 use Rattle.sf_decimal.specs.Decimals.{natural}
 use Rattle.sf_value.specs.Spelling.{spelling}
 use Rattle.sf_lines.specs.declared.refusal.LineRefusal.{LineRefusal}
@@ -10,6 +10,10 @@ use Rattle.sf_lines.specs.Names.{fault_name, refusal_name}
 -- the sample at a time in milliseconds: `> T VALUE`
 abbrev pub sample_line : ℕ → Data → List ℕ
 sample_line time value = codes "> " ++ (natural time ++ (codes " " ++ (spelling value ++ codes "\n")))
+
+-- what is read under a name: `? NAME VALUE`
+abbrev pub reading_line : Name → Data → List ℕ
+reading_line name value = codes "? " ++ (name ++ (codes " " ++ (spelling value ++ codes "\n")))
 
 -- the fault of the sample at a time: `! T FAULT`
 abbrev pub fault_line : ℕ → Fault → List ℕ

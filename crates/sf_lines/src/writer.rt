@@ -1,7 +1,7 @@
 //! Output lines.
 ghost use Rattle.std.specs.Prelude.{◌≡◌, ◌++◌, ◌≤◌, length, OnOk, OnErr, take, vec_len};
 ghost use Rattle.sf_lines.specs.Names.{fault_name, refusal_name, value_fault_name};
-ghost use Rattle.sf_lines.specs.Written.{sample_line, fault_line, refusal_line};
+ghost use Rattle.sf_lines.specs.Written.{sample_line, reading_line, fault_line, refusal_line};
 
 use crate::refusal::LineRefusal;
 use crate::short::ShortLine;
@@ -16,10 +16,17 @@ pub fn write_sample(time: u64, value: &Value, out: &mut Vec<u8>) -> Result<(), A
 {
     let start = out.len();
     let written = append_sample(time, value, out);
-    if written.is_err() {
-        out.truncate(start);
-    }
-    written
+    whole_or_none(written, start, out)
+}
+
+/// Appends the line of a reading, `? NAME VALUE`. An error leaves what was there.
+pub fn write_reading(name: &str, value: &Value, out: &mut Vec<u8>) -> Result<(), AllocError>
+    ensures ok { OnOk result (out.new.items ≡ out.old.items ++ reading_line name.now value.now) }
+    ensures err { OnErr result (out.new.items ≡ out.old.items) }
+{
+    let start = out.len();
+    let written = append_reading(name, value, out);
+    whole_or_none(written, start, out)
 }
 
 /// The line of a fault, `! T FAULT`, at a time in milliseconds.
@@ -48,6 +55,22 @@ pub fn write_refusal(line: u64, refusal: LineRefusal) -> ShortLine
     text
 }
 
+// What was written, where it is all written; else what there was before it, up to its start.
+fn whole_or_none(
+    written: Result<(), AllocError>,
+    start: usize,
+    out: &mut Vec<u8>,
+) -> Result<(), AllocError>
+    ensures same { result ≡ written }
+    ensures ok { OnOk written (out.new.items ≡ out.old.items) }
+    ensures err { OnErr written (out.new.items ≡ take start out.old.items) }
+{
+    if written.is_err() {
+        out.truncate(start);
+    }
+    written
+}
+
 // An error leaves a part of the line behind what was there.
 fn append_sample(time: u64, value: &Value, out: &mut Vec<u8>) -> Result<(), AllocError>
     ensures ok { OnOk result (out.new.items ≡ out.old.items ++ sample_line time value.now) }
@@ -55,6 +78,18 @@ fn append_sample(time: u64, value: &Value, out: &mut Vec<u8>) -> Result<(), Allo
 {
     out.extend_from_slice(b"> ")?;
     write_natural(time, out)?;
+    out.extend_from_slice(b" ")?;
+    write_value(value, out)?;
+    out.extend_from_slice(b"\n")
+}
+
+// An error leaves a part of the line behind what was there.
+fn append_reading(name: &str, value: &Value, out: &mut Vec<u8>) -> Result<(), AllocError>
+    ensures ok { OnOk result (out.new.items ≡ out.old.items ++ reading_line name.now value.now) }
+    ensures err { OnErr result (take (vec_len out.old) out.new.items ≡ out.old.items) }
+{
+    out.extend_from_slice(b"? ")?;
+    out.extend_from_slice(name.as_bytes())?;
     out.extend_from_slice(b" ")?;
     write_value(value, out)?;
     out.extend_from_slice(b"\n")

@@ -16,12 +16,13 @@ use Rattle.sf_term.specs.declared.form.Join.TheVariants.{InSequence, InParallel,
 use Rattle.sf_term.specs.declared.form.Side.{Side}
 use Rattle.sf_term.specs.declared.form.Side.TheVariants.{First, Second}
 use Rattle.sf_term.specs.declared.form.Heading.TheVariants.{LoopPre, Initialized}
-use Rattle.sf_term.specs.Trees.{Chain, lone, chained, on_side, on_both, fanned, Primitive, bare, never, with_value, timed, arrow, accumulated, fused, Extent, Term, primitive, Reference, reference, run, call, Arguments, no_arguments, value_argument, process_argument, closed_argument, joined, sided, headed, switching, keeping, staged}
+use Rattle.sf_term.specs.Trees.{Chain, lone, chained, on_side, on_both, fanned, Primitive, bare, probe, never, with_value, timed, arrow, accumulated, fused, Extent, Term, primitive, Reference, reference, started, call, Arguments, no_arguments, value_argument, process_argument, closed_argument, joined, sided, headed, switching, keeping, staged}
 use Rattle.sf_term.specs.Parameters.{NameKind, value, process, Bindings}
 use Rattle.sf_term.specs.declared.form.Observation.{Observation}
+use Rattle.sf_term.specs.declared.form.Start.{Start}
 use Rattle.sf_term.specs.declared.form.Switching.TheVariants.{Basic, Recurring}
 use Rattle.sf_mean.specs.Contexts.{Signature, signature_named, values_in, bindings_inside, Context, names_of_values, inside_pattern, inside_process, process_named}
-use Rattle.sf_mean.specs.Typing.{ChainTakes, lone_takes, chained_takes, on_first_takes, on_second_takes, on_both_takes, fanned_takes, bare_kind, value_kind, accumulated_argument, accumulated_kind, takes_time, timed_kind, PrimitiveTakes, bare_takes, never_takes, value_takes, timed_takes, accumulated_takes, arrow_takes, fused_takes, Takes, takes, FormTakes, primitive_takes, run_takes, call_takes, ArgumentsFit, no_argument_fits, value_fits, process_fits, closed_fits, sequence_takes, parallel_takes, fan_takes, first_takes, second_takes, loop_takes, initialized_takes, switch_takes, keeping_takes, recurring_takes, stages_take}
+use Rattle.sf_mean.specs.Typing.{ChainTakes, lone_takes, chained_takes, on_first_takes, on_second_takes, on_both_takes, fanned_takes, bare_kind, value_kind, accumulated_argument, accumulated_kind, takes_time, timed_kind, PrimitiveTakes, bare_takes, probe_takes, never_takes, value_takes, timed_takes, accumulated_takes, arrow_takes, fused_takes, Takes, takes, FormTakes, primitive_takes, started_takes, call_takes, ArgumentsFit, no_argument_fits, value_fits, process_fits, closed_fits, sequence_takes, parallel_takes, fan_takes, first_takes, second_takes, loop_takes, initialized_takes, switch_takes, keeping_takes, recurring_takes, stages_take}
 use Rattle.sf_mean.specs.Inference.{Finds, both_outputs, join_output, side_output, first_beside, heading_output, body_output, switch_output, keeping_output, process_output, chain_output, primitive_output, with_fitting, is_found, value_is_argument, process_is_argument, call_output, form_output, reference_output, arguments_fit, term_output}
 
 -- ## Types of pairs
@@ -161,6 +162,9 @@ module _ {Γ : Context} where
       let made = found_is (bare_kind k a) fitting h in
       let fit = fitting_found made.0 b made.2 in
       bare_takes (made.1 ∙ ap Some fit.is) (subst Fits fit.is fit.fits)
+  primitive_found (probe k) a b h =
+      let fit = fitting_found a b h in
+      subst (λ b. PrimitiveTakes Γ (probe k) a b) fit.is (probe_takes fit.fits)
   primitive_found (never t) a b h =
       let fit = fitting_found (event_kind t) b h in
       subst (λ b. PrimitiveTakes Γ (never t) a b) fit.is (never_takes fit.fits)
@@ -188,6 +192,7 @@ module _ {Γ : Context} where
   ]
 
   pub primitive_is : {p : Primitive} {a b : Kind} → PrimitiveTakes Γ p a b → primitive_output Γ p a ≡ Some b
+  primitive_is (probe_takes {a = a} f) = fitting_is a f
   primitive_is (never_takes {t = t} f) = fitting_is (event_kind t) f
   primitive_is (bare_takes {b = b} h f) = ap (λ o. found_then o fitting) h ∙ fitting_is b f
   primitive_is (value_takes {k = k} {a = a} {b = b} E h f) = ap (λ o. found_then (found_then o (λ v. value_kind k v a)) fitting) (typed_found E) ∙ ap (λ o. found_then o fitting) h ∙ fitting_is b f
@@ -318,12 +323,12 @@ keepings Γ w t q k p u F H G a b h =
         let T : Kind → Type 0 = λ d. Takes (inside_pattern p c (inside_process k a d Γ)) u a b in
         keeping_takes (F a b (subst S same h)) (H (pair_kind a b) (event_kind c) (subst Q same i)) (subst B same binds) (subst T same body)
 
-runs : (Γ : Context) (k : Name) (a b : Kind) (o : Option (Kind × Kind)) → process_named k Γ.bindings ≡ o → process_output o a ≡ Some b → FormTakes Γ (reference (run k)) a b
-runs Γ k a b (Some s) h e =
+runs : (Γ : Context) (w : Start) (k : Name) (a b : Kind) (o : Option (Kind × Kind)) → process_named k Γ.bindings ≡ o → process_output o a ≡ Some b → FormTakes Γ (reference (started w k)) a b
+runs Γ w k a b (Some s) h e =
     let same = only_is a s.0 (Some s.1) e in
     let is : s.1 ≡ b = same_some same.1 in
-    run_takes (h ∙ ap Some (ap₂ (λ x y. (x, y)) (sym same.0) is))
-runs Γ k a b None h e = absurd cc
+    started_takes (h ∙ ap Some (ap₂ (λ x y. (x, y)) (sym same.0) is))
+runs Γ w k a b None h e = absurd cc
 
 calls : (Γ : Context) (g : Name) (vs : Arguments) (a b : Kind) (o : Option Signature) → signature_named g Γ.signatures ≡ o → ((qs : Bindings) → arguments_fit Γ vs qs ≡ true → ArgumentsFit Γ vs qs)
     → call_output o (arguments_fit Γ vs) a ≡ Some b → FormTakes Γ (reference (call g vs)) a b
@@ -370,7 +375,7 @@ mutual
   form_found Γ (staged x f g) a b h = stages Γ x f g (within Γ f (form_found Γ f)) (within Γ g (form_found Γ g)) (found_went (term_output Γ f) (term_output Γ g) a b h)
 
   reference_found : (Γ : Context) (r : Reference) → (a b : Kind) → reference_output Γ r a ≡ Some b → FormTakes Γ (reference r) a b
-  reference_found Γ (run k) a b h = runs Γ k a b (process_named k Γ.bindings) refl h
+  reference_found Γ (started w k) a b h = runs Γ w k a b (process_named k Γ.bindings) refl h
   reference_found Γ (call g vs) a b h = calls Γ g vs a b (signature_named g Γ.signatures) refl (arguments_found Γ vs) h
 
   arguments_found : (Γ : Context) (vs : Arguments) → (qs : Bindings) → arguments_fit Γ vs qs ≡ true → ArgumentsFit Γ vs qs
@@ -410,7 +415,7 @@ mutual
 
   form_is : {Γ : Context} {t : Term} {a b : Kind} → Fits a → FormTakes Γ t a b → form_output Γ t a ≡ Some b
   form_is f (primitive_takes P) = primitive_is P
-  form_is f (run_takes {a = a} {b = b} h) = ap (λ o. process_output o a) h ∙ ap (λ s. cond s (Some b) None) (is_same a)
+  form_is f (started_takes {a = a} {b = b} h) = ap (λ o. process_output o a) h ∙ ap (λ s. cond s (Some b) None) (is_same a)
   form_is {Γ} f (call_takes {vs = vs} {s = s} h F) =
       ap (λ o. call_output o (arguments_fit Γ vs) s.input) h ∙ ap (λ t. cond t (only s.input s.input (Some s.output)) None) (arguments_are F) ∙ ap (λ t. cond t (Some s.output) None) (is_same s.input)
   form_is f (sequence_takes F G) = rw (takes_found F) (takes_found G)

@@ -1,7 +1,24 @@
 -- A process that was frozen twice goes on as itself.
-use Rattle.std.proofs.Common.{ℕ, [], ◌∷◌}
-use Rattle.sf_mean.specs.Lives.{Step, Life, Process, resumed, after}
+use Rattle.std.proofs.Common.{◌≡◌, ℕ, [], ◌∷◌, refl}
+use Rattle.sf_value.specs.Values.{Name}
+use Rattle.sf_term.specs.declared.form.Start.{Start}
+use Rattle.sf_term.specs.declared.form.Start.TheVariants.{Run, Fresh}
+use Rattle.sf_mean.specs.Lives.{Step, Life, Process, closure, resumed, Environment, process_of, base, process_started, frozen, after}
 use Rattle.sf_mean.specs.Meaning.{Network, Outcome, Cost, Gives, gives, of_resumed}
+
+-- what is frozen began as its process did
+pub frozen_base : (P : Process) (h : Life) (d : ℕ) → base (frozen P h d) ≡ base P
+frozen_base P [] d = refl
+frozen_base P (s ∷ h) d = refl
+
+-- what began as it did is its own base
+base_again : (P : Process) → base (base P) ≡ base P
+base_again (closure t e) = refl
+base_again (resumed P h d) = base_again P
+
+pub started_base : (w : Start) (k : Name) (e : Environment) → base (process_started w k e) ≡ base (process_of k e)
+started_base Run k e = refl
+started_base Fresh k e = base_again (process_of k e)
 
 -- what a frozen process gives, its process gives
 unfrozen : {n : Network} {P : Process} {h : Life} {d : ℕ} {s : Step} {L : Life} {o : Outcome} {c : Cost} → Gives n (resumed P h d) (s ∷ L) o c → Gives n P (after h d (s ∷ L)) o c

@@ -10,11 +10,14 @@ use Rattle.sf_term.specs.declared.form.Join.TheVariants.{InSequence, InParallel,
 use Rattle.sf_term.specs.declared.form.Side.{Side}
 use Rattle.sf_term.specs.declared.form.Heading.TheVariants.{LoopPre, Initialized}
 use Rattle.sf_term.specs.declared.form.Observation.{Observation}
+use Rattle.sf_term.specs.declared.form.Start.{Start}
+use Rattle.sf_term.specs.declared.form.Start.TheVariants.{Run, Fresh}
 use Rattle.sf_term.specs.declared.form.Switching.TheVariants.{Basic, Recurring}
 use Rattle.sf_term.specs.declared.form.Heading.{Heading}
-use Rattle.sf_term.specs.Trees.{Extent, Term, primitive, reference, run, call, joined, sided, headed, switching, keeping, staged}
-use Rattle.sf_mean.specs.Lives.{Step, step, wait_of, input_of, Life, Process, closure, resumed, Environment, empty, known as known_name, running, process_of, passing, scope_around, bind, after, frozen, with_inputs, observed_life, fed, fed_back, older}
+use Rattle.sf_term.specs.Trees.{Extent, Term, primitive, reference, started, call, joined, sided, headed, switching, keeping, staged}
+use Rattle.sf_mean.specs.Lives.{Step, step, wait_of, input_of, Life, Process, closure, resumed, Environment, empty, known as known_name, running, process_of, base, process_started, passing, scope_around, bind, after, frozen, with_inputs, observed_life, fed, fed_back, older}
 use Rattle.sf_mean.specs.Formulas.{occurring, side_of}
+use Rattle.sf_mean.proofs.Refrozen.{frozen_base}
 use Rattle.sf_mean.specs.Meaning.{Network, Outcome, gave, faulted, Cost, Made, value_made, process_made, left_life, right_life, Watched, itself, observed, Takeover, Standing, waits, fired, stands_after, body_of, whenever, body_with, event_beside, or_earlier, last_event, kept_before, since_event, what_runs, unless_faulted, without_event, Gives, gives, Outputs, not_begun, and_gave, Sample, of_constants, of_form, of_resumed, Form, of_primitive, of_reference, of_join, of_side, of_loop, of_initialized, of_switch, of_keeping, of_recurring, of_stages, goes_on, stops, Loops, no_loop, and_looped, Sees, beside_values, by_observer, Since, at_start, watched, had_fired, SwitchTurn, while_waiting, as_body, after_fault, after_value, Fires, no_event_yet, event_now}
 use Rattle.sf_mean.specs.Soundness.{is_without_calls, HasNoCalls, closed_without_calls, frozen_without_calls, HaveNoCalls, none_calls, value_without_calls, process_without_calls, HasLived, closed, was_frozen, HaveLived, none_lived, value_beside, process_lived}
 use Rattle.sf_mean.proofs.TypedProcesses.{made_in}
@@ -327,11 +330,15 @@ module _ (n : Network) where
   abbrev pub Goes : Process → Type 0
   Goes P = (s : Step) (L : Life) (ws : List Data) → Outputs n P L ws → Has P s L
 
-  -- and so has each process of an environment
+  -- and so has the process that it began as
+  abbrev pub GoesAnew : Process → Type 0
+  GoesAnew P = Goes P × Goes (base P)
+
+  -- and each process of an environment
   pub data AllGo : Environment → Type 0 where
     go_nothing : AllGo empty
     go_value : {x : Name} {d : Data} {e : Environment} → AllGo e → AllGo (known_name x d e)
-    go_process : {x : Name} {P : Process} {e : Environment} → Goes P → AllGo e → AllGo (running x P e)
+    go_process : {x : Name} {P : Process} {e : Environment} → GoesAnew P → AllGo e → AllGo (running x P e)
 
   bound_go : (p : Pattern) (v : Data) {e : Environment} → AllGo e → AllGo (bind p v e)
   bound_go unnamed v E = E
@@ -341,18 +348,22 @@ module _ (n : Network) where
   passing_goes : Goes passing
   passing_goes s L ws O = has (of_form refl (of_primitive refl))
 
-  process_goes : (k : Name) {e : Environment} → AllGo e → Goes (process_of k e)
-  process_goes k go_nothing = passing_goes
+  process_goes : (k : Name) {e : Environment} → AllGo e → GoesAnew (process_of k e)
+  process_goes k go_nothing = (passing_goes, passing_goes)
   process_goes k (go_value {x = x} {e = e} E) = by_test (bytes_eq k x) (process_goes k E)
     where
-      by_test : (b : Bool) → Goes (process_of k e) → Goes (cond b passing (process_of k e))
-      by_test true G = passing_goes
+      by_test : (b : Bool) → GoesAnew (process_of k e) → GoesAnew (cond b passing (process_of k e))
+      by_test true G = (passing_goes, passing_goes)
       by_test false G = G
   process_goes k (go_process {x = x} {P = P} {e = e} H E) = by_test (bytes_eq k x) (process_goes k E)
     where
-      by_test : (b : Bool) → Goes (process_of k e) → Goes (cond b P (process_of k e))
+      by_test : (b : Bool) → GoesAnew (process_of k e) → GoesAnew (cond b P (process_of k e))
       by_test true G = H
       by_test false G = G
+
+  started_goes : (w : Start) (k : Name) {e : Environment} → AllGo e → Goes (process_started w k e)
+  started_goes Run k E = (process_goes k E).0
+  started_goes Fresh k E = (process_goes k E).1
 
   resumed_lived : {P : Process} {h : Life} {d : ℕ} {L : Life} {ys ws : List Data} → Outputs n P h ys → Outputs n (resumed P h d) L ws → Lived P (after h d L)
   resumed_lived H not_begun = lived H
@@ -366,20 +377,20 @@ module _ (n : Network) where
   frozen_goes [] d G H = G
   frozen_goes (s ∷ h) d G H = resumed_goes d G H
 
-  from_run : {k : Name} {e : Environment} {P : Process} {m : Made} {s : Step} {L : Life} {q : Outcome} {c : Cost} → m ≡ process_made P → Form n (reference (run k)) e m s L q c → IsGave q → Lived P (s ∷ L)
+  from_run : {w : Start} {k : Name} {e : Environment} {P : Process} {m : Made} {s : Step} {L : Life} {q : Outcome} {c : Cost} → m ≡ process_made P → Form n (reference (started w k)) e m s L q c → IsGave q → Lived P (s ∷ L)
   from_run {s = s} {L = L} k (of_reference {P = Q} A) h =
       let N : Process → Type 0 = λ P. Lived P (s ∷ L) in
       subst N (ap (λ m. process_in Q m) k) (whole A h)
 
-  run_at : {k : Name} {e : Environment} {s : Step} {L : Life} {q : Outcome} {c : Cost} → Sample n (closure (reference (run k)) e) s L q c → IsGave q → Lived (process_of k e) (s ∷ L)
+  run_at : {w : Start} {k : Name} {e : Environment} {s : Step} {L : Life} {q : Outcome} {c : Cost} → Sample n (closure (reference (started w k)) e) s L q c → IsGave q → Lived (process_started w k e) (s ∷ L)
   run_at (of_constants h) z = absurd z
   run_at (of_form {m = m} h F) z = from_run (ap (λ q. made_of q m) (sym h)) F z
 
-  run_lived : {k : Name} {e : Environment} {L : Life} {ws : List Data} → Outputs n (closure (reference (run k)) e) L ws → Lived (process_of k e) L
+  run_lived : {w : Start} {k : Name} {e : Environment} {L : Life} {ws : List Data} → Outputs n (closure (reference (started w k)) e) L ws → Lived (process_started w k e) L
   run_lived not_begun = lived not_begun
   run_lived (and_gave A B) = run_at B tt
 
-  with_run : {k : Name} {e : Environment} {s : Step} {L : Life} {ys : List Data} → Outputs n (process_of k e) L ys → Has (process_of k e) s L → Has (closure (reference (run k)) e) s L
+  with_run : {w : Start} {k : Name} {e : Environment} {s : Step} {L : Life} {ys : List Data} → Outputs n (process_started w k e) L ys → Has (process_started w k e) s L → Has (closure (reference (started w k)) e) s L
   with_run A (has S) = has (of_form refl (of_reference (gives A S)))
 
   -- what took over had an outcome wherever it may, if that is so of what takes over where the source has lived
@@ -415,11 +426,11 @@ module _ (n : Network) where
   -- what keeps its source takes over where that has lived
   keeping_goes : {t : Term} (u : Term) (p : Pattern) {e : Environment} (k : Name) → Goes (closure t e) → ((f : Environment) → AllGo f → Goes (closure u f)) → AllGo e
       → (s : Step) (K : Life) (v : Data) → Lived (closure t e) K → Goes (body_with k (closure t e) p u e s K v)
-  keeping_goes u p k G U E s K v (lived A) = U _ (bound_go p v (go_process (frozen_goes K (wait_of s) G A) E))
+  keeping_goes {t = t} u p {e = e} k G U E s K v (lived A) = U _ (bound_go p v (go_process (frozen_goes K (wait_of s) G A, subst Goes (sym (frozen_base (closure t e) K (wait_of s))) G) E))
 
   pub total : (t : Term) (e : Environment) → IsTrue (is_without_calls t) → AllGo e → Goes (closure t e)
   total (primitive p) e h E s L ws O = has (of_form refl (of_primitive refl))
-  total (reference (run k)) e h E s L ws O = elim (run_lived O) [ lived A ↦ with_run A (process_goes k E s L _ A) ]
+  total (reference (started w k)) e h E s L ws O = elim (run_lived O) [ lived A ↦ with_run A (started_goes w k E s L _ A) ]
   total (reference (call g vs)) e h E s L ws O = absurd (no_truth h)
   total (joined j f g) e h E s L ws O =
       let c = both_without (is_without_calls f) (is_without_calls g) h in
@@ -478,10 +489,14 @@ module _ (n : Network) where
     process_total (closed_without_calls {t = t} {e = e} h N) (closed E) = total t e h (all_go N E)
     process_total (frozen_without_calls N) (was_frozen {d = d} P H) = resumed_goes d (process_total N P) H
 
+    base_total : {P : Process} → HasNoCalls P → HasLived n P → Goes (base P)
+    base_total (closed_without_calls {t = t} {e = e} h N) (closed E) = total t e h (all_go N E)
+    base_total (frozen_without_calls N) (was_frozen P H) = base_total N P
+
     all_go : {e : Environment} → HaveNoCalls e → HaveLived n e → AllGo e
     all_go none_calls none_lived = go_nothing
     all_go (value_without_calls N) (value_beside E) = go_value (all_go N E)
-    all_go (process_without_calls M N) (process_lived P E) = go_process (process_total M P) (all_go N E)
+    all_go (process_without_calls M N) (process_lived P E) = go_process (process_total M P, base_total M P) (all_go N E)
 
   pub some_outcome : {P : Process} → HasNoCalls P → HasLived n P → (s : Step) (L : Life) {ws : List Data} → Outputs n P L ws → (o : Outcome) × ((c : Cost) × Gives n P (s ∷ L) o c)
   some_outcome N H s L O = found O (process_total N H s L _ O)

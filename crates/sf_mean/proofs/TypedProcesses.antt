@@ -12,13 +12,15 @@ use Rattle.sf_expr.specs.Soundness.{Yields, yields, fails, ScopeHas, has_no_name
 use Rattle.sf_term.specs.declared.form.Accumulation.{Accumulation}
 use Rattle.sf_term.specs.declared.form.Side.TheVariants.{First, Second}
 use Rattle.sf_term.specs.declared.form.Observation.{Observation}
+use Rattle.sf_term.specs.declared.form.Start.{Start}
+use Rattle.sf_term.specs.declared.form.Start.TheVariants.{Run, Fresh}
 use Rattle.sf_term.specs.declared.form.Observation.TheVariants.{Immediate, Delayed}
-use Rattle.sf_term.specs.Trees.{Chain, Primitive, Term, primitive, reference, run, call, Arguments, joined, sided, headed, switching, keeping, staged, Template, Templates, template_named}
-use Rattle.sf_mean.specs.Lives.{Step, wait_of, input_of, Life, Environment, scope_around, bind, Process, process_of, passing, closure, empty, known, frozen, first_input as input_at_first}
+use Rattle.sf_term.specs.Trees.{Chain, Primitive, Term, primitive, reference, started, call, Arguments, joined, sided, headed, switching, keeping, staged, Template, Templates, template_named}
+use Rattle.sf_mean.specs.Lives.{Step, wait_of, input_of, Life, Environment, scope_around, bind, Process, process_of, base, process_started, passing, closure, empty, known, frozen, first_input as input_at_first}
 use Rattle.sf_mean.specs.Formulas.{timed_formula, coming, next_value, accumulation, displayed, value_formula, with_side, apply_chain, formula}
-use Rattle.sf_mean.specs.Meaning.{Network, Outcome, gave, faulted, Cost, Made, value_made, process_made, argument_process, argued, process_called, referred, make, Watched, itself, observed, Takeover, Standing, waits, fired, stands_after, switched_value, body_of, event_beside, or_earlier, last_event, kept_before, since_event, what_runs, unless_faulted, Gives, gives, Outputs, not_begun, and_gave, Sample, of_constants, of_form, of_resumed, Form, of_primitive, of_reference, of_join, of_side, of_loop, of_initialized, of_switch, of_keeping, of_recurring, of_stages, Next, goes_on, stops, Loops, no_loop, and_looped, Sees, beside_values, by_observer, Since, at_start, watched, had_fired, SwitchTurn, while_waiting, as_body, Switched, after_fault, after_value, Fires, no_event_yet, event_now}
+use Rattle.sf_mean.specs.Meaning.{Network, Outcome, gave, faulted, recorded, Cost, Made, value_made, process_made, argument_process, argued, process_called, referred, make, Watched, itself, observed, Takeover, Standing, waits, fired, stands_after, switched_value, body_of, event_beside, or_earlier, last_event, kept_before, since_event, what_runs, unless_faulted, Gives, gives, Outputs, not_begun, and_gave, Sample, of_constants, of_form, of_resumed, Form, of_primitive, of_reference, of_join, of_side, of_loop, of_initialized, of_switch, of_keeping, of_recurring, of_stages, Next, goes_on, stops, Loops, no_loop, and_looped, Sees, beside_values, by_observer, Since, at_start, watched, had_fired, SwitchTurn, while_waiting, as_body, Switched, after_fault, after_value, Fires, no_event_yet, event_now}
 use Rattle.sf_mean.specs.Contexts.{Signature, signature_of, signature_named, parameters_inside, value, process, Bindings, bindings_inside, values_in, types_of_process, process_named, context_with, Context, names_of_values}
-use Rattle.sf_mean.specs.Typing.{ChainTakes, lone_takes, chained_takes, on_first_takes, on_second_takes, on_both_takes, fanned_takes, PrimitiveTakes, bare_takes, never_takes, value_takes, timed_takes, accumulated_takes, arrow_takes, fused_takes, Takes, takes, FormTakes, primitive_takes, run_takes, call_takes, ArgumentsFit, no_argument_fits, value_fits, process_fits, closed_fits, sequence_takes, parallel_takes, fan_takes, first_takes, second_takes, loop_takes, initialized_takes, switch_takes, keeping_takes, recurring_takes, stages_take}
+use Rattle.sf_mean.specs.Typing.{ChainTakes, lone_takes, chained_takes, on_first_takes, on_second_takes, on_both_takes, fanned_takes, PrimitiveTakes, bare_takes, probe_takes, never_takes, value_takes, timed_takes, accumulated_takes, arrow_takes, fused_takes, Takes, takes, FormTakes, primitive_takes, started_takes, call_takes, ArgumentsFit, no_argument_fits, value_fits, process_fits, closed_fits, sequence_takes, parallel_takes, fan_takes, first_takes, second_takes, loop_takes, initialized_takes, switch_takes, keeping_takes, recurring_takes, stages_take}
 use Rattle.sf_mean.specs.Soundness.{NetworkIsTyped, Have, have_nothing, have_more, LifeHas, no_steps, more_steps, EnvironmentHas, has_nothing, has_value, has_process, ProcessTakes, closure_takes, resumed_takes, OutcomeHas}
 use Rattle.sf_mean.proofs.TypedPrimitives.{first_has, bare_typed, value_typed, timed_typed, event_comes, Comes, comes_none, comes_some, coming_typed, made_typed, shown_typed}
 use Rattle.sf_mean.proofs.TypedLives.{first_is, second_is, with_inputs_has, after_has, fed_has, outcome_is, changed_has, combined_has, LifeIf, life_if, beside_if, relay_if}
@@ -125,10 +127,19 @@ template_found g (t ∷ ts) s h = by_test (bytes_eq g t.name) refl h (template_f
         let found = later h in
         record { template = found.template; place = suc found.place; named = ap (λ b. cond b (Some t) (template_named g ts)) e ∙ found.named; there = found.there; header = found.header }
 
+-- a process began with its types
+base_has : {n : Network} {P : Process} {a b : Kind} → ProcessTakes n P a b → ProcessTakes n (base P) a b
+base_has (closure_takes K E T) = closure_takes K E T
+base_has (resumed_takes T l) = base_has T
+
+started_has : {n : Network} (w : Start) (k : Name) {e : Environment} {bs : Bindings} {a b : Kind} → EnvironmentHas n e bs → process_named k bs ≡ Some (a, b) → ProcessTakes n (process_started w k e) a b
+started_has Run k E h = process_has k E h
+started_has Fresh k E h = base_has (process_has k E h)
+
 -- a term as an argument has its types
 argument_has : {n : Network} {fs : TypesByName} {e : Environment} {bs : Bindings} {a b : Kind} → NetworkIsTyped fs n → EnvironmentHas n e bs → (t : Term) → Takes (context_with fs bs n.templates) t a b → ProcessTakes n (argument_process t e) a b
 argument_has K E (primitive p) T = closure_takes K E T
-argument_has K E (reference (run k)) (takes p q (run_takes h)) = process_has k E h
+argument_has K E (reference (started w k)) (takes p q (started_takes h)) = started_has w k E h
 argument_has K E (reference (call g vs)) T = closure_takes K E T
 argument_has K E (joined j f g) T = closure_takes K E T
 argument_has K E (sided d t) T = closure_takes K E T
@@ -208,6 +219,7 @@ module _ (n : Network) (eval_is : EvalsTyped) (apply_is : AppliesTyped) where
 
     formula_is : {p : Primitive} {a b : Kind} (s : Step) {L : Life} → PrimitiveTakes Γ p a b → HasKind (input_of s) a → LifeHas L a → Yields b (formula p scope s L)
     formula_is s {L = L} (bare_takes {k = k} B f) h l = bare_typed k s L B h l
+    formula_is s (probe_takes f) h l = yields h
     formula_is s (never_takes f) h l = yields has_no_event
     formula_is s {L = L} (value_takes {k = k} I B f) h l = changed_yields (λ v. value_formula k v s L) (λ v i. value_typed k s L B i h l) (eval_is _ _ _ _ I in_scope)
     formula_is s (arrow_takes F) h l = apply_is _ _ _ _ _ _ F h in_scope
@@ -268,8 +280,8 @@ module _ (n : Network) (eval_is : EvalsTyped) (apply_is : AppliesTyped) where
     sample_has (of_resumed {d = d} A) (resumed_takes p h) l = gives_has A p (after_has d h l)
 
     form_has : {t : Term} {e : Environment} {fs : TypesByName} {bs : Bindings} {m : Made} {s : Step} {L : Life} {o : Outcome} {c : Cost} {a b : Kind} → Form n t e m s L o c → make n t e (input_at_first s L) ≡ answer m → NetworkIsTyped fs n → EnvironmentHas n e bs → FormTakes (context_with fs bs n.templates) t a b → LifeHas (s ∷ L) a → OutcomeHas o b
-    form_has {fs = fs} (of_primitive {s = s} h) q K E (primitive_takes T) (more_steps i l) = outcome_is [] (formula_is _ (environment_scope n.functions fs K.functions E) s T i l) h
-    form_has {a = a} {b = b} (of_reference {P = P} A) q K E (run_takes {k = k} h) l = gives_has A (subst (λ P. ProcessTakes n P a b) (ap (made_process P) q) (process_has k E h)) l
+    form_has {fs = fs} (of_primitive {p = p} {s = s} h) q K E (primitive_takes T) (more_steps i l) = outcome_is (recorded p s) (formula_is _ (environment_scope n.functions fs K.functions E) s T i l) h
+    form_has {a = a} {b = b} (of_reference {P = P} A) q K E (started_takes {w = w} {k = k} h) l = gives_has A (subst (λ P. ProcessTakes n P a b) (ap (made_process P) q) (started_has w k E h)) l
     form_has (of_reference A) q K E (call_takes {g = g} {vs = vs} h F) l = gives_has A (call_has g vs K E h F (referred_as q)) l
     form_has (of_join {o = o} {o' = o'} A B C) q K E (sequence_takes {b = b} {c = d} F H) (more_steps {s = s} i l) =
         let h : OutcomeHas o b = gives_has B (closure_takes K E F) (more_steps {s = s} i l) in

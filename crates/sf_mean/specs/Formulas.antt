@@ -15,7 +15,7 @@ use Rattle.sf_term.specs.declared.form.Accumulation.{Accumulation}
 use Rattle.sf_term.specs.declared.form.Accumulation.TheVariants.{AccumBy, AccumHoldBy, Scan}
 use Rattle.sf_term.specs.declared.form.Side.{Side}
 use Rattle.sf_term.specs.declared.form.Side.TheVariants.{First, Second}
-use Rattle.sf_term.specs.Trees.{Chain, lone, chained, on_side, on_both, fanned, Primitive, bare, never, with_value, timed, arrow, accumulated, fused}
+use Rattle.sf_term.specs.Trees.{Chain, lone, chained, on_side, on_both, fanned, Primitive, bare, probe, never, with_value, timed, arrow, accumulated, fused}
 use Rattle.sf_mean.specs.Lives.{Step, wait_of, input_of, Life, time}
 
 -- In all of these, s is the newest step and L the steps before it.
@@ -149,6 +149,7 @@ apply_chain (fanned f g) x scope = apply_chain f x scope >>= λ y. apply_chain g
 -- What a primitive gives at the newest step. A constant is evaluated first; its fault is the fault of the first step.
 abbrev pub formula : Primitive → Scope → Step → Life → Evaluated Data
 formula (bare k) scope s L = bare_formula k s L
+formula (probe k) scope s L = answer (input_of s)
 formula (never t) scope s L = answer no_event
 formula (with_value k e) scope s L = eval e scope >>= λ v. answer (value_formula k v s L)
 formula (arrow f) scope s L = apply f (input_of s) scope

@@ -10,7 +10,7 @@ use Rattle.sf_term.specs.declared.form.Side.{Side}
 use Rattle.sf_term.specs.declared.form.Side.TheVariants.{First, Second}
 use Rattle.sf_term.specs.declared.form.Heading.{Heading}
 use Rattle.sf_term.specs.declared.form.Heading.TheVariants.{LoopPre, Initialized}
-use Rattle.sf_term.specs.Trees.{Chain, lone, chained, on_side, on_both, fanned, Primitive, bare, never, with_value, timed, arrow, accumulated, fused, Term, primitive, Reference, reference, run, call, Arguments, no_arguments, value_argument, process_argument, closed_argument, joined, sided, headed, switching, keeping, staged}
+use Rattle.sf_term.specs.Trees.{Chain, lone, chained, on_side, on_both, fanned, Primitive, bare, probe, never, with_value, timed, arrow, accumulated, fused, Term, primitive, Reference, reference, started, call, Arguments, no_arguments, value_argument, process_argument, closed_argument, joined, sided, headed, switching, keeping, staged}
 use Rattle.sf_term.specs.declared.form.Switching.{Switching}
 use Rattle.sf_term.specs.declared.form.Switching.TheVariants.{Basic, Recurring}
 use Rattle.sf_term.specs.Parameters.{NameKind, value, process, Bindings}
@@ -79,6 +79,7 @@ chain_output Γ (fanned f g) a = join_output FannedOut (chain_output Γ f) (chai
 -- the output of a primitive
 abbrev pub primitive_output : Context → Primitive → Finds
 primitive_output Γ (bare k) a = found_then (bare_kind k a) fitting
+primitive_output Γ (probe k) a = fitting a
 primitive_output Γ (never t) a = fitting (event_kind t)
 primitive_output Γ (with_value k e) a = found_then (found_then (expression_type (names_of_values Γ) e) (λ v. value_kind k v a)) fitting
 primitive_output Γ (arrow f) a = function_output (names_of_values Γ) f a
@@ -125,7 +126,7 @@ abbrev mutual
 
   -- the output of what is referred to
   pub reference_output : Context → Reference → Finds
-  reference_output Γ (run k) a = process_output (process_named k Γ.bindings) a
+  reference_output Γ (started w k) a = process_output (process_named k Γ.bindings) a
   reference_output Γ (call g vs) a = call_output (signature_named g Γ.signatures) (arguments_fit Γ vs) a
 
   -- arguments are as many as parameters, and each is one for its parameter

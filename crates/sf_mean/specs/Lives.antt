@@ -3,6 +3,8 @@ use Rattle.std.specs.Prelude.{ℕ, ◌+◌, ◌≤◌, List, [], ◌∷◌, ⊤,
 use Rattle.sf_value.specs.Values.{Name, Data, pair, first_of, second_of}
 use Rattle.sf_func.specs.Registries.{AnswersByName}
 use Rattle.sf_term.specs.declared.form.Bare.TheVariants.{Identity}
+use Rattle.sf_term.specs.declared.form.Start.{Start}
+use Rattle.sf_term.specs.declared.form.Start.TheVariants.{Run, Fresh}
 use Rattle.sf_term.specs.Trees.{bare, Term, primitive}
 use Rattle.sf_expr.specs.Expressions.{Pattern, unnamed, named, both}
 use Rattle.sf_expr.specs.Evaluation.{Scope, no_names, value_name, other_name}
@@ -67,6 +69,16 @@ abbrev pub process_of : Name → Environment → Process
 process_of x empty = passing
 process_of x (known y d e) = cond (bytes_eq x y) passing (process_of x e)
 process_of x (running y P e) = cond (bytes_eq x y) P (process_of x e)
+
+-- where a process began: a frozen one where what was frozen did
+abbrev pub base : Process → Process
+base (closure t e) = closure t e
+base (resumed P h d) = base P
+
+-- the process of a name where it stood, or where it began
+abbrev pub process_started : Start → Name → Environment → Process
+process_started Run x e = process_of x e
+process_started Fresh x e = base (process_of x e)
 
 -- the environment inside a pattern that a value was bound to
 abbrev pub bind : Pattern → Data → Environment → Environment

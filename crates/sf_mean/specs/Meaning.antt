@@ -12,9 +12,9 @@ use Rattle.sf_term.specs.declared.form.Heading.TheVariants.{LoopPre, Initialized
 use Rattle.sf_term.specs.declared.form.Observation.{Observation}
 use Rattle.sf_term.specs.declared.form.Observation.TheVariants.{Immediate, Delayed}
 use Rattle.sf_term.specs.declared.form.Switching.TheVariants.{Basic, Recurring}
-use Rattle.sf_term.specs.Trees.{Primitive, Extent, whole, rest, Term, primitive, Reference, reference, run, call, Arguments, no_arguments, value_argument, process_argument, closed_argument, joined, sided, headed, switching, keeping, staged, Template, Templates, template_named}
+use Rattle.sf_term.specs.Trees.{Primitive, bare, probe, never, with_value, timed, arrow, accumulated, fused, Extent, whole, rest, Term, primitive, Reference, reference, started, call, Arguments, no_arguments, value_argument, process_argument, closed_argument, joined, sided, headed, switching, keeping, staged, Template, Templates, template_named}
 use Rattle.sf_term.specs.Parameters.{Bindings}
-use Rattle.sf_mean.specs.Lives.{Step, step, wait_of, input_of, Life, Process, closure, resumed, passing, Environment, empty, known, running, process_of, scope_around, bind, after, frozen, with_inputs, relay, observed_life, fed, first_input as input_at_first}
+use Rattle.sf_mean.specs.Lives.{Step, step, wait_of, input_of, Life, Process, closure, resumed, passing, Environment, empty, known, running, process_started, scope_around, bind, after, frozen, with_inputs, relay, observed_life, fed, first_input as input_at_first}
 use Rattle.sf_mean.specs.Formulas.{at_first, occurring, side_of, with_side, formula}
 
 -- A network: its templates, and what its stored functions answer.
@@ -53,6 +53,17 @@ value_in (faulted x) = number (pos 0)
 abbrev pub as_outcome : Evaluated Data → Readings → Outcome
 as_outcome (answer v) r = gave v r
 as_outcome (failed x) r = faulted x
+
+-- what a primitive records at a step: a probe the input, under its name
+abbrev pub recorded : Primitive → Step → Readings
+recorded (bare k) s = []
+recorded (probe x) s = (x, input_of s) ∷ []
+recorded (never t) s = []
+recorded (with_value k e) s = []
+recorded (timed k q e) s = []
+recorded (arrow f) s = []
+recorded (accumulated k e f) s = []
+recorded (fused f) s = []
 
 -- How many terms a sample steps, and how many stand one inside another.
 pub data Cost : Type 0 where
@@ -104,7 +115,7 @@ abbrev mutual
 
   -- the terms within a reference
   pub reference_cost : Reference → Cost
-  reference_cost (run k) = no_cost
+  reference_cost (started w k) = no_cost
   reference_cost (call g vs) = arguments_cost vs
 
   -- the terms in arguments
@@ -133,7 +144,7 @@ pub data Made : Type 0 where
 
 -- the process that a reference is as an argument: that of its name, or the call in its environment
 abbrev pub process_referred : Reference → Environment → Process
-process_referred (run k) e = process_of k e
+process_referred (started w k) e = process_started w k e
 process_referred (call g vs) e = closure (reference (call g vs)) e
 
 -- the process that a term is as an argument
@@ -164,7 +175,7 @@ process_called φ (Some t) vs e = argued φ t.parameters vs e empty >>= λ d. an
 
 -- the process that stands in the place of a reference
 abbrev pub referred : Network → Reference → Environment → Evaluated Process
-referred n (run k) e = answer (process_of k e)
+referred n (started w k) e = answer (process_started w k e)
 referred n (call g vs) e = process_called n.functions (template_named g n.templates) vs e
 
 -- What stands before a form's parts, evaluated at its first step. A primitive's constants are in its formula.
@@ -302,9 +313,9 @@ mutual
 
   -- One step of each form, with what it was made with.
   pub data Form (n : Network) : Term → Environment → Made → Step → Life → Outcome → Cost → Type 0 where
-    -- a primitive gives its formula
+    -- a primitive gives its formula, beside what it records
     of_primitive : {p : Primitive} {e : Environment} {m : Made} {s : Step} {L : Life} {o : Outcome}
-        → as_outcome (formula p (scope_around n.functions e) s L) [] ≡ o
+        → as_outcome (formula p (scope_around n.functions e) s L) (recorded p s) ≡ o
         → Form n (primitive p) e m s L o one_term
     -- what is referred to stands in the place of a reference; its first step counts besides
     of_reference : {r : Reference} {e : Environment} {P : Process} {s : Step} {L : Life} {o : Outcome} {c : Cost}

@@ -16,9 +16,10 @@ use Rattle.sf_term.specs.declared.form.Accumulation.TheVariants.{AccumBy, AccumH
 use Rattle.sf_term.specs.declared.form.Join.TheVariants.{InSequence, InParallel, FannedOut}
 use Rattle.sf_term.specs.declared.form.Side.TheVariants.{First, Second}
 use Rattle.sf_term.specs.declared.form.Heading.TheVariants.{LoopPre, Initialized}
-use Rattle.sf_term.specs.Trees.{Chain, lone, chained, on_side, on_both, fanned, Primitive, bare, never, with_value, timed, arrow, accumulated, fused, Extent, Term, primitive, reference, run, call, Arguments, no_arguments, value_argument, process_argument, closed_argument, joined, sided, headed, switching, keeping, staged, Template, Templates}
+use Rattle.sf_term.specs.Trees.{Chain, lone, chained, on_side, on_both, fanned, Primitive, bare, probe, never, with_value, timed, arrow, accumulated, fused, Extent, Term, primitive, reference, started, call, Arguments, no_arguments, value_argument, process_argument, closed_argument, joined, sided, headed, switching, keeping, staged, Template, Templates}
 use Rattle.sf_term.specs.Parameters.{NameKind, value, process, Bindings}
 use Rattle.sf_term.specs.declared.form.Observation.{Observation}
+use Rattle.sf_term.specs.declared.form.Start.{Start}
 use Rattle.sf_term.specs.declared.form.Switching.TheVariants.{Basic, Recurring}
 use Rattle.sf_mean.specs.Networks.{main_of}
 use Rattle.sf_mean.specs.Contexts.{Context, Signature, signature_named, names_of_values, context_of, inside_pattern, inside_process, process_named}
@@ -76,6 +77,7 @@ accumulated_kind Scan v u = only u v (Some v)
 -- A primitive takes inputs of one type to outputs of another.
 pub data PrimitiveTakes (Γ : Context) : Primitive → Kind → Kind → Type 0 where
   bare_takes : {k : Bare} {a b : Kind} → bare_kind k a ≡ Some b → Fits b → PrimitiveTakes Γ (bare k) a b
+  probe_takes : {k : Name} {a : Kind} → Fits a → PrimitiveTakes Γ (probe k) a a
   never_takes : {t a : Kind} → Fits (event_kind t) → PrimitiveTakes Γ (never t) a (event_kind t)
   value_takes : {k : WithValue} {e : Expression} {v a b : Kind} → HasType (names_of_values Γ) e v → value_kind k v a ≡ Some b → Fits b → PrimitiveTakes Γ (with_value k e) a b
   arrow_takes : {f : Function} {a b : Kind} → FunctionTakes (names_of_values Γ) f a b → PrimitiveTakes Γ (arrow f) a b
@@ -92,7 +94,7 @@ mutual
   -- the types of each form of terms
   pub data FormTakes : Context → Term → Kind → Kind → Type 0 where
     primitive_takes : {Γ : Context} {p : Primitive} {a b : Kind} → PrimitiveTakes Γ p a b → FormTakes Γ (primitive p) a b
-    run_takes : {Γ : Context} {k : Name} {a b : Kind} → process_named k Γ.bindings ≡ Some (a, b) → FormTakes Γ (reference (run k)) a b
+    started_takes : {Γ : Context} {w : Start} {k : Name} {a b : Kind} → process_named k Γ.bindings ≡ Some (a, b) → FormTakes Γ (reference (started w k)) a b
     call_takes : {Γ : Context} {g : Name} {vs : Arguments} {s : Signature} → signature_named g Γ.signatures ≡ Some s → ArgumentsFit Γ vs s.parameters → FormTakes Γ (reference (call g vs)) s.input s.output
     sequence_takes : {Γ : Context} {f g : Term} {a b c : Kind} → Takes Γ f a b → Takes Γ g b c → FormTakes Γ (joined InSequence f g) a c
     parallel_takes : {Γ : Context} {f g : Term} {a b c d : Kind} → Takes Γ f a b → Takes Γ g c d → FormTakes Γ (joined InParallel f g) (pair_kind a c) (pair_kind b d)

@@ -11,15 +11,15 @@ use Rattle.sf_mean.proofs.Once.{once}
 use Rattle.sf_engine.specs.Histories.{saved_under, keep_under, MaySave}
 use Rattle.sf_lines.specs.Limits.{limit_refusal}
 use Rattle.sf_lines.specs.Asking.{Asked, nothing, start, advance, save, back, Says}
-use Rattle.sf_lines.specs.Written.{sample_line, fault_line, refusal_line}
+use Rattle.sf_lines.specs.Written.{fault_line, refusal_line}
 use Rattle.sf_lines.specs.declared.refusal.LineRefusal.{LineRefusal}
 use Rattle.sf_lines.specs.declared.refusal.LineRefusal.TheVariants.{NoSave, TooManySaves}
 use Rattle.sf_lines.proofs.Forms.{one_answer}
-use Rattle.sf_player.specs.Scripts.{Moment, has_begun, life_after, IsSample, Ending, input_ended, sample_faulted, line_refused, Turn, goes_on, ends, Replies, past_limits, refused, quiet, keeps, keeps_no_more, returns, returns_nowhere, gives_value, gives_fault, gives_none, LeadsTo, no_line, one_more, Script, to_the_end, up_to, Agree, both_go_on, both_end}
+use Rattle.sf_player.specs.Scripts.{Moment, has_begun, life_after, IsSample, sample_lines, Ending, input_ended, sample_faulted, line_refused, Turn, goes_on, ends, Replies, past_limits, refused, quiet, keeps, keeps_no_more, returns, returns_nowhere, gives_value, gives_fault, gives_none, LeadsTo, no_line, one_more, Script, to_the_end, up_to, Agree, both_go_on, both_end}
 
 -- what a sample gives
 data SampleGives (n : Network) (m : Template) (now : Moment) (L : Life) : List ℕ → Turn → Type 0 where
-  a_value : {y : Data} {r : Readings} {c : Cost} → Gives n (closure m.body empty) L (gave y r) c → SampleGives n m now L (sample_line (time L) y) (goes_on (record now { taken = now.taken + 1; lived = L }))
+  a_value : {y : Data} {r : Readings} {c : Cost} → Gives n (closure m.body empty) L (gave y r) c → SampleGives n m now L (sample_lines now.probes (time L) y r) (goes_on (record now { taken = now.taken + 1; lived = L }))
   a_fault : {x : ValueFault} {c : Cost} → Gives n (closure m.body empty) L (faulted x) c → SampleGives n m now L (fault_line (time L) (Value x)) (ends sample_faulted)
   nothing_at_all : ((o : Outcome) (c : Cost) → Gives n (closure m.body empty) L o c → ⊥) → SampleGives n m now L (fault_line (time L) Large) (ends sample_faulted)
 
@@ -70,10 +70,11 @@ abbrev Same : List ℕ → List ℕ → Turn → Turn → Type 0
 Same x y t u = (x ≡ y) × (t ≡ u)
 
 sample_once : {n : Network} {m : Template} {now : Moment} {L : Life} {x y : List ℕ} {t u : Turn} → SampleGives n m now L x t → SampleGives n m now L y u → Same x y t u
-sample_once {n = n} {L = L} (a_value {y = y} {r = r} G) (a_value {y = z} {r = q} H) =
+sample_once {n = n} {now = now} {L = L} (a_value {y = y} {r = r} G) (a_value {y = z} {r = q} H) =
     let o : gave y r ≡ gave z q = (once n G H).0 in
     let same : y ≡ z = cc in
-    (ap (sample_line (time L)) same, refl)
+    let reads : r ≡ q = cc in
+    (ap (λ v. sample_lines now.probes (time L) v r) same ∙ ap (sample_lines now.probes (time L) z) reads, refl)
 sample_once {n = n} (a_value {y = y} {r = r} G) (a_fault {x = x} H) = absurd (let o : gave y r ≡ faulted x = (once n G H).0 in cc)
 sample_once (a_value G) (nothing_at_all none) = absurd (none _ _ G)
 sample_once {n = n} (a_fault {x = x} G) (a_value {y = y} {r = r} H) = absurd (let o : faulted x ≡ gave y r = (once n G H).0 in cc)

@@ -5,6 +5,7 @@ use Rattle.std.proofs.lemmas.List.{append-nil}
 use Rattle.sf_value.specs.Values.{Kind, Data, HasKind}
 use Rattle.sf_value.specs.declared.fault.Fault.{Fault}
 use Rattle.sf_value.specs.declared.fault.Fault.TheVariants.{Memory as NoMemory}
+use Rattle.sf_probe.specs.Readings.{readings_of}
 use Rattle.sf_term.specs.Trees.{Template}
 use Rattle.sf_mean.specs.Lives.{Life, time, input_of}
 use Rattle.sf_mean.specs.Meaning.{Network}
@@ -17,8 +18,8 @@ use Rattle.sf_lines.specs.Limits.{limit_refusal}
 use Rattle.sf_lines.specs.Asking.{Asked, nothing, start, advance, Says, HasTimelyValue}
 use Rattle.sf_lines.specs.declared.refusal.LineRefusal.{LineRefusal}
 use Rattle.sf_lines.specs.declared.refusal.LineRefusal.TheVariants.{Memory as MemoryRefusal}
-use Rattle.sf_lines.specs.Written.{sample_line, fault_line, refusal_line}
-use Rattle.sf_player.specs.Scripts.{Moment, has_begun, life_after, IsSample, Asks, refused, quiet, gives_value, gives_fault}
+use Rattle.sf_lines.specs.Written.{fault_line, refusal_line}
+use Rattle.sf_player.specs.Scripts.{Moment, has_begun, life_after, IsSample, sample_lines, Asks, refused, quiet, gives_value, gives_fault}
 use Rattle.sf_player.specs.Playing.{SavesLastAtMost, IsAt, PlaysOn, PlaysLine, Halts, faults, refuses, lacks_memory, is_too_large, lacks_memory_for_its_value}
 use Rattle.sf_player.proofs.Asked.{advance_asked, start_asked, begun, not_begun, can_wait}
 use Rattle.sf_player.proofs.Saving.{later_saves}
@@ -37,17 +38,17 @@ some_input : {o : Option Data} (L : Life) → o ≡ newest_input L → L ≢ [] 
 some_input [] last some = absurd (some refl)
 some_input (s ∷ L) last some = λ none. let e : Some (input_of s) ≡ None = sym last ∙ none in cc
 
--- a value was gathered
+-- readings and a value were gathered
 pub value_said : {F : Type 0} {H : _} {n : Network} {m : Template} {now : Moment} {line : List ℕ} {a : Asked} {s : Sample} {o e : Player F H} (t : ℕ) → Asks n m now line a → IsSample a
     → Sampled n m (life_after a now.lived) now.saved (Ok s) o.engine → t ≡ time (life_after a now.lived) → t ≤ 3600000 * (now.taken + 1)
-    → SavesLastAtMost now.taken now.saved → o.taken ≡ now.taken
-    → e.engine ≡ o.engine → e.cutter ≡ o.cutter → e.taken ≡ o.taken + 1
-    → e.out.items ≡ o.out.items ++ sample_line s.time s.value
+    → SavesLastAtMost now.taken now.saved → o.taken ≡ now.taken → o.probes ≡ now.probes
+    → e.engine ≡ o.engine → e.cutter ≡ o.cutter → e.taken ≡ o.taken + 1 → e.probes ≡ o.probes
+    → e.out.items ≡ o.out.items ++ sample_lines o.probes s.time s.value (readings_of s.readings)
     → PlaysOn n m now line o e
-value_said {n = n} {m = m} {now = now} {a = a} {s = s} {o = o} t asked sample (gave_value G at R) later slow saves taken engine cutter count out =
+value_said {n = n} {m = m} {now = now} {a = a} {s = s} {o = o} t asked sample (gave_value G at R) later slow saves taken probes engine cutter count kept out =
     let L : Life = life_after a now.lived in
     record {
-      text = sample_line (time L) s.value;
+      text = sample_lines now.probes (time L) s.value (readings_of s.readings);
       later = record now { taken = now.taken + 1; lived = L };
       replies = gives_value asked sample refl G;
       at = record {
@@ -55,8 +56,9 @@ value_said {n = n} {m = m} {now = now} {a = a} {s = s} {o = o} t asked sample (g
         slow = subst (λ u. u ≤ 3600000 * (now.taken + 1)) later slow;
         slow_saves = later_saves now.taken now.saved saves;
         taken = count ∙ ap (λ t. t + 1) taken;
+        probes = kept ∙ probes;
       };
-      said = out ∙ ap (λ t. o.out.items ++ sample_line t s.value) at;
+      said = out ∙ ap (λ t. o.out.items ++ sample_lines o.probes t s.value (readings_of s.readings)) at ∙ ap (λ b. o.out.items ++ sample_lines b (time L) s.value (readings_of s.readings)) probes;
       cutter = cutter;
     }
 
@@ -125,9 +127,9 @@ time_at {b = b} {d = d} {x = x} L same at says =
 
 -- a line that asks for nothing
 pub nothing_said : {F : Type 0} {H : _} {n : Network} {m : Template} {now : Moment} {line : List ℕ} {o e : Player F H} → Asks n m now line nothing → IsAt n m o now
-    → e.engine ≡ o.engine → e.cutter ≡ o.cutter → e.taken ≡ o.taken + 1 → e.out.items ≡ o.out.items
+    → e.engine ≡ o.engine → e.cutter ≡ o.cutter → e.taken ≡ o.taken + 1 → e.probes ≡ o.probes → e.out.items ≡ o.out.items
     → PlaysOn n m now line o e
-nothing_said {n = n} {m = m} {now = now} {o = o} asked at engine cutter count out = record {
+nothing_said {n = n} {m = m} {now = now} {o = o} asked at engine cutter count kept out = record {
   text = [];
   later = record now { taken = now.taken + 1 };
   replies = quiet asked;
@@ -136,6 +138,7 @@ nothing_said {n = n} {m = m} {now = now} {o = o} asked at engine cutter count ou
     slow = let slow = at.slow in omega arith;
     slow_saves = later_saves now.taken now.saved at.slow_saves;
     taken = count ∙ ap (λ t. t + 1) at.taken;
+    probes = kept ∙ at.probes;
   };
   said = out ∙ sym (append-nil o.out.items);
   cutter = cutter;

@@ -53,6 +53,7 @@ pub record GoesOnFrom {F : Type 0} {H : _} (o : Player F H) (mid : Engine F H) (
   pub cutter : e.cutter ≡ o.cutter
   pub count : e.taken ≡ o.taken + 1
   pub out : e.out.items ≡ o.out.items
+  pub probes : e.probes ≡ o.probes
 
 -- Players of engines over functions that are held by name.
 module _ {F : Type 0} {H : _} {n : Network} {m : Template} {now : Moment} {name : Name} {o e : Player F H} {mid : Engine F H} where
@@ -70,6 +71,7 @@ module _ {F : Type 0} {H : _} {n : Network} {m : Template} {now : Moment} {name 
       slow = let slow = at.slow in omega arith;
       slow_saves = later_saves now.taken (keep_under name now.lived now.saved) (kept_saves now.taken name now.lived now.saved at.slow at.slow_saves);
       taken = goes.count ∙ ap (λ t. t + 1) at.taken;
+      probes = goes.probes ∙ at.probes;
     };
     said = goes.out ∙ sym (append-nil o.out.items);
     cutter = goes.cutter;
@@ -89,6 +91,7 @@ module _ {F : Type 0} {H : _} {n : Network} {m : Template} {now : Moment} {name 
       slow = let slow = saved_lasts now.taken name now.saved K at.slow_saves found in omega arith;
       slow_saves = later_saves now.taken now.saved at.slow_saves;
       taken = goes.count ∙ ap (λ t. t + 1) at.taken;
+      probes = goes.probes ∙ at.probes;
     };
     said = goes.out ∙ sym (append-nil o.out.items);
     cutter = goes.cutter;

@@ -1,5 +1,5 @@
 -- What a player has played.
-use Rattle.std.specs.Prelude.{◌≡◌, ℕ, ◌+◌, ◌*◌, ◌≤◌, List, [], ◌++◌, length, take, All, Option, Some, None, Result, Ok, Err}
+use Rattle.std.specs.Prelude.{◌≡◌, ℕ, ◌+◌, ◌*◌, ◌≤◌, Bool, List, [], ◌++◌, length, take, All, Option, Some, None, Result, Ok, Err}
 use Rattle.sf_value.specs.Values.{Name}
 use Rattle.sf_value.specs.declared.fault.Fault.TheVariants.{Large, Memory as NoMemory}
 use Rattle.std.specs.Io.KnownBytes.{Appends}
@@ -46,9 +46,10 @@ module _ (n : Network) (m : Template) where
     lacks_memory_for_a_copy : {a : Asked} → Asks n m now line a → CopiesLife a now.saved
         → Halts now line (refusal_line (now.taken + 1) MemoryRefusal) BadLine
 
+module _ (probes : Bool) (n : Network) (m : Template) where
   -- So much was read and said, but for a last line. Whatever follows, the run ends with it.
   abbrev pub Halted : List ℕ → List ℕ → Stop → Type 0
-  Halted read said s = (left : List ℕ) → RunGives n m (lines_of (read ++ left)) (said ++ s.line) s.end
+  Halted read said s = (left : List ℕ) → RunGives probes n m (lines_of (read ++ left)) (said ++ s.line) s.end
 
 -- the refusal of a line at which the engine keeps nothing, or doesn't return
 abbrev pub saving_refusal : EngineError → Option LineRefusal
@@ -83,6 +84,7 @@ module _ {F : Type 0} {H : _} (n : Network) (m : Template) where
     pub slow : LastsAtMost now.taken now.lived
     pub slow_saves : SavesLastAtMost now.taken now.saved
     pub taken : p.taken ≡ now.taken
+    pub probes : p.probes ≡ now.probes
 
   -- A line was played: its text was gathered, and the player is at the moment behind it.
   pub record PlaysOn (now : Moment) (line : List ℕ) (old new : Player F H) : Type 0 where
@@ -103,13 +105,15 @@ module _ {F : Type 0} {H : _} (n : Network) (m : Template) where
   PlaysLine now line old None new = PlaysOn now line old new
   PlaysLine now line old (Some s) new = EndsRun now line old s new
 
+-- The same of a run from its start, which says what probes record, or doesn't.
+module _ {F : Type 0} {H : _} (probes : Bool) (n : Network) (m : Template) where
   -- So much was read, and so much written but for what is gathered.
   pub record Played (read written : List ℕ) (p : Player F H) : Type 0 where
     pub lines : List (List ℕ)
     pub now : Moment
     pub stands : CutterStands p.cutter read lines
-    pub reaches : LeadsTo n m at_start lines (written ++ p.out.items) now
-    pub at : IsAt p now
+    pub reaches : LeadsTo n m (at_start probes) lines (written ++ p.out.items) now
+    pub at : IsAt n m p now
 
   -- Bytes were played.
   pub record PlayedMore (read written : List ℕ) (old : Player F H) (bytes : List ℕ) (new : Player F H) : Type 0 where
@@ -119,27 +123,28 @@ module _ {F : Type 0} {H : _} (n : Network) (m : Template) where
   -- What comes of a part of a piece.
   abbrev pub PlaysPart : List ℕ → List ℕ → Player F H → List ℕ → Result ℕ Stop → Player F H → Type 0
   PlaysPart read written old piece (Ok used) new = PlayedMore read written old (take used piece) new
-  PlaysPart read written old piece (Err s) new = Halted n m (read ++ piece) (written ++ new.out.items) s
+  PlaysPart read written old piece (Err s) new = Halted probes n m (read ++ piece) (written ++ new.out.items) s
 
   -- What comes of a piece.
   abbrev pub Feeds : List ℕ → List ℕ → Player F H → List ℕ → Option Stop → Player F H → Type 0
   Feeds read written old piece None new = PlayedMore read written old piece new
-  Feeds read written old piece (Some s) new = Halted n m (read ++ piece) (written ++ new.out.items) s
+  Feeds read written old piece (Some s) new = Halted probes n m (read ++ piece) (written ++ new.out.items) s
 
   -- What comes of the end of the input.
   abbrev pub EndsInput : List ℕ → List ℕ → Option Stop → Player F H → Type 0
-  EndsInput read written None new = RunGives n m (lines_of read) (written ++ new.out.items) Done
-  EndsInput read written (Some s) new = RunGives n m (lines_of read) ((written ++ new.out.items) ++ s.line) s.end
+  EndsInput read written None new = RunGives probes n m (lines_of read) (written ++ new.out.items) Done
+  EndsInput read written (Some s) new = RunGives probes n m (lines_of read) ((written ++ new.out.items) ++ s.line) s.end
 
 -- The same of some network.
 module _ {F : Type 0} {H : _} where
   -- A player has played something.
   pub record IsPlaying (p : Player F H) : Type 0 where
+    pub probes : Bool
     pub n : Network
     pub m : Template
     pub read : List ℕ
     pub written : List ℕ
-    pub played : Played n m read written p
+    pub played : Played probes n m read written p
 
   -- A player is at a moment, and its cutter has a line within the limits.
   pub record AwaitsLine (p : Player F H) : Type 0 where
@@ -155,6 +160,7 @@ module _ {F : Type 0} {H : _} where
     pub cutter : new.cutter ≡ old.cutter
     pub engine : new.engine ≡ old.engine
     pub taken : new.taken ≡ old.taken
+    pub probes : new.probes ≡ old.probes
 
   -- What comes of writing what is gathered and the line of a stop, and how the run ends by it.
   pub data WritesOut (old : Player F H) (before after : Option (List ℕ)) : Option Stop → Option PlayEnd → Player F H → Type 0 where
@@ -164,7 +170,8 @@ module _ {F : Type 0} {H : _} where
 
   -- A player has played nothing.
   pub record IsFresh (p : Player F H) : Type 0 where
+    pub probes : Bool
     pub n : Network
     pub m : Template
-    pub played : Played n m [] [] p
+    pub played : Played probes n m [] [] p
     pub empty : p.out.items ≡ []

@@ -1,5 +1,6 @@
 -- What is written for an input, line by line.
 use Rattle.std.specs.Prelude.{◌≡◌, ℕ, ◌+◌, Bool, true, false, List, [], ◌∷◌, ◌++◌, Some, None, Ok, Err, ⊤}
+use Rattle.std.specs.List.{flat_map}
 use Rattle.sf_value.specs.Values.{Name, Data}
 use Rattle.sf_value.specs.declared.fault.ValueFault.{ValueFault}
 use Rattle.sf_value.specs.declared.fault.Fault.TheVariants.{Value, Large}
@@ -9,19 +10,21 @@ use Rattle.sf_mean.specs.Meaning.{Network, Readings, Outcome, gave, faulted, Cos
 use Rattle.sf_engine.specs.Histories.{after_start, after_step, Saves, saved_under, keep_under, MaySave}
 use Rattle.sf_lines.specs.Limits.{limit_refusal}
 use Rattle.sf_lines.specs.Asking.{Asked, nothing, start, advance, save, back, Says}
-use Rattle.sf_lines.specs.Written.{sample_line, fault_line, refusal_line}
+use Rattle.sf_lines.specs.Written.{sample_line, reading_line, fault_line, refusal_line}
 use Rattle.sf_lines.specs.declared.refusal.LineRefusal.{LineRefusal}
 use Rattle.sf_lines.specs.declared.refusal.LineRefusal.TheVariants.{NoSave, TooManySaves}
 
--- Where a run is: how many lines it has taken, what its network has lived, and the lives that are kept under names.
+-- Where a run is: how many lines it has taken, what its network has lived, and the lives that are kept under names; and
+-- whether it says what probes record.
 pub record Moment : Type 0 where
   pub taken : ℕ
   pub lived : Life
   pub saved : Saves
+  pub probes : Bool
 
 -- a run before its first line
-abbrev pub at_start : Moment
-at_start = record { taken = 0; lived = []; saved = [] }
+abbrev pub at_start : Bool → Moment
+at_start probes = record { taken = 0; lived = []; saved = []; probes = probes }
 
 -- whether the first sample was
 abbrev pub has_begun : Life → Bool
@@ -43,6 +46,15 @@ life_after (start x) L = after_start x
 life_after (advance d x) L = after_step L d x
 life_after (save name) L = L
 life_after (back name) L = L
+
+-- what is said of the readings of a sample: the line of each, in order, where they are asked for
+abbrev pub readings_said : Bool → Readings → List ℕ
+readings_said false r = []
+readings_said true r = flat_map (λ q. reading_line q.0 q.1) r
+
+-- the lines of a sample: those of its readings, and then its value's
+abbrev pub sample_lines : Bool → ℕ → Data → Readings → List ℕ
+sample_lines probes time y r = readings_said probes r ++ sample_line time y
 
 -- How a script ends: with the input, with a sample's fault, or with a refused line.
 pub data Ending : Type 0 where
@@ -88,11 +100,11 @@ module _ (n : Network) (m : Template) where
     returns_nowhere : {name : Name}
         → Asks now line (back name) → saved_under name now.saved ≡ None
         → Replies now line (refusal_line (now.taken + 1) NoSave) (ends line_refused)
-    -- a sample: its value, its fault, or that it has no outcome
+    -- a sample: its readings and its value, its fault, or that it has no outcome
     gives_value : {a : Asked} {L : Life} {y : Data} {r : Readings} {c : Cost}
         → Asks now line a → IsSample a → life_after a now.lived ≡ L
         → Gives n (closure m.body empty) L (gave y r) c
-        → Replies now line (sample_line (time L) y) (goes_on (record now { taken = now.taken + 1; lived = L }))
+        → Replies now line (sample_lines now.probes (time L) y r) (goes_on (record now { taken = now.taken + 1; lived = L }))
     gives_fault : {a : Asked} {L : Life} {x : ValueFault} {c : Cost}
         → Asks now line a → IsSample a → life_after a now.lived ≡ L
         → Gives n (closure m.body empty) L (faulted x) c

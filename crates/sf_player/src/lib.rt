@@ -3,6 +3,7 @@
 
 mod counted;
 mod end;
+mod gather;
 mod laws;
 mod network;
 mod options;

@@ -5,4 +5,6 @@
 pub struct Options {
     /// Whether the network runs as it was written. Otherwise it may be rewritten to do less work.
     pub plain: bool,
+    /// Whether what probes record is written.
+    pub probes: bool,
 }

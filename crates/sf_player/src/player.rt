@@ -1,5 +1,5 @@
 //! The player.
-ghost use Rattle.std.specs.Prelude.{◌≡◌, ◌≢◌, ℕ, ◌+◌, ◌*◌, ◌<◌, ◌≤◌, ◌^◌, ◌-◌, length, List, [], ◌++◌, IfOk, IfErr, IsTrue, take};
+ghost use Rattle.std.specs.Prelude.{◌≡◌, ◌≢◌, ℕ, ◌+◌, ◌*◌, ◌<◌, ◌≤◌, ◌^◌, ◌-◌, length, Bool, List, [], ◌++◌, IfOk, IfErr, IsTrue, take};
 ghost use Rattle.sf_value.specs.declared.fault.Fault.{Fault};
 ghost use Rattle.sf_lines.specs.declared.refusal.LineRefusal.{LineRefusal};
 ghost use Rattle.sf_lines.specs.Written.{fault_line, refusal_line};
@@ -7,12 +7,12 @@ ghost use Rattle.sf_player.specs.Statuses.{is_said};
 
 use crate::counted::Counted;
 use crate::end::PlayEnd;
+use crate::gather::gather;
 use crate::save_refusal::refusal_of;
 use sf_engine::{Engine, Sample};
 use sf_func::Holds;
 use sf_lines::{
     Command, Cut, Cutter, LineRefusal, ShortLine, read_line, write_fault, write_refusal,
-    write_sample,
 };
 use sf_value::Fault;
 use std::alloc::{AllocError, Global};
@@ -33,6 +33,7 @@ pub(crate) struct Player<F: Holds> {
     cutter: Cutter,
     engine: Engine<F>,
     taken: u32,
+    probes: bool,
     out: Vec<u8>,
     ghost few: { taken ≤ 1000000 },
 }
@@ -49,10 +50,14 @@ impl<F: Holds + Drop> Player<F> {
     ghost use Rattle.sf_player.specs.Counting.{inner_of, failures_of, MayCountWrites};
     ghost use Rattle.sf_player.specs.Playing.{SavesLastAtMost, IsAt, AwaitsLine, PlaysLine, Played, IsPlaying, PlaysPart, Feeds, EndsInput, WritesOut};
 
-    /// A run at its start.
-    pub(crate) fn new(alloc: Global, engine: Engine<F>) -> Result<Player<F>, AllocError>
+    /// A run at its start, which says what probes record, or doesn't.
+    pub(crate) fn new(
+        alloc: Global,
+        engine: Engine<F>,
+        probes: bool,
+    ) -> Result<Player<F>, AllocError>
         ensures { IfOk result (λ p. (n : Network) (m : Template) → Runs engine n m [] []
-            → Played n m [] [] p × (p.out.items ≡ [])) }
+            → Played probes n m [] [] p × (p.out.items ≡ [])) }
     {
         let cutter = Cutter::new(alloc)?;
         Ok(Player {
@@ -60,6 +65,7 @@ impl<F: Holds + Drop> Player<F> {
             cutter,
             engine,
             taken: 0,
+            probes,
             out: Vec::new(alloc),
         })
     }
@@ -67,9 +73,9 @@ impl<F: Holds + Drop> Player<F> {
     /// Plays a piece of the input.
     pub(crate) fn feed(&mut self, piece: &[u8]) -> Option<Stop>
         requires { IsPlaying self.old }
-        ensures { (n : Network) (m : Template) (read written : List ℕ)
-            → Played n m read written self.old
-            → Feeds n m read written self.old piece.now result self.new }
+        ensures { (probes : Bool) (n : Network) (m : Template) (read written : List ℕ)
+            → Played probes n m read written self.old
+            → Feeds probes n m read written self.old piece.now result self.new }
     {
         let mut at = 0;
         while at < piece.len() {
@@ -84,8 +90,8 @@ impl<F: Holds + Drop> Player<F> {
     /// Plays what is left at the end of the input.
     pub(crate) fn finish(&mut self) -> Option<Stop>
         requires { IsPlaying self.old }
-        ensures { (n : Network) (m : Template) (read written : List ℕ)
-            → Played n m read written self.old → EndsInput n m read written result self.new }
+        ensures { (probes : Bool) (n : Network) (m : Template) (read written : List ℕ)
+            → Played probes n m read written self.old → EndsInput probes n m read written result self.new }
     {
         match self.cutter.finish() {
             Ok(Cut::Line(_)) => self.play_line(),
@@ -99,9 +105,9 @@ impl<F: Holds + Drop> Player<F> {
         requires { IsPlaying self.old }
         ensures within { IfOk result (λ used. used ≤ length piece.now) }
         ensures some { IfOk result (λ used. length piece.now ≢ 0 → 0 < used) }
-        ensures advances { (n : Network) (m : Template) (read written : List ℕ)
-            → Played n m read written self.old
-            → PlaysPart n m read written self.old piece.now result self.new }
+        ensures advances { (probes : Bool) (n : Network) (m : Template) (read written : List ℕ)
+            → Played probes n m read written self.old
+            → PlaysPart probes n m read written self.old piece.now result self.new }
     {
         match self.cutter.take(piece) {
             Ok(Cut::Line(used)) => match self.play_line() {
@@ -152,17 +158,17 @@ impl<F: Holds + Drop> Player<F> {
         }
     }
 
-    /// Gathers the line of a sample at a time.
+    /// Gathers the lines of a sample at a time.
     fn say(&mut self, sample_time: u64, sampled: Result<Sample, Fault>) -> Option<Stop>
         requires { self.old.taken < 1000000 }
         ensures { (n : Network) (m : Template) (now : Moment) (line : List ℕ) (a : Asked)
             → Asks n m now line a → IsSample a
             → Sampled n m (life_after a now.lived) now.saved sampled self.old.engine
             → sample_time ≡ time (life_after a now.lived) → sample_time ≤ 3600000 * (now.taken + 1)
-            → SavesLastAtMost now.taken now.saved → self.old.taken ≡ now.taken → PlaysLine n m now line self.old result self.new }
+            → SavesLastAtMost now.taken now.saved → self.old.taken ≡ now.taken → self.old.probes ≡ now.probes → PlaysLine n m now line self.old result self.new }
     {
         match sampled {
-            Ok(sample) => match write_sample(sample.time, &sample.value, &mut self.out) {
+            Ok(sample) => match gather(self.probes, &sample, &mut self.out) {
                 Ok(()) => {
                     self.taken += 1;
                     None

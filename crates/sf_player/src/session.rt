@@ -1,5 +1,5 @@
 //! Runs from a network's text and an input to an output.
-ghost use Rattle.std.specs.Prelude.{◌≡◌, ℕ, ◌-◌, ◌<◌, ◌^◌, List, [], Option, ◌≢◌};
+ghost use Rattle.std.specs.Prelude.{◌≡◌, ℕ, ◌-◌, ◌<◌, ◌^◌, Bool, List, [], Option, ◌≢◌};
 ghost use Rattle.std.specs.Io.KnownBytes.{IsAtEnd};
 ghost use Rattle.sf_term.specs.Trees.{Template};
 ghost use Rattle.sf_term.specs.Arena.{templates_of};
@@ -28,7 +28,7 @@ use std::io::{Read, Write};
 ///
 /// The network calls the functions of the registry. It is read and accepted first; where it is refused, nothing is read or
 /// written, and the end names the first rule that it breaks and the place where it breaks it. Each sample gives
-/// `> T VALUE`; a line that saves or returns gives nothing; the first fault or refused line, `! T FAULT` or
+/// `> T VALUE`, behind `? NAME VALUE` for each reading of it, in order, where the options ask for them; a line that saves or returns gives nothing; the first fault or refused line, `! T FAULT` or
 /// `! line N REFUSAL`, ends the run. `Memory` is such a refusal only of a line whose value is read, of one that saves or
 /// returns, or of line 1 before any is read. All output of a line is written and flushed before more is read.
 pub fn play<R: Read, W: Write>(
@@ -42,7 +42,7 @@ pub fn play<R: Read, W: Write>(
     requires reads { failures_of reader.old < 2 ^ 64 - 1 }
     requires writes { failures_of writer.old < 2 ^ 64 - 1 }
     // What was read and written, by the meaning of the network.
-    ensures told { Plays (⟦<Registry as Holds>⟧.types functions) (⟦<Registry as Holds>⟧.answers functions) net.now
+    ensures told { Plays options.probes (⟦<Registry as Holds>⟧.types functions) (⟦<Registry as Holds>⟧.answers functions) net.now
         (R.remaining (inner_of reader.old)) (R.remaining (inner_of reader.new))
         (W.contents (inner_of writer.old)) (W.contents (inner_of writer.new)) result }
     ensures end { result ≡ PlayEnd.Done → IsAtEnd (R.remaining (inner_of reader.new)) }
@@ -68,7 +68,7 @@ fn play_accepted<F: Holds + Drop, R: Read, W: Write>(
     requires reads { failures_of reader.old < 2 ^ 64 - 1 }
     requires writes { failures_of writer.old < 2 ^ 64 - 1 }
     ensures told { (net : List ℕ) → IsNetworkText net (templates_of (program_of checked)) →
-        Plays (F.types functions) (F.answers functions) net
+        Plays options.probes (F.types functions) (F.answers functions) net
         (R.remaining (inner_of reader.old)) (R.remaining (inner_of reader.new))
         (W.contents (inner_of writer.old)) (W.contents (inner_of writer.new)) result }
     ensures end { result ≡ PlayEnd.Done → IsAtEnd (R.remaining (inner_of reader.new)) }
@@ -82,7 +82,7 @@ fn play_accepted<F: Holds + Drop, R: Read, W: Write>(
     };
     match Engine::new(alloc, checked, functions, mode) {
         Err(_) => PlayEnd::Network(Refusal::Memory),
-        Ok(engine) => match Player::new(alloc, engine) {
+        Ok(engine) => match Player::new(alloc, engine, options.probes) {
             Ok(player) => run(player, reader, writer),
             Err(_) => refuse_lines(writer),
         },
@@ -98,7 +98,7 @@ fn run<F: Holds + Drop, R: Read, W: Write>(
     requires fresh { IsFresh player }
     requires reads { failures_of reader.old < 2 ^ 64 - 1 }
     requires writes { failures_of writer.old < 2 ^ 64 - 1 }
-    ensures told { (n : Network) (m : Template) → Played n m [] [] player → Told n m
+    ensures told { (probes : Bool) (n : Network) (m : Template) → Played probes n m [] [] player → Told probes n m
         (R.remaining (inner_of reader.old)) (R.remaining (inner_of reader.new))
         (W.contents (inner_of writer.old)) (W.contents (inner_of writer.new)) result }
     ensures end { result ≡ PlayEnd.Done → IsAtEnd (R.remaining (inner_of reader.new)) }
@@ -128,7 +128,7 @@ fn run<F: Holds + Drop, R: Read, W: Write>(
 /// Says that there is no memory for lines.
 fn refuse_lines<W: Write>(writer: &mut Counted<W>) -> PlayEnd
     requires { failures_of writer.old < 2 ^ 64 - 1 }
-    ensures told { (n : Network) (m : Template) (input : Option (List ℕ)) → Told n m input input
+    ensures told { (probes : Bool) (n : Network) (m : Template) (input : Option (List ℕ)) → Told probes n m input input
         (W.contents (inner_of writer.old)) (W.contents (inner_of writer.new)) result }
     ensures end { result ≢ PlayEnd.Done }
     ensures reader { (count : ℕ) → CountsReads result count count }

@@ -8,7 +8,7 @@ use Rattle.sf_value.specs.Values.{Name}
 use Rattle.sf_expr.specs.Expressions.{Pattern}
 use Rattle.sf_term.specs.declared.form.Join.{Join}
 use Rattle.sf_term.specs.declared.form.Observation.{Observation}
-use Rattle.sf_term.specs.Trees.{Extent, Term, primitive, reference, run, call, Reference, Arguments, no_arguments, value_argument, process_argument, closed_argument, joined, sided, headed, switching, keeping, staged, Template, Templates, template_named}
+use Rattle.sf_term.specs.Trees.{Extent, Term, primitive, reference, started, call, Reference, Arguments, no_arguments, value_argument, process_argument, closed_argument, joined, sided, headed, switching, keeping, staged, Template, Templates, template_named}
 use Rattle.sf_mean.specs.Calls.{Calls, calls_it, calls_within, left_calls, right_calls, side_calls, headed_calls, switch_calls, source_calls, observer_calls, stage_calls, stages_call, ArgumentsCall, process_calls, closed_calls, past_value_calls, past_process_calls, past_closed_calls, ReachesTemplate, reaches, reaches_on}
 use Rattle.sf_reach.specs.Names.{names}
 use Rattle.sf_reach.specs.Order.{PlacedCall}
@@ -78,7 +78,7 @@ mutual
   calls_or_not (staged x f g) h = one_of (λ c. stage_calls c) (λ c. stages_call c) (λ c. staged_call c) (calls_or_not f h) (calls_or_not g h)
 
   reference_or_not : (r : Reference) (h : Name) → Decided (Calls (reference r) h)
-  reference_or_not (run k) h = inr (λ c. elim c [ ])
+  reference_or_not (started w k) h = inr (λ c. elim c [ ])
   reference_or_not (call g vs) h = one_of (λ e. subst (Calls (reference (call g vs))) e calls_it) (λ c. calls_within c) (λ c. called c) (same_name g h) (arguments_or_not vs h)
 
   arguments_or_not : (vs : Arguments) (h : Name) → Decided (ArgumentsCall vs h)

@@ -6,6 +6,9 @@ use Rattle.std.proofs.lemmas.List.Elements.{All-nil, All-cons, All-append}
 use Rattle.sf_value.specs.Values.{Name}
 use Rattle.sf_refusal.specs.declared.spot.Spot.{Spot}
 use Rattle.sf_expr.specs.Arena.{name_at}
+use Rattle.sf_term.specs.declared.form.Naming.{Naming}
+use Rattle.sf_term.specs.declared.form.Naming.TheVariants.{Process, Probe}
+use Rattle.sf_term.specs.Trees.{named_term}
 use Rattle.sf_term.specs.declared.node.TermId.{TermId}
 use Rattle.sf_term.specs.declared.node.Argument.{Argument}
 use Rattle.sf_term.specs.declared.node.Argument.TheVariants as arguments
@@ -17,7 +20,7 @@ use Rattle.sf_term.specs.declared.program.Program.{Program}
 use Rattle.sf_term.specs.Arena.{term_number, tree, term_node_at, term_spot_at, term_entry_of, term_of, arguments_of, arguments_under, expressions_of, TermPartsBelow, ArgumentBelow}
 use Rattle.sf_term.proofs.Kept.{node_builds, parts_below}
 use Rattle.sf_mean.specs.Calls.{Calls, calls_it, calls_within, left_calls, right_calls, side_calls, headed_calls, switch_calls, source_calls, observer_calls, ArgumentsCall, process_calls, past_value_calls, past_process_calls}
-use Rattle.sf_reach.specs.Order.{PlacedCall, CallsInOrder, calls_there, FormCalls, in_primitive, in_run, in_call, in_joined, in_sided, in_headed, in_switching, in_keeping, ArgumentCalls, in_none, past_value, in_process}
+use Rattle.sf_reach.specs.Order.{PlacedCall, CallsInOrder, calls_there, FormCalls, in_primitive, in_named, in_call, in_joined, in_sided, in_headed, in_switching, in_keeping, ArgumentCalls, in_none, past_value, in_process}
 use Rattle.sf_reach.proofs.Lists.{In, first, later, in_left, in_right}
 
 -- ## They are the same however they are found
@@ -28,7 +31,7 @@ mutual
 
   form_once : {p : Program} {s : Spot} {n : Node} {cs ds : List PlacedCall} → FormCalls p s n cs → FormCalls p s n ds → cs ≡ ds
   form_once in_primitive in_primitive = refl
-  form_once in_run in_run = refl
+  form_once in_named in_named = refl
   form_once {p} {s} (in_call {k = k} h) (in_call i) = ap (λ cs. record { name = name_at (expressions_of p) k; spot = s } ∷ cs) (arguments_once h i)
   form_once (in_joined h k) (in_joined i j) = ap₂ (λ cs ds. cs ++ ds) (calls_once h i) (calls_once k j)
   form_once (in_sided h) (in_sided k) = calls_once h k
@@ -69,7 +72,7 @@ mutual
 
   form_sound : {p : Program} {s : Spot} {n : Node} {cs : List PlacedCall} → FormCalls p s n cs → Each (Calls (term_of p n)) cs
   form_sound {p} (in_primitive {q = q}) = none_called (Calls (term_of p (nodes.Primitive q)))
-  form_sound {p} (in_run {n = n} {k = k}) = none_called (Calls (term_of p (nodes.Run k n)))
+  form_sound {p} (in_named {n = n} {w = w} {k = k}) = none_called (Calls (term_of p (nodes.Named w k n)))
   form_sound {p} {s} (in_call {k = k} {a = a} {cs = cs} h) =
       All-cons (λ (c : PlacedCall). Calls (term_of p (nodes.Call k a)) c.name) (record { name = name_at (expressions_of p) k; spot = s }) cs calls_it
       (each_into (ArgumentsCall (arguments_of p (arguments_under p a))) (Calls (term_of p (nodes.Call k a))) (λ x c. calls_within c) cs (arguments_sound h))
@@ -109,13 +112,18 @@ primitive_calls p (primitives.Timed k q e) x h = elim h [ ]
 primitive_calls p (primitives.Arrow f) x h = elim h [ ]
 primitive_calls p (primitives.Accumulated k e f) x h = elim h [ ]
 
+-- a form that is a name alone calls nothing
+named_calls : (w : Naming) (k x : Name) → Calls (named_term w k) x → ⊥
+named_calls (Process w) k x h = elim h [ ]
+named_calls Probe k x h = elim h [ ]
+
 mutual
   pub calls_complete : {p : Program} {t : TermId} {cs : List PlacedCall} {x : Name} → CallsInOrder p t cs → Calls (tree p t) x → HasCall x cs
   calls_complete {p} {t} {x = x} (calls_there h) c = form_complete h (subst (λ u. Calls u x) (node_builds p t _ refl) c)
 
   form_complete : {p : Program} {s : Spot} {n : Node} {cs : List PlacedCall} {x : Name} → FormCalls p s n cs → Calls (term_of p n) x → HasCall x cs
   form_complete {p} {x = x} (in_primitive {q = q}) c = absurd (primitive_calls p q x c)
-  form_complete in_run c = elim c [ ]
+  form_complete {p} {x = x} (in_named {w = w} {k = k}) c = absurd (named_calls w (name_at (expressions_of p) k) x c)
   form_complete {p} {s} (in_call {k = k} h) calls_it = record { call = record { name = name_at (expressions_of p) k; spot = s }; is_in = first; named = refl }
   form_complete (in_call h) (calls_within c) = has_later _ (arguments_complete h c)
   form_complete (in_joined {ds = ds} h k) (left_calls c) = has_left ds (calls_complete h c)
@@ -159,7 +167,7 @@ listed_within p (suc fuel) t h =
   where
     by : (n : Node) → TermPartsBelow p n (term_number t) → ((j : TermId) → term_number j < term_number t → Listed p j) → (cs : List PlacedCall) × FormCalls p (term_spot_at p t) n cs
     by (nodes.Primitive q) b part = ([], in_primitive)
-    by (nodes.Run k n) b part = ([], in_run)
+    by (nodes.Named w k n) b part = ([], in_named)
     by (nodes.Call k a) b part = let vs = arguments_listed p (term_number t) part (arguments_under p a) b in (record { name = name_at (expressions_of p) k; spot = term_spot_at p t } ∷ vs.0, in_call vs.1)
     by (nodes.Joined j f g) b part = let l = part f b.0 in let r = part g b.1 in (l.0 ++ r.0, in_joined l.1 r.1)
     by (nodes.Sided d f) b part = let l = part f b in (l.0, in_sided l.1)

@@ -9,6 +9,7 @@ use Rattle.sf_expr.specs.Arena.{name_at}
 use Rattle.sf_term.specs.declared.form.Join.{Join}
 use Rattle.sf_term.specs.declared.form.Side.{Side}
 use Rattle.sf_term.specs.declared.form.Heading.{Heading}
+use Rattle.sf_term.specs.declared.form.Naming.{Naming}
 use Rattle.sf_term.specs.declared.form.Observation.{Observation}
 use Rattle.sf_term.specs.declared.form.Switching.{Switching}
 use Rattle.sf_term.specs.declared.node.TermId.{TermId}
@@ -35,7 +36,7 @@ mutual
   -- the same in a form at a spot, which is where the name of a call stands
   pub data FormCalls (p : Program) : Spot → Node → List PlacedCall → Type 0 where
     in_primitive : {s : Spot} {q : Primitive} → FormCalls p s (nodes.Primitive q) []
-    in_run : {s n : Spot} {k : NameId} → FormCalls p s (nodes.Run k n) []
+    in_named : {s n : Spot} {w : Naming} {k : NameId} → FormCalls p s (nodes.Named w k n) []
     in_call : {s : Spot} {k : NameId} {a : ArgumentsId} {cs : List PlacedCall} → ArgumentCalls p (arguments_under p a) cs
         → FormCalls p s (nodes.Call k a) (record { name = name_at (expressions_of p) k; spot = s } ∷ cs)
     in_joined : {s : Spot} {j : Join} {f g : TermId} {cs ds : List PlacedCall} → CallsInOrder p f cs → CallsInOrder p g ds → FormCalls p s (nodes.Joined j f g) (cs ++ ds)

@@ -53,7 +53,7 @@ fn gather(
     ensures { OnOk result (AddsCalls program.now term calls.old.items calls.new.items) }
 {
     match program.node(term) {
-        Node::Primitive(_) | Node::Run(_, _) => Ok(()),
+        Node::Primitive(_) | Node::Named(_, _, _) => Ok(()),
         Node::Call(name, arguments) => {
             let name = program.expressions().name_of(name);
             if let Some(callee) = names.get_index_of(name) {

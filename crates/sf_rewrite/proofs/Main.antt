@@ -11,14 +11,16 @@ use Rattle.sf_term.specs.declared.form.Join.{Join}
 use Rattle.sf_term.specs.declared.form.Side.{Side}
 use Rattle.sf_term.specs.declared.form.Heading.{Heading}
 use Rattle.sf_term.specs.declared.form.Observation.{Observation}
+use Rattle.sf_term.specs.declared.form.Start.{Start}
+use Rattle.sf_term.specs.declared.form.Start.TheVariants.{Run, Fresh}
 use Rattle.sf_term.specs.declared.form.Switching.{Switching}
-use Rattle.sf_term.specs.Trees.{Primitive, Term, primitive, Reference, reference, run, call, Arguments, no_arguments, value_argument, process_argument, closed_argument, template_named, joined, sided, headed, switching, keeping, staged, Template, Templates}
-use Rattle.sf_mean.specs.Lives.{Step, wait_of, input_of, Life, Process, closure, resumed, Environment, empty, known, running, passing, process_of, scope_around, bind, after, frozen, first_input}
+use Rattle.sf_term.specs.Trees.{Primitive, Term, primitive, Reference, reference, started, call, Arguments, no_arguments, value_argument, process_argument, closed_argument, template_named, joined, sided, headed, switching, keeping, staged, Template, Templates}
+use Rattle.sf_mean.specs.Lives.{Step, wait_of, input_of, Life, Process, closure, resumed, Environment, empty, known, running, passing, process_of, base, process_started, scope_around, bind, after, frozen, first_input}
 use Rattle.sf_mean.specs.Formulas.{occurring, formula}
-use Rattle.sf_mean.specs.Meaning.{Network, Readings, Outcome, gave, faulted, as_outcome, Cost, no_cost, over_first, one_term, text_cost, last_event, Made, process_made, argument_process, argued, process_called, referred, make, entered_cost, arguments_cost, Watched, itself, observed, Takeover, Standing, waits, fired, stands_after, whenever, body_of, body_with, Gives, gives, Outputs, not_begun, and_gave, Sample, of_constants, of_form, of_resumed, Form, of_primitive, of_reference, of_join, of_side, of_loop, of_initialized, of_switch, of_keeping, of_recurring, of_stages, what_runs, Next, goes_on, stops, Loops, no_loop, and_looped, Sees, beside_values, by_observer, Since, at_start, watched, had_fired, SwitchTurn, while_waiting, as_body, Switched, after_fault, after_value, Fires, no_event_yet, event_now}
+use Rattle.sf_mean.specs.Meaning.{Network, Readings, Outcome, gave, faulted, as_outcome, recorded, Cost, no_cost, over_first, one_term, text_cost, last_event, Made, process_made, argument_process, argued, process_called, referred, make, entered_cost, arguments_cost, Watched, itself, observed, Takeover, Standing, waits, fired, stands_after, whenever, body_of, body_with, Gives, gives, Outputs, not_begun, and_gave, Sample, of_constants, of_form, of_resumed, Form, of_primitive, of_reference, of_join, of_side, of_loop, of_initialized, of_switch, of_keeping, of_recurring, of_stages, what_runs, Next, goes_on, stops, Loops, no_loop, and_looped, Sees, beside_values, by_observer, Since, at_start, watched, had_fired, SwitchTurn, while_waiting, as_body, Switched, after_fault, after_value, Fires, no_event_yet, event_now}
 use Rattle.sf_term.specs.Parameters.{Bindings}
 use Rattle.sf_rewrite.specs.Laws.{Laws, unchanged}
-use Rattle.sf_rewrite.specs.Plans.{is_run}
+use Rattle.sf_rewrite.specs.Plans.{is_started}
 use Rattle.sf_rewrite.proofs.Parts.{Leaves, Stand, waiting, began, later_stand, stand_after, Part, part, Parts, begins, then_gave, At, at_leaf, at_primitive, at_join, at_stages, at_side, at_loop, at_initialized, at_constant, at_switch, at_recurring, Then, then_part, then_stops, Rounds, no_round, one_round, Watches, watch_begins, then_watched, fired_before, Turns, turn_waits, turn_body, Switches, switch_stops, switch_goes, Runs, runs_first, runs_body, Bodies, no_body, body_begins, is_leaf, no_truth, OneLeaf}
 use Rattle.sf_rewrite.proofs.Lowered.{Below, Lowered, lowered, below_same, below_any, below_trans, below_over, below_both, below_first}
 use Rattle.sf_rewrite.proofs.Along.{Sound, parts_along}
@@ -37,7 +39,7 @@ mutual
 
   pub data Formed (d : Bool) : Term → Term → Type 0 where
     same_primitive : {p : Primitive} → Formed d (primitive p) (primitive p)
-    same_run : {k : Name} → Formed d (reference (run k)) (reference (run k))
+    same_started : {w : Start} {k : Name} → Formed d (reference (started w k)) (reference (started w k))
     same_call : {g : Name} {vs us : Arguments} → AlikeArguments d vs us → Formed d (reference (call g vs)) (reference (call g us))
     same_join : {j : Join} {f f' g g' : Term} → Alike d f f' → Alike d g g' → Formed d (joined j f g) (joined j f' g')
     same_side : {a : Side} {t t' : Term} → Alike d t t' → Formed d (sided a t) (sided a t')
@@ -49,9 +51,9 @@ mutual
   pub data AlikeArguments (d : Bool) : Arguments → Arguments → Type 0 where
     alike_none : AlikeArguments d no_arguments no_arguments
     alike_value : {i : Expression} {vs us : Arguments} → AlikeArguments d vs us → AlikeArguments d (value_argument i vs) (value_argument i us)
-    alike_named : {k : Name} {vs us : Arguments} → AlikeArguments d vs us → AlikeArguments d (process_argument (reference (run k)) vs) (process_argument (reference (run k)) us)
-    alike_closed : {t u : Term} {vs us : Arguments} → is_run t ≡ false → Alike d t u → AlikeArguments d vs us → AlikeArguments d (process_argument t vs) (closed_argument u us)
-    alike_opened : {t u : Term} {vs us : Arguments} → is_run u ≡ false → Alike d t u → AlikeArguments d vs us → AlikeArguments d (closed_argument t vs) (process_argument u us)
+    alike_named : {w : Start} {k : Name} {vs us : Arguments} → AlikeArguments d vs us → AlikeArguments d (process_argument (reference (started w k)) vs) (process_argument (reference (started w k)) us)
+    alike_closed : {t u : Term} {vs us : Arguments} → is_started t ≡ false → Alike d t u → AlikeArguments d vs us → AlikeArguments d (process_argument t vs) (closed_argument u us)
+    alike_opened : {t u : Term} {vs us : Arguments} → is_started u ≡ false → Alike d t u → AlikeArguments d vs us → AlikeArguments d (closed_argument t vs) (process_argument u us)
 
 mutual
   pub data AlikeProcess (d : Bool) : Process → Process → Type 0 where
@@ -101,6 +103,15 @@ alike_process {d} k (alike_running {x = x} {P = P} {P' = P'} {e = e} {e' = e'} H
     by_test true R = H
     by_test false R = R
 
+-- where they began
+alike_base : {d : Bool} {P P' : Process} → AlikeProcess d P P' → AlikeProcess d (base P) (base P')
+alike_base (alike_closure T E) = alike_closure T E
+alike_base (alike_resumed R) = alike_base R
+
+alike_started : {d : Bool} (w : Start) (k : Name) {e e' : Environment} → AlikeNames d e e' → AlikeProcess d (process_started w k e) (process_started w k e')
+alike_started Run k E = alike_process k E
+alike_started Fresh k E = alike_base (alike_process k E)
+
 alike_frozen : {d : Bool} {P P' : Process} (h : Life) (w : ℕ) → AlikeProcess d P P' → AlikeProcess d (frozen P h w) (frozen P' h w)
 alike_frozen [] w R = R
 alike_frozen (s ∷ h) w R = alike_resumed R
@@ -118,9 +129,9 @@ data AlikeReferred (d : Bool) : Evaluated Process → Evaluated Process → Type
   referred_failed : {x : ValueFault} → AlikeReferred d (failed x) (failed x)
 
 -- a term that is no named process is closed
-closed_by : (t : Term) (e : Environment) → is_run t ≡ false → argument_process t e ≡ closure t e
+closed_by : (t : Term) (e : Environment) → is_started t ≡ false → argument_process t e ≡ closure t e
 closed_by (primitive p) e h = refl
-closed_by (reference (run k)) e h = absurd cc
+closed_by (reference (started w k)) e h = absurd cc
 closed_by (reference (call g vs)) e h = refl
 closed_by (joined j f g) e h = refl
 closed_by (sided a t) e h = refl
@@ -144,7 +155,7 @@ module _ {d : Bool} {φ ψ : AnswersByName} (same : ψ ≡ φ) {e e' : Environme
   alike_argued (q ∷ qs) (alike_value {i = i} {vs = vs} {us = us} A) {c} {c'} C =
       let N : Scope → Type 0 = λ sc. AlikeArgued d (eval i (scope_around φ e) >>= λ v. argued φ qs vs e (known q.0 v c)) (eval i sc >>= λ v. argued ψ qs us e' (known q.0 v c')) in
       subst N (scopes same E) (after_each (eval i (scope_around φ e)) (λ v. argued φ qs vs e (known q.0 v c)) (λ v. argued ψ qs us e' (known q.0 v c')) (λ v. alike_argued qs A (alike_known C)))
-  alike_argued (q ∷ qs) (alike_named {k = k} A) C = alike_argued qs A (alike_running (alike_process k E) C)
+  alike_argued (q ∷ qs) (alike_named {w = w} {k = k} A) C = alike_argued qs A (alike_running (alike_started w k E) C)
   alike_argued (q ∷ qs) (alike_closed {t = t} {u = u} h T A) C = alike_argued qs A (alike_running (subst (λ P. AlikeProcess d P (closure u e')) (sym (closed_by t e h)) (alike_closure T E)) C)
   alike_argued (q ∷ qs) (alike_opened {t = t} {u = u} h T A) C = alike_argued qs A (alike_running (subst (λ P. AlikeProcess d (closure t e) P) (sym (closed_by u e' h)) (alike_closure T E)) C)
 
@@ -242,7 +253,7 @@ mutual
 
   formed_texts : {d : Bool} {t u : Term} → Formed d t u → Below d (text_cost t) (text_cost u)
   formed_texts {d} same_primitive = below_same d _
-  formed_texts {d} same_run = below_same d _
+  formed_texts {d} same_started = below_same d _
   formed_texts (same_call A) = below_over _ _ (arguments_texts A)
   formed_texts (same_join A B) = below_over _ _ (below_both _ _ _ _ (alike_texts A) (alike_texts B))
   formed_texts (same_side A) = below_over _ _ (alike_texts A)
@@ -320,7 +331,7 @@ module _ (d : Bool) (n n' : Network) (all : AlikeAll d n.templates n'.templates)
   go_primitive : {p : Primitive} → Goes (primitive p) (primitive p)
   go_primitive e e' E s L ys o c P (at_leaf h A) = go_leaf h h same_primitive E A
   go_primitive {p} e e' E s L ys o c P at_primitive =
-      let N : Scope → Type 0 = λ sc. At (Leaf n') (primitive p) e' s L (as_outcome (formula p sc s L) []) one_term in
+      let N : Scope → Type 0 = λ sc. At (Leaf n') (primitive p) e' s L (as_outcome (formula p sc s L) (recorded p s)) one_term in
       lowered (subst N (sym (scopes same E)) at_primitive) (below_same d one_term)
 
   go_join : {j : Join} {f f' g g' : Term} → Goes f f' → Goes g g' → Below d (text_cost g) (text_cost g') → Goes (joined j f g) (joined j f' g')
@@ -372,7 +383,7 @@ module _ (d : Bool) (n n' : Network) (all : AlikeAll d n.templates n'.templates)
 
     go_form : {t u : Term} → Formed d t u → Goes t u
     go_form same_primitive = go_primitive
-    go_form same_run = go_reference same_run
+    go_form same_started = go_reference same_started
     go_form (same_call A) = go_reference (same_call A)
     go_form (same_join A B) = go_join (go A) (go B) (alike_texts B)
     go_form (same_side A) = go_side (go A)
@@ -431,7 +442,7 @@ module _ (d : Bool) (n n' : Network) (all : AlikeAll d n.templates n'.templates)
 
   -- what is referred to is like what a reference like it refers to there
   refers : {r : Reference} {u : Term} {e e' : Environment} → Formed d (reference r) u → AlikeNames d e e' → (r' : Reference) × (u ≡ reference r') × AlikeReferred d (referred n r e) (referred n' r' e')
-  refers (same_run {k = k}) E = (run k, refl, referred_alike (alike_process k E))
+  refers (same_started {w = w} {k = k}) E = (started w k, refl, referred_alike (alike_started w k E))
   refers (same_call {g = g} {us = us} A) E = (call g us, refl, alike_called same E g all A)
 
   -- a reference whose arguments fail

@@ -10,12 +10,13 @@ use Rattle.sf_term.specs.declared.form.Side.{Side}
 use Rattle.sf_term.specs.declared.form.Side.TheVariants.{First, Second}
 use Rattle.sf_term.specs.declared.form.Heading.TheVariants.{LoopPre, Initialized}
 use Rattle.sf_term.specs.declared.form.Switching.TheVariants.{Basic, Recurring}
-use Rattle.sf_term.specs.Trees.{Chain, lone, chained, on_side, on_both, fanned, bare, never, with_value, timed, arrow, accumulated, fused, Extent, whole, rest, Term, primitive, reference, run, call, Arguments, no_arguments, value_argument, process_argument, closed_argument, joined, sided, headed, switching, keeping, staged}
+use Rattle.sf_term.specs.Trees.{Chain, lone, chained, on_side, on_both, fanned, bare, probe, never, with_value, timed, arrow, accumulated, fused, Extent, whole, rest, Term, primitive, reference, started, call, Arguments, no_arguments, value_argument, process_argument, closed_argument, joined, sided, headed, switching, keeping, staged}
 use Rattle.sf_term.specs.declared.form.Observation.TheVariants.{Immediate, Delayed}
+use Rattle.sf_term.specs.declared.form.Start.TheVariants.{Run, Fresh}
 use Rattle.sf_rewrite.specs.Quiet.{is_quiet_expression, is_quiet}
 use Rattle.sf_rewrite.specs.Laws.{identity, constant, arr, loop_pre, Laws, unchanged, in_turn, in_join, in_stages, in_side, as_pipeline, within_pipeline, associate_right, associate_left, identity_before, identity_after, arr_as_chain, arr_composed, arr_on_side, arr_in_parallel, arr_fanned_out, sides_composed, exchanged, constant_after, left_tightened, right_tightened}
-use Rattle.sf_rewrite.specs.Plans.{Plans, plans, of_primitive, of_run, of_call, PlansArguments, of_no_arguments, of_value_argument, of_named_argument, of_closed_argument, is_run, of_join, of_side, of_heading, of_switch, of_keeping}
-use Rattle.sf_rewrite.specs.Normal.{is_arr, is_stage, may_meet, are_written, IsPlan, plan_primitive, plan_run, plan_call, ArePlans, plan_no_arguments, plan_value_argument, plan_named_argument, plan_closed_argument, plan_join, plan_side, plan_heading, plan_switch, plan_keeping, plan_pipeline, IsRest, last_stage, more_stages, is_written}
+use Rattle.sf_rewrite.specs.Plans.{Plans, plans, of_primitive, of_started, of_call, PlansArguments, of_no_arguments, of_value_argument, of_named_argument, of_closed_argument, is_started, of_join, of_side, of_heading, of_switch, of_keeping}
+use Rattle.sf_rewrite.specs.Normal.{is_arr, is_stage, may_meet, are_written, IsPlan, plan_primitive, plan_started, plan_call, ArePlans, plan_no_arguments, plan_value_argument, plan_named_argument, plan_closed_argument, plan_join, plan_side, plan_heading, plan_switch, plan_keeping, plan_pipeline, IsRest, last_stage, more_stages, is_written}
 use Rattle.sf_rewrite.proofs.Parts.{no_truth}
 use Rattle.sf_rewrite.proofs.Quiet.{both_true}
 
@@ -37,6 +38,7 @@ data Arr (t : Term) : Type 0 where
 
 arr_view : (t : Term) → Arr t
 arr_view (primitive (bare k)) = no_arr refl
+arr_view (primitive (probe k)) = no_arr refl
 arr_view (primitive (never t)) = no_arr refl
 arr_view (primitive (with_value k i)) = no_arr refl
 arr_view (primitive (arrow f)) = an_arr (lone f) arr_as_chain refl
@@ -57,6 +59,7 @@ data IsConstant (t : Term) : Type 0 where
 
 constant_view : (t : Term) → IsConstant t
 constant_view (primitive (bare k)) = no_constant
+constant_view (primitive (probe k)) = no_constant
 constant_view (primitive (never t)) = no_constant
 constant_view (primitive (with_value Constant i)) = a_constant i refl
 constant_view (primitive (with_value InitialPre i)) = no_constant
@@ -171,13 +174,14 @@ stages (plan_primitive {p = bare Edge}) = one_stage refl
 stages (plan_primitive {p = bare NotYet}) = one_stage refl
 stages (plan_primitive {p = bare Count}) = one_stage refl
 stages (plan_primitive {p = bare Pre}) = one_stage refl
+stages (plan_primitive {p = probe k}) = one_stage refl
 stages (plan_primitive {p = with_value k i}) = one_stage refl
 stages (plan_primitive {p = arrow f}) = one_stage refl
 stages (plan_primitive {p = timed k q i}) = one_stage refl
 stages (plan_primitive {p = never t}) = one_stage refl
 stages (plan_primitive {p = accumulated k i f}) = one_stage refl
 stages (plan_primitive {p = fused f}) = one_stage refl
-stages plan_run = one_stage refl
+stages plan_started = one_stage refl
 stages (plan_call A) = one_stage refl
 stages (plan_join h P Q) = one_stage h
 stages (plan_side P) = one_stage refl
@@ -292,13 +296,13 @@ record OptimisedArguments (vs : Arguments) : Type 0 where
   are : ArePlans arguments
 
 -- a term that stays closed before other arguments
-closing : {t : Term} {vs : Arguments} → is_run t ≡ false → Optimised t → OptimisedArguments vs → OptimisedArguments (process_argument t vs)
+closing : {t : Term} {vs : Arguments} → is_started t ≡ false → Optimised t → OptimisedArguments vs → OptimisedArguments (process_argument t vs)
 closing h o a = record { arguments = closed_argument o.term a.arguments; plans = of_closed_argument h o.plans a.plans; are = plan_closed_argument o.is a.are }
 
 -- a term before other arguments
 with_argument : (t : Term) {vs : Arguments} → Optimised t → OptimisedArguments vs → OptimisedArguments (process_argument t vs)
 with_argument (primitive p) o a = closing refl o a
-with_argument (reference (run k)) o a = record { arguments = process_argument (reference (run k)) a.arguments; plans = of_named_argument a.plans; are = plan_named_argument a.are }
+with_argument (reference (started w k)) o a = record { arguments = process_argument (reference (started w k)) a.arguments; plans = of_named_argument a.plans; are = plan_named_argument a.are }
 with_argument (reference (call g us)) o a = closing refl o a
 with_argument (joined j f g) o a = closing refl o a
 with_argument (sided d t) o a = closing refl o a
@@ -344,7 +348,7 @@ mutual
       let a = optimised t k.0 in
       let b = optimised u k.1 in
       record { term = switching w a.term p b.term; plans = plans (of_switch a.plans b.plans) unchanged; is = plan_switch a.is b.is }
-  optimised (reference (run k)) h = record { term = reference (run k); plans = plans of_run unchanged; is = plan_run }
+  optimised (reference (started w k)) h = record { term = reference (started w k); plans = plans of_started unchanged; is = plan_started }
   optimised (reference (call g vs)) h =
       let a = optimised_arguments vs h in
       record { term = reference (call g a.arguments); plans = plans (of_call a.plans) unchanged; is = plan_call a.are }
@@ -456,6 +460,11 @@ not_forgotten : (optimised (joined InSequence (on y) (primitive (with_value Cons
 unfolding optimised in_sequence one_after_another before_tail tail stages headed_by pushed appended merged arrs before_constant arr_view constant_view in_parallel side_by_side fanned_out both_on on_a_side in_loop before_loop looped compose_sides exchange in_planned decided
 not_forgotten = refl
 
+-- what a probe records isn't forgotten
+probe_not_forgotten : (optimised (joined InSequence (primitive (probe [])) (primitive (with_value Constant one))) refl).term ≡ staged whole (primitive (probe [])) (constant one)
+unfolding optimised in_sequence one_after_another before_tail tail stages headed_by pushed appended merged arrs before_constant arr_view constant_view in_parallel side_by_side fanned_out both_on on_a_side in_loop before_loop looped compose_sides exchange in_planned decided
+probe_not_forgotten = refl
+
 left_tightened_quiet_value : (optimised (headed LoopPre one (joined InSequence (sided First f) g)) refl).term ≡ staged whole f (loop_pre one g)
 unfolding optimised in_sequence one_after_another before_tail tail stages headed_by pushed appended merged arrs before_constant arr_view constant_view in_parallel side_by_side fanned_out both_on on_a_side in_loop before_loop looped compose_sides exchange in_planned decided
 left_tightened_quiet_value = refl
@@ -487,7 +496,7 @@ unfolding optimised in_sequence one_after_another before_tail tail stages headed
 in_keeping_applied = refl
 
 -- and in the term of an argument, which stays closed where a named process is left of it
-in_argument_applied : (optimised (reference (call [] (process_argument (joined InSequence identity (reference (run []))) (process_argument (reference (run [])) no_arguments)))) refl).term
-    ≡ reference (call [] (closed_argument (reference (run [])) (process_argument (reference (run [])) no_arguments)))
+in_argument_applied : (optimised (reference (call [] (process_argument (joined InSequence identity (reference (started Run []))) (process_argument (reference (started Fresh [])) no_arguments)))) refl).term
+    ≡ reference (call [] (closed_argument (reference (started Run [])) (process_argument (reference (started Fresh [])) no_arguments)))
 unfolding optimised optimised_arguments with_argument closing in_sequence one_after_another before_tail tail stages headed_by pushed appended merged arrs before_constant arr_view constant_view in_parallel side_by_side fanned_out both_on on_a_side in_loop before_loop looped compose_sides exchange in_planned decided
 in_argument_applied = refl

@@ -17,7 +17,7 @@ use Rattle.sf_term.specs.declared.form.Switching.TheVariants.{Basic, Recurring}
 use Rattle.sf_term.specs.Trees.{Primitive, Extent, Term, primitive, reference, joined, sided, headed, switching, keeping, staged}
 use Rattle.sf_mean.specs.Lives.{Step, input_of, Life, Environment, scope_around, bind, with_inputs, relay, fed}
 use Rattle.sf_mean.specs.Formulas.{at_first, occurring, side_of, with_side, formula}
-use Rattle.sf_mean.specs.Meaning.{Readings, Outcome, gave, faulted, changed, combined, value_in, as_outcome, Cost, no_cost, both_costs, over, over_stages, one_term, text_cost, left_life, right_life, join_value, switched_value, event_beside, last_event, since_event, unless_faulted, without_event}
+use Rattle.sf_mean.specs.Meaning.{Readings, Outcome, gave, faulted, changed, combined, value_in, as_outcome, recorded, Cost, no_cost, both_costs, over, over_stages, one_term, text_cost, left_life, right_life, join_value, switched_value, event_beside, last_event, since_event, unless_faulted, without_event}
 
 -- what stored functions answer, and what a form that no law looks into gives at a step
 pub record Leaves : Type 1 where
@@ -58,7 +58,7 @@ mutual
   pub data At (Q : Leaves) : Term → Environment → Step → Life → Outcome → Cost → Type 0 where
     at_leaf : {t : Term} {e : Environment} {s : Step} {L : Life} {o : Outcome} {c : Cost} → IsTrue (is_leaf t) → Q.leaf t e s L o c → At Q t e s L o c
     at_primitive : {p : Primitive} {e : Environment} {s : Step} {L : Life}
-        → At Q (primitive p) e s L (as_outcome (formula p (scope_around Q.functions e) s L) []) one_term
+        → At Q (primitive p) e s L (as_outcome (formula p (scope_around Q.functions e) s L) (recorded p s)) one_term
     at_join : {j : Join} {f g : Term} {e : Environment} {s : Step} {L : Life} {ys : List Data} {o o' : Outcome} {c c' : Cost}
         → Parts Q f e (left_life j L) ys
         → Part Q f e (left_life j (s ∷ L)) o c

@@ -1,6 +1,7 @@
 -- Quiet terms give a value without readings at each step, and cost their text.
-use Rattle.std.proofs.Common.{◌≡◌, IsTrue, Bool, true, false, ◌&&◌, cond, List, [], ◌∷◌, Some, None, refl, ap, ◌∙◌, subst}
+use Rattle.std.proofs.Common.{◌≡◌, IsTrue, Bool, true, false, ◌&&◌, cond, List, [], ◌∷◌, Some, None, refl, ap, ◌∙◌}
 use Rattle.std.specs.Prelude.{Option}
+use mathlib.Core.Path.{subst₂}
 use Rattle.sf_value.specs.Values.{Data, pair, Rows, no_rows, row, first_of, second_of}
 use Rattle.sf_expr.specs.Expressions.{Expression, variable, literal, paired as paired_expression, applied, operation, conditional, mapped, folded, called, Function, function}
 use Rattle.sf_operator.specs.declared.operator.Unary.{Unary}
@@ -21,10 +22,10 @@ use Rattle.sf_term.specs.declared.form.Accumulation.{Accumulation}
 use Rattle.sf_term.specs.declared.form.Join.{Join}
 use Rattle.sf_term.specs.declared.form.Join.TheVariants.{InSequence, InParallel, FannedOut}
 use Rattle.sf_term.specs.declared.form.Heading.TheVariants.{LoopPre, Initialized}
-use Rattle.sf_term.specs.Trees.{Chain, lone, chained as chained_functions, on_side, on_both, fanned, Primitive, bare, never, with_value, timed, arrow, accumulated, fused, Extent, Term, primitive, reference, joined, sided, headed, switching, keeping, staged}
+use Rattle.sf_term.specs.Trees.{Chain, lone, chained as chained_functions, on_side, on_both, fanned, Primitive, bare, probe, never, with_value, timed, arrow, accumulated, fused, Extent, Term, primitive, reference, joined, sided, headed, switching, keeping, staged}
 use Rattle.sf_mean.specs.Lives.{Step, step, wait_of, input_of, Life, Environment, scope_around, with_inputs, relay, fed}
 use Rattle.sf_mean.specs.Formulas.{at_first, timed_formula, coming, next_value, accumulation, displayed, side_of, with_side, apply_chain, value_formula, formula}
-use Rattle.sf_mean.specs.Meaning.{Outcome, gave, as_outcome, Cost, one_term, text_cost}
+use Rattle.sf_mean.specs.Meaning.{Readings, Outcome, gave, as_outcome, recorded, Cost, one_term, text_cost}
 use Rattle.sf_rewrite.specs.Quiet.{is_quiet_unary, is_quiet_operator, is_quiet_expression, is_quiet_function, is_quiet_chain, is_quiet_primitive, is_quiet}
 use Rattle.sf_rewrite.proofs.Parts.{Leaves, Part, part, Parts, begins, then_gave, At, at_primitive, at_join, at_stages, at_side, at_loop, at_initialized, then_part, Rounds, no_round, one_round, no_truth, OneLeaf, once_at}
 
@@ -178,8 +179,9 @@ quiet_formula (bare Integral) h sc s L = absurd (no_truth h)
 quiet_formula (bare Edge) h sc s L = (_, refl)
 quiet_formula (bare NotYet) h sc s L = (_, refl)
 quiet_formula (bare Count) h sc s L = absurd (no_truth h)
-quiet_formula (never t) h sc s L = (_, refl)
 quiet_formula (bare Pre) h sc s L = (_, refl)
+quiet_formula (probe k) h sc s L = absurd (no_truth h)
+quiet_formula (never t) h sc s L = (_, refl)
 quiet_formula (with_value k i) h sc s L = next (eval i sc) (λ v. answer (value_formula k v s L)) (quiet_eval i h sc) (λ v. (value_formula k v s L, refl))
 quiet_formula (arrow f) h sc s L = quiet_apply f h (input_of s) sc
 quiet_formula (timed k q i) h sc s L = next (eval i sc) (λ v. answer (timed_formula k q v s L)) (quiet_eval i h sc) (λ v. (_, refl))
@@ -188,6 +190,17 @@ quiet_formula (accumulated k i f) h sc s L =
     next (eval i sc) (λ v. accumulation k f sc v (s ∷ L) >>= λ w. answer (displayed k (coming k (input_of s)) w)) (quiet_eval i both.0 sc) (λ v.
     next (accumulation k f sc v (s ∷ L)) (λ w. answer (displayed k (coming k (input_of s)) w)) (quiet_accumulation k f both.1 sc v (s ∷ L)) (λ w. (_, refl)))
 quiet_formula (fused f) h sc s L = quiet_chain f h (input_of s) sc
+
+-- a quiet primitive has no readings
+no_readings : (p : Primitive) → IsTrue (is_quiet_primitive p) → (s : Step) → recorded p s ≡ []
+no_readings (bare k) h s = refl
+no_readings (probe k) h s = absurd (no_truth h)
+no_readings (never t) h s = refl
+no_readings (with_value k i) h s = refl
+no_readings (timed k q i) h s = refl
+no_readings (arrow f) h s = refl
+no_readings (accumulated k i f) h s = refl
+no_readings (fused f) h s = refl
 
 module _ (Q : Leaves) (one : OneLeaf Q) where
   -- a value without readings at each step, at the cost of the text
@@ -258,8 +271,8 @@ module _ (Q : Leaves) (one : OneLeaf Q) where
   pub quiet_steps : (t : Term) → IsTrue (is_quiet t) → Steps t
   quiet_steps (primitive p) h = λ e s L ys P.
       let r = quiet_formula p h (scope_around Q.functions e) s L in
-      let N : Evaluated Data → Type 0 = λ v. At Q (primitive p) e s L (as_outcome v []) one_term in
-      (r.0, subst N r.1 at_primitive)
+      let N : Evaluated Data → Readings → Type 0 = λ v q. At Q (primitive p) e s L (as_outcome v q) one_term in
+      (r.0, subst₂ N r.1 (no_readings p h s) at_primitive)
   quiet_steps (joined j f g) h = let k = both_true (is_quiet f) (is_quiet g) h in steps_join j (quiet_steps f k.0) (quiet_steps g k.1)
   quiet_steps (sided d t) h = λ e s L ys P.
       let r = last_step (quiet_steps t h) e (step (wait_of s) (side_of d (input_of s))) (with_inputs (side_of d) L) in

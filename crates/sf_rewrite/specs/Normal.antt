@@ -8,12 +8,14 @@ use Rattle.sf_term.specs.declared.form.Join.TheVariants.{InSequence, InParallel,
 use Rattle.sf_term.specs.declared.form.Side.{Side}
 use Rattle.sf_term.specs.declared.form.Heading.{Heading}
 use Rattle.sf_term.specs.declared.form.Observation.{Observation}
+use Rattle.sf_term.specs.declared.form.Start.{Start}
 use Rattle.sf_term.specs.declared.form.Switching.{Switching}
-use Rattle.sf_term.specs.Trees.{Primitive, bare, never, with_value, timed, arrow, accumulated, fused, whole, rest, Term, primitive, Reference, reference, run, call, Arguments, no_arguments, value_argument, process_argument, closed_argument, joined, sided, headed, switching, keeping, staged}
+use Rattle.sf_term.specs.Trees.{Primitive, bare, probe, never, with_value, timed, arrow, accumulated, fused, whole, rest, Term, primitive, Reference, reference, started, call, Arguments, no_arguments, value_argument, process_argument, closed_argument, joined, sided, headed, switching, keeping, staged}
 
 -- `arr`, of one function or of functions made into one
 abbrev pub is_arr : Term → Bool
 is_arr (primitive (bare k)) = false
+is_arr (primitive (probe k)) = false
 is_arr (primitive (never t)) = false
 is_arr (primitive (with_value k i)) = false
 is_arr (primitive (arrow f)) = true
@@ -42,8 +44,9 @@ is_stage (primitive (bare Integral)) = true
 is_stage (primitive (bare Edge)) = true
 is_stage (primitive (bare NotYet)) = true
 is_stage (primitive (bare Count)) = true
-is_stage (primitive (never t)) = true
 is_stage (primitive (bare Pre)) = true
+is_stage (primitive (probe k)) = true
+is_stage (primitive (never t)) = true
 is_stage (primitive (with_value k i)) = true
 is_stage (primitive (arrow f)) = true
 is_stage (primitive (timed k q i)) = true
@@ -67,7 +70,7 @@ mutual
   -- A plan has no `>>>`, and the bodies and the terms of arguments in it are plans. Its pipelines have two stages or more.
   pub data IsPlan : Term → Type 0 where
     plan_primitive : {p : Primitive} → IsPlan (primitive p)
-    plan_run : {k : Name} → IsPlan (reference (run k))
+    plan_started : {w : Start} {k : Name} → IsPlan (reference (started w k))
     plan_call : {g : Name} {vs : Arguments} → ArePlans vs → IsPlan (reference (call g vs))
     plan_join : {j : Join} {f g : Term} → IsTrue (is_left j) → IsPlan f → IsPlan g → IsPlan (joined j f g)
     plan_side : {d : Side} {t : Term} → IsPlan t → IsPlan (sided d t)
@@ -80,7 +83,7 @@ mutual
   pub data ArePlans : Arguments → Type 0 where
     plan_no_arguments : ArePlans no_arguments
     plan_value_argument : {i : Expression} {vs : Arguments} → ArePlans vs → ArePlans (value_argument i vs)
-    plan_named_argument : {k : Name} {vs : Arguments} → ArePlans vs → ArePlans (process_argument (reference (run k)) vs)
+    plan_named_argument : {w : Start} {k : Name} {vs : Arguments} → ArePlans vs → ArePlans (process_argument (reference (started w k)) vs)
     plan_closed_argument : {t : Term} {vs : Arguments} → IsPlan t → ArePlans vs → ArePlans (closed_argument t vs)
 
   -- the rest of a pipeline after a stage: no two neighbours are `arr`
@@ -91,6 +94,7 @@ mutual
 -- a primitive of a network
 abbrev pub is_written_primitive : Primitive → Bool
 is_written_primitive (bare k) = true
+is_written_primitive (probe k) = true
 is_written_primitive (never t) = true
 is_written_primitive (with_value k i) = true
 is_written_primitive (arrow f) = true
@@ -112,7 +116,7 @@ abbrev mutual
 
   -- the same of what is referred to
   pub is_written_reference : Reference → Bool
-  is_written_reference (run k) = true
+  is_written_reference (started w k) = true
   is_written_reference (call g vs) = are_written vs
 
   -- the same of the terms of arguments

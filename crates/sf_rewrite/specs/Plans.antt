@@ -6,23 +6,24 @@ use Rattle.sf_term.specs.declared.form.Join.{Join}
 use Rattle.sf_term.specs.declared.form.Side.{Side}
 use Rattle.sf_term.specs.declared.form.Heading.{Heading}
 use Rattle.sf_term.specs.declared.form.Observation.{Observation}
+use Rattle.sf_term.specs.declared.form.Start.{Start}
 use Rattle.sf_term.specs.declared.form.Switching.{Switching}
-use Rattle.sf_term.specs.Trees.{Primitive, Term, primitive, reference, run, call, Arguments, no_arguments, value_argument, process_argument, closed_argument, joined, sided, headed, switching, keeping, staged, Template, Templates}
+use Rattle.sf_term.specs.Trees.{Primitive, Term, primitive, reference, started, call, Arguments, no_arguments, value_argument, process_argument, closed_argument, joined, sided, headed, switching, keeping, staged, Template, Templates}
 use Rattle.sf_mean.specs.Lives.{Life, Process, closure, resumed, Environment, empty, known, running}
 use Rattle.sf_mean.specs.Meaning.{Network}
 use Rattle.sf_rewrite.specs.Laws.{Laws}
 
--- a named process: as an argument it is the process itself
-abbrev pub is_run : Term → Bool
-is_run (primitive p) = false
-is_run (reference (run k)) = true
-is_run (reference (call g vs)) = false
-is_run (joined j f g) = false
-is_run (sided d t) = false
-is_run (headed h i t) = false
-is_run (switching w t p u) = false
-is_run (keeping w t q k p u) = false
-is_run (staged x f g) = false
+-- a named process: as an argument it is the process itself, or what it began as
+abbrev pub is_started : Term → Bool
+is_started (primitive p) = false
+is_started (reference (started w k)) = true
+is_started (reference (call g vs)) = false
+is_started (joined j f g) = false
+is_started (sided d t) = false
+is_started (headed h i t) = false
+is_started (switching w t p u) = false
+is_started (keeping w t q k p u) = false
+is_started (staged x f g) = false
 
 mutual
   -- A plan of a term: its parts, its bodies and the terms of its arguments are plans, then laws are applied.
@@ -31,7 +32,7 @@ mutual
 
   pub data PlansParts : Term → Term → Type 0 where
     of_primitive : {p : Primitive} → PlansParts (primitive p) (primitive p)
-    of_run : {k : Name} → PlansParts (reference (run k)) (reference (run k))
+    of_started : {w : Start} {k : Name} → PlansParts (reference (started w k)) (reference (started w k))
     of_call : {g : Name} {vs vs' : Arguments} → PlansArguments vs vs' → PlansParts (reference (call g vs)) (reference (call g vs'))
     of_join : {j : Join} {f f' g g' : Term} → Plans f f' → Plans g g' → PlansParts (joined j f g) (joined j f' g')
     of_side : {d : Side} {t t' : Term} → Plans t t' → PlansParts (sided d t) (sided d t')
@@ -44,8 +45,8 @@ mutual
   pub data PlansArguments : Arguments → Arguments → Type 0 where
     of_no_arguments : PlansArguments no_arguments no_arguments
     of_value_argument : {i : Expression} {vs vs' : Arguments} → PlansArguments vs vs' → PlansArguments (value_argument i vs) (value_argument i vs')
-    of_named_argument : {k : Name} {vs vs' : Arguments} → PlansArguments vs vs' → PlansArguments (process_argument (reference (run k)) vs) (process_argument (reference (run k)) vs')
-    of_closed_argument : {t t' : Term} {vs vs' : Arguments} → is_run t ≡ false → Plans t t' → PlansArguments vs vs' → PlansArguments (process_argument t vs) (closed_argument t' vs')
+    of_named_argument : {w : Start} {k : Name} {vs vs' : Arguments} → PlansArguments vs vs' → PlansArguments (process_argument (reference (started w k)) vs) (process_argument (reference (started w k)) vs')
+    of_closed_argument : {t t' : Term} {vs vs' : Arguments} → is_started t ≡ false → Plans t t' → PlansArguments vs vs' → PlansArguments (process_argument t vs) (closed_argument t' vs')
 
 mutual
   -- A process with plans of its terms; what was frozen has lived the same.

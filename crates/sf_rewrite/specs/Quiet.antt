@@ -9,7 +9,7 @@ use Rattle.sf_operator.specs.declared.operator.Merge.TheVariants.{Exclusive}
 use Rattle.sf_expr.specs.Expressions.{Expression, variable, literal, paired, applied, operation, conditional, mapped, folded, called, Function, function}
 use Rattle.sf_term.specs.declared.form.Bare.{Bare}
 use Rattle.sf_term.specs.declared.form.Bare.TheVariants.{Identity, LocalTime, Integral, Edge, NotYet, Count, Pre}
-use Rattle.sf_term.specs.Trees.{Chain, lone, chained, on_side, on_both, fanned, Primitive, bare, never, with_value, timed, arrow, accumulated, fused, Term, primitive, reference, joined, sided, headed, switching, keeping, staged}
+use Rattle.sf_term.specs.Trees.{Chain, lone, chained, on_side, on_both, fanned, Primitive, bare, probe, never, with_value, timed, arrow, accumulated, fused, Term, primitive, reference, joined, sided, headed, switching, keeping, staged}
 
 -- an operator on a value that always makes one; a table may have more keys than there are numbers
 abbrev pub is_quiet_unary : Unary → Bool
@@ -57,9 +57,10 @@ is_quiet_bare NotYet = true
 is_quiet_bare Count = false
 is_quiet_bare Pre = true
 
--- such a primitive, or one of a quiet expression or function
+-- such a primitive, or one of a quiet expression or function; a probe has readings
 abbrev pub is_quiet_primitive : Primitive → Bool
 is_quiet_primitive (bare k) = is_quiet_bare k
+is_quiet_primitive (probe k) = false
 is_quiet_primitive (never t) = true
 is_quiet_primitive (with_value k i) = is_quiet_expression i
 is_quiet_primitive (arrow f) = is_quiet_function f

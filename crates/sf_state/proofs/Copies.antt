@@ -1,11 +1,12 @@
 -- A copy of a node stands for the same.
-use Rattle.std.proofs.Common.{◌≡◌, ℕ, suc, ◌+◌, ◌<◌, Bool, true, false, List, [], ◌∷◌, ◌++◌, length, get_or, take, Vec, Option, Some, None, Result, Ok, Err, IfOk, refl, subst, sym, ◌∙◌, ap, arith}
+use Rattle.std.proofs.Common.{◌≡◌, ℕ, suc, ◌+◌, ◌<◌, Bool, true, false, List, [], ◌∷◌, ◌++◌, length, get_or, take, String, string_bytes, Vec, Option, Some, None, Result, Ok, Err, IfOk, refl, subst, sym, ◌∙◌, ap, arith}
 use Rattle.std.proofs.Math.Seq.{take-suc}
 use Rattle.std.specs.declared.alloc.Global.{Global}
+use Rattle.std.specs.declared.rc.Rc.{Rc}
 use Rattle.sf_term.specs.declared.form.Join.{Join}
 use Rattle.sf_func.specs.Registries.{AnswersByName}
 use Rattle.sf_law.specs.declared.plan.Plan.{Plan}
-use Rattle.sf_term.specs.Trees.{Term, Primitive}
+use Rattle.sf_term.specs.Trees.{Term, Primitive, primitive, probe}
 use Rattle.sf_expr.specs.Evaluation.{Scope}
 use Rattle.sf_value.specs.Values.{Data}
 use Rattle.sf_mean.specs.Lives.{Step, Life, Process, resumed, Environment, after, frozen}
@@ -16,7 +17,7 @@ use Rattle.sf_state.specs.declared.state.State.{State}
 use Rattle.sf_state.specs.declared.state.State.TheVariants.{Unborn, Live' as Alive', Switch' as Watching', Keeping', Frozen'}
 use Rattle.sf_state.specs.declared.state.Live.{Live}
 use Rattle.sf_state.specs.declared.state.Live.{items_hidden-the_row-State-0}
-use Rattle.sf_state.specs.declared.state.Live.TheVariants.{Prim as LPrim, Join as LJoin, Pipeline as LPipeline, Wrap as LWrap}
+use Rattle.sf_state.specs.declared.state.Live.TheVariants.{Prim as LPrim, Probe as LProbe, Join as LJoin, Pipeline as LPipeline, Wrap as LWrap}
 use Rattle.sf_state.specs.declared.state.Wrap.{Wrap}
 use Rattle.sf_state.specs.declared.state.Process.{Process as SProcess}
 use Rattle.sf_state.specs.declared.state.Switch.{Switch}
@@ -25,7 +26,7 @@ use Rattle.sf_state.specs.declared.state.Frozen.{Frozen}
 use Rattle.sf_state.specs.declared.state.Kept.{Kept}
 use Rattle.sf_state.specs.declared.state.Kept.TheVariants.{Live' as KLive', Switch' as KSwitch', Keeping' as KKeeping'}
 use Rattle.sf_state.specs.declared.env.Env.{Env}
-use Rattle.sf_state.specs.Standing.{Wraps, kept_state, Turned, fired_to, kept_to, ran, went_on, Stands, itself, took_over, StandsItself, unborn, alive, watching, keeping_on, was_frozen, Waits, waits_so, recurs_so, WaitsKeeping, keeps_so, Settles, settles, ready, Lives, lives_primitive, lives_join, lives_pipeline, lives_wrap, IsPipeline, StagesStand, last_stands, stage_stands, IsProcess, is_closure, IsNames, AllFollow, none_follow, more_follow}
+use Rattle.sf_state.specs.Standing.{Wraps, kept_state, Turned, fired_to, kept_to, ran, went_on, Stands, itself, took_over, StandsItself, unborn, alive, watching, keeping_on, was_frozen, Waits, waits_so, recurs_so, WaitsKeeping, keeps_so, Settles, settles, ready, Lives, lives_primitive, lives_probe, lives_join, lives_pipeline, lives_wrap, IsPipeline, StagesStand, last_stands, stage_stands, IsProcess, is_closure, IsNames, AllFollow, none_follow, more_follow}
 
 -- whether a life has a step
 abbrev pub has_step : Life → Bool
@@ -109,10 +110,10 @@ module _ (φ : AnswersByName) (p : Plan) where
   pub same_keeps : (s r : Keeping) → r ≡ s → KeepingFollows s r
   same_keeps s r e P L S = subst (λ (s : Keeping). WaitsKeeping φ p s P L) (sym e) S
 
-  pub keeping_follows : {at at' : _} (names around : Env) (s r : Keeping) → NamesFollow names around → KeepingFollows s r → Follows (Keeping' names at s.shown s.source s.observer s.name s.pattern s.body) (Keeping' around at' r.shown r.source r.observer r.name r.pattern r.body)
-  keeping_follows {at} {at'} names around s r h f = itself_follows (Keeping' names at s.shown s.source s.observer s.name s.pattern s.body) (Keeping' around at' r.shown r.source r.observer r.name r.pattern r.body) step
+  pub keeping_follows : {at at' : _} (names around : Env) (s r : Keeping) → NamesFollow names around → KeepingFollows s r → Follows (Keeping' names at s.shown s.first s.source s.observer s.name s.pattern s.body) (Keeping' around at' r.shown r.first r.source r.observer r.name r.pattern r.body)
+  keeping_follows {at} {at'} names around s r h f = itself_follows (Keeping' names at s.shown s.first s.source s.observer s.name s.pattern s.body) (Keeping' around at' r.shown r.first r.source r.observer r.name r.pattern r.body) step
     where
-      step : (P : Process) (L : Life) → StandsItself φ p (Keeping' names at s.shown s.source s.observer s.name s.pattern s.body) P L → StandsItself φ p (Keeping' around at' r.shown r.source r.observer r.name r.pattern r.body) P L
+      step : (P : Process) (L : Life) → StandsItself φ p (Keeping' names at s.shown s.first s.source s.observer s.name s.pattern s.body) P L → StandsItself φ p (Keeping' around at' r.shown r.first r.source r.observer r.name r.pattern r.body) P L
       step P L (keeping_on N K) = keeping_on (h _ N) (f _ _ K)
 
   -- the same frozen part under another pointer
@@ -123,7 +124,7 @@ module _ (φ : AnswersByName) (p : Plan) where
       step : (P : Process) (L : Life) → StandsItself φ p (Frozen' at f.wait f.names f.node) P L → StandsItself φ p (Frozen' at' f.wait f.names f.node) P L
       step P L (was_frozen A) = was_frozen A
 
-  pub keep_follows : (s : Keeping) (a o : State) → Follows s.source a → Follows s.observer o → KeepingFollows s (record { shown = s.shown; source = a; observer = o; name = s.name; pattern = s.pattern; body = s.body })
+  pub keep_follows : (s : Keeping) (a o : State) → Follows s.source a → Follows s.observer o → KeepingFollows s (record { shown = s.shown; first = s.first; source = a; observer = o; name = s.name; pattern = s.pattern; body = s.body })
   keep_follows s a o f g P L (keeps_so S Z Y A B) = keeps_so S Z Y (f _ _ A) (g _ _ B)
 
   pub switch_follows : (s : Switch) (a : State) → Follows s.running a → SwitchFollows s (record { form = s.form; running = a; pattern = s.pattern; body = s.body })
@@ -132,6 +133,11 @@ module _ (φ : AnswersByName) (p : Plan) where
 
   pub prim_follows : (i i' : PrimState) → ((q : Primitive) (scope : Scope) (L : Life) → Remembers i q scope L → Remembers i' q scope L) → NodeFollows (LPrim i) (LPrim i')
   prim_follows i i' f P L (settles (ready h O (lives_primitive K))) = settles (ready h O (lives_primitive (f _ _ _ K)))
+
+  pub probe_follows : (r r' : Rc (String Global) Global) → r'.value ≡ r.value → NodeFollows (LProbe r) (LProbe r')
+  probe_follows r r' same P L (settles (ready h O (lives_probe {e = e} {m = m} {L = K}))) =
+      let name : string_bytes r'.value ≡ string_bytes r.value = ap (λ (s : String Global). string_bytes s) same in
+      settles (ready h O (subst (λ n. Lives φ p (LProbe r') (primitive (probe n)) e m K) name lives_probe))
 
   pub join_follows : (j : Join) (a a' b b' : State) → Follows a a' → Follows b b' → NodeFollows (LJoin j a b) (LJoin j a' b')
   join_follows j a a' b b' f g P L (settles (ready h O (lives_join N OL A B))) = settles (ready h O (lives_join N OL (f _ _ A) (g _ _ B)))
@@ -206,10 +212,10 @@ module _ (φ : AnswersByName) (p : Plan) where
       step : (P : Process) (L : Life) → StandsItself φ p (Watching' names at s.form s.running s.pattern s.body) P L → has_step L ≡ true
       step P L (watching N W) = refl
 
-  pub keeping_lived : {at : _} (names : Env) (s : Keeping) → HasLived (Keeping' names at s.shown s.source s.observer s.name s.pattern s.body)
-  keeping_lived {at} names s = itself_lived (Keeping' names at s.shown s.source s.observer s.name s.pattern s.body) step
+  pub keeping_lived : {at : _} (names : Env) (s : Keeping) → HasLived (Keeping' names at s.shown s.first s.source s.observer s.name s.pattern s.body)
+  keeping_lived {at} names s = itself_lived (Keeping' names at s.shown s.first s.source s.observer s.name s.pattern s.body) step
     where
-      step : (P : Process) (L : Life) → StandsItself φ p (Keeping' names at s.shown s.source s.observer s.name s.pattern s.body) P L → has_step L ≡ true
+      step : (P : Process) (L : Life) → StandsItself φ p (Keeping' names at s.shown s.first s.source s.observer s.name s.pattern s.body) P L → has_step L ≡ true
       step P L (keeping_on N K) = refl
 
   -- b stands for what a stands for, frozen
@@ -230,7 +236,7 @@ module _ (φ : AnswersByName) (p : Plan) where
   pub kept_around : (names around : Env) (k : Kept) → NamesFollow names around → Follows (kept_state names k) (kept_state around k)
   kept_around names around (KLive' at l) N = alive_follows names around l l N (λ P L S. S)
   kept_around names around (KSwitch' at w a q b) N = let s : Switch = record { form = w; running = a; pattern = q; body = b } in watching_follows names around s s N (λ P L S. S)
-  kept_around names around (KKeeping' at w a o i q b) N = let s : Keeping = record { shown = w; source = a; observer = o; name = i; pattern = q; body = b } in keeping_follows names around s s N (λ P L S. S)
+  kept_around names around (KKeeping' at w f a o i q b) N = let s : Keeping = record { shown = w; first = f; source = a; observer = o; name = i; pattern = q; body = b } in keeping_follows names around s s N (λ P L S. S)
 
   -- a frozen node with the same names
   pub node_freezes : {at : _} (d : ℕ) (names around : Env) (k : Kept) (f : Frozen) → NamesFollow names around → f ≡ record { wait = d; names = around; node = k }

@@ -14,7 +14,7 @@ use Rattle.sf_expr.specs.declared.exprs.PatternId.{PatternId}
 use Rattle.sf_expr.specs.declared.exprs.Exprs.{Exprs}
 use Rattle.sf_expr.specs.Arena.{name_at, placed_at}
 use Rattle.sf_code.specs.Names.{ValuesByName, value_named, scope_with}
-use Rattle.sf_mean.specs.Lives.{Process, Environment, empty, known, running, bind, passing, process_of, scope_around}
+use Rattle.sf_mean.specs.Lives.{Process, Environment, empty, known, running, base, bind, passing, process_of, scope_around}
 use Rattle.sf_law.specs.declared.plan.Plan.{Plan}
 use Rattle.sf_law.specs.Arena.{plan_expressions}
 use Rattle.sf_state.specs.declared.state.State.{State}
@@ -22,8 +22,9 @@ use Rattle.sf_state.specs.declared.env.Env.{Env}
 use Rattle.sf_state.specs.declared.env.Env.TheVariants.{Bound', Running'}
 use Rattle.sf_state.specs.declared.env.Binding.{Binding}
 use Rattle.sf_state.specs.declared.env.Running.{Running}
+use Rattle.sf_state.specs.declared.state.Process.{Process as SProcess}
 use Rattle.sf_state.specs.Names.{values_inside, values_around}
-use Rattle.sf_state.specs.Standing.{IsNames, is_empty, is_bound, is_running, Stands, IsFound}
+use Rattle.sf_state.specs.Standing.{IsNames, is_empty, is_bound, is_running, IsProcess, Stands, IsFound}
 
 pub functions_around : (φ : AnswersByName) (e : Environment) → functions_in (scope_around φ e) ≡ φ
 functions_around φ empty = refl
@@ -49,7 +50,7 @@ scope_is φ p names e (is_bound {q = i} {v = v} {names = outer} {e = around} N) 
     values_bound φ q v.value (values_around (plan_expressions p) outer)
     ∙ ap (bound_in q v.value) (scope_is φ p outer around N)
     ∙ sym (environment_bound φ q v.value around)
-scope_is φ p names e (is_running {k = k} {names = outer} {e = around} A N) = ap (other_name (name_at (plan_expressions p) k)) (scope_is φ p outer around N)
+scope_is φ p names e (is_running {k = k} {names = outer} {e = around} A B N) = ap (other_name (name_at (plan_expressions p) k)) (scope_is φ p outer around N)
 
 -- what stands behind a value under the same name
 hidden_by : Option Data → Process → Process
@@ -82,21 +83,21 @@ module _ (φ : AnswersByName) (p : Plan) where
   found_value x i v names d e h (is_bound {e = around} N) = process_inside x (pattern_of (placed_at (plan_expressions p) i)) v.value around ∙ ap (λ o. hidden_by o (process_of x around)) h
 
   -- behind a pattern without a name stands what stands around it
-  pub found_outside : {at : _} (x : Name) (i : PatternId) (v : Rc Value Global) (names : Env) (found : Option State) (e : Environment) → part_of i v.value x ≡ None
+  pub found_outside : {at : _} (x : Name) (i : PatternId) (v : Rc Value Global) (names : Env) (found : Option Running) (e : Environment) → part_of i v.value x ≡ None
       → ((e : Environment) → IsNames φ p names e → IsFound φ p found (process_of x e)) → IsNames φ p (Bound' at i v names) e → IsFound φ p found (process_of x e)
   unfolding hidden_by
   found_outside x i v names found e h outside (is_bound {e = around} N) =
       subst (λ P. IsFound φ p found P) (sym (process_inside x (pattern_of (placed_at (plan_expressions p) i)) v.value around ∙ ap (λ o. hidden_by o (process_of x around)) h)) (outside around N)
 
   -- under its name stands a process
-  pub found_there : {at : _} (x : Name) (k : NameId) (a b : State) (names : Env) (e : Environment) → bytes_eq x (name_at (plan_expressions p) k) ≡ true
-      → ((P : Process) → Stands φ p a P [] → Stands φ p b P []) → IsNames φ p (Running' at k a names) e → IsFound φ p (Some b) (process_of x e)
-  found_there x k a b names e h f (is_running {P = P} {e = around} A N) = subst (λ c. Stands φ p b (cond c P (process_of x around)) []) (sym h) (f P A)
+  pub found_there : {at : _} (x : Name) (r : Running) (e : Environment) → bytes_eq x (name_at (plan_expressions p) r.name) ≡ true
+      → IsNames φ p (Running' at r.name r.process r.base.term r.base.names r.around) e → IsFound φ p (Some r) (process_of x e)
+  found_there x r e h (is_running {P = P} {e = around} A B N) = subst (λ c. IsFound φ p (Some r) (cond c P (process_of x around))) (sym h) (A, B)
 
   -- behind a process of another name
-  pub found_further : {at : _} (x : Name) (k : NameId) (a : State) (names : Env) (found : Option State) (e : Environment) → bytes_eq x (name_at (plan_expressions p) k) ≡ false
-      → ((e : Environment) → IsNames φ p names e → IsFound φ p found (process_of x e)) → IsNames φ p (Running' at k a names) e → IsFound φ p found (process_of x e)
-  found_further x k a names found e h outside (is_running {P = P} {e = around} A N) = subst (λ c. IsFound φ p found (cond c P (process_of x around))) (sym h) (outside around N)
+  pub found_further : {at : _} (x : Name) (k : NameId) (a : State) (b : SProcess) (names : Env) (found : Option Running) (e : Environment) → bytes_eq x (name_at (plan_expressions p) k) ≡ false
+      → ((e : Environment) → IsNames φ p names e → IsFound φ p found (process_of x e)) → IsNames φ p (Running' at k a b.term b.names names) e → IsFound φ p found (process_of x e)
+  found_further x k a b names found e h outside (is_running {P = P} {e = around} A B N) = subst (λ c. IsFound φ p found (cond c P (process_of x around))) (sym h) (outside around N)
 
   -- the same names under another pointer
   names_moved : {at at' : _} {b : Binding} {e : Environment} → IsNames φ p (Bound' at b.pattern b.value b.around) e → IsNames φ p (Bound' at' b.pattern b.value b.around) e
@@ -105,25 +106,20 @@ module _ (φ : AnswersByName) (p : Plan) where
   pub names_follow : {at at' : _} (b c : Binding) → c ≡ b → (e : Environment) → IsNames φ p (Bound' at b.pattern b.value b.around) e → IsNames φ p (Bound' at' c.pattern c.value c.around) e
   names_follow {at' = at'} b c same e N = subst (λ (c : Binding). IsNames φ p (Bound' at' c.pattern c.value c.around) e) (sym same) (names_moved N)
 
-  running_moved : {at at' : _} {b : Running} {e : Environment} → IsNames φ p (Running' at b.name b.process b.around) e → IsNames φ p (Running' at' b.name b.process b.around) e
-  running_moved (is_running A N) = is_running A N
+  running_moved : {at at' : _} {b : Running} {e : Environment} → IsNames φ p (Running' at b.name b.process b.base.term b.base.names b.around) e → IsNames φ p (Running' at' b.name b.process b.base.term b.base.names b.around) e
+  running_moved (is_running A B N) = is_running A B N
 
-  pub running_follows : {at at' : _} (b c : Running) → c ≡ b → (e : Environment) → IsNames φ p (Running' at b.name b.process b.around) e → IsNames φ p (Running' at' c.name c.process c.around) e
-  running_follows {at' = at'} b c same e N = subst (λ (c : Running). IsNames φ p (Running' at' c.name c.process c.around) e) (sym same) (running_moved N)
+  pub running_follows : {at at' : _} (b c : Running) → c ≡ b → (e : Environment) → IsNames φ p (Running' at b.name b.process b.base.term b.base.names b.around) e → IsNames φ p (Running' at' c.name c.process c.base.term c.base.names c.around) e
+  running_follows {at' = at'} b c same e N = subst (λ (c : Running). IsNames φ p (Running' at' c.name c.process c.base.term c.base.names c.around) e) (sym same) (running_moved N)
 
   -- a pattern's names around a part, once they are bound
   pub names_bound_inside : {at : _} (b c : Binding) → c ≡ b → (e : Environment) → IsNames φ p b.around e → IsNames φ p (Bound' at c.pattern c.value c.around) (bind (pattern_of (placed_at (plan_expressions p) b.pattern)) b.value.value e)
   names_bound_inside {at} b c same e N = subst (λ (c : Binding). IsNames φ p (Bound' at c.pattern c.value c.around) (bind (pattern_of (placed_at (plan_expressions p) b.pattern)) b.value.value e)) (sym same) (is_bound N)
 
   -- the same of a process under its name
-  pub names_running_inside : {at : _} (b c : Running) → c ≡ b → (e : Environment) (P : Process) → IsNames φ p b.around e → Stands φ p b.process P [] → IsNames φ p (Running' at c.name c.process c.around) (running (name_at (plan_expressions p) b.name) P e)
-  names_running_inside {at} b c same e P N A = subst (λ (c : Running). IsNames φ p (Running' at c.name c.process c.around) (running (name_at (plan_expressions p) b.name) P e)) (sym same) (is_running A N)
+  pub names_running_inside : {at : _} (b c : Running) → c ≡ b → (e : Environment) (P : Process) → IsNames φ p b.around e → Stands φ p b.process P [] → IsProcess φ p b.base (base P) → IsNames φ p (Running' at c.name c.process c.base.term c.base.names c.around) (running (name_at (plan_expressions p) b.name) P e)
+  names_running_inside {at} b c same e P N A B = subst (λ (c : Running). IsNames φ p (Running' at c.name c.process c.base.term c.base.names c.around) (running (name_at (plan_expressions p) b.name) P e)) (sym same) (is_running A B N)
 
 -- what is found under a name among names of a plan with these expressions
-abbrev pub Finds : Exprs → Name → Env → Option State → Type 0
+abbrev pub Finds : Exprs → Name → Env → Option Running → Type 0
 Finds x name names found = (φ : AnswersByName) (p : Plan) (e : Environment) → x ≡ plan_expressions p → IsNames φ p names e → IsFound φ p found (process_of name e)
-
--- the same is found among other names
-pub finds_so : {E : Type 0} (x : Exprs) (name : Name) (names outer : Env) (r : Result (Option State) E) → ((found : Option State) → Finds x name names found → Finds x name outer found) → IfOk r (Finds x name names) → IfOk r (Finds x name outer)
-finds_so x name names outer (Ok found) f h = f found h
-finds_so x name names outer (Err e) f h = tt

@@ -25,4 +25,4 @@ values_inside (both p q) d vs = values_inside q (second_of d) (values_inside p (
 abbrev pub values_around : Exprs → Env → ValuesByName
 values_around x SEmpty = []
 values_around x (Bound' at q v names) = values_inside (pattern_of (placed_at x q)) v.value (values_around x names)
-values_around x (Running' at k a names) = (name_at x k, None) ∷ values_around x names
+values_around x (Running' at k a b inner names) = (name_at x k, None) ∷ values_around x names

@@ -1,5 +1,5 @@
 -- What states stand for.
-use Rattle.std.specs.Prelude.{◌≡◌, ◌≢◌, ℕ, Bool, true, false, List, [], ◌∷◌, Option, Some, None}
+use Rattle.std.specs.Prelude.{◌≡◌, ◌≢◌, ℕ, Bool, true, false, List, [], ◌∷◌, Option, Some, None, String, string_bytes}
 use Rattle.std.specs.declared.alloc.Global.{Global}
 use Rattle.std.specs.declared.rc.Rc.{Rc}
 use Rattle.sf_value.specs.declared.value.Value.{Value}
@@ -18,8 +18,8 @@ use Rattle.sf_term.specs.declared.form.Heading.TheVariants.{LoopPre, Initialized
 use Rattle.sf_term.specs.declared.form.Observation.{Observation}
 use Rattle.sf_term.specs.declared.form.Switching.{Switching}
 use Rattle.sf_term.specs.declared.form.Switching.TheVariants.{Basic, Recurring}
-use Rattle.sf_term.specs.Trees.{Primitive, whole, rest, Term, primitive, Reference, reference, joined, sided, headed, switching, keeping, staged}
-use Rattle.sf_mean.specs.Lives.{Step, Life, Process, closure, resumed, Environment, empty, running, bind, passing, scope_around, first_input, with_inputs, relay, observed_life, after, fed_back, older, fed}
+use Rattle.sf_term.specs.Trees.{Primitive, probe, whole, rest, Term, primitive, Reference, reference, joined, sided, headed, switching, keeping, staged}
+use Rattle.sf_mean.specs.Lives.{Step, Life, Process, closure, resumed, Environment, empty, running, base, bind, passing, scope_around, first_input, with_inputs, relay, observed_life, after, fed_back, older, fed}
 use Rattle.sf_mean.specs.Formulas.{at_first, side_of}
 use Rattle.sf_mean.specs.Meaning.{Network, Made, value_made, referred, make, left_life, right_life, itself as watched_itself, observed, waits, fired, body_of, body_with, whenever, last_event, since_event, what_runs, Outputs, Loops, Since}
 use Rattle.sf_law.specs.declared.node.PlanId.{PlanId}
@@ -30,7 +30,7 @@ use Rattle.sf_prim.specs.Keeping.{Remembers}
 use Rattle.sf_state.specs.declared.state.State.{State}
 use Rattle.sf_state.specs.declared.state.State.TheVariants.{Unborn, Unborn', Live' as Alive', Switch' as Watching', Keeping', Frozen'}
 use Rattle.sf_state.specs.declared.state.Live.{Live}
-use Rattle.sf_state.specs.declared.state.Live.TheVariants.{Prim as LPrim, Join as LJoin, Pipeline' as LPipeline', Wrap as LWrap}
+use Rattle.sf_state.specs.declared.state.Live.TheVariants.{Prim as LPrim, Probe as LProbe, Join as LJoin, Pipeline' as LPipeline', Wrap as LWrap}
 use Rattle.sf_state.specs.declared.state.Live.{items-the_row-State}
 use Rattle.sf_state.specs.declared.state.Wrap.{Wrap}
 use Rattle.sf_state.specs.declared.state.Wrap.TheVariants.{First, Second, Loop, Initialized}
@@ -40,6 +40,7 @@ use Rattle.sf_state.specs.declared.state.Keeping.{Keeping}
 use Rattle.sf_state.specs.declared.state.Kept.{Kept}
 use Rattle.sf_state.specs.declared.state.Kept.TheVariants.{Live' as KLive', Switch' as KSwitch', Keeping' as KKeeping'}
 use Rattle.sf_state.specs.declared.env.Env.{Env}
+use Rattle.sf_state.specs.declared.env.Running.{Running}
 use Rattle.sf_state.specs.declared.env.Env.TheVariants.{Empty as SEmpty, Bound', Running'}
 
 -- What a form with one part keeps after a life; the part, and the life that the part has led.
@@ -69,14 +70,14 @@ closed_over t names = record { term = t; names = names }
 abbrev pub kept_state : Env → Kept → State
 kept_state names (KLive' at l) = Alive' names at l
 kept_state names (KSwitch' at w a q b) = Watching' names at w a q b
-kept_state names (KKeeping' at w a o k q b) = Keeping' names at w a o k q b
+kept_state names (KKeeping' at w t a o k q b) = Keeping' names at w t a o k q b
 
 -- whether a state is frozen
 abbrev pub is_frozen : State → Bool
 is_frozen (Unborn' t names) = false
 is_frozen (Alive' names at l) = false
 is_frozen (Watching' names at w a q b) = false
-is_frozen (Keeping' names at w a o k q b) = false
+is_frozen (Keeping' names at w t a o k q b) = false
 is_frozen (Frozen' at d names k) = true
 
 -- From here on a process gives what another one gives that has led another life, and counts nothing beside it.
@@ -102,9 +103,9 @@ mutual
     is_empty : IsNames φ p SEmpty empty
     is_bound : {at : _} {q : PatternId} {v : Rc Value Global} {names : Env} {e : Environment}
         → IsNames φ p names e → IsNames φ p (Bound' at q v names) (bind (pattern_of (placed_at (plan_expressions p) q)) v.value e)
-    -- a process that has lived no step
-    is_running : {at : _} {k : NameId} {a : State} {names : Env} {P : Process} {e : Environment}
-        → Stands φ p a P [] → IsNames φ p names e → IsNames φ p (Running' at k a names) (running (name_at (plan_expressions p) k) P e)
+    -- a process that has lived no step, beside what it began as
+    is_running : {at : _} {k : NameId} {a : State} {b : PlanId} {inner names : Env} {P : Process} {e : Environment}
+        → Stands φ p a P [] → IsProcess φ p (closed_over b inner) (base P) → IsNames φ p names e → IsNames φ p (Running' at k a b inner names) (running (name_at (plan_expressions p) k) P e)
 
   -- what can be run
   pub data IsProcess (φ : AnswersByName) (p : Plan) : SProcess → Process → Type 0 where
@@ -126,9 +127,9 @@ mutual
     watching : {at : _} {names : Env} {w : Switching} {a : State} {q : PatternId} {b : PlanId} {t : Term} {e : Environment} {s : Step} {L : Life}
         → IsNames φ p names e → Waits φ p (record { form = w; running = a; pattern = q; body = b }) (closure t e) (s ∷ L)
         → StandsItself φ p (Watching' names at w a q b) (closure t e) (s ∷ L)
-    keeping_on : {at : _} {names : Env} {w : Observation} {a o : State} {k : NameId} {q : PatternId} {b : PlanId} {t : Term} {e : Environment} {s : Step} {L : Life}
-        → IsNames φ p names e → WaitsKeeping φ p (record { shown = w; source = a; observer = o; name = k; pattern = q; body = b }) (closure t e) (s ∷ L)
-        → StandsItself φ p (Keeping' names at w a o k q b) (closure t e) (s ∷ L)
+    keeping_on : {at : _} {names : Env} {w : Observation} {f : PlanId} {a o : State} {k : NameId} {q : PatternId} {b : PlanId} {t : Term} {e : Environment} {s : Step} {L : Life}
+        → IsNames φ p names e → WaitsKeeping φ p (record { shown = w; first = f; source = a; observer = o; name = k; pattern = q; body = b }) (closure t e) (s ∷ L)
+        → StandsItself φ p (Keeping' names at w f a o k q b) (closure t e) (s ∷ L)
     -- frozen after a life, and not stepped since
     was_frozen : {at : _} {d : ℕ} {names : Env} {k : Kept} {P : Process} {s : Step} {h : Life}
         → Stands φ p (kept_state names k) P (s ∷ h) → StandsItself φ p (Frozen' at d names k) (resumed P (s ∷ h) d) []
@@ -152,13 +153,13 @@ mutual
   -- A switch that keeps its source waits for an event after a life: the source has led that life, and the observer the
   -- same with the source's values beside the inputs.
   pub data WaitsKeeping (φ : AnswersByName) (p : Plan) : Keeping → Process → Life → Type 0 where
-    keeps_so : {s : Keeping} {t r : Term} {e : Environment} {L : Life} {ys zs : List Data}
-        → Since (network_of_plan φ p) (observed (closure t e) r e) (body_with (name_at (plan_expressions p) s.name) (closure t e) (pattern_of (placed_at (plan_expressions p) s.pattern)) (plan_tree p s.body) e) L waits
-        → Outputs (network_of_plan φ p) (closure (keeping s.shown t r (name_at (plan_expressions p) s.name) (pattern_of (placed_at (plan_expressions p) s.pattern)) (plan_tree p s.body)) e) L zs
-        → Outputs (network_of_plan φ p) (closure t e) L ys
-        → Stands φ p s.source (closure t e) L
+    keeps_so : {s : Keeping} {r : Term} {e : Environment} {L : Life} {ys zs : List Data}
+        → Since (network_of_plan φ p) (observed (closure (plan_tree p s.first) e) r e) (body_with (name_at (plan_expressions p) s.name) (closure (plan_tree p s.first) e) (pattern_of (placed_at (plan_expressions p) s.pattern)) (plan_tree p s.body) e) L waits
+        → Outputs (network_of_plan φ p) (closure (keeping s.shown (plan_tree p s.first) r (name_at (plan_expressions p) s.name) (pattern_of (placed_at (plan_expressions p) s.pattern)) (plan_tree p s.body)) e) L zs
+        → Outputs (network_of_plan φ p) (closure (plan_tree p s.first) e) L ys
+        → Stands φ p s.source (closure (plan_tree p s.first) e) L
         → Stands φ p s.observer (closure r e) (observed_life L ys)
-        → WaitsKeeping φ p s (closure (keeping s.shown t r (name_at (plan_expressions p) s.name) (pattern_of (placed_at (plan_expressions p) s.pattern)) (plan_tree p s.body)) e) L
+        → WaitsKeeping φ p s (closure (keeping s.shown (plan_tree p s.first) r (name_at (plan_expressions p) s.name) (pattern_of (placed_at (plan_expressions p) s.pattern)) (plan_tree p s.body)) e) L
 
   -- a live part stands for a process and a life that has begun
   pub data Settles (φ : AnswersByName) (p : Plan) : Live → Process → Life → Type 0 where
@@ -172,6 +173,8 @@ mutual
 
   -- The same by the forms.
   pub data Lives (φ : AnswersByName) (p : Plan) : Live → Term → Environment → Made → Life → Type 0 where
+    lives_probe : {r : Rc (String Global) Global} {e : Environment} {m : Made} {L : Life}
+        → Lives φ p (LProbe r) (primitive (probe (string_bytes r.value))) e m L
     lives_primitive : {i : PrimState} {q : Primitive} {e : Environment} {m : Made} {L : Life}
         → Remembers i q (scope_around φ e) L
         → Lives φ p (LPrim i) (primitive q) e m L
@@ -198,9 +201,9 @@ mutual
         → Outputs (network_of_plan φ p) (closure f e) L ys → Stands φ p a (closure f e) L → StagesStand φ p bs g e (relay L ys)
         → StagesStand φ p (a ∷ bs) (staged rest f g) e L
 
--- the process that was found under a name; where none was, inputs pass
-abbrev pub IsFound : AnswersByName → Plan → Option State → Process → Type 0
-IsFound φ p (Some a) P = Stands φ p a P []
+-- the process that was found under a name, beside what it began as; where none was, inputs pass
+abbrev pub IsFound : AnswersByName → Plan → Option Running → Process → Type 0
+IsFound φ p (Some r) P = Stands φ p r.process P [] × IsProcess φ p r.base (base P)
 IsFound φ p None P = P ≡ passing
 
 -- Each state stands for all that the one at its place stands for.

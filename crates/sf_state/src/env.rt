@@ -4,14 +4,14 @@ ghost use Rattle.std.specs.Map.{lookup};
 ghost use Rattle.sf_func.specs.Registries.{AnswersByName};
 ghost use Rattle.sf_expr.specs.Arena.{placed_at, name_at};
 ghost use Rattle.sf_expr.specs.Patterns.{pattern_of};
-ghost use Rattle.sf_mean.specs.Lives.{Environment, Process as ProcessOf, bind, running, process_of};
+ghost use Rattle.sf_mean.specs.Lives.{Environment, Process as ProcessOf, bind, running, base as base_of, process_of};
 ghost use Rattle.sf_law.specs.declared.plan.Plan.{Plan};
 ghost use Rattle.sf_law.specs.Arena.{plan_expressions};
 ghost use Rattle.sf_code.specs.Names.{ValuesByName, value_named};
 ghost use Rattle.sf_state.specs.Names.{found_or, values_inside, values_around};
-ghost use Rattle.sf_state.specs.Standing.{IsNames, Stands, IsFound};
+ghost use Rattle.sf_state.specs.Standing.{IsNames, IsProcess, Stands, IsFound};
 
-use crate::state::State;
+use crate::state::{Process, State};
 use sf_code::Names;
 use sf_expr::{Exprs, NameId, Pat, PatForm, PatternId};
 use sf_value::{Form, Value};
@@ -50,6 +50,8 @@ pub struct Running {
     pub name: NameId,
     /// The process, of which no step has been lived.
     pub process: State,
+    /// What it began as: itself, or where it was frozen what it was before it lived.
+    pub base: Process,
     /// The names around it.
     pub around: Env,
 }
@@ -95,15 +97,16 @@ impl Env {
         Ok(Env::Bound(binding))
     }
 
-    /// These names, and inside them that of a process of which no step has been lived. The error is a want of memory, or
-    /// too many owners.
+    /// These names, and inside them that of a process of which no step has been lived, beside what it began as. The error
+    /// is a want of memory, or too many owners.
     pub fn with_process(
         &self,
         alloc: Global,
         name: NameId,
         process: State,
+        base: Process,
     ) -> Result<Env, AllocError>
-        ensures { IfOk result (λ names. (φ : AnswersByName) (p : Plan) (e : Environment) (P : ProcessOf) → IsNames φ p self.now e → Stands φ p process P [] →
+        ensures { IfOk result (λ names. (φ : AnswersByName) (p : Plan) (e : Environment) (P : ProcessOf) → IsNames φ p self.now e → Stands φ p process P [] → IsProcess φ p base (base_of P) →
             IsNames φ p names (running (name_at (plan_expressions p) name) P e)) }
     {
         let around = self.share()?;
@@ -112,33 +115,33 @@ impl Env {
             Running {
                 name,
                 process,
+                base,
                 around,
             },
         )?;
         Ok(Env::Running(running))
     }
 
-    /// The process of a name, shared, if it stands for one: of the same names the innermost counts. The names are those of
-    /// a plan with these expressions. The error is too many owners.
-    pub fn process(&self, expressions: &Exprs, name: &str) -> Result<Option<State>, AllocError>
-        ensures { IfOk result (λ found. (φ : AnswersByName) (p : Plan) (e : Environment) → expressions.now ≡ plan_expressions p → IsNames φ p self.now e →
-            IsFound φ p found (process_of name.now e)) }
+    /// What a name stands for, if that is a process: of the same names the innermost counts. The names are those of a plan
+    /// with these expressions.
+    pub fn running<'r>(&'r self, expressions: &Exprs, name: &str) -> Option<&'r Running>
+        ensures { (φ : AnswersByName) (p : Plan) (e : Environment) → expressions.now ≡ plan_expressions p → IsNames φ p self.now e →
+            IsFound φ p (option_map (λ r. r.now) result) (process_of name.now e) }
     {
         match self {
-            Env::Empty => Ok(None),
+            Env::Empty => None,
             Env::Bound(binding) => {
                 let pattern = expressions.placed(binding.pattern);
                 match part_named(pattern, &*binding.value, name) {
-                    Some(_) => Ok(None),
-                    None => binding.around.process(expressions, name),
+                    Some(_) => None,
+                    None => binding.around.running(expressions, name),
                 }
             }
             Env::Running(running) => {
                 if name == expressions.name_of(running.name) {
-                    let shared = running.process.share()?;
-                    Ok(Some(shared))
+                    Some(&**running)
                 } else {
-                    running.around.process(expressions, name)
+                    running.around.running(expressions, name)
                 }
             }
         }

@@ -5,7 +5,7 @@ ghost use Rattle.sf_law.specs.declared.plan.Plan.{Plan};
 ghost use Rattle.sf_expr.specs.Arena.{placed_at, name_at};
 ghost use Rattle.sf_expr.specs.Patterns.{pattern_of};
 ghost use Rattle.sf_law.specs.Arena.{plan_expressions, plan_tree};
-ghost use Rattle.sf_mean.specs.Lives.{bind, closure, resumed, empty, running, frozen as frozen_process, Environment, Step, Life, Process as ProcessOf};
+ghost use Rattle.sf_mean.specs.Lives.{base, bind, closure, resumed, empty, running, frozen as frozen_process, Environment, Step, Life, Process as ProcessOf};
 ghost use Rattle.sf_mean.specs.Meaning.{body_of};
 ghost use Rattle.sf_state.specs.declared.env.Env.{Env as EnvOf};
 ghost use Rattle.sf_state.specs.Standing.{IsNames, Stands, Settles, Waits, WaitsKeeping, IsProcess, AllFollow, kept_state, is_frozen};
@@ -55,7 +55,9 @@ pub struct Switch {
 pub struct Keeping {
     /// Whose value shows at the event.
     pub shown: Observation,
-    /// What runs.
+    /// Its first term.
+    pub first: PlanId,
+    /// What runs: the first term.
     pub source: State,
     /// What gives the event, on the inputs beside the values of what runs.
     pub observer: State,
@@ -97,6 +99,8 @@ pub enum Kept {
 pub enum Live {
     /// A primitive.
     Prim(PrimState),
+    /// A probe, with its name, which what it records shares.
+    Probe(Rc<String>),
     /// Two parts side by side, the left one first.
     Join(Join, State, State),
     /// Stages, each on the values of the one before it.
@@ -225,6 +229,10 @@ impl Live {
                 let second = right.share()?;
                 Ok(Live::Join(*join, first, second))
             }
+            Live::Probe(name) => {
+                let same = name.clone()?;
+                Ok(Live::Probe(same))
+            }
             Live::Pipeline(stages) => {
                 let shared = share_all(alloc, stages)?;
                 Ok(Live::Pipeline(shared))
@@ -275,6 +283,7 @@ impl Keeping {
         let observer = self.observer.share()?;
         Ok(Keeping {
             shown: self.shown,
+            first: self.first,
             source,
             observer,
             name: self.name,
@@ -284,7 +293,7 @@ impl Keeping {
     }
 
     /// Its body before the first sample, inside its pattern for the payload of an event, and around that the name of what
-    /// was frozen, where these names are around the switch. The error is a want of memory, or too many owners.
+    /// was frozen, which began as its first term, where these names are around the switch. The error is a want of memory, or too many owners.
     pub fn begin(
         &self,
         alloc: Global,
@@ -293,10 +302,15 @@ impl Keeping {
         payload: Rc<Value>,
     ) -> Result<State, AllocError>
         ensures { IfOk result (λ begun. (φ : AnswersByName) (p : Plan) (e : Environment) (P : ProcessOf) → IsNames φ p names.now e → Stands φ p frozen P [] →
-            Stands φ p begun (closure (plan_tree p self.now.body)
+            base P ≡ closure (plan_tree p self.now.first) e → Stands φ p begun (closure (plan_tree p self.now.body)
             (bind (pattern_of (placed_at (plan_expressions p) self.now.pattern)) payload.value (running (name_at (plan_expressions p) self.now.name) P e))) []) }
     {
-        let known = names.with_process(alloc, self.name, frozen)?;
+        let outer = names.share()?;
+        let base = Process {
+            term: self.first,
+            names: outer,
+        };
+        let known = names.with_process(alloc, self.name, frozen, base)?;
         let around = known.inside(alloc, self.pattern, payload)?;
         Ok(State::Unborn(Process {
             term: self.body,
@@ -425,8 +439,8 @@ impl Wrap {
 }
 
 impl Process {
-    // The same process, which shares its names.
-    fn share(&self) -> Result<Process, AllocError>
+    /// The same process, which shares its names. The error is too many owners of one name.
+    pub fn share(&self) -> Result<Process, AllocError>
         ensures { IfOk result (λ same. (φ : AnswersByName) (p : Plan) (P : ProcessOf) → IsProcess φ p self.now P → IsProcess φ p same P) }
     {
         let names = self.names.share()?;

@@ -15,13 +15,14 @@ use Rattle.sf_expr.specs.Arena.{expression, name_at, placed_at}
 use Rattle.sf_expr.specs.Patterns.{pattern_of}
 use Rattle.sf_code.specs.declared.code.Code.{Code}
 use Rattle.sf_code.specs.Names.{scope_with}
+use Rattle.sf_term.specs.declared.form.Start.{Start}
 use Rattle.sf_term.specs.Parameters.{NameKind, Bindings}
 use Rattle.sf_term.specs.Trees.{no_arguments}
-use Rattle.sf_mean.specs.Lives.{Process, closure, Environment, empty, known, running, bind, process_of, scope_around}
+use Rattle.sf_mean.specs.Lives.{Process, closure, Environment, empty, known, running, bind, process_started, scope_around}
 use Rattle.sf_mean.specs.Meaning.{argued, process_called}
 use Rattle.sf_law.specs.declared.node.PlanId.{PlanId}
 use Rattle.sf_law.specs.declared.node.PlanArgument.{PlanArgument}
-use Rattle.sf_law.specs.declared.node.PlanArgument.TheVariants.{Value, Named, Closed}
+use Rattle.sf_law.specs.declared.node.PlanArgument.TheVariants.{Value, Started, Closed}
 use Rattle.sf_law.specs.declared.plan.Plan.{Plan}
 use Rattle.sf_law.specs.Headers.{ParameterHeader, PlanHeader}
 use Rattle.sf_law.specs.Entries.{BindsName}
@@ -56,7 +57,7 @@ module _ (φ : AnswersByName) (p : Plan) where
   module _ (q : Name × NameKind) (qs : Bindings) (vs : List PlanArgument) (e d : Environment) where
     one_answer : (v : PlanArgument) (b : Environment) → argued φ (q ∷ []) (plan_arguments p (v ∷ [])) e d ≡ answer b → argued φ (q ∷ qs) (plan_arguments p (v ∷ vs)) e d ≡ argued φ qs (plan_arguments p vs) e b
     one_answer (Value i c) b h = after_answer (eval (expression (plan_expressions p) i) (scope_around φ e)) (λ v. known q.0 v d) (λ b. argued φ qs (plan_arguments p vs) e b) b h
-    one_answer (Named k) b h = let same : running q.0 (process_of (name_at (plan_expressions p) k) e) d ≡ b = cc in ap (λ b. argued φ qs (plan_arguments p vs) e b) same
+    one_answer (Started w k) b h = let same : running q.0 (process_started w (name_at (plan_expressions p) k) e) d ≡ b = cc in ap (λ b. argued φ qs (plan_arguments p vs) e b) same
     one_answer (Closed a) b h =
         let is : answer (running q.0 (closure (plan_tree p a) e) d) ≡ answer b = sym (argued_closed φ q [] (plan_tree p a) no_arguments e d) ∙ h in
         let same : running q.0 (closure (plan_tree p a) e) d ≡ b = cc in
@@ -64,7 +65,7 @@ module _ (φ : AnswersByName) (p : Plan) where
 
     one_fault : (v : PlanArgument) (x : ValueFault) → argued φ (q ∷ []) (plan_arguments p (v ∷ [])) e d ≡ failed x → argued φ (q ∷ qs) (plan_arguments p (v ∷ vs)) e d ≡ failed x
     one_fault (Value i c) x h = after_fault (eval (expression (plan_expressions p) i) (scope_around φ e)) (λ v. known q.0 v d) (λ b. argued φ qs (plan_arguments p vs) e b) x h
-    one_fault (Named k) x h = absurd cc
+    one_fault (Started w k) x h = absurd cc
     one_fault (Closed a) x h = let is : answer (running q.0 (closure (plan_tree p a) e) d) ≡ failed x = sym (argued_closed φ q [] (plan_tree p a) no_arguments e d) ∙ h in absurd cc
 
   -- the names so far, and inside them a parameter that is bound to an argument
@@ -90,9 +91,9 @@ module _ (φ : AnswersByName) (p : Plan) where
         makes_fault (ap (λ s. eval (expression (plan_expressions p) i) s >>= λ v. answer (known name v d)) (sym (scope_is φ p names e N)) ∙ ap (λ o. o >>= λ v. answer (known name v d)) h)
     value_fails i c EMemory h e d N M = makes_nothing
 
-    pub named_bound : (k : NameId) (inner : Env) → ((e : Environment) (d : Environment) → IsNames φ p names e → IsNames φ p bound d → IsNames φ p inner (running name (process_of (name_at (plan_expressions p) k) e) d))
-        → BindsOne q (Named k) names bound (Ok inner)
-    named_bound k inner f e d N M = makes refl (f e d N M)
+    pub started_bound : (w : Start) (k : NameId) (inner : Env) → ((e : Environment) (d : Environment) → IsNames φ p names e → IsNames φ p bound d → IsNames φ p inner (running name (process_started w (name_at (plan_expressions p) k) e) d))
+        → BindsOne q (Started w k) names bound (Ok inner)
+    started_bound w k inner f e d N M = makes refl (f e d N M)
 
     pub closed_bound : (a : PlanId) (inner : Env) → ((e : Environment) (d : Environment) → IsNames φ p names e → IsNames φ p bound d → IsNames φ p inner (running name (closure (plan_tree p a) e) d))
         → BindsOne q (Closed a) names bound (Ok inner)

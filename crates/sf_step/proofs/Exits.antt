@@ -1,6 +1,8 @@
 -- What each function of a sample answers, from what it calls.
 use Rattle.std.proofs.Common.{◌≡◌, ◌≢◌, ℕ, ◌+◌, ◌≤◌, List, [], ◌∷◌, ◌++◌, Option, Some, None, Result, Ok, Err, refl, sym, ap, ◌∙◌, subst, arith}
-use Rattle.std.specs.Prelude.{IsErrAnd, All, Vec}
+use mathlib.Core.Path.{ap₂}
+use Rattle.std.specs.Prelude.{IsErrAnd, IfOk, All, Vec, String, string_bytes}
+use Rattle.std.specs.declared.rc.Rc.{Rc}
 use Rattle.std.specs.declared.alloc.Global.{Global}
 use Rattle.sf_value.specs.Values.{Data}
 use Rattle.sf_value.specs.declared.fault.ValueFault.{ValueFault}
@@ -15,6 +17,7 @@ use Rattle.sf_operator.specs.Answers.{Evaluates}
 use Rattle.sf_expr.specs.declared.exprs.ExprId.{ExprId}
 use Rattle.sf_expr.specs.declared.exprs.NameId.{NameId}
 use Rattle.sf_expr.specs.declared.exprs.PatternId.{PatternId}
+use Rattle.sf_term.specs.declared.form.Start.{Start}
 use Rattle.sf_term.specs.declared.form.Observation.{Observation}
 use Rattle.sf_term.specs.declared.form.Switching.{Switching}
 use Rattle.sf_term.specs.declared.form.Switching.TheVariants.{Basic, Recurring}
@@ -28,16 +31,16 @@ use Rattle.sf_term.specs.declared.form.Heading.{Heading}
 use Rattle.sf_law.specs.declared.node.PlanId.{PlanId}
 use Rattle.sf_law.specs.declared.node.TemplateId.{TemplateId}
 use Rattle.sf_law.specs.declared.node.PlanArgument.{PlanArgument}
-use Rattle.sf_law.specs.declared.node.PlanNode.TheVariants.{Primitive as NPrimitive, Joined as NJoined, Sided as NSided, Headed as NHeaded, Switching as NSwitching, Keeping as NKeeping, Run as NRun, Call as NCall}
+use Rattle.sf_law.specs.declared.node.PlanNode.TheVariants.{Primitive as NPrimitive, Joined as NJoined, Sided as NSided, Headed as NHeaded, Switching as NSwitching, Keeping as NKeeping, Started as NStarted, Probe as NProbe, Call as NCall}
 use Rattle.sf_law.specs.declared.node.PlanPrimitive.{PlanPrimitive}
 use Rattle.sf_law.specs.Entries.{primitive_over, IsCodedPrimitive, IsCodedExpression, IsCodedArgument}
 use Rattle.sf_func.specs.Registries.{AnswersByName}
 use Rattle.sf_law.specs.declared.plan.Plan.{Plan}
-use Rattle.sf_term.specs.Trees.{Primitive, bare, Term, primitive, reference, call, joined, sided, headed}
-use Rattle.sf_law.specs.Arena.{plan_tree, plan_expressions, plan_arguments, header_at, BuildsPlan, builds_primitive, builds_joined, builds_sided, builds_headed, builds_switching, builds_keeping, builds_run, builds_call}
-use Rattle.sf_mean.specs.Lives.{Step, step, Life, Process, closure, Environment, empty, passing, process_of, scope_around, first_input}
+use Rattle.sf_term.specs.Trees.{Primitive, bare, probe, never, with_value, timed, arrow, accumulated, fused, Term, primitive, reference, call, joined, sided, headed}
+use Rattle.sf_law.specs.Arena.{plan_tree, plan_expressions, plan_arguments, header_at, BuildsPlan, builds_primitive, builds_joined, builds_sided, builds_headed, builds_switching, builds_keeping, builds_started, builds_probe, builds_call}
+use Rattle.sf_mean.specs.Lives.{Step, step, Life, Process, closure, base, Environment, empty, passing, process_started, scope_around, first_input}
 use Rattle.sf_mean.specs.Formulas.{formula}
-use Rattle.sf_mean.specs.Meaning.{Network, Readings, Outcome, gave, faulted, as_outcome, Cost, count, height, both_costs, over, one_term, Made, nothing_made, value_made, process_made, make, left_life, right_life, join_value, Gives, gives, Outputs, not_begun, and_gave, of_constants, of_form, Form, of_primitive, of_join, goes_on, at_start}
+use Rattle.sf_mean.specs.Meaning.{Network, Readings, Outcome, gave, faulted, recorded, as_outcome, Cost, count, height, both_costs, over, one_term, Made, nothing_made, value_made, process_made, make, left_life, right_life, join_value, Gives, gives, Outputs, not_begun, and_gave, of_constants, of_form, Form, of_primitive, of_join, goes_on, at_start}
 use Rattle.sf_law.specs.Arena.{network_of_plan}
 use Rattle.sf_prim.specs.declared.prim_state.PrimState.{PrimState}
 use Rattle.sf_prim.specs.Keeping.{Remembers, Begins, begins, begins_with_fault, GoesOn, goes_on as goes_on_with, goes_on_with_fault}
@@ -46,21 +49,23 @@ use Rattle.sf_state.specs.declared.state.State.TheVariants.{Unborn, Live' as Ali
 use Rattle.sf_state.specs.declared.state.Live.{Live}
 use Rattle.sf_state.specs.declared.state.Switch.{Switch}
 use Rattle.sf_state.specs.declared.state.Keeping.{Keeping}
-use Rattle.sf_state.specs.declared.state.Live.TheVariants.{Prim as LPrim, Join as LJoin, Wrap as LWrap}
+use Rattle.sf_state.specs.declared.state.Live.TheVariants.{Prim as LPrim, Probe as LProbe, Join as LJoin, Wrap as LWrap}
 use Rattle.sf_state.specs.declared.state.Wrap.{Wrap}
 use Rattle.sf_state.specs.Standing.{closed_over as SClosure}
 use Rattle.sf_state.specs.declared.env.Env.{Env}
+use Rattle.sf_state.specs.declared.env.Env.TheVariants.{Empty as SEmpty}
+use Rattle.sf_state.specs.declared.env.Running.{Running}
 use Rattle.sf_state.specs.Names.{values_around}
-use Rattle.sf_state.specs.Standing.{Stands, itself, StandsItself, unborn, alive, Waits, waits_so, recurs_so, WaitsKeeping, keeps_so, Settles, settles, IsFound, Ready, ready, lives_primitive, lives_join, lives_wrap, Wraps, is_closure, IsNames}
+use Rattle.sf_state.specs.Standing.{Stands, itself, StandsItself, unborn, alive, Waits, waits_so, recurs_so, WaitsKeeping, keeps_so, Settles, settles, IsFound, Ready, ready, lives_primitive, lives_probe, lives_join, lives_wrap, Wraps, IsProcess, is_closure, IsNames, is_empty}
 use Rattle.sf_state.proofs.Scopes.{functions_around, scope_is}
 use Rattle.sf_step.specs.declared.sample.Opened.{Opened}
 use Rattle.sf_step.specs.declared.sample.Opened.TheVariants as opened
 use Rattle.sf_step.specs.declared.meter.Meter.{Meter}
-use Rattle.sf_step.specs.Meters.{entered_of, height_of}
+use Rattle.sf_step.specs.Meters.{entered_of, height_of, readings}
 use Rattle.sf_step.specs.Routing.{left_input, right_input, part_input, wrap_value, kept_after}
-use Rattle.sf_step.specs.Sampling.{Rel, fault_from, Ticks, Ticked, ticked, refused, readings, Spent, AtMost, Within, StopsFor, faults, large, memory, Answers, answers, fails, PartSteps, StateSteps, LiveSteps, left_or, kept, Opens, opens, opens_watching, opens_keeping, opens_running, opens_with_fault, opens_without_memory, makes, makes_fault, makes_nothing}
+use Rattle.sf_step.specs.Sampling.{Rel, fault_from, Ticks, Ticked, ticked, refused, Spent, AtMost, Within, StopsFor, faults, large, memory, Answers, answers, fails, PartSteps, StateSteps, LiveSteps, left_or, kept, Opens, opens, opens_watching, opens_keeping, opens_running, opens_with_fault, opens_without_memory, makes, makes_fault, makes_nothing}
 use Rattle.sf_step.specs.Stepping.{EachCostsAtLeast, Steps, stepped, faulted_so, too_large, no_memory}
-use Rattle.sf_step.proofs.Parts.{counted, with_change, over_spent, one_spent, both_spent, fails_alike, over_fails, change_fails, then_fails, rest_fails, spent_within, answered, failed, memory_exit}
+use Rattle.sf_step.proofs.Parts.{counted, with_change, over_spent, one_spent, probe_spent, both_spent, fails_alike, over_fails, change_fails, then_fails, rest_fails, spent_within, answered, failed, memory_exit}
 use Rattle.sf_law.proofs.Called.{called}
 use Rattle.sf_step.proofs.Arguments.{StandsCalled}
 use Rattle.sf_step.proofs.Turning.{lift_steps, running_steps}
@@ -69,6 +74,11 @@ use Rattle.sf_step.proofs.Forms.{left_and, right_and, left_none, right_none, sin
 -- a tick that went well
 pub ticked_by : {m n : Meter} {depth inside : ℕ} → Ticked m n depth (Ok inside) → Ticks m n depth inside
 ticked_by (ticked t) = t
+
+-- what holds of a result holds where more is asked of it
+pub when_ok : {A E : Type 0} {B C : A → Type 0} (r : Result A E) → ((a : A) → B a → C a) → IfOk r B → IfOk r C
+when_ok (Ok a) f h = f a h
+when_ok (Err e) f h = tt
 
 module _ (φ : AnswersByName) (p : Plan) where
   abbrev net : Network
@@ -190,18 +200,38 @@ module _ (φ : AnswersByName) (p : Plan) where
   goes_on_fault : {q : Primitive} {scope : Scope} {s : Step} {L : Life} {i : PrimState} {x : ValueFault} → GoesOn q scope s L i (Err (EValue x)) → formula q scope s L ≡ no_answer x
   goes_on_fault (goes_on_with_fault h) = h
 
+  -- a probe gives its input, and records it
+  pub probe_steps : (r r' : Rc (String Global) Global) (d : ℕ) (x y : Data) (n n' : Meter) (inside : ℕ) → r'.value ≡ r.value → y ≡ x → entered_of n' ≡ entered_of n → height_of n' ≡ height_of n → readings n' ≡ readings n ++ (string_bytes r'.value, y) ∷ []
+      → LiveSteps φ p (LProbe r) (step d x) (Ok (LProbe r, x)) n n' inside
+  probe_steps r r' d x y n n' inside named same en hn rn m depth t P L (ready {m = made} h O (lives_probe {e = e})) =
+      let name = string_bytes r.value in
+      let F : Form net (primitive (probe name)) e made (step d x) L (gave x ((name, x) ∷ [])) one_term = of_primitive refl in
+      let record_is = rn ∙ ap₂ (λ (s : String Global) y. readings n ++ (string_bytes s, y) ∷ []) named same in
+      answers (gives O (of_form h F)) (probe_spent t en hn record_is) (settles (ready h (and_gave O (of_form h F)) lives_probe))
+
+  -- what a primitive's state stands for records nothing
+  unrecorded : {i : PrimState} {scope : Scope} {L : Life} (q : Primitive) (s : Step) → Remembers i q scope L → recorded q s ≡ []
+  unrecorded (bare k) s K = refl
+  unrecorded (probe x) s K = elim K [ ]
+  unrecorded (never t) s K = refl
+  unrecorded (with_value k e) s K = refl
+  unrecorded (timed k q e) s K = refl
+  unrecorded (arrow f) s K = refl
+  unrecorded (accumulated k e f) s K = refl
+  unrecorded (fused f) s K = refl
+
   module _ (i i' : PrimState) (s : Step) (n : Meter) (inside : ℕ) where
     pub prim_steps : (v : Data) → ((q : Primitive) (scope : Scope) (L : Life) → functions_in scope ≡ φ → Remembers i q scope L → GoesOn q scope s L i' (Ok v)) → LiveSteps φ p (LPrim i) s (Ok (LPrim i', v)) n n inside
     prim_steps v hs m depth t P L (ready {m = made} h O (lives_primitive {q = q} {e = e} K)) =
         let w = goes_on_parts (hs q (scope_around φ e) L (functions_around φ e) K) in
-        let F : Form net (primitive q) e made s L (gave v []) one_term = of_primitive (ap (λ o. as_outcome o []) w.0) in
+        let F : Form net (primitive q) e made s L (gave v []) one_term = of_primitive (ap₂ as_outcome w.0 (unrecorded q s K)) in
         answers (gives O (of_form h F)) (one_spent t) (settles (ready h (and_gave O (of_form h F)) (lives_primitive w.1)))
 
     pub prim_fails : (n' : Meter) (g : Fault) (f : EvalFault) → g ≡ fault_from f → entered_of n' ≡ entered_of n → height_of n' ≡ height_of n → ((q : Primitive) (scope : Scope) (L : Life) → functions_in scope ≡ φ → Remembers i q scope L → GoesOn q scope s L i' (Err f))
         → LiveSteps φ p (LPrim i) s (Err g) n n' inside
     prim_fails n' g (EValue x) e en hn hs m depth t P L (ready {t = u} {e = names} h O (lives_primitive {q = q} {e = e'} K)) =
         let w = goes_on_fault (hs q (scope_around φ e') L (functions_around φ e') K) in
-        let G : Gives net (closure (primitive q) e') (s ∷ L) (faulted x) one_term = gives O (of_form h (of_primitive (ap (λ o. as_outcome o []) w))) in
+        let G : Gives net (closure (primitive q) e') (s ∷ L) (faulted x) one_term = gives O (of_form h (of_primitive (ap (λ o. as_outcome o (recorded q s)) w))) in
         fails (subst (λ (g : Fault). StopsFor (Gives net (closure (primitive q) e') (s ∷ L)) g m n' depth) (sym e) (faults G ((ticked_within t en hn).most _ _ G)))
     prim_fails n' g EMemory e en hn hs m depth t P L R = early_memory t en hn e
 
@@ -288,7 +318,7 @@ module _ (φ : AnswersByName) (p : Plan) where
   prim_opens q e i (begins K) = opens (λ x. ready refl not_begun (lives_primitive K))
 
   prim_opens_with_fault : (q : Primitive) (e : Environment) (f : EvalFault) → Begins (scope_around φ e) q (Err f) → Opens φ p (primitive q) e (Err (fault_from f))
-  prim_opens_with_fault q e (EValue x) (begins_with_fault h) = opens_with_fault (λ s. gives not_begun (of_form refl (of_primitive (ap (λ o. as_outcome o []) (h s)))))
+  prim_opens_with_fault q e (EValue x) (begins_with_fault h) = opens_with_fault (λ s. gives not_begun (of_form refl (of_primitive (ap (λ o. as_outcome o (recorded q s)) (h s)))))
   prim_opens_with_fault q e EMemory h = opens_without_memory
 
   pub open_failure : (t : Term) (e : Environment) (r : Result Opened Fault) (f : Fault) → IsErrAnd r (λ e. e ≡ f) → Opens φ p t e (Err f) → Opens φ p t e r
@@ -356,14 +386,20 @@ module _ (φ : AnswersByName) (p : Plan) where
   -- and so does one that keeps its source, whose observer isn't born either
   pub open_keeping : (w : Observation) (a b c : PlanId) (k : NameId) (q : PatternId) (t : Term) (names one two : Env) → BuildsPlan p (NKeeping w a b k q c) t
       → ((e : Environment) → IsNames φ p names e → IsNames φ p one e) → ((e : Environment) → IsNames φ p names e → IsNames φ p two e)
-      → (e : Environment) → IsNames φ p names e → Opens φ p t e (Ok (opened.Keeping (record { shown = w; source = Unborn (SClosure a one); observer = Unborn (SClosure b two); name = k; pattern = q; body = c })))
+      → (e : Environment) → IsNames φ p names e → Opens φ p t e (Ok (opened.Keeping (record { shown = w; first = a; source = Unborn (SClosure a one); observer = Unborn (SClosure b two); name = k; pattern = q; body = c })))
   open_keeping w a b c k q t names one two builds_keeping f g e N =
       opens_keeping (keeps_so at_start not_begun not_begun (itself (unborn (is_closure (f e N)))) (itself (unborn (is_closure (g e N)))))
 
-  pub open_run : (k : NameId) (t : Term) (names : Env) (a : State) → BuildsPlan p (NRun k) t
-      → ((e : Environment) → IsNames φ p names e → Stands φ p a (process_of (name_at (plan_expressions p) k) e) [])
+  pub open_started : (w : Start) (k : NameId) (t : Term) (names : Env) (a : State) → BuildsPlan p (NStarted w k) t
+      → ((e : Environment) → IsNames φ p names e → Stands φ p a (process_started w (name_at (plan_expressions p) k) e) [])
       → (e : Environment) → IsNames φ p names e → Opens φ p t e (Ok (opened.Running a))
-  open_run k t names a builds_run f e N = opens_running refl refl (f e N)
+  open_started w k t names a builds_started f e N = opens_running refl refl (f e N)
+
+  -- a probe keeps nothing
+  pub open_probe : (r r' : Rc (String Global) Global) (t : Term) (names : Env) → BuildsPlan p (NProbe r) t → r'.value ≡ r.value → (e : Environment) → IsNames φ p names e → Opens φ p t e (Ok (opened.Live (LProbe r')))
+  open_probe r r' t names builds_probe same e N =
+      let name : string_bytes r'.value ≡ string_bytes r.value = ap (λ (s : String Global). string_bytes s) same in
+      subst (λ n. Opens φ p (primitive (probe n)) e (Ok (opened.Live (LProbe r')))) name (opens (λ x. ready refl not_begun lives_probe))
 
   -- a call opens as its template, whose arguments have their code
   pub coded_arguments : {k : NameId} {g : TemplateId} {v : Vec PlanArgument Global} {t : Term} → BuildsPlan p (NCall k g v) t → All (IsCodedArgument (plan_expressions p)) v.items
@@ -385,25 +421,27 @@ module _ (φ : AnswersByName) (p : Plan) where
       by f makes_nothing = opens_without_memory
 
   -- the process that was found, or what passes inputs on
-  pub found_process : (r : Option State) (a : State) (P : Process) → r ≡ Some a → IsFound φ p r P → Stands φ p a P []
-  found_process r a P is h = subst (λ r. IsFound φ p r P) is h
-
-  pub passing_process : (r : Option State) (a : State) (i : PlanId) (P : Process) → r ≡ None → plan_tree p i ≡ primitive (bare Identity) → Stands φ p a (closure (plan_tree p i) empty) [] → IsFound φ p r P → Stands φ p a P []
+  pub passing_process : (r : Option Running) (a : State) (i : PlanId) (P : Process) → r ≡ None → plan_tree p i ≡ primitive (bare Identity) → Stands φ p a (closure (plan_tree p i) empty) [] → IsFound φ p r P → Stands φ p a P []
   passing_process r a i P is same A h =
       let none : P ≡ passing = subst (λ r. IsFound φ p r P) is h in
       subst (λ P. Stands φ p a P []) (ap (λ t. closure t empty) same ∙ sym none) A
 
+  -- which began as itself
+  pub passing_base : (r : Option Running) (i : PlanId) (P : Process) → r ≡ None → plan_tree p i ≡ primitive (bare Identity) → IsFound φ p r P → IsProcess φ p (SClosure i SEmpty) (base P)
+  passing_base r i P is same h =
+      let none : P ≡ passing = subst (λ r. IsFound φ p r P) is h in
+      subst (λ P. IsProcess φ p (SClosure i SEmpty) P) (ap (λ t. closure t empty) same ∙ ap base (sym none)) (is_closure is_empty)
+
   -- ## A sample
 
-  begun : {m n : Meter} {k : Cost} {r : Readings} → Spent m n 0 k r → r ≡ []
-  unfolding readings
-  begun s = sym s.recorded
+  begun : {m n : Meter} {k : Cost} {r : Readings} → readings m ≡ [] → Spent m n 0 k r → r ≡ readings n
+  begun {r = r} h s = sym (s.recorded ∙ ap (λ l. l ++ r) h)
 
-  pub sample_steps : {m n : Meter} (a a' : State) (s : Step) (v : Data) → entered_of m ≡ 0 → height_of m ≡ 0 → StateSteps φ p a s (Ok (a', v)) m n 0
+  pub sample_steps : {m n : Meter} (a a' : State) (s : Step) (v : Data) → entered_of m ≡ 0 → height_of m ≡ 0 → readings m ≡ [] → StateSteps φ p a s (Ok (a', v)) m n 0
       → (P : Process) (L : Life) → Stands φ p a P L → Steps φ p P (s ∷ L) (Ok v) a' n
-  sample_steps a a' s v em hm hs P L A =
+  sample_steps a a' s v em hm rm hs P L A =
       let w = answered (hs P L A) in
-      let G = subst (λ (r : Readings). Gives net P (s ∷ L) (gave v r) w.k) (begun w.spent) w.given in
+      let G = subst (λ (r : Readings). Gives net P (s ∷ L) (gave v r) w.k) (begun rm w.spent) w.given in
       stepped G (let c = w.spent.entered in omega arith) (let c = w.spent.high in omega arith) w.holds
 
   each_costs : {m n : Meter} {P : Process} {L : Life} → entered_of m ≡ 0 → height_of m ≡ 0 → Within (Gives net P L) m n 0 → EachCostsAtLeast φ p P L n

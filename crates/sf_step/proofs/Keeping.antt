@@ -10,9 +10,10 @@ use Rattle.sf_expr.specs.Patterns.{pattern_of}
 use Rattle.sf_expr.specs.Arena.{placed_at, name_at}
 use Rattle.sf_term.specs.declared.form.Observation.{Observation}
 use Rattle.sf_term.specs.Trees.{Term, keeping}
-use Rattle.sf_mean.specs.Lives.{Step, step, Life, Process, closure, frozen, running, bind, Environment, observed_life}
+use Rattle.sf_mean.specs.Lives.{Step, step, Life, Process, closure, base, frozen, running, bind, Environment, observed_life}
 use Rattle.sf_mean.specs.Formulas.{occurring}
 use Rattle.sf_mean.specs.Meaning.{Network, Outcome, gave, faulted, combined, value_in, Cost, no_cost, both_costs, over, text_cost, Made, nothing_made, observed, body_with, waits, stands_after, switched_value, Gives, gives, Outputs, and_gave, of_form, Form, of_keeping, Next, goes_on, stops, Sees, by_observer, Since, watched, while_waiting, after_value, Fires, no_event_yet, event_now}
+use Rattle.sf_mean.proofs.Refrozen.{frozen_base}
 use Rattle.sf_mean.proofs.Once.{once_since, once_sees, onces}
 use Rattle.sf_law.specs.declared.plan.Plan.{Plan}
 use Rattle.sf_law.specs.Arena.{plan_tree, plan_expressions, network_of_plan}
@@ -120,9 +121,10 @@ module _ (φ : AnswersByName) (p : Plan) where
               part_within T S O OY (spent_within (single_both (step d x) L OY) (then_on one.given two.given) (both_spent one.spent two.spent) en hn)
 
           -- there is no event
-          pub keeps_on : occurring z ≡ None → (k' : Keeping) → k' ≡ record { shown = k.shown; source = a; observer = o; name = k.name; pattern = k.pattern; body = k.body }
+          pub keeps_on : occurring z ≡ None → (k' : Keeping) → k' ≡ record { shown = k.shown; first = k.first; source = a; observer = o; name = k.name; pattern = k.pattern; body = k.body }
               → KeepingSteps φ p names k (step d x) (Ok ((None, k'), y)) n n2 inside
-          keeps_on none k' ek m depth T t e L N (keeps_so {t = source} {r = r} S O OY A B) =
+          keeps_on none k' ek m depth T t e L N (keeps_so {r = r} S O OY A B) =
+              let source = plan_tree p k.first in
               let one = answered (hs _ _ A) in
               let two = answered (on_both ho _ _ B) in
               let c = name_at (plan_expressions p) k.name in
@@ -138,7 +140,7 @@ module _ (φ : AnswersByName) (p : Plan) where
               (keeps_so (watched S seen (ap (stands_after b (step d x) L) none)) (and_gave O G) (gave_outputs net OY one.given) one.holds two.holds))
 
           module _ (i : Data) (some : occurring z ≡ Some i) (before b0 : State) (held : (P : Process) (L : Life) → Stands φ p k.source P L → Stands φ p before (frozen P L d) [])
-              (ha : (e : Environment) (P : Process) → IsNames φ p names e → Stands φ p before P []
+              (ha : (e : Environment) (P : Process) → IsNames φ p names e → Stands φ p before P [] → base P ≡ closure (plan_tree p k.first) e
               → Stands φ p b0 (closure (plan_tree p k.body) (bind (pattern_of (placed_at (plan_expressions p) k.pattern)) i (running (name_at (plan_expressions p) k.name) P e))) [])
               (j : Data) (ej : j ≡ x) (n3 : Meter) where
             on_input : {r : Result (State × Data) Fault} → StateSteps φ p b0 (step d j) r n2 n3 inside → StateSteps φ p b0 (step d x) r n2 n3 inside
@@ -147,20 +149,22 @@ module _ (φ : AnswersByName) (p : Plan) where
             -- the body fails
             pub kept_body_fails : (f : Fault) → StateSteps φ p b0 (step d j) (Err f) n2 n3 inside
                 → (m : Meter) (depth : ℕ) → Ticks m n depth inside → (t : Term) (e : Environment) (L : Life) → IsNames φ p names e → WaitsKeeping φ p k (closure t e) L → StopsFor (Gives net (closure t e) (step d x ∷ L)) f m n3 depth
-            kept_body_fails f hb m depth T t e L N (keeps_so {t = source} S O OY A B) =
+            kept_body_fails f hb m depth T t e L N (keeps_so S O OY A B) =
+                let source = plan_tree p k.first in
                 let one = answered (hs _ _ A) in
                 let two = answered (on_both ho _ _ B) in
                 let b = body_with (name_at (plan_expressions p) k.name) (closure source e) (pattern_of (placed_at (plan_expressions p) k.pattern)) (plan_tree p k.body) e (step d x) L in
-                let H = fails_alike (way_alike φ p b (step d x) y i (occurring z) some) (failed (on_input hb _ [] (ha e _ N (held _ _ A)))) in
+                let H = fails_alike (way_alike φ p b (step d x) y i (occurring z) some) (failed (on_input hb _ [] (ha e _ N (held _ _ A) (frozen_base (closure source e) L d)))) in
                 part_fails T S O OY (rest_fails (λ y. Beside φ p b (step d x) (first_of y) (occurring (second_of y))) (single_both (step d x) L OY) (then_on one.given two.given) (both_spent one.spent two.spent) H)
 
             -- the body takes over
             pub kept_body_takes_over : (b : State) (w u : Data) → u ≡ switched_value k.shown y w → (k' : Keeping) → StateSteps φ p b0 (step d j) (Ok (b, w)) n2 n3 inside
                 → KeepingSteps φ p names k (step d x) (Ok ((Some b, k'), u)) n n3 inside
-            kept_body_takes_over b w g eg k' hb m depth T t e L N (keeps_so {t = source} {r = r} S O OY A B) =
+            kept_body_takes_over b w g eg k' hb m depth T t e L N (keeps_so {r = r} S O OY A B) =
+                let source = plan_tree p k.first in
                 let one = answered (hs _ _ A) in
                 let two = answered (on_both ho _ _ B) in
-                let three = answered (on_input hb _ [] (ha e _ N (held _ _ A))) in
+                let three = answered (on_input hb _ [] (ha e _ N (held _ _ A) (frozen_base (closure source e) L d))) in
                 let c = name_at (plan_expressions p) k.name in
                 let q = pattern_of (placed_at (plan_expressions p) k.pattern) in
                 let u = plan_tree p k.body in

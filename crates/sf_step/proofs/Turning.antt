@@ -207,13 +207,13 @@ module _ (φ : AnswersByName) (p : Plan) where
   is_watching : {at : _} (names : Env) (k k' : Switch) → k' ≡ k → IsWaiting (Waits φ p) names k (Watching' names at k'.form k'.running k'.pattern k'.body)
   is_watching names k k' same t e s L N S = watching N (subst (λ (k : Switch). Waits φ p k (closure t e) (s ∷ L)) (sym same) S)
 
-  is_keeping : {at : _} (names : Env) (k k' : Keeping) → k' ≡ k → IsWaiting (WaitsKeeping φ p) names k (Keeping' names at k'.shown k'.source k'.observer k'.name k'.pattern k'.body)
+  is_keeping : {at : _} (names : Env) (k k' : Keeping) → k' ≡ k → IsWaiting (WaitsKeeping φ p) names k (Keeping' names at k'.shown k'.first k'.source k'.observer k'.name k'.pattern k'.body)
   is_keeping names k k' same t e s L N S = keeping_on N (subst (λ (k : Keeping). WaitsKeeping φ p k (closure t e) (s ∷ L)) (sym same) S)
 
   seen_watching : {at : _} (names : Env) (k : Switch) (P : Process) (L : Life) → StandsItself φ p (Watching' names at k.form k.running k.pattern k.body) P L → WaitsAt (Waits φ p) names k P L
   seen_watching names k P L (watching N S) = waits_at N S
 
-  seen_keeping : {at : _} (names : Env) (k : Keeping) (P : Process) (L : Life) → StandsItself φ p (Keeping' names at k.shown k.source k.observer k.name k.pattern k.body) P L → WaitsAt (WaitsKeeping φ p) names k P L
+  seen_keeping : {at : _} (names : Env) (k : Keeping) (P : Process) (L : Life) → StandsItself φ p (Keeping' names at k.shown k.first k.source k.observer k.name k.pattern k.body) P L → WaitsAt (WaitsKeeping φ p) names k P L
   seen_keeping names k P L (keeping_on N S) = waits_at N S
 
   pub start_takes : (k : Switch) (names : Env) (s : Step) (n n' : Meter) (inside : ℕ) (o : Option State) (k' : Switch) (b : State) (v : Data) → o ≡ Some b → WaitingSteps φ p (Waits φ p) names k s (Ok ((o, k'), v)) n n' inside
@@ -225,8 +225,8 @@ module _ (φ : AnswersByName) (p : Plan) where
   start_waits at k names s n n' inside o k' j v none same = starts_waiting (Waits φ p) k names s n n' inside o k' (Watching' names at j.form j.running j.pattern j.body) v none (is_watching names k' j same)
 
   pub start_keeps : (at : _) (k : Keeping) (names : Env) (s : Step) (n n' : Meter) (inside : ℕ) (o : Option State) (k' j : Keeping) (v : Data) → o ≡ None → j ≡ k' → WaitingSteps φ p (WaitsKeeping φ p) names k s (Ok ((o, k'), v)) n n' inside
-      → (m : Meter) (depth : ℕ) → Ticks m n depth inside → (t : Term) (e : Environment) → IsNames φ p names e → WaitsKeeping φ p k (closure t e) [] → PartSteps φ p (closure t e) [] s (Ok (Keeping' names at j.shown j.source j.observer j.name j.pattern j.body, v)) m n' depth
-  start_keeps at k names s n n' inside o k' j v none same = starts_waiting (WaitsKeeping φ p) k names s n n' inside o k' (Keeping' names at j.shown j.source j.observer j.name j.pattern j.body) v none (is_keeping names k' j same)
+      → (m : Meter) (depth : ℕ) → Ticks m n depth inside → (t : Term) (e : Environment) → IsNames φ p names e → WaitsKeeping φ p k (closure t e) [] → PartSteps φ p (closure t e) [] s (Ok (Keeping' names at j.shown j.first j.source j.observer j.name j.pattern j.body, v)) m n' depth
+  start_keeps at k names s n n' inside o k' j v none same = starts_waiting (WaitsKeeping φ p) k names s n n' inside o k' (Keeping' names at j.shown j.first j.source j.observer j.name j.pattern j.body) v none (is_keeping names k' j same)
 
   module _ (at : _) (names : Env) (k : Switch) (s : Step) (m n : Meter) (depth : ℕ) where
     pub watching_goes : (o : Option State) (b : State) (k' : Switch) (v : Data) → o ≡ Some b → WatchSteps φ p (Waits φ p) names k s (Ok ((o, k'), v)) m n depth → StateSteps φ p (Watching' names at k.form k.running k.pattern k.body) s (Ok (b, v)) m n depth
@@ -241,12 +241,12 @@ module _ (φ : AnswersByName) (p : Plan) where
 
   module _ (at : _) (names : Env) (k : Keeping) (s : Step) (m n : Meter) (depth : ℕ) where
     pub keeping_goes : (o : Option State) (b : State) (k' : Keeping) (v : Data) → o ≡ Some b → WatchSteps φ p (WaitsKeeping φ p) names k s (Ok ((o, k'), v)) m n depth
-        → StateSteps φ p (Keeping' names at k.shown k.source k.observer k.name k.pattern k.body) s (Ok (b, v)) m n depth
+        → StateSteps φ p (Keeping' names at k.shown k.first k.source k.observer k.name k.pattern k.body) s (Ok (b, v)) m n depth
     keeping_goes o b k' v is h = goes_over (WaitsKeeping φ p) names k _ s m n depth (seen_keeping names k) o b k' v is h
 
     pub keeping_stays : (at' : _) (o : Option State) (k' : Keeping) (v : Data) → o ≡ None → WatchSteps φ p (WaitsKeeping φ p) names k s (Ok ((o, k'), v)) m n depth
-        → StateSteps φ p (Keeping' names at k.shown k.source k.observer k.name k.pattern k.body) s (Ok (Keeping' names at' k'.shown k'.source k'.observer k'.name k'.pattern k'.body, v)) m n depth
+        → StateSteps φ p (Keeping' names at k.shown k.first k.source k.observer k.name k.pattern k.body) s (Ok (Keeping' names at' k'.shown k'.first k'.source k'.observer k'.name k'.pattern k'.body, v)) m n depth
     keeping_stays at' o k' v none h = stays_on (WaitsKeeping φ p) names k _ s m n depth (seen_keeping names k) o _ k' v none (is_keeping names k' k' refl) h
 
-    pub keeping_fails : (f : Fault) → WatchSteps φ p (WaitsKeeping φ p) names k s (Err f) m n depth → StateSteps φ p (Keeping' names at k.shown k.source k.observer k.name k.pattern k.body) s (Err f) m n depth
+    pub keeping_fails : (f : Fault) → WatchSteps φ p (WaitsKeeping φ p) names k s (Err f) m n depth → StateSteps φ p (Keeping' names at k.shown k.first k.source k.observer k.name k.pattern k.body) s (Err f) m n depth
     keeping_fails f h = waiting_fails (WaitsKeeping φ p) names k _ s m n depth (seen_keeping names k) f h

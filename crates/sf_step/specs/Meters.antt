@@ -1,5 +1,7 @@
 -- What meters count.
-use Rattle.std.specs.Prelude.{ℕ}
+use Rattle.std.specs.Prelude.{ℕ, List}
+use Rattle.sf_value.specs.Values.{Name, Data}
+use Rattle.sf_probe.specs.Readings.{readings_of}
 use Rattle.sf_value.specs.declared.fault.Fault.{Fault}
 use Rattle.sf_step.specs.declared.meter.Meter.{Meter}
 
@@ -14,3 +16,7 @@ height_of m = m.height
 -- why the sample has no value
 abbrev pub fault_of : Meter → Fault
 fault_of m = m.fault
+
+-- what the probes recorded, in order: names with values
+unfoldable pub readings : Meter → List (Name × Data)
+readings m = readings_of m.readings

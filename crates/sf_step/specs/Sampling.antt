@@ -23,7 +23,7 @@ use Rattle.sf_state.specs.Standing.{IsNames, Stands, Settles, Waits, WaitsKeepin
 use Rattle.sf_step.specs.declared.sample.Opened.{Opened}
 use Rattle.sf_step.specs.declared.sample.Opened.TheVariants as opened
 use Rattle.sf_step.specs.declared.meter.Meter.{Meter}
-use Rattle.sf_step.specs.Meters.{entered_of, height_of}
+use Rattle.sf_step.specs.Meters.{entered_of, height_of, readings}
 
 -- the fault of an expression, as that of the sample
 abbrev pub fault_from : EvalFault → Fault
@@ -34,11 +34,12 @@ fault_from EMemory = Memory
 abbrev pub Rel : Type 1
 Rel = Outcome → Cost → Type 0
 
--- one more node counts, inside depth others; its parts stand inside one more
+-- one more node counts, inside depth others; its parts stand inside one more, and nothing is recorded
 pub record Ticks (m n : Meter) (depth inside : ℕ) : Type 0 where
   pub entered : entered_of n ≡ entered_of m + 1
   pub high : max (height_of m) inside ≡ height_of n
   pub below : inside ≡ depth + 1
+  pub recorded : readings n ≡ readings m
 
 -- a result, with the fault that stands in the meter
 abbrev pub kept : {A E : Type 0} → Result A E → Fault → Result A Fault
@@ -49,10 +50,6 @@ kept (Err e) f = Err f
 pub data Ticked : Meter → Meter → ℕ → Result ℕ Fault → Type 0 where
   ticked : {m n : Meter} {depth inside : ℕ} → Ticks m n depth inside → Ticked m n depth (Ok inside)
   refused : {m n : Meter} {depth : ℕ} → (1000000 ≤ entered_of m) ⊎ (1600 ≤ depth) → entered_of n ≡ entered_of m → height_of n ≡ height_of m → Ticked m n depth (Err Large)
-
--- what the probes recorded: no form has a probe
-unfoldable pub readings : Meter → Readings
-readings m = []
 
 -- the meter counted this cost of a part that stands inside depth nodes
 pub record Spent (m n : Meter) (depth : ℕ) (k : Cost) (r : Readings) : Type 0 where

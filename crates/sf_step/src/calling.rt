@@ -4,9 +4,9 @@ ghost use Rattle.sf_func.specs.Registries.{AnswersByName};
 ghost use Rattle.sf_expr.specs.Arena.{name_at};
 ghost use Rattle.sf_law.specs.Arena.{plan_expressions, plan_binding, plan_template, plan_arguments};
 ghost use Rattle.sf_law.specs.Entries.{BindsName, BindsNames, IsCodedArgument};
-ghost use Rattle.sf_mean.specs.Lives.{Environment, process_of};
+ghost use Rattle.sf_mean.specs.Lives.{Environment, base, process_of, process_started};
 ghost use Rattle.sf_mean.specs.Meaning.{argued, process_called};
-ghost use Rattle.sf_state.specs.Standing.{IsNames, Stands};
+ghost use Rattle.sf_state.specs.Standing.{IsNames, IsProcess, Stands};
 ghost use Rattle.sf_step.specs.Contexts.{plan_in};
 ghost use Rattle.sf_step.specs.Sampling.{Makes};
 
@@ -16,19 +16,46 @@ use sf_func::Holds;
 use sf_law::{Plan, PlanArgument, PlanParameter, PlanTemplate};
 use sf_prim::constant;
 use sf_state::{Env, NamesIn, Process, State};
+use sf_term::Start;
 use sf_value::Fault;
 use std::alloc::AllocError;
 use std::rc::Rc;
 
-/// The process of a name, shared; what passes its inputs on where the name stands for none.
-pub(crate) fn named(plan: &Plan, names: &Env, name: NameId) -> Result<State, AllocError>
+/// The process of a name, shared, where it stood or where it began; what passes its inputs on where the name stands for
+/// none.
+pub(crate) fn started(
+    plan: &Plan,
+    names: &Env,
+    start: Start,
+    name: NameId,
+) -> Result<State, AllocError>
     ensures { IfOk result (λ process. (φ : AnswersByName) (e : Environment) → IsNames φ plan.now names.now e →
-        Stands φ plan.now process (process_of (name_at (plan_expressions plan.now) name) e) []) }
+        Stands φ plan.now process (process_started start (name_at (plan_expressions plan.now) name) e) []) }
+{
+    match start {
+        Start::Fresh => Ok(State::Unborn(began(plan, names, name)?)),
+        Start::Run => {
+            let exprs = plan.expressions();
+            match names.running(exprs, exprs.name_of(name)) {
+                Some(running) => running.process.share(),
+                None => Ok(State::unborn(plan.passing())),
+            }
+        }
+    }
+}
+
+// What the process of a name began as, shared; what passes its inputs on where the name stands for none.
+fn began(plan: &Plan, names: &Env, name: NameId) -> Result<Process, AllocError>
+    ensures { IfOk result (λ process. (φ : AnswersByName) (e : Environment) → IsNames φ plan.now names.now e →
+        IsProcess φ plan.now process (base (process_of (name_at (plan_expressions plan.now) name) e))) }
 {
     let exprs = plan.expressions();
-    match names.process(exprs, exprs.name_of(name))? {
-        Some(process) => Ok(process),
-        None => Ok(State::unborn(plan.passing())),
+    match names.running(exprs, exprs.name_of(name)) {
+        Some(running) => running.base.share(),
+        None => Ok(Process {
+            term: plan.passing(),
+            names: Env::Empty,
+        }),
     }
 }
 
@@ -94,17 +121,20 @@ fn bind<R: Holds>(
                 Err(fault) => Err(fault_of(fault)),
             }
         }
-        PlanArgument::Named(name) => {
-            let process = named(context.plan, names, *name)?;
-            Ok(bound.with_process(context.alloc, parameter.name(), process)?)
+        PlanArgument::Started(start, name) => {
+            let process = started(context.plan, names, *start, *name)?;
+            let base = began(context.plan, names, *name)?;
+            Ok(bound.with_process(context.alloc, parameter.name(), process, base)?)
         }
         PlanArgument::Closed(term) => {
             let around = names.share()?;
-            let process = State::Unborn(Process {
+            let process = Process {
                 term: *term,
                 names: around,
-            });
-            Ok(bound.with_process(context.alloc, parameter.name(), process)?)
+            };
+            let base = process.share()?;
+            let process = State::Unborn(process);
+            Ok(bound.with_process(context.alloc, parameter.name(), process, base)?)
         }
     }
 }

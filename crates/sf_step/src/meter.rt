@@ -1,7 +1,11 @@
-//! Counts of nodes.
+//! Counts of nodes, and what probes record.
 ghost use Rattle.std.specs.Prelude.{◌≤◌};
 
-use sf_value::Fault;
+use sf_probe::Readings;
+use sf_value::{Fault, Value};
+use std::alloc::{AllocError, Global};
+use std::mem;
+use std::rc::Rc;
 
 // how many nodes a sample may enter
 const MOST_NODES: u64 = 1_000_000;
@@ -13,30 +17,35 @@ const MOST_HEIGHT: u64 = 1600;
 #[derive(Clone, Copy, Debug, PartialEq, Eq)]
 pub(crate) struct Stop;
 
-/// Counts the nodes that one sample enters, and keeps its fault.
+/// Counts the nodes that one sample enters, and keeps what its probes record and its fault.
 #[derive(Drop)]
 pub struct Meter {
     entered: u64,
     height: u64,
     fault: Fault,
+    readings: Readings,
     ghost few: { entered ≤ 1000000 },
     ghost low: { height ≤ 1600 },
 }
 
 impl Meter {
-    ghost use Rattle.std.specs.Prelude.{◌≡◌, ◌<◌, OnOk};
-    ghost use Rattle.sf_step.specs.Meters.{entered_of, height_of, fault_of};
+    ghost use Rattle.std.specs.Prelude.{◌≡◌, ◌<◌, ◌++◌, [], ◌∷◌, OnOk, string_bytes};
+    ghost use Rattle.sf_probe.specs.Readings.{readings_of};
+    ghost use Rattle.sf_step.specs.Meters.{entered_of, height_of, fault_of, readings as recorded_in};
     ghost use Rattle.sf_step.specs.Sampling.{Ticked, kept};
 
-    /// A meter at zero.
-    pub fn new() -> Meter
+    /// A meter at zero, without readings. It takes no memory.
+    #[tactic(auto, unfolding(crate::specs::Meters::readings))]
+    pub fn new(alloc: Global) -> Meter
         ensures entered { entered_of result ≡ 0 }
         ensures height { height_of result ≡ 0 }
+        ensures readings { recorded_in result ≡ [] }
     {
         Meter {
             entered: 0,
             height: 0,
             fault: Fault::Memory,
+            readings: Readings::new(alloc),
         }
     }
 
@@ -54,6 +63,24 @@ impl Meter {
         ensures low { result ≤ 1600 }
     {
         self.height
+    }
+
+    /// What the probes of the sample recorded, in order. It leaves no readings.
+    #[tactic(auto, unfolding(crate::specs::Meters::readings))]
+    pub fn take_readings(&mut self, alloc: Global) -> Readings
+        ensures { readings_of result ≡ recorded_in self.old }
+    {
+        mem::replace(&mut self.readings, Readings::new(alloc))
+    }
+
+    /// A probe of this name sees this value. Where memory is refused, nothing is recorded.
+    #[tactic(auto, unfolding(crate::specs::Meters::readings))]
+    pub(crate) fn record(&mut self, name: Rc<String>, value: Value) -> Result<(), AllocError>
+        ensures recorded { OnOk result (recorded_in self.new ≡ recorded_in self.old ++ (string_bytes name.value, value) ∷ []) }
+        ensures entered { entered_of self.new ≡ entered_of self.old }
+        ensures height { height_of self.new ≡ height_of self.old }
+    {
+        self.readings.push(name, value)
     }
 
     /// Why the sample has no value, once a part has stopped.

@@ -15,7 +15,7 @@ ghost use Rattle.sf_step.specs.Meters.{entered_of, height_of, fault_of as fault_
 ghost use Rattle.sf_step.specs.Sampling.{Opens, AllBegin, Ticks, PartSteps, StateSteps, LiveSteps, SwitchSteps, KeepingSteps, WatchSteps, left_or, left_beside};
 ghost use Rattle.sf_step.specs.Stepping.{Steps};
 
-use crate::calling::{called, named};
+use crate::calling::{called, started};
 use crate::context::{SampleContext, fault_of};
 use crate::meter::{Meter, Stop};
 use crate::routing::{
@@ -36,8 +36,8 @@ use std::rc::Rc;
 
 /// The value at the next sample of a network, `dt` milliseconds after the one before; at the first
 /// sample `dt` isn't looked at. The input may be any value: what takes a pair apart takes a value
-/// that is none for both its parts. The meter counts the nodes that this sample enters, and none of
-/// the samples before. The error is the first fault of the network's values, `Large` at the 1,000,001st
+/// that is none for both its parts. The meter counts the nodes that this sample enters, and has what its
+/// probes recorded, and nothing of the samples before. The error is the first fault of the network's values, `Large` at the 1,000,001st
 /// node or at more than 1,600 one inside another, or `Memory`; the meter then counts no more nodes than
 /// the sample would have entered. After an error the state stands for nothing. No state that was
 /// frozen from it changes.
@@ -55,7 +55,7 @@ pub fn step<R: Holds>(
         Steps (R.answers functions.now) plan.now P (step dt input ∷ L) result state.new meter.new }
     ensures bounded { (entered_of meter.new ≤ 1000000) × (height_of meter.new ≤ 1600) }
 {
-    *meter = Meter::new();
+    *meter = Meter::new(alloc);
     let context = SampleContext {
         alloc,
         plan,
@@ -96,6 +96,25 @@ fn step_state<R: Holds>(
                 None => Err(meter.stop(Fault::Memory)),
             }
         }
+        _ => step_other(context, state, depth, value, meter),
+    }
+}
+
+// The same of a part that isn't live: one that begins or wakes, or a switch that waits.
+#[cycle(step)]
+#[inline(never)]
+fn step_other<R: Holds>(
+    context: &SampleContext<R>,
+    state: &mut State,
+    depth: u64,
+    value: &mut Value,
+    meter: &mut Meter,
+) -> Result<(), Stop>
+    ensures grows { entered_of meter.old ≤ entered_of meter.new }
+    ensures answers { StateSteps (R.answers context.now.functions.now) (plan_in context.now) state.old (step (dt_in context.now) value.old)
+        (left_or result (state.new, value.new) (fault_in meter.new)) meter.old meter.new depth }
+{
+    match state {
         State::Switch(names, node) => {
             let over = step_watching(context, names, node, depth, value, meter)?;
             match over {
@@ -134,6 +153,8 @@ fn step_state<R: Holds>(
             *state = awake;
             step_state(&later, state, depth, value, meter)
         }
+        // a live part is stepped in place, above
+        State::Live(_, _) => Err(meter.stop(Fault::Memory)),
     }
 }
 
@@ -489,6 +510,7 @@ fn step_live<R: Holds>(
 {
     match live {
         Live::Prim(prim) => step_prim(context, prim, value, meter),
+        Live::Probe(name) => step_probe(context, name, value, meter),
         Live::Join(join, left, right) => match join {
             Join::InParallel => step_parallel(context, left, right, inside, value, meter),
             // parts in sequence are stages, so this is a fan
@@ -643,6 +665,30 @@ fn step_prim<R: Holds>(
     }
 }
 
+// The next sample of a probe, likewise: its input stays, and is recorded under its name.
+#[inline(never)]
+fn step_probe<R: Holds>(
+    context: &SampleContext<R>,
+    name: &Rc<String>,
+    value: &Value,
+    meter: &mut Meter,
+) -> Result<(), Stop>
+    ensures entered { entered_of meter.new ≡ entered_of meter.old }
+    ensures answers { (inside : ℕ) → LiveSteps (R.answers context.now.functions.now) (plan_in context.now) (Live.Probe name.now) (step (dt_in context.now) value.now)
+        (left_or result (Live.Probe name.now, value.now) (fault_in meter.new)) meter.old meter.new inside }
+{
+    let Ok(shared) = name.clone() else {
+        return Err(meter.stop(Fault::Memory));
+    };
+    let Ok(copy) = value.clone_in(context.alloc) else {
+        return Err(meter.stop(Fault::Memory));
+    };
+    match meter.record(shared, copy) {
+        Ok(()) => Ok(()),
+        Err(_) => Err(meter.stop(Fault::Memory)),
+    }
+}
+
 /// What a switch holds of the time before its sample: what runs, frozen, and the input for its observer and its body.
 #[derive(Drop)]
 struct Captured {
@@ -744,6 +790,7 @@ fn open<R: Holds>(context: &SampleContext<R>, term: PlanId, names: &Env) -> Resu
             let two = names.share()?;
             Ok(Opened::Keeping(Keeping {
                 shown: *shown,
+                first: *source,
                 source: State::Unborn(Process {
                     term: *source,
                     names: one,
@@ -757,9 +804,13 @@ fn open<R: Holds>(context: &SampleContext<R>, term: PlanId, names: &Env) -> Resu
                 body: *body,
             }))
         }
-        PlanNode::Run(name) => {
-            let process = named(context.plan, names, *name)?;
+        PlanNode::Started(start, name) => {
+            let process = started(context.plan, names, *start, *name)?;
             Ok(Opened::Running(process))
+        }
+        PlanNode::Probe(name) => {
+            let same = name.clone()?;
+            Ok(Opened::Live(Live::Probe(same)))
         }
         PlanNode::Call(_, template, arguments) => {
             let body = called(context, context.plan.template(*template), arguments, names)?;

@@ -27,7 +27,7 @@ use Rattle.sf_term.specs.declared.node.Node.TheVariants as nodes
 use Rattle.sf_term.specs.declared.node.Argument.{Argument}
 use Rattle.sf_term.specs.declared.node.Argument.TheVariants as arguments
 use Rattle.sf_term.specs.declared.node.ArgumentsId.{ArgumentsId}
-use Rattle.sf_term.specs.Trees.{Term, primitive, reference, run, call, value_argument, process_argument, joined, sided, headed, never, switching, keeping, with_value, timed, arrow, accumulated, term_depth}
+use Rattle.sf_term.specs.Trees.{Term, primitive, reference, call, value_argument, process_argument, joined, sided, headed, never, switching, keeping, with_value, timed, arrow, accumulated, named_term, term_depth}
 use Rattle.sf_term.specs.Entries.{TermBase, arguments_listed, arguments_over, terms_end, expressions_end, identity_term, term_among, term_over, absent_payload, needs_terms, needs_expressions, needs_functions, constants_needed, patterns_needed, names_needed, arguments_needed, identity_entry, term_entry, term_made, terms_made, term_entered, AreTerms}
 
 -- a node's term depends on its parts alone
@@ -49,7 +49,7 @@ local b ts more entry h = at_node entry.node h
     at_node (nodes.Primitive (primitives.Timed k q e)) h = refl
     at_node (nodes.Primitive (primitives.Arrow f)) h = refl
     at_node (nodes.Primitive (primitives.Accumulated k e f)) h = refl
-    at_node (nodes.Run k s) h = refl
+    at_node (nodes.Named w k s) h = refl
     at_node (nodes.Call k a) h = ap (λ vs. reference (call (name_at b.expressions k) vs)) (at_arguments (arguments_listed b a) h)
     at_node (nodes.Joined j a c) h = ap₂ (λ s t. joined j s t) (part a.0 (omega arith)) (part c.0 (omega arith))
     at_node (nodes.Sided d a) h = ap (λ t. sided d t) (part a.0 h)
@@ -160,7 +160,7 @@ term-same b c entries i k m a =
     at_node ts (nodes.Primitive (primitives.Timed w t e)) h g q m l v = ap (λ v. primitive (timed w t v)) (k.trees e (below_holds b.expressions e (omega arith)))
     at_node ts (nodes.Primitive (primitives.Arrow f)) h g q m l v = ap (λ v. primitive (arrow v)) (k.meanings f (below_function b.expressions f (omega arith)))
     at_node ts (nodes.Primitive (primitives.Accumulated w e f)) h g q m l v = ap₂ (λ v g. primitive (accumulated w v g)) (k.trees e (below_holds b.expressions e (omega arith))) (k.meanings f (below_function b.expressions f (omega arith)))
-    at_node ts (nodes.Run w s) h g q m l v = ap (λ n. reference (run n)) (k.names w (below_name b.expressions w (omega arith)))
+    at_node ts (nodes.Named w n s) h g q m l v = ap (named_term w) (k.names n (below_name b.expressions n (omega arith)))
     at_node ts (nodes.Call w a) h g q n l v =
         ap₂ (λ n vs. reference (call n vs)) (k.names w (below_name b.expressions w (omega arith)))
         (ap (λ vs. arguments_over c.expressions ts vs) (listed-same b c a m (omega arith)) ∙ at_arguments ts (arguments_listed b a) h)
@@ -178,7 +178,7 @@ needs-same b c (nodes.Primitive (primitives.WithValue k e)) m h = (refl, refl)
 needs-same b c (nodes.Primitive (primitives.Timed k q e)) m h = (refl, refl)
 needs-same b c (nodes.Primitive (primitives.Arrow f)) m h = (refl, refl)
 needs-same b c (nodes.Primitive (primitives.Accumulated k e f)) m h = (refl, refl)
-needs-same b c (nodes.Run k s) m h = (refl, refl)
+needs-same b c (nodes.Named w k s) m h = (refl, refl)
 needs-same b c (nodes.Call k a) m h = let e = listed-same b c a m (omega arith) in (ap terms_end e, ap expressions_end e)
 needs-same b c (nodes.Joined j a d) m h = (refl, refl)
 needs-same b c (nodes.Sided d a) m h = (refl, refl)

@@ -35,8 +35,10 @@ use Rattle.sf_term.specs.declared.node.Node.TheVariants as nodes
 use Rattle.sf_term.specs.declared.program.Program.{Program}
 use Rattle.sf_term.specs.declared.form.Observation.{Observation}
 use Rattle.sf_term.specs.declared.form.Switching.{Switching}
+use Rattle.sf_term.specs.declared.form.Naming.{Naming}
+use Rattle.sf_term.specs.declared.form.Naming.TheVariants.{Process, Probe}
 use Rattle.sf_term.specs.Parameters.{parameters_of}
-use Rattle.sf_term.specs.Trees.{Term, reference, call, value_argument, process_argument, switching, keeping, Template, term_depth}
+use Rattle.sf_term.specs.Trees.{named_term, Term, reference, call, value_argument, process_argument, switching, keeping, Template, term_depth}
 use Rattle.sf_term.specs.Headers.{Header, bodies_end}
 use Rattle.sf_term.specs.Entries.{arguments_over, terms_end, expressions_end, identity_term, term_over, needs_terms, identity_entry, term_entry, term_made, terms_made, term_entered}
 use Rattle.sf_term.specs.Arena.{term_number, expressions_of, base_of, HoldsArguments, HoldsArgument, ArgumentBelow, arguments_under, arguments_of, next_arguments, term_count, expression_count, HoldsTerm, HoldsExpression, ProgramHoldsFunction, HoldsPatternIn, function_pattern_at, function_body_at, pattern_under, function_in, tree, expression_under, term_entry_of, term_node_at, expression_node_at, term_spot_at, expression_spot_at, term_of, headers_of, template_in, TermPartsBelow, HoldsTermParts, KeepsTrees, KeepsProgram, AddsTerm, AddsExpression, AddsProgramFunction, AddsTemplate, IsSameProgram}
@@ -63,7 +65,7 @@ parts_needed p (nodes.Primitive (primitives.WithValue k e)) h = record { terms =
 parts_needed p (nodes.Primitive (primitives.Timed k q e)) h = record { terms = omega arith; expressions = omega (arith, holds_below p.expressions e h); functions = omega arith; patterns = omega arith; names = omega arith; constants = omega arith; arguments = omega arith }
 parts_needed p (nodes.Primitive (primitives.Arrow f)) h = record { terms = omega arith; expressions = omega arith; functions = omega (arith, function_below p.expressions f h); patterns = omega arith; names = omega arith; constants = omega arith; arguments = omega arith }
 parts_needed p (nodes.Primitive (primitives.Accumulated k e f)) h = record { terms = omega arith; expressions = omega (arith, holds_below p.expressions e h.0); functions = omega (arith, function_below p.expressions f h.1); patterns = omega arith; names = omega arith; constants = omega arith; arguments = omega arith }
-parts_needed p (nodes.Run k s) h = record { terms = omega arith; expressions = omega arith; functions = omega arith; patterns = omega arith; names = omega (arith, name_below p.expressions k h); constants = omega arith; arguments = omega arith }
+parts_needed p (nodes.Named w k s) h = record { terms = omega arith; expressions = omega arith; functions = omega arith; patterns = omega arith; names = omega (arith, name_below p.expressions k h); constants = omega arith; arguments = omega arith }
 parts_needed p (nodes.Call k a) h =
     let within = arguments_end p (arguments_under p a) h.2 in
     record { terms = within.0; expressions = within.1; functions = omega arith; patterns = omega arith; names = omega (arith, name_below p.expressions k h.0); constants = omega arith; arguments = omega (arith, h.1) }
@@ -81,6 +83,11 @@ parts_needed p (nodes.Keeping w a o k s q b) h = record {
   arguments = omega arith;
 }
 
+-- a form that is a name alone has no depth of its own
+pub named_depth : (w : Naming) (k : Name) → term_depth (named_term w k) ≡ 1
+named_depth (Process w) k = refl
+named_depth Probe k = refl
+
 -- arguments are made over the terms before them
 arguments-made : (p : Program) (vs : List Argument) → arguments_of p vs ≡ arguments_over p.expressions (terms_made (base_of p) (entries_of p.terms)) vs
 unfolding expressions_of tree expression_under tree_at
@@ -97,7 +104,7 @@ node-made p (nodes.Primitive (primitives.WithValue k e)) = refl
 node-made p (nodes.Primitive (primitives.Timed k q e)) = refl
 node-made p (nodes.Primitive (primitives.Arrow f)) = refl
 node-made p (nodes.Primitive (primitives.Accumulated k e f)) = refl
-node-made p (nodes.Run k s) = refl
+node-made p (nodes.Named w k s) = refl
 node-made p (nodes.Call k a) = ap (λ vs. reference (call (name_at p.expressions k) vs)) (arguments-made p (arguments_under p a))
 node-made p (nodes.Joined j a b) = refl
 node-made p (nodes.Sided d a) = refl
@@ -128,7 +135,7 @@ parts_below p t = of_node (term_entry (entries_of p.terms) t.0).node (p.arena.in
   where
     of_node : (n : Node) → needs_terms (base_of p) n ≤ t.0 → TermPartsBelow p n t.0
     of_node (nodes.Primitive q) h = tt
-    of_node (nodes.Run k s) h = tt
+    of_node (nodes.Named w k s) h = tt
     of_node (nodes.Call k a) h = arguments_below t.0 (arguments_under p a) h
     of_node (nodes.Joined j a b) h = (omega arith, omega arith)
     of_node (nodes.Sided d a) h = omega arith
@@ -477,7 +484,7 @@ parts_held p t = of_node (term_entry (entries_of p.terms) t.0).node needed
     of_node (nodes.Primitive (primitives.Timed k q e)) h = below_holds p.expressions e (omega (arith, h.expressions))
     of_node (nodes.Primitive (primitives.Arrow g)) h = below_function p.expressions g (omega (arith, h.functions))
     of_node (nodes.Primitive (primitives.Accumulated k e g)) h = (below_holds p.expressions e (omega (arith, h.expressions)), below_function p.expressions g (omega (arith, h.functions)))
-    of_node (nodes.Run k s) h = below_name p.expressions k (omega (arith, h.names))
+    of_node (nodes.Named w k s) h = below_name p.expressions k (omega (arith, h.names))
     of_node (nodes.Call k a) h = (below_name p.expressions k (omega (arith, h.names)), omega (arith, h.arguments), arguments_held p (arguments_under p a) h.terms h.expressions)
     of_node (nodes.Joined j a c) h = (omega (arith, h.terms), omega (arith, h.terms))
     of_node (nodes.Sided d a) h = omega (arith, h.terms)

@@ -19,7 +19,7 @@ use Rattle.sf_term.specs.declared.node.Primitive.TheVariants as primitives
 use Rattle.sf_term.specs.declared.node.Node.{Node}
 use Rattle.sf_term.specs.declared.node.Node.TheVariants as nodes
 use Rattle.sf_term.specs.declared.program.Program.{Program}
-use Rattle.sf_term.specs.Trees.{Term, primitive, reference, run, call, Arguments, no_arguments, value_argument, process_argument, joined, sided, headed, switching, keeping, bare, never, with_value, timed, arrow, accumulated, term_depth, Template, Templates}
+use Rattle.sf_term.specs.Trees.{Term, primitive, reference, call, Arguments, no_arguments, value_argument, process_argument, joined, sided, headed, switching, keeping, bare, never, with_value, timed, arrow, accumulated, named_term, term_depth, Template, Templates}
 use Rattle.sf_term.specs.Parameters.{parameters_of}
 use Rattle.sf_term.specs.Headers.{Header}
 use Rattle.sf_term.specs.Entries.{TermBase, absent_payload, term_entry, term_entered}
@@ -126,7 +126,7 @@ term_of p (nodes.Primitive (primitives.WithValue k e)) = primitive (with_value k
 term_of p (nodes.Primitive (primitives.Timed k q e)) = primitive (timed k q (expression_under p e))
 term_of p (nodes.Primitive (primitives.Arrow f)) = primitive (arrow (function_in p f))
 term_of p (nodes.Primitive (primitives.Accumulated k e f)) = primitive (accumulated k (expression_under p e) (function_in p f))
-term_of p (nodes.Run k s) = reference (run (name_at (expressions_of p) k))
+term_of p (nodes.Named w k s) = named_term w (name_at (expressions_of p) k)
 term_of p (nodes.Call k a) = reference (call (name_at (expressions_of p) k) (arguments_of p (arguments_under p a)))
 term_of p (nodes.Joined j a b) = joined j (tree p a) (tree p b)
 term_of p (nodes.Sided d a) = sided d (tree p a)
@@ -166,7 +166,7 @@ ArgumentBelow n (arguments.Process t) = term_number t < n
 -- the ids of a node's parts, as numbers, are below a number
 abbrev pub TermPartsBelow : Program → Node → ℕ → Type 0
 TermPartsBelow p (nodes.Primitive q) n = Unit {0}
-TermPartsBelow p (nodes.Run k s) n = Unit {0}
+TermPartsBelow p (nodes.Named w k s) n = Unit {0}
 TermPartsBelow p (nodes.Call k a) n = All (ArgumentBelow n) (arguments_under p a)
 TermPartsBelow p (nodes.Joined j a b) n = (term_number a < n) × (term_number b < n)
 TermPartsBelow p (nodes.Sided d a) n = term_number a < n
@@ -187,7 +187,7 @@ HoldsTermParts p (nodes.Primitive (primitives.WithValue k e)) = HoldsExpression 
 HoldsTermParts p (nodes.Primitive (primitives.Timed k q e)) = HoldsExpression p e
 HoldsTermParts p (nodes.Primitive (primitives.Arrow f)) = ProgramHoldsFunction p f
 HoldsTermParts p (nodes.Primitive (primitives.Accumulated k e f)) = HoldsExpression p e × ProgramHoldsFunction p f
-HoldsTermParts p (nodes.Run k s) = HoldsName (expressions_of p) k
+HoldsTermParts p (nodes.Named w k s) = HoldsName (expressions_of p) k
 HoldsTermParts p (nodes.Call k a) = HoldsName (expressions_of p) k × HoldsArguments p a × All (HoldsArgument p) (arguments_under p a)
 HoldsTermParts p (nodes.Joined j a b) = HoldsTerm p a × HoldsTerm p b
 HoldsTermParts p (nodes.Sided d a) = HoldsTerm p a

@@ -14,7 +14,7 @@ use Rattle.sf_term.specs.declared.node.Argument.{Argument}
 use Rattle.sf_term.specs.declared.node.Argument.TheVariants as arguments
 use Rattle.sf_term.specs.declared.node.Node.{Node}
 use Rattle.sf_term.specs.declared.node.Node.TheVariants as nodes
-use Rattle.sf_term.specs.Trees.{Term, primitive, reference, run, call, Arguments, no_arguments, value_argument, process_argument, joined, sided, headed, switching, keeping, bare, never, with_value, timed, arrow, accumulated, term_depth}
+use Rattle.sf_term.specs.Trees.{Term, primitive, reference, call, Arguments, no_arguments, value_argument, process_argument, joined, sided, headed, switching, keeping, bare, never, with_value, timed, arrow, accumulated, named_term, term_depth}
 
 -- What terms are made over beside terms: expressions, and the arguments of calls.
 pub record TermBase : Type 0 where
@@ -55,7 +55,7 @@ term_over b ts (nodes.Primitive (primitives.WithValue k e)) = primitive (with_va
 term_over b ts (nodes.Primitive (primitives.Timed k q e)) = primitive (timed k q (expression b.expressions e))
 term_over b ts (nodes.Primitive (primitives.Arrow f)) = primitive (arrow (function_at b.expressions f))
 term_over b ts (nodes.Primitive (primitives.Accumulated k e f)) = primitive (accumulated k (expression b.expressions e) (function_at b.expressions f))
-term_over b ts (nodes.Run k s) = reference (run (name_at b.expressions k))
+term_over b ts (nodes.Named w k s) = named_term w (name_at b.expressions k)
 term_over b ts (nodes.Call k c) = reference (call (name_at b.expressions k) (arguments_over b.expressions ts (arguments_listed b c)))
 term_over b ts (nodes.Joined j c d) = joined j (term_among ts c.0) (term_among ts d.0)
 term_over b ts (nodes.Sided d a) = sided d (term_among ts a.0)
@@ -78,7 +78,7 @@ expressions_end (arguments.Process t ∷ vs) = expressions_end vs
 -- how many terms have to stand before a node
 abbrev pub needs_terms : TermBase → Node → ℕ
 needs_terms b (nodes.Primitive p) = 0
-needs_terms b (nodes.Run k s) = 0
+needs_terms b (nodes.Named w k s) = 0
 needs_terms b (nodes.Call k a) = terms_end (arguments_listed b a)
 needs_terms b (nodes.Joined j a c) = suc (max a.0 c.0)
 needs_terms b (nodes.Sided d a) = suc a.0
@@ -94,7 +94,7 @@ needs_expressions b (nodes.Primitive (primitives.WithValue k e)) = suc (id_numbe
 needs_expressions b (nodes.Primitive (primitives.Timed k q e)) = suc (id_number e)
 needs_expressions b (nodes.Primitive (primitives.Arrow f)) = 0
 needs_expressions b (nodes.Primitive (primitives.Accumulated k e f)) = suc (id_number e)
-needs_expressions b (nodes.Run k s) = 0
+needs_expressions b (nodes.Named w k s) = 0
 needs_expressions b (nodes.Call k a) = expressions_end (arguments_listed b a)
 needs_expressions b (nodes.Joined j a c) = 0
 needs_expressions b (nodes.Sided d a) = 0
@@ -110,7 +110,7 @@ needs_functions (nodes.Primitive (primitives.WithValue k e)) = 0
 needs_functions (nodes.Primitive (primitives.Timed k q e)) = 0
 needs_functions (nodes.Primitive (primitives.Arrow f)) = suc f.0
 needs_functions (nodes.Primitive (primitives.Accumulated k e f)) = suc f.0
-needs_functions (nodes.Run k s) = 0
+needs_functions (nodes.Named w k s) = 0
 needs_functions (nodes.Call k a) = 0
 needs_functions (nodes.Joined j a b) = 0
 needs_functions (nodes.Sided d a) = 0
@@ -121,7 +121,7 @@ needs_functions (nodes.Keeping w a o k s p b) = 0
 -- how many patterns have to be there for a node
 abbrev pub patterns_needed : Node → ℕ
 patterns_needed (nodes.Primitive q) = 0
-patterns_needed (nodes.Run k s) = 0
+patterns_needed (nodes.Named w k s) = 0
 patterns_needed (nodes.Call k a) = 0
 patterns_needed (nodes.Joined j a b) = 0
 patterns_needed (nodes.Sided d a) = 0
@@ -132,7 +132,7 @@ patterns_needed (nodes.Keeping w a o k s p b) = suc p.0
 -- how many names have to be there for a node
 abbrev pub names_needed : Node → ℕ
 names_needed (nodes.Primitive q) = 0
-names_needed (nodes.Run k s) = suc k.0
+names_needed (nodes.Named w k s) = suc k.0
 names_needed (nodes.Call k a) = suc k.0
 names_needed (nodes.Joined j a b) = 0
 names_needed (nodes.Sided d a) = 0
@@ -148,7 +148,7 @@ constants_needed (nodes.Primitive (primitives.WithValue k e)) = 0
 constants_needed (nodes.Primitive (primitives.Timed k q e)) = 0
 constants_needed (nodes.Primitive (primitives.Arrow f)) = 0
 constants_needed (nodes.Primitive (primitives.Accumulated k e f)) = 0
-constants_needed (nodes.Run k s) = 0
+constants_needed (nodes.Named w k s) = 0
 constants_needed (nodes.Call k a) = 0
 constants_needed (nodes.Joined j a b) = 0
 constants_needed (nodes.Sided d a) = 0
@@ -159,7 +159,7 @@ constants_needed (nodes.Keeping w a o k s p b) = 0
 -- how many lists of arguments have to be there for a node
 abbrev pub arguments_needed : Node → ℕ
 arguments_needed (nodes.Primitive q) = 0
-arguments_needed (nodes.Run k s) = 0
+arguments_needed (nodes.Named w k s) = 0
 arguments_needed (nodes.Call k a) = suc a.0
 arguments_needed (nodes.Joined j a b) = 0
 arguments_needed (nodes.Sided d a) = 0

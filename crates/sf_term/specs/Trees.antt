@@ -11,6 +11,9 @@ use Rattle.sf_term.specs.declared.form.Join.{Join}
 use Rattle.sf_term.specs.declared.form.Side.{Side}
 use Rattle.sf_term.specs.declared.form.Heading.{Heading}
 use Rattle.sf_term.specs.declared.form.Observation.{Observation}
+use Rattle.sf_term.specs.declared.form.Start.{Start}
+use Rattle.sf_term.specs.declared.form.Naming.{Naming}
+use Rattle.sf_term.specs.declared.form.Naming.TheVariants.{Process, Probe}
 use Rattle.sf_term.specs.declared.form.Switching.{Switching}
 use Rattle.sf_term.specs.Parameters.{Bindings}
 
@@ -22,9 +25,10 @@ pub data Chain : Type 0 where
   on_both : Chain → Chain → Chain
   fanned : Chain → Chain → Chain
 
--- primitives: without constants, with a type, with a value, with a time and a value, with a function, or with a value and a function; and, in plans alone, with functions made into one
+-- primitives: without constants, with a name, with a type, with a value, with a time and a value, with a function, or with a value and a function; and, in plans alone, with functions made into one
 pub data Primitive : Type 0 where
   bare : Bare → Primitive
+  probe : Name → Primitive
   never : Kind → Primitive
   with_value : WithValue → Expression → Primitive
   timed : Timing → ℤ → Expression → Primitive
@@ -52,9 +56,9 @@ mutual
     keeping : Observation → (source observer : Term) → Name → Pattern → Term → Term
     staged : Extent → Term → Term → Term
 
-  -- what stands in the place of a process: its name, or a call of a template with arguments
+  -- what stands in the place of a process: its name, with where it begins, or a call of a template with arguments
   pub data Reference : Type 0 where
-    run : Name → Reference
+    started : Start → Name → Reference
     call : Name → Arguments → Reference
 
   -- the arguments of a call, first to last: values, or terms that are processes;
@@ -64,6 +68,11 @@ mutual
     value_argument : Expression → Arguments → Arguments
     process_argument : Term → Arguments → Arguments
     closed_argument : Term → Arguments → Arguments
+
+-- a form that is a name alone
+abbrev pub named_term : Naming → Name → Term
+named_term (Process w) k = reference (started w k)
+named_term Probe k = primitive (probe k)
 
 -- a template: its name, the names of its parameters with what they stand for, the types of its header and its term
 pub record Template : Type 0 where
@@ -85,6 +94,7 @@ template_named x (t ∷ ts) = cond (bytes_eq x t.name) (Some t) (template_named 
 -- how many expressions and patterns stand one inside another in a primitive; the forms of plans are deeper than each text
 abbrev pub primitive_depth : Primitive → ℕ
 primitive_depth (bare k) = 0
+primitive_depth (probe k) = 0
 primitive_depth (never t) = 0
 primitive_depth (with_value k e) = expression_depth e
 primitive_depth (timed k q e) = expression_depth e
@@ -106,7 +116,7 @@ abbrev mutual
 
   -- the same within a reference
   pub reference_depth : Reference → ℕ
-  reference_depth (run k) = 0
+  reference_depth (started w k) = 0
   reference_depth (call g vs) = arguments_depth vs
 
   -- the same in arguments
@@ -127,6 +137,7 @@ terms_with_value Hold = 1
 -- how many terms a primitive is made of
 abbrev pub terms_in_primitive : Primitive → ℕ
 terms_in_primitive (bare k) = 1
+terms_in_primitive (probe k) = 1
 terms_in_primitive (never t) = 1
 terms_in_primitive (with_value k e) = terms_with_value k
 terms_in_primitive (timed k q e) = 1
@@ -148,7 +159,7 @@ abbrev mutual
 
   -- how many terms stand within a reference
   pub terms_referred : Reference → ℕ
-  terms_referred (run k) = 0
+  terms_referred (started w k) = 0
   terms_referred (call g vs) = terms_in_arguments vs
 
   -- how many terms stand in arguments
@@ -161,6 +172,7 @@ abbrev mutual
 -- how many expressions stand in a primitive
 abbrev pub expressions_in_primitive : Primitive → ℕ
 expressions_in_primitive (bare k) = 0
+expressions_in_primitive (probe k) = 0
 expressions_in_primitive (never t) = 0
 expressions_in_primitive (with_value k e) = expression_size e
 expressions_in_primitive (timed k q e) = expression_size e
@@ -182,7 +194,7 @@ abbrev mutual
 
   -- how many expressions stand within a reference
   pub expressions_referred : Reference → ℕ
-  expressions_referred (run k) = 0
+  expressions_referred (started w k) = 0
   expressions_referred (call g vs) = expressions_in_arguments vs
 
   -- how many expressions stand in arguments

@@ -72,6 +72,24 @@ pub enum Side {
     Second,
 }
 
+/// Where a process begins that a name stands for.
+#[derive(Clone, Copy, Debug, PartialEq, Eq)]
+pub enum Start {
+    /// `run k`: where it stood.
+    Run,
+    /// `fresh k`: where it stood before its first step.
+    Fresh,
+}
+
+/// A form that is a name alone.
+#[derive(Clone, Copy, Debug, PartialEq, Eq)]
+pub enum Naming {
+    /// `run k` and `fresh k`: the process that the name stands for.
+    Process(Start),
+    /// `probe p`: the input, which is recorded under the name.
+    Probe,
+}
+
 /// Whose value shows at the sample of a switch's event.
 #[derive(Clone, Copy, Debug, PartialEq, Eq)]
 pub enum Observation {

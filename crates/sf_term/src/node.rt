@@ -1,7 +1,7 @@
 //! Nodes of an arena of terms.
 
 use crate::form::{
-    Accumulation, Bare, Heading, Join, Observation, Side, Switching, Timing, WithValue,
+    Accumulation, Bare, Heading, Join, Naming, Observation, Side, Switching, Timing, WithValue,
 };
 use sf_expr::{ConstantId, ExprId, FunctionId, NameId, PatternId, Spot};
 
@@ -56,8 +56,8 @@ pub enum Primitive {
 pub enum Node {
     /// A primitive.
     Primitive(Primitive),
-    /// `run k`: the process of a name, which stands at a place of its own.
-    Run(NameId, Spot),
+    /// `run k`, `fresh k` and `probe p`: a form that is a name alone, which stands at a place of its own.
+    Named(Naming, NameId, Spot),
     /// `g(..)`: a call of the template of a name, with which the term begins, on arguments.
     Call(NameId, ArgumentsId),
     /// Two terms joined, the first and the second.

@@ -12,10 +12,10 @@ ghost use Rattle.sf_arena.specs.Arenas.{entries_of};
 ghost use Rattle.sf_term.specs.Entries.{AreTerms};
 ghost use Rattle.sf_term.specs.Names.{HasNames, AreNamed};
 ghost use Rattle.sf_term.specs.declared.node.Node.TheVariants as terms;
-ghost use Rattle.sf_term.specs.Trees.{primitive as primitive_of, never as never_of, reference as reference_of, run as run_of, call as call_of, arguments_depth as arguments_depth_of, switching as switching_of, keeping as keeping_of, term_depth as depth_of};
+ghost use Rattle.sf_term.specs.Trees.{primitive as primitive_of, never as never_of, named_term, reference as reference_of, call as call_of, arguments_depth as arguments_depth_of, switching as switching_of, keeping as keeping_of, term_depth as depth_of};
 
 use crate::argument::{StoredArguments, clone_lists};
-use crate::form::{Bare, Observation, Switching};
+use crate::form::{Bare, Naming, Observation, Switching};
 use crate::names::{are_named, has_names};
 use crate::node::{Argument, ArgumentsId, Node, Primitive, TermId};
 use crate::refusal::BuildRefusal;
@@ -86,12 +86,12 @@ impl Program {
         self.entry(id).depth
     }
 
-    #[tactic(auto, unfolding(crate::specs::Arena::expression_under, crate::specs::Arena::function_pattern_at, crate::specs::Arena::function_body_at, crate::specs::Arena::pattern_under))]
+    #[tactic(auto, unfolding(crate::specs::Arena::expression_under, crate::specs::Arena::function_pattern_at, crate::specs::Arena::function_body_at, crate::specs::Arena::pattern_under), using(crate::proofs::Kept::named_depth))]
     fn depth_with(&self, node: Node) -> u32
         ensures { result ≡ depth_of (term_of self.now node) }
     {
         match node {
-            Node::Primitive(Primitive::Bare(_) | Primitive::Never(_)) | Node::Run(_, _) => 1,
+            Node::Primitive(Primitive::Bare(_) | Primitive::Never(_)) | Node::Named(_, _, _) => 1,
             Node::Primitive(Primitive::WithValue(_, value) | Primitive::Timed(_, _, value)) => {
                 1 + self.expressions.depth(value)
             }
@@ -603,26 +603,32 @@ impl Program {
         }
     }
 
-    /// Adds the process of a name, at `place`, to the terms. Refused with `TooMany` where 100,000 terms are there, then with
+    /// Adds a form that is a name alone, at `place`, to the terms. Refused with `TooMany` where 100,000 terms are there, then with
     /// `BadName` where it is no name of the language, and with `Memory`. A refused call changes nothing.
     #[tactic(auto, unfolding(crate::specs::Arena::term_count))]
-    pub fn run(&mut self, process: String, place: Spot, spot: Spot) -> Result<TermId, BuildRefusal>
+    pub fn named(
+        &mut self,
+        form: Naming,
+        name: String,
+        place: Spot,
+        spot: Spot,
+    ) -> Result<TermId, BuildRefusal>
         ensures ok { let next = next_name (expressions_of self.old) in
-            IfOk result (λ id. AddsTerm self.old self.new id (terms.Run next place) (reference_of (run_of (string_bytes process))) spot) }
-        ensures named { OnOk result (IsName (string_bytes process)) }
+            IfOk result (λ id. AddsTerm self.old self.new id (terms.Named form next place) (named_term form (string_bytes name)) spot) }
+        ensures named { OnOk result (IsName (string_bytes name)) }
         ensures many { result ≡ Err BuildRefusal.TooMany ↔ 100000 ≤ term_count self.old }
         ensures not_deep { ¬ (result ≡ Err BuildRefusal.TooDeep) }
-        ensures bad_name { result ≡ Err BuildRefusal.BadName ↔ (term_count self.old < 100000) × ¬ IsName (string_bytes process) }
+        ensures bad_name { result ≡ Err BuildRefusal.BadName ↔ (term_count self.old < 100000) × ¬ IsName (string_bytes name) }
         ensures err { OnErr result (IsSameProgram self.old self.new) }
     {
         if 100_000 <= self.terms.len() {
             return Err(BuildRefusal::TooMany);
         }
-        if !is_name(process.as_bytes()) {
+        if !is_name(name.as_bytes()) {
             return Err(BuildRefusal::BadName);
         }
-        match self.expressions.name(process) {
-            Ok(name) => self.add(Node::Run(name, place), spot),
+        match self.expressions.name(name) {
+            Ok(id) => self.add(Node::Named(form, id, place), spot),
             Err(_) => Err(BuildRefusal::Memory),
         }
     }

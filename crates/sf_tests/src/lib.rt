@@ -11,6 +11,8 @@ mod library;
 #[cfg(test)]
 mod playing;
 #[cfg(test)]
+mod probing;
+#[cfg(test)]
 mod saving;
 #[cfg(test)]
 mod sharing;

@@ -88,7 +88,10 @@ fn ended(
         held: Vec::new(alloc),
         failure,
     });
-    let options = Options { plain: true };
+    let options = Options {
+        plain: true,
+        probes: false,
+    };
     let end = play(alloc, net, &mut reader, &mut writer, functions, options);
     Outcome {
         end,

@@ -68,7 +68,7 @@ fn gives_again(
 > {
     let plan = plain(alloc, checked)?;
     let mut state = State::unborn(plan.main());
-    let mut meter = Meter::new();
+    let mut meter = Meter::new(alloc);
     drop(step(
         alloc,
         &mut state,

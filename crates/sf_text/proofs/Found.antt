@@ -13,13 +13,14 @@ use Rattle.sf_term.specs.declared.form.Side.{Side}
 use Rattle.sf_term.specs.declared.form.Heading.{Heading}
 use Rattle.sf_term.specs.declared.form.Observation.{Observation}
 use Rattle.sf_term.specs.declared.form.Switching.{Switching}
+use Rattle.sf_term.specs.declared.form.Naming.{Naming}
 use Rattle.sf_term.specs.declared.node.TermId.{TermId}
 use Rattle.sf_term.specs.declared.node.Node.{Node}
 use Rattle.sf_term.specs.declared.node.Argument.{Argument}
 use Rattle.sf_term.specs.declared.program.Program.{Program}
 use Rattle.sf_term.specs.declared.refusal.BuildRefusal.{BuildRefusal}
 use Rattle.sf_term.specs.declared.refusal.BuildRefusal.TheVariants as refusals
-use Rattle.sf_term.specs.Trees.{terms_with_value, Term, primitive, never, with_value, timed, arrow, accumulated, run, joined, sided, switching, keeping, reference, call, no_arguments, term_depth, terms_in, expressions_in}
+use Rattle.sf_term.specs.Trees.{terms_with_value, Term, primitive, never, with_value, timed, arrow, accumulated, named_term, joined, sided, switching, keeping, reference, call, no_arguments, term_depth, terms_in, expressions_in}
 use Rattle.sf_term.specs.Names.{HasNames}
 use Rattle.sf_term.specs.Parameters.{NameKind}
 use Rattle.sf_term.specs.Arena.{tree, arguments_of, term_of, term_node_at, expression_under as expression_in, function_in, term_count, expression_count, KeepsProgram, AddsTerm}
@@ -31,9 +32,10 @@ use Rattle.sf_lex.specs.Tokens.{Tok}
 use Rattle.sf_grammar.specs.declared.ty.Version.{Version}
 use Rattle.sf_parse.specs.declared.stop.Stop.{Stop}
 use Rattle.sf_grammar.specs.Spelling.{stands_initially, head_makes}
-use Rattle.sf_grammar.specs.Reading.{parse_number, parse_never, parse_timed, Read, got, Counts, counts_with, counts_with_expression, parse_symbol, parse_inner_type, parse_pattern, parse_expression, parse_function, parse_value, parse_arrow, parse_accumulated, parse_sided, parse_headed, parse_body, parse_switching, parse_name, parse_run, parse_keeping, parse_listed, parse_arguments, parse_call, parse_name_kind, parse_parameter, term_read, parse_join, parse_joined, parse_term}
+use Rattle.sf_grammar.specs.Reading.{parse_number, parse_never, parse_timed, Read, got, Counts, counts_with, counts_with_expression, parse_symbol, parse_inner_type, parse_pattern, parse_expression, parse_function, parse_value, parse_arrow, parse_accumulated, parse_sided, parse_headed, parse_body, parse_switching, parse_name, parse_named, parse_keeping, parse_listed, parse_arguments, parse_call, parse_name_kind, parse_parameter, term_read, parse_join, parse_joined, parse_term}
 use Rattle.sf_parse.specs.Answers.{StopsReading, FoundExpression, FoundFunction, counts_of, stop_for, toks}
 use Rattle.sf_text.specs.Answers.{FoundTerm, FoundBody, FoundArguments}
+use Rattle.sf_grammar.proofs.Words.{IsLone, named_alone}
 use Rattle.sf_grammar.proofs.Takes.{HeadMakes, with_pre, stays_headed, head_view, TookFunction, Took, TookBody, TookListed, function_takes, body_takes, arguments_take, term_takes}
 use Rattle.sf_text.specs.Consuming.{headed_node}
 use Rattle.sf_text.proofs.Placed.{headed_makes}
@@ -227,10 +229,12 @@ switching_ready v {old} {one} {two} {start} {r0} {r1} {r2} {r3} {rest} {a} {b} {
       expressions = omega (arith, f.expressions, g.expressions);
     }
 
--- the process of a name
-pub run_ready : {old : Program} {start rest : List Tok} {k n : Name} (tokens : List Tok) → parse_name tokens ≡ got k rest → n ≡ k → Ready old old (reference (run n)) start rest (parse_run (counts_of old) start tokens)
-unfolding parse_run
-run_ready {k = k} tokens named bytes = record { term = reference (run k); is = rw named refl; same = ap (λ (k : Name). reference (run k)) bytes; shallow = omega arith; terms = omega arith; expressions = omega arith }
+-- a form that is a name alone
+pub named_ready : (v : Version) {old : Program} (w : Naming) {start rest : List Tok} {k n : Name} (tokens : List Tok) → parse_name tokens ≡ got k rest → n ≡ k → Ready old old (named_term w n) start rest (parse_named w (counts_of old) start tokens)
+unfolding parse_named
+named_ready v w {k = k} tokens named bytes =
+    let lone : IsLone v w k = named_alone v w k in
+    record { term = named_term w k; is = rw named refl; same = ap (named_term w) bytes; shallow = omega (arith, lone.depth); terms = omega (arith, lone.terms); expressions = omega (arith, lone.expressions) }
 
 -- a term that gives way to another, which knows it by a name
 pub keeping_ready : (v : Version) {old one two three : Program} {start r0 r1 r2 r3 r4 r5 r6 r7 rest : List Tok} {a b c : TermId} {k n : Name} {p : Pattern} {w : Observation} (d : ℕ) (tokens : List Tok) → d ≤ 63 → parse_symbol symbols.Open tokens ≡ got tt r0

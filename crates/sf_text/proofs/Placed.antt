@@ -24,6 +24,8 @@ use Rattle.sf_term.specs.declared.form.Heading.{Heading}
 use Rattle.sf_term.specs.declared.form.Heading.TheVariants as headings
 use Rattle.sf_term.specs.declared.form.Observation.{Observation}
 use Rattle.sf_term.specs.declared.form.Switching.{Switching}
+use Rattle.sf_term.specs.declared.form.Naming.{Naming}
+use Rattle.sf_term.specs.declared.form.Naming.TheVariants as namings
 use Rattle.sf_term.specs.declared.node.TermId.{TermId}
 use Rattle.sf_term.specs.declared.node.ArgumentsId.{ArgumentsId}
 use Rattle.sf_term.specs.declared.node.Argument.{Argument}
@@ -48,7 +50,7 @@ use Rattle.sf_grammar.specs.Reading.{got, parse_inner_type, parse_parameter, par
 use Rattle.sf_parse.specs.Answers.{toks}
 use Rattle.sf_grammar.proofs.Takes.{TookType, inner_type_takes, parameter_takes, TookSignature, signature_takes}
 use Rattle.sf_lex.specs.declared.token.PlacedToken.{PlacedToken}
-use Rattle.sf_grammar.specs.Placing.{around, PatternPlaced, ExpressionPlaced, FunctionPlaced, TermStands, TermPlaced, bare_placed, never_placed, with_value_placed, initialized_placed, timed_placed, arrow_placed, accumulated_placed, joined_placed, sided_placed, headed_placed, switching_placed, run_placed, keeping_placed, call_placed, ArgumentsPlaced, no_arguments_placed, some_arguments_placed, EachArgumentPlaced, no_argument_placed, argument_placed, ArgumentPlaced, value_argument_placed, process_argument_placed, ParameterPlaced, EachParameterPlaced, ParametersPlaced, no_parameters_placed, some_parameters_placed, TemplatePlaced, TemplatesPlaced, none_placed, template_placed, NetworkPlaced, IsPlacedIn}
+use Rattle.sf_grammar.specs.Placing.{around, PatternPlaced, ExpressionPlaced, FunctionPlaced, TermStands, TermPlaced, bare_placed, never_placed, with_value_placed, initialized_placed, timed_placed, arrow_placed, accumulated_placed, joined_placed, sided_placed, headed_placed, switching_placed, named_placed, keeping_placed, call_placed, ArgumentsPlaced, no_arguments_placed, some_arguments_placed, EachArgumentPlaced, no_argument_placed, argument_placed, ArgumentPlaced, value_argument_placed, process_argument_placed, ParameterPlaced, EachParameterPlaced, ParametersPlaced, no_parameters_placed, some_parameters_placed, TemplatePlaced, TemplatesPlaced, none_placed, template_placed, NetworkPlaced, IsPlacedIn}
 use Rattle.sf_text.specs.Progress.{IsSpelled}
 use Rattle.sf_text.proofs.Whole.{toks_same}
 use Rattle.sf_parse.specs.Consuming.{places, BehindOne, BehindSome, NamePlaced, Consumes, Parted}
@@ -82,7 +84,7 @@ mutual
       headed_placed opening comma closing (term_stays old new k _ _ _ s) (expression_keeps v old new k _ _ value) (term_keeps v old new k _ _ part)
   term_keeps v old new k id xs (switching_placed opening comma leads closing s source pattern body) =
       switching_placed opening comma leads closing (term_stays old new k _ _ _ s) (term_keeps v old new k _ _ source) (pattern_stays old new k _ _ pattern) (term_keeps v old new k _ _ body)
-  term_keeps v old new k id xs (run_placed s) = run_placed (term_stays old new k _ _ _ s)
+  term_keeps v old new k id xs (named_placed s) = named_placed (term_stays old new k _ _ _ s)
   term_keeps v old new k id xs (keeping_placed opening comma second third leads closing s source observer pattern body) =
       keeping_placed opening comma second third leads closing (term_stays old new k _ _ _ s) (term_keeps v old new k _ _ source) (term_keeps v old new k _ _ observer) (pattern_stays old new k _ _ pattern) (term_keeps v old new k _ _ body)
   term_keeps v old new k id xs (call_placed {g = g} {a = a} {xs = ys} opening s actuals) =
@@ -171,6 +173,7 @@ node_view _ e a n = other_node
 -- it stands for what the head makes of the part
 node_makes : (p : Program) (h : Heading) (e : ExprId) (a : TermId) (n : Node) → tree p a ≡ term_of p n → term_of p (headed_node h e a n) ≡ head_makes h (expression_under p e) (tree p a)
 node_makes p headings.Initialized e a (nodes.Primitive (primitives.Bare bares.Pre)) is = ap (head_makes headings.Initialized (expression_under p e)) (sym is)
+node_makes p headings.Initialized e a (nodes.Named namings.Probe k s) is = ap (headed headings.Initialized (expression_under p e)) is ∙ ap (head_makes headings.Initialized (expression_under p e)) (sym is)
 node_makes p h e a n is = ap (headed h (expression_under p e)) is ∙ ap (head_makes h (expression_under p e)) (sym is)
 
 pub headed_makes : (p : Program) (h : Heading) (e : ExprId) (a : TermId) → term_of p (headed_node h e a (term_node_at p a)) ≡ head_makes h (expression_under p e) (tree p a)
@@ -189,7 +192,7 @@ bare_places is (joined_placed between closing s one two) = absurd (let e = sym s
 bare_places is (sided_placed s part) = absurd (let e = sym s.node ∙ is in cc)
 bare_places is (headed_placed opening comma closing s value part) = absurd (let e = sym s.node ∙ is in cc)
 bare_places is (switching_placed opening comma leads closing s source pattern body) = absurd (let e = sym s.node ∙ is in cc)
-bare_places is (run_placed s) = absurd (let e = sym s.node ∙ is in cc)
+bare_places is (named_placed s) = absurd (let e = sym s.node ∙ is in cc)
 bare_places is (keeping_placed opening comma second third leads closing s source observer pattern body) = absurd (let e = sym s.node ∙ is in cc)
 bare_places is (call_placed opening s actuals) = absurd (let e = sym s.node ∙ is in cc)
 
@@ -218,8 +221,8 @@ switching_read {v} {one} {two} {new} {id} {a} {b} {w} {p} {q} {t} {spot} k added
     parted (λ zs. TermPlaced v new id (spot ∷ around opening.at xs comma zs closing)) n (λ leads ps ys placed y.
     switching_placed opening.at comma leads closing (term_stands two new id _ t spot added) (term_keeps v two new added.kept.trees a xs (term_keeps v one two k a xs x)) (pattern_stands new q p ps there placed) (term_keeps v two new added.kept.trees b ys y))))
 
-pub run_read : {v : Version} {old new : Program} {id : TermId} {k : NameId} {t : Term} {spot place : Spot} {r rest : List Spot} → AddsTerm old new id (nodes.Run k place) t spot → NamePlaced place r rest → Consumes (TermPlaced v new id) (spot ∷ r) rest
-run_read {v} {old} {new} {id} {k} {t} {spot} {place} added name = record { front = spot ∷ place ∷ []; split = ap (λ ts. spot ∷ ts) name.split; holds = run_placed (term_stands old new id _ t spot added) }
+pub named_read : {v : Version} {old new : Program} {id : TermId} {w : Naming} {k : NameId} {t : Term} {spot place : Spot} {r rest : List Spot} → AddsTerm old new id (nodes.Named w k place) t spot → NamePlaced place r rest → Consumes (TermPlaced v new id) (spot ∷ r) rest
+named_read {v} {old} {new} {id} {w} {k} {t} {spot} {place} added name = record { front = spot ∷ place ∷ []; split = ap (λ ts. spot ∷ ts) name.split; holds = named_placed (term_stands old new id _ t spot added) }
 
 -- two terms, a name, a pattern and a third term in brackets
 pub keeping_read : {v : Version} {one two three new : Program} {id a b c : TermId} {w : Observation} {k : NameId} {p : PlacedPattern} {q : PatternId} {t : Term} {spot place : Spot} {r r0 r1 r2 r3 r4 r5 r6 r7 rest : List Spot} → KeepsTrees one two → KeepsTrees two three

@@ -6,7 +6,7 @@ ghost use Rattle.sf_text.specs.Answers.{ReadsTerm, ReadsBody, ReadsArgument, Rea
 ghost use Rattle.sf_grammar.specs.Placing.{PatternPlaced, TermPlaced, ArgumentPlaced, EachArgumentPlaced, ArgumentsPlaced};
 ghost use Rattle.sf_parse.specs.Consuming.{places, BehindOne, Consumes, Parted};
 ghost use Rattle.sf_text.specs.Consuming.{headed_node, HasValueSo};
-ghost use Rattle.sf_grammar.specs.Reading.{begins_term, too_deep, term_read, parse_never, parse_value, parse_timed, parse_arrow, parse_accumulated, parse_sided, parse_headed, parse_body, parse_switching, parse_run, parse_keeping, parse_argument, parse_arguments, parse_listed, parse_call, parse_join, parse_joined, parse_form, parse_behind_head, parse_term};
+ghost use Rattle.sf_grammar.specs.Reading.{begins_term, begins_fresh, head_at, too_deep, term_read, parse_never, parse_value, parse_timed, parse_arrow, parse_accumulated, parse_sided, parse_headed, parse_body, parse_switching, parse_named, parse_keeping, parse_argument, parse_arguments, parse_listed, parse_call, parse_join, parse_joined, parse_form, parse_behind_head, parse_term};
 ghost use Rattle.sf_term.specs.Arena.{HoldsExpression, HoldsTerm, HoldsTermParts, term_node_at};
 ghost use Rattle.sf_grammar.specs.Spelling.{stands_initially};
 
@@ -19,8 +19,8 @@ use sf_parse::{
 };
 use sf_refusal::{Rule, Spot};
 use sf_term::{
-    Accumulation, Argument, Bare, Heading, Join, Node, Observation, Primitive, Program, Side,
-    Switching, TermId, Timing, WithValue,
+    Accumulation, Argument, Bare, Heading, Join, Naming, Node, Observation, Primitive, Program,
+    Side, Start, Switching, TermId, Timing, WithValue,
 };
 use std::alloc::Global;
 
@@ -32,6 +32,34 @@ fn term_too_deep(tokens: &[PlacedToken]) -> Stop
         [first, ..] if head_of(&first.token).is_some() => stop_at(Rule::TooDeep, tokens),
         _ => stop_at(Rule::Unexpected, tokens),
     }
+}
+
+/// Whether these tokens begin a process anew: `fresh` and another name, in a text of version 2.
+fn begins_fresh(version: Version, tokens: &[PlacedToken]) -> bool
+    ensures { result ≡ begins_fresh version (toks tokens.now) }
+{
+    let [first, second, ..] = tokens else {
+        return false;
+    };
+    match (&first.token, &second.token) {
+        (Token::Name(word), Token::Name(_)) => {
+            version == Version::Two && word.as_str() == "fresh"
+        }
+        _ => false,
+    }
+}
+
+/// The form that these tokens begin.
+fn head_at(version: Version, tokens: &[PlacedToken]) -> Option<Head>
+    ensures { result ≡ head_at version (toks tokens.now) }
+{
+    let [first, ..] = tokens else {
+        return None;
+    };
+    if begins_fresh(version, tokens) {
+        return Some(Head::Named(Naming::Process(Start::Fresh)));
+    }
+    head_of(&first.token)
 }
 
 /// A primitive without constants, whose word is the first of these tokens, and the tokens behind it.
@@ -174,22 +202,23 @@ fn accumulated<'a>(
     }
 }
 
-/// `run`, which is the first of these tokens, and the tokens behind its name.
-#[tactic(auto, unfolding(sf_grammar::specs::Reading::parse_run))]
-fn run<'a>(
+/// A form that is a name alone, whose word is the first of these tokens, and the tokens behind its name.
+#[tactic(auto, unfolding(sf_grammar::specs::Reading::parse_named))]
+fn named<'a>(
     alloc: Global,
     version: Version,
     tokens: &'a [PlacedToken<'a>],
     rest: &'a [PlacedToken<'a>],
     program: &mut Program,
+    form: Naming,
     spot: Spot,
 ) -> Result<(TermId, &'a [PlacedToken<'a>]), Stop>
-    ensures reads { ReadsTerm program.old program.new result (parse_run (counts_of program.old) (toks tokens.now) (toks rest.now)) }
+    ensures reads { ReadsTerm program.old program.new result (parse_named form (counts_of program.old) (toks tokens.now) (toks rest.now)) }
     ensures placed { IfOk result (λ x. Consumes (TermPlaced version program.new x.0) (spot ∷ places rest.now) (places x.1.now)) }
 {
-    let (process, rest) = name(rest)?;
-    let known = String::from_str(alloc, process.name.as_str())?;
-    match program.run(known, process.spot, spot) {
+    let (label, rest) = name(rest)?;
+    let known = String::from_str(alloc, label.name.as_str())?;
+    match program.named(form, known, label.spot, spot) {
         Ok(id) => Ok((id, rest)),
         Err(refusal) => Err(refused(refusal, tokens)),
     }
@@ -246,7 +275,7 @@ fn form<'a>(
         return Err(stop_at(Rule::Unexpected, tokens));
     };
     let spot = first.spot;
-    match head_of(&first.token) {
+    match head_at(version, tokens) {
         Some(head) => behind_head(alloc, version, tokens, rest, program, head, spot, left),
         None => Err(stop_at(Rule::Unexpected, tokens)),
     }
@@ -285,7 +314,7 @@ fn behind_head<'a>(
         Head::Sided(side) => sided(alloc, version, tokens, rest, program, side, spot, left),
         Head::Headed(heading) => headed(alloc, version, tokens, rest, program, heading, spot, left),
         Head::Switching(kind) => switching(alloc, version, tokens, rest, program, kind, spot, left),
-        Head::Run => run(alloc, version, tokens, rest, program, spot),
+        Head::Named(form) => named(alloc, version, tokens, rest, program, form, spot),
         Head::Keeping(kind) => keeping(alloc, version, tokens, rest, program, kind, spot, left),
         Head::Call => call(alloc, version, tokens, program, left),
     }

@@ -1,5 +1,5 @@
 -- Functions that are added one after another.
-use Rattle.std.proofs.Common.{◌≡◌, ◌≢◌, ℕ, List, [], ◌∷◌, ◌++◌, false, Option, sym, ap, ◌∙◌, subst, true≢false}
+use Rattle.std.proofs.Common.{◌≡◌, ◌≢◌, ℕ, List, [], ◌∷◌, ◌++◌, Bool, false, Option, sym, ap, ◌∙◌, subst, true≢false}
 use Rattle.std.specs.Str.{bytes_eq}
 use Rattle.std.proofs.lemmas.Slice.Eq.{bytes_eq-Decides}
 use Rattle.sf_value.specs.Values.{Name, Kind, Data}
@@ -28,7 +28,7 @@ pub boxed_answers : {V : Type 0} {H : V → Type 0} (answers : (v : V) → H v �
 boxed_answers {H = H} answers is x f same = subst (λ v. (x : H v) (d : Data) → answers v x d ≡ f d) (sym is) same x
 
 -- what was played with functions that are these
-pub offered_plays : {types : TypesByName} {answers : AnswersByName} {net : List ℕ} {before after held holds : Option (List ℕ)} {e : PlayEnd} → Plays types answers net before after held holds e → types ≡ types_offered → AreOffered answers
-    → (f : AnswersByName) × AreOffered f × Plays types_offered f net before after held holds e
-offered_plays {answers = answers} {net = net} {before = before} {after = after} {held = held} {holds = holds} {e = e} told is offered =
-    (answers, offered, subst (λ (ts : TypesByName). Plays ts answers net before after held holds e) is told)
+pub offered_plays : {probes : Bool} {types : TypesByName} {answers : AnswersByName} {net : List ℕ} {before after held holds : Option (List ℕ)} {e : PlayEnd} → Plays probes types answers net before after held holds e → types ≡ types_offered → AreOffered answers
+    → (f : AnswersByName) × AreOffered f × Plays probes types_offered f net before after held holds e
+offered_plays {probes = probes} {answers = answers} {net = net} {before = before} {after = after} {held = held} {holds = holds} {e = e} told is offered =
+    (answers, offered, subst (λ (ts : TypesByName). Plays probes ts answers net before after held holds e) is told)

@@ -36,8 +36,9 @@ writes what the network gives for them to standard output.
 An input line is a time step in milliseconds and a value, as in `16 42`; the
 first step is 0. With `=` in place of the value the input is unchanged. An
 empty line, or one that begins with `#`, gives nothing. Each sample gives a
-line `> TIME VALUE`. The first fault or refused line ends the run, with a line
-that begins with `!`.
+line `> TIME VALUE`. With `--probes` there is before it a line `? NAME VALUE`
+for what each probe recorded, in order. The first fault or refused line ends
+the run, with a line that begins with `!`.
 
 Networks may call the functions `abs` and `sign` of a number, and `max` and
 `min` of a pair of numbers.";
@@ -46,6 +47,8 @@ const NET: &str = "The file that has the network's text";
 
 const PLAIN: &str =
     "Runs the network as it is written; without it, it may be rewritten to do less work";
+
+const PROBES: &str = "Writes what probes record, before the value of each sample";
 
 const STATUSES: &str = "\
 Exit statuses:
@@ -66,6 +69,10 @@ fn matches<'a>(alloc: Global, words: &'a [String]) -> Result<ArgMatches<'a>, Err
         .long("plain")
         .help(PLAIN)
         .action(ArgAction::SetTrue);
+    let probes = Arg::new(alloc, "probes")
+        .long("probes")
+        .help(PROBES)
+        .action(ArgAction::SetTrue);
     Command::new(alloc, "sfplay")
         .version(VERSION)
         .about(ABOUT)
@@ -73,6 +80,7 @@ fn matches<'a>(alloc: Global, words: &'a [String]) -> Result<ArgMatches<'a>, Err
         .after_long_help(STATUSES)
         .arg(net)?
         .arg(plain)?
+        .arg(probes)?
         .try_get_matches_from(words)
 }
 
@@ -106,7 +114,7 @@ fn play_lines<R: Read, W: Write>(
     requires reads { failures_of reader.old < 2 ^ 64 - 1 }
     requires writes { failures_of writer.old < 2 ^ 64 - 1 }
     // What was read and written, by the meaning of the network with these functions.
-    ensures { IfOk result (λ end. (answers : AnswersByName) × AreOffered answers × Plays types_offered answers net.now
+    ensures { IfOk result (λ end. (answers : AnswersByName) × AreOffered answers × Plays options.probes types_offered answers net.now
         (R.remaining (inner_of reader.old)) (R.remaining (inner_of reader.new))
         (W.contents (inner_of writer.old)) (W.contents (inner_of writer.new)) end) }
 {
@@ -153,6 +161,7 @@ fn main(rt: HostRuntime) -> ExitCode {
     };
     let options = Options {
         plain: matches.get_flag("plain"),
+        probes: matches.get_flag("probes"),
     };
     let Ok(net) = network(&rt, path) else {
         let _ = eprintln!(&rt; "sfplay: read fault");

@@ -10,7 +10,7 @@ use Rattle.sf_refusal.specs.Refusals.{broken}
 use Rattle.sf_check.specs.Breaking.{initialized_part, sequence_left, fan_right, parallel_input, side_input}
 use Rattle.sf_term.specs.Arena.{term_number, expressions_of, term_spot_at, arguments_under, ArgumentBelow}
 use Rattle.sf_check.specs.Contexts.{context_in}
-use Rattle.sf_check.proofs.Terms.{part_refused, err_answers, memory_answers, joined_there, sided_there, mismatch_refused, primitive_answers, sequence_answers, fan_answers, copy_reached, copy_takes, left_reached, right_reached, first_reached, second_reached, parallel_answers, first_answers, second_answers, start_answers, initialized_refused, initialized_answers, fed_refused, loop_reached, loop_answers, answers_under, body_under, err_body, pattern_stops, within_stops, other_stops, body_answered, switch_answers, source_reached, source_answers, source_wants, input_answers, first_term_reached, input_wants, switching_there, kept_reached, watched_answers, observer_reached, observer_answers, keeping_answers}
+use Rattle.sf_check.proofs.Terms.{part_refused, err_answers, memory_answers, named_there, joined_there, sided_there, mismatch_refused, primitive_answers, probe_answers, sequence_answers, fan_answers, copy_reached, copy_takes, left_reached, right_reached, first_reached, second_reached, parallel_answers, first_answers, second_answers, start_answers, initialized_refused, initialized_answers, fed_refused, loop_reached, loop_answers, answers_under, body_under, err_body, pattern_stops, within_stops, other_stops, body_answered, switch_answers, source_reached, source_answers, source_wants, input_answers, first_term_reached, input_wants, switching_there, kept_reached, watched_answers, observer_reached, observer_answers, keeping_answers}
 use Rattle.sf_term.specs.ParameterView.{kind_of_form}
 use Rattle.sf_check.specs.Contexts.{program_in}
 use Rattle.sf_check.proofs.Calls.{err_argument, value_refused, value_answers, misplaced, term_stops, process_answers, memory_argument, no_template_answers, other_number_answers, none_absent, all_so, so_next, so_end, next_so, answer_for, argument_answers, differs_answers, call_answers}
@@ -251,8 +251,13 @@ keeping_output-returns t c =
     keeping_answers p _ c.args.term _ _ c.spot-spot.ensures _ _ _ _ _ _ _ c.requires.there _ c.in_ok-clone_in.ensures.same _ c.in_ok-value.ensures _ c.in_ok-watched.ensures _ c.in_ok-seen.ensures _ _ _
     c.in_ok-payload.ensures.ok c.in_ok-same_input.ensures.same c.requires.fits (body_under _ p _ _ _ _ _ _ _ _ _ inner.program inner.context c.body_output.ensures)
 
-pub output_of-returns-in-Run : goal.output_of-returns-in-Run
-output_of-returns-in-Run t c = c.process_output.ensures
+pub output_of-returns-in-Named-Process-default-default : goal.output_of-returns-in-Named-Process-default-default
+output_of-returns-in-Named-Process-default-default t c = c.process_output.ensures
+
+pub output_of-returns-in-Named-Probe-default-default : goal.output_of-returns-in-Named-Probe-default-default
+output_of-returns-in-Named-Probe-default-default t c =
+    let probe = c.in-Named-Probe-default-default in
+    probe_answers c.args.context.now.program.now (context_in c.args.context.now) c.args.term c.args.input _ refl _ _ (named_there _ _ probe.field-0-is (sym probe.ensures.value)) c.requires
 
 -- ## An argument of a call
 

@@ -1,11 +1,11 @@
-use Rattle.sf_law.specs.Copies.{copies_primitive, copies_run, copies_joined, copies_sided, copies_headed, copies_switching, copies_keeping}
+use Rattle.sf_law.specs.Copies.{copies_primitive, copies_joined, copies_sided, copies_headed, copies_switching, copies_keeping}
 use Rattle.sf_law.proofs.plain_plan.plan_node.Goals as goal
 
 pub returns-in_ok-primitive-in-Primitive-clause-same : goal.returns-in_ok-primitive-in-Primitive-clause-same
 returns-in_ok-primitive-in-Primitive-clause-same c = rw c.in-Primitive.is (copies_primitive c.in_ok-primitive-in-Primitive.ensures.same)
 
-pub returns-in-Run-clause-same : goal.returns-in-Run-clause-same
-returns-in-Run-clause-same c = rw c.in-Run.is copies_run
+pub returns-in_ok-named-in-Named-clause-same : goal.returns-in_ok-named-in-Named-clause-same
+returns-in_ok-named-in-Named-clause-same c = rw c.in-Named.is (c.in_ok-named-in-Named.ensures.same _)
 
 pub returns-in-Joined-clause-same : goal.returns-in-Joined-clause-same
 returns-in-Joined-clause-same c = rw (c.in-Joined.is, c.plan_id.ensures, c.plan_id-in-Joined.ensures) copies_joined
@@ -21,3 +21,6 @@ returns-in-Switching-clause-same c = rw (c.in-Switching.is, c.plan_id-source.ens
 
 pub returns-in-Keeping-clause-same : goal.returns-in-Keeping-clause-same
 returns-in-Keeping-clause-same c = rw (c.in-Keeping.is, c.plan_id-source-in-Keeping.ensures, c.plan_id-observer.ensures, c.plan_id-body.ensures) copies_keeping
+
+pub returns-in_ok-named-in-Named-clause-coded : goal.returns-in_ok-named-in-Named-clause-coded
+returns-in_ok-named-in-Named-clause-coded c = c.in_ok-named-in-Named.ensures.coded _

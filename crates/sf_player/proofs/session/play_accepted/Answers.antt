@@ -14,16 +14,16 @@ run-requires-clause-fresh g c =
     let n = network_of (g.F.Holds.answers c.args.functions) (program_of c.args.checked) in
     let m = checked_main c.args.checked in
     let fresh = c.in-Ok-new.ensures n m c.in-Ok.ensures.runs in
-    record { n = n; m = m; played = fresh.0; empty = fresh.1 }
+    record { probes = c.args.options.probes; n = n; m = m; played = fresh.0; empty = fresh.1 }
 
 pub returns-in-Ok-new-clause-told : goal.returns-in-Ok-new-clause-told
 returns-in-Ok-new-clause-told g c = λ net text.
     let n = network_of (g.F.Holds.answers c.args.functions) (program_of c.args.checked) in
     let m = checked_main c.args.checked in
     let fresh = c.in-Ok-new.ensures n m c.in-Ok.ensures.runs in
-    plays text c.requires.fits (main_found c.args.checked c.requires.fits) (c.run.ensures.told n m fresh.0)
+    plays text c.requires.fits (main_found c.args.checked c.requires.fits) (c.run.ensures.told c.args.options.probes n m fresh.0)
 
 pub returns-clause-told : goal.returns-clause-told
 returns-clause-told g c = λ net text.
     plays text c.requires.fits (main_found c.args.checked c.requires.fits)
-    (c.refuse_lines.ensures.told (network_of (g.F.Holds.answers c.args.functions) (program_of c.args.checked)) (checked_main c.args.checked) _)
+    (c.refuse_lines.ensures.told c.args.options.probes (network_of (g.F.Holds.answers c.args.functions) (program_of c.args.checked)) (checked_main c.args.checked) _)

@@ -1,4 +1,4 @@
-use Rattle.std.proofs.Common.{◌-◌, ◌*◌, ◌≡◌, []}
+use Rattle.std.proofs.Common.{Bool, ◌-◌, ◌*◌, ◌≡◌, []}
 use Rattle.sf_term.specs.Trees.{Template}
 use Rattle.sf_mean.specs.Meaning.{Network}
 use Rattle.sf_player.specs.Playing.{Played, weight}
@@ -7,7 +7,7 @@ use Rattle.sf_player.proofs.session.run.Given as goal
 
 abbrev pub invariant-loop-size : goal.invariant-loop-size
 invariant-loop-size g l = record {
-  running : (n : Network) (m : Template) → Played n m [] [] l.fn.player → Running n m (g.R.Read.remaining l.fn.reader.inner) (g.R.Read.remaining l.reader.inner) (g.W.Write.contents l.fn.writer.inner) (g.W.Write.contents l.writer.inner) l.player;
+  running : (probes : Bool) (n : Network) (m : Template) → Played probes n m [] [] l.fn.player → Running probes n m (g.R.Read.remaining l.fn.reader.inner) (g.R.Read.remaining l.reader.inner) (g.W.Write.contents l.fn.writer.inner) (g.W.Write.contents l.writer.inner) l.player;
   reads : l.reader.failures ≡ l.fn.reader.failures;
   writes : l.writer.failures ≡ l.fn.writer.failures;
 }

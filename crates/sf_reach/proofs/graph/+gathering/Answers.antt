@@ -3,7 +3,7 @@ use Rattle.std.proofs.lemmas.Result.{on_ok_weaker}
 use Rattle.sf_expr.specs.Arena.{name_at}
 use Rattle.sf_term.specs.declared.node.Argument.TheVariants as arguments
 use Rattle.sf_term.specs.declared.node.Node.TheVariants as nodes
-use Rattle.sf_reach.specs.Order.{in_primitive, in_run, in_joined, in_sided, in_headed, in_switching, in_keeping}
+use Rattle.sf_reach.specs.Order.{in_primitive, in_named, in_joined, in_sided, in_headed, in_switching, in_keeping}
 use Rattle.sf_reach.specs.Graphs.{AddsArgumentCalls}
 use Rattle.sf_reach.proofs.Gathered.{adds_none, adds_one, adds_two, name_found, adds_found, adds_absent, no_argument, adds_value, adds_process}
 use Rattle.sf_reach.proofs.graph.+gathering.Goals as goal
@@ -14,7 +14,7 @@ gather-returns-in-Primitive t c =
     let p = c.args.program.now in
     elim c.in-Primitive.is [
       | inl k ↦ adds_none p c.args.term (nodes.Primitive k.0) (sym k.1 ∙ c.node.ensures.value) c.args.calls.now.items in_primitive
-      | inr k ↦ adds_none p c.args.term (nodes.Run k.0 k.1) (sym k.2 ∙ c.node.ensures.value) c.args.calls.now.items in_run
+      | inr k ↦ adds_none p c.args.term (nodes.Named k.0 k.1 k.2) (sym k.3 ∙ c.node.ensures.value) c.args.calls.now.items in_named
     ]
 
 pub gather-returns-after-get_index_of : goal.gather-returns-after-get_index_of

@@ -24,8 +24,11 @@ use Rattle.sf_step.proofs.sample.+step.Goals as goal
 pub step_state-returns-in_err-inside-in-Live-clause-answers : goal.step_state-returns-in_err-inside-in-Live-clause-answers
 step_state-returns-in_err-inside-in-Live-clause-answers g t c = λ P L A. pass_exit _ _ c.from_residual.ensures.0 (tick_fails (g.R.Holds.answers c.args.context.now.functions.now) c.args.context.now.plan.now P _ c.in_err-inside-in-Live.ensures.ticked)
 
+pub step_state-returns-in_default-unshare-clause-answers : goal.step_state-returns-in_default-unshare-clause-answers
+step_state-returns-in_default-unshare-clause-answers g t c = λ P L A. early_memory (g.R.Holds.answers c.args.context.now.functions.now) c.args.context.now.plan.now (ticked_by c.in_ok-inside-in-Live.ensures.ticked) c.stop.ensures.entered c.stop.ensures.height c.stop.ensures.fault
+
 pub step_state-returns-in_default-clause-answers : goal.step_state-returns-in_default-clause-answers
-step_state-returns-in_default-clause-answers g t c = λ P L A. early_memory (g.R.Holds.answers c.args.context.now.functions.now) c.args.context.now.plan.now (ticked_by c.in_ok-inside-in-Live.ensures.ticked) c.stop.ensures.entered c.stop.ensures.height c.stop.ensures.fault
+step_state-returns-in_default-clause-answers g t c = c.step_other.ensures.answers
 
 pub step_state-returns-in-Some-clause-answers : goal.step_state-returns-in-Some-clause-answers
 step_state-returns-in-Some-clause-answers g t c = λ P L A.
@@ -35,20 +38,25 @@ step_state-returns-in-Some-clause-answers g t c = λ P L A.
 pub step_state-returns-in-None-clause-answers : goal.step_state-returns-in-None-clause-answers
 step_state-returns-in-None-clause-answers g t c = λ P L A. early_memory (g.R.Holds.answers c.args.context.now.functions.now) c.args.context.now.plan.now (ticked_by c.in_ok-inside-in-Live.ensures.ticked) c.stop-in-None.ensures.entered c.stop-in-None.ensures.height c.stop-in-None.ensures.fault
 
-pub step_state-returns-in_err-over-in-Switch-clause-answers : goal.step_state-returns-in_err-over-in-Switch-clause-answers
-step_state-returns-in_err-over-in-Switch-clause-answers g t c = λ P L A.
-    pass_exit _ _ c.from_residual-in_err-over-in-Switch.ensures.0 (failed (watching_fails (g.R.Holds.answers c.args.context.now.functions.now) c.args.context.now.plan.now _ c.in-Switch.names c.in-Switch.node.value (step c.args.context.now.dt c.args.value.now) c.args.meter.now c.step_watching.new.meter c.args.depth
+-- ## step_other
+
+pub step_other-returns-in-Live-clause-answers : goal.step_other-returns-in-Live-clause-answers
+step_other-returns-in-Live-clause-answers g t c = first_memory (g.R.Holds.answers c.args.context.now.functions.now) c.args.context.now.plan.now c.stop-in-Live.ensures.entered c.stop-in-Live.ensures.height c.stop-in-Live.ensures.fault
+
+pub step_other-returns-in_err-over-in-Switch-clause-answers : goal.step_other-returns-in_err-over-in-Switch-clause-answers
+step_other-returns-in_err-over-in-Switch-clause-answers g t c = λ P L A.
+    pass_exit _ _ c.from_residual.ensures.0 (failed (watching_fails (g.R.Holds.answers c.args.context.now.functions.now) c.args.context.now.plan.now _ c.in-Switch.names c.in-Switch.node.value (step c.args.context.now.dt c.args.value.now) c.args.meter.now c.step_watching.new.meter c.args.depth
     _ c.in_err-over-in-Switch.ensures.answers P L (rw c.in-Switch.is at A)))
 
-pub step_state-returns-in-Some-over-clause-answers : goal.step_state-returns-in-Some-over-clause-answers
-step_state-returns-in-Some-over-clause-answers g t c = λ P L A.
+pub step_other-returns-in-Some-clause-answers : goal.step_other-returns-in-Some-clause-answers
+step_other-returns-in-Some-clause-answers g t c = λ P L A.
     watching_goes (g.R.Holds.answers c.args.context.now.functions.now) c.args.context.now.plan.now _ c.in-Switch.names c.in-Switch.node.value (step c.args.context.now.dt c.args.value.now) c.args.meter.now c.step_watching.new.meter c.args.depth
-    c.in_ok-over-in-Switch.over c.in-Some-over.body c.step_watching.new.node.value c.step_watching.new.value c.in-Some-over.is c.in_ok-over-in-Switch.ensures.answers P L (rw c.in-Switch.is at A)
+    c.in_ok-over-in-Switch.over c.in-Some.body c.step_watching.new.node.value c.step_watching.new.value c.in-Some.is c.in_ok-over-in-Switch.ensures.answers P L (rw c.in-Switch.is at A)
 
-pub step_state-returns-in-None-over-clause-answers : goal.step_state-returns-in-None-over-clause-answers
-step_state-returns-in-None-over-clause-answers g t c = λ P L A.
+pub step_other-returns-in-None-clause-answers : goal.step_other-returns-in-None-clause-answers
+step_other-returns-in-None-clause-answers g t c = λ P L A.
     watching_stays (g.R.Holds.answers c.args.context.now.functions.now) c.args.context.now.plan.now _ c.in-Switch.names c.in-Switch.node.value (step c.args.context.now.dt c.args.value.now) c.args.meter.now c.step_watching.new.meter c.args.depth
-    _ c.in_ok-over-in-Switch.over c.step_watching.new.node.value c.step_watching.new.value c.in-None-over.is c.in_ok-over-in-Switch.ensures.answers P L (rw c.in-Switch.is at A)
+    _ c.in_ok-over-in-Switch.over c.step_watching.new.node.value c.step_watching.new.value c.in-None.is c.in_ok-over-in-Switch.ensures.answers P L (rw c.in-Switch.is at A)
 
 -- ## start
 
@@ -376,31 +384,31 @@ step_wrap-returns-in_ok-step_state-in-Initialized-clause-answers g t c =
 
 -- ## A switch that keeps its source, and a frozen state
 
-pub step_state-returns-in_err-kept-in-Keeping-clause-answers : goal.step_state-returns-in_err-kept-in-Keeping-clause-answers
-step_state-returns-in_err-kept-in-Keeping-clause-answers g t c = λ P L A.
+pub step_other-returns-in_err-kept-in-Keeping-clause-answers : goal.step_other-returns-in_err-kept-in-Keeping-clause-answers
+step_other-returns-in_err-kept-in-Keeping-clause-answers g t c = λ P L A.
     pass_exit _ _ c.from_residual-in_err-kept-in-Keeping.ensures.0 (failed (keeping_fails (g.R.Holds.answers c.args.context.now.functions.now) c.args.context.now.plan.now _ c.in-Keeping.names c.in-Keeping.node.value (step c.args.context.now.dt c.args.value.now) c.args.meter.now c.step_kept.new.meter c.args.depth
     _ c.in_err-kept-in-Keeping.ensures.answers P L (rw c.in-Keeping.is at A)))
 
-pub step_state-returns-in-Some-kept-clause-answers : goal.step_state-returns-in-Some-kept-clause-answers
-step_state-returns-in-Some-kept-clause-answers g t c = λ P L A.
+pub step_other-returns-in-Some-kept-clause-answers : goal.step_other-returns-in-Some-kept-clause-answers
+step_other-returns-in-Some-kept-clause-answers g t c = λ P L A.
     keeping_goes (g.R.Holds.answers c.args.context.now.functions.now) c.args.context.now.plan.now _ c.in-Keeping.names c.in-Keeping.node.value (step c.args.context.now.dt c.args.value.now) c.args.meter.now c.step_kept.new.meter c.args.depth
     c.in_ok-kept-in-Keeping.kept c.in-Some-kept.body c.step_kept.new.node.value c.step_kept.new.value c.in-Some-kept.is c.in_ok-kept-in-Keeping.ensures.answers P L (rw c.in-Keeping.is at A)
 
-pub step_state-returns-in-None-kept-clause-answers : goal.step_state-returns-in-None-kept-clause-answers
-step_state-returns-in-None-kept-clause-answers g t c = λ P L A.
+pub step_other-returns-in-None-kept-clause-answers : goal.step_other-returns-in-None-kept-clause-answers
+step_other-returns-in-None-kept-clause-answers g t c = λ P L A.
     keeping_stays (g.R.Holds.answers c.args.context.now.functions.now) c.args.context.now.plan.now _ c.in-Keeping.names c.in-Keeping.node.value (step c.args.context.now.dt c.args.value.now) c.args.meter.now c.step_kept.new.meter c.args.depth
     _ c.in_ok-kept-in-Keeping.kept c.step_kept.new.node.value c.step_kept.new.value c.in-None-kept.is c.in_ok-kept-in-Keeping.ensures.answers P L (rw c.in-Keeping.is at A)
 
-pub step_state-returns-in_default-wake-clause-answers : goal.step_state-returns-in_default-wake-clause-answers
-step_state-returns-in_default-wake-clause-answers g t c = first_memory (g.R.Holds.answers c.args.context.now.functions.now) c.args.context.now.plan.now c.stop-in_default-wake.ensures.entered c.stop-in_default-wake.ensures.height c.stop-in_default-wake.ensures.fault
+pub step_other-returns-in_default-clause-answers : goal.step_other-returns-in_default-clause-answers
+step_other-returns-in_default-clause-answers g t c = first_memory (g.R.Holds.answers c.args.context.now.functions.now) c.args.context.now.plan.now c.stop.ensures.entered c.stop.ensures.height c.stop.ensures.fault
 
-pub step_state-returns-in-Ok-wake-clause-answers : goal.step_state-returns-in-Ok-wake-clause-answers
-step_state-returns-in-Ok-wake-clause-answers g t c = λ P L A.
+pub step_other-returns-in-Ok-clause-answers : goal.step_other-returns-in-Ok-clause-answers
+step_other-returns-in-Ok-clause-answers g t c = λ P L A.
     let r = left_or c.step_state.result (c.step_state.new.state, c.step_state.new.value) (fault_of c.step_state.new.meter) in
-    frozen_steps (g.R.Holds.answers c.args.context.now.functions.now) c.args.context.now.plan.now _ c.in-Frozen.frozen.value.wait c.in-Frozen.frozen.value.names c.in-Frozen.frozen.value.node c.in-Ok-wake.awake c.args.context.now.dt c.args.value.now r c.args.meter.now c.step_state.new.meter c.args.depth
-    (subst (λ (f : Frozen). (P : Process) (L : Life) → Stands (g.R.Holds.answers c.args.context.now.functions.now) c.args.context.now.plan.now (kept_state f.names f.node) P L → Stands (g.R.Holds.answers c.args.context.now.functions.now) c.args.context.now.plan.now c.in-Ok-wake.awake P L)
-    c.deref-in-Frozen.ensures (c.in-Ok-wake.ensures.stands (g.R.Holds.answers c.args.context.now.functions.now) c.args.context.now.plan.now))
-    (subst (λ (f : Frozen). StateSteps (g.R.Holds.answers c.args.context.now.functions.now) c.args.context.now.plan.now c.in-Ok-wake.awake (step f.wait c.args.value.now) r c.args.meter.now c.step_state.new.meter c.args.depth)
+    frozen_steps (g.R.Holds.answers c.args.context.now.functions.now) c.args.context.now.plan.now _ c.in-Frozen.frozen.value.wait c.in-Frozen.frozen.value.names c.in-Frozen.frozen.value.node c.in-Ok.awake c.args.context.now.dt c.args.value.now r c.args.meter.now c.step_state.new.meter c.args.depth
+    (subst (λ (f : Frozen). (P : Process) (L : Life) → Stands (g.R.Holds.answers c.args.context.now.functions.now) c.args.context.now.plan.now (kept_state f.names f.node) P L → Stands (g.R.Holds.answers c.args.context.now.functions.now) c.args.context.now.plan.now c.in-Ok.awake P L)
+    c.deref-in-Frozen.ensures (c.in-Ok.ensures.stands (g.R.Holds.answers c.args.context.now.functions.now) c.args.context.now.plan.now))
+    (subst (λ (f : Frozen). StateSteps (g.R.Holds.answers c.args.context.now.functions.now) c.args.context.now.plan.now c.in-Ok.awake (step f.wait c.args.value.now) r c.args.meter.now c.step_state.new.meter c.args.depth)
     c.deref.ensures c.step_state.ensures.answers) P L (rw c.in-Frozen.is at A)
 
 pub start-returns-in-Ok-Keeping-clause-answers : goal.start-returns-in-Ok-Keeping-clause-answers

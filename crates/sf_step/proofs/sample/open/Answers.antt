@@ -2,7 +2,7 @@ use Rattle.std.proofs.Common.{Result, Ok, Err, subst}
 use Rattle.sf_value.specs.declared.fault.Fault.{Fault}
 use Rattle.sf_state.specs.declared.state.State.{State}
 use Rattle.sf_step.specs.Sampling.{AllBegin}
-use Rattle.sf_step.proofs.Exits.{open_exit, open_failure, open_prim, open_prim_fails, open_joined, open_sided, open_headed, open_headed_fails, open_switch, open_keeping, open_run, open_call, open_call_fails, coded_arguments}
+use Rattle.sf_step.proofs.Exits.{open_exit, open_failure, open_prim, open_prim_fails, open_joined, open_sided, open_headed, open_headed_fails, open_switch, open_keeping, open_started, open_probe, open_call, open_call_fails, coded_arguments}
 use Rattle.sf_step.proofs.Arguments.{StandsCalled}
 use Rattle.sf_step.proofs.Stages.{open_staged}
 use Rattle.sf_step.proofs.sample.open.Goals as goal
@@ -63,12 +63,19 @@ returns-in_ok-two-in-Keeping g c =
     open_keeping (g.R.Holds.answers c.args.context.now.functions.now) c.args.context.now.plan.now c.in-Keeping.shown c.in-Keeping.source c.in-Keeping.observer c.in-Keeping.body c.in-Keeping.name c.in-Keeping.pattern _ c.args.names.now c.in_ok-one-in-Keeping.one c.in_ok-two-in-Keeping.two
     (rw c.in-Keeping.is at c.node.ensures.builds) (c.in_ok-one-in-Keeping.ensures (g.R.Holds.answers c.args.context.now.functions.now) c.args.context.now.plan.now) (c.in_ok-two-in-Keeping.ensures (g.R.Holds.answers c.args.context.now.functions.now) c.args.context.now.plan.now)
 
-pub returns-in_err-process-in-Run : goal.returns-in_err-process-in-Run
-returns-in_err-process-in-Run g c = λ e N. open_exit (g.R.Holds.answers c.args.context.now.functions.now) c.args.context.now.plan.now _ e _ c.from_residual-in_err-process-in-Run.ensures.1
+pub returns-in_err-process-in-Started : goal.returns-in_err-process-in-Started
+returns-in_err-process-in-Started g c = λ e N. open_exit (g.R.Holds.answers c.args.context.now.functions.now) c.args.context.now.plan.now _ e _ c.from_residual-in_err-process-in-Started.ensures.1
 
-pub returns-in_ok-process-in-Run : goal.returns-in_ok-process-in-Run
-returns-in_ok-process-in-Run g c =
-    open_run (g.R.Holds.answers c.args.context.now.functions.now) c.args.context.now.plan.now c.in-Run.name _ c.args.names.now c.in_ok-process-in-Run.process (rw c.in-Run.is at c.node.ensures.builds) (c.in_ok-process-in-Run.ensures (g.R.Holds.answers c.args.context.now.functions.now))
+pub returns-in_ok-process-in-Started : goal.returns-in_ok-process-in-Started
+returns-in_ok-process-in-Started g c =
+    open_started (g.R.Holds.answers c.args.context.now.functions.now) c.args.context.now.plan.now c.in-Started.start c.in-Started.name _ c.args.names.now c.in_ok-process-in-Started.process (rw c.in-Started.is at c.node.ensures.builds) (c.in_ok-process-in-Started.ensures (g.R.Holds.answers c.args.context.now.functions.now))
+
+pub returns-in_err-same-in-Probe : goal.returns-in_err-same-in-Probe
+returns-in_err-same-in-Probe g c = λ e N. open_exit (g.R.Holds.answers c.args.context.now.functions.now) c.args.context.now.plan.now _ e _ c.from_residual-in_err-same-in-Probe.ensures.1
+
+pub returns-in_ok-same-in-Probe : goal.returns-in_ok-same-in-Probe
+returns-in_ok-same-in-Probe g c =
+    open_probe (g.R.Holds.answers c.args.context.now.functions.now) c.args.context.now.plan.now c.in-Probe.name c.in_ok-same-in-Probe.same _ c.args.names.now (rw c.in-Probe.is at c.node.ensures.builds) c.in_ok-same-in-Probe.ensures.cases
 
 pub called-requires : goal.called-requires
 called-requires g c = record {

@@ -11,36 +11,36 @@ play_line-requires g c =
       n = w.n;
       m = w.m;
       now = w.played.now;
-      at = record { runs = w.played.at.runs; slow = w.played.at.slow; slow_saves = w.played.at.slow_saves; taken = w.played.at.taken };
+      at = record { runs = w.played.at.runs; slow = w.played.at.slow; slow_saves = w.played.at.slow_saves; taken = w.played.at.taken; probes = w.played.at.probes };
       within = line_within w.played sizes.2;
     }
 
 pub returns-in-None-clause-advances : goal.returns-in-None-clause-advances
-returns-in-None-clause-advances g c = λ n m read written P.
+returns-in-None-clause-advances g c = λ probes n m read written P.
     let sizes = rw c.in-Ok-Line.field-0-is at c.in-Ok-Line.ensures.sizes in
     let stands = rw c.in-Ok-Line.field-0-is at (c.in-Ok-Line.ensures.cuts read P.lines P.stands) in
-    let goes = c.in-None.ensures n m P.now (record { runs = P.at.runs; slow = P.at.slow; slow_saves = P.at.slow_saves; taken = P.at.taken }) in
+    let goes = c.in-None.ensures n m P.now (record { runs = P.at.runs; slow = P.at.slow; slow_saves = P.at.slow_saves; taken = P.at.taken; probes = P.at.probes }) in
     record {
       played = plays_line (take c.in-Ok-Line.used c.args.piece.now) P stands goes refl;
       further = line_further c.args.piece.now sizes.2 sizes.1 goes.cutter;
     }
 
 pub returns-in-Some-clause-advances : goal.returns-in-Some-clause-advances
-returns-in-Some-clause-advances g c = λ n m read written P.
+returns-in-Some-clause-advances g c = λ probes n m read written P.
     let stands = rw c.in-Ok-Line.field-0-is at (c.in-Ok-Line.ensures.cuts read P.lines P.stands) in
-    let ends = c.in-Some.ensures n m P.now (record { runs = P.at.runs; slow = P.at.slow; slow_saves = P.at.slow_saves; taken = P.at.taken }) in
+    let ends = c.in-Some.ensures n m P.now (record { runs = P.at.runs; slow = P.at.slow; slow_saves = P.at.slow_saves; taken = P.at.taken; probes = P.at.probes }) in
     line_halts c.args.piece.now c.in-Ok-Line.used P stands ends refl
 
 pub returns-in-Ok-Part-clause-advances : goal.returns-in-Ok-Part-clause-advances
-returns-in-Ok-Part-clause-advances g c = λ n m read written P.
+returns-in-Ok-Part-clause-advances g c = λ probes n m read written P.
     let piece = c.args.piece.now in
     let sizes = rw c.in-Ok-Part.field-0-is at c.in-Ok-Part.ensures.sizes in
     let stands = rw c.in-Ok-Part.field-0-is at (c.in-Ok-Part.ensures.cuts read P.lines P.stands) in
     rw (take_all (length piece) piece (omega arith)) (record {
-      played = record { lines = P.lines; now = P.now; stands = stands; reaches = P.reaches; at = record { runs = P.at.runs; slow = P.at.slow; slow_saves = P.at.slow_saves; taken = P.at.taken } };
+      played = record { lines = P.lines; now = P.now; stands = stands; reaches = P.reaches; at = record { runs = P.at.runs; slow = P.at.slow; slow_saves = P.at.slow_saves; taken = P.at.taken; probes = P.at.probes } };
       further = part_further piece sizes;
     })
 
 pub returns-in-Err-clause-advances : goal.returns-in-Err-clause-advances
-returns-in-Err-clause-advances g c = λ n m read written P.
+returns-in-Err-clause-advances g c = λ probes n m read written P.
     refusal_halts c.refuse.result c.args.piece.now P (c.in-Err.ensures.cuts read P.lines P.stands) c.refuse.ensures.end c.refuse.ensures.line

@@ -37,7 +37,7 @@ returns-in-Ok-Nothing g c = λ n m now at.
     let within : limit_refusal now.taken (line_of c.args.self.now.cutter) ≡ None = ap (λ k. limit_refusal k (line_of c.args.self.now.cutter)) (sym at.taken ∙ c.requires.at.taken) ∙ c.requires.within in
     let started = has_begun-is _ _ (c.is_started-started.ensures.history n m now.lived now.saved at.runs) in
     let says = rw c.line.ensures at (rw c.in-Ok-Nothing.field-0-is at c.in-Ok-Nothing.ensures.ok) in
-    nothing_said (asks (line_of c.args.self.now.cutter) _ _ within started (c.input.ensures n m now.lived now.saved at.runs) says) at refl refl refl refl
+    nothing_said (asks (line_of c.args.self.now.cutter) _ _ within started (c.input.ensures n m now.lived now.saved at.runs) says) at refl refl refl refl refl
 
 pub returns-in-Ok-Start : goal.returns-in-Ok-Start
 returns-in-Ok-Start g c = λ n m now at.
@@ -46,7 +46,7 @@ returns-in-Ok-Start g c = λ n m now at.
     let says = rw c.line.ensures at (rw c.in-Ok-Start.field-0-is at c.in-Ok-Start.ensures.ok) in
     let sampled = starts_at at.runs started says (c.first_sample-sampled.ensures n m now.saved) in
     same_answers n m now (line_of c.args.self.now.cutter) _ c.args.self.now c.say.result c.say.new.self refl refl
-    (c.say.ensures n m now (line_of c.args.self.now.cutter) (start c.in-Ok-Start.value) (asks (line_of c.args.self.now.cutter) _ _ within started (c.input.ensures n m now.lived now.saved at.runs) says) tt sampled refl (omega arith) at.slow_saves at.taken)
+    (c.say.ensures n m now (line_of c.args.self.now.cutter) (start c.in-Ok-Start.value) (asks (line_of c.args.self.now.cutter) _ _ within started (c.input.ensures n m now.lived now.saved at.runs) says) tt sampled refl (omega arith) at.slow_saves at.taken at.probes)
 
 pub returns-in-Ok-Step : goal.returns-in-Ok-Step
 returns-in-Ok-Step g c = λ n m now at.
@@ -57,7 +57,7 @@ returns-in-Ok-Step g c = λ n m now at.
     let asked = advance_asked says refl in
     let slow = slow_step c.time.result c.in-Ok-Step.dt now.taken asked.short (subst (λ t. t ≤ 3600000 * now.taken) (sym same) at.slow) in
     same_answers n m now (line_of c.args.self.now.cutter) _ c.args.self.now c.say-in-Ok-Step.result c.say-in-Ok-Step.new.self refl refl
-    (c.say-in-Ok-Step.ensures n m now (line_of c.args.self.now.cutter) (advance c.in-Ok-Step.dt c.in-Ok-Step.input) (asks (line_of c.args.self.now.cutter) _ _ within started (c.input.ensures n m now.lived now.saved at.runs) says) tt (c.next_sample-sampled.ensures n m now.lived now.saved at.runs) (time_at now.lived started same says) slow at.slow_saves at.taken)
+    (c.say-in-Ok-Step.ensures n m now (line_of c.args.self.now.cutter) (advance c.in-Ok-Step.dt c.in-Ok-Step.input) (asks (line_of c.args.self.now.cutter) _ _ within started (c.input.ensures n m now.lived now.saved at.runs) says) tt (c.next_sample-sampled.ensures n m now.lived now.saved at.runs) (time_at now.lived started same says) slow at.slow_saves at.taken at.probes)
 
 pub returns-in-Err : goal.returns-in-Err
 returns-in-Err g c = λ n m now at.
@@ -81,7 +81,7 @@ returns-in-Ok g c = λ n m now at.
     let started = has_begun-is _ _ (c.is_started-started.ensures.history n m now.lived now.saved at.runs) in
     let says = rw c.line.ensures at (rw c.in-Ok-Save.field-0-is at c.in-Ok-Save.ensures.ok) in
     save_goes_on (line_of c.args.self.now.cutter) c.save.result (asks (line_of c.args.self.now.cutter) _ _ within started (c.input.ensures n m now.lived now.saved at.runs) says) at
-    (c.save.ensures.running n m now.lived now.saved at.runs) c.in-Ok.is (record { engine = refl; cutter = refl; count = refl; out = refl })
+    (c.save.ensures.running n m now.lived now.saved at.runs) c.in-Ok.is (record { engine = refl; cutter = refl; count = refl; out = refl; probes = refl })
 
 pub returns-in-Err-save : goal.returns-in-Err-save
 returns-in-Err-save g c = λ n m now at.
@@ -108,7 +108,7 @@ returns-in-Ok-back g c = λ n m now at.
     let started = has_begun-is _ _ (c.is_started-started.ensures.history n m now.lived now.saved at.runs) in
     let says = rw c.line.ensures at (rw c.in-Ok-Back.field-0-is at c.in-Ok-Back.ensures.ok) in
     back_goes_on (line_of c.args.self.now.cutter) c.back.result (asks (line_of c.args.self.now.cutter) _ _ within started (c.input.ensures n m now.lived now.saved at.runs) says) at
-    (c.back.ensures.running n m now.lived now.saved at.runs) c.in-Ok-back.is (record { engine = refl; cutter = refl; count = refl; out = refl })
+    (c.back.ensures.running n m now.lived now.saved at.runs) c.in-Ok-back.is (record { engine = refl; cutter = refl; count = refl; out = refl; probes = refl })
 
 pub returns-in-Err-back : goal.returns-in-Err-back
 returns-in-Err-back g c = λ n m now at.

@@ -2,18 +2,18 @@ use Rattle.std.proofs.Common.{refl}
 use Rattle.sf_player.proofs.Samples.{value_said, stop_halts, memory_halts}
 use Rattle.sf_player.proofs.player.Player.say.Goals as goal
 
-pub returns-in-Ok-write_sample : goal.returns-in-Ok-write_sample
-returns-in-Ok-write_sample g c = λ n m now line a asked sample S at slow saves taken.
-    value_said c.args.sample_time asked sample (rw c.in-Ok.is at S) at slow saves taken refl refl refl c.in-Ok-write_sample.ensures.ok
+pub returns-in-Ok-gather : goal.returns-in-Ok-gather
+returns-in-Ok-gather g c = λ n m now line a asked sample S at slow saves taken probes.
+    value_said c.args.sample_time asked sample (rw c.in-Ok.is at S) at slow saves taken probes refl refl refl refl c.in-Ok-gather.ensures.ok
 
 pub returns-in-Ok : goal.returns-in-Ok
-returns-in-Ok g c = λ n m now line a asked sample S at slow saves taken. record {
+returns-in-Ok g c = λ n m now line a asked sample S at slow saves taken probes. record {
   halts = memory_halts c.args.sample_time asked sample at c.fault_stop.ensures.end c.fault_stop.ensures.line;
-  said = c.in-Err-write_sample.ensures.err;
+  said = c.in-Err-gather.ensures.err;
 }
 
 pub returns : goal.returns
-returns g c = λ n m now line a asked sample S at slow saves taken. record {
+returns g c = λ n m now line a asked sample S at slow saves taken probes. record {
   halts = stop_halts c.args.sample_time asked sample (rw c.in-Err.is at S) at c.fault_stop-in-Err.ensures.end c.fault_stop-in-Err.ensures.line;
   said = refl;
 }

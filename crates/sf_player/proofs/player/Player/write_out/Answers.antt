@@ -7,7 +7,7 @@ pub returns-then-not-put-clause-writes : goal.returns-then-not-put-clause-writes
 returns-then-not-put-clause-writes g c = failed (WritesFront-more _ _ c.args.self.now.out.items (line_in c.args.stop) (rw c.as_slice.ensures.value at c.if-not-put.ensures.front))
 
 pub returns-in-None-clause-writes : goal.returns-in-None-clause-writes
-returns-in-None-clause-writes g c = rw c.in-None.is (runs_on (rw c.as_slice.ensures.value at c.if-not-put.ensures.written) (record { empty = c.clear.ensures.items; cutter = refl; engine = refl; taken = refl }))
+returns-in-None-clause-writes g c = rw c.in-None.is (runs_on (rw c.as_slice.ensures.value at c.if-not-put.ensures.written) (record { empty = c.clear.ensures.items; cutter = refl; engine = refl; taken = refl; probes = refl }))
 
 pub returns-then-not-put-2-clause-writes : goal.returns-then-not-put-2-clause-writes
 returns-then-not-put-2-clause-writes g c = rw c.in-Some.is (failed (WritesFront-behind _ _ _ c.args.self.now.out.items c.in-Some.stop.line (rw c.as_slice.ensures.value at c.if-not-put.ensures.written) (rw c.as_bytes.ensures at c.if-not-put-2.ensures.front)))

@@ -1,6 +1,6 @@
 use Rattle.std.proofs.Common.{subst}
 use Rattle.sf_state.specs.Standing.{AllFollow}
-use Rattle.sf_state.proofs.Copies.{prim_follows, join_follows, wrap_follows, pipeline_follows}
+use Rattle.sf_state.proofs.Copies.{prim_follows, probe_follows, join_follows, wrap_follows, pipeline_follows}
 use Rattle.sf_state.proofs.state.Live.clone_in.Goals as goal
 
 pub returns-in_ok-kept-in-Prim : goal.returns-in_ok-kept-in-Prim
@@ -20,3 +20,7 @@ returns-in_ok-inner-in-Wrap c = λ φ p P L S.
 pub returns-in_ok-shared-in-Pipeline : goal.returns-in_ok-shared-in-Pipeline
 returns-in_ok-shared-in-Pipeline c = λ φ p P L S.
     pipeline_follows φ p c.in-Pipeline.stages c.in_ok-shared-in-Pipeline.shared (subst (λ bs. AllFollow φ p bs c.in_ok-shared-in-Pipeline.shared.items) c.deref.ensures.value (c.in_ok-shared-in-Pipeline.ensures φ p)) P L (rw c.in-Pipeline.is at S)
+
+pub returns-in_ok-same-in-Probe : goal.returns-in_ok-same-in-Probe
+returns-in_ok-same-in-Probe c = λ φ p P L S.
+    probe_follows φ p c.in-Probe.name c.in_ok-same-in-Probe.same c.in_ok-same-in-Probe.ensures.cases P L (rw c.in-Probe.is at S)

@@ -2,8 +2,8 @@ use Rattle.std.proofs.Common.{[], sym, ap, subst, ◌∙◌}
 use Rattle.std.specs.Prelude.{bytes_eq}
 use Rattle.sf_expr.specs.Arena.{name_at, placed_at}
 use Rattle.sf_state.specs.Standing.{IsNames}
-use Rattle.sf_state.proofs.Scopes.{found_value, found_outside, found_further, finds_so}
-use Rattle.sf_state.proofs.env.Env.+process.Goals as goal
+use Rattle.sf_state.proofs.Scopes.{found_value, found_outside, found_there, found_further}
+use Rattle.sf_state.proofs.env.Env.+running.Goals as goal
 
 pub returns-in-Some : goal.returns-in-Some
 returns-in-Some t c = λ φ p e same N.
@@ -13,20 +13,16 @@ returns-in-Some t c = λ φ p e same N.
     found_value φ p c.args.name.now b.pattern b.value b.around c.in-Some.field-0.now e (rw (sym pattern, sym value) (c.in-Some.ensures [])) (rw c.in-Bound.is at N)
 
 pub returns-in-None : goal.returns-in-None
-returns-in-None t c =
+returns-in-None t c = λ φ p e same N.
     let b = c.in-Bound.binding.value in
-    let here = c.deref-in-None.result.now in
-    finds_so c.args.expressions.now c.args.name.now here.around c.args.self.now c.process.result (λ found h φ p e same N.
     let pattern = c.placed-pattern.ensures ∙ ap (λ a. placed_at c.args.expressions.now a.pattern) c.deref.ensures ∙ ap (λ x. placed_at x b.pattern) same in
     let value = c.deref-in-Bound-2.ensures ∙ ap (λ a. a.value.value) c.deref-in-Bound.ensures in
-    found_outside φ p c.args.name.now b.pattern b.value b.around found e (rw (sym pattern, sym value) (c.in-None.ensures []))
-    (λ e M. h φ p e same (subst (λ a. IsNames φ p a.around e) (sym c.deref-in-None.ensures) M)) (rw c.in-Bound.is at N)) c.process.ensures
+    found_outside φ p c.args.name.now b.pattern b.value b.around _ e (rw (sym pattern, sym value) (c.in-None.ensures []))
+    (λ e M. c.running.ensures φ p e same (subst (λ a. IsNames φ p a.around e) (sym c.deref-in-None.ensures) M)) (rw c.in-Bound.is at N)
 
 pub returns-else-eq : goal.returns-else-eq
-returns-else-eq t c =
+returns-else-eq t c = λ φ p e same N.
     let b = c.in-Running.running.value in
-    let here = c.deref-else-eq.result.now in
-    finds_so c.args.expressions.now c.args.name.now here.around c.args.self.now c.process-else-eq.result (λ found h φ p e same N.
     let name = c.name_of.ensures ∙ ap (λ a. name_at c.args.expressions.now a.name) c.deref-in-Running.ensures ∙ ap (λ x. name_at x b.name) same in
-    found_further φ p c.args.name.now b.name b.process b.around found e (ap (λ n. bytes_eq c.args.name.now n) (sym name) ∙ sym c.eq.ensures ∙ c.if-eq.false)
-    (λ e M. h φ p e same (subst (λ a. IsNames φ p a.around e) (sym c.deref-else-eq.ensures) M)) (rw c.in-Running.is at N)) c.process-else-eq.ensures
+    found_further φ p c.args.name.now b.name b.process b.base b.around _ e (ap (λ n. bytes_eq c.args.name.now n) (sym name) ∙ sym c.eq.ensures ∙ c.if-eq.false)
+    (λ e M. c.running-else-eq.ensures φ p e same (subst (λ a. IsNames φ p a.around e) (sym c.deref-else-eq.ensures) M)) (rw c.in-Running.is at N)

@@ -1,0 +1,3 @@
+pub mod Latest
+pub mod Readings
+pub mod Watching
