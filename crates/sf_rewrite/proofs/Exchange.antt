@@ -61,16 +61,16 @@ module _ (Q : Leaves) (one : OneLeaf Q) where
     where
       middle : {ys zs : List Data} {p q : Outcome} {a b : Cost} → Paired Q f g e s L ys p a → Parts Q (joined InParallel h k) e (relay L ys) zs → Along Q p (joined InParallel h k) e (with_input s (value_in p)) (relay L ys) q b
           → Made true (joined InParallel (staged whole f h) (staged whole g k)) e s L (combined later p q) (over (both_costs a b))
-      middle {zs = zs} {q = q} {b = b} (paired {ys = xs} {zs = bs} {p = p1} {q = p2} {c = c1} {d = c2} A1 B1 C1 D1) B D = inner p1 p2 C1 D1 D
+      middle {zs = zs} {q = q} {b = b} (paired {ys = xs} {zs = bs} {p = p1} {q = p2} {c = c1} {d = c2} A-one B-one C-one D-one) B D = inner p1 p2 C-one D-one D
         where
           sp : (us : List Data) × (ws : List Data) × Parts Q h e (with_inputs first_of (relay L (pairs xs bs))) us × Parts Q k e (with_inputs second_of (relay L (pairs xs bs))) ws × (pairs us ws ≡ zs)
           sp = split_parallel Q one B
 
           el1 : with_inputs first_of (relay L (pairs xs bs)) ≡ relay (with_inputs first_of L) xs
-          el1 = relay_firsts L A1 B1
+          el1 = relay_firsts L A-one B-one
 
           el2 : with_inputs second_of (relay L (pairs xs bs)) ≡ relay (with_inputs second_of L) bs
-          el2 = relay_seconds L A1 B1
+          el2 = relay_seconds L A-one B-one
 
           H : Parts Q h e (relay (with_inputs first_of L) xs) sp.0
           H = let N : Life → Type 0 = λ M. Parts Q h e M sp.0 in subst N el1 sp.2
@@ -79,44 +79,44 @@ module _ (Q : Leaves) (one : OneLeaf Q) where
           K = let N : Life → Type 0 = λ M. Parts Q k e M sp.1 in subst N el2 sp.3
 
           FH : Parts Q (staged whole f h) e (with_inputs first_of L) sp.0
-          FH = join_stages Q one A1 H
+          FH = join_stages Q one A-one H
 
           GK : Parts Q (staged whole g k) e (with_inputs second_of L) sp.1
-          GK = join_stages Q one B1 K
+          GK = join_stages Q one B-one K
 
           last : {c1 c2 d1 d2 : Cost} {a b : Data} {r1 r2 : Readings} (q1 q2 : Outcome) → At Q f e (with_input s (first_of (input_of s))) (with_inputs first_of L) (gave a r1) c1 → At Q g e (with_input s (second_of (input_of s))) (with_inputs second_of L) (gave b r2) c2
               → At Q h e (with_input s a) (relay (with_inputs first_of L) xs) q1 d1 → Along Q q1 k e (with_input s b) (relay (with_inputs second_of L) bs) q2 d2
               → Made true (joined InParallel (staged whole f h) (staged whole g k)) e s L (combined later (gave (pair a b) (r1 ++ r2)) (combined pair q1 q2)) (over (both_costs (over (both_costs c1 c2)) (over (both_costs d1 d2))))
-          last {c1} {c2} {d1} {d2} {a} {b} {r1} {r2} (gave u r3) q2 C1 E1 C2 (goes E2) =
+          last {c1} {c2} {d1} {d2} {a} {b} {r1} {r2} (gave u r3) q2 C-one E-one C-two (goes E-two) =
               let M : Outcome → Type 0 = λ o. At Q (joined InParallel (staged whole f h) (staged whole g k)) e s L o (over (both_costs (over (both_costs c1 d1)) (over (both_costs c2 d2)))) in
-              lowered (subst M (reordered quiet B1 E1 H C2 a r1 q2) (make_parallel Q one (paired FH GK (make_stages Q one (chained A1 H C1 (goes C2))) (goes (make_stages Q one (chained B1 K E1 (goes E2)))))))
+              lowered (subst M (reordered quiet B-one E-one H C-two a r1 q2) (make_parallel Q one (paired FH GK (make_stages Q one (chained A-one H C-one (goes C-two))) (goes (make_stages Q one (chained B-one K E-one (goes E-two)))))))
               (below (omega arith) (omega arith))
-          last {c1} {c2} {d1} (faulted x) q2 C1 E1 C2 stays = elim quiet [
+          last {c1} {c2} {d1} (faulted x) q2 C-one E-one C-two stays = elim quiet [
             | inl hg ↦
-                let r = quiet_gave Q one hg B1 E1 in
+                let r = quiet_gave Q one hg B-one E-one in
                 let u : count c2 ≡ count (text_cost g) = ap count r.2 in
                 let v : height c2 ≡ height (text_cost g) = ap height r.2 in
-                lowered (make_parallel Q one (paired FH GK (make_stages Q one (chained A1 H C1 (goes C2))) stays)) (below (omega (arith, u)) (omega (arith, v)))
-            | inr hh ↦ absurd (not_quiet hh H C2)
+                lowered (make_parallel Q one (paired FH GK (make_stages Q one (chained A-one H C-one (goes C-two))) stays)) (below (omega (arith, u)) (omega (arith, v)))
+            | inr hh ↦ absurd (not_quiet hh H C-two)
           ]
 
           inner : {c1 c2 b : Cost} {q : Outcome} (p1 p2 : Outcome) → At Q f e (with_input s (first_of (input_of s))) (with_inputs first_of L) p1 c1 → Along Q p1 g e (with_input s (second_of (input_of s))) (with_inputs second_of L) p2 c2
               → Along Q (combined pair p1 p2) (joined InParallel h k) e (with_input s (value_in (combined pair p1 p2))) (relay L (pairs xs bs)) q b
               → Made true (joined InParallel (staged whole f h) (staged whole g k)) e s L (combined later (combined pair p1 p2) q) (over (both_costs (over (both_costs c1 c2)) b))
-          inner {c1} {c2} (gave a r1) (gave b r2) C1 (goes E1) (goes E) = seen (view_parallel Q one B E)
+          inner {c1} {c2} (gave a r1) (gave b r2) C-one (goes E-one) (goes E) = seen (view_parallel Q one B E)
             where
               seen : {zs : List Data} {q : Outcome} {d : Cost} → Paired Q h k e (with_input s (pair a b)) (relay L (pairs xs bs)) zs q d → Made true (joined InParallel (staged whole f h) (staged whole g k)) e s L (combined later (gave (pair a b) (r1 ++ r2)) q) (over (both_costs (over (both_costs c1 c2)) d))
-              seen (paired {p = q1} {q = q2} {c = d1} {d = d2} A2 B2 C2 D2) =
+              seen (paired {p = q1} {q = q2} {c = d1} {d = d2} A-two B-two C-two D-two) =
                   let N : Life → Type 0 = λ M. At Q h e (with_input s a) M q1 d1 in
                   let O : Life → Type 0 = λ M. Along Q q1 k e (with_input s b) M q2 d2 in
-                  last q1 q2 C1 E1 (subst N el1 C2) (subst O el2 D2)
-          inner {c1} {c2} (gave a r1) (faulted x) C1 (goes E1) stays = elim quiet [
-            | inl hg ↦ absurd (not_quiet hg B1 E1)
+                  last q1 q2 C-one E-one (subst N el1 C-two) (subst O el2 D-two)
+          inner {c1} {c2} (gave a r1) (faulted x) C-one (goes E-one) stays = elim quiet [
+            | inl hg ↦ absurd (not_quiet hg B-one E-one)
             | inr hh ↦
                 let r = quiet_steps Q one h hh e (with_input s a) (relay (with_inputs first_of L) xs) sp.0 H in
-                lowered (make_parallel Q one (paired FH GK (make_stages Q one (chained A1 H C1 (goes r.1))) (goes (make_stages Q one (chained B1 K E1 stays))))) (below (omega arith) (omega arith))
+                lowered (make_parallel Q one (paired FH GK (make_stages Q one (chained A-one H C-one (goes r.1))) (goes (make_stages Q one (chained B-one K E-one stays))))) (below (omega arith) (omega arith))
           ]
-          inner (faulted x) p2 C1 stays stays = lowered (make_parallel Q one (paired FH GK (make_stages Q one (chained A1 H C1 stays)) stays)) (below (omega arith) (omega arith))
+          inner (faulted x) p2 C-one stays stays = lowered (make_parallel Q one (paired FH GK (make_stages Q one (chained A-one H C-one stays)) stays)) (below (omega arith) (omega arith))
 
       outer : {o : Outcome} {c : Cost} → Chained Q whole (joined InParallel f g) (joined InParallel h k) e s L zs o c → Made true (joined InParallel (staged whole f h) (staged whole g k)) e s L o c
       outer (chained A B C D) = middle (view_parallel Q one A C) B D
@@ -125,45 +125,45 @@ module _ (Q : Leaves) (one : OneLeaf Q) where
   back_exchanged {f} {g} {h} {k} quiet e s L zs o c P F = outer (view_parallel Q one P F)
     where
       lift_first : {xs bs us : List Data} → Parts Q f e (with_inputs first_of L) xs → Parts Q g e (with_inputs second_of L) bs → Parts Q h e (relay (with_inputs first_of L) xs) us → Parts Q h e (with_inputs first_of (relay L (pairs xs bs))) us
-      lift_first {us = us} A1 B1 H = let N : Life → Type 0 = λ M. Parts Q h e M us in subst N (sym (relay_firsts L A1 B1)) H
+      lift_first {us = us} A-one B-one H = let N : Life → Type 0 = λ M. Parts Q h e M us in subst N (sym (relay_firsts L A-one B-one)) H
 
       lift_second : {xs bs ws : List Data} → Parts Q f e (with_inputs first_of L) xs → Parts Q g e (with_inputs second_of L) bs → Parts Q k e (relay (with_inputs second_of L) bs) ws → Parts Q k e (with_inputs second_of (relay L (pairs xs bs))) ws
-      lift_second {ws = ws} A1 B1 K = let N : Life → Type 0 = λ M. Parts Q k e M ws in subst N (sym (relay_seconds L A1 B1)) K
+      lift_second {ws = ws} A-one B-one K = let N : Life → Type 0 = λ M. Parts Q k e M ws in subst N (sym (relay_seconds L A-one B-one)) K
 
       built : {xs bs us ws : List Data} → Parts Q f e (with_inputs first_of L) xs → Parts Q h e (relay (with_inputs first_of L) xs) us → Parts Q g e (with_inputs second_of L) bs → Parts Q k e (relay (with_inputs second_of L) bs) ws → Parts Q (joined InParallel h k) e (relay L (pairs xs bs)) (pairs us ws)
-      built {xs} {bs} A1 H B1 K = join_parallel Q one (relay L (pairs xs bs)) (lift_first A1 B1 H) (lift_second A1 B1 K)
+      built {xs} {bs} A-one H B-one K = join_parallel Q one (relay L (pairs xs bs)) (lift_first A-one B-one H) (lift_second A-one B-one K)
 
       to_first : {xs bs : List Data} {a : Data} {q : Outcome} {d : Cost} → Parts Q f e (with_inputs first_of L) xs → Parts Q g e (with_inputs second_of L) bs → At Q h e (with_input s a) (relay (with_inputs first_of L) xs) q d → At Q h e (with_input s a) (with_inputs first_of (relay L (pairs xs bs))) q d
-      to_first {a = a} {q = q} {d = d} A1 B1 E = let N : Life → Type 0 = λ M. At Q h e (with_input s a) M q d in subst N (sym (relay_firsts L A1 B1)) E
+      to_first {a = a} {q = q} {d = d} A-one B-one E = let N : Life → Type 0 = λ M. At Q h e (with_input s a) M q d in subst N (sym (relay_firsts L A-one B-one)) E
 
       to_second : {xs bs : List Data} {b : Data} {q : Outcome} {d : Cost} → Parts Q f e (with_inputs first_of L) xs → Parts Q g e (with_inputs second_of L) bs → At Q k e (with_input s b) (relay (with_inputs second_of L) bs) q d → At Q k e (with_input s b) (with_inputs second_of (relay L (pairs xs bs))) q d
-      to_second {b = b} {q = q} {d = d} A1 B1 E = let N : Life → Type 0 = λ M. At Q k e (with_input s b) M q d in subst N (sym (relay_seconds L A1 B1)) E
+      to_second {b = b} {q = q} {d = d} A-one B-one E = let N : Life → Type 0 = λ M. At Q k e (with_input s b) M q d in subst N (sym (relay_seconds L A-one B-one)) E
 
       done : {xs us ws : List Data} {a u : Data} {r1 r3 : Readings} {q : Outcome} {c1 d1 d : Cost} (c : Cost) → Parts Q f e (with_inputs first_of L) xs → Parts Q h e (relay (with_inputs first_of L) xs) us → At Q f e (with_input s (first_of (input_of s))) (with_inputs first_of L) (gave a r1) c1 → At Q h e (with_input s a) (relay (with_inputs first_of L) xs) (gave u r3) d1
           → Chained Q whole g k e (with_input s (second_of (input_of s))) (with_inputs second_of L) ws q d → Made false (staged whole (joined InParallel f g) (joined InParallel h k)) e s L (combined pair (gave u (r1 ++ r3)) q) c
-      done {a = a} {r1 = r1} {c1 = c1} {d1 = d1} c A1 H C1 E1 (chained {p = gave b r2} {q = q2} {c = c2} {d = d2} B1 K C2 (goes E2)) =
+      done {a = a} {r1 = r1} {c1 = c1} {d1 = d1} c A-one H C-one E-one (chained {p = gave b r2} {q = q2} {c = c2} {d = d2} B-one K C-two (goes E-two)) =
           let M : Outcome → Type 0 = λ o. At Q (staged whole (joined InParallel f g) (joined InParallel h k)) e s L o (over (both_costs (over (both_costs c1 c2)) (over (both_costs d1 d2)))) in
-          lowered (subst M (sym (reordered quiet B1 C2 H E1 a r1 q2))
-          (make_stages Q one (chained (join_parallel Q one L A1 B1) (built A1 H B1 K) (make_parallel Q one (paired A1 B1 C1 (goes C2))) (goes (make_parallel Q one (paired (lift_first A1 B1 H) (lift_second A1 B1 K) (to_first A1 B1 E1) (goes (to_second A1 B1 E2)))))))) (below_any _ _)
-      done c A1 H C1 E1 (chained {p = faulted x} B1 K C2 stays) =
-          lowered (make_stages Q one (chained (join_parallel Q one L A1 B1) (built A1 H B1 K) (make_parallel Q one (paired A1 B1 C1 (goes C2))) stays)) (below_any _ _)
+          lowered (subst M (sym (reordered quiet B-one C-two H E-one a r1 q2))
+          (make_stages Q one (chained (join_parallel Q one L A-one B-one) (built A-one H B-one K) (make_parallel Q one (paired A-one B-one C-one (goes C-two))) (goes (make_parallel Q one (paired (lift_first A-one B-one H) (lift_second A-one B-one K) (to_first A-one B-one E-one) (goes (to_second A-one B-one E-two)))))))) (below_any _ _)
+      done c A-one H C-one E-one (chained {p = faulted x} B-one K C-two stays) =
+          lowered (make_stages Q one (chained (join_parallel Q one L A-one B-one) (built A-one H B-one K) (make_parallel Q one (paired A-one B-one C-one (goes C-two))) stays)) (below_any _ _)
 
       two : {xs us ws : List Data} {a : Data} {r1 : Readings} {c1 d1 d : Cost} (c : Cost) (q1 q : Outcome) → Parts Q f e (with_inputs first_of L) xs → Parts Q h e (relay (with_inputs first_of L) xs) us → At Q f e (with_input s (first_of (input_of s))) (with_inputs first_of L) (gave a r1) c1 → At Q h e (with_input s a) (relay (with_inputs first_of L) xs) q1 d1
           → Parts Q (staged whole g k) e (with_inputs second_of L) ws → Along Q (combined later (gave a r1) q1) (staged whole g k) e (with_input s (second_of (input_of s))) (with_inputs second_of L) q d → Made false (staged whole (joined InParallel f g) (joined InParallel h k)) e s L (combined pair (combined later (gave a r1) q1) q) c
-      two c (gave u r3) q A1 H C1 E1 B (goes E) = done c A1 H C1 E1 (view_stages Q one B E)
-      two c (faulted x) q A1 H C1 E1 B stays = elim quiet [
+      two c (gave u r3) q A-one H C-one E-one B (goes E) = done c A-one H C-one E-one (view_stages Q one B E)
+      two c (faulted x) q A-one H C-one E-one B stays = elim quiet [
         | inl hg ↦
             let sp = split_stages Q one B in
             let r = quiet_steps Q one g hg e (with_input s (second_of (input_of s))) (with_inputs second_of L) sp.0 sp.1 in
-            lowered (make_stages Q one (chained (join_parallel Q one L A1 sp.1) (built A1 H sp.1 sp.2) (make_parallel Q one (paired A1 sp.1 C1 (goes r.1))) (goes (make_parallel Q one (paired (lift_first A1 sp.1 H) (lift_second A1 sp.1 sp.2) (to_first A1 sp.1 E1) stays))))) (below_any _ _)
-        | inr hh ↦ absurd (not_quiet hh H E1)
+            lowered (make_stages Q one (chained (join_parallel Q one L A-one sp.1) (built A-one H sp.1 sp.2) (make_parallel Q one (paired A-one sp.1 C-one (goes r.1))) (goes (make_parallel Q one (paired (lift_first A-one sp.1 H) (lift_second A-one sp.1 sp.2) (to_first A-one sp.1 E-one) stays))))) (below_any _ _)
+        | inr hh ↦ absurd (not_quiet hh H E-one)
       ]
 
       mid : {us ws : List Data} {p q : Outcome} {a d : Cost} (c : Cost) → Chained Q whole f h e (with_input s (first_of (input_of s))) (with_inputs first_of L) us p a → Parts Q (staged whole g k) e (with_inputs second_of L) ws → Along Q p (staged whole g k) e (with_input s (second_of (input_of s))) (with_inputs second_of L) q d → Made false (staged whole (joined InParallel f g) (joined InParallel h k)) e s L (combined pair p q) c
-      mid {q = q} c (chained {q = q1} A1 H C1 (goes E1)) B D = two c q1 q A1 H C1 E1 B D
-      mid c (chained A1 H C1 stays) B stays =
+      mid {q = q} c (chained {q = q1} A-one H C-one (goes E-one)) B D = two c q1 q A-one H C-one E-one B D
+      mid c (chained A-one H C-one stays) B stays =
           let sp = split_stages Q one B in
-          lowered (make_stages Q one (chained (join_parallel Q one L A1 sp.1) (built A1 H sp.1 sp.2) (make_parallel Q one (paired A1 sp.1 C1 stays)) stays)) (below_any _ _)
+          lowered (make_stages Q one (chained (join_parallel Q one L A-one sp.1) (built A-one H sp.1 sp.2) (make_parallel Q one (paired A-one sp.1 C-one stays)) stays)) (below_any _ _)
 
       outer : {zs : List Data} {o : Outcome} {c : Cost} → Paired Q (staged whole f h) (staged whole g k) e s L zs o c → Made false (staged whole (joined InParallel f g) (joined InParallel h k)) e s L o c
       outer (paired {c = a} {d = d} A B C D) = mid (over (both_costs a d)) (view_stages Q one A C) B D

@@ -370,10 +370,10 @@ module _ (d : Bool) (n n' : Network) (all : AlikeAll d n.templates n'.templates)
   go_turn A S C e e' E s L ys o c P F =
       let P' = parts_along Q one_Q (law_sound Q one_Q A) P in
       elim (law_sound Q one_Q A _ _ _ _ _ _ P F) [
-        | lowered F1 h ↦
-            elim (S e e' E _ _ _ _ _ P' F1) [
-              | lowered F2 k ↦
-                  elim (law_sound (Leaf n') one' C _ _ _ _ _ _ (goes_all S e e' E P') F2) [ lowered F3 l ↦ lowered F3 (below_trans h (below_trans k l)) ]
+        | lowered F-one h ↦
+            elim (S e e' E _ _ _ _ _ P' F-one) [
+              | lowered F-two k ↦
+                  elim (law_sound (Leaf n') one' C _ _ _ _ _ _ (goes_all S e e' E P') F-two) [ lowered F-three l ↦ lowered F-three (below_trans h (below_trans k l)) ]
             ]
       ]
 

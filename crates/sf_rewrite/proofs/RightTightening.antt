@@ -126,8 +126,8 @@ module _ (Q : Leaves) (one : OneLeaf Q) where
         er : with_inputs first_of (relay (fed v L (older zs)) sp.0) ≡ relay L (firsts ys)
         er = relay_fed v L (older zs) sp.0 ∙ ap (λ l. relay L (firsts l)) ew
 
-        H2 : Parts Q h e (with_inputs first_of (relay (fed v L (older zs)) sp.0)) us
-        H2 = let N : Life → Type 0 = λ M. Parts Q h e M us in subst N (sym er) H
+        H-two : Parts Q h e (with_inputs first_of (relay (fed v L (older zs)) sp.0)) us
+        H-two = let N : Life → Type 0 = λ M. Parts Q h e M us in subst N (sym er) H
 
         at_zs : {o : Outcome} {c : Cost} → Part Q g e (fed v (s ∷ L) ys) o c → Part Q g e (fed v (s ∷ L) zs) o c
         at_zs {o} {c} G = let N : Life → Type 0 = λ M. Part Q g e M o c in subst N (sym (fed_echo v (s ∷ L) E)) G
@@ -136,7 +136,7 @@ module _ (Q : Leaves) (one : OneLeaf Q) where
             → Lowered false (Part Q Both e (fed v (s ∷ L) zs) (combined later (gave y r) (changed (with_side First y) o))) b
         with_h {y = y} {o = o} {d = d} (part A C) F =
             let N : Life → Type 0 = λ M. At Q h e (with_input s (first_of y)) M o d in
-            lowered (part (rounds_parts S) (make_stages Q one (chained sp.1 sp.2 C (goes (at_side (part H2 (subst N (sym er) F))))))) (below_any _ _)
+            lowered (part (rounds_parts S) (make_stages Q one (chained sp.1 sp.2 C (goes (at_side (part H-two (subst N (sym er) F))))))) (below_any _ _)
 
         without_h : {x : ValueFault} {c b : Cost} → Part Q g e (fed v (s ∷ L) zs) (faulted x) c → Lowered false (Part Q Both e (fed v (s ∷ L) zs) (faulted x)) b
         without_h (part A C) = lowered (part (rounds_parts S) (make_stages Q one (chained sp.1 sp.2 C stays))) (below_any _ _)

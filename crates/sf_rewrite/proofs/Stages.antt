@@ -69,10 +69,10 @@ module _ (Q : Leaves) (one : OneLeaf Q) where
   sound_identity_before {x} {f} e s L zs o c P B = go (view_stages Q one P B)
     where
       go : {o : Outcome} {c : Cost} → Chained Q x identity f e s L zs o c → Lowered true (At Q f e s L o) c
-      go (chained {ys = ys} {p = p} {q = q} {c = a} {d = b} A1 B1 C1 D1) =
-          let h : p ≡ gave (input_of s) [] = (once_at Q one C1 at_primitive).0 in
+      go (chained {ys = ys} {p = p} {q = q} {c = a} {d = b} A-one B-one C-one D-one) =
+          let h : p ≡ gave (input_of s) [] = (once_at Q one C-one at_primitive).0 in
           let N : Outcome → Type 0 = λ p. Along Q p f e (with_input s (value_in p)) (relay L ys) q b in
-          finish (subst N h D1) (ap (λ p. combined later p q) h ∙ after_value (input_of s) q) (identity_relay A1)
+          finish (subst N h D-one) (ap (λ p. combined later p q) h ∙ after_value (input_of s) q) (identity_relay A-one)
         where
           finish : Along Q (gave (input_of s) []) f e (with_input s (input_of s)) (relay L ys) q b → combined later p q ≡ q → relay L ys ≡ L → Lowered true (At Q f e s L (combined later p q)) (over_stages x (both_costs a b))
           finish (goes E) eo el =
@@ -94,11 +94,11 @@ module _ (Q : Leaves) (one : OneLeaf Q) where
   sound_identity_after {x} {f} e s L zs o c P B = go (view_stages Q one P B)
     where
       go : {o : Outcome} {c : Cost} → Chained Q x f identity e s L zs o c → Lowered true (At Q f e s L o) c
-      go (chained {p = gave y r} {q = q} {c = a} {d = b} A1 B1 C1 (goes D)) =
+      go (chained {p = gave y r} {q = q} {c = a} {d = b} A-one B-one C-one (goes D)) =
           let h : q ≡ gave y [] = (once_at Q one D at_primitive).0 in
           let M : Outcome → Type 0 = λ o. At Q f e s L o a in
-          lowered (subst M (sym (ap (λ q. combined later (gave y r) q) h ∙ ap (gave y) (append-nil r))) C1) (below_first x a b)
-      go (chained {c = a} A1 B1 C1 stays) = lowered C1 (below_first x a one_term)
+          lowered (subst M (sym (ap (λ q. combined later (gave y r) q) h ∙ ap (gave y) (append-nil r))) C-one) (below_first x a b)
+      go (chained {c = a} A-one B-one C-one stays) = lowered C-one (below_first x a one_term)
 
   pub back_identity_after : {x : Extent} {f : Term} → Sound Q one false f (staged x f identity)
   back_identity_after {x} {f} = rebuilt_stages Q one go
@@ -124,26 +124,26 @@ module _ (Q : Leaves) (one : OneLeaf Q) where
         where
           inner : {p : Outcome} {c : Cost} → Chained Q rest f g e s L ys p c → Along Q p h e (with_input s (value_in p)) (relay L ys) q k
               → Lowered d (At Q (staged x f (staged rest g h)) e s L (combined later p q)) (over_stages x (both_costs c k))
-          inner (chained {ys = xs} {p = p1} {q = q1} {c = a} {d = b} A1 B1 C1 D1) E = last p1 q1 C1 D1 E
+          inner (chained {ys = xs} {p = p1} {q = q1} {c = a} {d = b} A-one B-one C-one D-one) E = last p1 q1 C-one D-one E
             where
               el : relay (relay L xs) ys ≡ relay L ys
-              el = relay_relay A1 ys
+              el = relay_relay A-one ys
 
-              B2 : Parts Q h e (relay (relay L xs) ys) zs
-              B2 = let N : Life → Type 0 = λ M. Parts Q h e M zs in subst N (sym el) B
+              B-two : Parts Q h e (relay (relay L xs) ys) zs
+              B-two = let N : Life → Type 0 = λ M. Parts Q h e M zs in subst N (sym el) B
 
               PP : Parts Q (staged rest g h) e (relay L xs) zs
-              PP = join_stages Q one B1 B2
+              PP = join_stages Q one B-one B-two
 
               last : {a b k : Cost} {q : Outcome} (p1 q1 : Outcome) → At Q f e s L p1 a → Along Q p1 g e (with_input s (value_in p1)) (relay L xs) q1 b
                   → Along Q (combined later p1 q1) h e (with_input s (value_in (combined later p1 q1))) (relay L ys) q k
                   → Lowered d (At Q (staged x f (staged rest g h)) e s L (combined later (combined later p1 q1) q)) (over_stages x (both_costs (both_costs a b) k))
-              last {a} {b} {k} {q} (gave y r) (gave z r1) C1 (goes D1) (goes E) =
+              last {a} {b} {k} {q} (gave y r) (gave z r1) C-one (goes D-one) (goes E) =
                   let N : Life → Type 0 = λ M. At Q h e (with_input s z) M q k in
                   let M : Outcome → Type 0 = λ o. At Q (staged x f (staged rest g h)) e s L o (over_stages x (both_costs a (both_costs b k))) in
-                  lowered (subst M (sym (combined_assoc (gave y r) (gave z r1) q)) (make_stages Q one (chained A1 PP C1 (goes (make_stages Q one (chained B1 B2 D1 (goes (subst N (sym el) E)))))))) (below_stages x _ _ (bs a b k))
-              last {a} {b} (gave y r) (faulted v) C1 (goes D1) stays = lowered (make_stages Q one (chained A1 PP C1 (goes (make_stages Q one (chained B1 B2 D1 stays))))) (below_stages x _ _ (bs a b (text_cost h)))
-              last {a} (faulted v) q1 C1 stays stays = lowered (make_stages Q one (chained A1 PP C1 stays)) (below_stages x _ _ (bs a (text_cost g) (text_cost h)))
+                  lowered (subst M (sym (combined_assoc (gave y r) (gave z r1) q)) (make_stages Q one (chained A-one PP C-one (goes (make_stages Q one (chained B-one B-two D-one (goes (subst N (sym el) E)))))))) (below_stages x _ _ (bs a b k))
+              last {a} {b} (gave y r) (faulted v) C-one (goes D-one) stays = lowered (make_stages Q one (chained A-one PP C-one (goes (make_stages Q one (chained B-one B-two D-one stays))))) (below_stages x _ _ (bs a b (text_cost h)))
+              last {a} (faulted v) q1 C-one stays stays = lowered (make_stages Q one (chained A-one PP C-one stays)) (below_stages x _ _ (bs a (text_cost g) (text_cost h)))
 
   pub sound_associate_left : {d : Bool} {x : Extent} {f g h : Term} → ((a b c : Cost) → Below d (both_costs a (both_costs b c)) (both_costs (both_costs a b) c)) → Sound Q one d (staged x f (staged rest g h)) (staged x (staged rest f g) h)
   sound_associate_left {d} {x} {f} {g} {h} bs e s L zs o c P B = outer (view_stages Q one P B)
@@ -152,21 +152,21 @@ module _ (Q : Leaves) (one : OneLeaf Q) where
       outer (chained {ys = xs} {c = a} A B C (goes {y = y} {r = r} D)) = inner (view_stages Q one B D)
         where
           inner : {p : Outcome} {k : Cost} → Chained Q rest g h e (with_input s y) (relay L xs) zs p k → Lowered d (At Q (staged x (staged rest f g) h) e s L (combined later (gave y r) p)) (over_stages x (both_costs a k))
-          inner (chained {ys = ys} {p = p2} {q = q} {c = b} {d = k} B1 B2 C2 D2) = last p2 q C2 D2
+          inner (chained {ys = ys} {p = p2} {q = q} {c = b} {d = k} B-one B-two C-two D-two) = last p2 q C-two D-two
             where
               el : relay (relay L xs) ys ≡ relay L ys
               el = relay_relay A ys
 
-              B3 : Parts Q h e (relay L ys) zs
-              B3 = let N : Life → Type 0 = λ M. Parts Q h e M zs in subst N el B2
+              B-three : Parts Q h e (relay L ys) zs
+              B-three = let N : Life → Type 0 = λ M. Parts Q h e M zs in subst N el B-two
 
               last : {b k : Cost} (p2 q : Outcome) → At Q g e (with_input s y) (relay L xs) p2 b → Along Q p2 h e (with_input s (value_in p2)) (relay (relay L xs) ys) q k
                   → Lowered d (At Q (staged x (staged rest f g) h) e s L (combined later (gave y r) (combined later p2 q))) (over_stages x (both_costs a (both_costs b k)))
-              last {b} {k} (gave z r1) q C2 (goes E) =
+              last {b} {k} (gave z r1) q C-two (goes E) =
                   let N : Life → Type 0 = λ M. At Q h e (with_input s z) M q k in
                   let M : Outcome → Type 0 = λ o. At Q (staged x (staged rest f g) h) e s L o (over_stages x (both_costs (both_costs a b) k)) in
-                  lowered (subst M (combined_assoc (gave y r) (gave z r1) q) (make_stages Q one (chained (join_stages Q one A B1) B3 (make_stages Q one (chained A B1 C (goes C2))) (goes (subst N el E))))) (below_stages x _ _ (bs a b k))
-              last {b} (faulted v) q C2 stays = lowered (make_stages Q one (chained (join_stages Q one A B1) B3 (make_stages Q one (chained A B1 C (goes C2))) stays)) (below_stages x _ _ (bs a b (text_cost h)))
+                  lowered (subst M (combined_assoc (gave y r) (gave z r1) q) (make_stages Q one (chained (join_stages Q one A B-one) B-three (make_stages Q one (chained A B-one C (goes C-two))) (goes (subst N el E))))) (below_stages x _ _ (bs a b k))
+              last {b} (faulted v) q C-two stays = lowered (make_stages Q one (chained (join_stages Q one A B-one) B-three (make_stages Q one (chained A B-one C (goes C-two))) stays)) (below_stages x _ _ (bs a b (text_cost h)))
       outer (chained {ys = xs} {c = a} A B C stays) =
           let k = split_stages Q one B in
           let N : Life → Type 0 = λ M. Parts Q h e M zs in

@@ -135,26 +135,26 @@ one : {R : Rel} {a b : Outcome} {j k : Cost} → Single R → R a j → R b k �
 one (single f) G H = f _ _ _ _ G H
 
 -- the first part gives a value, and the other one fails
-module _ {R : Rel} {g : Data → Data → Data} {stop : Cost} (S : Data → Rel) {y : Data} {r : Readings} {k1 : Cost} (u : Single R) (G1 : R (gave y r) k1) where
+module _ {R : Rel} {g : Data → Data → Data} {stop : Cost} (S : Data → Rel) {y : Data} {r : Readings} {k1 : Cost} (u : Single R) (G-one : R (gave y r) k1) where
   rest_within : {m n n' : Meter} {depth : ℕ} → Spent m n depth k1 r → Within (S y) n n' depth → Within (Then R g stop S) m n' depth
   rest_within {m} {n} {n'} {depth} s w = record { most = go }
     where
       go : (o : Outcome) (k : Cost) → Then R g stop S o k → AtMost m n' depth k
       go o k (then_on {y = z} {o = o'} {k = k'} {l = l} G H) =
-          let e = one u G G1 in
+          let e = one u G G-one in
           subst (λ (k : Cost). AtMost m n' depth (both_costs k l)) (sym e.1) (both_most s (w.most o' l (subst (λ v. S v o' l) (ap value_in e.0) H)))
-      go o k (then_stop G) = let e = (one u G G1).0 in cc
+      go o k (then_stop G) = let e = (one u G G-one).0 in cc
 
   pub rest_fails : {f : Fault} {m n n' : Meter} {depth : ℕ} → Spent m n depth k1 r → StopsFor (S y) f n n' depth → StopsFor (Then R g stop S) f m n' depth
-  rest_fails s (faults G b) = faults (then_on G1 G) (both_most s b)
+  rest_fails s (faults G b) = faults (then_on G-one G) (both_most s b)
   rest_fails {f} {m} {n} {n'} {depth} s (large h w) = large go (rest_within s w)
     where
       go : (o : Outcome) (k : Cost) → Then R g stop S o k → entered_of m + count k ≤ 1000000 → depth + height k ≤ 1600 → ⊥
       go o k (then_on {y = z} {o = o'} {l = l} G H) a b =
-          let e = one u G G1 in
+          let e = one u G G-one in
           let c = ap count e.1 in let d = ap height e.1 in let i = s.entered in
           h o' l (subst (λ v. S v o' l) (ap value_in e.0) H) (omega arith) (omega arith)
-      go o k (then_stop G) a b = let e = (one u G G1).0 in cc
+      go o k (then_stop G) a b = let e = (one u G G-one).0 in cc
   rest_fails s (memory w) = memory (rest_within s w)
 
 -- a value's cost is the one that there is, also where no more is counted after it
