@@ -1,5 +1,5 @@
 -- Samples of primitives.
-use Rattle.std.proofs.Common.{◌≡◌, ℕ, suc, ◌+◌, ◌-◌, arith, inl, inr, [], ◌∷◌, Bool, true, false, true≢false, cond, ℤ, pos, negsuc, Option, Some, None, Result, Ok, Err, refl, sym, ap, ◌∙◌, subst}
+use Rattle.std.proofs.Common.{Box, ◌≡◌, ℕ, suc, ◌+◌, ◌-◌, arith, inl, inr, [], ◌∷◌, Bool, true, false, true≢false, cond, ℤ, pos, negsuc, Option, Some, None, Result, Ok, Err, refl, sym, ap, ◌∙◌, subst}
 use mathlib.Core.Path.{ap₂}
 use Rattle.std.proofs.lemmas.Bool.{cases_lt, le-leb, lt-leb, leb-true}
 use Rattle.std.specs.Prelude.{nat_le, not, ◌&&◌, ◌+ℤ◌, ◌*ℤ◌, IsErrAnd, OnOk, IfErr}
@@ -30,7 +30,7 @@ use Rattle.sf_prim.specs.declared.accumulator.Accumulator.{Accumulator}
 use Rattle.sf_prim.specs.declared.prim_state.PrimState.{PrimState}
 use Rattle.sf_prim.specs.declared.prim_state.PrimState.TheVariants.{Identity, Never, Constant, Previous, Arrow, Accumulated, Clock, Area, Timed, Edge, NotYet, Count, Now, Hold}
 use Rattle.sf_prim.specs.Gifts.{gift}
-use Rattle.sf_prim.specs.Keeping.{shown_after, time_after, last_time, has_steps, span, waited, is_up, count_after, counted_after, Remembers, keeps_nothing, keeps_no_event, keeps_value, keeps_previous, keeps_initialized, keeps_pre, keeps_function, keeps_accumulation, keeps_time, keeps_area, keeps_timer, keeps_low, keeps_begun, keeps_count, keeps_first, keeps_last, Begins, begins_with_fault, begins_without_memory, GoesOn, goes_on, goes_on_with_fault, goes_on_without_memory}
+use Rattle.sf_prim.specs.Keeping.{shown_after, time_after, last_time, has_steps, span, waited, is_up, count_after, counted_after, Remembers, keeps_nothing, keeps_no_event, keeps_value, keeps_previous, keeps_initialized, keeps_pre, keeps_function, keeps_accumulation, keeps_time, keeps_area, keeps_timer, keeps_low, keeps_begun, keeps_count, keeps_first, keeps_passed, keeps_last, Begins, begins_with_fault, begins_without_memory, GoesOn, goes_on, goes_on_with_fault, goes_on_without_memory}
 
 -- a primitive with a value gives what its formula makes of it
 value_gives : (k : WithValue) (e : Expression) (scope : Scope) (v : Data) (s : Step) (L : Life)
@@ -69,6 +69,7 @@ identity_goes_on q scope d x L keeps_nothing = goes_on refl keeps_nothing
 
 pub never_goes_on : (q : Primitive) (scope : Scope) (s : Step) (L : Life) (v : Data) → v ≡ no_event → Remembers Never q scope L → GoesOn q scope s L Never (Ok v)
 never_goes_on q scope s L v is keeps_no_event = goes_on (ap answer (sym is)) keeps_no_event
+never_goes_on q scope s L v is (keeps_passed {e = e} {v = given} h) = goes_on (value_gives VNow e scope given s L h ∙ ap answer (sym is)) (keeps_passed h)
 
 pub constant_goes_on : {A : Type 0} (q : Primitive) (scope : Scope) (s : Step) (L : Life) (v w : Data) (r : Result A EvalFault) → OnOk r (w ≡ v) → IfErr r (λ e. e ≡ Memory)
     → Remembers (Constant v) q scope L → GoesOn q scope s L (Constant v) (gift r w)
@@ -95,6 +96,10 @@ goes_with : {A : Type 0} {q : Primitive} {scope : Scope} {s : Step} {L : Life} {
 goes_with (Ok a) w is told kept = goes_on (is ∙ told) kept
 goes_with (Err (Value x)) w is told kept = goes_on_with_fault (is ∙ told)
 goes_with (Err Memory) w is told kept = goes_on_without_memory
+
+always : {A : Type 0} {P : Type 0} (r : Result A EvalFault) → P → OnOk r P
+always (Ok a) h = h
+always (Err e) h = tt
 
 where_ok : {A : Type 0} {P Q : Type 0} (r : Result A EvalFault) → (P → Q) → OnOk r P → OnOk r Q
 where_ok (Ok a) f h = f h
@@ -153,7 +158,7 @@ due_is before true v h = refl
 due_is false false v h = refl
 due_is true false v h = absurd (true≢false (sym (h refl)))
 
-pub timer_keeps : (sc : Scope) (k : Timing) (q : ℤ) (e : Expression) (t : Timer) (v : Data) → t.due ≡ Some v → t.begun ≡ false → t.left ≡ span q
+pub timer_keeps : (sc : Scope) (k : Timing) (q : ℤ) (e : Expression) (t : Box Timer Global) (v : Data) → t.value.due ≡ Some v → t.value.begun ≡ false → t.value.left ≡ span q
     → eval e sc ≡ answer v → Remembers (Timed t) (timed k q e) sc []
 timer_keeps sc After q e t v due begun left h = keeps_timer h due begun (left ∙ all_left (span q))
 
@@ -162,21 +167,21 @@ pub timed_as : (sc : Scope) (i : PrimState) (k : Timing) (e : Expression) {y z :
 timed_as sc i k e is h = subst (λ (z : ℤ). Remembers i (timed k z e) sc []) is h
 
 -- a copy of a timer keeps the same
-pub timer_follows : (t u : Timer) → u.due ≡ t.due → u.begun ≡ t.begun → u.left ≡ t.left → (q : Primitive) (scope : Scope) (L : Life) → Remembers (Timed t) q scope L → Remembers (Timed u) q scope L
+pub timer_follows : (t u : Box Timer Global) → u.value.due ≡ t.value.due → u.value.begun ≡ t.value.begun → u.value.left ≡ t.value.left → (q : Primitive) (scope : Scope) (L : Life) → Remembers (Timed t) q scope L → Remembers (Timed u) q scope L
 timer_follows t u due begun left q scope L (keeps_timer h is_due is_begun is_left) = keeps_timer h (due ∙ is_due) (begun ∙ is_begun) (left ∙ is_left)
 
-pub timer_goes_on : {A : Type 0} (q : Primitive) (scope : Scope) (d : ℕ) (x : Data) (L : Life) (t u : Timer) (w : Data) (r : Result A EvalFault)
-    → Evaluates (gift r w) (answer (cond (is_up t d) (event_of t.due) no_event)) → OnOk r (u.due ≡ cond (is_up t d) None t.due) → OnOk r (u.begun ≡ true) → OnOk r (u.left ≡ t.left - waited t.begun d)
+pub timer_goes_on : {A : Type 0} (q : Primitive) (scope : Scope) (d : ℕ) (x : Data) (L : Life) (t u : Box Timer Global) (w : Data) (r : Result A EvalFault)
+    → Evaluates (gift r w) (answer (cond (is_up t.value d) (event_of t.value.due) no_event)) → OnOk r (u.value.due ≡ cond (is_up t.value d) None t.value.due) → OnOk r (u.value.begun ≡ true) → OnOk r (u.value.left ≡ t.value.left - waited t.value.begun d)
     → Remembers (Timed t) q scope L → GoesOn q scope (step d x) L (Timed u) (gift r w)
 timer_goes_on q scope d x L t u w r told due begun left (keeps_timer {q = m} {e = e} {v = v} h is_due is_begun is_left) =
     let s = step d x in
     let before = has_passed m L in
     let now = has_passed m (s ∷ L) in
-    let up : is_up t d ≡ now =
+    let up : is_up t.value d ≡ now =
     ap₂ (λ l b. nat_le l (waited b d)) is_left is_begun ∙ le_moved (span m) (time L) (waited (has_steps L) d) ∙ ap (nat_le (span m)) (time_grows d x L) ∙ reached_is m s L in
-    let given : cond (is_up t d) (event_of t.due) no_event ≡ timed_formula After m v s L = ap₂ (λ b o. cond b (event_of o) no_event) up is_due ∙ rung_is before now v in
-    let due_now : cond (is_up t d) None t.due ≡ cond now None (Some v) = ap₂ (λ b o. cond b None o) up is_due ∙ due_is before now v (stays_passed m s L) in
-    let left_now : t.left - waited t.begun d ≡ span m - time (s ∷ L) =
+    let given : cond (is_up t.value d) (event_of t.value.due) no_event ≡ timed_formula After m v s L = ap₂ (λ b o. cond b (event_of o) no_event) up is_due ∙ rung_is before now v in
+    let due_now : cond (is_up t.value d) None t.value.due ≡ cond now None (Some v) = ap₂ (λ b o. cond b None o) up is_due ∙ due_is before now v (stays_passed m s L) in
+    let left_now : t.value.left - waited t.value.begun d ≡ span m - time (s ∷ L) =
     ap₂ (λ l b. l - waited b d) is_left is_begun ∙ taken_off (span m) (time L) (waited (has_steps L) d) ∙ ap (λ z. span m - z) (time_grows d x L) in
     goes_with r w (ap (λ r. r >>= λ v. answer (timed_formula After m v s L)) h ∙ ap answer (sym given)) told (kept_so r (λ a b c. keeps_timer h (a ∙ due_now) b (c ∙ left_now)) due begun left)
   where
@@ -214,14 +219,9 @@ pub count_goes_on : {A : Type 0} (q : Primitive) (scope : Scope) (d : ℕ) (x : 
 count_goes_on q scope d x L z y w r told kept (keeps_count is) =
     goes_with r w (sym (ap (counted_after (occurring x)) is ∙ counted_is (occurring x) (occurrences L))) told (where_ok r (λ h. keeps_count (h ∙ ap (count_after (occurring x)) is ∙ count_is (occurring x) (occurrences L))) kept)
 
-event_is : (v : Data) (L : Life) → event_of (at_first L (Some v) None) ≡ at_first L (event v) no_event
-event_is v [] = refl
-event_is v (s ∷ L) = refl
-
-pub now_goes_on : {A : Type 0} (q : Primitive) (scope : Scope) (s : Step) (L : Life) (o p : Option Data) (w : Data) (r : Result A EvalFault)
-    → Evaluates (gift r w) (answer (event_of o)) → OnOk r (p ≡ None) → Remembers (Now o) q scope L → GoesOn q scope s L (Now p) (gift r w)
-now_goes_on q scope s L o p w r told kept (keeps_first {e = e} {v = v} h is) =
-    goes_with r w (value_gives VNow e scope v s L h ∙ ap answer (sym (ap event_of is ∙ event_is v L))) told (where_ok r (λ k. keeps_first h k) kept)
+pub now_goes_on : {A : Type 0} (q : Primitive) (scope : Scope) (s : Step) (L : Life) (v w : Data) (r : Result A EvalFault)
+    → Evaluates (gift r w) (answer (event v)) → Remembers (Now v) q scope L → GoesOn q scope s L Never (gift r w)
+now_goes_on q scope s L v w r told (keeps_first {e = e} h) = goes_with r w (value_gives VNow e scope v s [] h) told (always r (keeps_passed h))
 
 pub hold_goes_on : {A : Type 0} (q : Primitive) (scope : Scope) (d : ℕ) (x : Data) (L : Life) (v u w : Data) (r : Result A EvalFault)
     → Evaluates (gift r w) (answer (payload_or (occurring x) v)) → OnOk r (u ≡ payload_or (occurring x) v) → Remembers (Hold v) q scope L → GoesOn q scope (step d x) L (Hold u) (gift r w)
@@ -242,32 +242,37 @@ shown_so k o u w (Ok y) worth goes shows = ap (λ r. r >>= λ w. answer (display
 shown_so k o u w (Err (Value y)) worth goes shows = ap (λ r. r >>= λ w. answer (displayed k o w)) goes
 shown_so k o u w (Err Memory) worth goes shows = goes
 
-pub accumulated_goes_on : {A : Type 0} (φ : AnswersByName) (d : ℕ) (x : Data) (a b : Accumulator) (w : Data) (r : Result A EvalFault)
-    → ((s : Scope) → functions_in s ≡ φ → (f : Function) → IsCodeOfFunctionIn s f a.code.value → Evaluates (gift r b.value) (next_value f s a.value (coming a.form x)))
-    → OnOk r (w ≡ displayed a.form (coming a.form x) b.value)
-    → OnOk r ((b.form ≡ a.form) × (b.code.value ≡ a.code.value))
+pub accumulated_goes_on : {A : Type 0} (φ : AnswersByName) (d : ℕ) (x : Data) (a b : Box Accumulator Global) (w : Data) (r : Result A EvalFault)
+    → ((s : Scope) → functions_in s ≡ φ → (f : Function) → IsCodeOfFunctionIn s f a.value.code.value → Evaluates (gift r b.value.value) (next_value f s a.value.value (coming a.value.form x)))
+    → OnOk r (w ≡ displayed a.value.form (coming a.value.form x) b.value.value)
+    → OnOk r ((b.value.form ≡ a.value.form) × (b.value.code.value ≡ a.value.code.value))
     → (q : Primitive) (scope : Scope) (L : Life) → functions_in scope ≡ φ → Remembers (Accumulated a) q scope L → GoesOn q scope (step d x) L (Accumulated b) (gift r w)
 accumulated_goes_on φ d x a b w r goes shows same q scope L is (keeps_accumulation {e = e} {f = f} {v = v} h code k) =
-    goes_with r w (accumulation_gives a e f v scope d x L h k) (shown_so a.form (coming a.form x) b.value w r _ (goes scope is f code) shows) (keeps r (goes scope is f code) same)
+    goes_with r w (accumulation_gives a.value e f v scope d x L h k) (shown_so a.value.form (coming a.value.form x) b.value.value w r _ (goes scope is f code) shows) (keeps r (goes scope is f code) same)
   where
-    goes_so : b.form ≡ a.form → b.code.value ≡ a.code.value → next_value f scope a.value (coming a.form x) ≡ answer b.value → Remembers (Accumulated b) (accumulated a.form e f) scope (step d x ∷ L)
+    goes_so : b.value.form ≡ a.value.form → b.value.code.value ≡ a.value.code.value → next_value f scope a.value.value (coming a.value.form x) ≡ answer b.value.value → Remembers (Accumulated b) (accumulated a.value.form e f) scope (step d x ∷ L)
     goes_so form code_same n =
-        let after : accumulation a.form f scope v (step d x ∷ L) ≡ answer b.value = ap (λ r. r >>= λ w. next_value f scope w (coming a.form x)) k ∙ n in
+        let after : accumulation a.value.form f scope v (step d x ∷ L) ≡ answer b.value.value = ap (λ r. r >>= λ w. next_value f scope w (coming a.value.form x)) k ∙ n in
         subst (λ m. Remembers (Accumulated b) (accumulated m e f) scope (step d x ∷ L)) form
         (keeps_accumulation h (rw code_same code) (ap (λ m. accumulation m f scope v (step d x ∷ L)) form ∙ after))
 
-    keeps : {A : Type 0} (r : Result A EvalFault) → Evaluates (gift r b.value) (next_value f scope a.value (coming a.form x)) → OnOk r ((b.form ≡ a.form) × (b.code.value ≡ a.code.value)) → OnOk r (Remembers (Accumulated b) (accumulated a.form e f) scope (step d x ∷ L))
+    keeps : {A : Type 0} (r : Result A EvalFault) → Evaluates (gift r b.value.value) (next_value f scope a.value.value (coming a.value.form x)) → OnOk r ((b.value.form ≡ a.value.form) × (b.value.code.value ≡ a.value.code.value)) → OnOk r (Remembers (Accumulated b) (accumulated a.value.form e f) scope (step d x ∷ L))
     keeps (Ok y) n m = goes_so m.0 m.1 n
     keeps (Err y) n m = m
 
 -- a copy of an accumulation keeps the same
-pub accumulated_follows : (a b : Accumulator) → b.form ≡ a.form → b.code.value ≡ a.code.value → b.value ≡ a.value → (q : Primitive) (scope : Scope) (L : Life) → Remembers (Accumulated a) q scope L → Remembers (Accumulated b) q scope L
+pub accumulated_follows : (a b : Box Accumulator Global) → b.value.form ≡ a.value.form → b.value.code.value ≡ a.value.code.value → b.value.value ≡ a.value.value → (q : Primitive) (scope : Scope) (L : Life) → Remembers (Accumulated a) q scope L → Remembers (Accumulated b) q scope L
 accumulated_follows a b form code value q scope L (keeps_accumulation {e = e} {f = f} {v = v} h c k) =
     subst (λ m. Remembers (Accumulated b) (accumulated m e f) scope L) form (keeps_accumulation h (rw code c) (ap (λ m. accumulation m f scope v L) form ∙ k ∙ ap answer (sym value)))
 
 -- before its first sample
-pub accumulated_keeps : (sc : Scope) (e : Expression) (f : Function) (a : Accumulator) → IsCodeOfFunctionIn sc f a.code.value → eval e sc ≡ answer a.value → Remembers (Accumulated a) (accumulated a.form e f) sc []
+pub accumulated_keeps : (sc : Scope) (e : Expression) (f : Function) (a : Box Accumulator Global) → IsCodeOfFunctionIn sc f a.value.code.value → eval e sc ≡ answer a.value.value → Remembers (Accumulated a) (accumulated a.value.form e f) sc []
 accumulated_keeps sc e f a code h = keeps_accumulation h code refl
+
+-- of these parts
+pub accumulated_made : (sc : Scope) (e : Expression) (f : Function) (b : Box Accumulator Global) (a : Accumulator) → b.value ≡ a → IsCodeOfFunctionIn sc f a.code.value → eval e sc ≡ answer a.value → Remembers (Accumulated b) (accumulated a.form e f) sc []
+accumulated_made sc e f b a is code h =
+    subst (λ m. Remembers (Accumulated b) (accumulated m e f) sc []) (ap (λ a. a.form) is) (accumulated_keeps sc e f b (rw is code) (h ∙ ap (λ a. answer a.value) (sym is)))
 
 pub accumulated_fails : (sc : Scope) (k : Accumulation) (e : Expression) (g : Function) (f : EvalFault) (r : Result PrimState EvalFault)
     → IsErrAnd r (λ e. e ≡ f) → Evaluates (Err f) (eval e sc) → Begins sc (accumulated k e g) r

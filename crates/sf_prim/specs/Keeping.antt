@@ -1,6 +1,7 @@
 -- What the states of primitives keep of their lives.
 use Rattle.std.specs.Prelude.{◌≡◌, ℕ, ◌-◌, nat_le, [], ◌∷◌, Bool, true, false, cond, ℤ, pos, negsuc, ◌+ℤ◌, Option, Some, None, Result, Ok, Err}
 use Rattle.std.specs.declared.alloc.Global.{Global}
+use Rattle.std.specs.Prelude.{Box}
 use Rattle.std.specs.declared.rc.Rc.{Rc}
 use Rattle.sf_value.specs.Values.{Kind, Data, truth, number, no_event, event}
 use Rattle.sf_value.specs.declared.fault.ValueFault.{ValueFault}
@@ -77,20 +78,20 @@ pub data Remembers : PrimState → Primitive → Scope → Life → Type 0 where
   keeps_pre : {scope : Scope} {w : Data} {L : Life} → w ≡ before (number (pos 0)) L → Remembers (Previous w) (bare Pre) scope L
   keeps_function : {c : Rc Code Global} {f : Function} {scope : Scope} {L : Life}
       → IsCodeOfFunctionIn scope f c.value → Remembers (Arrow c) (arrow f) scope L
-  keeps_accumulation : {a : Accumulator} {e : Expression} {f : Function} {v : Data} {scope : Scope} {L : Life}
-      → eval e scope ≡ answer v → IsCodeOfFunctionIn scope f a.code.value → accumulation a.form f scope v L ≡ answer a.value
-      → Remembers (Accumulated a) (accumulated a.form e f) scope L
+  keeps_accumulation : {a : Box Accumulator Global} {e : Expression} {f : Function} {v : Data} {scope : Scope} {L : Life}
+      → eval e scope ≡ answer v → IsCodeOfFunctionIn scope f a.value.code.value → accumulation a.value.form f scope v L ≡ answer a.value.value
+      → Remembers (Accumulated a) (accumulated a.value.form e f) scope L
   keeps_time : {t : Option ℤ} {scope : Scope} {L : Life} → t ≡ last_time L → Remembers (Clock t) (bare LocalTime) scope L
   keeps_area : {r : Sum} {scope : Scope} {L : Life}
       → r.sum ≡ area L → r.level ≡ level (before (number (pos 0)) L) → Remembers (Area r) (bare Integral) scope L
-  keeps_timer : {t : Timer} {q : ℤ} {e : Expression} {scope : Scope} {v : Data} {L : Life}
-      → eval e scope ≡ answer v → t.due ≡ cond (has_passed q L) None (Some v) → t.begun ≡ has_steps L → t.left ≡ span q - time L
+  keeps_timer : {t : Box Timer Global} {q : ℤ} {e : Expression} {scope : Scope} {v : Data} {L : Life}
+      → eval e scope ≡ answer v → t.value.due ≡ cond (has_passed q L) None (Some v) → t.value.begun ≡ has_steps L → t.value.left ≡ span q - time L
       → Remembers (Timed t) (timed After q e) scope L
   keeps_low : {b : Bool} {scope : Scope} {L : Life} → b ≡ is_low (before (truth true) L) → Remembers (Edge b) (bare BEdge) scope L
   keeps_begun : {b : Bool} {scope : Scope} {L : Life} → b ≡ has_steps L → Remembers (NotYet b) (bare BNotYet) scope L
   keeps_count : {z : ℤ} {scope : Scope} {L : Life} → z ≡ pos (occurrences L) → Remembers (Count z) (bare BCount) scope L
-  keeps_first : {e : Expression} {scope : Scope} {v : Data} {o : Option Data} {L : Life}
-      → eval e scope ≡ answer v → o ≡ at_first L (Some v) None → Remembers (Now o) (with_value VNow e) scope L
+  keeps_first : {e : Expression} {scope : Scope} {v : Data} → eval e scope ≡ answer v → Remembers (Now v) (with_value VNow e) scope []
+  keeps_passed : {e : Expression} {scope : Scope} {v : Data} {s : Step} {L : Life} → eval e scope ≡ answer v → Remembers Never (with_value VNow e) scope (s ∷ L)
   keeps_last : {e : Expression} {scope : Scope} {v w : Data} {L : Life}
       → eval e scope ≡ answer v → w ≡ last_payload v L → Remembers (Hold w) (with_value VHold e) scope L
 

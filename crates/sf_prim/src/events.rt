@@ -1,7 +1,7 @@
 //! Samples of primitives that take or give events.
 ghost use Rattle.std.specs.Prelude.{◌≡◌, ◌&&◌, None, true, cond, OnOk};
 ghost use Rattle.std.specs.Option.{option_map};
-ghost use Rattle.sf_value.specs.Values.{no_event};
+ghost use Rattle.sf_value.specs.Values.{event, no_event};
 ghost use Rattle.sf_operator.specs.Outcomes.{answer};
 ghost use Rattle.sf_operator.specs.Operations.{event_of, payload_or};
 ghost use Rattle.sf_operator.specs.Answers.{Evaluates};
@@ -72,17 +72,28 @@ pub(crate) fn count_event(
     Ok(())
 }
 
-/// An event of the value in place of the input at the first sample, and none later. The error is `Memory`.
+/// An event of a value in place of the input. The error is `Memory`.
+#[cold]
+#[inline(never)]
+pub(crate) fn announce(alloc: Global, given: Value, value: &mut Value) -> Result<(), EvalFault>
+    ensures { Evaluates (gift result value.new) (answer (event given)) }
+{
+    *value = Value::event(alloc, given)?;
+    Ok(())
+}
+
+/// An event of the value in place of the input where there is one, which is gone then; none without one. The error is
+/// `Memory`.
 #[inline(never)]
 pub(crate) fn occur(
     alloc: Global,
-    first: &mut Option<Value>,
+    due: &mut Option<Value>,
     value: &mut Value,
 ) -> Result<(), EvalFault>
-    ensures told { Evaluates (gift result value.new) (answer (event_of first.old)) }
-    ensures kept { OnOk result (first.new ≡ None) }
+    ensures told { Evaluates (gift result value.new) (answer (event_of due.old)) }
+    ensures kept { OnOk result (due.new ≡ None) }
 {
-    *value = match first.take() {
+    *value = match due.take() {
         Some(given) => Value::event(alloc, given)?,
         None => Value::no_event(),
     };

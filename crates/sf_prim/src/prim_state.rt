@@ -12,7 +12,7 @@ ghost use Rattle.sf_operator.specs.declared.fault.EvalFault.TheVariants.{Memory}
 ghost use Rattle.sf_prim.specs.Gifts.{gift};
 
 use crate::accumulator::{Accumulator, accumulate};
-use crate::events::{count_event, hold, occur, pass_later, rise};
+use crate::events::{announce, count_event, hold, pass_later, rise};
 use crate::time::{Area, Timer, integrate, run_down, tell_time};
 use sf_code::{Code, Names, apply, evaluate, expression_code_in, function_code_in};
 use sf_expr::{ExprId, Exprs, FunctionId};
@@ -30,7 +30,7 @@ use std::rc::Rc;
 pub enum PrimState {
     /// `identity`.
     Identity,
-    /// `never`.
+    /// `never`, or `now e` after its first sample.
     Never,
     /// `constant e`, with the value of `e`.
     Constant(Value),
@@ -39,21 +39,21 @@ pub enum PrimState {
     /// `arr f`, with the code of `f`, which it shares with its plan.
     Arrow(Rc<Code>),
     /// A primitive with a value and a function.
-    Accumulated(Accumulator),
+    Accumulated(Box<Accumulator>),
     /// `localTime`, with the milliseconds at the sample before, if there was one.
     Clock(Option<i64>),
     /// `integral`, with what is under its input so far.
     Area(Area),
     /// `after q e`.
-    Timed(Timer),
+    Timed(Box<Timer>),
     /// `edge`; whether the input before was false.
     Edge(bool),
     /// `notYet`; whether there was a sample before.
     NotYet(bool),
     /// `count`, with how many events there were.
     Count(i64),
-    /// `now e`, with the value of `e` before the first sample.
-    Now(Option<Value>),
+    /// `now e` before its first sample, with the value of `e`.
+    Now(Value),
     /// `hold e`, with the last payload, or the value of `e` where there was none.
     Hold(Value),
 }
@@ -88,7 +88,7 @@ impl PrimState {
             }
             PlanPrimitive::Timed(form, time, value, code) => {
                 let value = constant(alloc, exprs, *value, code, functions, names)?;
-                Ok(PrimState::timed(*form, *time, value))
+                Ok(PrimState::timed(alloc, *form, *time, value)?)
             }
             PlanPrimitive::Arrow(function, code) => {
                 let shared = shared_code(alloc, exprs, *function, code, names)?;
@@ -97,11 +97,12 @@ impl PrimState {
             PlanPrimitive::Accumulated(form, value, start, function, code) => {
                 let value = constant(alloc, exprs, *value, start, functions, names)?;
                 let shared = shared_code(alloc, exprs, *function, code, names)?;
-                Ok(PrimState::Accumulated(Accumulator {
+                let accumulator = Accumulator {
                     form: *form,
                     code: shared,
                     value,
-                }))
+                };
+                Ok(PrimState::Accumulated(Box::new(alloc, accumulator)?))
             }
         }
     }
@@ -130,17 +131,20 @@ impl PrimState {
             WithValue::Constant => PrimState::Constant(value),
             WithValue::InitialPre => PrimState::Previous(value),
             WithValue::InitializedPre => PrimState::Previous(value),
-            WithValue::Now => PrimState::Now(Some(value)),
+            WithValue::Now => PrimState::Now(value),
             WithValue::Hold => PrimState::Hold(value),
         }
     }
 
     // A primitive with a time and its value, before its first sample.
-    fn timed(form: Timing, time: i64, value: Value) -> PrimState
-        ensures { (s : Scope) (e : Expression) → worth e s ≡ answer value → Remembers result (timed_form form time e) s [] }
+    fn timed(alloc: Global, form: Timing, time: i64, value: Value) -> Result<PrimState, AllocError>
+        ensures { IfOk result (λ prim. (s : Scope) (e : Expression) → worth e s ≡ answer value → Remembers prim (timed_form form time e) s []) }
     {
         match form {
-            Timing::After => PrimState::Timed(Timer::born(time, value)),
+            Timing::After => {
+                let timer = Box::new(alloc, Timer::born(time, value))?;
+                Ok(PrimState::Timed(timer))
+            }
         }
     }
 
@@ -179,7 +183,11 @@ impl PrimState {
                 Ok(())
             }
             PrimState::Count(count) => count_event(alloc, count, value),
-            PrimState::Now(first) => occur(alloc, first, value),
+            PrimState::Now(first) => {
+                let given = mem::replace(first, Value::int(0));
+                *self = PrimState::Never;
+                announce(alloc, given, value)
+            }
             PrimState::Hold(last) => hold(alloc, last, value),
         }
     }
@@ -200,20 +208,21 @@ impl PrimState {
                 Ok(PrimState::Arrow(shared))
             }
             PrimState::Accumulated(accumulator) => {
-                let copy = accumulator.clone_in(alloc)?;
+                let kept = accumulator.clone_in(alloc)?;
+                let copy = Box::new(alloc, kept)?;
                 Ok(PrimState::Accumulated(copy))
             }
             PrimState::Clock(clock) => Ok(PrimState::Clock(*clock)),
             PrimState::Area(area) => Ok(PrimState::Area(*area)),
             PrimState::Timed(timer) => {
-                let copy = timer.clone_in(alloc)?;
+                let kept = timer.clone_in(alloc)?;
+                let copy = Box::new(alloc, kept)?;
                 Ok(PrimState::Timed(copy))
             }
             PrimState::Edge(low) => Ok(PrimState::Edge(*low)),
             PrimState::NotYet(begun) => Ok(PrimState::NotYet(*begun)),
             PrimState::Count(count) => Ok(PrimState::Count(*count)),
-            PrimState::Now(None) => Ok(PrimState::Now(None)),
-            PrimState::Now(Some(value)) => Ok(PrimState::Now(Some(value.clone_in(alloc)?))),
+            PrimState::Now(value) => Ok(PrimState::Now(value.clone_in(alloc)?)),
             PrimState::Hold(value) => Ok(PrimState::Hold(value.clone_in(alloc)?)),
         }
     }

@@ -6,7 +6,7 @@ use Rattle.std.specs.declared.rc.Rc.{Rc}
 use Rattle.sf_term.specs.declared.form.Join.{Join}
 use Rattle.sf_func.specs.Registries.{AnswersByName}
 use Rattle.sf_law.specs.declared.plan.Plan.{Plan}
-use Rattle.sf_term.specs.Trees.{Term, Primitive, primitive, probe}
+use Rattle.sf_term.specs.Trees.{whole, rest, Term, Primitive, primitive, probe, staged}
 use Rattle.sf_expr.specs.Evaluation.{Scope}
 use Rattle.sf_value.specs.Values.{Data}
 use Rattle.sf_mean.specs.Lives.{Step, Life, Process, resumed, Environment, after, frozen}
@@ -14,19 +14,19 @@ use Rattle.sf_mean.specs.Meaning.{Network, Made, Watched, Takeover, fired, stand
 use Rattle.sf_prim.specs.declared.prim_state.PrimState.{PrimState}
 use Rattle.sf_prim.specs.Keeping.{Remembers}
 use Rattle.sf_state.specs.declared.state.State.{State}
-use Rattle.sf_state.specs.declared.state.State.TheVariants.{Unborn, Live' as Alive', Switch' as Watching', Keeping', Frozen'}
+use Rattle.sf_state.specs.declared.state.State.TheVariants.{Unborn, Primitive as SPrimitive, Live' as Alive', Switch' as Watching', Keeping', Frozen'}
 use Rattle.sf_state.specs.declared.state.Live.{Live}
 use Rattle.sf_state.specs.declared.state.Live.{items_hidden-the_row-State-0}
-use Rattle.sf_state.specs.declared.state.Live.TheVariants.{Prim as LPrim, Probe as LProbe, Join as LJoin, Pipeline as LPipeline, Wrap as LWrap}
+use Rattle.sf_state.specs.declared.state.Live.TheVariants.{Probe as LProbe, Join as LJoin, Pipeline as LPipeline, Wrap as LWrap}
 use Rattle.sf_state.specs.declared.state.Wrap.{Wrap}
 use Rattle.sf_state.specs.declared.state.Process.{Process as SProcess}
 use Rattle.sf_state.specs.declared.state.Switch.{Switch}
 use Rattle.sf_state.specs.declared.state.Keeping.{Keeping}
 use Rattle.sf_state.specs.declared.state.Frozen.{Frozen}
 use Rattle.sf_state.specs.declared.state.Kept.{Kept}
-use Rattle.sf_state.specs.declared.state.Kept.TheVariants.{Live' as KLive', Switch' as KSwitch', Keeping' as KKeeping'}
+use Rattle.sf_state.specs.declared.state.Kept.TheVariants.{Primitive as KPrimitive, Live' as KLive', Switch' as KSwitch', Keeping' as KKeeping'}
 use Rattle.sf_state.specs.declared.env.Env.{Env}
-use Rattle.sf_state.specs.Standing.{Wraps, kept_state, Turned, fired_to, kept_to, ran, went_on, Stands, itself, took_over, StandsItself, unborn, alive, watching, keeping_on, was_frozen, Waits, waits_so, recurs_so, WaitsKeeping, keeps_so, Settles, settles, ready, Lives, lives_primitive, lives_probe, lives_join, lives_pipeline, lives_wrap, IsPipeline, StagesStand, last_stands, stage_stands, IsProcess, is_closure, IsNames, AllFollow, none_follow, more_follow}
+use Rattle.sf_state.specs.Standing.{Wraps, kept_state, Turned, fired_to, kept_to, ran, went_on, Stands, itself, took_over, StandsItself, unborn, recalling, Recalls, recalls, alive, watching, keeping_on, was_frozen, Waits, waits_so, recurs_so, WaitsKeeping, keeps_so, Settles, settles, Ready, ready, Lives, lives_probe, lives_join, lives_pipeline, lives_wrap, StagesStand, last_stands, stage_stands, IsProcess, is_closure, IsNames, AllFollow, none_follow, more_follow}
 
 -- whether a life has a step
 abbrev pub has_step : Life → Bool
@@ -66,9 +66,12 @@ module _ (φ : AnswersByName) (p : Plan) where
   abbrev pub Follows : State → State → Type 0
   Follows a b = (P : Process) (L : Life) → Stands φ p a P L → Stands φ p b P L
 
-  -- the same of nodes
+  -- the same of nodes, before their first sample too
   abbrev pub NodeFollows : Live → Live → Type 0
-  NodeFollows l m = (P : Process) (L : Life) → Settles φ p l P L → Settles φ p m P L
+  NodeFollows l m = (P : Process) (x : Data) (L : Life) → Ready φ p l P x L → Ready φ p m P x L
+
+  settled_follows : {l m : Live} {P : Process} {L : Life} → NodeFollows l m → Settles φ p l P L → Settles φ p m P L
+  settled_follows f (settles R) = settles (f _ _ _ R)
 
   -- where one stands itself for all that the other does, it stands for all that the other does
   itself_follows : (a b : State) → ((P : Process) (L : Life) → StandsItself φ p a P L → StandsItself φ p b P L) → Follows a b
@@ -76,7 +79,7 @@ module _ (φ : AnswersByName) (p : Plan) where
   itself_follows a b f P L (took_over T A) = took_over T (itself_follows a b f _ _ A)
 
   pub same_follows : (l m : Live) → m ≡ l → NodeFollows l m
-  same_follows l m e P L S = subst (λ (l : Live). Settles φ p l P L) (sym e) S
+  same_follows l m e P x L R = subst (λ (l : Live). Ready φ p l P x L) (sym e) R
 
   pub unborn_follows : (q r : SProcess) → ((P : Process) → IsProcess φ p q P → IsProcess φ p r P) → Follows (Unborn q) (Unborn r)
   unborn_follows q r h = itself_follows (Unborn q) (Unborn r) step
@@ -88,7 +91,7 @@ module _ (φ : AnswersByName) (p : Plan) where
   alive_follows {at} {at'} names around l m h f = itself_follows (Alive' names at l) (Alive' around at' m) step
     where
       step : (P : Process) (L : Life) → StandsItself φ p (Alive' names at l) P L → StandsItself φ p (Alive' around at' m) P L
-      step P L (alive N S) = alive (h _ N) (f _ _ S)
+      step P L (alive N S) = alive (h _ N) (settled_follows f S)
 
   -- the same of switches that wait
   abbrev pub SwitchFollows : Switch → Switch → Type 0
@@ -131,24 +134,27 @@ module _ (φ : AnswersByName) (p : Plan) where
   switch_follows s a f P L (waits_so k S O A) = waits_so k S O (f _ _ A)
   switch_follows s a f P L (recurs_so k O A) = recurs_so k O (f _ _ A)
 
-  pub prim_follows : (i i' : PrimState) → ((q : Primitive) (scope : Scope) (L : Life) → Remembers i q scope L → Remembers i' q scope L) → NodeFollows (LPrim i) (LPrim i')
-  prim_follows i i' f P L (settles (ready h O (lives_primitive K))) = settles (ready h O (lives_primitive (f _ _ _ K)))
+  pub primitive_follows : (i i' : PrimState) → ((q : Primitive) (scope : Scope) (L : Life) → Remembers i q scope L → Remembers i' q scope L) → Follows (SPrimitive i) (SPrimitive i')
+  primitive_follows i i' f = itself_follows (SPrimitive i) (SPrimitive i') step
+    where
+      step : (P : Process) (L : Life) → StandsItself φ p (SPrimitive i) P L → StandsItself φ p (SPrimitive i') P L
+      step P L (recalling (recalls O K)) = recalling (recalls O (f _ _ _ K))
 
   pub probe_follows : (r r' : Rc (String Global) Global) → r'.value ≡ r.value → NodeFollows (LProbe r) (LProbe r')
-  probe_follows r r' same P L (settles (ready h O (lives_probe {e = e} {m = m} {L = K}))) =
+  probe_follows r r' same P x L (ready h O (lives_probe {e = e} {m = m} {L = K})) =
       let name : string_bytes r'.value ≡ string_bytes r.value = ap (λ (s : String Global). string_bytes s) same in
-      settles (ready h O (subst (λ n. Lives φ p (LProbe r') (primitive (probe n)) e m K) name lives_probe))
+      ready h O (subst (λ n. Lives φ p (LProbe r') (primitive (probe n)) e m K) name lives_probe)
 
   pub join_follows : (j : Join) (a a' b b' : State) → Follows a a' → Follows b b' → NodeFollows (LJoin j a b) (LJoin j a' b')
-  join_follows j a a' b b' f g P L (settles (ready h O (lives_join N OL A B))) = settles (ready h O (lives_join N OL (f _ _ A) (g _ _ B)))
+  join_follows j a a' b b' f g P x L (ready h O (lives_join OL A B)) = ready h O (lives_join OL (f _ _ A) (g _ _ B))
 
   pub wrap_follows : (w w' : Wrap) (a a' : State) → ((n : Network) (t : Term) (e : Environment) (m : Made) (L : Life) (u : Term) (K : Life) → Wraps n w t e m L u K → Wraps n w' t e m L u K)
       → Follows a a' → NodeFollows (LWrap w a) (LWrap w' a')
-  wrap_follows w w' a a' f g P L (settles (ready h O (lives_wrap W A))) = settles (ready h O (lives_wrap (f _ _ _ _ _ _ _ W) (g _ _ A)))
+  wrap_follows w w' a a' f g P x L (ready h O (lives_wrap W A)) = ready h O (lives_wrap (f _ _ _ _ _ _ _ W) (g _ _ A))
 
   -- a pipeline lives where its stages stand
-  pub pipeline_lives : (v : Vec State Global) {t u : Term} {e : Environment} {m : Made} {L : Life} → IsPipeline t u → StagesStand φ p v.items u e L → Lives φ p (LPipeline v) t e m L
-  pipeline_lives v {u = u} {e = e} {L = L} Q S = lives_pipeline Q (subst (λ (bs : List State). StagesStand φ p bs u e L) (sym (items_hidden-the_row-State-0 v)) S)
+  pub pipeline_lives : (v : Vec State Global) {f g : Term} {e : Environment} {m : Made} {L : Life} → StagesStand φ p v.items (staged rest f g) e L → Lives φ p (LPipeline v) (staged whole f g) e m L
+  pipeline_lives v {f = f} {g = g} {e = e} {L = L} S = lives_pipeline (subst (λ (bs : List State). StagesStand φ p bs (staged rest f g) e L) (sym (items_hidden-the_row-State-0 v)) S)
 
   stages_follow : {bs cs : List State} {u : Term} {e : Environment} {L : Life} → AllFollow φ p bs cs → StagesStand φ p bs u e L → StagesStand φ p cs u e L
   stages_follow none_follow S = elim S [ ]
@@ -156,8 +162,8 @@ module _ (φ : AnswersByName) (p : Plan) where
   stages_follow (more_follow f fs) (stage_stands O A S) = stage_stands O (f _ _ A) (stages_follow fs S)
 
   pub pipeline_follows : (v w : Vec State Global) → AllFollow φ p v.items w.items → NodeFollows (LPipeline v) (LPipeline w)
-  pipeline_follows v w fs P L (settles (ready h O (lives_pipeline {u = u} {e = e} {L = K} Q S))) =
-      settles (ready h O (pipeline_lives w Q (stages_follow fs (subst (λ (bs : List State). StagesStand φ p bs u e K) (items_hidden-the_row-State-0 v) S))))
+  pipeline_follows v w fs P x L (ready h O (lives_pipeline {f = f} {g = g} {e = e} {L = K} S)) =
+      ready h O (pipeline_lives w (stages_follow fs (subst (λ (bs : List State). StagesStand φ p bs (staged rest f g) e K) (items_hidden-the_row-State-0 v) S)))
 
   follow_push : {bs cs : List State} (a b : State) → AllFollow φ p bs cs → Follows a b → AllFollow φ p (bs ++ a ∷ []) (cs ++ b ∷ [])
   follow_push a b none_follow f = more_follow f none_follow
@@ -206,6 +212,12 @@ module _ (φ : AnswersByName) (p : Plan) where
       step : (P : Process) (L : Life) → StandsItself φ p (Alive' names at l) P L → has_step L ≡ true
       step P L (alive N (settles R)) = refl
 
+  pub primitive_lived : (i : PrimState) → HasLived (SPrimitive i)
+  primitive_lived i = itself_lived (SPrimitive i) step
+    where
+      step : (P : Process) (L : Life) → StandsItself φ p (SPrimitive i) P L → has_step L ≡ true
+      step P L (recalling R) = refl
+
   pub watching_lived : {at : _} (names : Env) (s : Switch) → HasLived (Watching' names at s.form s.running s.pattern s.body)
   watching_lived {at} names s = itself_lived (Watching' names at s.form s.running s.pattern s.body) step
     where
@@ -234,7 +246,8 @@ module _ (φ : AnswersByName) (p : Plan) where
 
   -- what was kept, with the same names around it
   pub kept_around : (names around : Env) (k : Kept) → NamesFollow names around → Follows (kept_state names k) (kept_state around k)
-  kept_around names around (KLive' at l) N = alive_follows names around l l N (λ P L S. S)
+  kept_around names around (KPrimitive i) N = λ P L A. A
+  kept_around names around (KLive' at l) N = alive_follows names around l l N (λ P x L R. R)
   kept_around names around (KSwitch' at w a q b) N = let s : Switch = record { form = w; running = a; pattern = q; body = b } in watching_follows names around s s N (λ P L S. S)
   kept_around names around (KKeeping' at w f a o i q b) N = let s : Keeping = record { shown = w; first = f; source = a; observer = o; name = i; pattern = q; body = b } in keeping_follows names around s s N (λ P L S. S)
 

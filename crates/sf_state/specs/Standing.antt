@@ -28,9 +28,9 @@ use Rattle.sf_law.specs.Arena.{plan_tree, plan_expressions, network_of_plan}
 use Rattle.sf_prim.specs.declared.prim_state.PrimState.{PrimState}
 use Rattle.sf_prim.specs.Keeping.{Remembers}
 use Rattle.sf_state.specs.declared.state.State.{State}
-use Rattle.sf_state.specs.declared.state.State.TheVariants.{Unborn, Unborn', Live' as Alive', Switch' as Watching', Keeping', Frozen'}
+use Rattle.sf_state.specs.declared.state.State.TheVariants.{Unborn, Unborn', Primitive as SPrimitive, Live' as Alive', Switch' as Watching', Keeping', Frozen'}
 use Rattle.sf_state.specs.declared.state.Live.{Live}
-use Rattle.sf_state.specs.declared.state.Live.TheVariants.{Prim as LPrim, Probe as LProbe, Join as LJoin, Pipeline' as LPipeline', Wrap as LWrap}
+use Rattle.sf_state.specs.declared.state.Live.TheVariants.{Probe as LProbe, Join as LJoin, Pipeline' as LPipeline', Wrap as LWrap}
 use Rattle.sf_state.specs.declared.state.Live.{items-the_row-State}
 use Rattle.sf_state.specs.declared.state.Wrap.{Wrap}
 use Rattle.sf_state.specs.declared.state.Wrap.TheVariants.{First, Second, Loop, Initialized}
@@ -38,7 +38,7 @@ use Rattle.sf_state.specs.declared.state.Process.{Process as SProcess}
 use Rattle.sf_state.specs.declared.state.Switch.{Switch}
 use Rattle.sf_state.specs.declared.state.Keeping.{Keeping}
 use Rattle.sf_state.specs.declared.state.Kept.{Kept}
-use Rattle.sf_state.specs.declared.state.Kept.TheVariants.{Live' as KLive', Switch' as KSwitch', Keeping' as KKeeping'}
+use Rattle.sf_state.specs.declared.state.Kept.TheVariants.{Primitive as KPrimitive, Live' as KLive', Switch' as KSwitch', Keeping' as KKeeping'}
 use Rattle.sf_state.specs.declared.env.Env.{Env}
 use Rattle.sf_state.specs.declared.env.Running.{Running}
 use Rattle.sf_state.specs.declared.env.Env.TheVariants.{Empty as SEmpty, Bound', Running'}
@@ -57,17 +57,13 @@ pub data Wraps (n : Network) : Wrap → Term → Environment → Made → Life �
   wraps_initialized : {i : Expression} {t : Term} {e : Environment} {v : Data} {L : Life}
       → Wraps n (Initialized (at_first L (Some v) None)) (headed WithInitial i t) e (value_made v) L t L
 
--- A term is a pipeline of these stages: a first one, and the rest.
-pub data IsPipeline : Term → Term → Type 0 where
-  is_stages : {f g : Term} → IsPipeline (staged whole f g) (staged rest f g)
-  is_sequence : {f g : Term} → IsPipeline (joined InSequence f g) (staged rest f g)
-
 -- a term with the names around it
 abbrev pub closed_over : PlanId → Env → SProcess
 closed_over t names = record { term = t; names = names }
 
 -- what was kept of a part, as a state
 abbrev pub kept_state : Env → Kept → State
+kept_state names (KPrimitive i) = SPrimitive i
 kept_state names (KLive' at l) = Alive' names at l
 kept_state names (KSwitch' at w a q b) = Watching' names at w a q b
 kept_state names (KKeeping' at w t a o k q b) = Keeping' names at w t a o k q b
@@ -75,10 +71,16 @@ kept_state names (KKeeping' at w t a o k q b) = Keeping' names at w t a o k q b
 -- whether a state is frozen
 abbrev pub is_frozen : State → Bool
 is_frozen (Unborn' t names) = false
+is_frozen (SPrimitive i) = false
 is_frozen (Alive' names at l) = false
 is_frozen (Watching' names at w a q b) = false
 is_frozen (Keeping' names at w t a o k q b) = false
 is_frozen (Frozen' at d names k) = true
+
+-- A primitive recalls what it needs of a life.
+pub data Recalls (φ : AnswersByName) (p : Plan) : PrimState → Process → Life → Type 0 where
+  recalls : {i : PrimState} {q : Primitive} {e : Environment} {L : Life} {ys : List Data}
+      → Outputs (network_of_plan φ p) (closure (primitive q) e) L ys → Remembers i q (scope_around φ e) L → Recalls φ p i (closure (primitive q) e) L
 
 -- From here on a process gives what another one gives that has led another life, and counts nothing beside it.
 pub data Turned (n : Network) : Process → Life → Process → Life → Type 0 where
@@ -121,6 +123,8 @@ mutual
   -- a part stands for the process that it was made of
   pub data StandsItself (φ : AnswersByName) (p : Plan) : State → Process → Life → Type 0 where
     unborn : {q : SProcess} {P : Process} → IsProcess φ p q P → StandsItself φ p (Unborn q) P []
+    -- a primitive, which has what it needs of the names around it
+    recalling : {i : PrimState} {P : Process} {s : Step} {L : Life} → Recalls φ p i P (s ∷ L) → StandsItself φ p (SPrimitive i) P (s ∷ L)
     -- with the names that are around its term
     alive : {at : _} {names : Env} {l : Live} {t : Term} {e : Environment} {L : Life}
         → IsNames φ p names e → Settles φ p l (closure t e) L → StandsItself φ p (Alive' names at l) (closure t e) L
@@ -175,18 +179,15 @@ mutual
   pub data Lives (φ : AnswersByName) (p : Plan) : Live → Term → Environment → Made → Life → Type 0 where
     lives_probe : {r : Rc (String Global) Global} {e : Environment} {m : Made} {L : Life}
         → Lives φ p (LProbe r) (primitive (probe (string_bytes r.value))) e m L
-    lives_primitive : {i : PrimState} {q : Primitive} {e : Environment} {m : Made} {L : Life}
-        → Remembers i q (scope_around φ e) L
-        → Lives φ p (LPrim i) (primitive q) e m L
-    -- each part on its own life, both fed at once
+    -- each part on its own life
     lives_join : {j : Join} {a b : State} {f g : Term} {e : Environment} {m : Made} {L : Life} {ys : List Data}
-        → j ≢ InSequence → Outputs (network_of_plan φ p) (closure f e) (left_life j L) ys
+        → Outputs (network_of_plan φ p) (closure f e) (left_life j L) ys
         → Stands φ p a (closure f e) (left_life j L)
         → Stands φ p b (closure g e) (right_life j L ys)
         → Lives φ p (LJoin j a b) (joined j f g) e m L
-    lives_pipeline : {shape row : _} {t u : Term} {e : Environment} {m : Made} {L : Life}
-        → IsPipeline t u → StagesStand φ p (items-the_row-State _ row) u e L
-        → Lives φ p (LPipeline' shape row) t e m L
+    lives_pipeline : {shape row : _} {f g : Term} {e : Environment} {m : Made} {L : Life}
+        → StagesStand φ p (items-the_row-State _ row) (staged rest f g) e L
+        → Lives φ p (LPipeline' shape row) (staged whole f g) e m L
     -- one part on its own life
     lives_wrap : {w : Wrap} {a : State} {t u : Term} {e : Environment} {m : Made} {L K : Life}
         → Wraps (network_of_plan φ p) w t e m L u K

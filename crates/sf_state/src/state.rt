@@ -1,5 +1,6 @@
 //! The states of networks.
 ghost use Rattle.std.specs.Prelude.{◌≡◌, [], ◌∷◌, false, IfOk};
+ghost use Rattle.sf_value.specs.Values.{Data};
 ghost use Rattle.sf_func.specs.Registries.{AnswersByName};
 ghost use Rattle.sf_law.specs.declared.plan.Plan.{Plan};
 ghost use Rattle.sf_expr.specs.Arena.{placed_at, name_at};
@@ -8,7 +9,7 @@ ghost use Rattle.sf_law.specs.Arena.{plan_expressions, plan_tree};
 ghost use Rattle.sf_mean.specs.Lives.{base, bind, closure, resumed, empty, running, frozen as frozen_process, Environment, Step, Life, Process as ProcessOf};
 ghost use Rattle.sf_mean.specs.Meaning.{body_of};
 ghost use Rattle.sf_state.specs.declared.env.Env.{Env as EnvOf};
-ghost use Rattle.sf_state.specs.Standing.{IsNames, Stands, Settles, Waits, WaitsKeeping, IsProcess, AllFollow, kept_state, is_frozen};
+ghost use Rattle.sf_state.specs.Standing.{IsNames, Stands, Ready, Waits, WaitsKeeping, IsProcess, AllFollow, kept_state, is_frozen};
 
 use crate::env::Env;
 use sf_expr::{NameId, PatternId};
@@ -25,6 +26,8 @@ use std::rc::Rc;
 pub enum State {
     /// It hasn't been stepped.
     Unborn(Process),
+    /// A primitive that has lived through some samples. It is small, and stands here itself.
+    Primitive(PrimState),
     /// It has lived through some samples, with these names around it. Its node may be shared.
     Live(Env, Rc<Live>),
     /// A switch that waits for an event, with these names around it. Its node may be shared.
@@ -85,6 +88,8 @@ pub struct Frozen {
 #[derive(Drop)]
 #[cycle(state)]
 pub enum Kept {
+    /// Of a primitive, which is its own.
+    Primitive(PrimState),
     /// Of a part that goes on as it is.
     Live(Rc<Live>),
     /// Of a switch that waits for an event.
@@ -93,15 +98,13 @@ pub enum Kept {
     Keeping(Rc<Keeping>),
 }
 
-/// A part that has lived, by its form.
+/// A part that has lived and is no primitive, by its form.
 #[derive(Drop)]
 #[cycle(state)]
 pub enum Live {
-    /// A primitive.
-    Prim(PrimState),
     /// A probe, with its name, which what it records shares.
     Probe(Rc<String>),
-    /// Two parts side by side, the left one first.
+    /// Two parts joined, the left one first.
     Join(Join, State, State),
     /// Stages, each on the values of the one before it.
     Pipeline(Vec<State>),
@@ -143,15 +146,19 @@ impl State {
         })
     }
 
-    /// The same state, over the same node: it needs no memory, and no step of one of the two changes the other. The
-    /// error is too many owners of one node.
-    pub fn share(&self) -> Result<State, AllocError>
+    /// The same state, over the same node: it copies a primitive alone, and no step of one of the two changes the other.
+    /// The error is a want of memory, or too many owners of one node.
+    pub fn share(&self, alloc: Global) -> Result<State, AllocError>
         ensures { IfOk result (λ shared. (φ : AnswersByName) (p : Plan) (P : ProcessOf) (L : Life) → Stands φ p self.now P L → Stands φ p shared P L) }
     {
         match self {
             State::Unborn(process) => {
                 let same = process.share()?;
                 Ok(State::Unborn(same))
+            }
+            State::Primitive(primitive) => {
+                let copy = primitive.clone_in(alloc)?;
+                Ok(State::Primitive(copy))
             }
             State::Live(names, node) => {
                 let around = names.share()?;
@@ -183,7 +190,7 @@ impl State {
             Stands φ p frozen (frozen_process P L wait) []) }
     {
         match self {
-            State::Unborn(_) | State::Frozen(_) => self.share(),
+            State::Unborn(_) | State::Frozen(_) => self.share(alloc),
             State::Live(names, node) => {
                 let live = node.clone()?;
                 freeze_node(alloc, wait, names, Kept::Live(live))
@@ -195,6 +202,11 @@ impl State {
             State::Keeping(names, node) => {
                 let keeping = node.clone()?;
                 freeze_node(alloc, wait, names, Kept::Keeping(keeping))
+            }
+            State::Primitive(primitive) => {
+                let copy = primitive.clone_in(alloc)?;
+                let nothing = Env::Empty;
+                freeze_node(alloc, wait, &nothing, Kept::Primitive(copy))
             }
         }
     }
@@ -217,16 +229,12 @@ fn freeze_node(alloc: Global, wait: u64, names: &Env, node: Kept) -> Result<Stat
 impl Live {
     /// A copy of the node over the same parts, which are shared.
     pub fn clone_in(&self, alloc: Global) -> Result<Live, AllocError>
-        ensures { IfOk result (λ copy. (φ : AnswersByName) (p : Plan) (P : ProcessOf) (L : Life) → Settles φ p self.now P L → Settles φ p copy P L) }
+        ensures { IfOk result (λ copy. (φ : AnswersByName) (p : Plan) (P : ProcessOf) (x : Data) (L : Life) → Ready φ p self.now P x L → Ready φ p copy P x L) }
     {
         match self {
-            Live::Prim(prim) => {
-                let kept = prim.clone_in(alloc)?;
-                Ok(Live::Prim(kept))
-            }
             Live::Join(join, left, right) => {
-                let first = left.share()?;
-                let second = right.share()?;
+                let first = left.share(alloc)?;
+                let second = right.share(alloc)?;
                 Ok(Live::Join(*join, first, second))
             }
             Live::Probe(name) => {
@@ -239,7 +247,7 @@ impl Live {
             }
             Live::Wrap(wrap, part) => {
                 let kept = wrap.clone_in(alloc)?;
-                let inner = part.share()?;
+                let inner = part.share(alloc)?;
                 Ok(Live::Wrap(kept, inner))
             }
         }
@@ -248,10 +256,10 @@ impl Live {
 
 impl Switch {
     /// A copy of the node over the same state, which is shared.
-    pub fn clone_in(&self) -> Result<Switch, AllocError>
+    pub fn clone_in(&self, alloc: Global) -> Result<Switch, AllocError>
         ensures { IfOk result (λ copy. (φ : AnswersByName) (p : Plan) (P : ProcessOf) (L : Life) → Waits φ p self.now P L → Waits φ p copy P L) }
     {
-        let running = self.running.share()?;
+        let running = self.running.share(alloc)?;
         Ok(Switch {
             form: self.form,
             running,
@@ -276,11 +284,11 @@ impl Switch {
 
 impl Keeping {
     /// A copy of the node over the same states, which are shared.
-    pub fn clone_in(&self) -> Result<Keeping, AllocError>
+    pub fn clone_in(&self, alloc: Global) -> Result<Keeping, AllocError>
         ensures { IfOk result (λ copy. (φ : AnswersByName) (p : Plan) (P : ProcessOf) (L : Life) → WaitsKeeping φ p self.now P L → WaitsKeeping φ p copy P L) }
     {
-        let source = self.source.share()?;
-        let observer = self.observer.share()?;
+        let source = self.source.share(alloc)?;
+        let observer = self.observer.share(alloc)?;
         Ok(Keeping {
             shown: self.shown,
             first: self.first,
@@ -320,12 +328,16 @@ impl Keeping {
 }
 
 impl Kept {
-    /// The same node, shared. The error is too many owners.
-    pub fn share(&self) -> Result<Kept, AllocError>
+    /// The same node, shared, or a copy of a primitive. The error is a want of memory, or too many owners.
+    pub fn share(&self, alloc: Global) -> Result<Kept, AllocError>
         ensures { IfOk result (λ same. (φ : AnswersByName) (p : Plan) (names : EnvOf) (P : ProcessOf) (L : Life) →
             Stands φ p (kept_state names self.now) P L → Stands φ p (kept_state names same) P L) }
     {
         match self {
+            Kept::Primitive(primitive) => {
+                let copy = primitive.clone_in(alloc)?;
+                Ok(Kept::Primitive(copy))
+            }
             Kept::Live(node) => {
                 let live = node.clone()?;
                 Ok(Kept::Live(live))
@@ -343,17 +355,18 @@ impl Kept {
 }
 
 impl Frozen {
-    /// The part as it was when it was frozen, which shares its nodes. The error is too many owners.
-    pub fn wake(&self) -> Result<State, AllocError>
+    /// The part as it was when it was frozen, which shares its nodes. The error is a want of memory, or too many owners.
+    pub fn wake(&self, alloc: Global) -> Result<State, AllocError>
         ensures stands { IfOk result (λ state. (φ : AnswersByName) (p : Plan) (P : ProcessOf) (L : Life) →
             Stands φ p (kept_state self.now.names self.now.node) P L → Stands φ p state P L) }
         ensures awake { IfOk result (λ state. is_frozen state ≡ false) }
     {
         let around = self.names.share()?;
-        match self.node.share()? {
+        match self.node.share(alloc)? {
             Kept::Live(node) => Ok(State::Live(around, node)),
             Kept::Switch(node) => Ok(State::Switch(around, node)),
             Kept::Keeping(node) => Ok(State::Keeping(around, node)),
+            Kept::Primitive(primitive) => Ok(State::Primitive(primitive)),
         }
     }
 }
@@ -364,7 +377,7 @@ fn share_all(alloc: Global, states: &[State]) -> Result<Vec<State>, AllocError>
 {
     let mut shared = Vec::with_capacity(alloc, states.len())?;
     for state in states {
-        shared.push(state.share()?)?;
+        shared.push(state.share(alloc)?)?;
     }
     Ok(shared)
 }
@@ -373,7 +386,7 @@ fn share_all(alloc: Global, states: &[State]) -> Result<Vec<State>, AllocError>
 /// an error, which is a want of memory, it is shared as before.
 #[inline(always)]
 pub fn unshare(alloc: Global, node: &mut Rc<Live>) -> Result<(), AllocError>
-    ensures { (φ : AnswersByName) (p : Plan) (P : ProcessOf) (L : Life) → Settles φ p node.old.value P L → Settles φ p node.new.value P L }
+    ensures { (φ : AnswersByName) (p : Plan) (P : ProcessOf) (x : Data) (L : Life) → Ready φ p node.old.value P x L → Ready φ p node.new.value P x L }
 {
     if Rc::strong_count(node) == 1 {
         return Ok(());
@@ -385,7 +398,7 @@ pub fn unshare(alloc: Global, node: &mut Rc<Live>) -> Result<(), AllocError>
 #[cold]
 #[inline(never)]
 fn put_copy(alloc: Global, node: &mut Rc<Live>) -> Result<(), AllocError>
-    ensures { (φ : AnswersByName) (p : Plan) (P : ProcessOf) (L : Life) → Settles φ p node.old.value P L → Settles φ p node.new.value P L }
+    ensures { (φ : AnswersByName) (p : Plan) (P : ProcessOf) (x : Data) (L : Life) → Ready φ p node.old.value P x L → Ready φ p node.new.value P x L }
 {
     let copy = node.clone_in(alloc)?;
     *node = Rc::new(alloc, copy)?;
@@ -400,7 +413,7 @@ pub fn unshare_switch(alloc: Global, node: &mut Rc<Switch>) -> Result<(), AllocE
     if Rc::strong_count(node) == 1 {
         return Ok(());
     }
-    let own = Rc::new(alloc, node.clone_in()?)?;
+    let own = Rc::new(alloc, node.clone_in(alloc)?)?;
     *node = own;
     Ok(())
 }
@@ -413,7 +426,7 @@ pub fn unshare_keeping(alloc: Global, node: &mut Rc<Keeping>) -> Result<(), Allo
     if Rc::strong_count(node) == 1 {
         return Ok(());
     }
-    let own = Rc::new(alloc, node.clone_in()?)?;
+    let own = Rc::new(alloc, node.clone_in(alloc)?)?;
     *node = own;
     Ok(())
 }

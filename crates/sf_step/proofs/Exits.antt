@@ -45,30 +45,32 @@ use Rattle.sf_law.specs.Arena.{network_of_plan}
 use Rattle.sf_prim.specs.declared.prim_state.PrimState.{PrimState}
 use Rattle.sf_prim.specs.Keeping.{Remembers, Begins, begins, begins_with_fault, GoesOn, goes_on as goes_on_with, goes_on_with_fault}
 use Rattle.sf_state.specs.declared.state.State.{State}
-use Rattle.sf_state.specs.declared.state.State.TheVariants.{Unborn, Live' as Alive'}
+use Rattle.sf_state.specs.declared.state.State.TheVariants.{Unborn, Primitive as SPrimitive, Live' as Alive', Switch' as Watching', Keeping'}
 use Rattle.sf_state.specs.declared.state.Live.{Live}
 use Rattle.sf_state.specs.declared.state.Switch.{Switch}
 use Rattle.sf_state.specs.declared.state.Keeping.{Keeping}
-use Rattle.sf_state.specs.declared.state.Live.TheVariants.{Prim as LPrim, Probe as LProbe, Join as LJoin, Wrap as LWrap}
+use Rattle.sf_state.specs.declared.state.Live.TheVariants.{Probe as LProbe, Join as LJoin, Wrap as LWrap}
 use Rattle.sf_state.specs.declared.state.Wrap.{Wrap}
 use Rattle.sf_state.specs.Standing.{closed_over as SClosure}
 use Rattle.sf_state.specs.declared.env.Env.{Env}
 use Rattle.sf_state.specs.declared.env.Env.TheVariants.{Empty as SEmpty}
 use Rattle.sf_state.specs.declared.env.Running.{Running}
 use Rattle.sf_state.specs.Names.{values_around}
-use Rattle.sf_state.specs.Standing.{Stands, itself, StandsItself, unborn, alive, Waits, waits_so, recurs_so, WaitsKeeping, keeps_so, Settles, settles, IsFound, Ready, ready, lives_primitive, lives_probe, lives_join, lives_wrap, Wraps, IsProcess, is_closure, IsNames, is_empty}
+use Rattle.sf_state.specs.Standing.{Stands, itself, StandsItself, unborn, Recalls, recalls, recalling, alive, watching, keeping_on, Waits, waits_so, recurs_so, WaitsKeeping, keeps_so, Settles, settles, IsFound, Ready, ready, lives_probe, lives_join, lives_wrap, Wraps, IsProcess, is_closure, IsNames, is_empty}
 use Rattle.sf_state.proofs.Scopes.{functions_around, scope_is}
 use Rattle.sf_step.specs.declared.sample.Opened.{Opened}
 use Rattle.sf_step.specs.declared.sample.Opened.TheVariants as opened
+use Rattle.sf_step.specs.declared.sample.Begun.{Begun}
+use Rattle.sf_step.specs.declared.sample.Begun.TheVariants as begun
 use Rattle.sf_step.specs.declared.meter.Meter.{Meter}
 use Rattle.sf_step.specs.Meters.{entered_of, height_of, readings}
 use Rattle.sf_step.specs.Routing.{left_input, right_input, part_input, wrap_value, kept_after}
-use Rattle.sf_step.specs.Sampling.{Rel, fault_from, Ticks, Ticked, ticked, refused, Spent, AtMost, Within, StopsFor, faults, large, memory, Answers, answers, fails, PartSteps, StateSteps, LiveSteps, left_or, kept, Opens, opens, opens_watching, opens_keeping, opens_running, opens_with_fault, opens_without_memory, makes, makes_fault, makes_nothing}
+use Rattle.sf_step.specs.Sampling.{Rel, fault_from, Ticks, Ticked, ticked, refused, Spent, AtMost, Within, StopsFor, faults, large, memory, Answers, answers, fails, PartSteps, StateSteps, PrimSteps, LiveSteps, left_or, kept, CountedSteps, Prepared, primitive_prepared, live_prepared, switch_prepared, keeping_prepared, BeginsAs, begins_itself, begins_referred, begins_not, Opens, opens_primitive, opens, opens_watching, opens_keeping, opens_running, opens_with_fault, opens_without_memory, makes, makes_fault, makes_nothing}
 use Rattle.sf_step.specs.Stepping.{EachCostsAtLeast, Steps, stepped, faulted_so, too_large, no_memory}
 use Rattle.sf_step.proofs.Parts.{counted, with_change, over_spent, one_spent, probe_spent, both_spent, fails_alike, over_fails, change_fails, then_fails, rest_fails, spent_within, answered, failed, memory_exit}
 use Rattle.sf_law.proofs.Called.{called}
 use Rattle.sf_step.proofs.Arguments.{StandsCalled}
-use Rattle.sf_step.proofs.Turning.{lift_steps, running_steps}
+use Rattle.sf_step.proofs.Turning.{lift_steps, referred_begins}
 use Rattle.sf_step.proofs.Forms.{left_and, right_and, left_none, right_none, single_gives, gave_outputs, form_alike, join_alike, wrap_alike, wraps_on, counts}
 
 -- a tick that went well
@@ -123,7 +125,7 @@ module _ (φ : AnswersByName) (p : Plan) where
     pub join_left_fails : (f : Fault) → StateSteps φ p a (step d u) (Err f) n n' inside
         → (m : Meter) (depth : ℕ) → Ticks m n depth inside → (P : Process) (L : Life) → Ready φ p (LJoin j a b) P (first_input (step d x) L) L
         → StopsFor (Gives net P (step d x ∷ L)) f m n' depth
-    join_left_fails q hs m depth t P L (ready {m = made} h O (lives_join {f = f} {g = g} {e = e} {ys = ys} N OL A B)) =
+    join_left_fails q hs m depth t P L (ready {m = made} h O (lives_join {f = f} {g = g} {e = e} {ys = ys} OL A B)) =
         fails_alike (form_alike net (step d x) L h O) (fails_alike (join_alike net j f g e made (step d x) L ys OL)
         (over_fails t (then_fails (subst (λ (K : Life). StopsFor (Gives net (closure f e) K) q n n' inside) (left_at L) (failed (hs _ _ A))))))
 
@@ -134,7 +136,7 @@ module _ (φ : AnswersByName) (p : Plan) where
       pub join_right_fails : (n'' : Meter) (f : Fault) → StateSteps φ p b (step d w) (Err f) n' n'' inside
           → (m : Meter) (depth : ℕ) → Ticks m n depth inside → (P : Process) (L : Life) → Ready φ p (LJoin j a b) P (first_input (step d x) L) L
           → StopsFor (Gives net P (step d x ∷ L)) f m n'' depth
-      join_right_fails n'' q hs2 m depth t P L (ready {m = made} h O (lives_join {f = f} {g = g} {e = e} {ys = ys} N OL A B)) =
+      join_right_fails n'' q hs2 m depth t P L (ready {m = made} h O (lives_join {f = f} {g = g} {e = e} {ys = ys} OL A B)) =
           let one = answered (hs _ _ A) in
           let G = subst (λ (K : Life). Gives net (closure f e) K (gave y one.r) one.k) (left_at L) one.given in
           let H = subst (λ (K : Life). StopsFor (Gives net (closure g e) K) q n' n'' inside) (right_at L ys) (failed (hs2 _ _ B)) in
@@ -143,7 +145,7 @@ module _ (φ : AnswersByName) (p : Plan) where
 
       pub join_steps : (n'' : Meter) (b' : State) (z v : Data) → v ≡ join_value j y z → StateSteps φ p b (step d w) (Ok (b', z)) n' n'' inside
           → LiveSteps φ p (LJoin j a b) (step d x) (Ok (LJoin j a' b', v)) n n'' inside
-      join_steps n'' b' z v ev hs2 m depth t P L (ready {m = made} h O (lives_join {f = f} {g = g} {e = e} {ys = ys} N OL A B)) =
+      join_steps n'' b' z v ev hs2 m depth t P L (ready {m = made} h O (lives_join {f = f} {g = g} {e = e} {ys = ys} OL A B)) =
           let one = answered (hs _ _ A) in
           let G = subst (λ (K : Life). Gives net (closure f e) K (gave y one.r) one.k) (left_at L) one.given in
           let OL' = subst (λ (K : Life). Outputs net (closure f e) K (y ∷ ys)) (left_at L) (gave_outputs net OL one.given) in
@@ -153,21 +155,13 @@ module _ (φ : AnswersByName) (p : Plan) where
           let B' = subst (λ (K : Life). Stands φ p b' (closure g e) K) (right_at L ys) two.holds in
           let F : Form net (joined j f g) e made (step d x) L (gave (join_value j y z) (one.r ++ two.r)) (over (both_costs one.k two.k)) = of_join OL G (goes_on H) in
           let F' = subst (λ (v : Data). Form net (joined j f g) e made (step d x) L (gave v (one.r ++ two.r)) (over (both_costs one.k two.k))) (sym ev) F in
-          answers (gives O (of_form h F')) (over_spent t (both_spent one.spent two.spent)) (settles (ready h (and_gave O (of_form h F')) (lives_join N OL' A' B')))
+          answers (gives O (of_form h F')) (over_spent t (both_spent one.spent two.spent)) (settles (ready h (and_gave O (of_form h F')) (lives_join OL' A' B')))
 
       -- the second part's result is the join's
       pub join_last : {A E : Type 0} (n'' : Meter) (b' : State) (z v : Data) (r : Result A E) (f : Fault) → v ≡ join_value j y z → StateSteps φ p b (step d w) (left_or r (b', z) f) n' n'' inside
           → LiveSteps φ p (LJoin j a b) (step d x) (left_or r (LJoin j a' b', v) f) n n'' inside
       join_last n'' b' z v (Ok u) f ev hs2 = join_steps n'' b' z v ev hs2
       join_last n'' b' z v (Err e) f ev hs2 = λ m depth t P L R. fails (join_right_fails n'' f hs2 m depth t P L R)
-
-  -- a join of live parts that are not fed in parallel shares its input: none is in sequence
-  pub other_join : {A E : Type 0} (j : Join) (a a' b b' : State) (s : Step) (v : Data) (r : Result A E) (f : Fault) (n n' : Meter) (inside : ℕ) → j ≢ InParallel → LiveSteps φ p (LJoin FannedOut a b) s (left_or r (LJoin FannedOut a' b', v) f) n n' inside
-      → LiveSteps φ p (LJoin j a b) s (left_or r (LJoin j a' b', v) f) n n' inside
-  other_join InSequence a a' b b' s v r f n n' inside side hs m depth t P L (ready h O (lives_join N OL A B)) = absurd (N refl)
-  other_join InParallel a a' b b' s v r f n n' inside side hs m depth t P L R = absurd (side refl)
-  other_join FannedOut a a' b b' s v (Ok u) f n n' inside side hs m depth t P L R = hs m depth t P L R
-  other_join FannedOut a a' b b' s v (Err u) f n n' inside side hs m depth t P L R = hs m depth t P L R
 
   -- ## Forms with one part
 
@@ -220,20 +214,32 @@ module _ (φ : AnswersByName) (p : Plan) where
   unrecorded (accumulated k e f) s K = refl
   unrecorded (fused f) s K = refl
 
-  module _ (i i' : PrimState) (s : Step) (n : Meter) (inside : ℕ) where
-    pub prim_steps : (v : Data) → ((q : Primitive) (scope : Scope) (L : Life) → functions_in scope ≡ φ → Remembers i q scope L → GoesOn q scope s L i' (Ok v)) → LiveSteps φ p (LPrim i) s (Ok (LPrim i', v)) n n inside
-    prim_steps v hs m depth t P L (ready {m = made} h O (lives_primitive {q = q} {e = e} K)) =
+  module _ (i i' : PrimState) (s : Step) (n : Meter) where
+    pub prim_steps : (v : Data) → ((q : Primitive) (scope : Scope) (L : Life) → functions_in scope ≡ φ → Remembers i q scope L → GoesOn q scope s L i' (Ok v)) → PrimSteps φ p i s (Ok (i', v)) n n
+    prim_steps v hs m depth inside t P L (recalls {q = q} {e = e} O K) =
         let w = goes_on_parts (hs q (scope_around φ e) L (functions_around φ e) K) in
-        let F : Form net (primitive q) e made s L (gave v []) one_term = of_primitive (ap₂ as_outcome w.0 (unrecorded q s K)) in
-        answers (gives O (of_form h F)) (one_spent t) (settles (ready h (and_gave O (of_form h F)) (lives_primitive w.1)))
+        let F : Form net (primitive q) e nothing_made s L (gave v []) one_term = of_primitive (ap₂ as_outcome w.0 (unrecorded q s K)) in
+        answers (gives O (of_form refl F)) (one_spent t) (recalls (and_gave O (of_form refl F)) w.1)
 
     pub prim_fails : (n' : Meter) (g : Fault) (f : EvalFault) → g ≡ fault_from f → entered_of n' ≡ entered_of n → height_of n' ≡ height_of n → ((q : Primitive) (scope : Scope) (L : Life) → functions_in scope ≡ φ → Remembers i q scope L → GoesOn q scope s L i' (Err f))
-        → LiveSteps φ p (LPrim i) s (Err g) n n' inside
-    prim_fails n' g (EValue x) e en hn hs m depth t P L (ready {t = u} {e = names} h O (lives_primitive {q = q} {e = e'} K)) =
+        → PrimSteps φ p i s (Err g) n n'
+    prim_fails n' g (EValue x) e en hn hs m depth inside t P L (recalls {q = q} {e = e'} O K) =
         let w = goes_on_fault (hs q (scope_around φ e') L (functions_around φ e') K) in
-        let G : Gives net (closure (primitive q) e') (s ∷ L) (faulted x) one_term = gives O (of_form h (of_primitive (ap (λ o. as_outcome o (recorded q s)) w))) in
+        let G : Gives net (closure (primitive q) e') (s ∷ L) (faulted x) one_term = gives O (of_form {m = nothing_made} refl (of_primitive (ap (λ o. as_outcome o (recorded q s)) w))) in
         fails (subst (λ (g : Fault). StopsFor (Gives net (closure (primitive q) e') (s ∷ L)) g m n' depth) (sym e) (faults G ((ticked_within t en hn).most _ _ G)))
-    prim_fails n' g EMemory e en hn hs m depth t P L R = early_memory t en hn e
+    prim_fails n' g EMemory e en hn hs m depth inside t P L R = early_memory t en hn e
+
+  -- a primitive's answer is its state's
+  recalled : {A E : Type 0} {P : Process} {s : Step} {L : Life} {R : Rel} {m n : Meter} {depth : ℕ} (i : PrimState) (v : Data) (r : Result A E) (f : Fault)
+      → Answers {A = PrimState × Data} (λ y. y.1) (λ y. Recalls φ p y.0 P (s ∷ L)) R (left_or r (i, v) f) m n depth
+      → Answers {A = State × Data} (λ y. y.1) (λ y. Stands φ p y.0 P (s ∷ L)) R (left_or r (SPrimitive i, v) f) m n depth
+  recalled i v (Ok u) f h = let w = answered h in answers w.given w.spent (itself (recalling w.holds))
+  recalled i v (Err e) f h = fails (failed h)
+
+  -- one that has counted steps as its state does
+  pub primitive_counted : {A E : Type 0} {n n' : Meter} {inside : ℕ} (i i' : PrimState) (s : Step) (v : Data) (r : Result A E) (f : Fault) → PrimSteps φ p i s (left_or r (i', v) f) n n'
+      → CountedSteps φ p (SPrimitive i) s (left_or r (SPrimitive i', v) f) n n' inside
+  primitive_counted {inside = inside} i i' s v r f h m depth t P L (primitive_prepared R) = recalled i' v r f (h m depth inside t P L R)
 
   -- ## States
 
@@ -244,29 +250,41 @@ module _ (φ : AnswersByName) (p : Plan) where
   held at names l v (Ok u) f N h = let w = answered h in answers w.given w.spent (itself (alive N w.holds))
   held at names l v (Err e) f N h = fails (failed h)
 
-  -- the node that is stepped stands for all that the shared one stands for
-  module _ (l own : Live) (follows : (P : Process) (L : Life) → Settles φ p l P L → Settles φ p own P L) where
-    own_steps : {m n n' : Meter} {depth inside : ℕ} {s : Step} {r : Result (Live × Data) Fault} → Ticks m n depth inside → LiveSteps φ p own s r n n' inside → (P : Process) (L : Life) → Settles φ p own P L
-        → Answers (λ y. y.1) (λ y. Settles φ p y.0 P (s ∷ L)) (Gives net P (s ∷ L)) r m n' depth
-    own_steps {m = m} {depth = depth} t h P L (settles R) = h m depth t P _ R
+  pub live_counted : {A E : Type 0} {at : _} (at' : _) {n n' : Meter} {inside : ℕ} (names : Env) (l l' : Live) (s : Step) (v : Data) (r : Result A E) (f : Fault) → LiveSteps φ p l s (left_or r (l', v) f) n n' inside
+      → CountedSteps φ p (Alive' names at l) s (left_or r (Alive' names at' l', v) f) n n' inside
+  live_counted at' names l l' s v r f h m depth t P L (live_prepared N R) = held at' names l' v r f N (h m depth t P L (R s))
 
-    pub state_steps : {A E : Type 0} {at : _} (at' : _) {m n n' : Meter} {depth inside : ℕ} (names : Env) (l' : Live) (s : Step) (v : Data) (r : Result A E) (f : Fault) → Ticks m n depth inside → LiveSteps φ p own s (left_or r (l', v) f) n n' inside
-        → StateSteps φ p (Alive' names at l) s (left_or r (Alive' names at' l', v) f) m n' depth
-    state_steps {at = at} at' {m = m} {n' = n'} {depth = depth} names l' s v r f t h = lift_steps φ p (Alive' names at l) s (left_or r (Alive' names at' l', v) f) m n' depth go
-      where
-        go : (P : Process) (L : Life) → StandsItself φ p (Alive' names at l) P L → PartSteps φ p P L s (left_or r (Alive' names at' l', v) f) m n' depth
-        go P L (alive N S) = held at' names l' v r f N (own_steps t h _ L (follows _ _ S))
+  -- the node that is stepped stands for all that the shared one stands for
+  pub own_steps : (l own : Live) (s : Step) (r : Result (Live × Data) Fault) {n n' : Meter} {inside : ℕ} → ((P : Process) (x : Data) (L : Life) → Ready φ p l P x L → Ready φ p own P x L) → LiveSteps φ p own s r n n' inside → LiveSteps φ p l s r n n' inside
+  own_steps l own s r f h m depth t P L R = h m depth t P L (f P _ L R)
+
+  -- all that a state stands for itself, it is prepared for
+  abbrev pub IsPrepared : State → Type 0
+  IsPrepared a = (P : Process) (L : Life) → StandsItself φ p a P L → Prepared φ p a P L
+
+  pub primitive_is : (i : PrimState) → IsPrepared (SPrimitive i)
+  primitive_is i P L (recalling R) = primitive_prepared R
+
+  pub live_is : {at : _} (names : Env) (l : Live) → IsPrepared (Alive' names at l)
+  live_is names l P L (alive N (settles R)) = live_prepared N (λ s. R)
+
+  pub switch_is : {at : _} (names : Env) (k : Switch) → IsPrepared (Watching' names at k.form k.running k.pattern k.body)
+  switch_is names k P L (watching N W) = switch_prepared N W
+
+  pub keeping_is : {at : _} (names : Env) (k : Keeping) → IsPrepared (Keeping' names at k.shown k.first k.source k.observer k.name k.pattern k.body)
+  keeping_is names k P L (keeping_on N W) = keeping_prepared N W
+
+  -- such a state counts, and steps
+  pub counted_steps : (a : State) (s : Step) (r : Result (State × Data) Fault) {m n n' : Meter} {depth inside : ℕ} → Ticks m n depth inside → IsPrepared a → CountedSteps φ p a s r n n' inside → StateSteps φ p a s r m n' depth
+  counted_steps a s r {m = m} {n' = n'} {depth = depth} t f h = lift_steps φ p a s r m n' depth (λ P L A. h m depth t P L (f P L A))
 
   -- ## The first sample
 
-  opened_live : {l : Live} {t : Term} {e : Environment} → Opens φ p t e (Ok (opened.Live l)) → (x : Data) → Ready φ p l (closure t e) x []
-  opened_live (opens h) = h
+  begun_prepared : {a : State} {t : Term} {e : Environment} → BeginsAs φ p t e a (Ok begun.Itself) → Prepared φ p a (closure t e) []
+  begun_prepared (begins_itself A) = A
 
-  opened_switch : {k : Switch} {t : Term} {e : Environment} → Opens φ p t e (Ok (opened.Switch k)) → Waits φ p k (closure t e) []
-  opened_switch (opens_watching W) = W
-
-  opened_keeping : {k : Keeping} {t : Term} {e : Environment} → Opens φ p t e (Ok (opened.Keeping k)) → WaitsKeeping φ p k (closure t e) []
-  opened_keeping (opens_keeping W) = W
+  not_begun_at : {a : State} {t : Term} {e : Environment} {f : Fault} → BeginsAs φ p t e a (Err f) → Opens φ p t e (Err f)
+  not_begun_at (begins_not O) = O
 
   module _ {m n : Meter} {depth inside : ℕ} (term : PlanId) (names : Env) (d : ℕ) (x : Data) (t : Ticks m n depth inside) where
     -- what a part that isn't born answers, from what its term answers on its first step
@@ -278,44 +296,27 @@ module _ (φ : AnswersByName) (p : Plan) where
         go : (P : Process) (L : Life) → StandsItself φ p (Unborn (SClosure term names)) P L → PartSteps φ p P L (step d x) r m n' depth
         go P L (unborn (is_closure {e = e} N)) = h e N
 
-    module _ {n' : Meter} (l : Live) (ho : (e : Environment) → IsNames φ p names e → Opens φ p (plan_tree p term) e (Ok (opened.Live l))) where
-      pub start_steps : {at : _} (around : Env) (l' kept : Live) (v : Data) → around ≡ names → kept ≡ l' → LiveSteps φ p l (step d x) (Ok (l', v)) n n' inside
-          → StateSteps φ p (Unborn (SClosure term names)) (step d x) (Ok (Alive' around at kept, v)) m n' depth
-      start_steps {at = at} around l' kept v ea ek hs = starts (Ok (Alive' around at kept, v)) (λ e N.
-          let w = answered (hs m depth t _ [] (opened_live (ho e N) x)) in
-          answers w.given w.spent (itself (alive (subst (λ (names : Env). IsNames φ p names e) (sym ea) N) (subst (λ (l : Live). Settles φ p l (closure (plan_tree p term) e) (step d x ∷ [])) (sym ek) w.holds))))
-
-      pub start_fails : (f : Fault) → LiveSteps φ p l (step d x) (Err f) n n' inside → StateSteps φ p (Unborn (SClosure term names)) (step d x) (Err f) m n' depth
-      start_fails f hs = starts (Err f) (λ e N. fails (failed (hs m depth t _ [] (opened_live (ho e N) x))))
-
-    -- a switch starts as it steps
-    pub start_switches : {n' : Meter} (k : Switch) (r : Result (State × Data) Fault) → ((e : Environment) → IsNames φ p names e → Opens φ p (plan_tree p term) e (Ok (opened.Switch k)))
-        → ((m : Meter) (depth : ℕ) → Ticks m n depth inside → (t : Term) (e : Environment) → IsNames φ p names e → Waits φ p k (closure t e) [] → PartSteps φ p (closure t e) [] (step d x) r m n' depth)
+    -- it counts, and steps as what it has become
+    pub begun_steps : {n' : Meter} (a : State) (r : Result (State × Data) Fault) → ((e : Environment) → IsNames φ p names e → BeginsAs φ p (plan_tree p term) e a (Ok begun.Itself)) → CountedSteps φ p a (step d x) r n n' inside
         → StateSteps φ p (Unborn (SClosure term names)) (step d x) r m n' depth
-    start_switches k r ho hs = starts r (λ e N. hs m depth t _ e N (opened_switch (ho e N)))
+    begun_steps a r ho hs = starts r (λ e N. hs m depth t _ [] (begun_prepared (ho e N)))
 
-    pub start_keepings : {n' : Meter} (k : Keeping) (r : Result (State × Data) Fault) → ((e : Environment) → IsNames φ p names e → Opens φ p (plan_tree p term) e (Ok (opened.Keeping k)))
-        → ((m : Meter) (depth : ℕ) → Ticks m n depth inside → (t : Term) (e : Environment) → IsNames φ p names e → WaitsKeeping φ p k (closure t e) [] → PartSteps φ p (closure t e) [] (step d x) r m n' depth)
+    pub begun_runs : {n' : Meter} (a : State) (r : Result (State × Data) Fault) → ((e : Environment) → IsNames φ p names e → BeginsAs φ p (plan_tree p term) e a (Ok begun.Referred)) → StateSteps φ p a (step d x) r n n' inside
         → StateSteps φ p (Unborn (SClosure term names)) (step d x) r m n' depth
-    start_keepings k r ho hs = starts r (λ e N. hs m depth t _ e N (opened_keeping (ho e N)))
-
-    -- a named process starts as it steps
-    pub start_runs : {n' : Meter} (a : State) (r : Result (State × Data) Fault) → ((e : Environment) → IsNames φ p names e → Opens φ p (plan_tree p term) e (Ok (opened.Running a)))
-        → StateSteps φ p a (step d x) r n n' inside → StateSteps φ p (Unborn (SClosure term names)) (step d x) r m n' depth
-    start_runs a r ho hs = starts r (λ e N. running_steps φ p t (ho e N) hs)
+    begun_runs a r ho hs = starts r (λ e N. referred_begins φ p t (ho e N) hs)
 
     module _ {n' : Meter} (en : entered_of n' ≡ entered_of n) (hn : height_of n' ≡ height_of n) where
       open_fails : (u : Term) (e : Environment) (f : Fault) → Opens φ p u e (Err f) → StopsFor (Gives net (closure u e) (step d x ∷ [])) f m n' depth
       open_fails u e f (opens_with_fault h) = faults (h (step d x)) ((ticked_within t en hn).most _ _ (h (step d x)))
       open_fails u e f opens_without_memory = memory (ticked_within t en hn)
 
-      pub start_open_fails : (f g : Fault) → g ≡ f → ((e : Environment) → IsNames φ p names e → Opens φ p (plan_tree p term) e (Err f)) → StateSteps φ p (Unborn (SClosure term names)) (step d x) (Err g) m n' depth
-      start_open_fails f g eg ho = starts (Err g) (λ e N. fails (subst (λ (g : Fault). StopsFor (Gives net (closure (plan_tree p term) e) (step d x ∷ [])) g m n' depth) (sym eg) (open_fails _ e f (ho e N))))
+      pub begun_fails : (a : State) (f g : Fault) → g ≡ f → ((e : Environment) → IsNames φ p names e → BeginsAs φ p (plan_tree p term) e a (Err f)) → StateSteps φ p (Unborn (SClosure term names)) (step d x) (Err g) m n' depth
+      begun_fails a f g eg ho = starts (Err g) (λ e N. fails (subst (λ (g : Fault). StopsFor (Gives net (closure (plan_tree p term) e) (step d x ∷ [])) g m n' depth) (sym eg) (open_fails _ e f (not_begun_at (ho e N)))))
 
   -- ## Before the first sample
 
-  prim_opens : (q : Primitive) (e : Environment) (i : PrimState) → Begins (scope_around φ e) q (Ok i) → Opens φ p (primitive q) e (Ok (opened.Live (LPrim i)))
-  prim_opens q e i (begins K) = opens (λ x. ready refl not_begun (lives_primitive K))
+  prim_opens : (q : Primitive) (e : Environment) (i : PrimState) → Begins (scope_around φ e) q (Ok i) → Opens φ p (primitive q) e (Ok (opened.Primitive i))
+  prim_opens q e i (begins K) = opens_primitive (recalls not_begun K)
 
   prim_opens_with_fault : (q : Primitive) (e : Environment) (f : EvalFault) → Begins (scope_around φ e) q (Err f) → Opens φ p (primitive q) e (Err (fault_from f))
   prim_opens_with_fault q e (EValue x) (begins_with_fault h) = opens_with_fault (λ s. gives not_begun (of_form refl (of_primitive (ap (λ o. as_outcome o (recorded q s)) (h s)))))
@@ -333,20 +334,20 @@ module _ (φ : AnswersByName) (p : Plan) where
   scope_in names = scope_with (values_around (plan_expressions p) names) φ
 
   pub open_prim : (q : PlanPrimitive) (t : Term) (names : Env) (i : PrimState) → BuildsPlan p (NPrimitive q) t → (IsCodedPrimitive (plan_expressions p) q → Begins (scope_in names) (primitive_over (plan_expressions p) q) (Ok i))
-      → (e : Environment) → IsNames φ p names e → Opens φ p t e (Ok (opened.Live (LPrim i)))
+      → (e : Environment) → IsNames φ p names e → Opens φ p t e (Ok (opened.Primitive i))
   open_prim q t names i (builds_primitive C) h e N = prim_opens _ e i (subst (λ (s : Scope). Begins s (primitive_over (plan_expressions p) q) (Ok i)) (scope_is φ p names e N) (h C))
 
   pub open_prim_fails : (q : PlanPrimitive) (t : Term) (names : Env) (f : EvalFault) → BuildsPlan p (NPrimitive q) t → (IsCodedPrimitive (plan_expressions p) q → Begins (scope_in names) (primitive_over (plan_expressions p) q) (Err f))
       → (e : Environment) → IsNames φ p names e → Opens φ p t e (Err (fault_from f))
   open_prim_fails q t names f (builds_primitive C) h e N = prim_opens_with_fault _ e f (subst (λ (s : Scope). Begins s (primitive_over (plan_expressions p) q) (Err f)) (scope_is φ p names e N) (h C))
 
-  pub open_join : (j : Join) (a b : PlanId) (names one two : Env) → j ≢ InSequence
+  pub open_join : (j : Join) (a b : PlanId) (names one two : Env)
       → ((e : Environment) → IsNames φ p names e → IsNames φ p one e) → ((e : Environment) → IsNames φ p names e → IsNames φ p two e) → (e : Environment) → IsNames φ p names e → Opens φ p (joined j (plan_tree p a) (plan_tree p b)) e (Ok (opened.Live (LJoin j (Unborn (SClosure a one)) (Unborn (SClosure b two)))))
-  open_join j a b names one two side h g e N =
+  open_join j a b names one two h g e N =
       let A = subst (λ (K : Life). Stands φ p (Unborn (SClosure a one)) (closure (plan_tree p a) e) K) (sym (left_none j)) (itself (unborn (is_closure (h e N)))) in
       let B = subst (λ (K : Life). Stands φ p (Unborn (SClosure b two)) (closure (plan_tree p b) e) K) (sym (right_none j)) (itself (unborn (is_closure (g e N)))) in
       let O = subst (λ (K : Life). Outputs net (closure (plan_tree p a) e) K []) (sym (left_none j)) not_begun in
-      opens (λ x. ready refl not_begun (lives_join side O A B))
+      opens (λ x. ready refl not_begun (lives_join O A B))
 
   -- a node of two parts opens as they do
   pub open_joined : (j : Join) (a b : PlanId) (t : Term) (names : Env) (l : Live) → BuildsPlan p (NJoined j a b) t → ((e : Environment) → IsNames φ p names e → Opens φ p (joined j (plan_tree p a) (plan_tree p b)) e (Ok (opened.Live l)))
@@ -420,6 +421,46 @@ module _ (φ : AnswersByName) (p : Plan) where
       by f (makes_fault w) = opens_with_fault (λ s. gives not_begun (of_constants (ap (λ w. w >>= λ P. answer (process_made P)) (called φ p (name_at (plan_expressions p) k) (header_at p g) is (plan_arguments p v.items) e ∙ w))))
       by f makes_nothing = opens_without_memory
 
+  -- what a term opens to stands in its state
+  pub begin_primitive : {t : Term} (i : PrimState) (names : Env) → ((e : Environment) → IsNames φ p names e → Opens φ p t e (Ok (opened.Primitive i))) → (e : Environment) → IsNames φ p names e → BeginsAs φ p t e (SPrimitive i) (Ok begun.Itself)
+  begin_primitive i names h e N = by (h e N)
+    where
+      by : {t : Term} → Opens φ p t e (Ok (opened.Primitive i)) → BeginsAs φ p t e (SPrimitive i) (Ok begun.Itself)
+      by (opens_primitive R) = begins_itself (primitive_prepared R)
+
+  pub begin_live : {at : _} {t : Term} (l kept : Live) (names : Env) → kept ≡ l → ((e : Environment) → IsNames φ p names e → Opens φ p t e (Ok (opened.Live l))) → (e : Environment) → IsNames φ p names e → BeginsAs φ p t e (Alive' names at kept) (Ok begun.Itself)
+  begin_live {at} {t} l kept names same h e N = subst (λ (l : Live). BeginsAs φ p t e (Alive' names at l) (Ok begun.Itself)) (sym same) (by (h e N))
+    where
+      by : {t : Term} → Opens φ p t e (Ok (opened.Live l)) → BeginsAs φ p t e (Alive' names at l) (Ok begun.Itself)
+      by (opens R) = begins_itself (live_prepared N (λ s. R _))
+
+  pub begin_switch : {at : _} {t : Term} (k kept : Switch) (names : Env) → kept ≡ k → ((e : Environment) → IsNames φ p names e → Opens φ p t e (Ok (opened.Switch k))) → (e : Environment) → IsNames φ p names e
+      → BeginsAs φ p t e (Watching' names at kept.form kept.running kept.pattern kept.body) (Ok begun.Itself)
+  begin_switch {at} {t} k kept names same h e N = subst (λ (k : Switch). BeginsAs φ p t e (Watching' names at k.form k.running k.pattern k.body) (Ok begun.Itself)) (sym same) (by (h e N))
+    where
+      by : {t : Term} → Opens φ p t e (Ok (opened.Switch k)) → BeginsAs φ p t e (Watching' names at k.form k.running k.pattern k.body) (Ok begun.Itself)
+      by (opens_watching W) = begins_itself (switch_prepared N W)
+
+  pub begin_keeping : {at : _} {t : Term} (k kept : Keeping) (names : Env) → kept ≡ k → ((e : Environment) → IsNames φ p names e → Opens φ p t e (Ok (opened.Keeping k))) → (e : Environment) → IsNames φ p names e
+      → BeginsAs φ p t e (Keeping' names at kept.shown kept.first kept.source kept.observer kept.name kept.pattern kept.body) (Ok begun.Itself)
+  begin_keeping {at} {t} k kept names same h e N = subst (λ (k : Keeping). BeginsAs φ p t e (Keeping' names at k.shown k.first k.source k.observer k.name k.pattern k.body) (Ok begun.Itself)) (sym same) (by (h e N))
+    where
+      by : {t : Term} → Opens φ p t e (Ok (opened.Keeping k)) → BeginsAs φ p t e (Keeping' names at k.shown k.first k.source k.observer k.name k.pattern k.body) (Ok begun.Itself)
+      by (opens_keeping W) = begins_itself (keeping_prepared N W)
+
+  pub begin_referred : {t : Term} (a : State) (names : Env) → ((e : Environment) → IsNames φ p names e → Opens φ p t e (Ok (opened.Running a))) → (e : Environment) → IsNames φ p names e → BeginsAs φ p t e a (Ok begun.Referred)
+  begin_referred a names h e N = by (h e N)
+    where
+      by : {t : Term} → Opens φ p t e (Ok (opened.Running a)) → BeginsAs φ p t e a (Ok begun.Referred)
+      by (opens_running same is A) = begins_referred same is A
+
+  pub begin_fails : {t : Term} (a : State) (f : Fault) (names : Env) → ((e : Environment) → IsNames φ p names e → Opens φ p t e (Err f)) → (e : Environment) → IsNames φ p names e → BeginsAs φ p t e a (Err f)
+  begin_fails a f names h e N = begins_not (h e N)
+
+  pub begin_memory : {t : Term} {e : Environment} (a : State) (r : Result Begun Fault) → IsErrAnd r (λ e. e ≡ Memory) → BeginsAs φ p t e a r
+  begin_memory a (Ok b) h = absurd h
+  begin_memory {t} {e} a (Err g) h = subst (λ (f : Fault). BeginsAs φ p t e a (Err f)) (sym h) (begins_not opens_without_memory)
+
   -- the process that was found, or what passes inputs on
   pub passing_process : (r : Option Running) (a : State) (i : PlanId) (P : Process) → r ≡ None → plan_tree p i ≡ primitive (bare Identity) → Stands φ p a (closure (plan_tree p i) empty) [] → IsFound φ p r P → Stands φ p a P []
   passing_process r a i P is same A h =
@@ -434,14 +475,14 @@ module _ (φ : AnswersByName) (p : Plan) where
 
   -- ## A sample
 
-  begun : {m n : Meter} {k : Cost} {r : Readings} → readings m ≡ [] → Spent m n 0 k r → r ≡ readings n
-  begun {r = r} h s = sym (s.recorded ∙ ap (λ l. l ++ r) h)
+  all_recorded : {m n : Meter} {k : Cost} {r : Readings} → readings m ≡ [] → Spent m n 0 k r → r ≡ readings n
+  all_recorded {r = r} h s = sym (s.recorded ∙ ap (λ l. l ++ r) h)
 
   pub sample_steps : {m n : Meter} (a a' : State) (s : Step) (v : Data) → entered_of m ≡ 0 → height_of m ≡ 0 → readings m ≡ [] → StateSteps φ p a s (Ok (a', v)) m n 0
       → (P : Process) (L : Life) → Stands φ p a P L → Steps φ p P (s ∷ L) (Ok v) a' n
   sample_steps a a' s v em hm rm hs P L A =
       let w = answered (hs P L A) in
-      let G = subst (λ (r : Readings). Gives net P (s ∷ L) (gave v r) w.k) (begun rm w.spent) w.given in
+      let G = subst (λ (r : Readings). Gives net P (s ∷ L) (gave v r) w.k) (all_recorded rm w.spent) w.given in
       stepped G (let c = w.spent.entered in omega arith) (let c = w.spent.high in omega arith) w.holds
 
   each_costs : {m n : Meter} {P : Process} {L : Life} → entered_of m ≡ 0 → height_of m ≡ 0 → Within (Gives net P L) m n 0 → EachCostsAtLeast φ p P L n

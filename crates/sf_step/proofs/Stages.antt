@@ -8,7 +8,7 @@ use Rattle.std.proofs.lemmas.List.{append-nil}
 use Rattle.sf_value.specs.Values.{Data}
 use Rattle.sf_value.specs.declared.fault.Fault.{Fault}
 use Rattle.sf_term.specs.declared.form.Join.TheVariants.{InSequence}
-use Rattle.sf_term.specs.Trees.{rest, Term, joined, staged}
+use Rattle.sf_term.specs.Trees.{whole, rest, Term, staged}
 use Rattle.sf_mean.specs.Lives.{Step, step, Life, Process, closure, Environment, first_input, relay}
 use Rattle.sf_mean.specs.Meaning.{Network, Outcome, gave, faulted, combined, value_in, Cost, both_costs, over, text_cost, Made, nothing_made, join_value, Gives, gives, Outputs, not_begun, and_gave, of_form, Form, of_join, of_stages, Next, goes_on, stops}
 use Rattle.sf_mean.proofs.Once.{onces}
@@ -24,7 +24,7 @@ use Rattle.sf_state.specs.Standing.{closed_over as SClosure}
 use Rattle.sf_state.specs.declared.env.Env.{Env}
 use Rattle.sf_state.specs.declared.state.Live.{items_hidden-the_row-State-0}
 use Rattle.sf_state.specs.declared.state.Live.TheVariants.{Pipeline as LPipeline}
-use Rattle.sf_state.specs.Standing.{is_closure, IsNames, Stands, itself, took_over, unborn, alive, watching, waits_so, recurs_so, keeping_on, keeps_so, was_frozen, Turned, fired_to, kept_to, ran, went_on, settles, Ready, ready, lives_pipeline, IsPipeline, is_stages, is_sequence, StagesStand, last_stands, stage_stands}
+use Rattle.sf_state.specs.Standing.{is_closure, IsNames, Stands, itself, took_over, unborn, recalling, recalls, alive, watching, waits_so, recurs_so, keeping_on, keeps_so, was_frozen, Turned, fired_to, kept_to, ran, went_on, settles, Ready, ready, lives_pipeline, StagesStand, last_stands, stage_stands}
 use Rattle.sf_state.proofs.Copies.{pipeline_lives}
 use Rattle.sf_step.specs.declared.meter.Meter.{Meter}
 use Rattle.sf_step.specs.declared.sample.Opened.TheVariants as opened
@@ -68,20 +68,17 @@ module _ (n : Network) where
 
   -- ## A pipeline counts, over its stages
 
-  whole_form : {t u : Term} {e : Environment} {m m' : Made} {s : Step} {L : Life} {o : Outcome} {k : Cost} → IsPipeline t u → Form n u e m s L o k → Form n t e m' s L o (over k)
-  whole_form is_stages (of_stages O G N) = of_stages O G N
-  whole_form is_sequence (of_stages O G N) = of_join O G N
+  whole_form : {f g : Term} {e : Environment} {m m' : Made} {s : Step} {L : Life} {o : Outcome} {k : Cost} → Form n (staged rest f g) e m s L o k → Form n (staged whole f g) e m' s L o (over k)
+  whole_form (of_stages O G N) = of_stages O G N
 
-  pipeline_to : {t u : Term} {e : Environment} {m : Made} (s : Step) (L : Life) {o : Outcome} {k : Cost} → IsPipeline t u → Over (Gives n (closure u e) (s ∷ L)) o k → Form n t e m s L o k
-  pipeline_to s L is_stages (counted G) = whole_form is_stages (gives_form n s L refl G)
-  pipeline_to s L is_sequence (counted G) = whole_form is_sequence (gives_form n s L refl G)
+  pipeline_to : {f g : Term} {e : Environment} {m : Made} (s : Step) (L : Life) {o : Outcome} {k : Cost} → Over (Gives n (closure (staged rest f g) e) (s ∷ L)) o k → Form n (staged whole f g) e m s L o k
+  pipeline_to s L (counted G) = whole_form (gives_form n s L refl G)
 
-  pipeline_back : {t u : Term} {e : Environment} {m : Made} (s : Step) (L : Life) {zs : List Data} {o : Outcome} {k : Cost} → Outputs n (closure u e) L zs → IsPipeline t u → Form n t e m s L o k → Over (Gives n (closure u e) (s ∷ L)) o k
-  pipeline_back s L Z is_stages (of_stages O G N) = counted (gives Z (of_form {m = nothing_made} refl (of_stages O G N)))
-  pipeline_back s L Z is_sequence (of_join O G N) = counted (gives Z (of_form {m = nothing_made} refl (of_stages O G N)))
+  pipeline_back : {f g : Term} {e : Environment} {m : Made} (s : Step) (L : Life) {zs : List Data} {o : Outcome} {k : Cost} → Outputs n (closure (staged rest f g) e) L zs → Form n (staged whole f g) e m s L o k → Over (Gives n (closure (staged rest f g) e) (s ∷ L)) o k
+  pipeline_back s L Z (of_stages O G N) = counted (gives Z (of_form {m = nothing_made} refl (of_stages O G N)))
 
-  pub pipeline_alike : {t u : Term} {e : Environment} {m : Made} (s : Step) (L : Life) {zs : List Data} → IsPipeline t u → Outputs n (closure u e) L zs → Alike (Over (Gives n (closure u e) (s ∷ L))) (Form n t e m s L)
-  pipeline_alike s L Q Z = record { to = λ o k R. pipeline_to s L Q R; back = λ o k F. pipeline_back s L Z Q F }
+  pub pipeline_alike : {f g : Term} {e : Environment} {m : Made} (s : Step) (L : Life) {zs : List Data} → Outputs n (closure (staged rest f g) e) L zs → Alike (Over (Gives n (closure (staged rest f g) e) (s ∷ L))) (Form n (staged whole f g) e m s L)
+  pipeline_alike s L Z = record { to = λ o k R. pipeline_to s L R; back = λ o k F. pipeline_back s L Z F }
 
   -- the outputs of stages are those of the last one
   staged_outputs : {f g : Term} {e : Environment} {L : Life} {ys zs : List Data} → Outputs n (closure f e) L ys → Outputs n (closure g e) (relay L ys) zs → Outputs n (closure (staged rest f g) e) L zs
@@ -104,6 +101,7 @@ module _ (φ : AnswersByName) (p : Plan) where
 
   state_gave : {a : State} {P : Process} {L : Life} → Stands φ p a P L → Gave P L
   state_gave (itself (unborn Q)) = ([], not_begun)
+  state_gave (itself (recalling (recalls O K))) = (_, O)
   state_gave (itself (alive N (settles (ready h O K)))) = (_, O)
   state_gave (itself (watching N (waits_so own S O A))) = (_, O)
   state_gave (itself (watching N (recurs_so own O A))) = (_, O)
@@ -169,18 +167,18 @@ module _ (φ : AnswersByName) (p : Plan) where
   module _ (v : Vec State Global) (d : ℕ) (x : Data) (n n' : Meter) (inside : ℕ) where
     -- a pipeline steps as its stages do
     pub pipeline_steps : (w : Vec State Global) (y : Data) → StagesStep v.items d x (Ok (w.items, y)) n n' inside → LiveSteps φ p (LPipeline v) (step d x) (Ok (LPipeline w, y)) n n' inside
-    pipeline_steps w y hs m depth t P L (ready {m = made} h O (lives_pipeline {u = u} {e = e} Q S)) =
+    pipeline_steps w y hs m depth t P L (ready {m = made} h O (lives_pipeline {f = f} {g = g} {e = e} S)) =
         let T = stands_at v (items_hidden-the_row-State-0 v) S in
-        let one = answered (stages_answer v.items d x _ n n' inside u e L hs T) in
-        let F = (pipeline_alike net {m = made} (step d x) L Q (stages_gave T).1).to _ _ (counted one.given) in
-        answers (gives O (of_form h F)) (over_spent t one.spent) (settles (ready h (and_gave O (of_form h F)) (pipeline_lives φ p w Q one.holds)))
+        let one = answered (stages_answer v.items d x _ n n' inside (staged rest f g) e L hs T) in
+        let F = (pipeline_alike net {m = made} (step d x) L (stages_gave T).1).to _ _ (counted one.given) in
+        answers (gives O (of_form h F)) (over_spent t one.spent) (settles (ready h (and_gave O (of_form h F)) (pipeline_lives φ p w one.holds)))
 
     pub pipeline_fails : (f : Fault) → StagesStep v.items d x (Err f) n n' inside
         → (m : Meter) (depth : ℕ) → Ticks m n depth inside → (P : Process) (L : Life) → Ready φ p (LPipeline v) P (first_input (step d x) L) L → StopsFor (Gives net P (step d x ∷ L)) f m n' depth
-    pipeline_fails f hs m depth t P L (ready {m = made} h O (lives_pipeline {u = u} {e = e} Q S)) =
+    pipeline_fails q hs m depth t P L (ready {m = made} h O (lives_pipeline {f = f} {g = g} {e = e} S)) =
         let T = stands_at v (items_hidden-the_row-State-0 v) S in
-        fails_alike (form_alike net (step d x) L h O) (fails_alike (pipeline_alike net {m = made} (step d x) L Q (stages_gave T).1)
-        (over_fails t (failed (stages_answer v.items d x _ n n' inside u e L hs T))))
+        fails_alike (form_alike net (step d x) L h O) (fails_alike (pipeline_alike net {m = made} (step d x) L (stages_gave T).1)
+        (over_fails t (failed (stages_answer v.items d x _ n n' inside (staged rest f g) e L hs T))))
 
   -- ## The loop
 
@@ -235,14 +233,10 @@ module _ (φ : AnswersByName) (p : Plan) where
   open_pipeline : (ids : List PlanId) (w : Vec State Global) (e : Environment) → IsTrue (nat_le 2 (length ids)) → AllBegin φ p e ids w.items → Opens φ p (pipeline (map (λ j. plan_tree p j) ids)) e (Ok (opened.Live (LPipeline w)))
   open_pipeline [] w e two B = absurd cc
   open_pipeline (i ∷ []) w e two B = absurd cc
-  open_pipeline (i ∷ j ∷ ids) w e two B = opens (λ x. ready refl not_begun (pipeline_lives φ p w is_stages (begin_stand i (j ∷ ids) w.items e B)))
+  open_pipeline (i ∷ j ∷ ids) w e two B = opens (λ x. ready refl not_begun (pipeline_lives φ p w (begin_stand i (j ∷ ids) w.items e B)))
 
   pub open_staged : (v : Vec PlanId Global) (t : Term) (w : Vec State Global) (e : Environment) → BuildsPlan p (NPipeline v) t → AllBegin φ p e v.items w.items → Opens φ p t e (Ok (opened.Live (LPipeline w)))
   open_staged v t w e (builds_pipeline two) B = open_pipeline v.items w e two B
-
-  -- a sequence is a pipeline of two stages
-  pub open_sequence : (a b : PlanId) (w : Vec State Global) (e : Environment) → AllBegin φ p e (a ∷ b ∷ []) w.items → Opens φ p (joined InSequence (plan_tree p a) (plan_tree p b)) e (Ok (opened.Live (LPipeline w)))
-  open_sequence a b w e B = opens (λ x. ready refl not_begun (pipeline_lives φ p w is_sequence (begin_stand a (b ∷ []) w.items e B)))
 
   -- one more stage begins
   begin_push : (i : PlanId) (ids : List PlanId) (a : State) (bs : List State) (e : Environment) → AllBegin φ p e ids bs → Stands φ p a (closure (plan_tree p i) e) [] → AllBegin φ p e (ids ++ i ∷ []) (bs ++ a ∷ [])

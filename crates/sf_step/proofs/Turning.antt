@@ -3,7 +3,6 @@ use Rattle.std.proofs.Common.{◌≡◌, ℕ, [], ◌∷◌, Option, Some, None,
 use Rattle.std.specs.Prelude.{IsErr}
 use Rattle.sf_value.specs.Values.{Name, Data}
 use Rattle.sf_value.specs.declared.fault.Fault.{Fault}
-use Rattle.sf_value.specs.declared.fault.Fault.TheVariants.{Memory}
 use Rattle.sf_func.specs.Registries.{AnswersByName}
 use Rattle.sf_expr.specs.Expressions.{Pattern}
 use Rattle.sf_expr.specs.Evaluation.{Evaluated, answer, ◌>>=◌}
@@ -22,12 +21,12 @@ use Rattle.sf_state.specs.declared.state.Keeping.{Keeping}
 use Rattle.sf_state.specs.declared.state.Kept.{Kept}
 use Rattle.sf_state.specs.declared.env.Env.{Env}
 use Rattle.sf_state.specs.Standing.{IsNames, Turned, fired_to, kept_to, ran, went_on, Stands, itself, took_over, StandsItself, watching, keeping_on, was_frozen, kept_state, Waits, WaitsKeeping}
-use Rattle.sf_step.specs.declared.sample.Opened.TheVariants as opened
+use Rattle.sf_step.specs.declared.sample.Begun.TheVariants as begun
 use Rattle.sf_step.specs.declared.meter.Meter.{Meter}
 use Rattle.sf_step.specs.Meters.{entered_of, height_of}
-use Rattle.sf_step.specs.Sampling.{Rel, Ticks, StopsFor, Answers, answers, fails, Opens, opens_running, PartSteps, StateSteps, Waiting, StandsFor, WaitingSteps, WatchSteps, left_beside}
-use Rattle.sf_step.proofs.Parts.{Over, counted, Alike, over_spent, fails_alike, over_fails, spent_within, answered, failed, memory_exit}
-use Rattle.sf_step.proofs.Forms.{single_gives, gave_outputs, gives_form}
+use Rattle.sf_step.specs.Sampling.{Rel, Ticks, StopsFor, Answers, answers, fails, Prepared, switch_prepared, keeping_prepared, CountedSteps, BeginsAs, begins_referred, PartSteps, StateSteps, Waiting, StandsFor, WaitingSteps, left_beside}
+use Rattle.sf_step.proofs.Parts.{Over, counted, Alike, over_spent, fails_alike, over_fails, answered, failed}
+use Rattle.sf_step.proofs.Forms.{gave_outputs, gives_form}
 
 not_waiting : {Q : Process} {M : Life} → waits ≡ fired Q M → ⊥
 not_waiting h = cc
@@ -129,9 +128,9 @@ module _ (φ : AnswersByName) (p : Plan) where
     referred_steps t (answers G sp A) = let H = referred_to (counted G) in answers H (over_spent t sp) (took_over (ran is (gave_outputs net not_begun H)) A)
     referred_steps {s = s} t (fails h) = fails (fails_alike (referred_alike s) (over_fails t h))
 
-  pub running_steps : {u : Term} {e : Environment} {a : State} {s : Step} {r : Result (State × Data) Fault} {m n n' : Meter} {depth inside : ℕ} → Ticks m n depth inside → Opens φ p u e (Ok (opened.Running a)) → StateSteps φ p a s r n n' inside
+  pub referred_begins : {u : Term} {e : Environment} {a : State} {s : Step} {r : Result (State × Data) Fault} {m n n' : Meter} {depth inside : ℕ} → Ticks m n depth inside → BeginsAs φ p u e a (Ok begun.Referred) → StateSteps φ p a s r n n' inside
       → PartSteps φ p (closure u e) [] s r m n' depth
-  running_steps {e = e} {s = s} {r = r} {m = m} {n' = n'} {depth = depth} t (opens_running same is A) h =
+  referred_begins {e = e} {s = s} {r = r} {m = m} {n' = n'} {depth = depth} t (begins_referred same is A) h =
       subst (λ u. PartSteps φ p (closure u e) [] s r m n' depth) (sym same) (referred_steps is t (h _ _ A))
 
   -- ## A switch that waits
@@ -142,17 +141,7 @@ module _ (φ : AnswersByName) (p : Plan) where
   pass_beside (Ok o) k v e h = absurd cc
   pass_beside (Err q) k v e h = fails h
 
-  -- memory runs out after a part was stepped
-  pub late_part : {A B : Type 0} {view : A → Data} {after : A → Type 0} {view' : B → Data} {after' : B → Type 0} {P : Process} {K : Life} {a : A} {m n n' : Meter} {depth : ℕ} {f : Fault}
-      → Answers view after (Gives net P K) (Ok a) m n depth → entered_of n' ≡ entered_of n → height_of n' ≡ height_of n → f ≡ Memory → Answers view' after' (Gives net P K) (Err f) m n' depth
-  late_part h en hn e = let w = answered h in memory_exit e (spent_within (single_gives net _ _) w.given w.spent en hn)
-
   module _ {A : Type 0} (W : Waiting A) where
-    -- the node that is stepped stands for all that the shared one stands for
-    pub watch_steps : (names : Env) (shared own : A) (s : Step) (r : Result ((Option State × A) × Data) Fault) (m n n' : Meter) (depth inside : ℕ) → ((P : Process) (L : Life) → W shared P L → W own P L)
-        → Ticks m n depth inside → WaitingSteps φ p W names own s r n n' inside → WatchSteps φ p W names shared s r m n' depth
-    watch_steps names shared own s r m n n' depth inside f t h T e L N S = h m depth t T e L N (f _ _ S)
-
     -- what takes over, or the switch that waits on
     taken : {P : Process} {K : Life} {R : Rel} {o : Option State} {b : State} {k : A} {v : Data} {m n : Meter} {depth : ℕ} → o ≡ Some b
         → Answers {A = (Option State × A) × Data} (λ y. y.1) (λ y. StandsFor φ p W y.0.0 y.0.1 P K) R (Ok ((o, k), v)) m n depth → Answers {A = State × Data} (λ y. y.1) (λ y. Stands φ p y.0 P K) R (Ok (b, v)) m n depth
@@ -169,84 +158,62 @@ module _ (φ : AnswersByName) (p : Plan) where
         let w = answered h in
         answers w.given w.spent (itself (is t e s L N (subst (λ o. StandsFor φ p W o k (closure t e) (s ∷ L)) none w.holds)))
 
-    -- a switch that starts is what takes over, or waits
-    pub starts_over : (k : A) (names : Env) (s : Step) (n n' : Meter) (inside : ℕ) (o : Option State) (k' : A) (b : State) (v : Data) → o ≡ Some b → WaitingSteps φ p W names k s (Ok ((o, k'), v)) n n' inside
-        → (m : Meter) (depth : ℕ) → Ticks m n depth inside → (t : Term) (e : Environment) → IsNames φ p names e → W k (closure t e) [] → PartSteps φ p (closure t e) [] s (Ok (b, v)) m n' depth
-    starts_over k names s n n' inside o k' b v is h m depth t T e N S = taken is (h m depth t T e [] N S)
-
-    pub starts_waiting : (k : A) (names : Env) (s : Step) (n n' : Meter) (inside : ℕ) (o : Option State) (k' : A) (b : State) (v : Data) → o ≡ None → IsWaiting names k' b → WaitingSteps φ p W names k s (Ok ((o, k'), v)) n n' inside
-        → (m : Meter) (depth : ℕ) → Ticks m n depth inside → (t : Term) (e : Environment) → IsNames φ p names e → W k (closure t e) [] → PartSteps φ p (closure t e) [] s (Ok (b, v)) m n' depth
-    starts_waiting k names s n n' inside o k' b v none is h m depth t T e N S = waiting_on names none is N (h m depth t T e [] N S)
-
-    -- what a state stands for that is such a switch
+    -- what a state is prepared for that is such a switch
     pub data WaitsAt (names : Env) (k : A) : Process → Life → Type 0 where
       waits_at : {t : Term} {e : Environment} {L : Life} → IsNames φ p names e → W k (closure t e) L → WaitsAt names k (closure t e) L
 
-    module _ (names : Env) (k : A) (a : State) (s : Step) (m n : Meter) (depth : ℕ) (sees : (P : Process) (L : Life) → StandsItself φ p a P L → WaitsAt names k P L) where
+    -- the node that is stepped waits for all that the shared one waits for
+    module _ (names : Env) (k own : A) (follows : (P : Process) (L : Life) → W k P L → W own P L) (a : State) (s : Step) (n n' : Meter) (inside : ℕ) (sees : (P : Process) (L : Life) → Prepared φ p a P L → WaitsAt names k P L) where
       -- a state steps as the switch does
-      as_waiting : (r : Result (State × Data) Fault) → ((t : Term) (e : Environment) (L : Life) → IsNames φ p names e → W k (closure t e) L → PartSteps φ p (closure t e) L s r m n depth) → StateSteps φ p a s r m n depth
-      as_waiting r h = lift_steps a s r m n depth go
+      as_waiting : (r : Result (State × Data) Fault)
+          → ((m : Meter) (depth : ℕ) → Ticks m n depth inside → (t : Term) (e : Environment) (L : Life) → IsNames φ p names e → W own (closure t e) L → PartSteps φ p (closure t e) L s r m n' depth) → CountedSteps φ p a s r n n' inside
+      as_waiting r h m depth t P L R = by_names (sees P L R)
         where
-          by_names : {P : Process} {L : Life} → WaitsAt names k P L → PartSteps φ p P L s r m n depth
-          by_names (waits_at N S) = h _ _ _ N S
+          by_names : {P : Process} {L : Life} → WaitsAt names k P L → PartSteps φ p P L s r m n' depth
+          by_names (waits_at N S) = h m depth t _ _ _ N (follows _ _ S)
 
-          go : (P : Process) (L : Life) → StandsItself φ p a P L → PartSteps φ p P L s r m n depth
-          go P L A = by_names (sees P L A)
+      pub goes_over : (o : Option State) (b : State) (k' : A) (v : Data) → o ≡ Some b → WaitingSteps φ p W names own s (Ok ((o, k'), v)) n n' inside → CountedSteps φ p a s (Ok (b, v)) n n' inside
+      goes_over o b k' v is h = as_waiting (Ok (b, v)) (λ m depth t T e L N S. taken is (h m depth t T e L N S))
 
-      pub goes_over : (o : Option State) (b : State) (k' : A) (v : Data) → o ≡ Some b → WatchSteps φ p W names k s (Ok ((o, k'), v)) m n depth → StateSteps φ p a s (Ok (b, v)) m n depth
-      goes_over o b k' v is h = as_waiting (Ok (b, v)) (λ t e L N S. taken is (h t e L N S))
+      pub stays_on : (o : Option State) (b : State) (k' : A) (v : Data) → o ≡ None → IsWaiting names k' b → WaitingSteps φ p W names own s (Ok ((o, k'), v)) n n' inside → CountedSteps φ p a s (Ok (b, v)) n n' inside
+      stays_on o b k' v none is h = as_waiting (Ok (b, v)) (λ m depth t T e L N S. waiting_on names none is N (h m depth t T e L N S))
 
-      pub stays_on : (o : Option State) (b : State) (k' : A) (v : Data) → o ≡ None → IsWaiting names k' b → WatchSteps φ p W names k s (Ok ((o, k'), v)) m n depth → StateSteps φ p a s (Ok (b, v)) m n depth
-      stays_on o b k' v none is h = as_waiting (Ok (b, v)) (λ t e L N S. waiting_on names none is N (h t e L N S))
-
-      pub waiting_fails : (f : Fault) → WatchSteps φ p W names k s (Err f) m n depth → StateSteps φ p a s (Err f) m n depth
-      waiting_fails f h = as_waiting (Err f) (λ t e L N S. fails (failed (h t e L N S)))
+      pub waiting_fails : (f : Fault) → WaitingSteps φ p W names own s (Err f) n n' inside → CountedSteps φ p a s (Err f) n n' inside
+      waiting_fails f h = as_waiting (Err f) (λ m depth t T e L N S. fails (failed (h m depth t T e L N S)))
 
   -- ## Of both kinds
 
-  is_watching : {at : _} (names : Env) (k k' : Switch) → k' ≡ k → IsWaiting (Waits φ p) names k (Watching' names at k'.form k'.running k'.pattern k'.body)
-  is_watching names k k' same t e s L N S = watching N (subst (λ (k : Switch). Waits φ p k (closure t e) (s ∷ L)) (sym same) S)
+  is_watching : {at : _} (names : Env) (k : Switch) → IsWaiting (Waits φ p) names k (Watching' names at k.form k.running k.pattern k.body)
+  is_watching names k t e s L N S = watching N S
 
-  is_keeping : {at : _} (names : Env) (k k' : Keeping) → k' ≡ k → IsWaiting (WaitsKeeping φ p) names k (Keeping' names at k'.shown k'.first k'.source k'.observer k'.name k'.pattern k'.body)
-  is_keeping names k k' same t e s L N S = keeping_on N (subst (λ (k : Keeping). WaitsKeeping φ p k (closure t e) (s ∷ L)) (sym same) S)
+  is_keeping : {at : _} (names : Env) (k : Keeping) → IsWaiting (WaitsKeeping φ p) names k (Keeping' names at k.shown k.first k.source k.observer k.name k.pattern k.body)
+  is_keeping names k t e s L N S = keeping_on N S
 
-  seen_watching : {at : _} (names : Env) (k : Switch) (P : Process) (L : Life) → StandsItself φ p (Watching' names at k.form k.running k.pattern k.body) P L → WaitsAt (Waits φ p) names k P L
-  seen_watching names k P L (watching N S) = waits_at N S
+  seen_watching : {at : _} (names : Env) (k : Switch) (P : Process) (L : Life) → Prepared φ p (Watching' names at k.form k.running k.pattern k.body) P L → WaitsAt (Waits φ p) names k P L
+  seen_watching names k P L (switch_prepared N S) = waits_at N S
 
-  seen_keeping : {at : _} (names : Env) (k : Keeping) (P : Process) (L : Life) → StandsItself φ p (Keeping' names at k.shown k.first k.source k.observer k.name k.pattern k.body) P L → WaitsAt (WaitsKeeping φ p) names k P L
-  seen_keeping names k P L (keeping_on N S) = waits_at N S
+  seen_keeping : {at : _} (names : Env) (k : Keeping) (P : Process) (L : Life) → Prepared φ p (Keeping' names at k.shown k.first k.source k.observer k.name k.pattern k.body) P L → WaitsAt (WaitsKeeping φ p) names k P L
+  seen_keeping names k P L (keeping_prepared N S) = waits_at N S
 
-  pub start_takes : (k : Switch) (names : Env) (s : Step) (n n' : Meter) (inside : ℕ) (o : Option State) (k' : Switch) (b : State) (v : Data) → o ≡ Some b → WaitingSteps φ p (Waits φ p) names k s (Ok ((o, k'), v)) n n' inside
-      → (m : Meter) (depth : ℕ) → Ticks m n depth inside → (t : Term) (e : Environment) → IsNames φ p names e → Waits φ p k (closure t e) [] → PartSteps φ p (closure t e) [] s (Ok (b, v)) m n' depth
-  start_takes = starts_over (Waits φ p)
+  module _ (at : _) (names : Env) (k own : Switch) (follows : (P : Process) (L : Life) → Waits φ p k P L → Waits φ p own P L) (s : Step) (n n' : Meter) (inside : ℕ) where
+    pub watching_goes : (o : Option State) (b : State) (k' : Switch) (v : Data) → o ≡ Some b → WaitingSteps φ p (Waits φ p) names own s (Ok ((o, k'), v)) n n' inside → CountedSteps φ p (Watching' names at k.form k.running k.pattern k.body) s (Ok (b, v)) n n' inside
+    watching_goes o b k' v is h = goes_over (Waits φ p) names k own follows _ s n n' inside (seen_watching names k) o b k' v is h
 
-  pub start_waits : (at : _) (k : Switch) (names : Env) (s : Step) (n n' : Meter) (inside : ℕ) (o : Option State) (k' j : Switch) (v : Data) → o ≡ None → j ≡ k' → WaitingSteps φ p (Waits φ p) names k s (Ok ((o, k'), v)) n n' inside
-      → (m : Meter) (depth : ℕ) → Ticks m n depth inside → (t : Term) (e : Environment) → IsNames φ p names e → Waits φ p k (closure t e) [] → PartSteps φ p (closure t e) [] s (Ok (Watching' names at j.form j.running j.pattern j.body, v)) m n' depth
-  start_waits at k names s n n' inside o k' j v none same = starts_waiting (Waits φ p) k names s n n' inside o k' (Watching' names at j.form j.running j.pattern j.body) v none (is_watching names k' j same)
+    pub watching_stays : (at' : _) (o : Option State) (k' : Switch) (v : Data) → o ≡ None → WaitingSteps φ p (Waits φ p) names own s (Ok ((o, k'), v)) n n' inside
+        → CountedSteps φ p (Watching' names at k.form k.running k.pattern k.body) s (Ok (Watching' names at' k'.form k'.running k'.pattern k'.body, v)) n n' inside
+    watching_stays at' o k' v none h = stays_on (Waits φ p) names k own follows _ s n n' inside (seen_watching names k) o _ k' v none (is_watching names k') h
 
-  pub start_keeps : (at : _) (k : Keeping) (names : Env) (s : Step) (n n' : Meter) (inside : ℕ) (o : Option State) (k' j : Keeping) (v : Data) → o ≡ None → j ≡ k' → WaitingSteps φ p (WaitsKeeping φ p) names k s (Ok ((o, k'), v)) n n' inside
-      → (m : Meter) (depth : ℕ) → Ticks m n depth inside → (t : Term) (e : Environment) → IsNames φ p names e → WaitsKeeping φ p k (closure t e) [] → PartSteps φ p (closure t e) [] s (Ok (Keeping' names at j.shown j.first j.source j.observer j.name j.pattern j.body, v)) m n' depth
-  start_keeps at k names s n n' inside o k' j v none same = starts_waiting (WaitsKeeping φ p) k names s n n' inside o k' (Keeping' names at j.shown j.first j.source j.observer j.name j.pattern j.body) v none (is_keeping names k' j same)
+    pub watching_fails : (f : Fault) → WaitingSteps φ p (Waits φ p) names own s (Err f) n n' inside → CountedSteps φ p (Watching' names at k.form k.running k.pattern k.body) s (Err f) n n' inside
+    watching_fails f h = waiting_fails (Waits φ p) names k own follows _ s n n' inside (seen_watching names k) f h
 
-  module _ (at : _) (names : Env) (k : Switch) (s : Step) (m n : Meter) (depth : ℕ) where
-    pub watching_goes : (o : Option State) (b : State) (k' : Switch) (v : Data) → o ≡ Some b → WatchSteps φ p (Waits φ p) names k s (Ok ((o, k'), v)) m n depth → StateSteps φ p (Watching' names at k.form k.running k.pattern k.body) s (Ok (b, v)) m n depth
-    watching_goes o b k' v is h = goes_over (Waits φ p) names k _ s m n depth (seen_watching names k) o b k' v is h
+  module _ (at : _) (names : Env) (k own : Keeping) (follows : (P : Process) (L : Life) → WaitsKeeping φ p k P L → WaitsKeeping φ p own P L) (s : Step) (n n' : Meter) (inside : ℕ) where
+    pub keeping_goes : (o : Option State) (b : State) (k' : Keeping) (v : Data) → o ≡ Some b → WaitingSteps φ p (WaitsKeeping φ p) names own s (Ok ((o, k'), v)) n n' inside
+        → CountedSteps φ p (Keeping' names at k.shown k.first k.source k.observer k.name k.pattern k.body) s (Ok (b, v)) n n' inside
+    keeping_goes o b k' v is h = goes_over (WaitsKeeping φ p) names k own follows _ s n n' inside (seen_keeping names k) o b k' v is h
 
-    pub watching_stays : (at' : _) (o : Option State) (k' : Switch) (v : Data) → o ≡ None → WatchSteps φ p (Waits φ p) names k s (Ok ((o, k'), v)) m n depth
-        → StateSteps φ p (Watching' names at k.form k.running k.pattern k.body) s (Ok (Watching' names at' k'.form k'.running k'.pattern k'.body, v)) m n depth
-    watching_stays at' o k' v none h = stays_on (Waits φ p) names k _ s m n depth (seen_watching names k) o _ k' v none (is_watching names k' k' refl) h
+    pub keeping_stays : (at' : _) (o : Option State) (k' : Keeping) (v : Data) → o ≡ None → WaitingSteps φ p (WaitsKeeping φ p) names own s (Ok ((o, k'), v)) n n' inside
+        → CountedSteps φ p (Keeping' names at k.shown k.first k.source k.observer k.name k.pattern k.body) s (Ok (Keeping' names at' k'.shown k'.first k'.source k'.observer k'.name k'.pattern k'.body, v)) n n' inside
+    keeping_stays at' o k' v none h = stays_on (WaitsKeeping φ p) names k own follows _ s n n' inside (seen_keeping names k) o _ k' v none (is_keeping names k') h
 
-    pub watching_fails : (f : Fault) → WatchSteps φ p (Waits φ p) names k s (Err f) m n depth → StateSteps φ p (Watching' names at k.form k.running k.pattern k.body) s (Err f) m n depth
-    watching_fails f h = waiting_fails (Waits φ p) names k _ s m n depth (seen_watching names k) f h
-
-  module _ (at : _) (names : Env) (k : Keeping) (s : Step) (m n : Meter) (depth : ℕ) where
-    pub keeping_goes : (o : Option State) (b : State) (k' : Keeping) (v : Data) → o ≡ Some b → WatchSteps φ p (WaitsKeeping φ p) names k s (Ok ((o, k'), v)) m n depth
-        → StateSteps φ p (Keeping' names at k.shown k.first k.source k.observer k.name k.pattern k.body) s (Ok (b, v)) m n depth
-    keeping_goes o b k' v is h = goes_over (WaitsKeeping φ p) names k _ s m n depth (seen_keeping names k) o b k' v is h
-
-    pub keeping_stays : (at' : _) (o : Option State) (k' : Keeping) (v : Data) → o ≡ None → WatchSteps φ p (WaitsKeeping φ p) names k s (Ok ((o, k'), v)) m n depth
-        → StateSteps φ p (Keeping' names at k.shown k.first k.source k.observer k.name k.pattern k.body) s (Ok (Keeping' names at' k'.shown k'.first k'.source k'.observer k'.name k'.pattern k'.body, v)) m n depth
-    keeping_stays at' o k' v none h = stays_on (WaitsKeeping φ p) names k _ s m n depth (seen_keeping names k) o _ k' v none (is_keeping names k' k' refl) h
-
-    pub keeping_fails : (f : Fault) → WatchSteps φ p (WaitsKeeping φ p) names k s (Err f) m n depth → StateSteps φ p (Keeping' names at k.shown k.first k.source k.observer k.name k.pattern k.body) s (Err f) m n depth
-    keeping_fails f h = waiting_fails (WaitsKeeping φ p) names k _ s m n depth (seen_keeping names k) f h
+    pub keeping_fails : (f : Fault) → WaitingSteps φ p (WaitsKeeping φ p) names own s (Err f) n n' inside → CountedSteps φ p (Keeping' names at k.shown k.first k.source k.observer k.name k.pattern k.body) s (Err f) n n' inside
+    keeping_fails f h = waiting_fails (WaitsKeeping φ p) names k own follows _ s n n' inside (seen_keeping names k) f h

@@ -9,19 +9,27 @@ use Rattle.sf_expr.specs.Evaluation.{Evaluated, answer, failed}
 use Rattle.sf_operator.specs.declared.fault.EvalFault.{EvalFault}
 use Rattle.sf_operator.specs.declared.fault.EvalFault.TheVariants.{Value as EValue, Memory as EMemory}
 use Rattle.sf_law.specs.declared.plan.Plan.{Plan}
+use Rattle.sf_expr.specs.declared.exprs.NameId.{NameId}
+use Rattle.sf_expr.specs.declared.exprs.PatternId.{PatternId}
+use Rattle.sf_term.specs.declared.form.Observation.{Observation}
+use Rattle.sf_term.specs.declared.form.Switching.{Switching}
 use Rattle.sf_term.specs.Trees.{Term, Reference, reference}
 use Rattle.sf_mean.specs.Lives.{Step, Life, Process, closure, Environment, first_input}
 use Rattle.sf_mean.specs.Meaning.{Readings, Outcome, gave, faulted, Cost, count, height, entered_cost, referred, Gives}
 use Rattle.sf_law.specs.declared.node.PlanId.{PlanId}
 use Rattle.sf_law.specs.Arena.{plan_tree, network_of_plan}
+use Rattle.sf_prim.specs.declared.prim_state.PrimState.{PrimState}
 use Rattle.sf_state.specs.declared.state.State.{State}
+use Rattle.sf_state.specs.declared.state.State.TheVariants.{Primitive as SPrimitive, Live' as Alive', Switch' as Watching', Keeping'}
 use Rattle.sf_state.specs.declared.state.Live.{Live}
 use Rattle.sf_state.specs.declared.state.Switch.{Switch}
 use Rattle.sf_state.specs.declared.state.Keeping.{Keeping}
 use Rattle.sf_state.specs.declared.env.Env.{Env}
-use Rattle.sf_state.specs.Standing.{IsNames, Stands, Settles, Waits, WaitsKeeping, Ready}
+use Rattle.sf_state.specs.Standing.{IsNames, Recalls, Stands, Settles, Waits, WaitsKeeping, Ready}
 use Rattle.sf_step.specs.declared.sample.Opened.{Opened}
 use Rattle.sf_step.specs.declared.sample.Opened.TheVariants as opened
+use Rattle.sf_step.specs.declared.sample.Begun.{Begun}
+use Rattle.sf_step.specs.declared.sample.Begun.TheVariants as begun
 use Rattle.sf_step.specs.declared.meter.Meter.{Meter}
 use Rattle.sf_step.specs.Meters.{entered_of, height_of, readings}
 
@@ -89,6 +97,11 @@ PartSteps φ p P L s result m n depth = Answers (λ y. y.1) (λ y. Stands φ p y
 abbrev pub StateSteps : AnswersByName → Plan → State → Step → Result (State × Data) Fault → Meter → Meter → ℕ → Type 0
 StateSteps φ p a s result m n depth = (P : Process) (L : Life) → Stands φ p a P L → PartSteps φ p P L s result m n depth
 
+-- a primitive that counted between m and n steps likewise
+abbrev pub PrimSteps : AnswersByName → Plan → PrimState → Step → Result (PrimState × Data) Fault → Meter → Meter → Type 0
+PrimSteps φ p i s result n n' = (m : Meter) (depth inside : ℕ) → Ticks m n depth inside → (P : Process) (L : Life) → Recalls φ p i P L
+    → Answers (λ y. y.1) (λ y. Recalls φ p y.0 P (s ∷ L)) (Gives (network_of_plan φ p) P (s ∷ L)) result m n' depth
+
 -- a live part that counted between m and n steps likewise, where its parts stand inside so many nodes
 abbrev pub LiveSteps : AnswersByName → Plan → Live → Step → Result (Live × Data) Fault → Meter → Meter → ℕ → Type 0
 LiveSteps φ p l s result n n' inside = (m : Meter) (depth : ℕ) → Ticks m n depth inside → (P : Process) (L : Life) → Ready φ p l P (first_input s L) L
@@ -114,17 +127,29 @@ abbrev pub WaitingSteps : {A : Type 0} → AnswersByName → Plan → Waiting A 
 WaitingSteps φ p W names w s result n n' inside = (m : Meter) (depth : ℕ) → Ticks m n depth inside → (t : Term) (e : Environment) (L : Life) → IsNames φ p names e → W w (closure t e) L
     → Answers (λ y. y.1) (λ y. StandsFor φ p W y.0.0 y.0.1 (closure t e) (s ∷ L)) (Gives (network_of_plan φ p) (closure t e) (s ∷ L)) result m n' depth
 
--- the same where it hasn't counted, and stands inside so many nodes
-abbrev pub WatchSteps : {A : Type 0} → AnswersByName → Plan → Waiting A → Env → A → Step → Result ((Option State × A) × Data) Fault → Meter → Meter → ℕ → Type 0
-WatchSteps φ p W names w s result m n depth = (t : Term) (e : Environment) (L : Life) → IsNames φ p names e → W w (closure t e) L
-    → Answers (λ y. y.1) (λ y. StandsFor φ p W y.0.0 y.0.1 (closure t e) (s ∷ L)) (Gives (network_of_plan φ p) (closure t e) (s ∷ L)) result m n depth
-
 -- the same of switches that drop what runs, or keep it
 abbrev pub SwitchSteps : AnswersByName → Plan → Env → Switch → Step → Result ((Option State × Switch) × Data) Fault → Meter → Meter → ℕ → Type 0
 SwitchSteps φ p = WaitingSteps φ p (Waits φ p)
 
 abbrev pub KeepingSteps : AnswersByName → Plan → Env → Keeping → Step → Result ((Option State × Keeping) × Data) Fault → Meter → Meter → ℕ → Type 0
 KeepingSteps φ p = WaitingSteps φ p (WaitsKeeping φ p)
+
+-- A state is prepared for the next step of a process after a life, before its first sample too: the process that it was made
+-- of, and not one that it took over from.
+pub data Prepared (φ : AnswersByName) (p : Plan) : State → Process → Life → Type 0 where
+  primitive_prepared : {i : PrimState} {P : Process} {L : Life} → Recalls φ p i P L → Prepared φ p (SPrimitive i) P L
+  live_prepared : {at : _} {names : Env} {l : Live} {t : Term} {e : Environment} {L : Life}
+      → IsNames φ p names e → ((s : Step) → Ready φ p l (closure t e) (first_input s L) L) → Prepared φ p (Alive' names at l) (closure t e) L
+  switch_prepared : {at : _} {names : Env} {w : Switching} {a : State} {q : PatternId} {b : PlanId} {t : Term} {e : Environment} {L : Life}
+      → IsNames φ p names e → Waits φ p (record { form = w; running = a; pattern = q; body = b }) (closure t e) L → Prepared φ p (Watching' names at w a q b) (closure t e) L
+  keeping_prepared : {at : _} {names : Env} {w : Observation} {f : PlanId} {a o : State} {k : NameId} {q : PatternId} {b : PlanId} {t : Term} {e : Environment} {L : Life}
+      → IsNames φ p names e → WaitsKeeping φ p (record { shown = w; first = f; source = a; observer = o; name = k; pattern = q; body = b }) (closure t e) L
+      → Prepared φ p (Keeping' names at w f a o k q b) (closure t e) L
+
+-- a state that counted between m and n steps to the outcome of its process on the longer life, where its parts stand inside so
+-- many nodes
+abbrev pub CountedSteps : AnswersByName → Plan → State → Step → Result (State × Data) Fault → Meter → Meter → ℕ → Type 0
+CountedSteps φ p a s result n n' inside = (m : Meter) (depth : ℕ) → Ticks m n depth inside → (P : Process) (L : Life) → Prepared φ p a P L → PartSteps φ p P L s result m n' depth
 
 -- What is made of something that is evaluated: it stands for the answer, or is its fault. Want of memory says nothing of it.
 pub data Makes {A B : Type 0} (stands : A → B → Type 0) (w : Evaluated B) : Result A Fault → Type 0 where
@@ -134,6 +159,7 @@ pub data Makes {A B : Type 0} (stands : A → B → Type 0) (w : Evaluated B) : 
 
 -- a part before its first sample, or the fault of its constants
 pub data Opens (φ : AnswersByName) (p : Plan) (t : Term) (e : Environment) : Result Opened Fault → Type 0 where
+  opens_primitive : {i : PrimState} → Recalls φ p i (closure t e) [] → Opens φ p t e (Ok (opened.Primitive i))
   opens : {l : Live} → ((x : Data) → Ready φ p l (closure t e) x []) → Opens φ p t e (Ok (opened.Live l))
   opens_watching : {s : Switch} → Waits φ p s (closure t e) [] → Opens φ p t e (Ok (opened.Switch s))
   opens_keeping : {s : Keeping} → WaitsKeeping φ p s (closure t e) [] → Opens φ p t e (Ok (opened.Keeping s))
@@ -141,6 +167,12 @@ pub data Opens (φ : AnswersByName) (p : Plan) (t : Term) (e : Environment) : Re
   opens_running : {a : State} {r : Reference} {P : Process} → t ≡ reference r → referred (network_of_plan φ p) r e ≡ answer P → Stands φ p a P [] → Opens φ p t e (Ok (opened.Running a))
   opens_with_fault : {x : ValueFault} → ((s : Step) → Gives (network_of_plan φ p) (closure t e) (s ∷ []) (faulted x) (entered_cost t)) → Opens φ p t e (Err (Value x))
   opens_without_memory : Opens φ p t e (Err Memory)
+
+-- a term that has begun: itself, or what it refers to; or why it hasn't
+pub data BeginsAs (φ : AnswersByName) (p : Plan) (t : Term) (e : Environment) (a : State) : Result Begun Fault → Type 0 where
+  begins_itself : Prepared φ p a (closure t e) [] → BeginsAs φ p t e a (Ok begun.Itself)
+  begins_referred : {r : Reference} {P : Process} → t ≡ reference r → referred (network_of_plan φ p) r e ≡ answer P → Stands φ p a P [] → BeginsAs φ p t e a (Ok begun.Referred)
+  begins_not : {f : Fault} → Opens φ p t e (Err f) → BeginsAs φ p t e a (Err f)
 
 -- States of terms before their first sample.
 pub data AllBegin (φ : AnswersByName) (p : Plan) (e : Environment) : List PlanId → List State → Type 0 where

@@ -18,12 +18,13 @@ use sf_prim::constant;
 use sf_state::{Env, NamesIn, Process, State};
 use sf_term::Start;
 use sf_value::Fault;
-use std::alloc::AllocError;
+use std::alloc::{AllocError, Global};
 use std::rc::Rc;
 
 /// The process of a name, shared, where it stood or where it began; what passes its inputs on where the name stands for
 /// none.
 pub(crate) fn started(
+    alloc: Global,
     plan: &Plan,
     names: &Env,
     start: Start,
@@ -37,7 +38,7 @@ pub(crate) fn started(
         Start::Run => {
             let exprs = plan.expressions();
             match names.running(exprs, exprs.name_of(name)) {
-                Some(running) => running.process.share(),
+                Some(running) => running.process.share(alloc),
                 None => Ok(State::unborn(plan.passing())),
             }
         }
@@ -122,7 +123,7 @@ fn bind<R: Holds>(
             }
         }
         PlanArgument::Started(start, name) => {
-            let process = started(context.plan, names, *start, *name)?;
+            let process = started(context.alloc, context.plan, names, *start, *name)?;
             let base = began(context.plan, names, *name)?;
             Ok(bound.with_process(context.alloc, parameter.name(), process, base)?)
         }

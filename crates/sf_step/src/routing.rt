@@ -43,7 +43,7 @@ fn doubled(alloc: Global, value: &mut Value) -> Result<(Rc<Value>, Rc<Value>), A
 }
 
 /// The two parts of a pair, taken out of it; a value that is no pair stands for both.
-#[inline(always)]
+#[inline]
 pub(crate) fn parts(alloc: Global, pair: Value) -> Result<(Value, Value), AllocError>
     ensures { IfOk result (λ parts. (parts.0 ≡ first_of pair) × (parts.1 ≡ second_of pair)) }
 {

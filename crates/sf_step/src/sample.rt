@@ -6,13 +6,12 @@ ghost use Rattle.sf_expr.specs.Evaluation.{answer};
 ghost use Rattle.sf_law.specs.declared.plan.Plan.{Plan as PlanOf};
 ghost use Rattle.sf_term.specs.Trees.{Term, joined as joined_term};
 ghost use Rattle.sf_law.specs.Arena.{plan_tree, network_of_plan};
-ghost use Rattle.sf_mean.specs.Lives.{step, closure, frozen as frozen_process, Life, Process as ProcessOf, Environment};
+ghost use Rattle.sf_mean.specs.Lives.{step, frozen as frozen_process, Life, Process as ProcessOf, Environment};
 ghost use Rattle.sf_mean.specs.Meaning.{Made, make};
-ghost use Rattle.sf_state.specs.Standing.{Stands, IsNames, Waits, WaitsKeeping, Wraps, closed_over};
-ghost use Rattle.sf_step.specs.declared.meter.Meter.{Meter as MeterOf};
+ghost use Rattle.sf_state.specs.Standing.{Stands, IsNames, Wraps};
 ghost use Rattle.sf_step.specs.Contexts.{plan_in, dt_in};
 ghost use Rattle.sf_step.specs.Meters.{entered_of, height_of, fault_of as fault_in};
-ghost use Rattle.sf_step.specs.Sampling.{Opens, AllBegin, Ticks, PartSteps, StateSteps, LiveSteps, SwitchSteps, KeepingSteps, WatchSteps, left_or, left_beside};
+ghost use Rattle.sf_step.specs.Sampling.{Opens, BeginsAs, AllBegin, StateSteps, PrimSteps, LiveSteps, SwitchSteps, KeepingSteps, CountedSteps, left_or, left_beside};
 ghost use Rattle.sf_step.specs.Stepping.{Steps};
 
 use crate::calling::{called, started};
@@ -85,22 +84,19 @@ fn step_state<R: Holds>(
         (left_or result (state.new, value.new) (fault_in meter.new)) meter.old meter.new depth }
 {
     match state {
+        State::Primitive(prim) => {
+            meter.tick(depth)?;
+            step_prim(context, prim, value, meter)
+        }
         State::Live(_, node) => {
             let inside = meter.tick(depth)?;
-            // only here is a part's node reached, which other states may share
-            let Ok(()) = unshare(context.alloc, node) else {
-                return Err(meter.stop(Fault::Memory));
-            };
-            match Rc::get_mut(node) {
-                Some(live) => step_live(context, live, inside, value, meter),
-                None => Err(meter.stop(Fault::Memory)),
-            }
+            step_node(context, node, inside, value, meter)
         }
         _ => step_other(context, state, depth, value, meter),
     }
 }
 
-// The same of a part that isn't live: one that begins or wakes, or a switch that waits.
+// The same of a part that is neither: one that begins or wakes, or a switch that waits.
 #[cycle(step)]
 #[inline(never)]
 fn step_other<R: Holds>(
@@ -115,29 +111,22 @@ fn step_other<R: Holds>(
         (left_or result (state.new, value.new) (fault_in meter.new)) meter.old meter.new depth }
 {
     match state {
-        State::Switch(names, node) => {
-            let over = step_watching(context, names, node, depth, value, meter)?;
-            match over {
-                Some(body) => {
-                    *state = body;
-                    Ok(())
-                }
-                None => Ok(()),
-            }
+        State::Switch(_, _) => {
+            let inside = meter.tick(depth)?;
+            step_counted(context, state, inside, value, meter)
+        }
+        State::Keeping(_, _) => {
+            let inside = meter.tick(depth)?;
+            step_counted(context, state, inside, value, meter)
         }
         State::Unborn(process) => {
             let term = process.term;
             let names = mem::replace(&mut process.names, Env::Empty);
-            start(context, state, term, names, depth, value, meter)
-        }
-        State::Keeping(names, node) => {
-            let kept = step_kept(context, names, node, depth, value, meter)?;
-            match kept {
-                Some(body) => {
-                    *state = body;
-                    Ok(())
-                }
-                None => Ok(()),
+            let inside = meter.tick(depth)?;
+            match begin(context, state, term, names) {
+                Ok(Begun::Itself) => step_counted(context, state, inside, value, meter),
+                Ok(Begun::Referred) => step_state(context, state, inside, value, meter),
+                Err(fault) => Err(meter.stop(fault)),
             }
         }
         State::Frozen(frozen) => {
@@ -147,155 +136,75 @@ fn step_other<R: Holds>(
                 functions: context.functions,
                 dt: frozen.wait,
             };
-            let Ok(awake) = frozen.wake() else {
+            let Ok(awake) = frozen.wake(context.alloc) else {
                 return Err(meter.stop(Fault::Memory));
             };
             *state = awake;
             step_state(&later, state, depth, value, meter)
         }
-        // a live part is stepped in place, above
-        State::Live(_, _) => Err(meter.stop(Fault::Memory)),
+        // these are stepped in place, above
+        State::Primitive(_) | State::Live(_, _) => Err(meter.stop(Fault::Memory)),
     }
 }
 
-// The first sample of a term with the names around it, likewise: what has become of it takes the place of the state.
+// The next sample of a part that has been counted and is prepared for it, and whose own parts stand inside `inside` nodes.
 #[cycle(step)]
-#[cold]
 #[inline(never)]
-fn start<R: Holds>(
+fn step_counted<R: Holds>(
     context: &SampleContext<R>,
     state: &mut State,
-    term: PlanId,
-    names: Env,
-    depth: u64,
-    value: &mut Value,
-    meter: &mut Meter,
-) -> Result<(), Stop>
-    ensures grows { entered_of meter.old ≤ entered_of meter.new }
-    ensures answers { StateSteps (R.answers context.now.functions.now) (plan_in context.now) (State.Unborn (closed_over term names)) (step (dt_in context.now) value.old)
-        (left_or result (state.new, value.new) (fault_in meter.new)) meter.old meter.new depth }
-{
-    let inside = meter.tick(depth)?;
-    match open(context, term, &names) {
-        Ok(Opened::Live(live)) => {
-            let mut live = live;
-            step_live(context, &mut live, inside, value, meter)?;
-            let Ok(node) = Rc::new(context.alloc, live) else {
-                return Err(meter.stop(Fault::Memory));
-            };
-            *state = State::Live(names, node);
-            Ok(())
-        }
-        Ok(Opened::Switch(switch)) => {
-            start_switch(context, state, switch, names, inside, value, meter)
-        }
-        Ok(Opened::Keeping(keeping)) => {
-            start_keeping(context, state, keeping, names, inside, value, meter)
-        }
-        Ok(Opened::Running(process)) => {
-            *state = process;
-            step_state(context, state, inside, value, meter)
-        }
-        Err(fault) => Err(meter.stop(fault)),
-    }
-}
-
-// The first sample of a switch with the names around it, which has been counted, likewise.
-#[cycle(step)]
-fn start_switch<R: Holds>(
-    context: &SampleContext<R>,
-    state: &mut State,
-    switch: Switch,
-    names: Env,
     inside: u64,
     value: &mut Value,
     meter: &mut Meter,
 ) -> Result<(), Stop>
     ensures grows { entered_of meter.old ≤ entered_of meter.new }
-    ensures answers { (m : MeterOf) (depth : ℕ) → Ticks m meter.old depth inside → (t : Term) (e : Environment) → IsNames (R.answers context.now.functions.now) (plan_in context.now) names e →
-        Waits (R.answers context.now.functions.now) (plan_in context.now) switch (closure t e) [] →
-        PartSteps (R.answers context.now.functions.now) (plan_in context.now) (closure t e) [] (step (dt_in context.now) value.old)
-        (left_or result (state.new, value.new) (fault_in meter.new)) m meter.new depth }
+    ensures answers { CountedSteps (R.answers context.now.functions.now) (plan_in context.now) state.old (step (dt_in context.now) value.old)
+        (left_or result (state.new, value.new) (fault_in meter.new)) meter.old meter.new inside }
 {
-    let mut switch = switch;
-    let over = step_switch(context, &mut switch, &names, inside, value, meter)?;
-    match over {
-        Some(body) => {
-            *state = body;
-            Ok(())
-        }
-        None => {
-            let Ok(node) = Rc::new(context.alloc, switch) else {
+    match state {
+        State::Primitive(prim) => step_prim(context, prim, value, meter),
+        State::Live(_, node) => step_node(context, node, inside, value, meter),
+        State::Switch(names, node) => {
+            let Ok(()) = unshare_switch(context.alloc, node) else {
                 return Err(meter.stop(Fault::Memory));
             };
-            *state = State::Switch(names, node);
-            Ok(())
-        }
-    }
-}
-
-// The first sample of a switch that keeps its source, likewise.
-#[cycle(step)]
-fn start_keeping<R: Holds>(
-    context: &SampleContext<R>,
-    state: &mut State,
-    keeping: Keeping,
-    names: Env,
-    inside: u64,
-    value: &mut Value,
-    meter: &mut Meter,
-) -> Result<(), Stop>
-    ensures grows { entered_of meter.old ≤ entered_of meter.new }
-    ensures answers { (m : MeterOf) (depth : ℕ) → Ticks m meter.old depth inside → (t : Term) (e : Environment) → IsNames (R.answers context.now.functions.now) (plan_in context.now) names e →
-        WaitsKeeping (R.answers context.now.functions.now) (plan_in context.now) keeping (closure t e) [] →
-        PartSteps (R.answers context.now.functions.now) (plan_in context.now) (closure t e) [] (step (dt_in context.now) value.old)
-        (left_or result (state.new, value.new) (fault_in meter.new)) m meter.new depth }
-{
-    let mut keeping = keeping;
-    let over = step_keeping(context, &mut keeping, &names, inside, value, meter)?;
-    match over {
-        Some(body) => {
-            *state = body;
-            Ok(())
-        }
-        None => {
-            let Ok(node) = Rc::new(context.alloc, keeping) else {
+            let Some(switch) = Rc::get_mut(node) else {
                 return Err(meter.stop(Fault::Memory));
             };
-            *state = State::Keeping(names, node);
-            Ok(())
+            let over = step_switch(context, switch, names, inside, value, meter)?;
+            match over {
+                Some(body) => {
+                    *state = body;
+                    Ok(())
+                }
+                None => Ok(()),
+            }
         }
+        State::Keeping(names, node) => {
+            let Ok(()) = unshare_keeping(context.alloc, node) else {
+                return Err(meter.stop(Fault::Memory));
+            };
+            let Some(keeping) = Rc::get_mut(node) else {
+                return Err(meter.stop(Fault::Memory));
+            };
+            let kept = step_keeping(context, keeping, names, inside, value, meter)?;
+            match kept {
+                Some(body) => {
+                    *state = body;
+                    Ok(())
+                }
+                None => Ok(()),
+            }
+        }
+        // these aren't prepared
+        State::Unborn(_) | State::Frozen(_) => Err(meter.stop(Fault::Memory)),
     }
 }
 
-// The next sample of a switch that waits and stands inside `depth` nodes: what takes over from it, if its event is there.
+// The next sample of a switch that waits, which has been counted and whose parts stand inside `inside` nodes: what takes over
+// from it, if its event is there.
 #[cycle(step)]
-#[inline(never)]
-fn step_watching<R: Holds>(
-    context: &SampleContext<R>,
-    names: &Env,
-    node: &mut Rc<Switch>,
-    depth: u64,
-    value: &mut Value,
-    meter: &mut Meter,
-) -> Result<Option<State>, Stop>
-    ensures grows { entered_of meter.old ≤ entered_of meter.new }
-    ensures answers { WatchSteps (R.answers context.now.functions.now) (plan_in context.now) (Waits (R.answers context.now.functions.now) (plan_in context.now)) names.now node.old.value (step (dt_in context.now) value.old)
-        (left_beside result node.new.value value.new (fault_in meter.new)) meter.old meter.new depth }
-{
-    let inside = meter.tick(depth)?;
-    let Ok(()) = unshare_switch(context.alloc, node) else {
-        return Err(meter.stop(Fault::Memory));
-    };
-    match Rc::get_mut(node) {
-        Some(switch) => step_switch(context, switch, names, inside, value, meter),
-        None => Err(meter.stop(Fault::Memory)),
-    }
-}
-
-// The next sample of a switch that waits, which has been counted and whose parts stand inside `inside` nodes, likewise.
-#[cycle(step)]
-#[inline(always)]
+#[inline]
 fn step_switch<R: Holds>(
     context: &SampleContext<R>,
     switch: &mut Switch,
@@ -403,32 +312,7 @@ fn step_recurring<R: Holds>(
     }
 }
 
-// The next sample of a switch that waits, keeps its source and stands inside `depth` nodes, likewise.
-#[cycle(step)]
-#[inline(never)]
-fn step_kept<R: Holds>(
-    context: &SampleContext<R>,
-    names: &Env,
-    node: &mut Rc<Keeping>,
-    depth: u64,
-    value: &mut Value,
-    meter: &mut Meter,
-) -> Result<Option<State>, Stop>
-    ensures grows { entered_of meter.old ≤ entered_of meter.new }
-    ensures answers { WatchSteps (R.answers context.now.functions.now) (plan_in context.now) (WaitsKeeping (R.answers context.now.functions.now) (plan_in context.now)) names.now node.old.value (step (dt_in context.now) value.old)
-        (left_beside result node.new.value value.new (fault_in meter.new)) meter.old meter.new depth }
-{
-    let inside = meter.tick(depth)?;
-    let Ok(()) = unshare_keeping(context.alloc, node) else {
-        return Err(meter.stop(Fault::Memory));
-    };
-    match Rc::get_mut(node) {
-        Some(keeping) => step_keeping(context, keeping, names, inside, value, meter),
-        None => Err(meter.stop(Fault::Memory)),
-    }
-}
-
-// The same where it has been counted and its parts stand inside `inside` nodes: its event is what the observer gives on the
+// The same of a switch that keeps its source: its event is what the observer gives on the
 // input beside the source's value, and its body is handed the source as it was before this sample.
 #[cycle(step)]
 #[inline(never)]
@@ -494,7 +378,31 @@ fn step_half<R: Holds>(
     }
 }
 
-// The next sample of a live part, which has been counted and whose parts stand inside `inside` nodes.
+// The next sample of a node, which has been counted and whose parts stand inside `inside` nodes. Only here is a node
+// reached, which other states may share.
+#[cycle(step)]
+#[inline(always)]
+fn step_node<R: Holds>(
+    context: &SampleContext<R>,
+    node: &mut Rc<Live>,
+    inside: u64,
+    value: &mut Value,
+    meter: &mut Meter,
+) -> Result<(), Stop>
+    ensures grows { entered_of meter.old ≤ entered_of meter.new }
+    ensures answers { LiveSteps (R.answers context.now.functions.now) (plan_in context.now) node.old.value (step (dt_in context.now) value.old)
+        (left_or result (node.new.value, value.new) (fault_in meter.new)) meter.old meter.new inside }
+{
+    let Ok(()) = unshare(context.alloc, node) else {
+        return Err(meter.stop(Fault::Memory));
+    };
+    match Rc::get_mut(node) {
+        Some(live) => step_live(context, live, inside, value, meter),
+        None => Err(meter.stop(Fault::Memory)),
+    }
+}
+
+// The same of the node's content, which is its own.
 #[cycle(step)]
 #[inline(always)]
 fn step_live<R: Holds>(
@@ -509,16 +417,34 @@ fn step_live<R: Holds>(
         (left_or result (live.new, value.new) (fault_in meter.new)) meter.old meter.new inside }
 {
     match live {
-        Live::Prim(prim) => step_prim(context, prim, value, meter),
         Live::Probe(name) => step_probe(context, name, value, meter),
         Live::Join(join, left, right) => match join {
+            Join::InSequence => step_sequence(context, left, right, inside, value, meter),
             Join::InParallel => step_parallel(context, left, right, inside, value, meter),
-            // parts in sequence are stages, so this is a fan
-            _ => step_fan(context, left, right, inside, value, meter),
+            Join::FannedOut => step_fan(context, left, right, inside, value, meter),
         },
         Live::Pipeline(stages) => step_pipeline(context, stages, inside, value, meter),
         Live::Wrap(wrap, part) => step_wrap(context, wrap, part, inside, value, meter),
     }
+}
+
+// The next sample of two parts, the right one on the value of the left one, likewise.
+#[cycle(step)]
+#[inline(never)]
+fn step_sequence<R: Holds>(
+    context: &SampleContext<R>,
+    left: &mut State,
+    right: &mut State,
+    inside: u64,
+    value: &mut Value,
+    meter: &mut Meter,
+) -> Result<(), Stop>
+    ensures grows { entered_of meter.old ≤ entered_of meter.new }
+    ensures answers { LiveSteps (R.answers context.now.functions.now) (plan_in context.now) (Live.Join Join.InSequence left.old right.old) (step (dt_in context.now) value.old)
+        (left_or result (Live.Join Join.InSequence left.new right.new, value.new) (fault_in meter.new)) meter.old meter.new inside }
+{
+    step_state(context, left, inside, value, meter)?;
+    step_state(context, right, inside, value, meter)
 }
 
 // The next sample of two parts side by side, likewise.
@@ -647,8 +573,8 @@ fn step_wrap<R: Holds>(
     }
 }
 
-// The next sample of a primitive, likewise.
-#[inline(always)]
+// The next sample of a primitive, which has been counted, likewise.
+#[inline]
 fn step_prim<R: Holds>(
     context: &SampleContext<R>,
     prim: &mut PrimState,
@@ -656,8 +582,8 @@ fn step_prim<R: Holds>(
     meter: &mut Meter,
 ) -> Result<(), Stop>
     ensures entered { entered_of meter.new ≡ entered_of meter.old }
-    ensures answers { (inside : ℕ) → LiveSteps (R.answers context.now.functions.now) (plan_in context.now) (Live.Prim prim.old) (step (dt_in context.now) value.old)
-        (left_or result (Live.Prim prim.new, value.new) (fault_in meter.new)) meter.old meter.new inside }
+    ensures answers { PrimSteps (R.answers context.now.functions.now) (plan_in context.now) prim.old (step (dt_in context.now) value.old)
+        (left_or result (prim.new, value.new) (fault_in meter.new)) meter.old meter.new }
 {
     match prim.step(context.alloc, context.functions, context.dt, value) {
         Ok(()) => Ok(()),
@@ -721,10 +647,61 @@ fn beside(alloc: Global, input: Value, given: &Value) -> Result<Value, AllocErro
     Value::pair(alloc, input, copy)
 }
 
+/// What a part that begins has become.
+#[derive(Clone, Copy, Debug, PartialEq, Eq)]
+pub(crate) enum Begun {
+    /// Itself, prepared for its first sample.
+    Itself,
+    /// What it refers to.
+    Referred,
+}
+
+// Puts a term before its first sample, with the names around it, in place of a state.
+#[cold]
+#[inline(never)]
+fn begin<R: Holds>(
+    context: &SampleContext<R>,
+    state: &mut State,
+    term: PlanId,
+    names: Env,
+) -> Result<Begun, Fault>
+    ensures { (e : Environment) → IsNames (R.answers context.now.functions.now) (plan_in context.now) names e →
+        BeginsAs (R.answers context.now.functions.now) (plan_in context.now) (plan_tree (plan_in context.now) term) e state.new result }
+{
+    match open(context, term, &names) {
+        Ok(Opened::Primitive(prim)) => {
+            *state = State::Primitive(prim);
+            Ok(Begun::Itself)
+        }
+        Ok(Opened::Live(live)) => {
+            let node = Rc::new(context.alloc, live)?;
+            *state = State::Live(names, node);
+            Ok(Begun::Itself)
+        }
+        Ok(Opened::Switch(switch)) => {
+            let watching = Rc::new(context.alloc, switch)?;
+            *state = State::Switch(names, watching);
+            Ok(Begun::Itself)
+        }
+        Ok(Opened::Keeping(keeping)) => {
+            let kept = Rc::new(context.alloc, keeping)?;
+            *state = State::Keeping(names, kept);
+            Ok(Begun::Itself)
+        }
+        Ok(Opened::Running(process)) => {
+            *state = process;
+            Ok(Begun::Referred)
+        }
+        Err(fault) => Err(fault),
+    }
+}
+
 /// A part before its first sample.
 #[derive(Drop)]
 pub(crate) enum Opened {
-    /// One that goes on as it is.
+    /// A primitive.
+    Primitive(PrimState),
+    /// Another one that goes on as it is.
     Live(Live),
     /// A switch.
     Switch(Switch),
@@ -747,12 +724,12 @@ fn open<R: Holds>(context: &SampleContext<R>, term: PlanId, names: &Env) -> Resu
     match context.plan.node(term) {
         PlanNode::Primitive(primitive) => {
             match PrimState::born(context.alloc, exprs, primitive, context.functions, &around) {
-                Ok(prim) => Ok(Opened::Live(Live::Prim(prim))),
+                Ok(prim) => Ok(Opened::Primitive(prim)),
                 Err(fault) => Err(fault_of(fault)),
             }
         }
         PlanNode::Joined(join, left, right) => {
-            let both = joined(context.alloc, *join, *left, *right, names)?;
+            let both = joined(*join, *left, *right, names)?;
             Ok(Opened::Live(both))
         }
         PlanNode::Sided(side, part) => wrapped(on_side(*side), *part, names),
@@ -805,7 +782,7 @@ fn open<R: Holds>(context: &SampleContext<R>, term: PlanId, names: &Env) -> Resu
             }))
         }
         PlanNode::Started(start, name) => {
-            let process = started(context.plan, names, *start, *name)?;
+            let process = started(context.alloc, context.plan, names, *start, *name)?;
             Ok(Opened::Running(process))
         }
         PlanNode::Probe(name) => {
@@ -820,32 +797,21 @@ fn open<R: Holds>(context: &SampleContext<R>, term: PlanId, names: &Env) -> Resu
 }
 
 // Two parts joined, before their first sample, with the names around them.
-fn joined(
-    alloc: Global,
-    join: Join,
-    left: PlanId,
-    right: PlanId,
-    names: &Env,
-) -> Result<Live, AllocError>
+fn joined(join: Join, left: PlanId, right: PlanId, names: &Env) -> Result<Live, AllocError>
     ensures { IfOk result (λ live. (φ : AnswersByName) (p : PlanOf) (e : Environment) → IsNames φ p names.now e →
         Opens φ p (joined_term join (plan_tree p left) (plan_tree p right)) e (Ok (Opened.Live live))) }
 {
-    match join {
-        Join::InSequence => Ok(Live::Pipeline(begin_all(alloc, &[left, right], names)?)),
-        _ => {
-            let one = names.share()?;
-            let two = names.share()?;
-            let first = State::Unborn(Process {
-                term: left,
-                names: one,
-            });
-            let second = State::Unborn(Process {
-                term: right,
-                names: two,
-            });
-            Ok(Live::Join(join, first, second))
-        }
-    }
+    let one = names.share()?;
+    let two = names.share()?;
+    let first = State::Unborn(Process {
+        term: left,
+        names: one,
+    });
+    let second = State::Unborn(Process {
+        term: right,
+        names: two,
+    });
+    Ok(Live::Join(join, first, second))
 }
 
 // Stages before their first sample, with the names around them.

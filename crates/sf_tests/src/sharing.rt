@@ -22,7 +22,7 @@ const RECURRING: &[u8] =
 
 /// The same, where what gives the event sees the delay from outside, and the delay is frozen.
 const KEEPING: &[u8] =
-    b"network 1;\ntemplate main(): Int ~> Int = kSwitch(iPre 7, after 2000 (), kept, _ => iPre 8);\n";
+    b"network 1;\ntemplate main(): Int ~> Int = kSwitch((iPre 7 >>> identity), after 2000 (), kept, _ => iPre 8);\n";
 
 /// A network that was checked.
 fn checked(alloc: Global, network: &[u8], functions: &Registry) -> Result<Checked, Fail> {
@@ -37,6 +37,7 @@ fn checked(alloc: Global, network: &[u8], functions: &Registry) -> Result<Checke
 fn owners(state: &State) -> usize {
     match state {
         State::Unborn(_) => 0,
+        State::Primitive(_) => 1,
         State::Live(_, node) => Rc::strong_count(node),
         State::Switch(_, node) => Rc::strong_count(node),
         State::Keeping(_, node) => Rc::strong_count(node),
@@ -79,7 +80,7 @@ fn gives_again(
         &mut meter,
     )?);
     let source = source_owners(&state);
-    let mut shared = state.share()?;
+    let mut shared = state.share(alloc)?;
     let before = owners(&shared);
     let running = step(
         alloc,

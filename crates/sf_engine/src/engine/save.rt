@@ -33,7 +33,7 @@ impl Save {
         ensures { IfOk result (λ same. (φ : AnswersByName) (p : Plan) (m : Template) (L : Life) → IsSaveOf φ p m self.now L → IsSaveOf φ p m same L) }
     {
         Ok(Save {
-            state: self.state.share()?,
+            state: self.state.share(alloc)?,
             time: self.time,
             last: self.last.clone_in(alloc)?,
         })
@@ -113,7 +113,7 @@ impl<F: Holds> Engine<F> {
     {
         let key = String::from_str(self.alloc, name)?;
         let save = Save {
-            state: self.state.share()?,
+            state: self.state.share(self.alloc)?,
             time: self.time,
             last: self.repeated()?,
         };

@@ -2,9 +2,9 @@ use Rattle.std.proofs.Common.{◌≡◌, [], length, Ok, Err, refl, ap, ◌∙�
 use Rattle.std.specs.Vec.{with_items}
 use Rattle.std.proofs.lemmas.List.{with_items_is}
 use Rattle.sf_state.specs.declared.state.Wrap.TheVariants.{Loop, Initialized}
-use Rattle.sf_term.specs.declared.form.Join.TheVariants.{InParallel, FannedOut}
+use Rattle.sf_term.specs.declared.form.Join.TheVariants.{InSequence, InParallel, FannedOut}
 use Rattle.sf_value.specs.Values.{first_of, second_of}
-use Rattle.sf_mean.specs.Lives.{step, closure, Life, Process}
+use Rattle.sf_mean.specs.Lives.{step, Life, Process}
 use Rattle.sf_state.specs.declared.state.Frozen.{Frozen}
 use Rattle.sf_state.specs.Standing.{Stands, kept_state}
 use Rattle.sf_mean.specs.Meaning.{switched_value}
@@ -14,108 +14,133 @@ use Rattle.sf_step.proofs.Parts.{pass_exit, failed, memory_exit}
 use Rattle.sf_step.proofs.Recurring.{run_fails, run_memory, new_fails, new_runs, runs_alone}
 use Rattle.sf_step.proofs.Switches.{comes_some, comes_none, source_fails, switch_memory, switch_waits_on, body_fails, body_takes_over}
 use Rattle.sf_step.proofs.Keeping.{kept_fails, kept_memory, observer_fails, observer_memory, keeps_on, kept_body_fails, kept_body_takes_over, some_occurs, none_occurs}
-use Rattle.sf_step.proofs.Turning.{frozen_steps, late_part, pass_beside, starts_over, start_takes, start_waits, start_keeps, watching_goes, watching_stays, watching_fails, keeping_goes, keeping_stays, keeping_fails}
+use Rattle.sf_step.proofs.Turning.{frozen_steps, pass_beside, watching_goes, watching_stays, watching_fails, keeping_goes, keeping_stays, keeping_fails}
 use Rattle.sf_step.proofs.Stages.{StagesStep, continues_first, continues_next, continues_fails, continues_last, pipeline_steps, pipeline_fails}
-use Rattle.sf_step.proofs.Exits.{ticked_by, tick_fails, first_memory, join_left_fails, join_right_fails, join_steps, other_join, wrap_fails, wrap_steps, early_memory, late_memory, state_steps, start_steps, start_fails, start_switches, start_keepings, start_runs, start_open_fails}
+use Rattle.sf_step.proofs.Exits.{ticked_by, tick_fails, first_memory, join_left_fails, join_right_fails, join_steps, join_last, wrap_fails, wrap_steps, early_memory, late_memory, primitive_counted, live_counted, own_steps, primitive_is, live_is, switch_is, keeping_is, counted_steps, begun_steps, begun_runs, begun_fails}
 use Rattle.sf_step.proofs.sample.+step.Goals as goal
 
 -- ## step_state
 
-pub step_state-returns-in_err-inside-in-Live-clause-answers : goal.step_state-returns-in_err-inside-in-Live-clause-answers
-step_state-returns-in_err-inside-in-Live-clause-answers g t c = λ P L A. pass_exit _ _ c.from_residual.ensures.0 (tick_fails (g.R.Holds.answers c.args.context.now.functions.now) c.args.context.now.plan.now P _ c.in_err-inside-in-Live.ensures.ticked)
+pub step_state-returns-in_err-tick-in-Primitive-clause-answers : goal.step_state-returns-in_err-tick-in-Primitive-clause-answers
+step_state-returns-in_err-tick-in-Primitive-clause-answers g t c = λ P L A. pass_exit _ _ c.from_residual.ensures.0 (tick_fails (g.R.Holds.answers c.args.context.now.functions.now) c.args.context.now.plan.now P _ c.in_err-tick-in-Primitive.ensures.ticked)
 
-pub step_state-returns-in_default-unshare-clause-answers : goal.step_state-returns-in_default-unshare-clause-answers
-step_state-returns-in_default-unshare-clause-answers g t c = λ P L A. early_memory (g.R.Holds.answers c.args.context.now.functions.now) c.args.context.now.plan.now (ticked_by c.in_ok-inside-in-Live.ensures.ticked) c.stop.ensures.entered c.stop.ensures.height c.stop.ensures.fault
+pub step_state-returns-in_err-inside-in-Live-clause-answers : goal.step_state-returns-in_err-inside-in-Live-clause-answers
+step_state-returns-in_err-inside-in-Live-clause-answers g t c = λ P L A. pass_exit _ _ c.from_residual-in_err-inside-in-Live.ensures.0 (tick_fails (g.R.Holds.answers c.args.context.now.functions.now) c.args.context.now.plan.now P _ c.in_err-inside-in-Live.ensures.ticked)
 
 pub step_state-returns-in_default-clause-answers : goal.step_state-returns-in_default-clause-answers
 step_state-returns-in_default-clause-answers g t c = c.step_other.ensures.answers
 
-pub step_state-returns-in-Some-clause-answers : goal.step_state-returns-in-Some-clause-answers
-step_state-returns-in-Some-clause-answers g t c = λ P L A.
-    state_steps (g.R.Holds.answers c.args.context.now.functions.now) c.args.context.now.plan.now c.in-Live.node.value c.in-Some.live.now (λ P L S. rw c.in-Some.ensures.value (c.unshare.ensures (g.R.Holds.answers c.args.context.now.functions.now) c.args.context.now.plan.now P L S))
-    _ c.in-Live.field-0 c.step_live.new.live _ c.step_live.new.value c.step_live.result _ (ticked_by c.in_ok-inside-in-Live.ensures.ticked) c.step_live.ensures.answers P L (rw c.in-Live.is at A)
+pub step_state-returns-in_ok-tick-in-Primitive-clause-answers : goal.step_state-returns-in_ok-tick-in-Primitive-clause-answers
+step_state-returns-in_ok-tick-in-Primitive-clause-answers g t c = λ P L A.
+    counted_steps (g.R.Holds.answers c.args.context.now.functions.now) c.args.context.now.plan.now _ _ _ (ticked_by c.in_ok-tick-in-Primitive.ensures.ticked) (primitive_is (g.R.Holds.answers c.args.context.now.functions.now) c.args.context.now.plan.now c.in-Primitive.prim)
+    (primitive_counted (g.R.Holds.answers c.args.context.now.functions.now) c.args.context.now.plan.now c.in-Primitive.prim c.step_prim.new.prim _ c.step_prim.new.value c.step_prim.result _ c.step_prim.ensures.answers) P L (rw c.in-Primitive.is at A)
 
-pub step_state-returns-in-None-clause-answers : goal.step_state-returns-in-None-clause-answers
-step_state-returns-in-None-clause-answers g t c = λ P L A. early_memory (g.R.Holds.answers c.args.context.now.functions.now) c.args.context.now.plan.now (ticked_by c.in_ok-inside-in-Live.ensures.ticked) c.stop-in-None.ensures.entered c.stop-in-None.ensures.height c.stop-in-None.ensures.fault
+pub step_state-returns-in_ok-inside-in-Live-clause-answers : goal.step_state-returns-in_ok-inside-in-Live-clause-answers
+step_state-returns-in_ok-inside-in-Live-clause-answers g t c = λ P L A.
+    counted_steps (g.R.Holds.answers c.args.context.now.functions.now) c.args.context.now.plan.now _ _ _ (ticked_by c.in_ok-inside-in-Live.ensures.ticked) (live_is (g.R.Holds.answers c.args.context.now.functions.now) c.args.context.now.plan.now c.in-Live.field-0 c.in-Live.node.value)
+    (live_counted (g.R.Holds.answers c.args.context.now.functions.now) c.args.context.now.plan.now _ c.in-Live.field-0 c.in-Live.node.value c.step_node.new.node.value _ c.step_node.new.value c.step_node.result _ c.step_node.ensures.answers) P L (rw c.in-Live.is at A)
+
+-- ## step_node
+
+pub step_node-returns-in_default-clause-answers : goal.step_node-returns-in_default-clause-answers
+step_node-returns-in_default-clause-answers g t c = λ m depth t P L R. early_memory (g.R.Holds.answers c.args.context.now.functions.now) c.args.context.now.plan.now t c.stop.ensures.entered c.stop.ensures.height c.stop.ensures.fault
+
+pub step_node-returns-in-Some-clause-answers : goal.step_node-returns-in-Some-clause-answers
+step_node-returns-in-Some-clause-answers g t c =
+    own_steps (g.R.Holds.answers c.args.context.now.functions.now) c.args.context.now.plan.now c.args.node.now.value c.in-Some.live.now _ _ (λ P x L R. rw c.in-Some.ensures.value (c.unshare.ensures (g.R.Holds.answers c.args.context.now.functions.now) c.args.context.now.plan.now P x L R)) c.step_live.ensures.answers
+
+pub step_node-returns-in-None-clause-answers : goal.step_node-returns-in-None-clause-answers
+step_node-returns-in-None-clause-answers g t c = λ m depth t P L R. early_memory (g.R.Holds.answers c.args.context.now.functions.now) c.args.context.now.plan.now t c.stop-in-None.ensures.entered c.stop-in-None.ensures.height c.stop-in-None.ensures.fault
+
+-- ## step_counted
+
+pub step_counted-returns-in-Primitive-clause-answers : goal.step_counted-returns-in-Primitive-clause-answers
+step_counted-returns-in-Primitive-clause-answers g t c = λ m depth t P L A.
+    primitive_counted (g.R.Holds.answers c.args.context.now.functions.now) c.args.context.now.plan.now c.in-Primitive.prim c.step_prim.new.prim _ c.step_prim.new.value c.step_prim.result _ c.step_prim.ensures.answers m depth t P L (rw c.in-Primitive.is at A)
+
+pub step_counted-returns-in-Live-clause-answers : goal.step_counted-returns-in-Live-clause-answers
+step_counted-returns-in-Live-clause-answers g t c = λ m depth t P L A.
+    live_counted (g.R.Holds.answers c.args.context.now.functions.now) c.args.context.now.plan.now _ c.in-Live.field-0 c.in-Live.node.value c.step_node.new.node.value _ c.step_node.new.value c.step_node.result _ c.step_node.ensures.answers m depth t P L (rw c.in-Live.is at A)
+
+pub step_counted-returns-in_default-clause-answers : goal.step_counted-returns-in_default-clause-answers
+step_counted-returns-in_default-clause-answers g t c = λ m depth t P L A. early_memory (g.R.Holds.answers c.args.context.now.functions.now) c.args.context.now.plan.now t c.stop.ensures.entered c.stop.ensures.height c.stop.ensures.fault
+
+pub step_counted-returns-in_default-get_mut-clause-answers : goal.step_counted-returns-in_default-get_mut-clause-answers
+step_counted-returns-in_default-get_mut-clause-answers g t c = λ m depth t P L A. early_memory (g.R.Holds.answers c.args.context.now.functions.now) c.args.context.now.plan.now t c.stop-in_default-get_mut.ensures.entered c.stop-in_default-get_mut.ensures.height c.stop-in_default-get_mut.ensures.fault
+
+pub step_counted-returns-in_err-over-in-Switch-clause-answers : goal.step_counted-returns-in_err-over-in-Switch-clause-answers
+step_counted-returns-in_err-over-in-Switch-clause-answers g t c = λ m depth t P L A.
+    pass_exit _ _ c.from_residual.ensures.0 (failed (watching_fails (g.R.Holds.answers c.args.context.now.functions.now) c.args.context.now.plan.now _ c.in-Switch.names c.in-Switch.node.value c.in-Some.switch.now (λ P L S. rw c.in-Some.ensures.value (c.unshare_switch.ensures (g.R.Holds.answers c.args.context.now.functions.now) c.args.context.now.plan.now P L S))
+    (step c.args.context.now.dt c.args.value.now) c.args.meter.now c.step_switch.new.meter c.args.inside _ c.in_err-over-in-Switch.ensures.answers m depth t P L (rw c.in-Switch.is at A)))
+
+pub step_counted-returns-in-Some-over-clause-answers : goal.step_counted-returns-in-Some-over-clause-answers
+step_counted-returns-in-Some-over-clause-answers g t c = λ m depth t P L A.
+    watching_goes (g.R.Holds.answers c.args.context.now.functions.now) c.args.context.now.plan.now _ c.in-Switch.names c.in-Switch.node.value c.in-Some.switch.now (λ P L S. rw c.in-Some.ensures.value (c.unshare_switch.ensures (g.R.Holds.answers c.args.context.now.functions.now) c.args.context.now.plan.now P L S))
+    (step c.args.context.now.dt c.args.value.now) c.args.meter.now c.step_switch.new.meter c.args.inside
+    c.in_ok-over-in-Switch.over c.in-Some-over.body c.step_switch.new.switch c.step_switch.new.value c.in-Some-over.is c.in_ok-over-in-Switch.ensures.answers m depth t P L (rw c.in-Switch.is at A)
+
+pub step_counted-returns-in-None-clause-answers : goal.step_counted-returns-in-None-clause-answers
+step_counted-returns-in-None-clause-answers g t c = λ m depth t P L A.
+    watching_stays (g.R.Holds.answers c.args.context.now.functions.now) c.args.context.now.plan.now _ c.in-Switch.names c.in-Switch.node.value c.in-Some.switch.now (λ P L S. rw c.in-Some.ensures.value (c.unshare_switch.ensures (g.R.Holds.answers c.args.context.now.functions.now) c.args.context.now.plan.now P L S))
+    (step c.args.context.now.dt c.args.value.now) c.args.meter.now c.step_switch.new.meter c.args.inside
+    _ c.in_ok-over-in-Switch.over c.step_switch.new.switch c.step_switch.new.value c.in-None.is c.in_ok-over-in-Switch.ensures.answers m depth t P L (rw c.in-Switch.is at A)
+
+pub step_counted-returns-in_default-unshare_keeping-clause-answers : goal.step_counted-returns-in_default-unshare_keeping-clause-answers
+step_counted-returns-in_default-unshare_keeping-clause-answers g t c = λ m depth t P L A. early_memory (g.R.Holds.answers c.args.context.now.functions.now) c.args.context.now.plan.now t c.stop-in_default-unshare_keeping.ensures.entered c.stop-in_default-unshare_keeping.ensures.height c.stop-in_default-unshare_keeping.ensures.fault
+
+pub step_counted-returns-in_default-get_mut-2-clause-answers : goal.step_counted-returns-in_default-get_mut-2-clause-answers
+step_counted-returns-in_default-get_mut-2-clause-answers g t c = λ m depth t P L A. early_memory (g.R.Holds.answers c.args.context.now.functions.now) c.args.context.now.plan.now t c.stop-in_default-get_mut-2.ensures.entered c.stop-in_default-get_mut-2.ensures.height c.stop-in_default-get_mut-2.ensures.fault
+
+pub step_counted-returns-in_err-kept-in-Keeping-clause-answers : goal.step_counted-returns-in_err-kept-in-Keeping-clause-answers
+step_counted-returns-in_err-kept-in-Keeping-clause-answers g t c = λ m depth t P L A.
+    pass_exit _ _ c.from_residual-in_err-kept-in-Keeping.ensures.0 (failed (keeping_fails (g.R.Holds.answers c.args.context.now.functions.now) c.args.context.now.plan.now _ c.in-Keeping.names c.in-Keeping.node.value c.in-Some-get_mut.keeping.now (λ P L S. rw c.in-Some-get_mut.ensures.value (c.unshare_keeping.ensures (g.R.Holds.answers c.args.context.now.functions.now) c.args.context.now.plan.now P L S))
+    (step c.args.context.now.dt c.args.value.now) c.args.meter.now c.step_keeping.new.meter c.args.inside _ c.in_err-kept-in-Keeping.ensures.answers m depth t P L (rw c.in-Keeping.is at A)))
+
+pub step_counted-returns-in-Some-kept-clause-answers : goal.step_counted-returns-in-Some-kept-clause-answers
+step_counted-returns-in-Some-kept-clause-answers g t c = λ m depth t P L A.
+    keeping_goes (g.R.Holds.answers c.args.context.now.functions.now) c.args.context.now.plan.now _ c.in-Keeping.names c.in-Keeping.node.value c.in-Some-get_mut.keeping.now (λ P L S. rw c.in-Some-get_mut.ensures.value (c.unshare_keeping.ensures (g.R.Holds.answers c.args.context.now.functions.now) c.args.context.now.plan.now P L S))
+    (step c.args.context.now.dt c.args.value.now) c.args.meter.now c.step_keeping.new.meter c.args.inside
+    c.in_ok-kept-in-Keeping.kept c.in-Some-kept.body c.step_keeping.new.keeping c.step_keeping.new.value c.in-Some-kept.is c.in_ok-kept-in-Keeping.ensures.answers m depth t P L (rw c.in-Keeping.is at A)
+
+pub step_counted-returns-in-None-kept-clause-answers : goal.step_counted-returns-in-None-kept-clause-answers
+step_counted-returns-in-None-kept-clause-answers g t c = λ m depth t P L A.
+    keeping_stays (g.R.Holds.answers c.args.context.now.functions.now) c.args.context.now.plan.now _ c.in-Keeping.names c.in-Keeping.node.value c.in-Some-get_mut.keeping.now (λ P L S. rw c.in-Some-get_mut.ensures.value (c.unshare_keeping.ensures (g.R.Holds.answers c.args.context.now.functions.now) c.args.context.now.plan.now P L S))
+    (step c.args.context.now.dt c.args.value.now) c.args.meter.now c.step_keeping.new.meter c.args.inside
+    _ c.in_ok-kept-in-Keeping.kept c.step_keeping.new.keeping c.step_keeping.new.value c.in-None-kept.is c.in_ok-kept-in-Keeping.ensures.answers m depth t P L (rw c.in-Keeping.is at A)
 
 -- ## step_other
 
-pub step_other-returns-in-Live-clause-answers : goal.step_other-returns-in-Live-clause-answers
-step_other-returns-in-Live-clause-answers g t c = first_memory (g.R.Holds.answers c.args.context.now.functions.now) c.args.context.now.plan.now c.stop-in-Live.ensures.entered c.stop-in-Live.ensures.height c.stop-in-Live.ensures.fault
+pub step_other-returns-in-Primitive-clause-answers : goal.step_other-returns-in-Primitive-clause-answers
+step_other-returns-in-Primitive-clause-answers g t c = first_memory (g.R.Holds.answers c.args.context.now.functions.now) c.args.context.now.plan.now c.stop-in-Primitive.ensures.entered c.stop-in-Primitive.ensures.height c.stop-in-Primitive.ensures.fault
 
-pub step_other-returns-in_err-over-in-Switch-clause-answers : goal.step_other-returns-in_err-over-in-Switch-clause-answers
-step_other-returns-in_err-over-in-Switch-clause-answers g t c = λ P L A.
-    pass_exit _ _ c.from_residual.ensures.0 (failed (watching_fails (g.R.Holds.answers c.args.context.now.functions.now) c.args.context.now.plan.now _ c.in-Switch.names c.in-Switch.node.value (step c.args.context.now.dt c.args.value.now) c.args.meter.now c.step_watching.new.meter c.args.depth
-    _ c.in_err-over-in-Switch.ensures.answers P L (rw c.in-Switch.is at A)))
+pub step_other-returns-in_err-inside-in-Switch-clause-answers : goal.step_other-returns-in_err-inside-in-Switch-clause-answers
+step_other-returns-in_err-inside-in-Switch-clause-answers g t c = λ P L A. pass_exit _ _ c.from_residual.ensures.0 (tick_fails (g.R.Holds.answers c.args.context.now.functions.now) c.args.context.now.plan.now P _ c.in_err-inside-in-Switch.ensures.ticked)
 
-pub step_other-returns-in-Some-clause-answers : goal.step_other-returns-in-Some-clause-answers
-step_other-returns-in-Some-clause-answers g t c = λ P L A.
-    watching_goes (g.R.Holds.answers c.args.context.now.functions.now) c.args.context.now.plan.now _ c.in-Switch.names c.in-Switch.node.value (step c.args.context.now.dt c.args.value.now) c.args.meter.now c.step_watching.new.meter c.args.depth
-    c.in_ok-over-in-Switch.over c.in-Some.body c.step_watching.new.node.value c.step_watching.new.value c.in-Some.is c.in_ok-over-in-Switch.ensures.answers P L (rw c.in-Switch.is at A)
+pub step_other-returns-in_ok-inside-in-Switch-clause-answers : goal.step_other-returns-in_ok-inside-in-Switch-clause-answers
+step_other-returns-in_ok-inside-in-Switch-clause-answers g t c =
+    counted_steps (g.R.Holds.answers c.args.context.now.functions.now) c.args.context.now.plan.now c.args.state.now _ _ (ticked_by c.in_ok-inside-in-Switch.ensures.ticked) (rw c.in-Switch.is (switch_is (g.R.Holds.answers c.args.context.now.functions.now) c.args.context.now.plan.now c.in-Switch.field-0 c.in-Switch.field-1.value)) c.step_counted.ensures.answers
 
-pub step_other-returns-in-None-clause-answers : goal.step_other-returns-in-None-clause-answers
-step_other-returns-in-None-clause-answers g t c = λ P L A.
-    watching_stays (g.R.Holds.answers c.args.context.now.functions.now) c.args.context.now.plan.now _ c.in-Switch.names c.in-Switch.node.value (step c.args.context.now.dt c.args.value.now) c.args.meter.now c.step_watching.new.meter c.args.depth
-    _ c.in_ok-over-in-Switch.over c.step_watching.new.node.value c.step_watching.new.value c.in-None.is c.in_ok-over-in-Switch.ensures.answers P L (rw c.in-Switch.is at A)
+pub step_other-returns-in_err-inside-in-Keeping-clause-answers : goal.step_other-returns-in_err-inside-in-Keeping-clause-answers
+step_other-returns-in_err-inside-in-Keeping-clause-answers g t c = λ P L A. pass_exit _ _ c.from_residual-in_err-inside-in-Keeping.ensures.0 (tick_fails (g.R.Holds.answers c.args.context.now.functions.now) c.args.context.now.plan.now P _ c.in_err-inside-in-Keeping.ensures.ticked)
 
--- ## start
+pub step_other-returns-in_ok-inside-in-Keeping-clause-answers : goal.step_other-returns-in_ok-inside-in-Keeping-clause-answers
+step_other-returns-in_ok-inside-in-Keeping-clause-answers g t c =
+    counted_steps (g.R.Holds.answers c.args.context.now.functions.now) c.args.context.now.plan.now c.args.state.now _ _ (ticked_by c.in_ok-inside-in-Keeping.ensures.ticked) (rw c.in-Keeping.is (keeping_is (g.R.Holds.answers c.args.context.now.functions.now) c.args.context.now.plan.now c.in-Keeping.field-0 c.in-Keeping.field-1.value)) c.step_counted-in-Keeping.ensures.answers
 
-pub start-returns-in_err-inside-clause-answers : goal.start-returns-in_err-inside-clause-answers
-start-returns-in_err-inside-clause-answers g t c = λ P L A. pass_exit _ _ c.from_residual.ensures.0 (tick_fails (g.R.Holds.answers c.args.context.now.functions.now) c.args.context.now.plan.now P _ c.in_err-inside.ensures.ticked)
+pub step_other-returns-in_err-inside-in-Unborn-clause-answers : goal.step_other-returns-in_err-inside-in-Unborn-clause-answers
+step_other-returns-in_err-inside-in-Unborn-clause-answers g t c = λ P L A. pass_exit _ _ c.from_residual-in_err-inside-in-Unborn.ensures.0 (tick_fails (g.R.Holds.answers c.args.context.now.functions.now) c.args.context.now.plan.now P _ c.in_err-inside-in-Unborn.ensures.ticked)
 
-pub start-returns-in-Err-clause-answers : goal.start-returns-in-Err-clause-answers
-start-returns-in-Err-clause-answers g t c =
-    start_open_fails (g.R.Holds.answers c.args.context.now.functions.now) c.args.context.now.plan.now c.args.term c.args.names c.args.context.now.dt c.args.value.now (ticked_by c.in_ok-inside.ensures.ticked) c.stop-in-Err.ensures.entered c.stop-in-Err.ensures.height
-    c.in-Err.fault _ c.stop-in-Err.ensures.fault c.in-Err.ensures
+pub step_other-returns-in-Ok-Itself-clause-answers : goal.step_other-returns-in-Ok-Itself-clause-answers
+step_other-returns-in-Ok-Itself-clause-answers g t c = λ P L A.
+    begun_steps (g.R.Holds.answers c.args.context.now.functions.now) c.args.context.now.plan.now c.in-Unborn.process.term c.in-Unborn.process.names c.args.context.now.dt c.args.value.now (ticked_by c.in_ok-inside-in-Unborn.ensures.ticked) c.begin.new.state _ (rw (c.replace-names.ensures.value, c.in-Ok-Itself.field-0-is) at c.in-Ok-Itself.ensures) c.step_counted-in-Ok-Itself.ensures.answers P L (rw c.in-Unborn.is at A)
 
-pub start-returns-in_err-step_live-in-Ok-Live-clause-answers : goal.start-returns-in_err-step_live-in-Ok-Live-clause-answers
-start-returns-in_err-step_live-in-Ok-Live-clause-answers g t c = λ P L A.
-    pass_exit _ _ c.from_residual-in_err-step_live-in-Ok-Live.ensures.0 (failed (start_fails (g.R.Holds.answers c.args.context.now.functions.now) c.args.context.now.plan.now c.args.term c.args.names c.args.context.now.dt c.args.value.now (ticked_by c.in_ok-inside.ensures.ticked) c.in-Ok-Live.live (rw c.in-Ok-Live.field-0-is at c.in-Ok-Live.ensures)
-    _ c.in_err-step_live-in-Ok-Live.ensures.answers P L A))
+pub step_other-returns-in-Ok-Referred-clause-answers : goal.step_other-returns-in-Ok-Referred-clause-answers
+step_other-returns-in-Ok-Referred-clause-answers g t c = λ P L A.
+    begun_runs (g.R.Holds.answers c.args.context.now.functions.now) c.args.context.now.plan.now c.in-Unborn.process.term c.in-Unborn.process.names c.args.context.now.dt c.args.value.now (ticked_by c.in_ok-inside-in-Unborn.ensures.ticked) c.begin.new.state _ (rw (c.replace-names.ensures.value, c.in-Ok-Referred.field-0-is) at c.in-Ok-Referred.ensures) c.step_state.ensures.answers P L (rw c.in-Unborn.is at A)
 
-pub start-returns-in_default-clause-answers : goal.start-returns-in_default-clause-answers
-start-returns-in_default-clause-answers g t c =
-    start_fails (g.R.Holds.answers c.args.context.now.functions.now) c.args.context.now.plan.now c.args.term c.args.names c.args.context.now.dt c.args.value.now (ticked_by c.in_ok-inside.ensures.ticked) c.in-Ok-Live.live (rw c.in-Ok-Live.field-0-is at c.in-Ok-Live.ensures)
-    _ (late_memory (g.R.Holds.answers c.args.context.now.functions.now) c.args.context.now.plan.now c.in_ok-step_live-in-Ok-Live.ensures.answers c.stop.ensures.entered c.stop.ensures.height c.stop.ensures.fault)
-
-pub start-returns-in-Ok-clause-answers : goal.start-returns-in-Ok-clause-answers
-start-returns-in-Ok-clause-answers g t c =
-    start_steps (g.R.Holds.answers c.args.context.now.functions.now) c.args.context.now.plan.now c.args.term c.args.names c.args.context.now.dt c.args.value.now (ticked_by c.in_ok-inside.ensures.ticked) c.in-Ok-Live.live (rw c.in-Ok-Live.field-0-is at c.in-Ok-Live.ensures)
-    c.args.names c.step_live.new.live c.in-Ok.node.value c.step_live.new.value refl c.in-Ok.ensures.ok
-    c.in_ok-step_live-in-Ok-Live.ensures.answers
-
-pub start-returns-in-Ok-Switch-clause-answers : goal.start-returns-in-Ok-Switch-clause-answers
-start-returns-in-Ok-Switch-clause-answers g t c =
-    start_switches (g.R.Holds.answers c.args.context.now.functions.now) c.args.context.now.plan.now c.args.term c.args.names c.args.context.now.dt c.args.value.now (ticked_by c.in_ok-inside.ensures.ticked) c.in-Ok-Switch.switch _ (rw c.in-Ok-Switch.field-0-is at c.in-Ok-Switch.ensures) c.start_switch.ensures.answers
-
--- ## start_switch
-
-pub start_switch-returns-in_err-over-clause-answers : goal.start_switch-returns-in_err-over-clause-answers
-start_switch-returns-in_err-over-clause-answers g t c = λ m depth t T e N W. pass_exit _ _ c.from_residual.ensures.0 (failed (c.in_err-over.ensures.answers m depth t T e [] N W))
-
-pub start_switch-returns-in_default-clause-answers : goal.start_switch-returns-in_default-clause-answers
-start_switch-returns-in_default-clause-answers g t c = λ m depth t T e N W. late_part (g.R.Holds.answers c.args.context.now.functions.now) c.args.context.now.plan.now (c.in_ok-over.ensures.answers m depth t T e [] N W) c.stop.ensures.entered c.stop.ensures.height c.stop.ensures.fault
-
-pub start_switch-returns-in-Some-clause-answers : goal.start_switch-returns-in-Some-clause-answers
-start_switch-returns-in-Some-clause-answers g t c =
-    start_takes (g.R.Holds.answers c.args.context.now.functions.now) c.args.context.now.plan.now c.args.switch c.args.names (step c.args.context.now.dt c.args.value.now) c.args.meter.now c.step_switch.new.meter c.args.inside c.in_ok-over.over c.step_switch.new.switch c.in-Some.body c.step_switch.new.value
-    c.in-Some.is c.in_ok-over.ensures.answers
-
-pub start_switch-returns-in-Ok-clause-answers : goal.start_switch-returns-in-Ok-clause-answers
-start_switch-returns-in-Ok-clause-answers g t c =
-    start_waits (g.R.Holds.answers c.args.context.now.functions.now) c.args.context.now.plan.now _ c.args.switch c.args.names (step c.args.context.now.dt c.args.value.now) c.args.meter.now c.step_switch.new.meter c.args.inside c.in_ok-over.over c.step_switch.new.switch c.in-Ok.node.value c.step_switch.new.value
-    c.in-None.is c.in-Ok.ensures.ok c.in_ok-over.ensures.answers
-
--- ## step_watching
-
-pub step_watching-returns-in_err-inside-clause-answers : goal.step_watching-returns-in_err-inside-clause-answers
-step_watching-returns-in_err-inside-clause-answers g t c = λ T e L N W. pass_beside (g.R.Holds.answers c.args.context.now.functions.now) c.args.context.now.plan.now _ _ _ c.from_residual.ensures.0 (tick_fails (g.R.Holds.answers c.args.context.now.functions.now) c.args.context.now.plan.now (closure T e) _ c.in_err-inside.ensures.ticked)
-
-pub step_watching-returns-in_default-clause-answers : goal.step_watching-returns-in_default-clause-answers
-step_watching-returns-in_default-clause-answers g t c = λ T e L N W. early_memory (g.R.Holds.answers c.args.context.now.functions.now) c.args.context.now.plan.now (ticked_by c.in_ok-inside.ensures.ticked) c.stop.ensures.entered c.stop.ensures.height c.stop.ensures.fault
-
-pub step_watching-returns-in-None-clause-answers : goal.step_watching-returns-in-None-clause-answers
-step_watching-returns-in-None-clause-answers g t c = λ T e L N W. early_memory (g.R.Holds.answers c.args.context.now.functions.now) c.args.context.now.plan.now (ticked_by c.in_ok-inside.ensures.ticked) c.stop-in-None.ensures.entered c.stop-in-None.ensures.height c.stop-in-None.ensures.fault
+pub step_other-returns-in-Err-clause-answers : goal.step_other-returns-in-Err-clause-answers
+step_other-returns-in-Err-clause-answers g t c = λ P L A.
+    begun_fails (g.R.Holds.answers c.args.context.now.functions.now) c.args.context.now.plan.now c.in-Unborn.process.term c.in-Unborn.process.names c.args.context.now.dt c.args.value.now (ticked_by c.in_ok-inside-in-Unborn.ensures.ticked) c.stop.ensures.entered c.stop.ensures.height c.begin.new.state c.in-Err.fault _ c.stop.ensures.fault (rw c.replace-names.ensures.value at c.in-Err.ensures) P L (rw c.in-Unborn.is at A)
 
 -- ## step_switch
 
@@ -211,14 +236,6 @@ step_recurring-returns-in_ok-step_state-in-Some-2-clause-answers g t c =
     c.in-Ok-begin.next c.in-Ok-clone_in.begun c.in-Ok-clone_in.ensures (c.in-Ok-begin.ensures (g.R.Holds.answers c.args.context.now.functions.now) c.args.context.now.plan.now) c.step_state-in-Some-2.new.meter
     c.step_state-in-Some-2.new.state c.step_state-in-Some-2.new.value _ (c.switched.ensures ∙ ap (λ d. switched_value c.args.shown d c.step_state-in-Some-2.new.value) c.replace-old.ensures.value) _ refl c.in_ok-step_state-in-Some-2.ensures.answers
 
--- ## step_live
-
-pub step_live-returns-in_default-clause-answers : goal.step_live-returns-in_default-clause-answers
-step_live-returns-in_default-clause-answers g t c =
-    rw (c.in-Join.join-is, c.in-Join.is) (other_join (g.R.Holds.answers c.args.context.now.functions.now) c.args.context.now.plan.now c.in-Join.join c.in-Join.left c.step_fan.new.left c.in-Join.right c.step_fan.new.right (step c.args.context.now.dt c.args.value.now) c.step_fan.new.value c.step_fan.result (fault_of c.step_fan.new.meter)
-    c.args.meter.now c.step_fan.new.meter c.args.inside
-    (λ e. c.in_default.not-InParallel (c.in-Join.join-is ∙ e)) (rw (c.in-Join.left-is, c.in-Join.right-is) at c.step_fan.ensures.answers))
-
 -- ## step_pipeline
 
 pub step_pipeline-loop-stage-init : goal.step_pipeline-loop-stage-init
@@ -273,6 +290,19 @@ step_half-returns-in-None-clause-answers g t c = first_memory (g.R.Holds.answers
 
 pub step_half-returns-in-Some-clause-answers : goal.step_half-returns-in-Some-clause-answers
 step_half-returns-in-Some-clause-answers g t c = rw (c.in-Some.ensures.value ∙ c.unshare_half.ensures) at c.step_state.ensures.answers
+
+-- ## step_sequence
+
+pub step_sequence-returns-in_err-step_state-clause-answers : goal.step_sequence-returns-in_err-step_state-clause-answers
+step_sequence-returns-in_err-step_state-clause-answers g t c = λ m depth t P L R.
+    pass_exit _ _ c.from_residual.ensures.0 (join_left_fails (g.R.Holds.answers c.args.context.now.functions.now) c.args.context.now.plan.now InSequence c.args.left.now c.args.right.now c.args.meter.now c.step_state.new.meter c.args.inside c.args.context.now.dt c.args.value.now c.args.value.now refl
+    _ c.in_err-step_state.ensures.answers m depth t P L R)
+
+pub step_sequence-returns-clause-answers : goal.step_sequence-returns-clause-answers
+step_sequence-returns-clause-answers g t c =
+    join_last (g.R.Holds.answers c.args.context.now.functions.now) c.args.context.now.plan.now InSequence c.args.left.now c.args.right.now c.args.meter.now c.step_state.new.meter c.args.inside c.args.context.now.dt c.args.value.now c.args.value.now refl
+    c.step_state.new.state c.step_state.new.value c.step_state.new.value refl c.in_ok-step_state.ensures.answers
+    c.step_state-2.new.meter c.step_state-2.new.state c.step_state-2.new.value c.step_state-2.new.value c.step_state-2.result _ refl c.step_state-2.ensures.answers
 
 -- ## step_parallel
 
@@ -384,65 +414,17 @@ step_wrap-returns-in_ok-step_state-in-Initialized-clause-answers g t c =
 
 -- ## A switch that keeps its source, and a frozen state
 
-pub step_other-returns-in_err-kept-in-Keeping-clause-answers : goal.step_other-returns-in_err-kept-in-Keeping-clause-answers
-step_other-returns-in_err-kept-in-Keeping-clause-answers g t c = λ P L A.
-    pass_exit _ _ c.from_residual-in_err-kept-in-Keeping.ensures.0 (failed (keeping_fails (g.R.Holds.answers c.args.context.now.functions.now) c.args.context.now.plan.now _ c.in-Keeping.names c.in-Keeping.node.value (step c.args.context.now.dt c.args.value.now) c.args.meter.now c.step_kept.new.meter c.args.depth
-    _ c.in_err-kept-in-Keeping.ensures.answers P L (rw c.in-Keeping.is at A)))
-
-pub step_other-returns-in-Some-kept-clause-answers : goal.step_other-returns-in-Some-kept-clause-answers
-step_other-returns-in-Some-kept-clause-answers g t c = λ P L A.
-    keeping_goes (g.R.Holds.answers c.args.context.now.functions.now) c.args.context.now.plan.now _ c.in-Keeping.names c.in-Keeping.node.value (step c.args.context.now.dt c.args.value.now) c.args.meter.now c.step_kept.new.meter c.args.depth
-    c.in_ok-kept-in-Keeping.kept c.in-Some-kept.body c.step_kept.new.node.value c.step_kept.new.value c.in-Some-kept.is c.in_ok-kept-in-Keeping.ensures.answers P L (rw c.in-Keeping.is at A)
-
-pub step_other-returns-in-None-kept-clause-answers : goal.step_other-returns-in-None-kept-clause-answers
-step_other-returns-in-None-kept-clause-answers g t c = λ P L A.
-    keeping_stays (g.R.Holds.answers c.args.context.now.functions.now) c.args.context.now.plan.now _ c.in-Keeping.names c.in-Keeping.node.value (step c.args.context.now.dt c.args.value.now) c.args.meter.now c.step_kept.new.meter c.args.depth
-    _ c.in_ok-kept-in-Keeping.kept c.step_kept.new.node.value c.step_kept.new.value c.in-None-kept.is c.in_ok-kept-in-Keeping.ensures.answers P L (rw c.in-Keeping.is at A)
-
 pub step_other-returns-in_default-clause-answers : goal.step_other-returns-in_default-clause-answers
-step_other-returns-in_default-clause-answers g t c = first_memory (g.R.Holds.answers c.args.context.now.functions.now) c.args.context.now.plan.now c.stop.ensures.entered c.stop.ensures.height c.stop.ensures.fault
+step_other-returns-in_default-clause-answers g t c = first_memory (g.R.Holds.answers c.args.context.now.functions.now) c.args.context.now.plan.now c.stop-in_default.ensures.entered c.stop-in_default.ensures.height c.stop-in_default.ensures.fault
 
 pub step_other-returns-in-Ok-clause-answers : goal.step_other-returns-in-Ok-clause-answers
 step_other-returns-in-Ok-clause-answers g t c = λ P L A.
-    let r = left_or c.step_state.result (c.step_state.new.state, c.step_state.new.value) (fault_of c.step_state.new.meter) in
-    frozen_steps (g.R.Holds.answers c.args.context.now.functions.now) c.args.context.now.plan.now _ c.in-Frozen.frozen.value.wait c.in-Frozen.frozen.value.names c.in-Frozen.frozen.value.node c.in-Ok.awake c.args.context.now.dt c.args.value.now r c.args.meter.now c.step_state.new.meter c.args.depth
+    let r = left_or c.step_state-in-Frozen.result (c.step_state-in-Frozen.new.state, c.step_state-in-Frozen.new.value) (fault_of c.step_state-in-Frozen.new.meter) in
+    frozen_steps (g.R.Holds.answers c.args.context.now.functions.now) c.args.context.now.plan.now _ c.in-Frozen.frozen.value.wait c.in-Frozen.frozen.value.names c.in-Frozen.frozen.value.node c.in-Ok.awake c.args.context.now.dt c.args.value.now r c.args.meter.now c.step_state-in-Frozen.new.meter c.args.depth
     (subst (λ (f : Frozen). (P : Process) (L : Life) → Stands (g.R.Holds.answers c.args.context.now.functions.now) c.args.context.now.plan.now (kept_state f.names f.node) P L → Stands (g.R.Holds.answers c.args.context.now.functions.now) c.args.context.now.plan.now c.in-Ok.awake P L)
     c.deref-in-Frozen.ensures (c.in-Ok.ensures.stands (g.R.Holds.answers c.args.context.now.functions.now) c.args.context.now.plan.now))
-    (subst (λ (f : Frozen). StateSteps (g.R.Holds.answers c.args.context.now.functions.now) c.args.context.now.plan.now c.in-Ok.awake (step f.wait c.args.value.now) r c.args.meter.now c.step_state.new.meter c.args.depth)
-    c.deref.ensures c.step_state.ensures.answers) P L (rw c.in-Frozen.is at A)
-
-pub start-returns-in-Ok-Keeping-clause-answers : goal.start-returns-in-Ok-Keeping-clause-answers
-start-returns-in-Ok-Keeping-clause-answers g t c =
-    start_keepings (g.R.Holds.answers c.args.context.now.functions.now) c.args.context.now.plan.now c.args.term c.args.names c.args.context.now.dt c.args.value.now (ticked_by c.in_ok-inside.ensures.ticked) c.in-Ok-Keeping.keeping _ (rw c.in-Ok-Keeping.field-0-is at c.in-Ok-Keeping.ensures) c.start_keeping.ensures.answers
-
-pub start-returns-in-Ok-Running-clause-answers : goal.start-returns-in-Ok-Running-clause-answers
-start-returns-in-Ok-Running-clause-answers g t c =
-    start_runs (g.R.Holds.answers c.args.context.now.functions.now) c.args.context.now.plan.now c.args.term c.args.names c.args.context.now.dt c.args.value.now (ticked_by c.in_ok-inside.ensures.ticked) c.in-Ok-Running.process _ (rw c.in-Ok-Running.field-0-is at c.in-Ok-Running.ensures) c.step_state.ensures.answers
-
-pub start_keeping-returns-in_err-over-clause-answers : goal.start_keeping-returns-in_err-over-clause-answers
-start_keeping-returns-in_err-over-clause-answers g t c = λ m depth t T e N W. pass_exit _ _ c.from_residual.ensures.0 (failed (c.in_err-over.ensures.answers m depth t T e [] N W))
-
-pub start_keeping-returns-in_default-clause-answers : goal.start_keeping-returns-in_default-clause-answers
-start_keeping-returns-in_default-clause-answers g t c = λ m depth t T e N W. late_part (g.R.Holds.answers c.args.context.now.functions.now) c.args.context.now.plan.now (c.in_ok-over.ensures.answers m depth t T e [] N W) c.stop.ensures.entered c.stop.ensures.height c.stop.ensures.fault
-
-pub start_keeping-returns-in-Some-clause-answers : goal.start_keeping-returns-in-Some-clause-answers
-start_keeping-returns-in-Some-clause-answers g t c =
-    starts_over (g.R.Holds.answers c.args.context.now.functions.now) c.args.context.now.plan.now _ c.args.keeping c.args.names (step c.args.context.now.dt c.args.value.now) c.args.meter.now c.step_keeping.new.meter c.args.inside c.in_ok-over.over c.step_keeping.new.keeping c.in-Some.body c.step_keeping.new.value
-    c.in-Some.is c.in_ok-over.ensures.answers
-
-pub start_keeping-returns-in-Ok-clause-answers : goal.start_keeping-returns-in-Ok-clause-answers
-start_keeping-returns-in-Ok-clause-answers g t c =
-    start_keeps (g.R.Holds.answers c.args.context.now.functions.now) c.args.context.now.plan.now _ c.args.keeping c.args.names (step c.args.context.now.dt c.args.value.now) c.args.meter.now c.step_keeping.new.meter c.args.inside c.in_ok-over.over c.step_keeping.new.keeping c.in-Ok.node.value c.step_keeping.new.value
-    c.in-None.is c.in-Ok.ensures.ok c.in_ok-over.ensures.answers
-
-pub step_kept-returns-in_err-inside-clause-answers : goal.step_kept-returns-in_err-inside-clause-answers
-step_kept-returns-in_err-inside-clause-answers g t c = λ T e L N W. pass_beside (g.R.Holds.answers c.args.context.now.functions.now) c.args.context.now.plan.now _ _ _ c.from_residual.ensures.0 (tick_fails (g.R.Holds.answers c.args.context.now.functions.now) c.args.context.now.plan.now (closure T e) _ c.in_err-inside.ensures.ticked)
-
-pub step_kept-returns-in_default-clause-answers : goal.step_kept-returns-in_default-clause-answers
-step_kept-returns-in_default-clause-answers g t c = λ T e L N W. early_memory (g.R.Holds.answers c.args.context.now.functions.now) c.args.context.now.plan.now (ticked_by c.in_ok-inside.ensures.ticked) c.stop.ensures.entered c.stop.ensures.height c.stop.ensures.fault
-
-pub step_kept-returns-in-None-clause-answers : goal.step_kept-returns-in-None-clause-answers
-step_kept-returns-in-None-clause-answers g t c = λ T e L N W. early_memory (g.R.Holds.answers c.args.context.now.functions.now) c.args.context.now.plan.now (ticked_by c.in_ok-inside.ensures.ticked) c.stop-in-None.ensures.entered c.stop-in-None.ensures.height c.stop-in-None.ensures.fault
+    (subst (λ (f : Frozen). StateSteps (g.R.Holds.answers c.args.context.now.functions.now) c.args.context.now.plan.now c.in-Ok.awake (step f.wait c.args.value.now) r c.args.meter.now c.step_state-in-Frozen.new.meter c.args.depth)
+    c.deref.ensures c.step_state-in-Frozen.ensures.answers) P L (rw c.in-Frozen.is at A)
 
 pub step_keeping-returns-in_default-clause-answers : goal.step_keeping-returns-in_default-clause-answers
 step_keeping-returns-in_default-clause-answers g t c = λ m depth t T e L N W. early_memory (g.R.Holds.answers c.args.context.now.functions.now) c.args.context.now.plan.now t c.stop.ensures.entered c.stop.ensures.height c.stop.ensures.fault

@@ -1,7 +1,7 @@
 use Rattle.std.proofs.Common.{w64}
 use Rattle.std.proofs.lemmas.Int.{to_z-of_z}
 use Rattle.sf_prim.specs.Keeping.{begins, keeps_no_event, keeps_function}
-use Rattle.sf_prim.proofs.Primitives.{begins_exit, timed_exit, timed_as, memory_exit, accumulated_keeps, accumulated_fails}
+use Rattle.sf_prim.proofs.Primitives.{begins_exit, timed_exit, timed_as, memory_exit, accumulated_made, accumulated_fails}
 use Rattle.sf_prim.proofs.prim_state.PrimState.born.Goals as goal
 
 pub returns-in-Bare : goal.returns-in-Bare
@@ -19,8 +19,11 @@ returns-in_ok-value-in-WithValue g c = λ h. rw c.in-WithValue.is (begins (c.wit
 pub returns-in_err-value-in-Timed : goal.returns-in_err-value-in-Timed
 returns-in_err-value-in-Timed g c = λ h. rw c.in-Timed.is (timed_exit _ _ _ _ _ _ c.from_residual-in_err-value-in-Timed.ensures.1 (c.in_err-value-in-Timed.ensures (rw c.in-Timed.is at h)))
 
-pub returns-in_ok-value-in-Timed : goal.returns-in_ok-value-in-Timed
-returns-in_ok-value-in-Timed g c = λ h. rw c.in-Timed.is (begins (timed_as _ _ _ _ (to_z-of_z w64 c.in-Timed.time search) (c.timed.ensures _ _ (c.in_ok-value-in-Timed.ensures (rw c.in-Timed.is at h)))))
+pub returns-in_ok-timed-in-Timed : goal.returns-in_ok-timed-in-Timed
+returns-in_ok-timed-in-Timed g c = λ h. rw c.in-Timed.is (begins (timed_as _ _ _ _ (to_z-of_z w64 c.in-Timed.time search) (c.in_ok-timed-in-Timed.ensures _ _ (c.in_ok-value-in-Timed.ensures (rw c.in-Timed.is at h)))))
+
+pub returns-in_err-timed-in-Timed : goal.returns-in_err-timed-in-Timed
+returns-in_err-timed-in-Timed g c = λ h. memory_exit _ _ _ c.from_residual-in_err-timed-in-Timed.ensures.1
 
 pub returns-in_ok-shared-in-Arrow : goal.returns-in_ok-shared-in-Arrow
 returns-in_ok-shared-in-Arrow g c = λ h. rw c.in-Arrow.is (begins (keeps_function (c.in_ok-shared-in-Arrow.ensures (rw c.in-Arrow.is at h) (g.R.Holds.answers c.args.functions.now))))
@@ -34,6 +37,11 @@ returns-in_err-value-in-Accumulated g c = λ h. rw c.in-Accumulated.is (accumula
 pub returns-in_err-shared-in-Accumulated : goal.returns-in_err-shared-in-Accumulated
 returns-in_err-shared-in-Accumulated g c = λ h. memory_exit _ _ _ c.from_residual-in_err-shared-in-Accumulated.ensures.1
 
-pub returns-in_ok-shared-in-Accumulated : goal.returns-in_ok-shared-in-Accumulated
-returns-in_ok-shared-in-Accumulated g c = λ h.
-    rw c.in-Accumulated.is (begins (accumulated_keeps _ _ _ _ (c.in_ok-shared-in-Accumulated.ensures (rw c.in-Accumulated.is at h).1 (g.R.Holds.answers c.args.functions.now)) (c.in_ok-value-in-Accumulated.ensures (rw c.in-Accumulated.is at h).0)))
+pub returns-in_err-new-in-Accumulated : goal.returns-in_err-new-in-Accumulated
+returns-in_err-new-in-Accumulated g c = λ h. memory_exit _ _ _ c.from_residual-in_err-new-in-Accumulated.ensures.1
+
+pub returns-in_ok-new-in-Accumulated : goal.returns-in_ok-new-in-Accumulated
+returns-in_ok-new-in-Accumulated g c = λ h.
+    let code = c.in_ok-shared-in-Accumulated.ensures (rw c.in-Accumulated.is at h).1 (g.R.Holds.answers c.args.functions.now) in
+    let worth = c.in_ok-value-in-Accumulated.ensures (rw c.in-Accumulated.is at h).0 in
+    rw c.in-Accumulated.is (begins (accumulated_made _ _ _ c.in_ok-new-in-Accumulated.field-0 _ c.in_ok-new-in-Accumulated.ensures.ok code worth))

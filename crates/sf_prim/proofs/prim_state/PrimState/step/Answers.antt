@@ -23,7 +23,9 @@ pub returns-in-Area : goal.returns-in-Area
 returns-in-Area g c = λ q scope L same k. area_goes_on q scope _ _ L _ _ _ _ c.integrate.ensures.told c.integrate.ensures.kept (rw c.in-Area.is at k)
 
 pub returns-in-Timed : goal.returns-in-Timed
-returns-in-Timed g c = λ q scope L same k. timer_goes_on q scope _ _ L _ _ _ _ c.run_down.ensures.told c.run_down.ensures.due c.run_down.ensures.begun c.run_down.ensures.left (rw c.in-Timed.is at k)
+returns-in-Timed g c = λ q scope L same k.
+    let at_first = c.deref_mut-in-Timed.ensures.value in
+    timer_goes_on q scope _ _ L c.in-Timed.timer _ _ _ (rw at_first at c.run_down.ensures.told) (rw at_first at c.run_down.ensures.due) c.run_down.ensures.begun (rw at_first at c.run_down.ensures.left) (rw c.in-Timed.is at k)
 
 pub returns-in-Edge : goal.returns-in-Edge
 returns-in-Edge g c = λ q scope L same k. edge_goes_on q scope _ _ L _ _ _ _ c.rise.ensures.told c.rise.ensures.kept (rw c.in-Edge.is at k)
@@ -32,7 +34,7 @@ pub returns-in-Count : goal.returns-in-Count
 returns-in-Count g c = λ q scope L same k. count_goes_on q scope _ _ L _ _ _ _ c.count_event.ensures.told c.count_event.ensures.kept (rw c.in-Count.is at k)
 
 pub returns-in-Now : goal.returns-in-Now
-returns-in-Now g c = λ q scope L same k. now_goes_on q scope _ L _ _ _ _ c.occur.ensures.told c.occur.ensures.kept (rw c.in-Now.is at k)
+returns-in-Now g c = λ q scope L same k. now_goes_on q scope _ L _ _ _ (rw c.replace-given.ensures.value at c.announce.ensures) (rw c.in-Now.is at k)
 
 pub returns-in-Hold : goal.returns-in-Hold
 returns-in-Hold g c = λ q scope L same k. hold_goes_on q scope _ _ L _ _ _ _ c.hold.ensures.told c.hold.ensures.kept (rw c.in-Hold.is at k)
@@ -41,4 +43,6 @@ pub returns-in-NotYet : goal.returns-in-NotYet
 returns-in-NotYet g c = λ q scope L same k. not_yet_goes_on q scope _ _ L _ _ _ c.pass_later.ensures.told c.pass_later.ensures.kept (rw c.in-NotYet.is at k)
 
 pub returns-in-Accumulated : goal.returns-in-Accumulated
-returns-in-Accumulated g c = rw c.in-Accumulated.is (accumulated_goes_on (g.R.Holds.answers c.args.functions.now) _ _ _ _ _ _ c.accumulate.ensures.goes_on c.accumulate.ensures.shows c.accumulate.ensures.same)
+returns-in-Accumulated g c =
+    let at_first = c.deref_mut.ensures.value in
+    rw c.in-Accumulated.is (accumulated_goes_on (g.R.Holds.answers c.args.functions.now) _ _ c.in-Accumulated.accumulator _ _ _ (rw at_first at c.accumulate.ensures.goes_on) (rw at_first at c.accumulate.ensures.shows) (rw at_first at c.accumulate.ensures.same))

@@ -6,5 +6,6 @@ use Rattle.sf_prim.proofs.prim_state.PrimState.timed.Goals as goal
 
 pub returns : goal.returns
 returns c = λ s e h.
-    let left = c.born.ensures.left ∙ ap span (to_z-of_z w64 c.args.time c.ranges.time) in
-    timer_keeps s c.args.form c.args.time e c.born.result c.args.value c.born.ensures.due c.born.ensures.begun left h
+    let is = c.in_ok-timer.ensures.ok in
+    let left = ap (λ t. t.left) is ∙ c.born.ensures.left ∙ ap span (to_z-of_z w64 c.args.time c.ranges.time) in
+    timer_keeps s c.args.form c.args.time e c.in_ok-timer.timer c.args.value (ap (λ t. t.due) is ∙ c.born.ensures.due) (ap (λ t. t.begun) is ∙ c.born.ensures.begun) left h

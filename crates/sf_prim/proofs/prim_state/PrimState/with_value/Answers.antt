@@ -12,7 +12,7 @@ pub returns-in-InitializedPre : goal.returns-in-InitializedPre
 returns-in-InitializedPre c = λ s e h. rw c.in-InitializedPre.is (keeps_initialized h refl)
 
 pub returns-in-Now : goal.returns-in-Now
-returns-in-Now c = λ s e h. rw c.in-Now.is (keeps_first h refl)
+returns-in-Now c = λ s e h. rw c.in-Now.is (keeps_first h)
 
 pub returns-in-Hold : goal.returns-in-Hold
 returns-in-Hold c = λ s e h. rw c.in-Hold.is (keeps_last h refl)

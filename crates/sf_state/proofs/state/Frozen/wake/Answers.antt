@@ -1,6 +1,11 @@
 use Rattle.sf_state.proofs.Copies.{kept_around}
 use Rattle.sf_state.proofs.state.Frozen.wake.Goals as goal
 
+pub returns-in-Primitive-clause-stands : goal.returns-in-Primitive-clause-stands
+returns-in-Primitive-clause-stands c = λ φ p P L A.
+    let names = c.args.self.now.names in
+    rw c.in-Primitive.is at (kept_around φ p names c.in_ok-around.around c.in_ok-node.field-0 (c.in_ok-around.ensures φ p) P L (c.in_ok-node.ensures φ p names P L A))
+
 pub returns-in-Live-clause-stands : goal.returns-in-Live-clause-stands
 returns-in-Live-clause-stands c = λ φ p P L A.
     let names = c.args.self.now.names in

@@ -1,5 +1,9 @@
-use Rattle.sf_state.proofs.Copies.{same_follows, alive_follows, same_waits, watching_follows, same_keeps, keeping_follows}
+use Rattle.sf_state.proofs.Copies.{same_follows, primitive_follows, alive_follows, same_waits, watching_follows, same_keeps, keeping_follows}
 use Rattle.sf_state.proofs.state.Kept.share.Goals as goal
+
+pub returns-in_ok-copy-in-Primitive : goal.returns-in_ok-copy-in-Primitive
+returns-in_ok-copy-in-Primitive c = λ φ p names P L A.
+    primitive_follows φ p c.in-Primitive.primitive c.in_ok-copy-in-Primitive.copy c.in_ok-copy-in-Primitive.ensures P L (rw c.in-Primitive.is at A)
 
 pub returns-in_ok-live-in-Live : goal.returns-in_ok-live-in-Live
 returns-in_ok-live-in-Live c = λ φ p names P L A.

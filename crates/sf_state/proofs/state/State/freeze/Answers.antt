@@ -1,6 +1,12 @@
 use Rattle.std.proofs.Common.{sym, subst, ⊎_elim}
-use Rattle.sf_state.proofs.Copies.{IsFresh, same_follows, alive_follows, same_waits, watching_follows, same_keeps, keeping_follows, alive_lived, watching_lived, keeping_lived, unborn_fresh, frozen_fresh, lived_frozen, fresh_frozen}
+use Rattle.sf_state.proofs.Copies.{IsFresh, same_follows, primitive_follows, alive_follows, same_waits, watching_follows, same_keeps, keeping_follows, primitive_lived, alive_lived, watching_lived, keeping_lived, unborn_fresh, frozen_fresh, lived_frozen, fresh_frozen}
 use Rattle.sf_state.proofs.state.State.freeze.Goals as goal
+
+pub returns-in_ok-copy-in-Primitive : goal.returns-in_ok-copy-in-Primitive
+returns-in_ok-copy-in-Primitive c =
+    let old = c.in-Primitive.primitive in
+    rw c.in-Primitive.is (lived_frozen _ _ c.args.wait c.freeze_node-in-Primitive.result (λ φ p. primitive_lived φ p old)
+    (λ φ p. primitive_follows φ p old c.in_ok-copy-in-Primitive.copy c.in_ok-copy-in-Primitive.ensures) c.freeze_node-in-Primitive.ensures)
 
 pub returns-in_ok-live-in-Live : goal.returns-in_ok-live-in-Live
 returns-in_ok-live-in-Live c =

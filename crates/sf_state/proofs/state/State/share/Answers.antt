@@ -1,9 +1,13 @@
-use Rattle.sf_state.proofs.Copies.{same_follows, unborn_follows, alive_follows, same_waits, watching_follows, same_keeps, keeping_follows, frozen_follows}
+use Rattle.sf_state.proofs.Copies.{same_follows, unborn_follows, primitive_follows, alive_follows, same_waits, watching_follows, same_keeps, keeping_follows, frozen_follows}
 use Rattle.sf_state.proofs.state.State.share.Goals as goal
 
 pub returns-in_ok-same-in-Unborn : goal.returns-in_ok-same-in-Unborn
 returns-in_ok-same-in-Unborn c = λ φ p P L A.
     unborn_follows φ p c.in-Unborn.process c.in_ok-same-in-Unborn.same (c.in_ok-same-in-Unborn.ensures φ p) P L (rw c.in-Unborn.is at A)
+
+pub returns-in_ok-copy-in-Primitive : goal.returns-in_ok-copy-in-Primitive
+returns-in_ok-copy-in-Primitive c = λ φ p P L A.
+    primitive_follows φ p c.in-Primitive.primitive c.in_ok-copy-in-Primitive.copy c.in_ok-copy-in-Primitive.ensures P L (rw c.in-Primitive.is at A)
 
 pub returns-in_ok-shared-in-Live : goal.returns-in_ok-shared-in-Live
 returns-in_ok-shared-in-Live c = λ φ p P L A.
