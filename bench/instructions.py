@@ -5,7 +5,7 @@
 Each network is played on 1,000 and on 3,000 lines, so that the difference is free of what the start costs, and it doesn't
 depend on how busy the machine is. The instructions of a node are those of a sample less those of the network `identity`,
 which are the cost of a line in and out, by the nodes that a sample enters. A running total is shown by the whole sample.
-What may be frozen at a sample is held as it was before, so each of its nodes that changes is copied: 200 instructions more.
+What may be frozen at a sample is held as it was before, so each of its nodes is copied: 200 instructions more.
 Without valgrind nothing is counted, and the status is 0.
 """
 
@@ -47,7 +47,7 @@ NETWORKS = {
     "50 run processes": ("Int ~> Int", chain("kSwitch(identity, now (), k, _ => run k)", 50), 99, 60, 0),
     "50 called templates": ("Int ~> Int", chain("passed(1)", 50), 99, 60, 0),
     "50 probes": ("Int ~> Int", chain("probe p", 50), 99, None, None),
-    "50 iPre 0 to freeze": ("Int ~> Int", f"kSwitch({chain('iPre 0', 50)}, never Int, k, _ => identity)", 101, 260, None),
+    "50 iPre 0 to freeze": ("Int ~> Int", f"kSwitch({chain('iPre 0', 50)}, never Int, k, _ => identity)", 101, 260, 2),
     "running total": ("Int ~> Int", TIMED["total"], None, 2000, 4),
 }
 

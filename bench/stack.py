@@ -31,18 +31,25 @@ FORMS = {
 }
 
 
-def network(before, after, nodes, depth):
+# The name of the last row: what runs stays, in a switch that waits, and so is held as it was before each sample.
+HELD = "kSwitch that waits"
+
+
+def network(before, after, nodes, depth, is_held=False):
     """The text in which so many nodes stand one inside another, and how many they are."""
     text, ends, high, level = "", "", 0, 0
+    if is_held:
+        text, ends, high, level = "kSwitch(", ", never Int, held, _ => identity)", 1, 1
     while True:
         level += 1
         room = (DEEPEST_TEXT - 2 - level) // depth
         fit = min(room, (MOST_NODES - (level + 1) - high) // nodes)
         if fit < 1:
-            return f"network 1;\n{TEMPLATE}\ntemplate main(): Int ~> Int = {text}identity{ends};\n", high + level - 1
-        part = f"run k{level - 1}" if level > 1 else "identity"
+            last = f"run k{level - 1}" if is_held else "identity"
+            return f"network 1;\n{TEMPLATE}\ntemplate main(): Int ~> Int = {text}{last}{ends};\n", high + level - 1
+        part = f"run k{level - 1}" if ", now ()" in text else "identity"
         text += f"kSwitch({before * fit}{part}{after * fit}, now (), k{level}, _ => "
-        ends += ")"
+        ends = ")" + ends
         high += fit * nodes + 1
 
 
@@ -70,8 +77,8 @@ def main():
     print(f"{'one inside another':20} {'nodes':>6} {'stack, KiB':>11} {'a node, bytes':>14}")
     with tempfile.TemporaryDirectory() as place:
         path = os.path.join(place, "network")
-        for name, form in FORMS.items():
-            text, high = network(*form)
+        for name, form in [*FORMS.items(), (HELD, FORMS[">>>, right"])]:
+            text, high = network(*form, is_held=name == HELD)
             with open(path, "w") as file:
                 file.write(text)
             needs = least(exe, path)

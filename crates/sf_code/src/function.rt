@@ -78,6 +78,7 @@ pub fn evaluate<F: Holds>(alloc: Global, code: &Code, functions: &F) -> Result<V
 }
 
 /// What a function answers to a value by its code, or the first fault.
+#[inline(always)]
 pub fn apply<F: Holds>(
     alloc: Global,
     code: &Code,

@@ -159,6 +159,7 @@ impl<F: Holds + Drop> Player<F> {
     }
 
     /// Gathers the lines of a sample at a time.
+    #[inline(always)]
     fn say(&mut self, sample_time: u64, sampled: Result<Sample, Fault>) -> Option<Stop>
         requires { self.old.taken < 1000000 }
         ensures { (n : Network) (m : Template) (now : Moment) (line : List ℕ) (a : Asked)
@@ -180,6 +181,8 @@ impl<F: Holds + Drop> Player<F> {
     }
 
     /// The refusal of the next line.
+    #[cold]
+    #[inline(never)]
     fn refuse(&self, refusal: LineRefusal) -> Stop
         ensures end { result.end ≡ PlayEnd.BadLine }
         ensures line { result.line ≡ refusal_line (self.now.taken + 1) refusal }
@@ -218,6 +221,8 @@ impl<F: Holds + Drop> Player<F> {
 }
 
 /// The fault of the sample at a time.
+#[cold]
+#[inline(never)]
 fn fault_stop(time: u64, fault: Fault) -> Stop
     ensures end { result.end ≡ PlayEnd.Fault }
     ensures line { result.line ≡ fault_line time fault }

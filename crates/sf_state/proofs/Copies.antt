@@ -1,5 +1,5 @@
 -- A copy of a node stands for the same.
-use Rattle.std.proofs.Common.{◌≡◌, ℕ, suc, ◌+◌, ◌<◌, Bool, true, false, List, [], ◌∷◌, ◌++◌, length, get_or, take, String, string_bytes, Vec, Option, Some, None, Result, Ok, Err, IfOk, refl, subst, sym, ◌∙◌, ap, arith}
+use Rattle.std.proofs.Common.{◌≡◌, ℕ, suc, ◌+◌, ◌<◌, Bool, true, false, List, [], ◌∷◌, ◌++◌, length, get_or, take, String, string_bytes, Vec, Option, Some, None, Result, Ok, Err, IfOk, OnOk, refl, subst, sym, ◌∙◌, ap, arith}
 use Rattle.std.proofs.Math.Seq.{take-suc}
 use Rattle.std.specs.declared.alloc.Global.{Global}
 use Rattle.std.specs.declared.rc.Rc.{Rc}
@@ -26,7 +26,7 @@ use Rattle.sf_state.specs.declared.state.Frozen.{Frozen}
 use Rattle.sf_state.specs.declared.state.Kept.{Kept}
 use Rattle.sf_state.specs.declared.state.Kept.TheVariants.{Primitive as KPrimitive, Live' as KLive', Switch' as KSwitch', Keeping' as KKeeping'}
 use Rattle.sf_state.specs.declared.env.Env.{Env}
-use Rattle.sf_state.specs.Standing.{Wraps, kept_state, Turned, fired_to, kept_to, ran, went_on, Stands, itself, took_over, StandsItself, unborn, recalling, Recalls, recalls, alive, watching, keeping_on, was_frozen, Waits, waits_so, recurs_so, WaitsKeeping, keeps_so, Settles, settles, Ready, ready, Lives, lives_probe, lives_join, lives_pipeline, lives_wrap, StagesStand, last_stands, stage_stands, IsProcess, is_closure, IsNames, AllFollow, none_follow, more_follow}
+use Rattle.sf_state.specs.Standing.{Wraps, kept_state, Turned, fired_to, kept_to, ran, went_on, Stands, itself, took_over, StandsItself, unborn, recalling, recalls, alive, watching, keeping_on, was_frozen, Waits, waits_so, recurs_so, WaitsKeeping, keeps_so, Settles, settles, Ready, ready, Lives, lives_probe, lives_join, lives_pipeline, lives_wrap, StagesStand, last_stands, stage_stands, IsProcess, is_closure, IsNames, AllFollow, none_follow, more_follow}
 
 -- whether a life has a step
 abbrev pub has_step : Life → Bool
@@ -113,10 +113,10 @@ module _ (φ : AnswersByName) (p : Plan) where
   pub same_keeps : (s r : Keeping) → r ≡ s → KeepingFollows s r
   same_keeps s r e P L S = subst (λ (s : Keeping). WaitsKeeping φ p s P L) (sym e) S
 
-  pub keeping_follows : {at at' : _} (names around : Env) (s r : Keeping) → NamesFollow names around → KeepingFollows s r → Follows (Keeping' names at s.shown s.first s.source s.observer s.name s.pattern s.body) (Keeping' around at' r.shown r.first r.source r.observer r.name r.pattern r.body)
-  keeping_follows {at} {at'} names around s r h f = itself_follows (Keeping' names at s.shown s.first s.source s.observer s.name s.pattern s.body) (Keeping' around at' r.shown r.first r.source r.observer r.name r.pattern r.body) step
+  pub keeping_follows : {at at' : _} (names around : Env) (s r : Keeping) → NamesFollow names around → KeepingFollows s r → Follows (Keeping' names at s.shown s.first s.source s.before s.observer s.name s.pattern s.body) (Keeping' around at' r.shown r.first r.source r.before r.observer r.name r.pattern r.body)
+  keeping_follows {at} {at'} names around s r h f = itself_follows (Keeping' names at s.shown s.first s.source s.before s.observer s.name s.pattern s.body) (Keeping' around at' r.shown r.first r.source r.before r.observer r.name r.pattern r.body) step
     where
-      step : (P : Process) (L : Life) → StandsItself φ p (Keeping' names at s.shown s.first s.source s.observer s.name s.pattern s.body) P L → StandsItself φ p (Keeping' around at' r.shown r.first r.source r.observer r.name r.pattern r.body) P L
+      step : (P : Process) (L : Life) → StandsItself φ p (Keeping' names at s.shown s.first s.source s.before s.observer s.name s.pattern s.body) P L → StandsItself φ p (Keeping' around at' r.shown r.first r.source r.before r.observer r.name r.pattern r.body) P L
       step P L (keeping_on N K) = keeping_on (h _ N) (f _ _ K)
 
   -- the same frozen part under another pointer
@@ -127,8 +127,8 @@ module _ (φ : AnswersByName) (p : Plan) where
       step : (P : Process) (L : Life) → StandsItself φ p (Frozen' at f.wait f.names f.node) P L → StandsItself φ p (Frozen' at' f.wait f.names f.node) P L
       step P L (was_frozen A) = was_frozen A
 
-  pub keep_follows : (s : Keeping) (a o : State) → Follows s.source a → Follows s.observer o → KeepingFollows s (record { shown = s.shown; first = s.first; source = a; observer = o; name = s.name; pattern = s.pattern; body = s.body })
-  keep_follows s a o f g P L (keeps_so S Z Y A B) = keeps_so S Z Y (f _ _ A) (g _ _ B)
+  pub keep_follows : (s : Keeping) (a x o : State) → Follows s.source a → Follows s.observer o → KeepingFollows s (record { shown = s.shown; first = s.first; source = a; before = x; observer = o; name = s.name; pattern = s.pattern; body = s.body })
+  keep_follows s a x o f g P L (keeps_so S Z Y A B) = keeps_so S Z Y (f _ _ A) (g _ _ B)
 
   pub switch_follows : (s : Switch) (a : State) → Follows s.running a → SwitchFollows s (record { form = s.form; running = a; pattern = s.pattern; body = s.body })
   switch_follows s a f P L (waits_so k S O A) = waits_so k S O (f _ _ A)
@@ -224,10 +224,10 @@ module _ (φ : AnswersByName) (p : Plan) where
       step : (P : Process) (L : Life) → StandsItself φ p (Watching' names at s.form s.running s.pattern s.body) P L → has_step L ≡ true
       step P L (watching N W) = refl
 
-  pub keeping_lived : {at : _} (names : Env) (s : Keeping) → HasLived (Keeping' names at s.shown s.first s.source s.observer s.name s.pattern s.body)
-  keeping_lived {at} names s = itself_lived (Keeping' names at s.shown s.first s.source s.observer s.name s.pattern s.body) step
+  pub keeping_lived : {at : _} (names : Env) (s : Keeping) → HasLived (Keeping' names at s.shown s.first s.source s.before s.observer s.name s.pattern s.body)
+  keeping_lived {at} names s = itself_lived (Keeping' names at s.shown s.first s.source s.before s.observer s.name s.pattern s.body) step
     where
-      step : (P : Process) (L : Life) → StandsItself φ p (Keeping' names at s.shown s.first s.source s.observer s.name s.pattern s.body) P L → has_step L ≡ true
+      step : (P : Process) (L : Life) → StandsItself φ p (Keeping' names at s.shown s.first s.source s.before s.observer s.name s.pattern s.body) P L → has_step L ≡ true
       step P L (keeping_on N K) = refl
 
   -- b stands for what a stands for, frozen
@@ -249,12 +249,17 @@ module _ (φ : AnswersByName) (p : Plan) where
   kept_around names around (KPrimitive i) N = λ P L A. A
   kept_around names around (KLive' at l) N = alive_follows names around l l N (λ P x L R. R)
   kept_around names around (KSwitch' at w a q b) N = let s : Switch = record { form = w; running = a; pattern = q; body = b } in watching_follows names around s s N (λ P L S. S)
-  kept_around names around (KKeeping' at w f a o i q b) N = let s : Keeping = record { shown = w; first = f; source = a; observer = o; name = i; pattern = q; body = b } in keeping_follows names around s s N (λ P L S. S)
+  kept_around names around (KKeeping' at w f a x o i q b) N = let s : Keeping = record { shown = w; first = f; source = a; before = x; observer = o; name = i; pattern = q; body = b } in keeping_follows names around s s N (λ P L S. S)
 
   -- a frozen node with the same names
   pub node_freezes : {at : _} (d : ℕ) (names around : Env) (k : Kept) (f : Frozen) → NamesFollow names around → f ≡ record { wait = d; names = around; node = k }
       → (P : Process) (s : Step) (h : Life) → Stands φ p (kept_state names k) P (s ∷ h) → Stands φ p (Frozen' at f.wait f.names f.node) (resumed P (s ∷ h) d) []
   node_freezes {at} d names around k f N same P s h A = subst (λ (f : Frozen). Stands φ p (Frozen' at f.wait f.names f.node) (resumed P (s ∷ h) d) []) (sym same) (itself (was_frozen (kept_around names around k N P (s ∷ h) A)))
+
+-- what holds of a success leads to what is asked of it
+pub where_ok : {A E : Type 0} {P Q : Type 0} (r : Result A E) → (P → Q) → OnOk r P → OnOk r Q
+where_ok (Ok a) f h = f h
+where_ok (Err e) f h = h
 
 -- a state that lived, frozen through one that follows it
 pub lived_frozen : {E : Type 0} (a b : State) (d : ℕ) (r : Result State E) → ((φ : AnswersByName) (p : Plan) → HasLived φ p a) → ((φ : AnswersByName) (p : Plan) → Follows φ p a b)

@@ -1,5 +1,5 @@
 -- What states stand for.
-use Rattle.std.specs.Prelude.{◌≡◌, ◌≢◌, ℕ, Bool, true, false, List, [], ◌∷◌, Option, Some, None, String, string_bytes}
+use Rattle.std.specs.Prelude.{◌≡◌, ℕ, Bool, true, false, List, [], ◌∷◌, Option, Some, None, String, string_bytes}
 use Rattle.std.specs.declared.alloc.Global.{Global}
 use Rattle.std.specs.declared.rc.Rc.{Rc}
 use Rattle.sf_value.specs.declared.value.Value.{Value}
@@ -12,7 +12,6 @@ use Rattle.sf_expr.specs.declared.exprs.PatternId.{PatternId}
 use Rattle.sf_expr.specs.Arena.{placed_at, name_at}
 use Rattle.sf_expr.specs.Evaluation.{answer}
 use Rattle.sf_term.specs.declared.form.Join.{Join}
-use Rattle.sf_term.specs.declared.form.Join.TheVariants.{InSequence}
 use Rattle.sf_term.specs.declared.form.Side.TheVariants.{First as OnFirst, Second as OnSecond}
 use Rattle.sf_term.specs.declared.form.Heading.TheVariants.{LoopPre, Initialized as WithInitial}
 use Rattle.sf_term.specs.declared.form.Observation.{Observation}
@@ -66,7 +65,7 @@ abbrev pub kept_state : Env → Kept → State
 kept_state names (KPrimitive i) = SPrimitive i
 kept_state names (KLive' at l) = Alive' names at l
 kept_state names (KSwitch' at w a q b) = Watching' names at w a q b
-kept_state names (KKeeping' at w t a o k q b) = Keeping' names at w t a o k q b
+kept_state names (KKeeping' at w t a x o k q b) = Keeping' names at w t a x o k q b
 
 -- whether a state is frozen
 abbrev pub is_frozen : State → Bool
@@ -74,7 +73,7 @@ is_frozen (Unborn' t names) = false
 is_frozen (SPrimitive i) = false
 is_frozen (Alive' names at l) = false
 is_frozen (Watching' names at w a q b) = false
-is_frozen (Keeping' names at w t a o k q b) = false
+is_frozen (Keeping' names at w t a x o k q b) = false
 is_frozen (Frozen' at d names k) = true
 
 -- A primitive recalls what it needs of a life.
@@ -131,9 +130,9 @@ mutual
     watching : {at : _} {names : Env} {w : Switching} {a : State} {q : PatternId} {b : PlanId} {t : Term} {e : Environment} {s : Step} {L : Life}
         → IsNames φ p names e → Waits φ p (record { form = w; running = a; pattern = q; body = b }) (closure t e) (s ∷ L)
         → StandsItself φ p (Watching' names at w a q b) (closure t e) (s ∷ L)
-    keeping_on : {at : _} {names : Env} {w : Observation} {f : PlanId} {a o : State} {k : NameId} {q : PatternId} {b : PlanId} {t : Term} {e : Environment} {s : Step} {L : Life}
-        → IsNames φ p names e → WaitsKeeping φ p (record { shown = w; first = f; source = a; observer = o; name = k; pattern = q; body = b }) (closure t e) (s ∷ L)
-        → StandsItself φ p (Keeping' names at w f a o k q b) (closure t e) (s ∷ L)
+    keeping_on : {at : _} {names : Env} {w : Observation} {f : PlanId} {a x o : State} {k : NameId} {q : PatternId} {b : PlanId} {t : Term} {e : Environment} {s : Step} {L : Life}
+        → IsNames φ p names e → WaitsKeeping φ p (record { shown = w; first = f; source = a; before = x; observer = o; name = k; pattern = q; body = b }) (closure t e) (s ∷ L)
+        → StandsItself φ p (Keeping' names at w f a x o k q b) (closure t e) (s ∷ L)
     -- frozen after a life, and not stepped since
     was_frozen : {at : _} {d : ℕ} {names : Env} {k : Kept} {P : Process} {s : Step} {h : Life}
         → Stands φ p (kept_state names k) P (s ∷ h) → StandsItself φ p (Frozen' at d names k) (resumed P (s ∷ h) d) []

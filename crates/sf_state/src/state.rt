@@ -1,5 +1,5 @@
 //! The states of networks.
-ghost use Rattle.std.specs.Prelude.{◌≡◌, [], ◌∷◌, false, IfOk};
+ghost use Rattle.std.specs.Prelude.{◌≡◌, [], ◌∷◌, false, IfOk, OnOk};
 ghost use Rattle.sf_value.specs.Values.{Data};
 ghost use Rattle.sf_func.specs.Registries.{AnswersByName};
 ghost use Rattle.sf_law.specs.declared.plan.Plan.{Plan};
@@ -62,6 +62,8 @@ pub struct Keeping {
     pub first: PlanId,
     /// What runs: the first term.
     pub source: State,
+    /// What ran, as it was before the last sample, in nodes that the next sample uses again.
+    pub before: State,
     /// What gives the event, on the inputs beside the values of what runs.
     pub observer: State,
     /// The name of what ran, frozen, in the body.
@@ -210,6 +212,26 @@ impl State {
             }
         }
     }
+
+    /// Makes this state stand for all that another one stands for: what is live there is copied into this one's own nodes,
+    /// where it has such and has them alone, so that it takes no memory for them; the rest is shared. No step of one of the
+    /// two changes the other. After an error, which is a want of memory or too many owners of one node, it stands for
+    /// nothing.
+    #[cycle(renew)]
+    pub fn renew(&mut self, alloc: Global, other: &State) -> Result<(), AllocError>
+        ensures { OnOk result ((φ : AnswersByName) (p : Plan) (P : ProcessOf) (L : Life) → Stands φ p other.now P L → Stands φ p self.new P L) }
+    {
+        if let State::Live(names, node) = other {
+            if let State::Live(around, own) = self {
+                if let Some(live) = Rc::get_mut(own) {
+                    *around = names.share()?;
+                    return live.renew(alloc, node);
+                }
+            }
+        }
+        *self = other.share(alloc)?;
+        Ok(())
+    }
 }
 
 // A node with these names around it, frozen.
@@ -252,6 +274,31 @@ impl Live {
             }
         }
     }
+
+    // The same of a node.
+    #[cycle(renew)]
+    fn renew(&mut self, alloc: Global, other: &Live) -> Result<(), AllocError>
+        ensures { OnOk result ((φ : AnswersByName) (p : Plan) (P : ProcessOf) (x : Data) (L : Life) → Ready φ p other.now P x L → Ready φ p self.new P x L) }
+    {
+        match other {
+            Live::Join(join, left, right) => {
+                if let Live::Join(own, first, second) = self {
+                    *own = *join;
+                    first.renew(alloc, left)?;
+                    return second.renew(alloc, right);
+                }
+            }
+            Live::Wrap(wrap, part) => {
+                if let Live::Wrap(kept, inner) = self {
+                    *kept = wrap.clone_in(alloc)?;
+                    return inner.renew(alloc, part);
+                }
+            }
+            _ => {}
+        }
+        *self = other.clone_in(alloc)?;
+        Ok(())
+    }
 }
 
 impl Switch {
@@ -283,7 +330,7 @@ impl Switch {
 }
 
 impl Keeping {
-    /// A copy of the node over the same states, which are shared.
+    /// A copy of the node over the same states, which are shared. What ran before the last sample is left out.
     pub fn clone_in(&self, alloc: Global) -> Result<Keeping, AllocError>
         ensures { IfOk result (λ copy. (φ : AnswersByName) (p : Plan) (P : ProcessOf) (L : Life) → WaitsKeeping φ p self.now P L → WaitsKeeping φ p copy P L) }
     {
@@ -293,6 +340,7 @@ impl Keeping {
             shown: self.shown,
             first: self.first,
             source,
+            before: State::unborn(self.first),
             observer,
             name: self.name,
             pattern: self.pattern,
@@ -301,18 +349,20 @@ impl Keeping {
     }
 
     /// Its body before the first sample, inside its pattern for the payload of an event, and around that the name of what
-    /// was frozen, which began as its first term, where these names are around the switch. The error is a want of memory, or too many owners.
+    /// ran before the event, frozen to go on `wait` milliseconds later, which began as its first term, where these names are
+    /// around the switch. The error is a want of memory, or too many owners.
     pub fn begin(
         &self,
         alloc: Global,
         names: &Env,
-        frozen: State,
+        wait: u64,
         payload: Rc<Value>,
     ) -> Result<State, AllocError>
-        ensures { IfOk result (λ begun. (φ : AnswersByName) (p : Plan) (e : Environment) (P : ProcessOf) → IsNames φ p names.now e → Stands φ p frozen P [] →
+        ensures { IfOk result (λ begun. (φ : AnswersByName) (p : Plan) (e : Environment) (P : ProcessOf) (L : Life) → IsNames φ p names.now e → Stands φ p self.now.before P L →
             base P ≡ closure (plan_tree p self.now.first) e → Stands φ p begun (closure (plan_tree p self.now.body)
-            (bind (pattern_of (placed_at (plan_expressions p) self.now.pattern)) payload.value (running (name_at (plan_expressions p) self.now.name) P e))) []) }
+            (bind (pattern_of (placed_at (plan_expressions p) self.now.pattern)) payload.value (running (name_at (plan_expressions p) self.now.name) (frozen_process P L wait) e))) []) }
     {
+        let frozen = self.before.freeze(alloc, wait)?;
         let outer = names.share()?;
         let base = Process {
             term: self.first,

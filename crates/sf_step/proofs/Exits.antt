@@ -1,5 +1,5 @@
 -- What each function of a sample answers, from what it calls.
-use Rattle.std.proofs.Common.{◌≡◌, ◌≢◌, ℕ, ◌+◌, ◌≤◌, List, [], ◌∷◌, ◌++◌, Option, Some, None, Result, Ok, Err, refl, sym, ap, ◌∙◌, subst, arith}
+use Rattle.std.proofs.Common.{◌≡◌, ℕ, ◌+◌, ◌≤◌, List, [], ◌∷◌, ◌++◌, Option, None, Result, Ok, Err, refl, sym, ap, ◌∙◌, subst, arith}
 use mathlib.Core.Path.{ap₂}
 use Rattle.std.specs.Prelude.{IsErrAnd, IfOk, All, Vec, String, string_bytes}
 use Rattle.std.specs.declared.rc.Rc.{Rc}
@@ -25,7 +25,6 @@ use Rattle.sf_operator.specs.declared.fault.EvalFault.{EvalFault}
 use Rattle.sf_operator.specs.declared.fault.EvalFault.TheVariants.{Value as EValue, Memory as EMemory}
 use Rattle.sf_term.specs.declared.form.Bare.TheVariants.{Identity}
 use Rattle.sf_term.specs.declared.form.Join.{Join}
-use Rattle.sf_term.specs.declared.form.Join.TheVariants.{InSequence, InParallel, FannedOut}
 use Rattle.sf_term.specs.declared.form.Side.{Side}
 use Rattle.sf_term.specs.declared.form.Heading.{Heading}
 use Rattle.sf_law.specs.declared.node.PlanId.{PlanId}
@@ -56,7 +55,7 @@ use Rattle.sf_state.specs.declared.env.Env.{Env}
 use Rattle.sf_state.specs.declared.env.Env.TheVariants.{Empty as SEmpty}
 use Rattle.sf_state.specs.declared.env.Running.{Running}
 use Rattle.sf_state.specs.Names.{values_around}
-use Rattle.sf_state.specs.Standing.{Stands, itself, StandsItself, unborn, Recalls, recalls, recalling, alive, watching, keeping_on, Waits, waits_so, recurs_so, WaitsKeeping, keeps_so, Settles, settles, IsFound, Ready, ready, lives_probe, lives_join, lives_wrap, Wraps, IsProcess, is_closure, IsNames, is_empty}
+use Rattle.sf_state.specs.Standing.{Stands, itself, StandsItself, unborn, Recalls, recalls, recalling, alive, watching, keeping_on, waits_so, recurs_so, keeps_so, Settles, settles, IsFound, Ready, ready, lives_probe, lives_join, lives_wrap, Wraps, IsProcess, is_closure, IsNames, is_empty}
 use Rattle.sf_state.proofs.Scopes.{functions_around, scope_is}
 use Rattle.sf_step.specs.declared.sample.Opened.{Opened}
 use Rattle.sf_step.specs.declared.sample.Opened.TheVariants as opened
@@ -271,7 +270,7 @@ module _ (φ : AnswersByName) (p : Plan) where
   pub switch_is : {at : _} (names : Env) (k : Switch) → IsPrepared (Watching' names at k.form k.running k.pattern k.body)
   switch_is names k P L (watching N W) = switch_prepared N W
 
-  pub keeping_is : {at : _} (names : Env) (k : Keeping) → IsPrepared (Keeping' names at k.shown k.first k.source k.observer k.name k.pattern k.body)
+  pub keeping_is : {at : _} (names : Env) (k : Keeping) → IsPrepared (Keeping' names at k.shown k.first k.source k.before k.observer k.name k.pattern k.body)
   keeping_is names k P L (keeping_on N W) = keeping_prepared N W
 
   -- such a state counts, and steps
@@ -385,10 +384,10 @@ module _ (φ : AnswersByName) (p : Plan) where
   open_switch (Recurring w) a b q t names around builds_switching g e N = opens_watching (recurs_so refl not_begun (itself (unborn (is_closure (g e N)))))
 
   -- and so does one that keeps its source, whose observer isn't born either
-  pub open_keeping : (w : Observation) (a b c : PlanId) (k : NameId) (q : PatternId) (t : Term) (names one two : Env) → BuildsPlan p (NKeeping w a b k q c) t
+  pub open_keeping : (w : Observation) (a b c : PlanId) (k : NameId) (q : PatternId) (t : Term) (names one two : Env) (x : State) → BuildsPlan p (NKeeping w a b k q c) t
       → ((e : Environment) → IsNames φ p names e → IsNames φ p one e) → ((e : Environment) → IsNames φ p names e → IsNames φ p two e)
-      → (e : Environment) → IsNames φ p names e → Opens φ p t e (Ok (opened.Keeping (record { shown = w; first = a; source = Unborn (SClosure a one); observer = Unborn (SClosure b two); name = k; pattern = q; body = c })))
-  open_keeping w a b c k q t names one two builds_keeping f g e N =
+      → (e : Environment) → IsNames φ p names e → Opens φ p t e (Ok (opened.Keeping (record { shown = w; first = a; source = Unborn (SClosure a one); before = x; observer = Unborn (SClosure b two); name = k; pattern = q; body = c })))
+  open_keeping w a b c k q t names one two x builds_keeping f g e N =
       opens_keeping (keeps_so at_start not_begun not_begun (itself (unborn (is_closure (f e N)))) (itself (unborn (is_closure (g e N)))))
 
   pub open_started : (w : Start) (k : NameId) (t : Term) (names : Env) (a : State) → BuildsPlan p (NStarted w k) t
@@ -442,10 +441,10 @@ module _ (φ : AnswersByName) (p : Plan) where
       by (opens_watching W) = begins_itself (switch_prepared N W)
 
   pub begin_keeping : {at : _} {t : Term} (k kept : Keeping) (names : Env) → kept ≡ k → ((e : Environment) → IsNames φ p names e → Opens φ p t e (Ok (opened.Keeping k))) → (e : Environment) → IsNames φ p names e
-      → BeginsAs φ p t e (Keeping' names at kept.shown kept.first kept.source kept.observer kept.name kept.pattern kept.body) (Ok begun.Itself)
-  begin_keeping {at} {t} k kept names same h e N = subst (λ (k : Keeping). BeginsAs φ p t e (Keeping' names at k.shown k.first k.source k.observer k.name k.pattern k.body) (Ok begun.Itself)) (sym same) (by (h e N))
+      → BeginsAs φ p t e (Keeping' names at kept.shown kept.first kept.source kept.before kept.observer kept.name kept.pattern kept.body) (Ok begun.Itself)
+  begin_keeping {at} {t} k kept names same h e N = subst (λ (k : Keeping). BeginsAs φ p t e (Keeping' names at k.shown k.first k.source k.before k.observer k.name k.pattern k.body) (Ok begun.Itself)) (sym same) (by (h e N))
     where
-      by : {t : Term} → Opens φ p t e (Ok (opened.Keeping k)) → BeginsAs φ p t e (Keeping' names at k.shown k.first k.source k.observer k.name k.pattern k.body) (Ok begun.Itself)
+      by : {t : Term} → Opens φ p t e (Ok (opened.Keeping k)) → BeginsAs φ p t e (Keeping' names at k.shown k.first k.source k.before k.observer k.name k.pattern k.body) (Ok begun.Itself)
       by (opens_keeping W) = begins_itself (keeping_prepared N W)
 
   pub begin_referred : {t : Term} (a : State) (names : Env) → ((e : Environment) → IsNames φ p names e → Opens φ p t e (Ok (opened.Running a))) → (e : Environment) → IsNames φ p names e → BeginsAs φ p t e a (Ok begun.Referred)

@@ -13,7 +13,6 @@ use Rattle.sf_term.specs.Trees.{Term, keeping}
 use Rattle.sf_mean.specs.Lives.{Step, step, Life, Process, closure, base, frozen, running, bind, Environment, observed_life}
 use Rattle.sf_mean.specs.Formulas.{occurring}
 use Rattle.sf_mean.specs.Meaning.{Network, Outcome, gave, faulted, combined, value_in, Cost, no_cost, both_costs, over, text_cost, Made, nothing_made, observed, body_with, waits, stands_after, switched_value, Gives, gives, Outputs, and_gave, of_form, Form, of_keeping, Next, goes_on, stops, Sees, by_observer, Since, watched, while_waiting, after_value, Fires, no_event_yet, event_now}
-use Rattle.sf_mean.proofs.Refrozen.{frozen_base}
 use Rattle.sf_mean.proofs.Once.{once_since, once_sees, onces}
 use Rattle.sf_law.specs.declared.plan.Plan.{Plan}
 use Rattle.sf_law.specs.Arena.{plan_tree, plan_expressions, network_of_plan}
@@ -72,6 +71,10 @@ module _ (φ : AnswersByName) (p : Plan) where
     keeping_alike : Alike (SeenRel φ p w (Sees net (observed (closure t e) r e) s L) (body_with c (closure t e) q u e s L) s) (Form net (keeping w t r c q u) e m s L)
     keeping_alike = record { to = seen_to; back = seen_back }
 
+  -- a state steps as one that stands for all that it stands for
+  pub runs_alike : {a b : State} {s : Step} {r : Result (State × Data) Fault} {m n : Meter} {depth : ℕ} → ((P : Process) (L : Life) → Stands φ p a P L → Stands φ p b P L) → StateSteps φ p b s r m n depth → StateSteps φ p a s r m n depth
+  runs_alike f h P L A = h P L (f P L A)
+
   -- ## A step of a switch that keeps its source
 
   module _ (names : Env) (k : Keeping) (d : ℕ) (x : Data) (n n1 : Meter) (inside : ℕ) where
@@ -121,9 +124,9 @@ module _ (φ : AnswersByName) (p : Plan) where
               part_within T S O OY (spent_within (single_both (step d x) L OY) (then_on one.given two.given) (both_spent one.spent two.spent) en hn)
 
           -- there is no event
-          pub keeps_on : occurring z ≡ None → (k' : Keeping) → k' ≡ record { shown = k.shown; first = k.first; source = a; observer = o; name = k.name; pattern = k.pattern; body = k.body }
+          pub keeps_on : occurring z ≡ None → (x' : State) (k' : Keeping) → k' ≡ record { shown = k.shown; first = k.first; source = a; before = x'; observer = o; name = k.name; pattern = k.pattern; body = k.body }
               → KeepingSteps φ p names k (step d x) (Ok ((None, k'), y)) n n2 inside
-          keeps_on none k' ek m depth T t e L N (keeps_so {r = r} S O OY A B) =
+          keeps_on none x' k' ek m depth T t e L N (keeps_so {r = r} S O OY A B) =
               let source = plan_tree p k.first in
               let one = answered (hs _ _ A) in
               let two = answered (on_both ho _ _ B) in
@@ -139,9 +142,9 @@ module _ (φ : AnswersByName) (p : Plan) where
               (subst (λ (k' : Keeping). WaitsKeeping φ p k' (closure (keeping k.shown source r c q u) e) (step d x ∷ L)) (sym ek)
               (keeps_so (watched S seen (ap (stands_after b (step d x) L) none)) (and_gave O G) (gave_outputs net OY one.given) one.holds two.holds))
 
-          module _ (i : Data) (some : occurring z ≡ Some i) (before b0 : State) (held : (P : Process) (L : Life) → Stands φ p k.source P L → Stands φ p before (frozen P L d) [])
-              (ha : (e : Environment) (P : Process) → IsNames φ p names e → Stands φ p before P [] → base P ≡ closure (plan_tree p k.first) e
-              → Stands φ p b0 (closure (plan_tree p k.body) (bind (pattern_of (placed_at (plan_expressions p) k.pattern)) i (running (name_at (plan_expressions p) k.name) P e))) [])
+          module _ (i : Data) (some : occurring z ≡ Some i) (b0 : State)
+              (ha : (e : Environment) (P : Process) (L : Life) → IsNames φ p names e → Stands φ p k.source P L → base P ≡ closure (plan_tree p k.first) e
+              → Stands φ p b0 (closure (plan_tree p k.body) (bind (pattern_of (placed_at (plan_expressions p) k.pattern)) i (running (name_at (plan_expressions p) k.name) (frozen P L d) e))) [])
               (j : Data) (ej : j ≡ x) (n3 : Meter) where
             on_input : {r : Result (State × Data) Fault} → StateSteps φ p b0 (step d j) r n2 n3 inside → StateSteps φ p b0 (step d x) r n2 n3 inside
             on_input {r} h = subst (λ j. StateSteps φ p b0 (step d j) r n2 n3 inside) ej h
@@ -154,7 +157,7 @@ module _ (φ : AnswersByName) (p : Plan) where
                 let one = answered (hs _ _ A) in
                 let two = answered (on_both ho _ _ B) in
                 let b = body_with (name_at (plan_expressions p) k.name) (closure source e) (pattern_of (placed_at (plan_expressions p) k.pattern)) (plan_tree p k.body) e (step d x) L in
-                let H = fails_alike (way_alike φ p b (step d x) y i (occurring z) some) (failed (on_input hb _ [] (ha e _ N (held _ _ A) (frozen_base (closure source e) L d)))) in
+                let H = fails_alike (way_alike φ p b (step d x) y i (occurring z) some) (failed (on_input hb _ [] (ha e _ _ N A refl))) in
                 part_fails T S O OY (rest_fails (λ y. Beside φ p b (step d x) (first_of y) (occurring (second_of y))) (single_both (step d x) L OY) (then_on one.given two.given) (both_spent one.spent two.spent) H)
 
             -- the body takes over
@@ -164,7 +167,7 @@ module _ (φ : AnswersByName) (p : Plan) where
                 let source = plan_tree p k.first in
                 let one = answered (hs _ _ A) in
                 let two = answered (on_both ho _ _ B) in
-                let three = answered (on_input hb _ [] (ha e _ N (held _ _ A) (frozen_base (closure source e) L d))) in
+                let three = answered (on_input hb _ [] (ha e _ _ N A refl)) in
                 let c = name_at (plan_expressions p) k.name in
                 let q = pattern_of (placed_at (plan_expressions p) k.pattern) in
                 let u = plan_tree p k.body in

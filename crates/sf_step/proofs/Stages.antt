@@ -10,7 +10,7 @@ use Rattle.sf_value.specs.declared.fault.Fault.{Fault}
 use Rattle.sf_term.specs.declared.form.Join.TheVariants.{InSequence}
 use Rattle.sf_term.specs.Trees.{whole, rest, Term, staged}
 use Rattle.sf_mean.specs.Lives.{Step, step, Life, Process, closure, Environment, first_input, relay}
-use Rattle.sf_mean.specs.Meaning.{Network, Outcome, gave, faulted, combined, value_in, Cost, both_costs, over, text_cost, Made, nothing_made, join_value, Gives, gives, Outputs, not_begun, and_gave, of_form, Form, of_join, of_stages, Next, goes_on, stops}
+use Rattle.sf_mean.specs.Meaning.{Network, Outcome, gave, faulted, combined, value_in, Cost, both_costs, over, text_cost, Made, nothing_made, join_value, Gives, gives, Outputs, not_begun, and_gave, of_form, Form, of_stages, Next, goes_on, stops}
 use Rattle.sf_mean.proofs.Once.{onces}
 use Rattle.sf_func.specs.Registries.{AnswersByName}
 use Rattle.sf_law.specs.declared.plan.Plan.{Plan}

@@ -23,7 +23,6 @@ use Rattle.sf_state.specs.declared.env.Env.{Env}
 use Rattle.sf_state.specs.Standing.{IsNames, Turned, fired_to, kept_to, ran, went_on, Stands, itself, took_over, StandsItself, watching, keeping_on, was_frozen, kept_state, Waits, WaitsKeeping}
 use Rattle.sf_step.specs.declared.sample.Begun.TheVariants as begun
 use Rattle.sf_step.specs.declared.meter.Meter.{Meter}
-use Rattle.sf_step.specs.Meters.{entered_of, height_of}
 use Rattle.sf_step.specs.Sampling.{Rel, Ticks, StopsFor, Answers, answers, fails, Prepared, switch_prepared, keeping_prepared, CountedSteps, BeginsAs, begins_referred, PartSteps, StateSteps, Waiting, StandsFor, WaitingSteps, left_beside}
 use Rattle.sf_step.proofs.Parts.{Over, counted, Alike, over_spent, fails_alike, over_fails, answered, failed}
 use Rattle.sf_step.proofs.Forms.{gave_outputs, gives_form}
@@ -186,13 +185,13 @@ module _ (φ : AnswersByName) (p : Plan) where
   is_watching : {at : _} (names : Env) (k : Switch) → IsWaiting (Waits φ p) names k (Watching' names at k.form k.running k.pattern k.body)
   is_watching names k t e s L N S = watching N S
 
-  is_keeping : {at : _} (names : Env) (k : Keeping) → IsWaiting (WaitsKeeping φ p) names k (Keeping' names at k.shown k.first k.source k.observer k.name k.pattern k.body)
+  is_keeping : {at : _} (names : Env) (k : Keeping) → IsWaiting (WaitsKeeping φ p) names k (Keeping' names at k.shown k.first k.source k.before k.observer k.name k.pattern k.body)
   is_keeping names k t e s L N S = keeping_on N S
 
   seen_watching : {at : _} (names : Env) (k : Switch) (P : Process) (L : Life) → Prepared φ p (Watching' names at k.form k.running k.pattern k.body) P L → WaitsAt (Waits φ p) names k P L
   seen_watching names k P L (switch_prepared N S) = waits_at N S
 
-  seen_keeping : {at : _} (names : Env) (k : Keeping) (P : Process) (L : Life) → Prepared φ p (Keeping' names at k.shown k.first k.source k.observer k.name k.pattern k.body) P L → WaitsAt (WaitsKeeping φ p) names k P L
+  seen_keeping : {at : _} (names : Env) (k : Keeping) (P : Process) (L : Life) → Prepared φ p (Keeping' names at k.shown k.first k.source k.before k.observer k.name k.pattern k.body) P L → WaitsAt (WaitsKeeping φ p) names k P L
   seen_keeping names k P L (keeping_prepared N S) = waits_at N S
 
   module _ (at : _) (names : Env) (k own : Switch) (follows : (P : Process) (L : Life) → Waits φ p k P L → Waits φ p own P L) (s : Step) (n n' : Meter) (inside : ℕ) where
@@ -208,12 +207,12 @@ module _ (φ : AnswersByName) (p : Plan) where
 
   module _ (at : _) (names : Env) (k own : Keeping) (follows : (P : Process) (L : Life) → WaitsKeeping φ p k P L → WaitsKeeping φ p own P L) (s : Step) (n n' : Meter) (inside : ℕ) where
     pub keeping_goes : (o : Option State) (b : State) (k' : Keeping) (v : Data) → o ≡ Some b → WaitingSteps φ p (WaitsKeeping φ p) names own s (Ok ((o, k'), v)) n n' inside
-        → CountedSteps φ p (Keeping' names at k.shown k.first k.source k.observer k.name k.pattern k.body) s (Ok (b, v)) n n' inside
+        → CountedSteps φ p (Keeping' names at k.shown k.first k.source k.before k.observer k.name k.pattern k.body) s (Ok (b, v)) n n' inside
     keeping_goes o b k' v is h = goes_over (WaitsKeeping φ p) names k own follows _ s n n' inside (seen_keeping names k) o b k' v is h
 
     pub keeping_stays : (at' : _) (o : Option State) (k' : Keeping) (v : Data) → o ≡ None → WaitingSteps φ p (WaitsKeeping φ p) names own s (Ok ((o, k'), v)) n n' inside
-        → CountedSteps φ p (Keeping' names at k.shown k.first k.source k.observer k.name k.pattern k.body) s (Ok (Keeping' names at' k'.shown k'.first k'.source k'.observer k'.name k'.pattern k'.body, v)) n n' inside
+        → CountedSteps φ p (Keeping' names at k.shown k.first k.source k.before k.observer k.name k.pattern k.body) s (Ok (Keeping' names at' k'.shown k'.first k'.source k'.before k'.observer k'.name k'.pattern k'.body, v)) n n' inside
     keeping_stays at' o k' v none h = stays_on (WaitsKeeping φ p) names k own follows _ s n n' inside (seen_keeping names k) o _ k' v none (is_keeping names k') h
 
-    pub keeping_fails : (f : Fault) → WaitingSteps φ p (WaitsKeeping φ p) names own s (Err f) n n' inside → CountedSteps φ p (Keeping' names at k.shown k.first k.source k.observer k.name k.pattern k.body) s (Err f) n n' inside
+    pub keeping_fails : (f : Fault) → WaitingSteps φ p (WaitsKeeping φ p) names own s (Err f) n n' inside → CountedSteps φ p (Keeping' names at k.shown k.first k.source k.before k.observer k.name k.pattern k.body) s (Err f) n n' inside
     keeping_fails f h = waiting_fails (WaitsKeeping φ p) names k own follows _ s n n' inside (seen_keeping names k) f h

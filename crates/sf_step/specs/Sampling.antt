@@ -142,9 +142,9 @@ pub data Prepared (φ : AnswersByName) (p : Plan) : State → Process → Life �
       → IsNames φ p names e → ((s : Step) → Ready φ p l (closure t e) (first_input s L) L) → Prepared φ p (Alive' names at l) (closure t e) L
   switch_prepared : {at : _} {names : Env} {w : Switching} {a : State} {q : PatternId} {b : PlanId} {t : Term} {e : Environment} {L : Life}
       → IsNames φ p names e → Waits φ p (record { form = w; running = a; pattern = q; body = b }) (closure t e) L → Prepared φ p (Watching' names at w a q b) (closure t e) L
-  keeping_prepared : {at : _} {names : Env} {w : Observation} {f : PlanId} {a o : State} {k : NameId} {q : PatternId} {b : PlanId} {t : Term} {e : Environment} {L : Life}
-      → IsNames φ p names e → WaitsKeeping φ p (record { shown = w; first = f; source = a; observer = o; name = k; pattern = q; body = b }) (closure t e) L
-      → Prepared φ p (Keeping' names at w f a o k q b) (closure t e) L
+  keeping_prepared : {at : _} {names : Env} {w : Observation} {f : PlanId} {a x o : State} {k : NameId} {q : PatternId} {b : PlanId} {t : Term} {e : Environment} {L : Life}
+      → IsNames φ p names e → WaitsKeeping φ p (record { shown = w; first = f; source = a; before = x; observer = o; name = k; pattern = q; body = b }) (closure t e) L
+      → Prepared φ p (Keeping' names at w f a x o k q b) (closure t e) L
 
 -- a state that counted between m and n steps to the outcome of its process on the longer life, where its parts stand inside so
 -- many nodes

@@ -1,12 +1,12 @@
 //! One sample.
-ghost use Rattle.std.specs.Prelude.{◌≡◌, ◌≤◌, ℕ, [], ◌∷◌, None, IfOk, Ok};
+ghost use Rattle.std.specs.Prelude.{◌≡◌, ◌≤◌, ℕ, [], ◌∷◌, None, IfOk, OnOk, Ok};
 ghost use Rattle.sf_value.specs.Values.{Data, pair};
 ghost use Rattle.sf_func.specs.Registries.{AnswersByName};
 ghost use Rattle.sf_expr.specs.Evaluation.{answer};
 ghost use Rattle.sf_law.specs.declared.plan.Plan.{Plan as PlanOf};
 ghost use Rattle.sf_term.specs.Trees.{Term, joined as joined_term};
 ghost use Rattle.sf_law.specs.Arena.{plan_tree, network_of_plan};
-ghost use Rattle.sf_mean.specs.Lives.{step, frozen as frozen_process, Life, Process as ProcessOf, Environment};
+ghost use Rattle.sf_mean.specs.Lives.{step, Life, Process as ProcessOf, Environment};
 ghost use Rattle.sf_mean.specs.Meaning.{Made, make};
 ghost use Rattle.sf_state.specs.Standing.{Stands, IsNames, Wraps};
 ghost use Rattle.sf_step.specs.Contexts.{plan_in, dt_in};
@@ -328,14 +328,12 @@ fn step_keeping<R: Holds>(
     ensures answers { KeepingSteps (R.answers context.now.functions.now) (plan_in context.now) names.now keeping.old (step (dt_in context.now) value.old)
         (left_beside result keeping.new value.new (fault_in meter.new)) meter.old meter.new inside }
 {
-    let Ok(before) = capture(context.alloc, context.dt, &keeping.source, &*value) else {
+    let Ok(()) = hold_back(context.alloc, &mut keeping.source, &mut keeping.before) else {
         return Err(meter.stop(Fault::Memory));
     };
-    let Captured {
-        frozen,
-        input,
-        mut output,
-    } = before;
+    let Ok((input, mut output)) = copies(context.alloc, &*value) else {
+        return Err(meter.stop(Fault::Memory));
+    };
     step_state(context, &mut keeping.source, inside, value, meter)?;
     let Ok(mut seen) = beside(context.alloc, input, &*value) else {
         return Err(meter.stop(Fault::Memory));
@@ -344,7 +342,7 @@ fn step_keeping<R: Holds>(
     match payload_of(seen) {
         None => Ok(None),
         Some(payload) => {
-            let Ok(mut successor) = keeping.begin(context.alloc, names, frozen, payload) else {
+            let Ok(mut successor) = keeping.begin(context.alloc, names, context.dt, payload) else {
                 return Err(meter.stop(Fault::Memory));
             };
             step_state(context, &mut successor, inside, &mut output, meter)?;
@@ -615,28 +613,21 @@ fn step_probe<R: Holds>(
     }
 }
 
-/// What a switch holds of the time before its sample: what runs, frozen, and the input for its observer and its body.
-#[derive(Drop)]
-struct Captured {
-    frozen: State,
-    input: Value,
-    output: Value,
+// Before a sample: what runs goes on in nodes of its own, and what it was takes the place of what it was before.
+fn hold_back(alloc: Global, source: &mut State, before: &mut State) -> Result<(), AllocError>
+    ensures held { OnOk result (before.new ≡ source.old) }
+    ensures runs_on { OnOk result ((φ : AnswersByName) (p : PlanOf) (P : ProcessOf) (L : Life) → Stands φ p source.old P L → Stands φ p source.new P L) }
+{
+    before.renew(alloc, source)?;
+    mem::swap(source, before);
+    Ok(())
 }
 
-// What runs, as it is before a sample, and the sample's input twice.
-fn capture(alloc: Global, dt: u64, source: &State, input: &Value) -> Result<Captured, AllocError>
-    ensures frozen { IfOk result (λ c. (φ : AnswersByName) (p : PlanOf) (P : ProcessOf) (L : Life) → Stands φ p source.now P L → Stands φ p c.frozen (frozen_process P L dt) []) }
-    ensures input { IfOk result (λ c. c.input ≡ input.now) }
-    ensures output { IfOk result (λ c. c.output ≡ input.now) }
+// A sample's input twice, for the observer of a switch and for its body.
+fn copies(alloc: Global, input: &Value) -> Result<(Value, Value), AllocError>
+    ensures { IfOk result (λ both. (both.0 ≡ input.now) × (both.1 ≡ input.now)) }
 {
-    let frozen = source.freeze(alloc, dt)?;
-    let first = input.clone_in(alloc)?;
-    let second = input.clone_in(alloc)?;
-    Ok(Captured {
-        frozen,
-        input: first,
-        output: second,
-    })
+    Ok((input.clone_in(alloc)?, input.clone_in(alloc)?))
 }
 
 // The input beside a copy of a value.
@@ -772,6 +763,7 @@ fn open<R: Holds>(context: &SampleContext<R>, term: PlanId, names: &Env) -> Resu
                     term: *source,
                     names: one,
                 }),
+                before: State::unborn(*source),
                 observer: State::Unborn(Process {
                     term: *observer,
                     names: two,

@@ -3,7 +3,7 @@ use Rattle.std.specs.Option.{option_map}
 use Rattle.sf_expr.specs.Arena.{name_at}
 use Rattle.sf_law.specs.Arena.{plan_expressions}
 use Rattle.sf_mean.specs.Lives.{process_of}
-use Rattle.sf_state.specs.Standing.{Stands, IsFound, itself, unborn}
+use Rattle.sf_state.specs.Standing.{IsFound, itself, unborn}
 use Rattle.sf_step.proofs.Exits.{when_ok, passing_process}
 use Rattle.sf_step.proofs.calling.started.Goals as goal
 

@@ -1,4 +1,4 @@
-use Rattle.std.proofs.Common.{◌≡◌, [], length, Ok, Err, refl, ap, ◌∙◌, subst, arith}
+use Rattle.std.proofs.Common.{◌≡◌, length, Ok, Err, refl, ap, ◌∙◌, subst, arith}
 use Rattle.std.specs.Vec.{with_items}
 use Rattle.std.proofs.lemmas.List.{with_items_is}
 use Rattle.sf_state.specs.declared.state.Wrap.TheVariants.{Loop, Initialized}
@@ -13,7 +13,7 @@ use Rattle.sf_step.specs.Sampling.{left_or, StateSteps}
 use Rattle.sf_step.proofs.Parts.{pass_exit, failed, memory_exit}
 use Rattle.sf_step.proofs.Recurring.{run_fails, run_memory, new_fails, new_runs, runs_alone}
 use Rattle.sf_step.proofs.Switches.{comes_some, comes_none, source_fails, switch_memory, switch_waits_on, body_fails, body_takes_over}
-use Rattle.sf_step.proofs.Keeping.{kept_fails, kept_memory, observer_fails, observer_memory, keeps_on, kept_body_fails, kept_body_takes_over, some_occurs, none_occurs}
+use Rattle.sf_step.proofs.Keeping.{runs_alike, kept_fails, kept_memory, observer_fails, observer_memory, keeps_on, kept_body_fails, kept_body_takes_over, some_occurs, none_occurs}
 use Rattle.sf_step.proofs.Turning.{frozen_steps, pass_beside, watching_goes, watching_stays, watching_fails, keeping_goes, keeping_stays, keeping_fails}
 use Rattle.sf_step.proofs.Stages.{StagesStep, continues_first, continues_next, continues_fails, continues_last, pipeline_steps, pipeline_fails}
 use Rattle.sf_step.proofs.Exits.{ticked_by, tick_fails, first_memory, join_left_fails, join_right_fails, join_steps, join_last, wrap_fails, wrap_steps, early_memory, late_memory, primitive_counted, live_counted, own_steps, primitive_is, live_is, switch_is, keeping_is, counted_steps, begun_steps, begun_runs, begun_fails}
@@ -429,45 +429,48 @@ step_other-returns-in-Ok-clause-answers g t c = λ P L A.
 pub step_keeping-returns-in_default-clause-answers : goal.step_keeping-returns-in_default-clause-answers
 step_keeping-returns-in_default-clause-answers g t c = λ m depth t T e L N W. early_memory (g.R.Holds.answers c.args.context.now.functions.now) c.args.context.now.plan.now t c.stop.ensures.entered c.stop.ensures.height c.stop.ensures.fault
 
+pub step_keeping-returns-in_default-copies-clause-answers : goal.step_keeping-returns-in_default-copies-clause-answers
+step_keeping-returns-in_default-copies-clause-answers g t c = λ m depth t T e L N W. early_memory (g.R.Holds.answers c.args.context.now.functions.now) c.args.context.now.plan.now t c.stop-in_default-copies.ensures.entered c.stop-in_default-copies.ensures.height c.stop-in_default-copies.ensures.fault
+
 pub step_keeping-returns-in_err-step_state-clause-answers : goal.step_keeping-returns-in_err-step_state-clause-answers
 step_keeping-returns-in_err-step_state-clause-answers g t c = λ m depth t T e L N W.
     pass_beside (g.R.Holds.answers c.args.context.now.functions.now) c.args.context.now.plan.now _ _ _ c.from_residual.ensures.0 (kept_fails (g.R.Holds.answers c.args.context.now.functions.now) c.args.context.now.plan.now c.args.names.now c.args.keeping.now c.args.context.now.dt c.args.value.now c.args.meter.now c.step_state.new.meter c.args.inside
-    _ c.in_err-step_state.ensures.answers m depth t T e L N W)
+    _ (runs_alike (g.R.Holds.answers c.args.context.now.functions.now) c.args.context.now.plan.now (c.in-Ok.ensures.runs_on (g.R.Holds.answers c.args.context.now.functions.now) c.args.context.now.plan.now) c.in_err-step_state.ensures.answers) m depth t T e L N W)
 
 pub step_keeping-returns-in_default-beside-clause-answers : goal.step_keeping-returns-in_default-beside-clause-answers
 step_keeping-returns-in_default-beside-clause-answers g t c = λ m depth t T e L N W.
     memory_exit c.stop-in_default-beside.ensures.fault (kept_memory (g.R.Holds.answers c.args.context.now.functions.now) c.args.context.now.plan.now c.args.names.now c.args.keeping.now c.args.context.now.dt c.args.value.now c.args.meter.now c.step_state.new.meter c.args.inside
-    c.step_state.new.state c.step_state.new.value c.in_ok-step_state.ensures.answers _ c.stop-in_default-beside.ensures.entered c.stop-in_default-beside.ensures.height m depth t T e L N W)
+    c.step_state.new.state c.step_state.new.value (runs_alike (g.R.Holds.answers c.args.context.now.functions.now) c.args.context.now.plan.now (c.in-Ok.ensures.runs_on (g.R.Holds.answers c.args.context.now.functions.now) c.args.context.now.plan.now) c.in_ok-step_state.ensures.answers) _ c.stop-in_default-beside.ensures.entered c.stop-in_default-beside.ensures.height m depth t T e L N W)
 
 pub step_keeping-returns-in_err-step_state-2-clause-answers : goal.step_keeping-returns-in_err-step_state-2-clause-answers
 step_keeping-returns-in_err-step_state-2-clause-answers g t c = λ m depth t T e L N W.
     pass_beside (g.R.Holds.answers c.args.context.now.functions.now) c.args.context.now.plan.now _ _ _ c.from_residual-in_err-step_state-2.ensures.0 (observer_fails (g.R.Holds.answers c.args.context.now.functions.now) c.args.context.now.plan.now c.args.names.now c.args.keeping.now c.args.context.now.dt c.args.value.now c.args.meter.now c.step_state.new.meter c.args.inside
-    c.step_state.new.state c.step_state.new.value c.in_ok-step_state.ensures.answers c.in-Ok-beside.seen (rw c.in-Ok.ensures.input at c.in-Ok-beside.ensures) c.step_state-2.new.meter
+    c.step_state.new.state c.step_state.new.value (runs_alike (g.R.Holds.answers c.args.context.now.functions.now) c.args.context.now.plan.now (c.in-Ok.ensures.runs_on (g.R.Holds.answers c.args.context.now.functions.now) c.args.context.now.plan.now) c.in_ok-step_state.ensures.answers) c.in-Ok-beside.seen (rw c.in-Ok-copies.ensures.0 at c.in-Ok-beside.ensures) c.step_state-2.new.meter
     _ c.in_err-step_state-2.ensures.answers m depth t T e L N W)
 
 pub step_keeping-returns-in-None-clause-answers : goal.step_keeping-returns-in-None-clause-answers
 step_keeping-returns-in-None-clause-answers g t c =
     keeps_on (g.R.Holds.answers c.args.context.now.functions.now) c.args.context.now.plan.now c.args.names.now c.args.keeping.now c.args.context.now.dt c.args.value.now c.args.meter.now c.step_state.new.meter c.args.inside
-    c.step_state.new.state c.step_state.new.value c.in_ok-step_state.ensures.answers c.in-Ok-beside.seen (rw c.in-Ok.ensures.input at c.in-Ok-beside.ensures) c.step_state-2.new.meter
-    c.step_state-2.new.state c.step_state-2.new.value c.in_ok-step_state-2.ensures.answers (none_occurs _ c.payload_of.result c.step_state-2.new.value c.payload_of.ensures c.in-None.is) _ refl
+    c.step_state.new.state c.step_state.new.value (runs_alike (g.R.Holds.answers c.args.context.now.functions.now) c.args.context.now.plan.now (c.in-Ok.ensures.runs_on (g.R.Holds.answers c.args.context.now.functions.now) c.args.context.now.plan.now) c.in_ok-step_state.ensures.answers) c.in-Ok-beside.seen (rw c.in-Ok-copies.ensures.0 at c.in-Ok-beside.ensures) c.step_state-2.new.meter
+    c.step_state-2.new.state c.step_state-2.new.value c.in_ok-step_state-2.ensures.answers (none_occurs _ c.payload_of.result c.step_state-2.new.value c.payload_of.ensures c.in-None.is) _ _ refl
 
 pub step_keeping-returns-in_default-begin-clause-answers : goal.step_keeping-returns-in_default-begin-clause-answers
 step_keeping-returns-in_default-begin-clause-answers g t c = λ m depth t T e L N W.
     memory_exit c.stop-in_default-begin.ensures.fault (observer_memory (g.R.Holds.answers c.args.context.now.functions.now) c.args.context.now.plan.now c.args.names.now c.args.keeping.now c.args.context.now.dt c.args.value.now c.args.meter.now c.step_state.new.meter c.args.inside
-    c.step_state.new.state c.step_state.new.value c.in_ok-step_state.ensures.answers c.in-Ok-beside.seen (rw c.in-Ok.ensures.input at c.in-Ok-beside.ensures) c.step_state-2.new.meter
+    c.step_state.new.state c.step_state.new.value (runs_alike (g.R.Holds.answers c.args.context.now.functions.now) c.args.context.now.plan.now (c.in-Ok.ensures.runs_on (g.R.Holds.answers c.args.context.now.functions.now) c.args.context.now.plan.now) c.in_ok-step_state.ensures.answers) c.in-Ok-beside.seen (rw c.in-Ok-copies.ensures.0 at c.in-Ok-beside.ensures) c.step_state-2.new.meter
     c.step_state-2.new.state c.step_state-2.new.value c.in_ok-step_state-2.ensures.answers _ c.stop-in_default-begin.ensures.entered c.stop-in_default-begin.ensures.height m depth t T e L N W)
 
 pub step_keeping-returns-in_err-step_state-in-Some-clause-answers : goal.step_keeping-returns-in_err-step_state-in-Some-clause-answers
 step_keeping-returns-in_err-step_state-in-Some-clause-answers g t c = λ m depth t T e L N W.
     pass_beside (g.R.Holds.answers c.args.context.now.functions.now) c.args.context.now.plan.now _ _ _ c.from_residual-in_err-step_state-in-Some.ensures.0 (kept_body_fails (g.R.Holds.answers c.args.context.now.functions.now) c.args.context.now.plan.now c.args.names.now c.args.keeping.now c.args.context.now.dt c.args.value.now c.args.meter.now c.step_state.new.meter c.args.inside
-    c.step_state.new.state c.step_state.new.value c.in_ok-step_state.ensures.answers c.in-Ok-beside.seen (rw c.in-Ok.ensures.input at c.in-Ok-beside.ensures) c.step_state-2.new.meter
+    c.step_state.new.state c.step_state.new.value (runs_alike (g.R.Holds.answers c.args.context.now.functions.now) c.args.context.now.plan.now (c.in-Ok.ensures.runs_on (g.R.Holds.answers c.args.context.now.functions.now) c.args.context.now.plan.now) c.in_ok-step_state.ensures.answers) c.in-Ok-beside.seen (rw c.in-Ok-copies.ensures.0 at c.in-Ok-beside.ensures) c.step_state-2.new.meter
     c.step_state-2.new.state c.step_state-2.new.value c.in_ok-step_state-2.ensures.answers c.in-Some.payload.value (some_occurs _ c.payload_of.result c.in-Some.payload c.step_state-2.new.value c.payload_of.ensures c.in-Some.is)
-    c.in-Ok.before.frozen c.in-Ok-begin.successor (c.in-Ok.ensures.frozen (g.R.Holds.answers c.args.context.now.functions.now) c.args.context.now.plan.now) (c.in-Ok-begin.ensures (g.R.Holds.answers c.args.context.now.functions.now) c.args.context.now.plan.now) c.in-Ok.before.output c.in-Ok.ensures.output c.step_state-in-Some.new.meter _ c.in_err-step_state-in-Some.ensures.answers m depth t T e L N W)
+    c.in-Ok-begin.successor (rw c.in-Ok.ensures.held at (c.in-Ok-begin.ensures (g.R.Holds.answers c.args.context.now.functions.now) c.args.context.now.plan.now)) c.in-Ok-copies.output c.in-Ok-copies.ensures.1 c.step_state-in-Some.new.meter _ c.in_err-step_state-in-Some.ensures.answers m depth t T e L N W)
 
 pub step_keeping-returns-in_ok-step_state-in-Some-clause-answers : goal.step_keeping-returns-in_ok-step_state-in-Some-clause-answers
 step_keeping-returns-in_ok-step_state-in-Some-clause-answers g t c =
     kept_body_takes_over (g.R.Holds.answers c.args.context.now.functions.now) c.args.context.now.plan.now c.args.names.now c.args.keeping.now c.args.context.now.dt c.args.value.now c.args.meter.now c.step_state.new.meter c.args.inside
-    c.step_state.new.state c.step_state.new.value c.in_ok-step_state.ensures.answers c.in-Ok-beside.seen (rw c.in-Ok.ensures.input at c.in-Ok-beside.ensures) c.step_state-2.new.meter
+    c.step_state.new.state c.step_state.new.value (runs_alike (g.R.Holds.answers c.args.context.now.functions.now) c.args.context.now.plan.now (c.in-Ok.ensures.runs_on (g.R.Holds.answers c.args.context.now.functions.now) c.args.context.now.plan.now) c.in_ok-step_state.ensures.answers) c.in-Ok-beside.seen (rw c.in-Ok-copies.ensures.0 at c.in-Ok-beside.ensures) c.step_state-2.new.meter
     c.step_state-2.new.state c.step_state-2.new.value c.in_ok-step_state-2.ensures.answers c.in-Some.payload.value (some_occurs _ c.payload_of.result c.in-Some.payload c.step_state-2.new.value c.payload_of.ensures c.in-Some.is)
-    c.in-Ok.before.frozen c.in-Ok-begin.successor (c.in-Ok.ensures.frozen (g.R.Holds.answers c.args.context.now.functions.now) c.args.context.now.plan.now) (c.in-Ok-begin.ensures (g.R.Holds.answers c.args.context.now.functions.now) c.args.context.now.plan.now) c.in-Ok.before.output c.in-Ok.ensures.output c.step_state-in-Some.new.meter
+    c.in-Ok-begin.successor (rw c.in-Ok.ensures.held at (c.in-Ok-begin.ensures (g.R.Holds.answers c.args.context.now.functions.now) c.args.context.now.plan.now)) c.in-Ok-copies.output c.in-Ok-copies.ensures.1 c.step_state-in-Some.new.meter
     c.step_state-in-Some.new.state c.step_state-in-Some.new.value _ (c.switched.ensures ∙ ap (λ d. switched_value c.args.keeping.now.shown d c.step_state-in-Some.new.value) c.replace-old.ensures.value) _ c.in_ok-step_state-in-Some.ensures.answers

@@ -60,7 +60,7 @@ returns-in_err-two-in-Keeping g c = λ e N. open_exit (g.R.Holds.answers c.args.
 
 pub returns-in_ok-two-in-Keeping : goal.returns-in_ok-two-in-Keeping
 returns-in_ok-two-in-Keeping g c =
-    open_keeping (g.R.Holds.answers c.args.context.now.functions.now) c.args.context.now.plan.now c.in-Keeping.shown c.in-Keeping.source c.in-Keeping.observer c.in-Keeping.body c.in-Keeping.name c.in-Keeping.pattern _ c.args.names.now c.in_ok-one-in-Keeping.one c.in_ok-two-in-Keeping.two
+    open_keeping (g.R.Holds.answers c.args.context.now.functions.now) c.args.context.now.plan.now c.in-Keeping.shown c.in-Keeping.source c.in-Keeping.observer c.in-Keeping.body c.in-Keeping.name c.in-Keeping.pattern _ c.args.names.now c.in_ok-one-in-Keeping.one c.in_ok-two-in-Keeping.two _
     (rw c.in-Keeping.is at c.node.ensures.builds) (c.in_ok-one-in-Keeping.ensures (g.R.Holds.answers c.args.context.now.functions.now) c.args.context.now.plan.now) (c.in_ok-two-in-Keeping.ensures (g.R.Holds.answers c.args.context.now.functions.now) c.args.context.now.plan.now)
 
 pub returns-in_err-process-in-Started : goal.returns-in_err-process-in-Started

@@ -2,7 +2,7 @@ use Rattle.std.proofs.Common.{[], sym, ap, subst, ◌∙◌}
 use Rattle.std.specs.Prelude.{bytes_eq}
 use Rattle.sf_expr.specs.Arena.{name_at, placed_at}
 use Rattle.sf_state.specs.Standing.{IsNames}
-use Rattle.sf_state.proofs.Scopes.{found_value, found_outside, found_there, found_further}
+use Rattle.sf_state.proofs.Scopes.{found_value, found_outside, found_further}
 use Rattle.sf_state.proofs.env.Env.+running.Goals as goal
 
 pub returns-in-Some : goal.returns-in-Some
