@@ -1,7 +1,7 @@
 //! What states and values share, which no clause speaks of. The test holds whichever allocation fails.
 use sf_check::{Checked, check};
 use sf_func::Registry;
-use sf_law::plain;
+use sf_law::{Plan, plain};
 use sf_state::State;
 use sf_step::{Meter, step};
 use sf_text::read_network;
@@ -115,6 +115,25 @@ fn gives_again(
     Ok((running, resumed, (source, before, after)))
 }
 
+/// What a state gives at its next sample, where the input is 5.
+fn given(
+    alloc: Global,
+    state: &mut State,
+    plan: &Plan,
+    functions: &Registry,
+) -> Result<Value, Fault> {
+    let mut meter = Meter::new(alloc);
+    step(
+        alloc,
+        state,
+        plan,
+        functions,
+        1000,
+        Value::int(5),
+        &mut meter,
+    )
+}
+
 /// Whether a sample gave this number, or there was no memory.
 fn is_or_refused(sample: &Result<Value, Fault>, number: i64) -> bool {
     match sample {
@@ -140,11 +159,29 @@ fn table_owners(value: &Value) -> usize {
 }
 
 #[test]
+fn a_renewed_state_goes_on_by_itself(rt: HostRuntime) -> Result<(), Fail> {
+    let alloc = rt.alloc();
+    let functions = Registry::new(alloc);
+    let checked = checked(alloc, DELAYS, &functions)?;
+    let plan = plain(alloc, &checked)?;
+    let mut state = State::unborn(plan.main());
+    let mut other = State::unborn(plan.main());
+    // at the third sample its nodes are its own, and are used again
+    for number in [8, 7, 5] {
+        other.renew(alloc, &state)?;
+        let renewed = given(alloc, &mut other, &plan, &functions)?;
+        let running = given(alloc, &mut state, &plan, &functions)?;
+        assert!(rt; same(&renewed, &Value::int(number)) && same(&running, &Value::int(number)));
+    }
+    Ok(())
+}
+
+#[test]
 fn a_shared_state_and_a_copy_share(rt: HostRuntime) -> Result<(), Fail> {
     let alloc = rt.alloc();
     let functions = Registry::new(alloc);
     // The first gives 8, 7, 5, the others 7, 5, 8. A step that is refused for want of memory leaves the shared state as it
-    // was. After a sample without an event nothing is left of the source that was frozen for it.
+    // was. After a sample without an event a source that was held back has nodes of its own.
     for (network, second) in [(DELAYS, 7), (SWITCH, 5), (RECURRING, 5), (KEEPING, 5)] {
         let checked = checked(alloc, network, &functions)?;
         let (running, resumed, owners) = gives_again(alloc, &checked, &functions)?;

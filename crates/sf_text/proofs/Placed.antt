@@ -329,10 +329,6 @@ value_read c = record { front = c.front; split = c.split; holds = value_argument
 pub process_read : {v : Version} {p : Program} {t : TermId} {tokens r0 rest : List Spot} → BehindOne tokens r0 → Consumes (TermPlaced v p t) r0 rest → Consumes (ArgumentPlaced v p (arguments.Process t)) tokens rest
 process_read word c = record { front = word.at ∷ c.front; split = rw (word.split, c.split) refl; holds = process_argument_placed word.at c.holds }
 
--- what stands in front of a template's types
-pub heading_read : {v : Version} {spot : Spot} {qs : List PlacedParameter} {r0 r1 r2 r3 rest : List Spot} → BehindOne r0 r1 → NamePlaced spot r1 r2 → BehindOne r2 r3 → Consumes (ParametersPlaced v qs) r3 rest → HeadingPlaced v spot qs r0 rest
-heading_read word name opening listed = record { word = word.at; opening = opening.at; listed = listed.front; split = rw (word.split, name.split, opening.split, listed.split) refl; parameters = listed.holds }
-
 -- the parts of a template, one behind the other
 pub template_read : {v : Version} {old mid new : Program} {h : Header} {r0 r1 r2 r3 rest : List Spot} → KeepsProgram old mid → AddsTemplate mid new h → HeadingPlaced v h.spot h.parameters r0 r1
     → (s : BehindSome r1 r2) → length s.front ≡ length (spell_signature v (template_in new h)) → Consumes (TermPlaced v mid h.body) r2 r3 → BehindOne r3 rest → PlacesTemplate v old new r0 rest
