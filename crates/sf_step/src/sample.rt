@@ -96,7 +96,7 @@ fn step_state<R: Holds>(
     }
 }
 
-// The same of a part that is neither: one that begins or wakes, or a switch that waits.
+// The same of a part that is neither a primitive nor live: one that begins or wakes, or a switch that waits.
 #[cycle(step)]
 #[inline(never)]
 fn step_other<R: Holds>(
