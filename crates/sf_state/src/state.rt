@@ -213,10 +213,10 @@ impl State {
         }
     }
 
-    /// Makes this state stand for all that another one stands for: what is live there is copied into this one's own nodes,
-    /// where it has such and has them alone, so that it takes no memory for them; the rest is shared. No step of one of the
-    /// two changes the other. After an error, which is a want of memory or too many owners of one node, it stands for
-    /// nothing.
+    /// Makes this state stand for all that another one stands for: joins and forms with one part are copied into this one's
+    /// own nodes, where it has the same form there and has the node alone, and that takes no memory; the rest is shared. No
+    /// step of one of the two changes the other. After an error, which is a want of memory or too many owners of one node,
+    /// it stands for nothing.
     #[cycle(renew)]
     pub fn renew(&mut self, alloc: Global, other: &State) -> Result<(), AllocError>
         ensures { OnOk result ((φ : AnswersByName) (p : Plan) (P : ProcessOf) (L : Life) → Stands φ p other.now P L → Stands φ p self.new P L) }
