@@ -1,7 +1,8 @@
 -- What was read into a program before more is built of it.
-use Rattle.std.proofs.Common.{◌≡◌, ℕ, ◌+◌, ◌<◌, ◌≤◌, inl, inr, nat_le, Bool, List, length, if◌then◌else◌, refl, sym, ◌∙◌, ap, subst, arith}
+use Rattle.std.proofs.Common.{◌≡◌, ℕ, ◌+◌, ◌<◌, ◌≤◌, inl, inr, nat_le, Bool, pos, List, length, if◌then◌else◌, refl, sym, ◌∙◌, ap, subst, arith, Result, Ok, Err, IfOk, OnOk}
 use Rattle.std.proofs.lemmas.Bool.Decides.{leb_tells}
-use Rattle.std.proofs.lemmas.List.{length-map}
+use Rattle.std.proofs.lemmas.List.{length-replicate}
+use Rattle.std.proofs.Math.ListN.{replicate}
 use Rattle.sf_value.specs.Values.{Name, Kind, nodes}
 use Rattle.sf_value.specs.declared.ty.TyRefusal.{TyRefusal}
 use Rattle.sf_value.specs.declared.ty.TyRefusal.TheVariants as type_refusals
@@ -12,37 +13,60 @@ use Rattle.sf_operator.specs.declared.operator.Mapping.TheVariants as mappings
 use Rattle.sf_operator.specs.declared.operator.Folding.{Folding}
 use Rattle.sf_expr.specs.declared.exprs.ExprId.{ExprId}
 use Rattle.sf_expr.specs.declared.exprs.ExprNode.{ExprNode}
-use Rattle.sf_expr.specs.Expressions.{Literal, Pattern, Expression, literal, paired, applied, operation, conditional, mapped, folded, called, depth as expression_depth, size, function, function_depth}
+use Rattle.sf_expr.specs.Expressions.{Literal, Pattern, Expression, variable, literal, none_literal, paired, applied, operation, conditional, mapped, folded, called, depth as expression_depth, size, function, function_depth}
 use Rattle.sf_term.specs.declared.program.Program.{Program}
 use Rattle.sf_term.specs.declared.refusal.BuildRefusal.{BuildRefusal}
 use Rattle.sf_term.specs.declared.refusal.BuildRefusal.TheVariants as refusals
 use Rattle.sf_term.specs.Names.{HasNames}
-use Rattle.sf_term.specs.Arena.{expression_under as expression_in, term_count, expression_count, KeepsProgram, AddsExpression}
+use Rattle.sf_term.specs.Arena.{expression_under as expression_in, term_count, expression_count, KeepsTrees, KeepsProgram, AddsExpression}
 use Rattle.sf_term.proofs.Kept.{few_program_expressions, keeps_trans}
 use Rattle.sf_refusal.specs.declared.spot.Spot.{Spot}
 use Rattle.sf_lex.specs.declared.symbol.Symbol.TheVariants as symbols
 use Rattle.sf_lex.specs.declared.word.Keyword.TheVariants as words
-use Rattle.sf_lex.specs.declared.token.PlacedToken.{PlacedToken}
-use Rattle.sf_lex.specs.Tokens.{Tok}
+use Rattle.sf_lex.specs.Tokens.{Tok, number}
 use Rattle.sf_grammar.specs.declared.ty.Version.{Version}
 use Rattle.sf_grammar.specs.declared.head.Link.{Link}
 use Rattle.sf_grammar.specs.declared.head.Link.TheVariants as links
 use Rattle.sf_refusal.specs.declared.rule.Rule.TheVariants.{TooMany}
 use Rattle.sf_parse.specs.declared.stop.Stop.{Stop}
-use Rattle.sf_grammar.specs.Reading.{Read, got, stop, Counts, counts_with_expression, parse_symbol, parse_keyword, parse_name, parse_inner_type, parse_pattern, parse_link, linked, parse_linked, parse_prefixed, parse_one_in_brackets, parse_two_in_brackets, parse_conditional, parse_mapping, parse_let, parse_one_and_function, parse_two_and_function, parse_called, parse_expression, expression_read, parse_function}
-use Rattle.sf_parse.specs.Answers.{StopsReading, FoundExpression, FoundMapping, counts_of, stop_for, stop_for_type, toks}
+use Rattle.sf_grammar.specs.Reading.{Read, got, stop, Counts, counts_with_expression, parse_symbol, parse_keyword, parse_name, parse_inner_type, parse_none, parse_pattern, parse_link, linked, parse_linked, parse_prefixed, parse_one_in_brackets, parse_two_in_brackets, parse_conditional, parse_mapping, parse_let, parse_one_and_function, parse_two_and_function, parse_called, parse_expression, expression_read, parse_function}
+use Rattle.sf_parse.specs.Answers.{StopsReading, FoundExpression, FoundMapping, ReadsInto, counts_of, stop_for, built_as, stop_for_type}
 use Rattle.sf_grammar.proofs.Takes.{TookType, TookPattern, TookExpression, TookFunction, inner_type_takes, pattern_takes, expression_takes, function_takes}
+
+-- a program keeps what is in it
+keeps_trees_self : (p : Program) → KeepsTrees p p
+keeps_trees_self p = record {
+  terms = λ t h. h;
+  nodes = λ t h. refl;
+  trees = λ t h. refl;
+  spots = λ t h. refl;
+  expressions = λ e h. h;
+  value_nodes = λ e h. refl;
+  values = λ e h. refl;
+  value_spots = λ e h. refl;
+  functions = λ f h. h;
+  patterns = λ f h. refl;
+  bodies = λ f h. refl;
+  meanings = λ f h. refl;
+  holds_patterns = λ q h. h;
+  placed = λ q h. refl;
+  holds_arguments = λ a h. h;
+  arguments = λ a h. refl;
+}
+
+pub keeps_self : (p : Program) → KeepsProgram p p
+keeps_self p = record { trees = keeps_trees_self p; headers = refl; templates = refl; spots = refl }
 
 past : {A : Type 0} (n : ℕ) (a : A) (start rest : List Tok) → 100000 < n → (if nat_le n 100000 then got a rest else stop TooMany start) ≡ stop TooMany start
 past n a start rest h = elim (leb_tells n 100000) [ inl p ↦ absurd (omega arith) | inr p ↦ ap (λ (b : Bool). if b then got a rest else stop TooMany start) p.0 ]
 
 -- a program refused what is one too many, as reading does
-pub refused_as_read : {A : Type 0} (n : ℕ) (a : A) (tokens : List PlacedToken) (rest : List Tok) (read : Read A) (refusal : BuildRefusal) → read ≡ (if nat_le n 100000 then got a rest else stop TooMany (toks tokens))
-    → (refusal ≡ refusals.TooMany → 100000 < n) → (refusal ≡ refusals.TooDeep → ⊥) → (refusal ≡ refusals.BadName → ⊥) → StopsReading (stop_for refusal (length tokens)) read
-refused_as_read n a tokens rest read refusals.TooMany is many deep named = record { at = toks tokens; is = is ∙ past n a (toks tokens) rest (many refl); counted = simp length-map }
-refused_as_read n a tokens rest read refusals.TooDeep is many deep named = absurd (deep refl)
-refused_as_read n a tokens rest read refusals.BadName is many deep named = absurd (named refl)
-refused_as_read n a tokens rest read refusals.Memory is many deep named = tt
+pub refused_as_read : {A : Type 0} (n : ℕ) (a : A) (start : List Tok) (left : ℕ) (rest : List Tok) (read : Read A) (refusal : BuildRefusal) → length start ≡ left → read ≡ (if nat_le n 100000 then got a rest else stop TooMany start)
+    → (refusal ≡ refusals.TooMany → 100000 < n) → (refusal ≡ refusals.TooDeep → ⊥) → (refusal ≡ refusals.BadName → ⊥) → StopsReading (stop_for refusal left) read
+refused_as_read n a start left rest read refusals.TooMany counted is many deep named = record { at = start; is = is ∙ past n a start rest (many refl); counted = sym counted }
+refused_as_read n a start left rest read refusals.TooDeep counted is many deep named = absurd (deep refl)
+refused_as_read n a start left rest read refusals.BadName counted is many deep named = absurd (named refl)
+refused_as_read n a start left rest read refusals.Memory counted is many deep named = tt
 
 -- an expression whose parts were read, before it is added to the program
 pub record ReadyExpression (old mid : Program) (built : Expression) (start rest : List Tok) (read : Read Expression) : Type 0 where
@@ -52,11 +76,11 @@ pub record ReadyExpression (old mid : Program) (built : Expression) (start rest 
   pub shallow : expression_depth value ≤ 64
   pub expressions : expression_count mid + 1 ≡ expression_count old + size value
 
-pub expression_refused : {old mid : Program} {built : Expression} {rest : List Tok} {read : Read Expression} (tokens : List PlacedToken) (refusal : BuildRefusal) (e : Stop)
-    → ReadyExpression old mid built (toks tokens) rest read → e ≡ stop_for refusal (length tokens)
+pub expression_refused : {old mid : Program} {built : Expression} {start rest : List Tok} {read : Read Expression} (left : ℕ) (refusal : BuildRefusal) (e : Stop)
+    → ReadyExpression old mid built start rest read → length start ≡ left → e ≡ stop_for refusal left
     → (refusal ≡ refusals.TooMany → 100000 ≤ expression_count mid) → (refusal ≡ refusals.TooDeep → 64 < expression_depth built) → (refusal ≡ refusals.BadName → ⊥) → StopsReading e read
-expression_refused {old} {mid} {built} {rest} {read} tokens refusal e ready is many deep named =
-    subst (λ (e : Stop). StopsReading e read) (sym is) (refused_as_read (expression_count old + size ready.value) ready.value tokens rest read refusal ready.is
+expression_refused {old} {mid} {built} {start} {rest} {read} left refusal e ready counted is many deep named =
+    subst (λ (e : Stop). StopsReading e read) (sym is) (refused_as_read (expression_count old + size ready.value) ready.value start left rest read refusal counted ready.is
     (λ same. let full : 100000 ≤ expression_count mid = many same in omega (arith, ready.expressions))
     (λ same. let too : 64 < expression_depth built = deep same in let d : expression_depth built ≡ expression_depth ready.value = ap expression_depth ready.same in omega (arith, ready.shallow)) named)
 
@@ -76,11 +100,52 @@ expression_found {old} {mid} {new} {start = start} {rest = rest} ready kept term
   expressions = added.expression_counted ∙ ready.expressions;
 }
 
+-- an expression whose parts were read was given to the program
+pub expression_built : {old mid : Program} {built : Expression} {start rest : List Tok} {read : Read Expression} (new : Program) (node : ExprNode) (spot : Spot) (left : ℕ) (added : Result ExprId BuildRefusal) (answer : Result ExprId Stop)
+    → ReadyExpression old mid built start rest read → KeepsProgram old mid → term_count mid ≡ term_count old → length start ≡ left → answer ≡ built_as left added → IfOk added (λ id. AddsExpression mid new id node built spot)
+    → (added ≡ Err refusals.TooMany → 100000 ≤ expression_count mid) → (added ≡ Err refusals.TooDeep → 64 < expression_depth built) → (added ≡ Err refusals.BadName → ⊥) → ReadsInto old new rest answer read
+expression_built {old = old} {rest = rest} {read = read} new node spot left (Ok id) answer ready kept terms counted is ok many deep named =
+    subst (λ (a : Result ExprId Stop). ReadsInto old new rest a read) (sym is) (expression_found ready kept terms ok)
+expression_built {old = old} {rest = rest} {read = read} new node spot left (Err refusal) answer ready kept terms counted is ok many deep named =
+    subst (λ (a : Result ExprId Stop). ReadsInto old new rest a read) (sym is)
+    (expression_refused left refusal (stop_for refusal left) ready counted refl (λ same. many (ap Err same)) (λ same. deep (ap Err same)) (λ same. named (ap Err same)))
+
+-- what holds of what a program took holds of what is answered
+pub if_built : {X : Type 0} (P Q : X → Type 0) (left : ℕ) (added : Result X BuildRefusal) (answer : Result X Stop) → answer ≡ built_as left added → IfOk added P → ((x : X) → P x → Q x) → IfOk answer Q
+if_built P Q left (Ok x) answer is ok f = subst (λ a. IfOk a Q) (sym is) (f x ok)
+if_built P Q left (Err refusal) answer is ok f = subst (λ a. IfOk a Q) (sym is) tt
+
+pub if_built_on : {X : Type 0} (P Q : X → Type 0) (S : Type 0) (left : ℕ) (added : Result X BuildRefusal) (answer : Result X Stop) → answer ≡ built_as left added → IfOk added P → OnOk added S → ((x : X) → P x → S → Q x) → IfOk answer Q
+if_built_on P Q S left (Ok x) answer is ok there f = subst (λ a. IfOk a Q) (sym is) (f x ok there)
+if_built_on P Q S left (Err refusal) answer is ok there f = subst (λ a. IfOk a Q) (sym is) tt
+
+-- a name that was read
+pub variable_ready : {old : Program} {n g : Name} (start rest : List Tok) → n ≡ g → ReadyExpression old old (variable n) start rest (expression_read (counts_of old) (variable g) start rest)
+variable_ready {g = g} start rest same = record { value = variable g; is = refl; same = ap variable same; shallow = omega arith; expressions = refl }
+
+-- a literal that was read as this one
+pub literal_ready_as : {old : Program} {l m : Literal} (start rest : List Tok) → l ≡ m → ReadyExpression old old (literal l) start rest (expression_read (counts_of old) (literal m) start rest)
+literal_ready_as {m = m} start rest same = record { value = literal m; is = refl; same = ap literal same; shallow = omega arith; expressions = refl }
+
+-- no event, behind its type
+pub none_ready : (v : Version) {old : Program} {start rest : List Tok} {l : Literal} {t : Kind} (d : ℕ) (tokens : List Tok) → parse_inner_type d v tokens 0 tokens ≡ got t rest → l ≡ none_literal t
+    → ReadyExpression old old (literal l) start rest (parse_none d v (counts_of old) start tokens)
+unfolding parse_none
+none_ready v {t = t} d tokens is same = record { value = literal (none_literal t); is = rw is refl; same = ap literal same; shallow = omega arith; expressions = refl }
+
 pub literal_ready : {old : Program} (l : Literal) (start rest : List Tok) → ReadyExpression old old (literal l) start rest (expression_read (counts_of old) (literal l) start rest)
 literal_ready l start rest = record { value = literal l; is = refl; same = refl; shallow = omega arith; expressions = refl }
 
 pub expression_taken : (v : Version) (old new : Program) (id : ExprId) (rest tokens : List Tok) (d : ℕ) → (f : FoundExpression old new id rest (parse_expression d v (counts_of old) tokens)) → TookExpression v d (counts_of old) tokens f.value rest
 expression_taken v old new id rest tokens d f = expression_takes v d (counts_of old) tokens f.value rest f.is
+
+-- what was read in a version was read in the same one
+pub expression_at : {v w : Version} {old new : Program} {id : ExprId} {rest : List Tok} (d : ℕ) (c : Counts) (tokens : List Tok) → w ≡ v → FoundExpression old new id rest (parse_expression d w c tokens) → FoundExpression old new id rest (parse_expression d v c tokens)
+expression_at {old = old} {new = new} {id = id} {rest = rest} d c tokens same f = subst (λ (v : Version). FoundExpression old new id rest (parse_expression d v c tokens)) same f
+
+pub mapping_at : {v w : Version} {old new : Program} {p : Pattern} {id : ExprId} {rest : List Tok} (d : ℕ) (tokens : List Tok) → w ≡ v
+    → FoundMapping old new p id rest (parse_mapping d (parse_expression d w) (counts_of old) tokens) → FoundMapping old new p id rest (parse_mapping d (parse_expression d v) (counts_of old) tokens)
+mapping_at {old = old} {new = new} {p = p} {id = id} {rest = rest} d tokens same f = subst (λ (v : Version). FoundMapping old new p id rest (parse_mapping d (parse_expression d v) (counts_of old) tokens)) same f
 
 pub behind_expression : (old mid : Program) (e : Expression) → term_count mid ≡ term_count old → expression_count mid ≡ expression_count old + size e → counts_of mid ≡ counts_with_expression (counts_of old) e
 behind_expression old mid e terms expressions = rw (terms, expressions) refl
@@ -317,3 +382,7 @@ type_refused read type_refusals.Memory left count e is few large = subst (λ (e 
 
 pub few_first : (v : Version) {rest : List Tok} {t : Kind} (d : ℕ) (start : List Tok) (met : ℕ) (tokens : List Tok) → parse_inner_type d v start met tokens ≡ got t rest → met + nodes t ≤ 256
 few_first v {rest} {t} d start met tokens is = let took : TookType v d met tokens t rest = inner_type_takes v d start met tokens t rest is in took.few
+
+-- a type that was read within some of so many tokens has room there
+pub few_within : (v : Version) {rest : List Tok} {t : Kind} (d : ℕ) (start met : ℕ) (tokens : List Tok) → ((whole : List Tok) → length whole ≡ start → parse_inner_type d v whole met tokens ≡ got t rest) → met + nodes t ≤ 256
+few_within v d start met tokens read = few_first v d (replicate start (number (pos 0))) met tokens (read (replicate start (number (pos 0))) (length-replicate start (number (pos 0))))

@@ -1,8 +1,7 @@
 -- What was read stays where it stands, and what is built of it stands at its first token.
-use Rattle.std.proofs.Common.{◌≡◌, ℕ, suc, true, false, ◌-◌, ◌≤◌, List, [], ◌∷◌, ◌++◌, length, get_or, take, drop, Result, Ok, Err, refl, sym, ◌∙◌, ap, append_assoc, subst, arith}
+use Rattle.std.proofs.Common.{◌≡◌, ℕ, suc, true, false, List, [], ◌∷◌, ◌++◌, length, Result, Ok, Err, refl, sym, ◌∙◌, ap, append_assoc, subst, arith}
 use Rattle.std.specs.Prelude.{IfOk}
-use Rattle.std.proofs.Common.{Bor}
-use Rattle.std.proofs.lemmas.List.{length-append, length-map, take_rest}
+use Rattle.std.proofs.lemmas.List.{length-append, length-map}
 use Rattle.sf_refusal.specs.declared.spot.Spot.{Spot}
 use Rattle.sf_operator.specs.declared.operator.Unary.{Unary}
 use Rattle.sf_operator.specs.declared.operator.Operator.{Operator}
@@ -31,7 +30,7 @@ use Rattle.sf_lex.specs.declared.token.PlacedToken.{PlacedToken}
 use Rattle.sf_grammar.specs.declared.head.Link.{Link}
 use Rattle.sf_grammar.specs.declared.head.Link.TheVariants as links
 use Rattle.sf_grammar.specs.Placing.{around, PatternPlaced, PatternStands, ExpressionStands, ExpressionPlaced, unit_placed, truth_placed, number_placed, constant_placed, variable_placed, pair_placed, prefixed_placed, one_in_brackets_placed, operation_placed, two_in_brackets_placed, conditional_placed, let_placed, one_and_function_placed, two_and_function_placed, called_placed, FunctionPlaced, function_placed}
-use Rattle.sf_parse.specs.Consuming.{places, BehindOne, BehindSome, NamePlaced, Parted, Consumes, ConsumesBehind, linked_node}
+use Rattle.sf_parse.specs.Consuming.{places, BehindOne, BehindSome, NamePlaced, Parted, Consumes, linked_node}
 
 expression_stays : (old new : Program) → KeepsTrees old new → (id : ExprId) (n : ExprNode) (at : Spot) → ExpressionStands old id n at → ExpressionStands new id n at
 expression_stays old new k id n at s = record { held = k.expressions id s.held; node = k.value_nodes id s.held ∙ s.node; spot = k.value_spots id s.held ∙ s.spot }
@@ -70,27 +69,21 @@ function_keeps v old new k f xs (function_placed {f = g} {xs = front} {ys = behi
     function_placed leads (k.functions g held) (subst (λ (q : PlacedPattern). PatternPlaced q front) (sym (k.patterns g held)) pattern)
     (subst (λ (b : ExprId). ExpressionPlaced v new b behind) (sym (k.bodies g held)) (expression_keeps v old new k (function_body_at old g) behind body))
 
--- the first of tokens and those behind it
-pub first_place_split : (tokens : List PlacedToken) (first : PlacedToken) → 1 ≤ length tokens → first ≡ get_or tokens 0 first → places tokens ≡ first.spot ∷ places (take (length tokens - 1) (drop 1 tokens))
-first_place_split [] first some is = absurd (omega arith)
-first_place_split (t ∷ tokens) first some is = ap (λ (u : PlacedToken). u.spot ∷ places tokens) (sym is) ∙ ap (λ (ts : List PlacedToken). first.spot ∷ places ts) (sym (take_rest (t ∷ tokens) 1))
-
 if_ok_map : {A E : Type 0} (P Q : A → Type 0) (r : Result A E) → ((x : A) → P x → Q x) → IfOk r P → IfOk r Q
 if_ok_map P Q (Ok x) f h = f x h
 if_ok_map P Q (Err e) f h = tt
 
--- what was read from its opening bracket on
-pub from_opening : {X E : Type 0} (P : X → List Spot → Type 0) (r : Result (X × Bor (List PlacedToken)) E) (tokens : List PlacedToken) (first : PlacedToken)
-    → 1 ≤ length tokens → first ≡ get_or tokens 0 first
-    → IfOk r (λ x. ConsumesBehind (P x.0) (places (take (length tokens - 1) (drop 1 tokens))) (places x.1.now)) → IfOk r (λ x. Consumes (P x.0) (places tokens) (places x.1.now))
-from_opening {X} {E} P r tokens first some is =
-    if_ok_map (λ x. ConsumesBehind (P x.0) (places (take (length tokens - 1) (drop 1 tokens))) (places x.1.now)) (λ x. Consumes (P x.0) (places tokens) (places x.1.now)) r
-    (λ x h. subst (λ (ts : List Spot). Consumes (P x.0) ts (places x.1.now)) (sym (first_place_split tokens first some is)) (h first.spot))
-
 -- one token of which something holds
-pub first_alone : (P : List Spot → Type 0) (tokens : List PlacedToken) (first : PlacedToken) → 1 ≤ length tokens → first ≡ get_or tokens 0 first → P (first.spot ∷ [])
-    → Consumes P (places tokens) (places (take (length tokens - 1) (drop 1 tokens)))
-first_alone P tokens first some is h = record { front = first.spot ∷ []; split = first_place_split tokens first some is; holds = h }
+pub first_alone : {P : List Spot → Type 0} {tokens rest : List Spot} {at : Spot} → tokens ≡ at ∷ rest → P (at ∷ []) → Consumes P tokens rest
+first_alone {at = at} split h = record { front = at ∷ []; split = split; holds = h }
+
+-- what was read in a version was read in the same one
+pub expression_placed_at : {v w : Version} {p : Program} {id : ExprId} {tokens rest : List Spot} → w ≡ v → Consumes (ExpressionPlaced w p id) tokens rest → Consumes (ExpressionPlaced v p id) tokens rest
+expression_placed_at {p = p} {id = id} {tokens = tokens} {rest = rest} same c = subst (λ (v : Version). Consumes (ExpressionPlaced v p id) tokens rest) same c
+
+pub mapping_placed_at : {v w : Version} {q : PlacedPattern} {p : Program} {id : ExprId} {tokens rest : List Spot} → w ≡ v
+    → Consumes (Parted (PatternPlaced q) (ExpressionPlaced w p id)) tokens rest → Consumes (Parted (PatternPlaced q) (ExpressionPlaced v p id)) tokens rest
+mapping_placed_at {q = q} {p = p} {id = id} {tokens = tokens} {rest = rest} same c = subst (λ (v : Version). Consumes (Parted (PatternPlaced q) (ExpressionPlaced v p id)) tokens rest) same c
 
 -- tokens behind a first one
 pub behind_first : {P Q : List Spot → Type 0} {at : Spot} {tokens rest : List Spot} → Consumes P tokens rest → ((xs : List Spot) → P xs → Q (at ∷ xs)) → Consumes Q (at ∷ tokens) rest
@@ -251,22 +244,9 @@ some_more {t = t} a b = record { front = a.front ++ b.front; split = a.split ∙
 pub some_of_one : {r s : List Spot} → BehindOne r s → BehindSome r s
 some_of_one a = record { front = a.at ∷ []; split = a.split; holds = tt }
 
--- what was read behind a first token
-pub from_first : {X E : Type 0} (r : Result (X × Bor (List PlacedToken)) E) (tokens : List PlacedToken) (first : PlacedToken)
-    → 1 ≤ length tokens → first ≡ get_or tokens 0 first
-    → IfOk r (λ x. BehindSome (places (take (length tokens - 1) (drop 1 tokens))) (places x.1.now)) → IfOk r (λ x. BehindSome (places tokens) (places x.1.now))
-from_first r tokens first some is =
-    if_ok_map (λ x. BehindSome (places (take (length tokens - 1) (drop 1 tokens))) (places x.1.now)) (λ x. BehindSome (places tokens) (places x.1.now)) r
-    (λ x. some_more (record { front = first.spot ∷ []; split = first_place_split tokens first some is; holds = tt }))
-
 -- what was read behind tokens
-pub from_some : {X E : Type 0} {tokens rest : List Spot} (r : Result (X × Bor (List PlacedToken)) E) → BehindSome tokens rest
-    → IfOk r (λ x. BehindSome rest (places x.1.now)) → IfOk r (λ x. BehindSome tokens (places x.1.now))
-from_some {tokens = tokens} {rest = rest} r front = if_ok_map (λ x. BehindSome rest (places x.1.now)) (λ x. BehindSome tokens (places x.1.now)) r (λ x. some_more front)
-
--- no token was read
-pub none_read : (tokens : List Spot) → BehindSome tokens tokens
-none_read tokens = record { front = []; split = refl; holds = tt }
+pub from_some : {X E : Type 0} {tokens rest : List Spot} (r : Result X E) (behind : List Spot) → BehindSome tokens rest → IfOk r (λ _. BehindSome rest behind) → IfOk r (λ _. BehindSome tokens behind)
+from_some {tokens = tokens} {rest = rest} r behind front = if_ok_map (λ _. BehindSome rest behind) (λ _. BehindSome tokens behind) r (λ _. some_more front)
 
 -- as many tokens were read as spell what was read
 pub front_counted : (tokens rest : List PlacedToken) (front : List Spot) (spelled : List Tok) → places tokens ≡ front ++ places rest → toks tokens ≡ spelled ++ toks rest → length front ≡ length spelled

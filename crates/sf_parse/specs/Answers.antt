@@ -1,10 +1,13 @@
 -- What the reading functions answer.
-use Rattle.std.specs.Prelude.{◌≡◌, ℕ, ◌+◌, List, map, Result, Ok, Err}
-use Rattle.std.proofs.Common.{Bor}
+use Rattle.std.specs.Prelude.{◌≡◌, ℕ, ◌+◌, List, length, map, Option, Some, None, Result, Ok, Err}
 use Rattle.sf_value.specs.Values.{Name, Kind, event_kind, table_kind}
 use Rattle.sf_parse.specs.declared.types.Outer.{Outer}
 use Rattle.sf_parse.specs.declared.types.Outer.TheVariants as outers
-use Rattle.sf_parse.specs.declared.part.Named.{Named}
+use Rattle.sf_parse.specs.declared.cursor.Named.{Named}
+use Rattle.sf_parse.specs.declared.cursor.Cursor.{Cursor}
+use Rattle.sf_parse.specs.declared.mark.Mark.{Mark}
+use Rattle.sf_parse.specs.declared.reader.Reader.{Reader}
+use Rattle.sf_parse.specs.Consuming.{spots_ahead, BehindOne}
 use Rattle.sf_value.specs.KindView.{key_kind_of}
 use Rattle.sf_value.specs.declared.ty.TyRefusal.{TyRefusal}
 use Rattle.sf_value.specs.declared.ty.TyRefusal.TheVariants as type_refusals
@@ -34,10 +37,19 @@ abbrev pub StopsReading : {A : Type 0} → Stop → Read A → Type 0
 StopsReading (At fault left) read = Stopped fault left read
 StopsReading Memory read = Unit {0}
 
+-- the tokens that are left
+abbrev pub ahead : Cursor → List Tok
+ahead c = toks c.tokens.now
+
 -- what was read, seen so, and the tokens behind it
-abbrev pub ReadsAs : {X A : Type 0} → (X → A) → Result (X × Bor (List PlacedToken)) Stop → Read A → Type 0
-ReadsAs view (Ok x) read = read ≡ got (view x.0) (toks x.1.now)
-ReadsAs view (Err e) read = StopsReading e read
+abbrev pub ReadsAs : {X A : Type 0} → (X → A) → Result X Stop → Cursor → Read A → Type 0
+ReadsAs view (Ok x) new read = read ≡ got (view x) (ahead new)
+ReadsAs view (Err e) new read = StopsReading e read
+
+-- the tokens behind what may stand in front
+abbrev pub IsBehind : Option Cursor → (List Tok → Option (List Tok)) → Cursor → Type 0
+IsBehind (Some rest) behind old = (behind (ahead old) ≡ Some (ahead rest)) × BehindOne (spots_ahead old) (spots_ahead rest)
+IsBehind None behind old = behind (ahead old) ≡ None
 
 abbrev pub named_bytes : Named → Name
 named_bytes n = name_bytes n.name
@@ -46,11 +58,6 @@ named_bytes n = name_bytes n.name
 abbrev pub outer_kind : Outer → Kind → Kind
 outer_kind outers.Event = event_kind
 outer_kind (outers.Table k) = table_kind (key_kind_of k)
-
--- the tokens behind
-abbrev pub ReadsRest : Result (Bor (List PlacedToken)) Stop → Read (Unit {0}) → Type 0
-ReadsRest (Ok rest) read = read ≡ got tt (toks rest.now)
-ReadsRest (Err e) read = StopsReading e read
 
 -- an expression was read into the program
 pub record FoundExpression (old new : Program) (id : ExprId) (rest : List Tok) (read : Read Expression) : Type 0 where
@@ -62,9 +69,17 @@ pub record FoundExpression (old new : Program) (id : ExprId) (rest : List Tok) (
   pub terms : term_count new ≡ term_count old
   pub expressions : expression_count new ≡ expression_count old + size value
 
-abbrev pub ReadsExpression : Program → Program → Result (ExprId × Bor (List PlacedToken)) Stop → Read Expression → Type 0
-ReadsExpression old new (Ok x) read = FoundExpression old new x.0 (toks x.1.now) read
-ReadsExpression old new (Err e) read = StopsReading e read
+-- an expression was read into the program, up to these tokens
+abbrev pub ReadsInto : Program → Program → List Tok → Result ExprId Stop → Read Expression → Type 0
+ReadsInto old new rest (Ok id) read = FoundExpression old new id rest read
+ReadsInto old new rest (Err e) read = StopsReading e read
+
+abbrev pub ReadsExpression : Reader → Reader → Result ExprId Stop → Read Expression → Type 0
+ReadsExpression old new result read = ReadsInto old.program new.program (ahead new.cursor) result read
+
+-- the form that begins at the mark was read into the program, whatever tokens there are from there on
+abbrev pub ReadsForm : Reader → Reader → Mark → Result ExprId Stop → (List Tok → List Tok → Read Expression) → Type 0
+ReadsForm old new start result read = (whole : List Tok) → length whole ≡ start.ahead → ReadsExpression old new result (read whole (ahead old.cursor))
 
 -- the pattern and the expression of a function were read, the expression into the program
 pub record FoundMapping (old new : Program) (p : Pattern) (id : ExprId) (rest : List Tok) (read : Read Function) : Type 0 where
@@ -77,8 +92,8 @@ pub record FoundMapping (old new : Program) (p : Pattern) (id : ExprId) (rest : 
   pub terms : term_count new ≡ term_count old
   pub expressions : expression_count new ≡ expression_count old + size value
 
-abbrev pub ReadsMapping : Program → Program → Result (PlacedPattern × ExprId × Bor (List PlacedToken)) Stop → Read Function → Type 0
-ReadsMapping old new (Ok x) read = FoundMapping old new (pattern_of x.0) x.1 (toks x.2.now) read
+abbrev pub ReadsMapping : Reader → Reader → Result (PlacedPattern × ExprId) Stop → Read Function → Type 0
+ReadsMapping old new (Ok x) read = FoundMapping old.program new.program (pattern_of x.0) x.1 (ahead new.cursor) read
 ReadsMapping old new (Err e) read = StopsReading e read
 
 -- a function was read into the program
@@ -91,8 +106,8 @@ pub record FoundFunction (old new : Program) (id : FunctionId) (rest : List Tok)
   pub terms : term_count new ≡ term_count old
   pub expressions : expression_count new ≡ expression_count old + function_size function
 
-abbrev pub ReadsFunction : Program → Program → Result (FunctionId × Bor (List PlacedToken)) Stop → Read Function → Type 0
-ReadsFunction old new (Ok x) read = FoundFunction old new x.0 (toks x.1.now) read
+abbrev pub ReadsFunction : Reader → Reader → Result FunctionId Stop → Read Function → Type 0
+ReadsFunction old new (Ok f) read = FoundFunction old.program new.program f (ahead new.cursor) read
 ReadsFunction old new (Err e) read = StopsReading e read
 
 -- how many terms and expressions a program has
@@ -105,6 +120,11 @@ stop_for refusals.TooMany left = At TooMany left
 stop_for refusals.TooDeep left = At TooDeep left
 stop_for refusals.BadName left = At Unexpected left
 stop_for refusals.Memory left = Memory
+
+-- what a program answers of a form that begins so many tokens before the end
+abbrev pub built_as : {X : Type 0} → ℕ → Result X BuildRefusal → Result X Stop
+built_as left (Ok x) = Ok x
+built_as left (Err refusal) = Err (stop_for refusal left)
 
 -- why a type was not made that begins so many tokens before the end
 abbrev pub stop_for_type : TyRefusal → ℕ → Stop

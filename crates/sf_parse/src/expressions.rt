@@ -1,36 +1,24 @@
 //! Expressions and functions.
-ghost use Rattle.std.specs.Prelude.{◌≡◌, ◌<◌, ◌≤◌, ◌↔◌, true, false, IfOk, length, ◌∷◌, string_bytes};
+ghost use Rattle.std.specs.Prelude.{◌≡◌, ◌<◌, ◌≤◌, ◌↔◌, true, false, IfOk, ◌∷◌, string_bytes};
+ghost use Rattle.sf_refusal.specs.declared.spot.Spot.{Spot as Place};
 ghost use Rattle.sf_expr.specs.Expressions.{Expression, variable as variable_form, literal as literal_form, unit_literal, truth_literal, int_literal, text_literal, depth};
 ghost use Rattle.sf_lex.specs.Tokens.{token_of, name_bytes};
 ghost use Rattle.sf_term.specs.Arena.{HoldsExpression, AddsExpression, expression_under as expression_in, expression_count};
-ghost use Rattle.sf_parse.specs.Answers.{toks, StopsReading, ReadsAs, ReadsExpression, ReadsMapping, ReadsFunction, counts_of, stop_for};
+ghost use Rattle.sf_parse.specs.Answers.{ahead, StopsReading, ReadsAs, ReadsExpression, ReadsForm, ReadsMapping, ReadsFunction, counts_of};
 ghost use Rattle.sf_grammar.specs.Placing.{PatternPlaced, ExpressionPlaced, FunctionPlaced};
 ghost use Rattle.sf_grammar.specs.Spelling.{takes_brackets, stands_between, maps_in_brackets};
-ghost use Rattle.sf_parse.specs.Consuming.{places, BehindOne, Consumes, Parted, linked_node, HasOperandsSo};
+ghost use Rattle.sf_parse.specs.Consuming.{spots_ahead, BehindOne, Consumes, StandsOn, StandsFrom, Parted, linked_node, HasOperandsSo};
 ghost use Rattle.sf_grammar.specs.Reading.{begins_expression, too_deep, parse_link, linked, parse_linked, behind_close, bracketed_from, parse_none, parse_prefixed, parse_one_in_brackets, parse_two_in_brackets, parse_conditional, parse_mapping, parse_let, parse_one_and_function, parse_two_and_function, parse_called, parse_worded_expression, expression_read, parse_expression_form, parse_expression, parse_function};
 
-use crate::part::{keyword, name, stop_at, symbol};
-use crate::patterns::pattern;
+use crate::cursor::{Cursor, First};
+use crate::mark::{Mark, refused};
+use crate::reader::Reader;
 use crate::stop::Stop;
-use crate::types::inner_type;
 use sf_expr::{Constant, ExprId, ExprNode, Folding, FunctionId, Mapping, Operator, Pat, Unary};
-use sf_grammar::{ExpressionHead, Link, Version, expression_head, link_of};
-use sf_lex::{Keyword, Name, PlacedToken, Symbol, Token};
+use sf_grammar::{ExpressionHead, Link, expression_head, link_of};
+use sf_lex::{Keyword, Name, Symbol, Token};
 use sf_refusal::{Rule, Spot};
 use sf_term::{BuildRefusal, Program};
-use std::alloc::Global;
-
-/// Why a program took no more, at the first of these tokens.
-pub fn refused(refusal: BuildRefusal, tokens: &[PlacedToken]) -> Stop
-    ensures { result ≡ stop_for refusal (length tokens.now) }
-{
-    match refusal {
-        BuildRefusal::TooMany => stop_at(Rule::TooMany, tokens),
-        BuildRefusal::TooDeep => stop_at(Rule::TooDeep, tokens),
-        BuildRefusal::BadName => stop_at(Rule::Unexpected, tokens),
-        BuildRefusal::Memory => Stop::Memory,
-    }
-}
 
 fn begins_expression(token: &Token) -> bool
     ensures { result ≡ begins_expression (token_of token.now) }
@@ -40,145 +28,6 @@ fn begins_expression(token: &Token) -> bool
         Token::Keyword(keyword) => expression_head(*keyword).is_some(),
         Token::Symbol(symbol) => *symbol == Symbol::Open,
     }
-}
-
-/// An expression would be 65 deep here.
-fn expression_too_deep(tokens: &[PlacedToken]) -> Stop
-    ensures { StopsReading {A = Expression} result (too_deep begins_expression (toks tokens.now)) }
-{
-    match tokens {
-        [first, ..] if begins_expression(&first.token) => stop_at(Rule::TooDeep, tokens),
-        _ => stop_at(Rule::Unexpected, tokens),
-    }
-}
-
-/// A name, which is the first of these tokens, and the tokens behind it.
-fn variable<'a>(
-    alloc: Global,
-    version: Version,
-    tokens: &'a [PlacedToken<'a>],
-    rest: &'a [PlacedToken<'a>],
-    program: &mut Program,
-    name: Name<'a>,
-    spot: Spot,
-) -> Result<(ExprId, &'a [PlacedToken<'a>]), Stop>
-    ensures reads { ReadsExpression program.old program.new result (expression_read (counts_of program.old) (variable_form (name_bytes name.entry)) (toks tokens.now) (toks rest.now)) }
-    ensures placed { IfOk result (λ x. Consumes (ExpressionPlaced version program.new x.0) (spot ∷ places rest.now) (places x.1.now)) }
-{
-    let name = String::from_str(alloc, name.as_str())?;
-    match program.name(name, spot) {
-        Ok(id) => Ok((id, rest)),
-        Err(refusal) => Err(refused(refusal, tokens)),
-    }
-}
-
-/// A number, which is the first of these tokens, and the tokens behind it.
-fn number<'a>(
-    version: Version,
-    tokens: &'a [PlacedToken<'a>],
-    rest: &'a [PlacedToken<'a>],
-    program: &mut Program,
-    number: i64,
-    spot: Spot,
-) -> Result<(ExprId, &'a [PlacedToken<'a>]), Stop>
-    ensures reads { ReadsExpression program.old program.new result (expression_read (counts_of program.old) (literal_form (int_literal number)) (toks tokens.now) (toks rest.now)) }
-    ensures placed { IfOk result (λ x. Consumes (ExpressionPlaced version program.new x.0) (spot ∷ places rest.now) (places x.1.now)) }
-{
-    match program.int(number, spot) {
-        Ok(id) => Ok((id, rest)),
-        Err(refusal) => Err(refused(refusal, tokens)),
-    }
-}
-
-/// True or false, which is the first of these tokens, and the tokens behind it.
-fn truth<'a>(
-    version: Version,
-    tokens: &'a [PlacedToken<'a>],
-    rest: &'a [PlacedToken<'a>],
-    program: &mut Program,
-    truth: bool,
-    spot: Spot,
-) -> Result<(ExprId, &'a [PlacedToken<'a>]), Stop>
-    ensures reads { ReadsExpression program.old program.new result (expression_read (counts_of program.old) (literal_form (truth_literal truth)) (toks tokens.now) (toks rest.now)) }
-    ensures placed { IfOk result (λ x. Consumes (ExpressionPlaced version program.new x.0) (spot ∷ places rest.now) (places x.1.now)) }
-{
-    match program.add_expression(ExprNode::Truth(truth), spot) {
-        Ok(id) => Ok((id, rest)),
-        Err(refusal) => Err(refused(refusal, tokens)),
-    }
-}
-
-/// A text, which is the first of these tokens, and the tokens behind it.
-fn text<'a>(
-    alloc: Global,
-    version: Version,
-    tokens: &'a [PlacedToken<'a>],
-    rest: &'a [PlacedToken<'a>],
-    program: &mut Program,
-    text: &String,
-    spot: Spot,
-) -> Result<(ExprId, &'a [PlacedToken<'a>]), Stop>
-    ensures reads { ReadsExpression program.old program.new result (expression_read (counts_of program.old) (literal_form (text_literal (string_bytes text.now))) (toks tokens.now) (toks rest.now)) }
-    ensures placed { IfOk result (λ x. Consumes (ExpressionPlaced version program.new x.0) (spot ∷ places rest.now) (places x.1.now)) }
-{
-    let text = String::from_str(alloc, text.as_str())?;
-    let constant = Constant::text(alloc, text)?;
-    match program.constant(constant, spot) {
-        Ok(id) => Ok((id, rest)),
-        Err(refusal) => Err(refused(refusal, tokens)),
-    }
-}
-
-/// The only value of its type, whose opening bracket is the first of these tokens, and the tokens behind it.
-fn unit<'a>(
-    version: Version,
-    tokens: &'a [PlacedToken<'a>],
-    rest: &'a [PlacedToken<'a>],
-    program: &mut Program,
-    opening: Spot,
-    spot: Spot,
-) -> Result<(ExprId, &'a [PlacedToken<'a>]), Stop>
-    ensures reads { ReadsExpression program.old program.new result (expression_read (counts_of program.old) (literal_form unit_literal) (toks tokens.now) (toks rest.now)) }
-    ensures placed { IfOk result (λ x. Consumes (ExpressionPlaced version program.new x.0) (opening ∷ spot ∷ places rest.now) (places x.1.now)) }
-{
-    match program.add_expression(ExprNode::Unit, opening) {
-        Ok(id) => Ok((id, rest)),
-        Err(refusal) => Err(refused(refusal, tokens)),
-    }
-}
-
-/// No event, whose word is the first of these tokens, and the tokens behind its type.
-#[tactic(auto, unfolding(sf_grammar::specs::Reading::parse_none))]
-fn no_event<'a>(
-    alloc: Global,
-    version: Version,
-    tokens: &'a [PlacedToken<'a>],
-    rest: &'a [PlacedToken<'a>],
-    program: &mut Program,
-    spot: Spot,
-    left: u32,
-) -> Result<(ExprId, &'a [PlacedToken<'a>]), Stop>
-    ensures reads { ReadsExpression program.old program.new result (parse_none left version (counts_of program.old) (toks tokens.now) (toks rest.now)) }
-    ensures placed { IfOk result (λ x. Consumes (ExpressionPlaced version program.new x.0) (spot ∷ places rest.now) (places x.1.now)) }
-{
-    let (payload, rest) = inner_type(alloc, version, rest, rest, 0, left)?;
-    match program.constant(Constant::no_event(payload), spot) {
-        Ok(id) => Ok((id, rest)),
-        Err(refusal) => Err(refused(refusal, tokens)),
-    }
-}
-
-/// What stands between two expressions, and the tokens behind it.
-fn link<'a>(tokens: &'a [PlacedToken<'a>]) -> Result<(Link, &'a [PlacedToken<'a>]), Stop>
-    ensures reads { ReadsAs (λ l. l) result (parse_link (toks tokens.now)) }
-    ensures behind { IfOk result (λ x. BehindOne (places tokens.now) (places x.1.now)) }
-{
-    if let [first, rest @ ..] = tokens {
-        if let Some(link) = link_of(&first.token) {
-            return Ok((link, rest));
-        }
-    }
-    Err(stop_at(Rule::Unexpected, tokens))
 }
 
 /// Adds the one expression that two make.
@@ -204,405 +53,363 @@ fn add_linked(
     }
 }
 
-/// An expression of so much depth at most, 64 or less, and the tokens behind it.
-#[cycle(expression)]
-#[tactic(auto, using(crate::proofs::Deeper::expression_at_more, crate::proofs::Deeper::expression_at_zero))]
-pub fn expression<'a>(
-    alloc: Global,
-    version: Version,
-    tokens: &'a [PlacedToken<'a>],
-    program: &mut Program,
-    left: u32,
-) -> Result<(ExprId, &'a [PlacedToken<'a>]), Stop>
-    requires shallow { left ≤ 64 }
-    ensures reads { ReadsExpression program.old program.new result (parse_expression left version (counts_of program.old) (toks tokens.now)) }
-    ensures placed { IfOk result (λ x. Consumes (ExpressionPlaced version program.new x.0) (places tokens.now) (places x.1.now)) }
-{
-    if left == 0 {
-        return Err(expression_too_deep(tokens));
-    }
-    expression_form(alloc, version, tokens, program, left - 1)
-}
-
-#[cycle(expression)]
-fn expression_form<'a>(
-    alloc: Global,
-    version: Version,
-    tokens: &'a [PlacedToken<'a>],
-    program: &mut Program,
-    left: u32,
-) -> Result<(ExprId, &'a [PlacedToken<'a>]), Stop>
-    requires shallow { left ≤ 63 }
-    ensures reads { ReadsExpression program.old program.new result (parse_expression_form left version (parse_expression left version) (counts_of program.old) (toks tokens.now)) }
-    ensures placed { IfOk result (λ x. Consumes (ExpressionPlaced version program.new x.0) (places tokens.now) (places x.1.now)) }
-{
-    let [first, rest @ ..] = tokens else {
-        return Err(stop_at(Rule::Unexpected, tokens));
-    };
-    let spot = first.spot;
-    match &first.token {
-        Token::Name(name) => variable(alloc, version, tokens, rest, program, *name, spot),
-        Token::Number(value) => number(version, tokens, rest, program, *value, spot),
-        Token::Text(value) => text(alloc, version, tokens, rest, program, value, spot),
-        Token::Keyword(keyword) => match expression_head(*keyword) {
-            Some(head) => worded(alloc, version, tokens, rest, program, head, spot, left),
-            None => Err(stop_at(Rule::Unexpected, tokens)),
-        },
-        Token::Symbol(Symbol::Open) => {
-            bracketed(alloc, version, tokens, rest, program, spot, left)
-        }
-        Token::Symbol(_) => Err(stop_at(Rule::Unexpected, tokens)),
-    }
-}
-
-/// An expression whose word is the first of these tokens, and the tokens behind it.
-#[cycle(expression)]
-fn worded<'a>(
-    alloc: Global,
-    version: Version,
-    tokens: &'a [PlacedToken<'a>],
-    rest: &'a [PlacedToken<'a>],
-    program: &mut Program,
-    head: ExpressionHead,
-    spot: Spot,
-    left: u32,
-) -> Result<(ExprId, &'a [PlacedToken<'a>]), Stop>
-    requires shallow { left ≤ 63 }
-    requires stands { HasOperandsSo head }
-    ensures reads { ReadsExpression program.old program.new result (parse_worded_expression left version (parse_expression left version) (counts_of program.old) (Some head) (toks tokens.now) (toks rest.now)) }
-    ensures placed { IfOk result (λ x. Consumes (ExpressionPlaced version program.new x.0) (spot ∷ places rest.now) (places x.1.now)) }
-{
-    match head {
-        ExpressionHead::Truth(value) => truth(version, tokens, rest, program, value, spot),
-        ExpressionHead::NoEvent => no_event(alloc, version, tokens, rest, program, spot, left),
-        ExpressionHead::Prefixed(operator) => prefixed(
-            alloc, version, tokens, rest, program, operator, spot, left,
-        ),
-        ExpressionHead::OneInBrackets(operator) => one_in_brackets(
-            alloc, version, tokens, rest, program, operator, spot, left,
-        ),
-        ExpressionHead::TwoInBrackets(operator) => two_in_brackets(
-            alloc, version, tokens, rest, program, operator, spot, left,
-        ),
-        ExpressionHead::Conditional => {
-            conditional(alloc, version, tokens, rest, program, spot, left)
-        }
-        ExpressionHead::Let => let_in(alloc, version, tokens, rest, program, spot, left),
-        ExpressionHead::OneAndFunction(mapping) => one_and_function(
-            alloc, version, tokens, rest, program, mapping, spot, left,
-        ),
-        ExpressionHead::TwoAndFunction(folding) => two_and_function(
-            alloc, version, tokens, rest, program, folding, spot, left,
-        ),
-        ExpressionHead::Called => called(alloc, version, tokens, rest, program, spot, left),
-    }
-}
-
-/// What begins with an opening bracket, the first of these tokens, and the tokens behind it.
-#[cycle(expression)]
-fn bracketed<'a>(
-    alloc: Global,
-    version: Version,
-    tokens: &'a [PlacedToken<'a>],
-    rest: &'a [PlacedToken<'a>],
-    program: &mut Program,
-    spot: Spot,
-    left: u32,
-) -> Result<(ExprId, &'a [PlacedToken<'a>]), Stop>
-    requires shallow { left ≤ 63 }
-    ensures reads { ReadsExpression program.old program.new result (bracketed_from (parse_expression left version) (counts_of program.old) (behind_close (toks rest.now)) (toks tokens.now) (toks rest.now)) }
-    ensures placed { IfOk result (λ x. Consumes (ExpressionPlaced version program.new x.0) (spot ∷ places rest.now) (places x.1.now)) }
-{
-    if let [closing, behind @ ..] = rest {
-        if let Token::Symbol(Symbol::Close) = &closing.token {
-            return unit(version, tokens, behind, program, spot, closing.spot);
+impl<'a> Cursor<'a> {
+    /// An expression would be 65 deep here.
+    fn expression_too_deep(&self) -> Stop
+        ensures { StopsReading {A = Expression} result (too_deep begins_expression (ahead self.now)) }
+    {
+        match self.tokens {
+            [first, ..] if begins_expression(&first.token) => self.stop(Rule::TooDeep),
+            _ => self.stop(Rule::Unexpected),
         }
     }
-    linked(alloc, version, tokens, rest, program, spot, left)
-}
 
-/// Two expressions in brackets, the opening one of which is the first of these tokens, and the tokens behind them.
-#[cycle(expression)]
-#[tactic(auto, unfolding(sf_grammar::specs::Reading::parse_linked))]
-fn linked<'a>(
-    alloc: Global,
-    version: Version,
-    tokens: &'a [PlacedToken<'a>],
-    rest: &'a [PlacedToken<'a>],
-    program: &mut Program,
-    spot: Spot,
-    left: u32,
-) -> Result<(ExprId, &'a [PlacedToken<'a>]), Stop>
-    requires shallow { left ≤ 63 }
-    ensures reads { ReadsExpression program.old program.new result (parse_linked (parse_expression left version) (counts_of program.old) (toks tokens.now) (toks rest.now)) }
-    ensures placed { IfOk result (λ x. Consumes (ExpressionPlaced version program.new x.0) (spot ∷ places rest.now) (places x.1.now)) }
-{
-    let (one, rest) = expression(alloc, version, rest, program, left)?;
-    let (link, rest) = link(rest)?;
-    let (two, rest) = expression(alloc, version, rest, program, left)?;
-    let rest = symbol(rest, Symbol::Close)?;
-    match add_linked(program, link, one, two, spot) {
-        Ok(id) => Ok((id, rest)),
-        Err(refusal) => Err(refused(refusal, tokens)),
+    /// What stands between two expressions.
+    fn link(&mut self) -> Result<Link, Stop>
+        ensures reads { ReadsAs (λ l. l) result self.new (parse_link (ahead self.old)) }
+        ensures behind { IfOk result (λ l. BehindOne (spots_ahead self.old) (spots_ahead self.new)) }
+    {
+        if let [first, rest @ ..] = self.tokens {
+            if let Some(link) = link_of(&first.token) {
+                self.tokens = rest;
+                return Ok(link);
+            }
+        }
+        Err(self.stop(Rule::Unexpected))
     }
 }
 
-/// An operator on one expression, whose word is the first of these tokens, and the tokens behind it.
-#[cycle(expression)]
-#[tactic(auto, unfolding(sf_grammar::specs::Reading::parse_prefixed))]
-fn prefixed<'a>(
-    alloc: Global,
-    version: Version,
-    tokens: &'a [PlacedToken<'a>],
-    rest: &'a [PlacedToken<'a>],
-    program: &mut Program,
-    operator: Unary,
-    spot: Spot,
-    left: u32,
-) -> Result<(ExprId, &'a [PlacedToken<'a>]), Stop>
-    requires shallow { left ≤ 63 }
-    requires stands { takes_brackets operator ≡ false }
-    ensures reads { ReadsExpression program.old program.new result (parse_prefixed (parse_expression left version) (counts_of program.old) operator (toks tokens.now) (toks rest.now)) }
-    ensures placed { IfOk result (λ x. Consumes (ExpressionPlaced version program.new x.0) (spot ∷ places rest.now) (places x.1.now)) }
-{
-    let (part, rest) = expression(alloc, version, rest, program, left)?;
-    match program.applied(operator, part, spot) {
-        Ok(id) => Ok((id, rest)),
-        Err(refusal) => Err(refused(refusal, tokens)),
+impl<'a> Reader<'a> {
+    /// A name, which was its first token.
+    fn variable(&mut self, start: Mark, name: Name<'a>) -> Result<ExprId, Stop>
+        ensures reads { ReadsForm self.old self.new start result (expression_read (counts_of self.old.program) (variable_form (name_bytes name.entry))) }
+        ensures placed { StandsFrom start (ExpressionPlaced self.old.version self.new.program) result self.old.cursor self.new.cursor }
+        ensures version { self.new.version ≡ self.old.version }
+    {
+        let name = String::from_str(self.cursor.alloc, name.as_str())?;
+        start.built(self.program.name(name, start.spot))
     }
-}
 
-/// An operator on one expression in brackets, whose word is the first of these tokens, and the tokens behind it.
-#[cycle(expression)]
-#[tactic(auto, unfolding(sf_grammar::specs::Reading::parse_one_in_brackets))]
-fn one_in_brackets<'a>(
-    alloc: Global,
-    version: Version,
-    tokens: &'a [PlacedToken<'a>],
-    rest: &'a [PlacedToken<'a>],
-    program: &mut Program,
-    operator: Unary,
-    spot: Spot,
-    left: u32,
-) -> Result<(ExprId, &'a [PlacedToken<'a>]), Stop>
-    requires shallow { left ≤ 63 }
-    requires stands { takes_brackets operator ≡ true }
-    ensures reads { ReadsExpression program.old program.new result (parse_one_in_brackets (parse_expression left version) (counts_of program.old) operator (toks tokens.now) (toks rest.now)) }
-    ensures placed { IfOk result (λ x. Consumes (ExpressionPlaced version program.new x.0) (spot ∷ places rest.now) (places x.1.now)) }
-{
-    let rest = symbol(rest, Symbol::Open)?;
-    let (part, rest) = expression(alloc, version, rest, program, left)?;
-    let rest = symbol(rest, Symbol::Close)?;
-    match program.applied(operator, part, spot) {
-        Ok(id) => Ok((id, rest)),
-        Err(refusal) => Err(refused(refusal, tokens)),
+    /// A number, which was its first token.
+    fn number(&mut self, start: Mark, number: i64) -> Result<ExprId, Stop>
+        ensures reads { ReadsForm self.old self.new start result (expression_read (counts_of self.old.program) (literal_form (int_literal number))) }
+        ensures placed { StandsFrom start (ExpressionPlaced self.old.version self.new.program) result self.old.cursor self.new.cursor }
+        ensures version { self.new.version ≡ self.old.version }
+    {
+        start.built(self.program.int(number, start.spot))
     }
-}
 
-/// An operator on two expressions in brackets, whose word is the first of these tokens, and the tokens behind it.
-#[cycle(expression)]
-#[tactic(auto, unfolding(sf_grammar::specs::Reading::parse_two_in_brackets))]
-fn two_in_brackets<'a>(
-    alloc: Global,
-    version: Version,
-    tokens: &'a [PlacedToken<'a>],
-    rest: &'a [PlacedToken<'a>],
-    program: &mut Program,
-    operator: Operator,
-    spot: Spot,
-    left: u32,
-) -> Result<(ExprId, &'a [PlacedToken<'a>]), Stop>
-    requires shallow { left ≤ 63 }
-    requires stands { stands_between operator ≡ false }
-    ensures reads { ReadsExpression program.old program.new result (parse_two_in_brackets (parse_expression left version) (counts_of program.old) operator (toks tokens.now) (toks rest.now)) }
-    ensures placed { IfOk result (λ x. Consumes (ExpressionPlaced version program.new x.0) (spot ∷ places rest.now) (places x.1.now)) }
-{
-    let rest = symbol(rest, Symbol::Open)?;
-    let (one, rest) = expression(alloc, version, rest, program, left)?;
-    let rest = symbol(rest, Symbol::Comma)?;
-    let (two, rest) = expression(alloc, version, rest, program, left)?;
-    let rest = symbol(rest, Symbol::Close)?;
-    match program.operation(one, operator, two, spot) {
-        Ok(id) => Ok((id, rest)),
-        Err(refusal) => Err(refused(refusal, tokens)),
+    /// True or false, which was its first token.
+    fn truth(&mut self, start: Mark, truth: bool) -> Result<ExprId, Stop>
+        ensures reads { ReadsForm self.old self.new start result (expression_read (counts_of self.old.program) (literal_form (truth_literal truth))) }
+        ensures placed { StandsFrom start (ExpressionPlaced self.old.version self.new.program) result self.old.cursor self.new.cursor }
+        ensures version { self.new.version ≡ self.old.version }
+    {
+        let node = ExprNode::Truth(truth);
+        start.built(self.program.add_expression(node, start.spot))
     }
-}
 
-/// One of two expressions by a condition, whose word is the first of these tokens, and the tokens behind it.
-#[cycle(expression)]
-#[tactic(auto, unfolding(sf_grammar::specs::Reading::parse_conditional))]
-fn conditional<'a>(
-    alloc: Global,
-    version: Version,
-    tokens: &'a [PlacedToken<'a>],
-    rest: &'a [PlacedToken<'a>],
-    program: &mut Program,
-    spot: Spot,
-    left: u32,
-) -> Result<(ExprId, &'a [PlacedToken<'a>]), Stop>
-    requires shallow { left ≤ 63 }
-    ensures reads { ReadsExpression program.old program.new result (parse_conditional (parse_expression left version) (counts_of program.old) (toks tokens.now) (toks rest.now)) }
-    ensures placed { IfOk result (λ x. Consumes (ExpressionPlaced version program.new x.0) (spot ∷ places rest.now) (places x.1.now)) }
-{
-    let (condition, rest) = expression(alloc, version, rest, program, left)?;
-    let rest = keyword(rest, Keyword::Then)?;
-    let (one, rest) = expression(alloc, version, rest, program, left)?;
-    let rest = keyword(rest, Keyword::Else)?;
-    let (two, rest) = expression(alloc, version, rest, program, left)?;
-    match program.conditional(condition, one, two, spot) {
-        Ok(id) => Ok((id, rest)),
-        Err(refusal) => Err(refused(refusal, tokens)),
+    /// A text, which was its first token.
+    fn text(&mut self, start: Mark, text: &String) -> Result<ExprId, Stop>
+        ensures reads { ReadsForm self.old self.new start result (expression_read (counts_of self.old.program) (literal_form (text_literal (string_bytes text.now)))) }
+        ensures placed { StandsFrom start (ExpressionPlaced self.old.version self.new.program) result self.old.cursor self.new.cursor }
+        ensures version { self.new.version ≡ self.old.version }
+    {
+        let text = String::from_str(self.cursor.alloc, text.as_str())?;
+        let constant = Constant::text(self.cursor.alloc, text)?;
+        start.built(self.program.constant(constant, start.spot))
     }
-}
 
-/// An expression with names for a value, whose word is the first of these tokens, and the tokens behind it.
-#[cycle(expression)]
-#[tactic(auto, unfolding(sf_grammar::specs::Reading::parse_let))]
-fn let_in<'a>(
-    alloc: Global,
-    version: Version,
-    tokens: &'a [PlacedToken<'a>],
-    rest: &'a [PlacedToken<'a>],
-    program: &mut Program,
-    spot: Spot,
-    left: u32,
-) -> Result<(ExprId, &'a [PlacedToken<'a>]), Stop>
-    requires shallow { left ≤ 63 }
-    ensures reads { ReadsExpression program.old program.new result (parse_let left (parse_expression left version) (counts_of program.old) (toks tokens.now) (toks rest.now)) }
-    ensures placed { IfOk result (λ x. Consumes (ExpressionPlaced version program.new x.0) (spot ∷ places rest.now) (places x.1.now)) }
-{
-    let (pattern, rest) = pattern(alloc, rest, left)?;
-    let rest = symbol(rest, Symbol::Equals)?;
-    let (value, rest) = expression(alloc, version, rest, program, left)?;
-    let rest = keyword(rest, Keyword::In)?;
-    let (body, rest) = expression(alloc, version, rest, program, left)?;
-    match program.mapped(value, Mapping::Let, pattern, body, spot) {
-        Ok(id) => Ok((id, rest)),
-        Err(refusal) => Err(refused(refusal, tokens)),
+    /// The only value of its type, whose closing bracket was its last token.
+    fn unit(&mut self, start: Mark) -> Result<ExprId, Stop>
+        ensures reads { ReadsForm self.old self.new start result (expression_read (counts_of self.old.program) (literal_form unit_literal)) }
+        ensures placed { (closing : Place) → IfOk result (λ id. Consumes (ExpressionPlaced self.old.version self.new.program id) (start.spot ∷ closing ∷ spots_ahead self.old.cursor) (spots_ahead self.new.cursor)) }
+        ensures version { self.new.version ≡ self.old.version }
+    {
+        start.built(self.program.add_expression(ExprNode::Unit, start.spot))
     }
-}
 
-/// A value and a function in brackets, whose word is the first of these tokens, and the tokens behind it.
-#[cycle(expression)]
-#[tactic(auto, unfolding(sf_grammar::specs::Reading::parse_one_and_function))]
-fn one_and_function<'a>(
-    alloc: Global,
-    version: Version,
-    tokens: &'a [PlacedToken<'a>],
-    rest: &'a [PlacedToken<'a>],
-    program: &mut Program,
-    mapping: Mapping,
-    spot: Spot,
-    left: u32,
-) -> Result<(ExprId, &'a [PlacedToken<'a>]), Stop>
-    requires shallow { left ≤ 63 }
-    requires stands { maps_in_brackets mapping ≡ true }
-    ensures reads { ReadsExpression program.old program.new result (parse_one_and_function left (parse_expression left version) (counts_of program.old) mapping (toks tokens.now) (toks rest.now)) }
-    ensures placed { IfOk result (λ x. Consumes (ExpressionPlaced version program.new x.0) (spot ∷ places rest.now) (places x.1.now)) }
-{
-    let rest = symbol(rest, Symbol::Open)?;
-    let (value, rest) = expression(alloc, version, rest, program, left)?;
-    let rest = symbol(rest, Symbol::Comma)?;
-    let (pattern, body, rest) = mapping_parts(alloc, version, rest, program, left)?;
-    let rest = symbol(rest, Symbol::Close)?;
-    match program.mapped(value, mapping, pattern, body, spot) {
-        Ok(id) => Ok((id, rest)),
-        Err(refusal) => Err(refused(refusal, tokens)),
+    /// No event, behind its word.
+    #[tactic(auto, unfolding(sf_grammar::specs::Reading::parse_none))]
+    fn no_event(&mut self, start: Mark, left: u32) -> Result<ExprId, Stop>
+        ensures reads { ReadsForm self.old self.new start result (parse_none left self.old.version (counts_of self.old.program)) }
+        ensures placed { StandsFrom start (ExpressionPlaced self.old.version self.new.program) result self.old.cursor self.new.cursor }
+        ensures version { self.new.version ≡ self.old.version }
+    {
+        let payload = self.cursor.type_within(self.version, left)?;
+        let constant = Constant::no_event(payload);
+        start.built(self.program.constant(constant, start.spot))
     }
-}
 
-/// Two values and a function in brackets, whose word is the first of these tokens, and the tokens behind it.
-#[cycle(expression)]
-#[tactic(auto, unfolding(sf_grammar::specs::Reading::parse_two_and_function))]
-fn two_and_function<'a>(
-    alloc: Global,
-    version: Version,
-    tokens: &'a [PlacedToken<'a>],
-    rest: &'a [PlacedToken<'a>],
-    program: &mut Program,
-    folding: Folding,
-    spot: Spot,
-    left: u32,
-) -> Result<(ExprId, &'a [PlacedToken<'a>]), Stop>
-    requires shallow { left ≤ 63 }
-    ensures reads { ReadsExpression program.old program.new result (parse_two_and_function left (parse_expression left version) (counts_of program.old) folding (toks tokens.now) (toks rest.now)) }
-    ensures placed { IfOk result (λ x. Consumes (ExpressionPlaced version program.new x.0) (spot ∷ places rest.now) (places x.1.now)) }
-{
-    let rest = symbol(rest, Symbol::Open)?;
-    let (one, rest) = expression(alloc, version, rest, program, left)?;
-    let rest = symbol(rest, Symbol::Comma)?;
-    let (two, rest) = expression(alloc, version, rest, program, left)?;
-    let rest = symbol(rest, Symbol::Comma)?;
-    let (pattern, body, rest) = mapping_parts(alloc, version, rest, program, left)?;
-    let rest = symbol(rest, Symbol::Close)?;
-    match program.folded(one, folding, two, pattern, body, spot) {
-        Ok(id) => Ok((id, rest)),
-        Err(refusal) => Err(refused(refusal, tokens)),
+    /// An expression of so much depth at most, 64 or less.
+    #[cycle(expression)]
+    #[tactic(auto, using(crate::proofs::Deeper::expression_at_more, crate::proofs::Deeper::expression_at_zero))]
+    pub fn expression(&mut self, left: u32) -> Result<ExprId, Stop>
+        requires shallow { left ≤ 64 }
+        ensures reads { ReadsExpression self.old self.new result (parse_expression left self.old.version (counts_of self.old.program) (ahead self.old.cursor)) }
+        ensures placed { StandsOn (ExpressionPlaced self.old.version self.new.program) result self.old.cursor self.new.cursor }
+        ensures version { self.new.version ≡ self.old.version }
+    {
+        if left == 0 {
+            return Err(self.cursor.expression_too_deep());
+        }
+        self.expression_form(left - 1)
     }
-}
 
-/// A call of a stored function, whose word is the first of these tokens, and the tokens behind it.
-#[cycle(expression)]
-#[tactic(auto, unfolding(sf_grammar::specs::Reading::parse_called))]
-fn called<'a>(
-    alloc: Global,
-    version: Version,
-    tokens: &'a [PlacedToken<'a>],
-    rest: &'a [PlacedToken<'a>],
-    program: &mut Program,
-    spot: Spot,
-    left: u32,
-) -> Result<(ExprId, &'a [PlacedToken<'a>]), Stop>
-    requires shallow { left ≤ 63 }
-    ensures reads { ReadsExpression program.old program.new result (parse_called (parse_expression left version) (counts_of program.old) (toks tokens.now) (toks rest.now)) }
-    ensures placed { IfOk result (λ x. Consumes (ExpressionPlaced version program.new x.0) (spot ∷ places rest.now) (places x.1.now)) }
-{
-    let (function, rest) = name(rest)?;
-    let rest = symbol(rest, Symbol::Open)?;
-    let (part, rest) = expression(alloc, version, rest, program, left)?;
-    let rest = symbol(rest, Symbol::Close)?;
-    let name = String::from_str(alloc, function.name.as_str())?;
-    match program.called(name, function.spot, part, spot) {
-        Ok(id) => Ok((id, rest)),
-        Err(refusal) => Err(refused(refusal, tokens)),
+    #[cycle(expression)]
+    fn expression_form(&mut self, left: u32) -> Result<ExprId, Stop>
+        requires shallow { left ≤ 63 }
+        ensures reads { ReadsExpression self.old self.new result (parse_expression_form left self.old.version (parse_expression left self.old.version) (counts_of self.old.program) (ahead self.old.cursor)) }
+        ensures placed { StandsOn (ExpressionPlaced self.old.version self.new.program) result self.old.cursor self.new.cursor }
+        ensures version { self.new.version ≡ self.old.version }
+    {
+        let First { token, start } = self.cursor.first()?;
+        match token {
+            Token::Name(name) => self.variable(start, *name),
+            Token::Number(value) => self.number(start, *value),
+            Token::Text(value) => self.text(start, value),
+            Token::Keyword(keyword) => match expression_head(*keyword) {
+                Some(head) => self.worded(start, head, left),
+                None => Err(Stop::At(Rule::Unexpected, start.ahead)),
+            },
+            Token::Symbol(Symbol::Open) => self.bracketed(start, left),
+            Token::Symbol(_) => Err(Stop::At(Rule::Unexpected, start.ahead)),
+        }
     }
-}
 
-/// The pattern and the expression of a function, of so much depth at most, and the tokens behind them.
-#[cycle(expression)]
-fn mapping_parts<'a>(
-    alloc: Global,
-    version: Version,
-    tokens: &'a [PlacedToken<'a>],
-    program: &mut Program,
-    left: u32,
-) -> Result<(Pat, ExprId, &'a [PlacedToken<'a>]), Stop>
-    requires shallow { left ≤ 63 }
-    ensures reads { ReadsMapping program.old program.new result (parse_mapping left (parse_expression left version) (counts_of program.old) (toks tokens.now)) }
-    ensures placed { IfOk result (λ x. Consumes (Parted (PatternPlaced x.0) (ExpressionPlaced version program.new x.1)) (places tokens.now) (places x.2.now)) }
-{
-    let (pattern, rest) = pattern(alloc, tokens, left)?;
-    let rest = symbol(rest, Symbol::MapsTo)?;
-    let (body, rest) = expression(alloc, version, rest, program, left)?;
-    Ok((pattern, body, rest))
-}
+    /// An expression behind its word.
+    #[cycle(expression)]
+    fn worded(&mut self, start: Mark, head: ExpressionHead, left: u32) -> Result<ExprId, Stop>
+        requires shallow { left ≤ 63 }
+        requires stands { HasOperandsSo head }
+        ensures reads { ReadsForm self.old self.new start result (parse_worded_expression left self.old.version (parse_expression left self.old.version) (counts_of self.old.program) (Some head)) }
+        ensures placed { StandsFrom start (ExpressionPlaced self.old.version self.new.program) result self.old.cursor self.new.cursor }
+        ensures version { self.new.version ≡ self.old.version }
+    {
+        match head {
+            ExpressionHead::Truth(value) => self.truth(start, value),
+            ExpressionHead::NoEvent => self.no_event(start, left),
+            ExpressionHead::Prefixed(operator) => self.prefixed(start, operator, left),
+            ExpressionHead::OneInBrackets(operator) => self.one_in_brackets(start, operator, left),
+            ExpressionHead::TwoInBrackets(operator) => self.two_in_brackets(start, operator, left),
+            ExpressionHead::Conditional => self.conditional(start, left),
+            ExpressionHead::Let => self.let_in(start, left),
+            ExpressionHead::OneAndFunction(mapping) => self.one_and_function(start, mapping, left),
+            ExpressionHead::TwoAndFunction(folding) => self.two_and_function(start, folding, left),
+            ExpressionHead::Called => self.called(start, left),
+        }
+    }
 
-/// A function, whose pattern and expression are of so much depth at most, 63 or less, and the tokens behind it.
-#[tactic(auto, unfolding(sf_grammar::specs::Reading::parse_function))]
-pub fn function<'a>(
-    alloc: Global,
-    version: Version,
-    tokens: &'a [PlacedToken<'a>],
-    program: &mut Program,
-    left: u32,
-) -> Result<(FunctionId, &'a [PlacedToken<'a>]), Stop>
-    requires shallow { left ≤ 63 }
-    ensures reads { ReadsFunction program.old program.new result (parse_function left version (counts_of program.old) (toks tokens.now)) }
-    ensures placed { IfOk result (λ x. Consumes (FunctionPlaced version program.new x.0) (places tokens.now) (places x.1.now)) }
-{
-    let (pattern, body, rest) = mapping_parts(alloc, version, tokens, program, left)?;
-    match program.function(pattern, body) {
-        Ok(id) => Ok((id, rest)),
-        Err(refusal) => Err(refused(refusal, tokens)),
+    /// What begins with an opening bracket, behind it.
+    #[cycle(expression)]
+    fn bracketed(&mut self, start: Mark, left: u32) -> Result<ExprId, Stop>
+        requires shallow { left ≤ 63 }
+        ensures reads { ReadsForm self.old self.new start result (bracketed_from (parse_expression left self.old.version) (counts_of self.old.program) (behind_close (ahead self.old.cursor))) }
+        ensures placed { StandsFrom start (ExpressionPlaced self.old.version self.new.program) result self.old.cursor self.new.cursor }
+        ensures version { self.new.version ≡ self.old.version }
+    {
+        match self.cursor.behind_close() {
+            Some(behind) => {
+                self.cursor = behind;
+                self.unit(start)
+            }
+            None => self.linked(start, left),
+        }
+    }
+
+    /// Two expressions in brackets, behind the opening one.
+    #[cycle(expression)]
+    #[tactic(auto, unfolding(sf_grammar::specs::Reading::parse_linked))]
+    fn linked(&mut self, start: Mark, left: u32) -> Result<ExprId, Stop>
+        requires shallow { left ≤ 63 }
+        ensures reads { ReadsForm self.old self.new start result (parse_linked (parse_expression left self.old.version) (counts_of self.old.program)) }
+        ensures placed { StandsFrom start (ExpressionPlaced self.old.version self.new.program) result self.old.cursor self.new.cursor }
+        ensures version { self.new.version ≡ self.old.version }
+    {
+        let one = self.expression(left)?;
+        let link = self.cursor.link()?;
+        let two = self.expression(left)?;
+        self.cursor.symbol(Symbol::Close)?;
+        start.built(add_linked(&mut self.program, link, one, two, start.spot))
+    }
+
+    /// An operator on one expression, behind its word.
+    #[cycle(expression)]
+    #[tactic(auto, unfolding(sf_grammar::specs::Reading::parse_prefixed))]
+    fn prefixed(&mut self, start: Mark, operator: Unary, left: u32) -> Result<ExprId, Stop>
+        requires shallow { left ≤ 63 }
+        requires stands { takes_brackets operator ≡ false }
+        ensures reads { ReadsForm self.old self.new start result (parse_prefixed (parse_expression left self.old.version) (counts_of self.old.program) operator) }
+        ensures placed { StandsFrom start (ExpressionPlaced self.old.version self.new.program) result self.old.cursor self.new.cursor }
+        ensures version { self.new.version ≡ self.old.version }
+    {
+        let part = self.expression(left)?;
+        start.built(self.program.applied(operator, part, start.spot))
+    }
+
+    /// An operator on one expression in brackets, behind its word.
+    #[cycle(expression)]
+    #[tactic(auto, unfolding(sf_grammar::specs::Reading::parse_one_in_brackets))]
+    fn one_in_brackets(&mut self, start: Mark, operator: Unary, left: u32) -> Result<ExprId, Stop>
+        requires shallow { left ≤ 63 }
+        requires stands { takes_brackets operator ≡ true }
+        ensures reads { ReadsForm self.old self.new start result (parse_one_in_brackets (parse_expression left self.old.version) (counts_of self.old.program) operator) }
+        ensures placed { StandsFrom start (ExpressionPlaced self.old.version self.new.program) result self.old.cursor self.new.cursor }
+        ensures version { self.new.version ≡ self.old.version }
+    {
+        self.cursor.symbol(Symbol::Open)?;
+        let part = self.expression(left)?;
+        self.cursor.symbol(Symbol::Close)?;
+        start.built(self.program.applied(operator, part, start.spot))
+    }
+
+    /// An operator on two expressions in brackets, behind its word.
+    #[cycle(expression)]
+    #[tactic(auto, unfolding(sf_grammar::specs::Reading::parse_two_in_brackets))]
+    fn two_in_brackets(
+        &mut self,
+        start: Mark,
+        operator: Operator,
+        left: u32,
+    ) -> Result<ExprId, Stop>
+        requires shallow { left ≤ 63 }
+        requires stands { stands_between operator ≡ false }
+        ensures reads { ReadsForm self.old self.new start result (parse_two_in_brackets (parse_expression left self.old.version) (counts_of self.old.program) operator) }
+        ensures placed { StandsFrom start (ExpressionPlaced self.old.version self.new.program) result self.old.cursor self.new.cursor }
+        ensures version { self.new.version ≡ self.old.version }
+    {
+        self.cursor.symbol(Symbol::Open)?;
+        let one = self.expression(left)?;
+        self.cursor.symbol(Symbol::Comma)?;
+        let two = self.expression(left)?;
+        self.cursor.symbol(Symbol::Close)?;
+        start.built(self.program.operation(one, operator, two, start.spot))
+    }
+
+    /// One of two expressions by a condition, behind its word.
+    #[cycle(expression)]
+    #[tactic(auto, unfolding(sf_grammar::specs::Reading::parse_conditional))]
+    fn conditional(&mut self, start: Mark, left: u32) -> Result<ExprId, Stop>
+        requires shallow { left ≤ 63 }
+        ensures reads { ReadsForm self.old self.new start result (parse_conditional (parse_expression left self.old.version) (counts_of self.old.program)) }
+        ensures placed { StandsFrom start (ExpressionPlaced self.old.version self.new.program) result self.old.cursor self.new.cursor }
+        ensures version { self.new.version ≡ self.old.version }
+    {
+        let condition = self.expression(left)?;
+        self.cursor.keyword(Keyword::Then)?;
+        let one = self.expression(left)?;
+        self.cursor.keyword(Keyword::Else)?;
+        let two = self.expression(left)?;
+        start.built(self.program.conditional(condition, one, two, start.spot))
+    }
+
+    /// An expression with names for a value, behind its word.
+    #[cycle(expression)]
+    #[tactic(auto, unfolding(sf_grammar::specs::Reading::parse_let))]
+    fn let_in(&mut self, start: Mark, left: u32) -> Result<ExprId, Stop>
+        requires shallow { left ≤ 63 }
+        ensures reads { ReadsForm self.old self.new start result (parse_let left (parse_expression left self.old.version) (counts_of self.old.program)) }
+        ensures placed { StandsFrom start (ExpressionPlaced self.old.version self.new.program) result self.old.cursor self.new.cursor }
+        ensures version { self.new.version ≡ self.old.version }
+    {
+        let pattern = self.cursor.pattern(left)?;
+        self.cursor.symbol(Symbol::Equals)?;
+        let value = self.expression(left)?;
+        self.cursor.keyword(Keyword::In)?;
+        let body = self.expression(left)?;
+        let added = self
+            .program
+            .mapped(value, Mapping::Let, pattern, body, start.spot);
+        start.built(added)
+    }
+
+    /// A value and a function in brackets, behind their word.
+    #[cycle(expression)]
+    #[tactic(auto, unfolding(sf_grammar::specs::Reading::parse_one_and_function))]
+    fn one_and_function(&mut self, start: Mark, mapping: Mapping, left: u32) -> Result<ExprId, Stop>
+        requires shallow { left ≤ 63 }
+        requires stands { maps_in_brackets mapping ≡ true }
+        ensures reads { ReadsForm self.old self.new start result (parse_one_and_function left (parse_expression left self.old.version) (counts_of self.old.program) mapping) }
+        ensures placed { StandsFrom start (ExpressionPlaced self.old.version self.new.program) result self.old.cursor self.new.cursor }
+        ensures version { self.new.version ≡ self.old.version }
+    {
+        self.cursor.symbol(Symbol::Open)?;
+        let value = self.expression(left)?;
+        self.cursor.symbol(Symbol::Comma)?;
+        let (pattern, body) = self.mapping_parts(left)?;
+        self.cursor.symbol(Symbol::Close)?;
+        let added = self
+            .program
+            .mapped(value, mapping, pattern, body, start.spot);
+        start.built(added)
+    }
+
+    /// Two values and a function in brackets, behind their word.
+    #[cycle(expression)]
+    #[tactic(auto, unfolding(sf_grammar::specs::Reading::parse_two_and_function))]
+    fn two_and_function(&mut self, start: Mark, folding: Folding, left: u32) -> Result<ExprId, Stop>
+        requires shallow { left ≤ 63 }
+        ensures reads { ReadsForm self.old self.new start result (parse_two_and_function left (parse_expression left self.old.version) (counts_of self.old.program) folding) }
+        ensures placed { StandsFrom start (ExpressionPlaced self.old.version self.new.program) result self.old.cursor self.new.cursor }
+        ensures version { self.new.version ≡ self.old.version }
+    {
+        self.cursor.symbol(Symbol::Open)?;
+        let one = self.expression(left)?;
+        self.cursor.symbol(Symbol::Comma)?;
+        let two = self.expression(left)?;
+        self.cursor.symbol(Symbol::Comma)?;
+        let (pattern, body) = self.mapping_parts(left)?;
+        self.cursor.symbol(Symbol::Close)?;
+        let added = self
+            .program
+            .folded(one, folding, two, pattern, body, start.spot);
+        start.built(added)
+    }
+
+    /// A call of a stored function, behind its word.
+    #[cycle(expression)]
+    #[tactic(auto, unfolding(sf_grammar::specs::Reading::parse_called))]
+    fn called(&mut self, start: Mark, left: u32) -> Result<ExprId, Stop>
+        requires shallow { left ≤ 63 }
+        ensures reads { ReadsForm self.old self.new start result (parse_called (parse_expression left self.old.version) (counts_of self.old.program)) }
+        ensures placed { StandsFrom start (ExpressionPlaced self.old.version self.new.program) result self.old.cursor self.new.cursor }
+        ensures version { self.new.version ≡ self.old.version }
+    {
+        let function = self.cursor.name()?;
+        self.cursor.symbol(Symbol::Open)?;
+        let part = self.expression(left)?;
+        self.cursor.symbol(Symbol::Close)?;
+        let name = String::from_str(self.cursor.alloc, function.name.as_str())?;
+        start.built(self.program.called(name, function.spot, part, start.spot))
+    }
+
+    /// The pattern and the expression of a function, of so much depth at most.
+    #[cycle(expression)]
+    fn mapping_parts(&mut self, left: u32) -> Result<(Pat, ExprId), Stop>
+        requires shallow { left ≤ 63 }
+        ensures reads { ReadsMapping self.old self.new result (parse_mapping left (parse_expression left self.old.version) (counts_of self.old.program) (ahead self.old.cursor)) }
+        ensures placed { StandsOn (λ x. Parted (PatternPlaced x.0) (ExpressionPlaced self.old.version self.new.program x.1)) result self.old.cursor self.new.cursor }
+        ensures version { self.new.version ≡ self.old.version }
+    {
+        let pattern = self.cursor.pattern(left)?;
+        self.cursor.symbol(Symbol::MapsTo)?;
+        let body = self.expression(left)?;
+        Ok((pattern, body))
+    }
+
+    /// A function, whose pattern and expression are of so much depth at most, 63 or less.
+    #[tactic(auto, unfolding(sf_grammar::specs::Reading::parse_function))]
+    pub fn function(&mut self, left: u32) -> Result<FunctionId, Stop>
+        requires shallow { left ≤ 63 }
+        ensures reads { ReadsFunction self.old self.new result (parse_function left self.old.version (counts_of self.old.program) (ahead self.old.cursor)) }
+        ensures placed { StandsOn (FunctionPlaced self.old.version self.new.program) result self.old.cursor self.new.cursor }
+        ensures version { self.new.version ≡ self.old.version }
+    {
+        let ahead = self.cursor.tokens.len();
+        let (pattern, body) = self.mapping_parts(left)?;
+        match self.program.function(pattern, body) {
+            Ok(id) => Ok(id),
+            Err(refusal) => Err(refused(refusal, ahead)),
+        }
     }
 }

@@ -1,14 +1,15 @@
 //! Reads types, patterns, expressions and functions from tokens.
 #![tactic(auto)]
 
+mod cursor;
 mod expressions;
-mod part;
+mod mark;
 mod patterns;
+mod reader;
 mod stop;
 mod types;
 
-pub use expressions::{expression, function, refused};
-pub use part::{Named, keyword, name, number, stop_at, symbol};
-pub use patterns::pattern;
+pub use cursor::{Cursor, First, Named};
+pub use mark::{Mark, refused};
+pub use reader::Reader;
 pub use stop::Stop;
-pub use types::{inner_type, ty};

@@ -4,17 +4,16 @@ ghost use Rattle.sf_expr.specs.Expressions.{Pattern};
 ghost use Rattle.sf_expr.specs.Patterns.{pattern_of};
 ghost use Rattle.sf_term.specs.Names.{HasNames};
 ghost use Rattle.sf_lex.specs.Tokens.{token_of};
-ghost use Rattle.sf_parse.specs.Answers.{toks, StopsReading, ReadsAs};
+ghost use Rattle.sf_parse.specs.Answers.{ahead, StopsReading, ReadsAs};
 ghost use Rattle.sf_grammar.specs.Placing.{PatternPlaced};
-ghost use Rattle.sf_parse.specs.Consuming.{places, Consumes, ConsumesBehind};
+ghost use Rattle.sf_parse.specs.Consuming.{spots_ahead, StandsOn, ConsumesBehind};
 ghost use Rattle.sf_grammar.specs.Reading.{begins_pattern, too_deep, parse_pattern, parse_pattern_form, parse_pattern_pair};
 
-use crate::part::{stop_at, symbol};
+use crate::cursor::{Cursor, First};
 use crate::stop::Stop;
 use sf_expr::Pat;
-use sf_lex::{Keyword, PlacedToken, Symbol, Token};
+use sf_lex::{Keyword, Symbol, Token};
 use sf_refusal::Rule;
-use std::alloc::Global;
 
 fn begins_pattern(token: &Token) -> bool
     ensures { result ≡ begins_pattern (token_of token.now) }
@@ -25,73 +24,61 @@ fn begins_pattern(token: &Token) -> bool
     )
 }
 
-/// A pattern would be 65 deep here.
-fn pattern_too_deep(tokens: &[PlacedToken]) -> Stop
-    ensures { StopsReading {A = Pattern} result (too_deep begins_pattern (toks tokens.now)) }
-{
-    match tokens {
-        [first, ..] if begins_pattern(&first.token) => stop_at(Rule::TooDeep, tokens),
-        _ => stop_at(Rule::Unexpected, tokens),
-    }
-}
-
-/// A pattern of so much depth at most, and the tokens behind it.
-#[cycle(pattern)]
-#[tactic(auto, using(crate::proofs::Deeper::pattern_at_more, crate::proofs::Deeper::pattern_at_zero))]
-pub fn pattern<'a>(
-    alloc: Global,
-    tokens: &'a [PlacedToken<'a>],
-    left: u32,
-) -> Result<(Pat, &'a [PlacedToken<'a>]), Stop>
-    ensures reads { ReadsAs pattern_of result (parse_pattern left (toks tokens.now)) }
-    ensures names { IfOk result (λ x. HasNames (pattern_of x.0)) }
-    ensures placed { IfOk result (λ x. Consumes (PatternPlaced x.0) (places tokens.now) (places x.1.now)) }
-{
-    if left == 0 {
-        return Err(pattern_too_deep(tokens));
-    }
-    pattern_form(alloc, tokens, left - 1)
-}
-
-#[cycle(pattern)]
-fn pattern_form<'a>(
-    alloc: Global,
-    tokens: &'a [PlacedToken<'a>],
-    left: u32,
-) -> Result<(Pat, &'a [PlacedToken<'a>]), Stop>
-    ensures reads { ReadsAs pattern_of result (parse_pattern_form (parse_pattern left) (toks tokens.now)) }
-    ensures names { IfOk result (λ x. HasNames (pattern_of x.0)) }
-    ensures placed { IfOk result (λ x. Consumes (PatternPlaced x.0) (places tokens.now) (places x.1.now)) }
-{
-    let [first, rest @ ..] = tokens else {
-        return Err(stop_at(Rule::Unexpected, tokens));
-    };
-    match &first.token {
-        Token::Keyword(Keyword::Underscore) => Ok((Pat::unnamed(), rest)),
-        Token::Name(name) => {
-            let name = String::from_str(alloc, name.as_str())?;
-            Ok((Pat::name(name, first.spot), rest))
+impl<'a> Cursor<'a> {
+    /// A pattern would be 65 deep here.
+    fn pattern_too_deep(&self) -> Stop
+        ensures { StopsReading {A = Pattern} result (too_deep begins_pattern (ahead self.now)) }
+    {
+        match self.tokens {
+            [first, ..] if begins_pattern(&first.token) => self.stop(Rule::TooDeep),
+            _ => self.stop(Rule::Unexpected),
         }
-        Token::Symbol(Symbol::Open) => pattern_pair(alloc, rest, left),
-        _ => Err(stop_at(Rule::Unexpected, tokens)),
     }
-}
 
-/// The pattern of a pair behind its opening bracket, and the tokens behind it.
-#[cycle(pattern)]
-#[tactic(auto, unfolding(sf_grammar::specs::Reading::parse_pattern_pair))]
-fn pattern_pair<'a>(
-    alloc: Global,
-    tokens: &'a [PlacedToken<'a>],
-    left: u32,
-) -> Result<(Pat, &'a [PlacedToken<'a>]), Stop>
-    ensures reads { ReadsAs pattern_of result (parse_pattern_pair (parse_pattern left) (toks tokens.now)) }
-    ensures names { IfOk result (λ x. HasNames (pattern_of x.0)) }
-    ensures placed { IfOk result (λ x. ConsumesBehind (PatternPlaced x.0) (places tokens.now) (places x.1.now)) }
-{
-    let (first, rest) = pattern(alloc, tokens, left)?;
-    let rest = symbol(rest, Symbol::Comma)?;
-    let (second, rest) = pattern(alloc, rest, left)?;
-    let rest = symbol(rest, Symbol::Close)?;
-    Ok((Pat::both(alloc, first, second)?, rest))
+    /// A pattern of so much depth at most.
+    #[cycle(pattern)]
+    #[tactic(auto, using(crate::proofs::Deeper::pattern_at_more, crate::proofs::Deeper::pattern_at_zero))]
+    pub fn pattern(&mut self, left: u32) -> Result<Pat, Stop>
+        ensures reads { ReadsAs pattern_of result self.new (parse_pattern left (ahead self.old)) }
+        ensures names { IfOk result (λ p. HasNames (pattern_of p)) }
+        ensures placed { StandsOn PatternPlaced result self.old self.new }
+    {
+        if left == 0 {
+            return Err(self.pattern_too_deep());
+        }
+        self.pattern_form(left - 1)
+    }
+
+    #[cycle(pattern)]
+    fn pattern_form(&mut self, left: u32) -> Result<Pat, Stop>
+        ensures reads { ReadsAs pattern_of result self.new (parse_pattern_form (parse_pattern left) (ahead self.old)) }
+        ensures names { IfOk result (λ p. HasNames (pattern_of p)) }
+        ensures placed { StandsOn PatternPlaced result self.old self.new }
+    {
+        let First { token, start } = self.first()?;
+        match token {
+            Token::Keyword(Keyword::Underscore) => Ok(Pat::unnamed()),
+            Token::Name(name) => {
+                let name = String::from_str(self.alloc, name.as_str())?;
+                Ok(Pat::name(name, start.spot))
+            }
+            Token::Symbol(Symbol::Open) => self.pattern_pair(left),
+            _ => Err(Stop::At(Rule::Unexpected, start.ahead)),
+        }
+    }
+
+    /// The pattern of a pair behind its opening bracket.
+    #[cycle(pattern)]
+    #[tactic(auto, unfolding(sf_grammar::specs::Reading::parse_pattern_pair))]
+    fn pattern_pair(&mut self, left: u32) -> Result<Pat, Stop>
+        ensures reads { ReadsAs pattern_of result self.new (parse_pattern_pair (parse_pattern left) (ahead self.old)) }
+        ensures names { IfOk result (λ p. HasNames (pattern_of p)) }
+        ensures placed { IfOk result (λ p. ConsumesBehind (PatternPlaced p) (spots_ahead self.old) (spots_ahead self.new)) }
+    {
+        let first = self.pattern(left)?;
+        self.symbol(Symbol::Comma)?;
+        let second = self.pattern(left)?;
+        self.symbol(Symbol::Close)?;
+        Ok(Pat::both(self.alloc, first, second)?)
+    }
 }

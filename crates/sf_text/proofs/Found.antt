@@ -1,9 +1,10 @@
 -- What was read into a program before more terms are built of it.
-use Rattle.std.proofs.Common.{◌≡◌, ℕ, suc, false, ◌+◌, ◌<◌, ◌≤◌, List, length, refl, sym, ◌∙◌, ap, subst, arith, ℤ}
+use Rattle.std.proofs.Common.{◌≡◌, ℕ, suc, false, ◌+◌, ◌<◌, ◌≤◌, List, length, refl, sym, ◌∙◌, ap, subst, arith, ℤ, ◌∷◌, Result, Ok, Err, IfOk, ◌↔◌}
 use Rattle.sf_value.specs.Values.{Name, Kind}
 use Rattle.sf_expr.specs.declared.exprs.ExprId.{ExprId}
 use Rattle.sf_expr.specs.declared.exprs.FunctionId.{FunctionId}
 use Rattle.sf_expr.specs.Expressions.{Pattern, Expression, depth as expression_depth, size}
+use Rattle.sf_term.specs.declared.form.Bare.{Bare}
 use Rattle.sf_term.specs.declared.form.WithValue.{WithValue}
 use Rattle.sf_term.specs.declared.form.WithValue.TheVariants as values
 use Rattle.sf_term.specs.declared.form.Timing.{Timing}
@@ -20,21 +21,20 @@ use Rattle.sf_term.specs.declared.node.Argument.{Argument}
 use Rattle.sf_term.specs.declared.program.Program.{Program}
 use Rattle.sf_term.specs.declared.refusal.BuildRefusal.{BuildRefusal}
 use Rattle.sf_term.specs.declared.refusal.BuildRefusal.TheVariants as refusals
-use Rattle.sf_term.specs.Trees.{terms_with_value, Term, primitive, never, with_value, timed, arrow, accumulated, named_term, joined, sided, switching, keeping, reference, call, no_arguments, term_depth, terms_in, expressions_in}
+use Rattle.sf_term.specs.Trees.{terms_with_value, Term, primitive, bare, never, with_value, timed, arrow, accumulated, named_term, joined, sided, switching, keeping, reference, call, no_arguments, term_depth, terms_in, expressions_in}
 use Rattle.sf_term.specs.Names.{HasNames}
 use Rattle.sf_term.specs.Parameters.{NameKind}
 use Rattle.sf_term.specs.Arena.{tree, arguments_of, term_of, term_node_at, expression_under as expression_in, function_in, term_count, expression_count, KeepsProgram, AddsTerm}
 use Rattle.sf_term.proofs.Kept.{few_program_expressions, keeps_trans}
 use Rattle.sf_refusal.specs.declared.spot.Spot.{Spot}
 use Rattle.sf_lex.specs.declared.symbol.Symbol.TheVariants as symbols
-use Rattle.sf_lex.specs.declared.token.PlacedToken.{PlacedToken}
-use Rattle.sf_lex.specs.Tokens.{Tok}
+use Rattle.sf_lex.specs.Tokens.{Tok, name as name_token}
 use Rattle.sf_grammar.specs.declared.ty.Version.{Version}
 use Rattle.sf_parse.specs.declared.stop.Stop.{Stop}
 use Rattle.sf_grammar.specs.Spelling.{stands_initially, head_makes}
-use Rattle.sf_grammar.specs.Reading.{parse_number, parse_never, parse_timed, Read, got, Counts, counts_with, counts_with_expression, parse_symbol, parse_inner_type, parse_pattern, parse_expression, parse_function, parse_value, parse_arrow, parse_accumulated, parse_sided, parse_headed, parse_body, parse_switching, parse_name, parse_named, parse_keeping, parse_listed, parse_arguments, parse_call, parse_name_kind, parse_parameter, term_read, parse_join, parse_joined, parse_term}
-use Rattle.sf_parse.specs.Answers.{StopsReading, FoundExpression, FoundFunction, counts_of, stop_for, toks}
-use Rattle.sf_text.specs.Answers.{FoundTerm, FoundBody, FoundArguments}
+use Rattle.sf_grammar.specs.Reading.{parse_number, parse_never, parse_timed, Read, got, Counts, counts_with, counts_with_expression, parse_symbol, parse_inner_type, parse_pattern, parse_expression, parse_function, parse_value, parse_arrow, parse_accumulated, parse_sided, parse_headed, parse_body, parse_switching, parse_name, parse_named, parse_keeping, parse_listed, parse_arguments, parse_call, parse_name_kind, parse_parameter, term_read, parse_join, parse_joined, parse_term, parse_argument, parse_template}
+use Rattle.sf_parse.specs.Answers.{StopsReading, FoundExpression, FoundFunction, counts_of, stop_for, built_as}
+use Rattle.sf_text.specs.Answers.{FoundTerm, ReadsTermInto, FoundBody, FoundArgument, FoundArguments, FoundTemplate}
 use Rattle.sf_grammar.proofs.Words.{IsLone, named_alone}
 use Rattle.sf_grammar.proofs.Takes.{HeadMakes, with_pre, stays_headed, head_view, TookFunction, Took, TookBody, TookListed, function_takes, body_takes, arguments_take, term_takes}
 use Rattle.sf_text.specs.Consuming.{headed_node}
@@ -50,11 +50,11 @@ pub record Ready (old mid : Program) (built : Term) (start rest : List Tok) (rea
   pub terms : term_count mid + 1 ≡ term_count old + terms_in term
   pub expressions : expression_count mid ≡ expression_count old + expressions_in term
 
-pub term_refused : {old mid : Program} {built : Term} {rest : List Tok} {read : Read Term} (tokens : List PlacedToken) (refusal : BuildRefusal) (e : Stop)
-    → Ready old mid built (toks tokens) rest read → e ≡ stop_for refusal (length tokens)
+pub term_refused : {old mid : Program} {built : Term} {start rest : List Tok} {read : Read Term} (left : ℕ) (refusal : BuildRefusal) (e : Stop)
+    → Ready old mid built start rest read → length start ≡ left → e ≡ stop_for refusal left
     → (refusal ≡ refusals.TooMany → 100000 ≤ term_count mid) → (refusal ≡ refusals.TooDeep → 64 < term_depth built) → (refusal ≡ refusals.BadName → ⊥) → StopsReading e read
-term_refused {old} {mid} {built} {rest} {read} tokens refusal e ready is many deep named =
-    subst (λ (e : Stop). StopsReading e read) (sym is) (refused_as_read (term_count old + terms_in ready.term) ready.term tokens rest read refusal ready.is
+term_refused {old} {mid} {built} {start} {rest} {read} left refusal e ready counted is many deep named =
+    subst (λ (e : Stop). StopsReading e read) (sym is) (refused_as_read (term_count old + terms_in ready.term) ready.term start left rest read refusal counted ready.is
     (λ same. let full : 100000 ≤ term_count mid = many same in omega (arith, ready.terms))
     (λ same. let too : 64 < term_depth built = deep same in let d : term_depth built ≡ term_depth ready.term = ap term_depth ready.same in omega (arith, ready.shallow)) named)
 
@@ -70,6 +70,39 @@ term_found {old} {mid} {new} {start = start} {rest = rest} ready kept room added
   terms = added.term_counted ∙ ready.terms;
   expressions = added.expression_counted ∙ ready.expressions;
 }
+
+-- a term whose parts were read was given to the program
+pub term_built : {old mid : Program} {built : Term} {start rest : List Tok} {read : Read Term} (new : Program) (node : Node) (spot : Spot) (left : ℕ) (added : Result TermId BuildRefusal) (answer : Result TermId Stop)
+    → Ready old mid built start rest read → KeepsProgram old mid → length start ≡ left → answer ≡ built_as left added → IfOk added (λ id. AddsTerm mid new id node built spot)
+    → (added ≡ Err refusals.TooMany ↔ 100000 ≤ term_count mid) → (added ≡ Err refusals.TooDeep → 64 < term_depth built) → (added ≡ Err refusals.BadName → ⊥) → ReadsTermInto old new rest answer read
+term_built {old = old} {rest = rest} {read = read} new node spot left (Ok id) answer ready kept counted is ok many deep named =
+    subst (λ (a : Result TermId Stop). ReadsTermInto old new rest a read) (sym is) (term_found ready kept (λ full. let refused = many.1 full in cc) ok)
+term_built {old = old} {rest = rest} {read = read} new node spot left (Err refusal) answer ready kept counted is ok many deep named =
+    subst (λ (a : Result TermId Stop). ReadsTermInto old new rest a read) (sym is)
+    (term_refused left refusal (stop_for refusal left) ready counted refl (λ same. many.0 (ap Err same)) (λ same. deep (ap Err same)) (λ same. named (ap Err same)))
+
+-- a primitive without constants
+pub bare_ready : {old : Program} (k : Bare) (start rest : List Tok) → Ready old old (primitive (bare k)) start rest (term_read (counts_of old) (primitive (bare k)) start rest)
+bare_ready k start rest = record { term = primitive (bare k); is = refl; same = refl; shallow = omega arith; terms = omega arith; expressions = omega arith }
+
+-- what was read in a version was read in the same one
+pub term_at : {v w : Version} {old new : Program} {id : TermId} {rest : List Tok} (d : ℕ) (c : Counts) (tokens : List Tok) → w ≡ v → FoundTerm old new id rest (parse_term d w c tokens) → FoundTerm old new id rest (parse_term d v c tokens)
+term_at {old = old} {new = new} {id = id} {rest = rest} d c tokens same f = subst (λ (v : Version). FoundTerm old new id rest (parse_term d v c tokens)) same f
+
+pub function_at : {v w : Version} {old new : Program} {id : FunctionId} {rest : List Tok} (d : ℕ) (c : Counts) (tokens : List Tok) → w ≡ v
+    → FoundFunction old new id rest (parse_function d w c tokens) → FoundFunction old new id rest (parse_function d v c tokens)
+function_at {old = old} {new = new} {id = id} {rest = rest} d c tokens same f = subst (λ (v : Version). FoundFunction old new id rest (parse_function d v c tokens)) same f
+
+pub body_at : {v w : Version} {old new : Program} {p : Pattern} {id : TermId} {rest : List Tok} (d : ℕ) (tokens : List Tok) → w ≡ v
+    → FoundBody old new p id rest (parse_body d (parse_term d w) (counts_of old) tokens) → FoundBody old new p id rest (parse_body d (parse_term d v) (counts_of old) tokens)
+body_at {old = old} {new = new} {p = p} {id = id} {rest = rest} d tokens same f = subst (λ (v : Version). FoundBody old new p id rest (parse_body d (parse_term d v) (counts_of old) tokens)) same f
+
+pub argument_at : {v w : Version} {old new : Program} {a : Argument} {rest : List Tok} (d : ℕ) (tokens : List Tok) → w ≡ v
+    → FoundArgument old new a rest (parse_argument d w (parse_term d w) (counts_of old) tokens) → FoundArgument old new a rest (parse_argument d v (parse_term d v) (counts_of old) tokens)
+argument_at {old = old} {new = new} {a = a} {rest = rest} d tokens same f = subst (λ (v : Version). FoundArgument old new a rest (parse_argument d v (parse_term d v) (counts_of old) tokens)) same f
+
+pub template_at : {v w : Version} {old new : Program} {rest : List Tok} (tokens : List Tok) → w ≡ v → FoundTemplate old new rest (parse_template w (counts_of old) tokens) → FoundTemplate old new rest (parse_template v (counts_of old) tokens)
+template_at {old = old} {new = new} {rest = rest} tokens same f = subst (λ (v : Version). FoundTemplate old new rest (parse_template v (counts_of old) tokens)) same f
 
 term_taken : (v : Version) (old new : Program) (id : TermId) (rest tokens : List Tok) (d : ℕ) → (f : FoundTerm old new id rest (parse_term d v (counts_of old) tokens)) → Took v d (counts_of old) tokens f.term rest
 term_taken v old new id rest tokens d f = term_takes v d (counts_of old) tokens f.term rest (few_program_expressions old) f.is
@@ -104,16 +137,16 @@ unfolding parse_never
 never_ready v {u = u} d tokens small is = record { term = primitive (never u); is = rw is refl; same = refl; shallow = omega arith; terms = omega arith; expressions = omega arith }
 
 -- a primitive with a time and a value
-pub timed_ready : (v : Version) {old mid : Program} {start r0 rest : List Tok} {q : ℤ} {e : ExprId} {k : Timing} (d : ℕ) (tokens : List Tok) → d ≤ 63 → parse_number tokens ≡ got q r0
+pub timed_ready : (v : Version) {old mid : Program} {start r0 rest : List Tok} {q n : ℤ} {e : ExprId} {k : Timing} (d : ℕ) (tokens : List Tok) → d ≤ 63 → parse_number tokens ≡ got q r0 → n ≡ q
     → FoundExpression old mid e rest (parse_expression d v (counts_of old) r0)
-    → Ready old mid (primitive (timed k q (expression_in mid e))) start rest (parse_timed d v (counts_of old) k start tokens)
+    → Ready old mid (primitive (timed k n (expression_in mid e))) start rest (parse_timed d v (counts_of old) k start tokens)
 unfolding parse_timed
-timed_ready v {old} {mid} {start} {r0} {rest} {q} {e} {k} d tokens small time f =
+timed_ready v {old} {mid} {start} {r0} {rest} {q} {n} {e} {k} d tokens small time number f =
     let took = expression_taken v old mid e rest r0 d f in
     record {
       term = primitive (timed k q f.value);
       is = rw (time, f.is) refl;
-      same = ap (λ (i : Expression). primitive (timed k q i)) f.tree;
+      same = ap (λ (z : ℤ). primitive (timed k z (expression_in mid e))) number ∙ ap (λ (i : Expression). primitive (timed k q i)) f.tree;
       shallow = omega (arith, took.shallow);
       terms = omega (arith, f.terms);
       expressions = omega (arith, f.expressions);
@@ -262,15 +295,15 @@ keeping_ready v {old} {one} {two} {three} {start} {r0} {r1} {r2} {r3} {r4} {r5} 
     }
 
 -- a call of a template
-pub call_ready : (v : Version) {old mid : Program} {r0 r1 rest : List Tok} {bs : List Argument} {g n : Name} (d : ℕ) (tokens : List Tok) → d ≤ 63 → parse_name tokens ≡ got g r0 → parse_symbol symbols.Open r0 ≡ got tt r1
+pub call_ready : (v : Version) {old mid : Program} {r1 rest : List Tok} {bs : List Argument} {n : Name} (d : ℕ) (g : Name) (r0 : List Tok) → d ≤ 63 → parse_symbol symbols.Open r0 ≡ got tt r1
     → FoundArguments old mid bs rest (parse_listed no_arguments (λ ts. parse_arguments (suc (length ts)) d v (parse_term d v) (counts_of old) ts) r1) → n ≡ g
-    → Ready old mid (reference (call n (arguments_of mid bs))) tokens rest (parse_call d v (parse_term d v) (counts_of old) tokens)
+    → Ready old mid (reference (call n (arguments_of mid bs))) (name_token g ∷ r0) rest (parse_call d v (parse_term d v) (counts_of old) (name_token g ∷ r0))
 unfolding parse_call
-call_ready v {old} {mid} {r0} {r1} {rest} {bs} {g} {n} d tokens small named opening f bytes =
+call_ready v {old} {mid} {r1} {rest} {bs} {n} d g r0 small opening f bytes =
     let took : TookListed v d (counts_of old) r1 f.value rest = arguments_take v d (counts_of old) r1 f.value rest (term_takes v d) (few_program_expressions old) f.is in
     record {
       term = reference (call g f.value);
-      is = rw (named, opening, f.is) refl;
+      is = rw (opening, f.is) refl;
       same = rw (bytes, f.same) refl;
       shallow = omega (arith, took.shallow);
       terms = omega (arith, f.terms);

@@ -1,16 +1,15 @@
 -- The parts of lists in brackets, read one behind the other.
-use Rattle.std.proofs.Common.{◌≡◌, ◌≢◌, ℕ, zero, suc, ◌+◌, ◌-◌, ◌<◌, ◌≤◌, Bool, true, false, List, [], ◌∷◌, ◌++◌, length, take, drop, map, Option, Some, None, Result, Ok, Err, Bor, refl, sym, ◌∙◌, ap, append_assoc, subst, arith}
+use Rattle.std.proofs.Common.{◌≡◌, ◌≢◌, ℕ, zero, suc, ◌+◌, ◌<◌, Bool, true, false, List, [], ◌∷◌, ◌++◌, length, map, Result, Ok, Err, refl, sym, ◌∙◌, ap, append_assoc, subst, arith}
 use mathlib.Core.Path.{ap₂}
 use Rattle.std.specs.List.{All}
 use Rattle.std.specs.Result.{IsErrAnd}
 use Rattle.std.specs.Prelude.{Vec}
 use Rattle.std.specs.declared.alloc.Global.{Global}
-use Rattle.std.proofs.lemmas.List.{length-append, map-append}
+use Rattle.std.proofs.lemmas.List.{length-append, length-map, map-append}
 use Rattle.std.proofs.lemmas.List.Elements.{All-append, All-cons, All-nil, All-head, All-tail}
 use Rattle.sf_refusal.specs.declared.spot.Spot.{Spot}
 use Rattle.sf_lex.specs.Words.{IsName}
-use Rattle.sf_lex.specs.Tokens.{Tok, keyword}
-use Rattle.sf_lex.specs.declared.word.Keyword.TheVariants as words
+use Rattle.sf_lex.specs.Tokens.{Tok}
 use Rattle.sf_lex.specs.declared.token.PlacedToken.{PlacedToken}
 use Rattle.sf_term.specs.declared.node.Argument.{Argument}
 use Rattle.sf_term.specs.declared.node.Argument.TheVariants as arguments
@@ -18,22 +17,21 @@ use Rattle.sf_term.specs.declared.program.Program.{Program}
 use Rattle.sf_term.specs.Parameters.{PlacedParameter, Bindings, binding_of, parameters_of}
 use Rattle.sf_term.specs.Names.{AreNamed}
 use Rattle.sf_term.specs.Trees.{Arguments, no_arguments, terms_in_arguments, expressions_in_arguments}
-use Rattle.sf_term.specs.Arena.{HoldsArgument, arguments_of, term_count, expression_count, KeepsProgram, KeepsTrees}
-use Rattle.sf_term.proofs.Kept.{keeps_trans, few_program_expressions}
+use Rattle.sf_term.specs.Arena.{HoldsArgument, arguments_of, term_count, expression_count, KeepsProgram}
+use Rattle.sf_term.proofs.Kept.{keeps_trans}
 use Rattle.sf_grammar.specs.declared.ty.Version.{Version}
-use Rattle.sf_grammar.specs.Reading.{Read, got, stop, ◌and_then◌, Counts, Actual, actual_value, actual_process, with_actual, counts_with_actual, further_from, parse_further, behind_sf, argument_from, parse_expression, parse_separator, parse_parameter, parse_parameters, parse_argument, parse_arguments, parse_term}
+use Rattle.sf_grammar.specs.Reading.{Read, got, stop, ◌and_then◌, Counts, Actual, actual_value, actual_process, with_actual, counts_with_actual, further_from, parse_further, parse_separator, parse_parameter, parse_parameters, parse_argument, parse_arguments, parse_term}
 use Rattle.sf_grammar.specs.Placing.{ParameterPlaced, EachParameterPlaced, no_parameter_placed, parameter_placed, ArgumentPlaced, EachArgumentPlaced, no_argument_placed, argument_placed}
 use Rattle.sf_parse.specs.declared.stop.Stop.{Stop}
 use Rattle.sf_parse.specs.declared.stop.Stop.TheVariants.{At, Memory}
-use Rattle.sf_parse.specs.Answers.{StopsReading, ReadsAs, toks, counts_of}
-use Rattle.sf_parse.specs.Consuming.{places, BehindOne, Consumes}
+use Rattle.sf_parse.specs.declared.cursor.Cursor.{Cursor}
+use Rattle.sf_parse.specs.declared.reader.Reader.{Reader}
+use Rattle.sf_parse.specs.Answers.{StopsReading, ReadsAs, toks, ahead, counts_of}
+use Rattle.sf_parse.specs.Consuming.{places, spots_ahead, BehindOne, Consumes}
 use Rattle.sf_text.specs.Answers.{actual_of, FoundArgument, FoundArguments, ReadsArguments}
-use Rattle.sf_text.proofs.Placed.{each_argument_keeps}
-use Rattle.sf_text.proofs.Slices.{toks_from, places_from, Landed, landed}
-use Rattle.sf_grammar.specs.Spelling.{spell_parameter, spell_expression, spell_term}
-use Rattle.sf_grammar.proofs.Words.{sf_takes}
-use Rattle.sf_grammar.proofs.Parts.{got_same, bind_got, separator_token, separator_takes}
-use Rattle.sf_grammar.proofs.Takes.{TookParameter, parameter_takes, expression_takes, term_takes}
+use Rattle.sf_parse.proofs.Found.{keeps_self}
+use Rattle.sf_text.proofs.Found.{argument_at}
+use Rattle.sf_text.proofs.Placed.{each_argument_keeps, argument_placed_at}
 
 -- reading that stops within a part stops within the whole
 stops_within : {A B : Type 0} (e : Stop) (part : Read A) (f : A → List Tok → Read B) → StopsReading e part → StopsReading e (part and_then f)
@@ -41,13 +39,22 @@ stops_within (At fault left) part f s = record { at = s.at; is = rw s.is refl; c
 stops_within Memory part f s = tt
 
 -- what a `?` returns where reading stopped
-pub stopped_as : {X A : Type 0} (view : X → A) (answer : Result (X × Bor (List PlacedToken)) Stop) (e : Stop) (read : Read A) → IsErrAnd answer (λ f. f ≡ e) → StopsReading e read → ReadsAs view answer read
-stopped_as view (Ok x) e read is stops = absurd is
-stopped_as view (Err f) e read is stops = subst (λ (e : Stop). StopsReading e read) (sym is) stops
+pub stopped_as : {X A : Type 0} (view : X → A) (answer : Result X Stop) (new : Cursor) (e : Stop) (read : Read A) → IsErrAnd answer (λ f. f ≡ e) → StopsReading e read → ReadsAs view answer new read
+stopped_as view (Ok x) new e read is stops = absurd is
+stopped_as view (Err f) new e read is stops = subst (λ (e : Stop). StopsReading e read) (sym is) stops
 
-pub arguments_stopped_as : (old new : Program) (answer : Result (Vec Argument Global × Bor (List PlacedToken)) Stop) (e : Stop) (read : Read Arguments) → IsErrAnd answer (λ f. f ≡ e) → StopsReading e read → ReadsArguments old new answer read
+pub arguments_stopped_as : (old new : Reader) (answer : Result (Vec Argument Global) Stop) (e : Stop) (read : Read Arguments) → IsErrAnd answer (λ f. f ≡ e) → StopsReading e read → ReadsArguments old new answer read
 arguments_stopped_as old new (Ok x) e read is stops = absurd is
 arguments_stopped_as old new (Err f) e read is stops = subst (λ (e : Stop). StopsReading e read) (sym is) stops
+
+-- behind a part and one token there are fewer tokens
+fewer_behind : {P : List Spot → Type 0} (r0 r1 r2 : List PlacedToken) → Consumes P (places r0) (places r1) → BehindOne (places r1) (places r2) → length (toks r2) < length (toks r0)
+fewer_behind r0 r1 r2 part behind =
+    let a : length (toks r0) ≡ length (places r0) = simp length-map in
+    let b : length (toks r2) ≡ length (places r2) = simp length-map in
+    let c : length (places r0) ≡ length part.front + length (places r1) = ap length part.split ∙ length-append part.front (places r1) in
+    let d : length (places r1) ≡ suc (length (places r2)) = ap length behind.split in
+    omega arith
 
 -- a part of a list and the token behind it
 part_consumed : {P Q R : List Spot → Type 0} {tokens rest r1 r2 : List Spot} → Consumes P tokens rest → Consumes Q rest r1 → (b : BehindOne r1 r2) → ((xs ys : List Spot) → P xs → Q ys → R (xs ++ (ys ++ (b.at ∷ [])))) → Consumes R tokens r2
@@ -133,7 +140,7 @@ unfolding parse_parameters
 parameter_stops_so v n e rest stops = stops_within e (parse_parameter v rest) (λ q rest. parse_further [] (parse_parameters n v) rest and_then λ qs rest. got (q ∷ qs) rest) stops
 
 -- reading stops within a further parameter
-parameter_stops : (v : Version) (tokens : List PlacedToken) (rest : List Tok) (spots : List Spot) (ps : List PlacedParameter) (e : Stop) → ReadParameters v tokens ps true rest spots
+pub parameter_stops : (v : Version) (tokens : List PlacedToken) (rest : List Tok) (spots : List Spot) (ps : List PlacedParameter) (e : Stop) → ReadParameters v tokens ps true rest spots
     → StopsReading e (parse_parameter v rest) → StopsReading e (parse_parameters (suc (length (toks tokens))) v (toks tokens))
 parameter_stops v tokens rest spots ps e read stops = from read.most read.so read.enough
   where
@@ -146,7 +153,7 @@ unfolding parse_parameters
 parameter_stops_behind v n e rest r1 q one stops = rw one (stops_within e (parse_further [] (parse_parameters n v) r1) (λ qs rest. got (q ∷ qs) rest) (stops_within e (parse_separator r1) (λ more rest. further_from [] (parse_parameters n v) more rest) stops))
 
 -- reading stops behind a further parameter
-parameter_separator_stops : (v : Version) (tokens : List PlacedToken) (rest r1 : List Tok) (spots : List Spot) (ps : List PlacedParameter) (q : _) (e : Stop) → ReadParameters v tokens ps true rest spots
+pub parameter_separator_stops : (v : Version) (tokens : List PlacedToken) (rest r1 : List Tok) (spots : List Spot) (ps : List PlacedParameter) (q : _) (e : Stop) → ReadParameters v tokens ps true rest spots
     → parse_parameter v rest ≡ got q r1 → StopsReading e (parse_separator r1) → StopsReading e (parse_parameters (suc (length (toks tokens))) v (toks tokens))
 parameter_separator_stops v tokens rest r1 spots ps q e read one stops = from read.most read.so read.enough
   where
@@ -154,70 +161,16 @@ parameter_separator_stops v tokens rest r1 spots ps q e read one stops = from re
     from zero so enough = absurd (omega arith)
     from (suc n) so enough = subst (λ (r : Read Bindings). StopsReading e r) (sym so) (stops_within e (parse_parameters (suc n) v rest) (λ qs rest. got (parameters_of ps ++ qs) rest) (parameter_stops_behind v n e rest r1 q one stops))
 
--- parameters were read up to an index, and whether further ones follow
-pub record ParametersTo (v : Version) (tokens : List PlacedToken) (ps : List PlacedParameter) (more : Bool) (at : ℕ) : Type 0 where
-  pub within : at ≤ length tokens
-  pub read : ReadParameters v tokens ps more (drop at (toks tokens)) (drop at (places tokens))
-
 -- further ones follow
-pub parameters_go_on : {v : Version} {tokens : List PlacedToken} {ps : List PlacedParameter} {more : Bool} {at : ℕ} → more ≡ true → ParametersTo v tokens ps more at → ParametersTo v tokens ps true at
-parameters_go_on {v} {tokens} {ps} {more} {at} going to = subst (λ (m : Bool). ParametersTo v tokens ps m at) going to
-
-pub no_parameters_to : (v : Version) (tokens : List PlacedToken) → ParametersTo v tokens [] true 0
-no_parameters_to v tokens = record { within = omega arith; read = no_parameters_read v tokens }
-
--- the tokens from an index on
-abbrev from_index : ℕ → List PlacedToken → List PlacedToken
-from_index at tokens = take (length tokens - at) (drop at tokens)
-
-pub record NextParameters (v : Version) (tokens : List PlacedToken) (ps : List PlacedParameter) (more : Bool) (at : ℕ) (rest : List PlacedToken) : Type 0 where
-  pub landed : Landed tokens at rest
-  pub to : ParametersTo v tokens ps more (length tokens - length rest)
+pub parameters_go_on : {v : Version} {tokens : List PlacedToken} {ps : List PlacedParameter} {more : Bool} {rest : List Tok} {spots : List Spot} → more ≡ true → ReadParameters v tokens ps more rest spots → ReadParameters v tokens ps true rest spots
+parameters_go_on {v} {tokens} {ps} {more} {rest} {spots} going read = subst (λ (m : Bool). ReadParameters v tokens ps m rest spots) going read
 
 -- one parameter more, up to these tokens
-pub next_parameter : (v : Version) (tokens r1 r2 : List PlacedToken) (at : ℕ) (ps : List PlacedParameter) (q : PlacedParameter) (more : Bool) → ParametersTo v tokens ps true at
-    → parse_parameter v (toks (from_index at tokens)) ≡ got (binding_of q) (toks r1) → IsName q.name → Consumes (ParameterPlaced v q) (places (from_index at tokens)) (places r1)
-    → parse_separator (toks r1) ≡ got more (toks r2) → BehindOne (places r1) (places r2) → NextParameters v tokens (ps ++ q ∷ []) more at r2
-next_parameter v tokens r1 r2 at ps q more to one named placed separator behind =
-    let at_one : parse_parameter v (drop at (toks tokens)) ≡ got (binding_of q) (toks r1) = subst (λ (ts : List Tok). parse_parameter v ts ≡ got (binding_of q) (toks r1)) (toks_from tokens at) one in
-    let there : Consumes (ParameterPlaced v q) (drop at (places tokens)) (places r1) = subst (λ (ss : List Spot). Consumes (ParameterPlaced v q) ss (places r1)) (places_from tokens at) placed in
-    let took : TookParameter v (drop at (toks tokens)) (binding_of q) (toks r1) = parameter_takes v (drop at (toks tokens)) (binding_of q) (toks r1) at_one in
-    let spelled : drop at (toks tokens) ≡ spell_parameter v (binding_of q) ++ (separator_token more ∷ toks r2) = took.spelled ∙ ap (λ r. spell_parameter v (binding_of q) ++ r) (separator_takes (toks r1) more (toks r2) separator) in
-    let stands : drop at (places tokens) ≡ there.front ++ (behind.at ∷ places r2) = there.split ∙ ap (λ r. there.front ++ r) behind.split in
-    let l : Landed tokens at r2 = landed tokens at r2 (spell_parameter v (binding_of q)) there.front (separator_token more) behind.at to.within spelled stands in
-    let shorter : length (toks r2) < length (drop at (toks tokens)) = omega (arith, ap length spelled, length-append (spell_parameter v (binding_of q)) (separator_token more ∷ toks r2)) in
-    let read : ReadParameters v tokens (ps ++ q ∷ []) more (toks r2) (places r2) = parameter_more v tokens (drop at (toks tokens)) (toks r1) (toks r2) (drop at (places tokens)) (places r1) (places r2) ps q more to.read at_one named there separator behind shorter in
-    record {
-      landed = l;
-      to = record {
-        within = omega (arith, l.within);
-        read = subst (λ (ts : List Tok). ReadParameters v tokens (ps ++ q ∷ []) more ts (drop (length tokens - length r2) (places tokens))) l.tokens_there
-            (subst (λ (ss : List Spot). ReadParameters v tokens (ps ++ q ∷ []) more (toks r2) ss) l.places_there read);
-      };
-    }
-
-pub parameter_stopped : (v : Version) (tokens : List PlacedToken) (at : ℕ) (ps : List PlacedParameter) (e : Stop) → ParametersTo v tokens ps true at
-    → StopsReading e (parse_parameter v (toks (from_index at tokens))) → StopsReading e (parse_parameters (suc (length (toks tokens))) v (toks tokens))
-parameter_stopped v tokens at ps e to stops = parameter_stops v tokens (drop at (toks tokens)) (drop at (places tokens)) ps e to.read (subst (λ (ts : List Tok). StopsReading e (parse_parameter v ts)) (toks_from tokens at) stops)
-
-pub parameter_separator_stopped : (v : Version) (tokens r1 : List PlacedToken) (at : ℕ) (ps : List PlacedParameter) (q : PlacedParameter) (e : Stop) → ParametersTo v tokens ps true at
-    → parse_parameter v (toks (from_index at tokens)) ≡ got (binding_of q) (toks r1) → StopsReading e (parse_separator (toks r1)) → StopsReading e (parse_parameters (suc (length (toks tokens))) v (toks tokens))
-parameter_separator_stopped v tokens r1 at ps q e to one stops =
-    parameter_separator_stops v tokens (drop at (toks tokens)) (toks r1) (drop at (places tokens)) ps (binding_of q) e to.read (subst (λ (ts : List Tok). parse_parameter v ts ≡ got (binding_of q) (toks r1)) (toks_from tokens at) one) stops
-
--- all parameters were read
-pub record AllParameters (v : Version) (tokens : List PlacedToken) (ps : List PlacedParameter) (rest : List PlacedToken) : Type 0 where
-  pub is : parse_parameters (suc (length (toks tokens))) v (toks tokens) ≡ got (parameters_of ps) (toks rest)
-  pub some : ps ≢ []
-  pub placed : Consumes (EachParameterPlaced v ps) (places tokens) (places rest)
-
-pub all_parameters : (v : Version) (tokens : List PlacedToken) (ps : List PlacedParameter) (more : Bool) (at : ℕ) → more ≡ false → ParametersTo v tokens ps more at → AllParameters v tokens ps (from_index at tokens)
-all_parameters v tokens ps true at done to = absurd cc
-all_parameters v tokens ps false at done to = record {
-  is = to.read.so ∙ ap (λ (ts : List Tok). got (parameters_of ps) ts) (sym (toks_from tokens at));
-  some = to.read.some refl;
-  placed = subst (λ (ss : List Spot). Consumes (EachParameterPlaced v ps) (places tokens) ss) (sym (places_from tokens at)) to.read.placed;
-}
+pub next_parameter : (v : Version) (tokens r0 r1 r2 : List PlacedToken) (ps : List PlacedParameter) (q : PlacedParameter) (more : Bool) → ReadParameters v tokens ps true (toks r0) (places r0)
+    → parse_parameter v (toks r0) ≡ got (binding_of q) (toks r1) → IsName q.name → Consumes (ParameterPlaced v q) (places r0) (places r1)
+    → parse_separator (toks r1) ≡ got more (toks r2) → BehindOne (places r1) (places r2) → ReadParameters v tokens (ps ++ q ∷ []) more (toks r2) (places r2)
+next_parameter v tokens r0 r1 r2 ps q more read one named placed separator behind =
+    parameter_more v tokens (toks r0) (toks r1) (toks r2) (places r0) (places r1) (places r2) ps q more read one named placed separator behind (fewer_behind r0 r1 r2 placed behind)
 
 -- these arguments in front of others
 abbrev arguments_before : List Actual → Arguments → Arguments
@@ -289,29 +242,6 @@ pub record ReadArguments (v : Version) (d : ℕ) (old new : Program) (tokens : L
   pub terms : term_count new ≡ term_count old + terms_in_arguments (arguments_before values no_arguments)
   pub expressions : expression_count new ≡ expression_count old + expressions_in_arguments (arguments_before values no_arguments)
   pub placed : Consumes (EachArgumentPlaced v new bs) (places tokens) spots
-
-keeps_trees_self : (p : Program) → KeepsTrees p p
-keeps_trees_self p = record {
-  terms = λ t h. h;
-  nodes = λ t h. refl;
-  trees = λ t h. refl;
-  spots = λ t h. refl;
-  expressions = λ e h. h;
-  value_nodes = λ e h. refl;
-  values = λ e h. refl;
-  value_spots = λ e h. refl;
-  functions = λ f h. h;
-  patterns = λ f h. refl;
-  bodies = λ f h. refl;
-  meanings = λ f h. refl;
-  holds_patterns = λ q h. h;
-  placed = λ q h. refl;
-  holds_arguments = λ a h. h;
-  arguments = λ a h. refl;
-}
-
-pub keeps_self : (p : Program) → KeepsProgram p p
-keeps_self p = record { trees = keeps_trees_self p; headers = refl; templates = refl; spots = refl }
 
 pub no_arguments_read : (v : Version) (d : ℕ) (p : Program) (tokens : List PlacedToken) → ReadArguments v d p p tokens [] true (toks tokens) (places tokens)
 no_arguments_read v d p tokens =
@@ -409,78 +339,39 @@ argument_separator_stops v d old one tokens rest r1 spots bs a e read is stops =
     from zero so enough = absurd (omega arith)
     from (suc n) so enough = subst (λ (r : Read Arguments). StopsReading e r) (sym so) (stops_within e (parse_arguments (suc n) d v (parse_term d v) (counts_of one) rest) (λ vs rest. got (arguments_before read.values vs) rest) (argument_stops_behind v d n (counts_of one) e rest r1 a is stops))
 
--- arguments were read into the program up to an index, and whether further ones follow
-pub record ArgumentsTo (v : Version) (d : ℕ) (old new : Program) (tokens : List PlacedToken) (bs : List Argument) (more : Bool) (at : ℕ) : Type 0 where
-  pub within : at ≤ length tokens
-  pub read : ReadArguments v d old new tokens bs more (drop at (toks tokens)) (drop at (places tokens))
+-- arguments were read up to where the reader is, and whether further ones follow
+pub record ArgumentsTo (v : Version) (d : ℕ) (old : Program) (tokens : List PlacedToken) (now : Reader) (bs : List Argument) (more : Bool) : Type 0 where
+  pub version : now.version ≡ v
+  pub read : ReadArguments v d old now.program tokens bs more (ahead now.cursor) (spots_ahead now.cursor)
 
 -- further ones follow
-pub arguments_go_on : {v : Version} {d : ℕ} {old new : Program} {tokens : List PlacedToken} {bs : List Argument} {more : Bool} {at : ℕ} → more ≡ true → ArgumentsTo v d old new tokens bs more at → ArgumentsTo v d old new tokens bs true at
-arguments_go_on {v} {d} {old} {new} {tokens} {bs} {more} {at} going to = subst (λ (m : Bool). ArgumentsTo v d old new tokens bs m at) going to
+pub arguments_go_on : {v : Version} {d : ℕ} {old : Program} {tokens : List PlacedToken} {now : Reader} {bs : List Argument} {more : Bool} → more ≡ true → ArgumentsTo v d old tokens now bs more → ArgumentsTo v d old tokens now bs true
+arguments_go_on {v} {d} {old} {tokens} {now} {bs} {more} going to = subst (λ (m : Bool). ArgumentsTo v d old tokens now bs m) going to
 
-pub no_arguments_to : (v : Version) (d : ℕ) (p : Program) (tokens : List PlacedToken) → ArgumentsTo v d p p tokens [] true 0
-no_arguments_to v d p tokens = record { within = omega arith; read = no_arguments_read v d p tokens }
-
--- the tokens of an argument
-record Split (tokens rest : List Tok) : Type 0 where
-  pub front : List Tok
-  pub is : tokens ≡ front ++ rest
-
-split_as : {A : Type 0} (tokens : List Tok) (a b : A) (r s : List Tok) → got a r ≡ got b s → Split tokens r → Split tokens s
-split_as tokens a b r s is split = subst (Split tokens) (got_same a b r s is).rest split
-
-argument_from_split : (v : Version) (d : ℕ) (c : Counts) (o : Option (List Tok)) (tokens : List Tok) (a : Actual) (rest : List Tok) → c.expressions ≤ 100000 → behind_sf tokens ≡ o
-    → argument_from d v (parse_term d v) c o tokens ≡ got a rest → Split tokens rest
-argument_from_split v d c (Some r0) tokens a rest few found is =
-    bind_got (λ t r. got (actual_process t) r) (parse_term d v c r0) a rest is (λ t r1 at_t is_t.
-    split_as tokens (actual_process t) a r1 rest is_t (record { front = keyword words.SignalFunction ∷ spell_term v t; is = sf_takes tokens r0 found ∙ ap (λ r. keyword words.SignalFunction ∷ r) (term_takes v d c r0 t r1 few at_t).spelled }))
-argument_from_split v d c None tokens a rest few found is =
-    bind_got (λ e r. got (actual_value e) r) (parse_expression d v c tokens) a rest is (λ e r1 at_e is_e.
-    split_as tokens (actual_value e) a r1 rest is_e (record { front = spell_expression v e; is = (expression_takes v d c tokens e r1 at_e).spelled }))
-
-argument_split : (v : Version) (d : ℕ) (c : Counts) (tokens : List Tok) (a : Actual) (rest : List Tok) → c.expressions ≤ 100000 → parse_argument d v (parse_term d v) c tokens ≡ got a rest → Split tokens rest
-unfolding parse_argument
-argument_split v d c tokens a rest few is = argument_from_split v d c (behind_sf tokens) tokens a rest few refl is
-
-pub record NextArguments (v : Version) (d : ℕ) (old new : Program) (tokens : List PlacedToken) (bs : List Argument) (more : Bool) (at : ℕ) (rest : List PlacedToken) : Type 0 where
-  pub landed : Landed tokens at rest
-  pub to : ArgumentsTo v d old new tokens bs more (length tokens - length rest)
+pub no_arguments_to : (d : ℕ) (now : Reader) → ArgumentsTo now.version d now.program now.cursor.tokens.now now [] true
+no_arguments_to d now = record { version = refl; read = no_arguments_read now.version d now.program now.cursor.tokens.now }
 
 -- one argument more, up to these tokens
-pub next_argument : (v : Version) (d : ℕ) (old one two : Program) (tokens r1 r2 : List PlacedToken) (at : ℕ) (bs : List Argument) (b : Argument) (more : Bool) → ArgumentsTo v d old one tokens bs true at
-    → FoundArgument one two b (toks r1) (parse_argument d v (parse_term d v) (counts_of one) (toks (from_index at tokens))) → Consumes (ArgumentPlaced v two b) (places (from_index at tokens)) (places r1)
-    → parse_separator (toks r1) ≡ got more (toks r2) → BehindOne (places r1) (places r2) → NextArguments v d old two tokens (bs ++ b ∷ []) more at r2
-next_argument v d old one two tokens r1 r2 at bs b more to found placed separator behind =
-    let f : FoundArgument one two b (toks r1) (parse_argument d v (parse_term d v) (counts_of one) (drop at (toks tokens))) =
-    subst (λ (ts : List Tok). FoundArgument one two b (toks r1) (parse_argument d v (parse_term d v) (counts_of one) ts)) (toks_from tokens at) found in
-    let there : Consumes (ArgumentPlaced v two b) (drop at (places tokens)) (places r1) = subst (λ (ss : List Spot). Consumes (ArgumentPlaced v two b) ss (places r1)) (places_from tokens at) placed in
-    let took : Split (drop at (toks tokens)) (toks r1) = argument_split v d (counts_of one) (drop at (toks tokens)) f.value (toks r1) (few_program_expressions one) f.is in
-    let spelled : drop at (toks tokens) ≡ took.front ++ (separator_token more ∷ toks r2) = took.is ∙ ap (λ r. took.front ++ r) (separator_takes (toks r1) more (toks r2) separator) in
-    let stands : drop at (places tokens) ≡ there.front ++ (behind.at ∷ places r2) = there.split ∙ ap (λ r. there.front ++ r) behind.split in
-    let l : Landed tokens at r2 = landed tokens at r2 took.front there.front (separator_token more) behind.at to.within spelled stands in
-    let shorter : length (toks r2) < length (drop at (toks tokens)) = omega (arith, ap length spelled, length-append took.front (separator_token more ∷ toks r2)) in
-    let read : ReadArguments v d old two tokens (bs ++ b ∷ []) more (toks r2) (places r2) =
-    argument_more v d old one two tokens (drop at (toks tokens)) (toks r1) (toks r2) (drop at (places tokens)) (places r1) (places r2) bs b more to.read f there separator behind shorter in
-    record {
-      landed = l;
-      to = record {
-        within = omega (arith, l.within);
-        read = subst (λ (ts : List Tok). ReadArguments v d old two tokens (bs ++ b ∷ []) more ts (drop (length tokens - length r2) (places tokens))) l.tokens_there
-            (subst (λ (ss : List Spot). ReadArguments v d old two tokens (bs ++ b ∷ []) more (toks r2) ss) l.places_there read);
-      };
-    }
+pub next_argument : (v : Version) (d : ℕ) (old : Program) (tokens : List PlacedToken) (now after : Reader) (behind : Cursor) (bs : List Argument) (b : Argument) (more : Bool) → ArgumentsTo v d old tokens now bs true
+    → FoundArgument now.program after.program b (ahead after.cursor) (parse_argument d now.version (parse_term d now.version) (counts_of now.program) (ahead now.cursor)) → Consumes (ArgumentPlaced now.version after.program b) (spots_ahead now.cursor) (spots_ahead after.cursor)
+    → after.version ≡ now.version → parse_separator (ahead after.cursor) ≡ got more (ahead behind) → BehindOne (spots_ahead after.cursor) (spots_ahead behind) → ArgumentsTo v d old tokens (record after { cursor = behind }) (bs ++ b ∷ []) more
+next_argument v d old tokens now after behind bs b more to found placed kept separator one = record {
+  version = kept ∙ to.version;
+  read = argument_more v d old now.program after.program tokens (ahead now.cursor) (ahead after.cursor) (ahead behind) (spots_ahead now.cursor) (spots_ahead after.cursor) (spots_ahead behind) bs b more to.read
+      (argument_at d (ahead now.cursor) to.version found) (argument_placed_at to.version placed) separator one (fewer_behind now.cursor.tokens.now after.cursor.tokens.now behind.tokens.now placed one);
+}
 
-pub argument_stopped : (v : Version) (d : ℕ) (old one : Program) (tokens : List PlacedToken) (at : ℕ) (bs : List Argument) (e : Stop) → ArgumentsTo v d old one tokens bs true at
-    → StopsReading e (parse_argument d v (parse_term d v) (counts_of one) (toks (from_index at tokens))) → StopsReading e (parse_arguments (suc (length (toks tokens))) d v (parse_term d v) (counts_of old) (toks tokens))
-argument_stopped v d old one tokens at bs e to stops =
-    argument_stops v d old one tokens (drop at (toks tokens)) (drop at (places tokens)) bs e to.read (subst (λ (ts : List Tok). StopsReading e (parse_argument d v (parse_term d v) (counts_of one) ts)) (toks_from tokens at) stops)
+pub argument_stopped : (v : Version) (d : ℕ) (old : Program) (tokens : List PlacedToken) (now : Reader) (bs : List Argument) (e : Stop) → ArgumentsTo v d old tokens now bs true
+    → StopsReading e (parse_argument d now.version (parse_term d now.version) (counts_of now.program) (ahead now.cursor)) → StopsReading e (parse_arguments (suc (length (toks tokens))) d v (parse_term d v) (counts_of old) (toks tokens))
+argument_stopped v d old tokens now bs e to stops =
+    argument_stops v d old now.program tokens (ahead now.cursor) (spots_ahead now.cursor) bs e to.read (subst (λ (w : Version). StopsReading e (parse_argument d w (parse_term d w) (counts_of now.program) (ahead now.cursor))) to.version stops)
 
-pub argument_separator_stopped : (v : Version) (d : ℕ) (old one two : Program) (tokens r1 : List PlacedToken) (at : ℕ) (bs : List Argument) (b : Argument) (e : Stop) → ArgumentsTo v d old one tokens bs true at
-    → FoundArgument one two b (toks r1) (parse_argument d v (parse_term d v) (counts_of one) (toks (from_index at tokens))) → StopsReading e (parse_separator (toks r1))
+pub argument_separator_stopped : (v : Version) (d : ℕ) (old : Program) (tokens : List PlacedToken) (now after : Reader) (bs : List Argument) (b : Argument) (e : Stop) → ArgumentsTo v d old tokens now bs true
+    → FoundArgument now.program after.program b (ahead after.cursor) (parse_argument d now.version (parse_term d now.version) (counts_of now.program) (ahead now.cursor)) → StopsReading e (parse_separator (ahead after.cursor))
     → StopsReading e (parse_arguments (suc (length (toks tokens))) d v (parse_term d v) (counts_of old) (toks tokens))
-argument_separator_stopped v d old one two tokens r1 at bs b e to f stops =
-    argument_separator_stops v d old one tokens (drop at (toks tokens)) (toks r1) (drop at (places tokens)) bs f.value e to.read
-    (subst (λ (ts : List Tok). parse_argument d v (parse_term d v) (counts_of one) ts ≡ got f.value (toks r1)) (toks_from tokens at) f.is) stops
+argument_separator_stopped v d old tokens now after bs b e to found stops =
+    let f = argument_at d (ahead now.cursor) to.version found in
+    argument_separator_stops v d old now.program tokens (ahead now.cursor) (ahead after.cursor) (spots_ahead now.cursor) bs f.value e to.read f.is stops
 
 arguments_so : (p : Program) (bs : List Argument) → arguments_of p bs ≡ arguments_before (map (actual_of p) bs) no_arguments
 arguments_so p [] = refl
@@ -493,20 +384,18 @@ pub record AllArguments (v : Version) (d : ℕ) (old new : Program) (tokens : Li
   pub some : bs ≢ []
   pub placed : Consumes (EachArgumentPlaced v new bs) (places tokens) (places rest)
 
-pub all_arguments : (v : Version) (d : ℕ) (old new : Program) (tokens : List PlacedToken) (bs : List Argument) (more : Bool) (at : ℕ) → more ≡ false → ArgumentsTo v d old new tokens bs more at → AllArguments v d old new tokens bs (from_index at tokens)
-all_arguments v d old new tokens bs true at done to = absurd cc
-all_arguments v d old new tokens bs false at done to =
-    let read = to.read in
-    record {
-      found = record {
-        value = arguments_before read.values no_arguments;
-        is = read.so ∙ ap (λ (ts : List Tok). got (arguments_before read.values no_arguments) ts) (sym (toks_from tokens at));
-        held = read.held;
-        same = arguments_so new bs ∙ ap (λ (cs : List Actual). arguments_before cs no_arguments) read.same;
-        kept = read.kept;
-        terms = read.terms;
-        expressions = read.expressions;
-      };
-      some = read.some refl;
-      placed = subst (λ (ss : List Spot). Consumes (EachArgumentPlaced v new bs) (places tokens) ss) (sym (places_from tokens at)) read.placed;
-    }
+pub all_arguments : (v : Version) (d : ℕ) (old new : Program) (tokens : List PlacedToken) (bs : List Argument) (more : Bool) (rest : List PlacedToken) → more ≡ false → ReadArguments v d old new tokens bs more (toks rest) (places rest) → AllArguments v d old new tokens bs rest
+all_arguments v d old new tokens bs true rest done read = absurd cc
+all_arguments v d old new tokens bs false rest done read = record {
+  found = record {
+    value = arguments_before read.values no_arguments;
+    is = read.so;
+    held = read.held;
+    same = arguments_so new bs ∙ ap (λ (cs : List Actual). arguments_before cs no_arguments) read.same;
+    kept = read.kept;
+    terms = read.terms;
+    expressions = read.expressions;
+  };
+  some = read.some refl;
+  placed = read.placed;
+}

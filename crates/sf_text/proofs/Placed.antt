@@ -1,5 +1,5 @@
 -- Terms and templates stay where they stand, and stand at their first token.
-use Rattle.std.proofs.Common.{◌≡◌, ◌≢◌, ℕ, suc, false, List, [], ◌∷◌, ◌++◌, length, map, Result, Ok, Err, Bor, refl, sym, ◌∙◌, ap, append_assoc, subst, ℤ}
+use Rattle.std.proofs.Common.{◌≡◌, ◌≢◌, ℕ, suc, false, List, [], ◌∷◌, ◌++◌, length, map, Result, Ok, Err, refl, sym, ◌∙◌, ap, append_assoc, subst, ℤ}
 use Rattle.std.specs.Prelude.{IfOk, Vec}
 use Rattle.std.specs.declared.alloc.Global.{Global}
 use Rattle.sf_parse.specs.declared.stop.Stop.{Stop}
@@ -38,7 +38,7 @@ use Rattle.sf_term.specs.declared.node.Node.TheVariants as nodes
 use Rattle.sf_term.specs.declared.program.Program.{Program}
 use Rattle.sf_term.specs.Trees.{Term, headed, primitive, never}
 use Rattle.sf_term.specs.Headers.{Header}
-use Rattle.sf_term.specs.Arena.{KeepsTrees, KeepsProgram, HoldsTerm, HoldsTermParts, HoldsPatternIn, HoldsArguments, tree, term_of, term_entry_of, term_node_at, expression_under, pattern_under, arguments_under, AddsTerm, AddsTemplate, headers_of, template_in}
+use Rattle.sf_term.specs.Arena.{KeepsTrees, KeepsProgram, HoldsTerm, HoldsTermParts, HoldsPatternIn, HoldsArguments, tree, term_of, term_entry_of, term_node_at, expression_under, pattern_under, arguments_under, AddsTerm, AddsTemplate, template_in}
 use Rattle.sf_term.proofs.Kept.{keeps_trees_trans, node_builds, parts_held}
 use Rattle.sf_value.specs.Values.{Kind}
 use Rattle.sf_lex.specs.Tokens.{Tok, Located, seen, shown, place_at, symbol}
@@ -54,7 +54,7 @@ use Rattle.sf_grammar.specs.Placing.{around, PatternPlaced, ExpressionPlaced, Fu
 use Rattle.sf_text.specs.Progress.{IsSpelled}
 use Rattle.sf_text.proofs.Whole.{toks_same}
 use Rattle.sf_parse.specs.Consuming.{places, BehindOne, BehindSome, NamePlaced, Consumes, Parted}
-use Rattle.sf_text.specs.Consuming.{headed_node, HeadingPlaced, OpeningPlaced, PlacesTemplate}
+use Rattle.sf_text.specs.Consuming.{headed_node, HeadingPlaced, PlacesTemplate}
 use Rattle.sf_parse.proofs.Placed.{pattern_stays, expression_keeps, function_keeps, behind_first, in_brackets_read, behind_opening, parted, pattern_stands, front_counted}
 
 term_stays : (old new : Program) → KeepsTrees old new → (id : TermId) (n : Node) (at : Spot) → TermStands old id n at → TermStands new id n at
@@ -126,6 +126,23 @@ templates_more v p hs h xs ys (template_placed {xs = front} {ys = behind} first 
 
 term_stands : (old new : Program) (id : TermId) (n : Node) (t : Term) (spot : Spot) → AddsTerm old new id n t spot → TermStands new id n spot
 term_stands old new id n t spot a = record { held = a.within; node = a.node; spot = a.spotted }
+
+-- what was read in a version was read in the same one
+pub term_placed_at : {v w : Version} {p : Program} {id : TermId} {tokens rest : List Spot} → w ≡ v → Consumes (TermPlaced w p id) tokens rest → Consumes (TermPlaced v p id) tokens rest
+term_placed_at {p = p} {id = id} {tokens = tokens} {rest = rest} same c = subst (λ (v : Version). Consumes (TermPlaced v p id) tokens rest) same c
+
+pub function_placed_at : {v w : Version} {p : Program} {f : FunctionId} {tokens rest : List Spot} → w ≡ v → Consumes (FunctionPlaced w p f) tokens rest → Consumes (FunctionPlaced v p f) tokens rest
+function_placed_at {p = p} {f = f} {tokens = tokens} {rest = rest} same c = subst (λ (v : Version). Consumes (FunctionPlaced v p f) tokens rest) same c
+
+pub body_placed_at : {v w : Version} {q : PlacedPattern} {p : Program} {id : TermId} {tokens rest : List Spot} → w ≡ v
+    → Consumes (Parted (PatternPlaced q) (TermPlaced w p id)) tokens rest → Consumes (Parted (PatternPlaced q) (TermPlaced v p id)) tokens rest
+body_placed_at {q = q} {p = p} {id = id} {tokens = tokens} {rest = rest} same c = subst (λ (v : Version). Consumes (Parted (PatternPlaced q) (TermPlaced v p id)) tokens rest) same c
+
+pub argument_placed_at : {v w : Version} {p : Program} {a : Argument} {tokens rest : List Spot} → w ≡ v → Consumes (ArgumentPlaced w p a) tokens rest → Consumes (ArgumentPlaced v p a) tokens rest
+argument_placed_at {p = p} {a = a} {tokens = tokens} {rest = rest} same c = subst (λ (v : Version). Consumes (ArgumentPlaced v p a) tokens rest) same c
+
+pub template_placed_at : {v w : Version} {old new : Program} {tokens rest : List Spot} → w ≡ v → PlacesTemplate w old new tokens rest → PlacesTemplate v old new tokens rest
+template_placed_at {old = old} {new = new} {tokens = tokens} {rest = rest} same c = subst (λ (v : Version). PlacesTemplate v old new tokens rest) same c
 
 pub bare_read : {v : Version} {old new : Program} {id : TermId} {k : Bare} {t : Term} {spot : Spot} (rest : List Spot) → AddsTerm old new id (nodes.Primitive (primitives.Bare k)) t spot → Consumes (TermPlaced v new id) (spot ∷ rest) rest
 bare_read {v} {old} {new} {id} {k} {t} {spot} rest added = record { front = spot ∷ []; split = refl; holds = bare_placed (term_stands old new id _ t spot added) }
@@ -243,11 +260,11 @@ keeping_read {v} {one} {two} {three} {new} {id} {a} {b} {c} {w} {k} {p} {q} {t} 
     (stays b observer.front (term_keeps v two three L b observer.front observer.holds)) (pattern_stands new q p ps there placed) (stays c zs z)))))
 
 -- a name, and arguments in brackets behind it
-pub call_read : {v : Version} {mid new : Program} {id : TermId} {g : NameId} {a : ArgumentsId} {bs : List Argument} {t : Term} {spot : Spot} {r r0 r1 rest : List Spot} → AddsTerm mid new id (nodes.Call g a) t spot → HoldsArguments new a × (arguments_under new a ≡ bs)
-    → NamePlaced spot r r0 → BehindOne r0 r1 → Consumes (ArgumentsPlaced v mid bs) r1 rest → Consumes (TermPlaced v new id) r rest
-call_read {v} {mid} {new} {id} {g} {a} {bs} {t} {spot} added there name opening actuals = record {
+pub call_read : {v : Version} {mid new : Program} {id : TermId} {g : NameId} {a : ArgumentsId} {bs : List Argument} {t : Term} {spot : Spot} {r r1 rest : List Spot} → AddsTerm mid new id (nodes.Call g a) t spot → HoldsArguments new a × (arguments_under new a ≡ bs)
+    → BehindOne r r1 → Consumes (ArgumentsPlaced v mid bs) r1 rest → Consumes (TermPlaced v new id) (spot ∷ r) rest
+call_read {v} {mid} {new} {id} {g} {a} {bs} {t} {spot} added there opening actuals = record {
   front = spot ∷ opening.at ∷ actuals.front;
-  split = rw (name.split, opening.split, actuals.split) refl;
+  split = rw (opening.split, actuals.split) refl;
   holds = call_placed opening.at (term_stands mid new id _ t spot added)
       (subst (λ (cs : List Argument). ArgumentsPlaced v new cs actuals.front) (sym there.1) (arguments_keep v mid new added.kept.trees bs actuals.front actuals.holds));
 }
@@ -302,10 +319,10 @@ some_parameters_so v (q ∷ qs) xs some each = some_parameters_placed each
 pub some_parameters_placed_behind : (v : Version) (qs : List PlacedParameter) {tokens rest : List Spot} → qs ≢ [] → Consumes (EachParameterPlaced v qs) tokens rest → Consumes (ParametersPlaced v qs) tokens rest
 some_parameters_placed_behind v qs some c = record { front = c.front; split = c.split; holds = some_parameters_so v qs c.front some c.holds }
 
-pub each_placed : (v : Version) (tokens : List PlacedToken) (answer : Result (Vec PlacedParameter Global × Bor (List PlacedToken)) Stop) → IfOk answer (λ x. x.0.items ≢ [])
-    → IfOk answer (λ x. Consumes (EachParameterPlaced v x.0.items) (places tokens) (places x.1.now)) → IfOk answer (λ x. Consumes (ParametersPlaced v x.0.items) (places tokens) (places x.1.now))
-each_placed v tokens (Ok x) some placed = some_parameters_placed_behind v x.0.items some placed
-each_placed v tokens (Err e) some placed = tt
+pub each_placed : (v : Version) (tokens rest : List Spot) (answer : Result (Vec PlacedParameter Global) Stop) → IfOk answer (λ qs. qs.items ≢ [])
+    → IfOk answer (λ qs. Consumes (EachParameterPlaced v qs.items) tokens rest) → IfOk answer (λ qs. Consumes (ParametersPlaced v qs.items) tokens rest)
+each_placed v tokens rest (Ok qs) some placed = some_parameters_placed_behind v qs.items some placed
+each_placed v tokens rest (Err e) some placed = tt
 
 pub no_arguments_placed_behind : (v : Version) (p : Program) {tokens rest : List Spot} → BehindOne tokens rest → Consumes (ArgumentsPlaced v p []) tokens rest
 no_arguments_placed_behind v p closing = record { front = closing.at ∷ []; split = closing.split; holds = no_arguments_placed closing.at }
@@ -317,10 +334,10 @@ some_arguments_so v p (b ∷ bs) xs some each = some_arguments_placed each
 pub some_arguments_placed_behind : (v : Version) (p : Program) (bs : List Argument) {tokens rest : List Spot} → bs ≢ [] → Consumes (EachArgumentPlaced v p bs) tokens rest → Consumes (ArgumentsPlaced v p bs) tokens rest
 some_arguments_placed_behind v p bs some c = record { front = c.front; split = c.split; holds = some_arguments_so v p bs c.front some c.holds }
 
-pub each_argument_placed : (v : Version) (p : Program) (tokens : List PlacedToken) (answer : Result (Vec Argument Global × Bor (List PlacedToken)) Stop) → IfOk answer (λ x. x.0.items ≢ [])
-    → IfOk answer (λ x. Consumes (EachArgumentPlaced v p x.0.items) (places tokens) (places x.1.now)) → IfOk answer (λ x. Consumes (ArgumentsPlaced v p x.0.items) (places tokens) (places x.1.now))
-each_argument_placed v p tokens (Ok x) some placed = some_arguments_placed_behind v p x.0.items some placed
-each_argument_placed v p tokens (Err e) some placed = tt
+pub each_argument_placed : (v : Version) (p : Program) (tokens rest : List Spot) (answer : Result (Vec Argument Global) Stop) → IfOk answer (λ bs. bs.items ≢ [])
+    → IfOk answer (λ bs. Consumes (EachArgumentPlaced v p bs.items) tokens rest) → IfOk answer (λ bs. Consumes (ArgumentsPlaced v p bs.items) tokens rest)
+each_argument_placed v p tokens rest (Ok bs) some placed = some_arguments_placed_behind v p bs.items some placed
+each_argument_placed v p tokens rest (Err e) some placed = tt
 
 -- an expression, or a term behind `sf`
 pub value_read : {v : Version} {p : Program} {e : ExprId} {tokens rest : List Spot} → Consumes (ExpressionPlaced v p e) tokens rest → Consumes (ArgumentPlaced v p (arguments.Value e)) tokens rest
@@ -361,10 +378,6 @@ template_read {v} {old} {mid} {new} {h} {r0} {r1} {r2} {r3} {rest} kept added he
     };
   };
 }
-
--- templates behind what stands in front of them
-pub network_read : {v : Version} {tokens rest : List Spot} (p : Program) → OpeningPlaced tokens rest → TemplatesPlaced v p (headers_of p) rest → NetworkPlaced v p tokens
-network_read {rest = rest} p opening templates = record { word = opening.word; version = opening.version; semicolon = opening.semicolon; behind = rest; split = opening.split; templates = templates }
 
 -- the places of tokens, as the code has them and as the bytes have them
 places_same : (bytes : List ℕ) (found : List PlacedToken) (ls : List Located) → map seen found ≡ map (shown bytes) ls → places found ≡ map (λ (l : Located). place_at bytes l.offset) ls

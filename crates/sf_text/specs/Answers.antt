@@ -1,6 +1,5 @@
 -- What the functions answer that read terms and templates.
-use Rattle.std.specs.Prelude.{◌≡◌, ◌+◌, All, List, [], ◌∷◌, ◌++◌, Option, Some, None, Result, Ok, Err, Vec}
-use Rattle.std.proofs.Common.{Bor}
+use Rattle.std.specs.Prelude.{◌≡◌, ◌+◌, All, List, [], ◌∷◌, ◌++◌, length, Result, Ok, Err, Vec}
 use Rattle.std.specs.declared.alloc.Global.{Global}
 use Rattle.sf_value.specs.Values.{Name, Kind}
 use Rattle.sf_text.specs.declared.header.Types.{Types}
@@ -16,11 +15,11 @@ use Rattle.sf_term.specs.Parameters.{PlacedParameter, Bindings, parameters_of}
 use Rattle.sf_term.specs.Trees.{Term, Arguments, no_arguments, Template, terms_in, terms_in_arguments, expressions_in, expressions_in_arguments}
 use Rattle.sf_term.specs.Arena.{HoldsTerm, HoldsArgument, tree, expression_under, arguments_of, term_count, expression_count, templates_of, KeepsProgram}
 use Rattle.sf_lex.specs.Tokens.{Tok}
-use Rattle.sf_lex.specs.declared.token.PlacedToken.{PlacedToken}
 use Rattle.sf_parse.specs.declared.stop.Stop.{Stop}
+use Rattle.sf_parse.specs.declared.reader.Reader.{Reader}
+use Rattle.sf_parse.specs.declared.mark.Mark.{Mark}
 use Rattle.sf_grammar.specs.Reading.{Read, got, Actual, actual_value, actual_process, with_actual}
-use Rattle.sf_parse.specs.Answers.{toks, StopsReading, named_bytes}
-use Rattle.sf_parse.specs.Consuming.{places, BehindOne}
+use Rattle.sf_parse.specs.Answers.{ahead, StopsReading, named_bytes}
 
 abbrev pub kinds_in : Types → Kind × Kind
 kinds_in s = (s.input, s.output)
@@ -30,11 +29,6 @@ bindings_in qs = parameters_of qs.items
 
 abbrev pub heading_in : Titled → Name × Bindings
 heading_in h = (named_bytes h.name, parameters_of h.parameters.items)
-
--- the tokens behind what may stand in front
-abbrev pub IsBehind : Option (Bor (List PlacedToken)) → (List Tok → Option (List Tok)) → List PlacedToken → Type 0
-IsBehind (Some rest) behind tokens = (behind (toks tokens) ≡ Some (toks rest.now)) × BehindOne (places tokens) (places rest.now)
-IsBehind None behind tokens = behind (toks tokens) ≡ None
 
 -- a term was read into the program
 pub record FoundTerm (old new : Program) (id : TermId) (rest : List Tok) (read : Read Term) : Type 0 where
@@ -46,9 +40,17 @@ pub record FoundTerm (old new : Program) (id : TermId) (rest : List Tok) (read :
   pub terms : term_count new ≡ term_count old + terms_in term
   pub expressions : expression_count new ≡ expression_count old + expressions_in term
 
-abbrev pub ReadsTerm : Program → Program → Result (TermId × Bor (List PlacedToken)) Stop → Read Term → Type 0
-ReadsTerm old new (Ok x) read = FoundTerm old new x.0 (toks x.1.now) read
-ReadsTerm old new (Err e) read = StopsReading e read
+-- a term was read into the program, up to these tokens
+abbrev pub ReadsTermInto : Program → Program → List Tok → Result TermId Stop → Read Term → Type 0
+ReadsTermInto old new rest (Ok id) read = FoundTerm old new id rest read
+ReadsTermInto old new rest (Err e) read = StopsReading e read
+
+abbrev pub ReadsTerm : Reader → Reader → Result TermId Stop → Read Term → Type 0
+ReadsTerm old new result read = ReadsTermInto old.program new.program (ahead new.cursor) result read
+
+-- the term that begins at the mark was read into the program, whatever tokens there are from there on
+abbrev pub ReadsTermForm : Reader → Reader → Mark → Result TermId Stop → (List Tok → List Tok → Read Term) → Type 0
+ReadsTermForm old new start result read = (whole : List Tok) → length whole ≡ start.ahead → ReadsTerm old new result (read whole (ahead old.cursor))
 
 -- the pattern and the term of a body were read, the term into the program
 pub record FoundBody (old new : Program) (p : Pattern) (id : TermId) (rest : List Tok) (read : Read (Pattern × Term)) : Type 0 where
@@ -61,8 +63,8 @@ pub record FoundBody (old new : Program) (p : Pattern) (id : TermId) (rest : Lis
   pub terms : term_count new ≡ term_count old + terms_in term
   pub expressions : expression_count new ≡ expression_count old + expressions_in term
 
-abbrev pub ReadsBody : Program → Program → Result (PlacedPattern × TermId × Bor (List PlacedToken)) Stop → Read (Pattern × Term) → Type 0
-ReadsBody old new (Ok x) read = FoundBody old new (pattern_of x.0) x.1 (toks x.2.now) read
+abbrev pub ReadsBody : Reader → Reader → Result (PlacedPattern × TermId) Stop → Read (Pattern × Term) → Type 0
+ReadsBody old new (Ok x) read = FoundBody old.program new.program (pattern_of x.0) x.1 (ahead new.cursor) read
 ReadsBody old new (Err e) read = StopsReading e read
 
 -- the argument that one with ids stands for
@@ -80,8 +82,8 @@ pub record FoundArgument (old new : Program) (a : Argument) (rest : List Tok) (r
   pub terms : term_count new ≡ term_count old + terms_in_arguments (with_actual value no_arguments)
   pub expressions : expression_count new ≡ expression_count old + expressions_in_arguments (with_actual value no_arguments)
 
-abbrev pub ReadsArgument : Program → Program → Result (Argument × Bor (List PlacedToken)) Stop → Read Actual → Type 0
-ReadsArgument old new (Ok x) read = FoundArgument old new x.0 (toks x.1.now) read
+abbrev pub ReadsArgument : Reader → Reader → Result Argument Stop → Read Actual → Type 0
+ReadsArgument old new (Ok a) read = FoundArgument old.program new.program a (ahead new.cursor) read
 ReadsArgument old new (Err e) read = StopsReading e read
 
 -- arguments were read into the program
@@ -94,8 +96,8 @@ pub record FoundArguments (old new : Program) (bs : List Argument) (rest : List 
   pub terms : term_count new ≡ term_count old + terms_in_arguments value
   pub expressions : expression_count new ≡ expression_count old + expressions_in_arguments value
 
-abbrev pub ReadsArguments : Program → Program → Result (Vec Argument Global × Bor (List PlacedToken)) Stop → Read Arguments → Type 0
-ReadsArguments old new (Ok x) read = FoundArguments old new x.0.items (toks x.1.now) read
+abbrev pub ReadsArguments : Reader → Reader → Result (Vec Argument Global) Stop → Read Arguments → Type 0
+ReadsArguments old new (Ok bs) read = FoundArguments old.program new.program bs.items (ahead new.cursor) read
 ReadsArguments old new (Err e) read = StopsReading e read
 
 -- a template was read into the program, behind the others
@@ -106,6 +108,6 @@ pub record FoundTemplate (old new : Program) (rest : List Tok) (read : Read Temp
   pub terms : term_count new ≡ term_count old + terms_in template.body
   pub expressions : expression_count new ≡ expression_count old + expressions_in template.body
 
-abbrev pub ReadsTemplate : Program → Program → Result (Bor (List PlacedToken)) Stop → Read Template → Type 0
-ReadsTemplate old new (Ok rest) read = FoundTemplate old new (toks rest.now) read
+abbrev pub ReadsTemplate : Reader → Reader → Result (Unit {0}) Stop → Read Template → Type 0
+ReadsTemplate old new (Ok u) read = FoundTemplate old.program new.program (ahead new.cursor) read
 ReadsTemplate old new (Err e) read = StopsReading e read

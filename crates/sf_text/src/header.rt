@@ -1,133 +1,110 @@
 //! What stands in front of templates and of their terms.
 ghost use Rattle.std.specs.Prelude.{◌≢◌, IfOk, suc, [], length};
-ghost use Rattle.sf_parse.specs.Answers.{toks, ReadsAs};
+ghost use Rattle.sf_parse.specs.Answers.{ahead, ReadsAs};
 ghost use Rattle.sf_lex.specs.Words.{IsName};
 ghost use Rattle.sf_term.specs.Names.{AreNamed};
 ghost use Rattle.sf_term.specs.ParameterView.{kind_of_form};
 ghost use Rattle.sf_term.specs.Parameters.{binding_of};
 ghost use Rattle.sf_text.specs.Answers.{kinds_in, heading_in, bindings_in};
-ghost use Rattle.sf_parse.specs.Consuming.{places, BehindOne, BehindSome, Consumes};
+ghost use Rattle.sf_parse.specs.Consuming.{spots_ahead, BehindOne, BehindSome, StandsOn};
 ghost use Rattle.sf_grammar.specs.Placing.{ParameterPlaced, EachParameterPlaced, ParametersPlaced};
 ghost use Rattle.sf_text.specs.Consuming.{HeadingPlaced, OpeningPlaced};
 ghost use Rattle.sf_grammar.specs.Reading.{parse_version, parse_opening, parse_listed, parse_name_kind, parse_parameter, parse_parameters, parse_heading, parse_signature};
 
-use crate::listed::{behind_close, behind_leads, separator};
+use crate::listed::{behind_leads, separator};
 use sf_grammar::Version;
-use sf_lex::{Keyword, PlacedToken, Symbol, Token};
-use sf_parse::{Named, Stop, keyword, name, stop_at, symbol, ty};
+use sf_lex::{Keyword, Symbol, Token};
+use sf_parse::{Cursor, First, Named, Stop};
 use sf_refusal::Rule;
 use sf_term::{Parameter, ParameterForm};
 use sf_value::Ty;
-use std::alloc::Global;
 
-/// The version, and the tokens behind it.
-fn version<'a>(tokens: &'a [PlacedToken<'a>]) -> Result<(Version, &'a [PlacedToken<'a>]), Stop>
-    ensures reads { ReadsAs (λ v. v) result (parse_version (toks tokens.now)) }
-    ensures behind { IfOk result (λ x. BehindOne (places tokens.now) (places x.1.now)) }
+/// The version.
+fn version(cursor: &mut Cursor) -> Result<Version, Stop>
+    ensures reads { ReadsAs (λ v. v) result cursor.new (parse_version (ahead cursor.old)) }
+    ensures behind { IfOk result (λ v. BehindOne (spots_ahead cursor.old) (spots_ahead cursor.new)) }
 {
-    if let [first, rest @ ..] = tokens {
-        if let Token::Number(number) = &first.token {
-            if *number == 1 {
-                return Ok((Version::One, rest));
-            }
-            if *number == 2 {
-                return Ok((Version::Two, rest));
-            }
-            return Err(stop_at(Rule::Version, tokens));
-        }
+    let First { token, start } = cursor.first()?;
+    match token {
+        Token::Number(1) => Ok(Version::One),
+        Token::Number(2) => Ok(Version::Two),
+        Token::Number(_) => Err(Stop::At(Rule::Version, start.ahead)),
+        _ => Err(Stop::At(Rule::Unexpected, start.ahead)),
     }
-    Err(stop_at(Rule::Unexpected, tokens))
 }
 
-/// The version of a network, and the tokens behind what stands in front of its templates.
+/// The version of a network, from what stands in front of its templates.
 #[tactic(auto, unfolding(sf_grammar::specs::Reading::parse_opening))]
-pub(crate) fn opening<'a>(
-    tokens: &'a [PlacedToken<'a>],
-) -> Result<(Version, &'a [PlacedToken<'a>]), Stop>
-    ensures reads { ReadsAs (λ v. v) result (parse_opening (toks tokens.now)) }
-    ensures placed { IfOk result (λ x. OpeningPlaced (places tokens.now) (places x.1.now)) }
+pub(crate) fn opening(cursor: &mut Cursor) -> Result<Version, Stop>
+    ensures reads { ReadsAs (λ v. v) result cursor.new (parse_opening (ahead cursor.old)) }
+    ensures placed { IfOk result (λ v. OpeningPlaced (spots_ahead cursor.old) (spots_ahead cursor.new)) }
 {
-    let rest = keyword(tokens, Keyword::Network)?;
-    let (version, rest) = version(rest)?;
-    let rest = symbol(rest, Symbol::Semicolon)?;
-    Ok((version, rest))
+    cursor.keyword(Keyword::Network)?;
+    let version = version(cursor)?;
+    cursor.symbol(Symbol::Semicolon)?;
+    Ok(version)
 }
 
-/// What a parameter stands for, and the tokens behind it.
+/// What a parameter stands for.
 #[tactic(auto, unfolding(sf_grammar::specs::Reading::parse_name_kind))]
-fn name_kind<'a>(
-    alloc: Global,
-    version: Version,
-    tokens: &'a [PlacedToken<'a>],
-) -> Result<(ParameterForm, &'a [PlacedToken<'a>]), Stop>
-    ensures reads { ReadsAs kind_of_form result (parse_name_kind version (toks tokens.now)) }
-    ensures behind { IfOk result (λ x. BehindSome (places tokens.now) (places x.1.now)) }
+fn name_kind(cursor: &mut Cursor, version: Version) -> Result<ParameterForm, Stop>
+    ensures reads { ReadsAs kind_of_form result cursor.new (parse_name_kind version (ahead cursor.old)) }
+    ensures behind { IfOk result (λ k. BehindSome (spots_ahead cursor.old) (spots_ahead cursor.new)) }
 {
-    let (first, rest) = ty(alloc, version, tokens)?;
-    match behind_leads(rest) {
-        Some(rest) => {
-            let (output, rest) = ty(alloc, version, rest)?;
-            Ok((ParameterForm::Process(first, output), rest))
+    let first = cursor.ty(version)?;
+    match behind_leads(cursor) {
+        Some(behind) => {
+            *cursor = behind;
+            let output = cursor.ty(version)?;
+            Ok(ParameterForm::Process(first, output))
         }
-        None => Ok((ParameterForm::Value(first), rest)),
+        None => Ok(ParameterForm::Value(first)),
     }
 }
 
-/// A parameter, and the tokens behind it.
+/// A parameter.
 #[tactic(auto, unfolding(sf_grammar::specs::Reading::parse_parameter))]
-fn parameter<'a>(
-    alloc: Global,
-    version: Version,
-    tokens: &'a [PlacedToken<'a>],
-) -> Result<(Parameter, &'a [PlacedToken<'a>]), Stop>
-    ensures reads { ReadsAs binding_of result (parse_parameter version (toks tokens.now)) }
-    ensures named { IfOk result (λ x. IsName x.0.name) }
-    ensures placed { IfOk result (λ x. Consumes (ParameterPlaced version x.0) (places tokens.now) (places x.1.now)) }
+fn parameter(cursor: &mut Cursor, version: Version) -> Result<Parameter, Stop>
+    ensures reads { ReadsAs binding_of result cursor.new (parse_parameter version (ahead cursor.old)) }
+    ensures named { IfOk result (λ q. IsName q.name) }
+    ensures placed { StandsOn (ParameterPlaced version) result cursor.old cursor.new }
 {
-    let (known, rest) = name(tokens)?;
-    let rest = symbol(rest, Symbol::Colon)?;
-    let (form, rest) = name_kind(alloc, version, rest)?;
-    let name = String::from_str(alloc, known.name.as_str())?;
-    Ok((Parameter::new(name, known.spot, form), rest))
+    let known = cursor.name()?;
+    cursor.symbol(Symbol::Colon)?;
+    let form = name_kind(cursor, version)?;
+    let name = String::from_str(cursor.alloc, known.name.as_str())?;
+    Ok(Parameter::new(name, known.spot, form))
 }
 
-/// Parameters, one at least, and the tokens behind the closing bracket.
-fn some_parameters<'a>(
-    alloc: Global,
-    version: Version,
-    tokens: &'a [PlacedToken<'a>],
-) -> Result<(Vec<Parameter>, &'a [PlacedToken<'a>]), Stop>
-    ensures reads { ReadsAs bindings_in result (parse_parameters (suc (length (toks tokens.now))) version (toks tokens.now)) }
-    ensures named { IfOk result (λ x. AreNamed x.0.items) }
-    ensures some { IfOk result (λ x. x.0.items ≢ []) }
-    ensures placed { IfOk result (λ x. Consumes (EachParameterPlaced version x.0.items) (places tokens.now) (places x.1.now)) }
+/// Parameters, one at least, and the closing bracket behind them.
+fn some_parameters(cursor: &mut Cursor, version: Version) -> Result<Vec<Parameter>, Stop>
+    ensures reads { ReadsAs bindings_in result cursor.new (parse_parameters (suc (length (ahead cursor.old))) version (ahead cursor.old)) }
+    ensures named { IfOk result (λ qs. AreNamed qs.items) }
+    ensures some { IfOk result (λ qs. qs.items ≢ []) }
+    ensures placed { StandsOn (λ qs. EachParameterPlaced version qs.items) result cursor.old cursor.new }
 {
-    let mut parameters = Vec::new(alloc);
-    let mut at = 0;
+    let mut parameters = Vec::new(cursor.alloc);
     let mut more = true;
     while more {
-        let (parameter, rest) = parameter(alloc, version, &tokens[at..])?;
+        let parameter = parameter(cursor, version)?;
         parameters.push(parameter)?;
-        let (another, rest) = separator(rest)?;
-        more = another;
-        at = tokens.len() - rest.len();
+        more = separator(cursor)?;
     }
-    Ok((parameters, &tokens[at..]))
+    Ok(parameters)
 }
 
-/// Parameters, if there are any, and the tokens behind the closing bracket.
-fn parameters<'a>(
-    alloc: Global,
-    version: Version,
-    tokens: &'a [PlacedToken<'a>],
-) -> Result<(Vec<Parameter>, &'a [PlacedToken<'a>]), Stop>
-    ensures reads { ReadsAs bindings_in result (parse_listed [] (λ ts. parse_parameters (suc (length ts)) version ts) (toks tokens.now)) }
-    ensures named { IfOk result (λ x. AreNamed x.0.items) }
-    ensures placed { IfOk result (λ x. Consumes (ParametersPlaced version x.0.items) (places tokens.now) (places x.1.now)) }
+/// Parameters, if there are any, and the closing bracket behind them.
+fn parameters(cursor: &mut Cursor, version: Version) -> Result<Vec<Parameter>, Stop>
+    ensures reads { ReadsAs bindings_in result cursor.new (parse_listed [] (λ ts. parse_parameters (suc (length ts)) version ts) (ahead cursor.old)) }
+    ensures named { IfOk result (λ qs. AreNamed qs.items) }
+    ensures placed { StandsOn (λ qs. ParametersPlaced version qs.items) result cursor.old cursor.new }
 {
-    match behind_close(tokens) {
-        Some(rest) => Ok((Vec::new(alloc), rest)),
-        None => some_parameters(alloc, version, tokens),
+    match cursor.behind_close() {
+        Some(behind) => {
+            *cursor = behind;
+            Ok(Vec::new(cursor.alloc))
+        }
+        None => some_parameters(cursor, version),
     }
 }
 
@@ -138,22 +115,18 @@ pub(crate) struct Titled<'a> {
     pub(crate) parameters: Vec<Parameter>,
 }
 
-/// The name of a template and its parameters, and the tokens behind them.
+/// The name of a template and its parameters, behind its word.
 #[tactic(auto, unfolding(sf_grammar::specs::Reading::parse_heading))]
-pub(crate) fn heading<'a>(
-    alloc: Global,
-    version: Version,
-    tokens: &'a [PlacedToken<'a>],
-) -> Result<(Titled<'a>, &'a [PlacedToken<'a>]), Stop>
-    ensures reads { ReadsAs heading_in result (parse_heading version (toks tokens.now)) }
-    ensures named { IfOk result (λ x. AreNamed x.0.parameters.items) }
-    ensures placed { IfOk result (λ x. HeadingPlaced version x.0.name.spot x.0.parameters.items (places tokens.now) (places x.1.now)) }
+pub(crate) fn heading<'a>(cursor: &mut Cursor<'a>, version: Version) -> Result<Titled<'a>, Stop>
+    ensures reads { ReadsAs heading_in result cursor.new (parse_heading version (ahead cursor.old)) }
+    ensures named { IfOk result (λ h. AreNamed h.parameters.items) }
+    ensures placed { IfOk result (λ h. HeadingPlaced version h.name.spot h.parameters.items (spots_ahead cursor.old) (spots_ahead cursor.new)) }
 {
-    let rest = keyword(tokens, Keyword::Template)?;
-    let (name, rest) = name(rest)?;
-    let rest = symbol(rest, Symbol::Open)?;
-    let (parameters, rest) = parameters(alloc, version, rest)?;
-    Ok((Titled { name, parameters }, rest))
+    cursor.keyword(Keyword::Template)?;
+    let name = cursor.name()?;
+    cursor.symbol(Symbol::Open)?;
+    let parameters = parameters(cursor, version)?;
+    Ok(Titled { name, parameters })
 }
 
 /// The types of a template's inputs and outputs.
@@ -163,20 +136,16 @@ pub(crate) struct Types {
     pub(crate) output: Ty,
 }
 
-/// The types of a template's inputs and outputs, and the tokens behind them.
+/// The types of a template's inputs and outputs, with what stands around them.
 #[tactic(auto, unfolding(sf_grammar::specs::Reading::parse_signature))]
-pub(crate) fn signature<'a>(
-    alloc: Global,
-    version: Version,
-    tokens: &'a [PlacedToken<'a>],
-) -> Result<(Types, &'a [PlacedToken<'a>]), Stop>
-    ensures reads { ReadsAs kinds_in result (parse_signature version (toks tokens.now)) }
-    ensures behind { IfOk result (λ x. BehindSome (places tokens.now) (places x.1.now)) }
+pub(crate) fn signature(cursor: &mut Cursor, version: Version) -> Result<Types, Stop>
+    ensures reads { ReadsAs kinds_in result cursor.new (parse_signature version (ahead cursor.old)) }
+    ensures behind { IfOk result (λ s. BehindSome (spots_ahead cursor.old) (spots_ahead cursor.new)) }
 {
-    let rest = symbol(tokens, Symbol::Colon)?;
-    let (input, rest) = ty(alloc, version, rest)?;
-    let rest = symbol(rest, Symbol::Leads)?;
-    let (output, rest) = ty(alloc, version, rest)?;
-    let rest = symbol(rest, Symbol::Equals)?;
-    Ok((Types { input, output }, rest))
+    cursor.symbol(Symbol::Colon)?;
+    let input = cursor.ty(version)?;
+    cursor.symbol(Symbol::Leads)?;
+    let output = cursor.ty(version)?;
+    cursor.symbol(Symbol::Equals)?;
+    Ok(Types { input, output })
 }

@@ -3,57 +3,51 @@ ghost use Rattle.std.specs.Prelude.{◌≡◌, ◌≢◌, ◌≤◌, ◌-◌, �
 ghost use Rattle.sf_term.specs.Arena.{templates_of, headers_of};
 ghost use Rattle.sf_term.specs.Trees.{Templates};
 ghost use Rattle.sf_refusal.specs.Refusals.{OrMemory};
-ghost use Rattle.sf_parse.specs.Answers.{toks};
+ghost use Rattle.sf_parse.specs.Answers.{toks, ahead};
 ghost use Rattle.sf_grammar.specs.Spelling.{IsNetworkText};
 ghost use Rattle.sf_grammar.specs.Placing.{TemplatesPlaced, NetworkPlaced, IsPlacedIn};
-ghost use Rattle.sf_parse.specs.Consuming.{places};
+ghost use Rattle.sf_parse.specs.Consuming.{places, spots_ahead};
 ghost use Rattle.sf_text.specs.Progress.{Behind, ReadsTemplates, ReadsNetwork, IsBlankProgram};
 ghost use Rattle.sf_grammar.specs.Stopping.{BreaksText};
 
 use crate::header::opening;
 use crate::place::refusal_at;
 use crate::template::template;
-use sf_grammar::Version;
 use sf_lex::{PlacedToken, tokens};
-use sf_parse::Stop;
+use sf_parse::{Cursor, Reader, Stop};
 use sf_refusal::Refusal;
 use sf_term::Program;
 use std::alloc::Global;
 
 /// Reads templates up to the end.
 #[tactic(auto, using(crate::proofs::Behind::stops_after))]
-fn templates<'a>(
-    alloc: Global,
-    version: Version,
-    tokens: &'a [PlacedToken<'a>],
-    program: &mut Program,
-) -> Result<(), Stop>
-    requires blank { IsBlankProgram program.old }
-    ensures reads { ReadsTemplates version result (toks tokens.now) program.new }
-    ensures placed { OnOk result (TemplatesPlaced version program.new (headers_of program.new) (places tokens.now)) }
+fn templates(reader: &mut Reader) -> Result<(), Stop>
+    requires blank { IsBlankProgram reader.old.program }
+    ensures reads { ReadsTemplates reader.old.version result (ahead reader.old.cursor) reader.new.program }
+    ensures placed { OnOk result (TemplatesPlaced reader.old.version reader.new.program (headers_of reader.new.program) (spots_ahead reader.old.cursor)) }
+    ensures version { reader.new.version ≡ reader.old.version }
 {
-    let mut at = 0;
-    while at < tokens.len() {
-        let behind = template(alloc, version, &tokens[at..], program)?;
-        at = tokens.len() - behind.len();
+    while !reader.cursor.tokens.is_empty() {
+        template(reader)?;
     }
     Ok(())
 }
 
-/// Reads a network into a program without terms and templates, and answers its version.
+/// Reads the tokens of a network to their end.
 #[tactic(auto, using(crate::proofs::Whole::stops_opening, crate::proofs::Whole::network_spelled, crate::proofs::Whole::network_stops))]
-fn network<'a>(
-    alloc: Global,
-    tokens: &'a [PlacedToken<'a>],
-    program: &mut Program,
-) -> Result<Version, Stop>
-    requires blank { IsBlankProgram program.old }
-    ensures reads { ReadsNetwork result (toks tokens.now) program.new }
-    ensures placed { IfOk result (λ v. NetworkPlaced v program.new (places tokens.now)) }
+fn network<'a>(alloc: Global, tokens: &'a [PlacedToken<'a>]) -> Result<Reader<'a>, Stop>
+    ensures reads { ReadsNetwork result (toks tokens.now) }
+    ensures placed { IfOk result (λ r. NetworkPlaced r.version r.program (places tokens.now)) }
 {
-    let (version, rest) = opening(tokens)?;
-    templates(alloc, version, rest, program)?;
-    Ok(version)
+    let mut cursor = Cursor { alloc, tokens };
+    let version = opening(&mut cursor)?;
+    let mut reader = Reader {
+        version,
+        cursor,
+        program: Program::new(alloc),
+    };
+    templates(&mut reader)?;
+    Ok(reader)
 }
 
 /// The network whose text this is: version 1 or 2, at most 1,048,576 bytes, 100,000 terms and 100,000 expressions. At most 64
@@ -73,9 +67,8 @@ pub fn read_network(alloc: Global, bytes: &[u8]) -> Result<Program, Refusal>
     ensures refused { IfErr result (λ e. e ≢ Refusal.Memory → (p : Templates) → IsNetworkText bytes.now p → ⊥) }
 {
     let tokens = tokens(alloc, bytes)?;
-    let mut program = Program::new(alloc);
-    match network(alloc, &tokens, &mut program) {
-        Ok(_version) => Ok(program),
+    match network(alloc, &tokens) {
+        Ok(reader) => Ok(reader.program),
         Err(stop) => Err(refusal_at(stop, &tokens, bytes)),
     }
 }

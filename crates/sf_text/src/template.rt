@@ -1,45 +1,38 @@
 //! Templates.
-ghost use Rattle.std.specs.Prelude.{IfOk};
-ghost use Rattle.sf_parse.specs.Answers.{toks, counts_of};
+ghost use Rattle.std.specs.Prelude.{◌≡◌, IfOk};
+ghost use Rattle.sf_parse.specs.Answers.{ahead, counts_of};
 ghost use Rattle.sf_text.specs.Answers.{ReadsTemplate};
-ghost use Rattle.sf_parse.specs.Consuming.{places};
+ghost use Rattle.sf_parse.specs.Consuming.{spots_ahead};
 ghost use Rattle.sf_text.specs.Consuming.{PlacesTemplate};
 ghost use Rattle.sf_grammar.specs.Reading.{parse_template};
 
 use crate::header::{heading, signature};
 use crate::term::term;
-use sf_grammar::Version;
-use sf_lex::{PlacedToken, Symbol};
-use sf_parse::{Stop, refused, symbol};
-use sf_term::Program;
-use std::alloc::Global;
+use sf_lex::Symbol;
+use sf_parse::{Reader, Stop, refused};
 
-/// Reads a template into the program, and answers the tokens behind it.
+/// Reads a template into the program.
 #[tactic(auto, unfolding(sf_grammar::specs::Reading::parse_template))]
-pub(crate) fn template<'a>(
-    alloc: Global,
-    version: Version,
-    tokens: &'a [PlacedToken<'a>],
-    program: &mut Program,
-) -> Result<&'a [PlacedToken<'a>], Stop>
-    ensures reads { ReadsTemplate program.old program.new result (parse_template version (counts_of program.old) (toks tokens.now)) }
-    ensures placed { IfOk result (λ rest. PlacesTemplate version program.old program.new (places tokens.now) (places rest.now)) }
+pub(crate) fn template(reader: &mut Reader) -> Result<(), Stop>
+    ensures reads { ReadsTemplate reader.old reader.new result (parse_template reader.old.version (counts_of reader.old.program) (ahead reader.old.cursor)) }
+    ensures placed { IfOk result (λ u. PlacesTemplate reader.old.version reader.old.program reader.new.program (spots_ahead reader.old.cursor) (spots_ahead reader.new.cursor)) }
+    ensures version { reader.new.version ≡ reader.old.version }
 {
-    let (titled, rest) = heading(alloc, version, tokens)?;
-    let (types, rest) = signature(alloc, version, rest)?;
-    let (body, rest) = term(alloc, version, rest, program, 64)?;
-    let rest = symbol(rest, Symbol::Semicolon)?;
-    let name = String::from_str(alloc, titled.name.name.as_str())?;
-    let spot = titled.name.spot;
-    match program.template(
+    let ahead = reader.cursor.tokens.len();
+    let titled = heading(&mut reader.cursor, reader.version)?;
+    let types = signature(&mut reader.cursor, reader.version)?;
+    let body = term(reader, 64)?;
+    reader.cursor.symbol(Symbol::Semicolon)?;
+    let name = String::from_str(reader.cursor.alloc, titled.name.name.as_str())?;
+    match reader.program.template(
         name,
-        spot,
+        titled.name.spot,
         titled.parameters,
         types.input,
         types.output,
         body,
     ) {
-        Ok(()) => Ok(rest),
-        Err(refusal) => Err(refused(refusal, tokens)),
+        Ok(()) => Ok(()),
+        Err(refusal) => Err(refused(refusal, ahead)),
     }
 }

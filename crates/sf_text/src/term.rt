@@ -1,36 +1,34 @@
 //! Terms.
-ghost use Rattle.std.specs.Prelude.{◌≡◌, ◌≢◌, ◌≤◌, IfOk, suc, [], ◌∷◌, length, false};
+ghost use Rattle.std.specs.Prelude.{◌≡◌, ◌≢◌, ◌≤◌, IfOk, suc, List, [], ◌∷◌, length, false};
 ghost use Rattle.sf_term.specs.Trees.{Term, no_arguments, primitive as primitive_form, bare as bare_form};
-ghost use Rattle.sf_parse.specs.Answers.{toks, StopsReading, ReadsAs, counts_of};
-ghost use Rattle.sf_text.specs.Answers.{ReadsTerm, ReadsBody, ReadsArgument, ReadsArguments};
+ghost use Rattle.sf_lex.specs.Tokens.{Tok, token_of, name as name_token, name_bytes};
+ghost use Rattle.sf_parse.specs.Answers.{toks, ahead, StopsReading, ReadsAs, counts_of};
+ghost use Rattle.sf_text.specs.Answers.{ReadsTerm, ReadsTermForm, ReadsBody, ReadsArgument, ReadsArguments};
 ghost use Rattle.sf_grammar.specs.Placing.{PatternPlaced, TermPlaced, ArgumentPlaced, EachArgumentPlaced, ArgumentsPlaced};
-ghost use Rattle.sf_parse.specs.Consuming.{places, BehindOne, Consumes, Parted};
+ghost use Rattle.sf_parse.specs.Consuming.{spots_ahead, BehindOne, StandsOn, StandsFrom, Parted};
 ghost use Rattle.sf_text.specs.Consuming.{headed_node, HasValueSo};
 ghost use Rattle.sf_grammar.specs.Reading.{begins_term, begins_fresh, head_at, too_deep, term_read, parse_never, parse_value, parse_timed, parse_arrow, parse_accumulated, parse_sided, parse_headed, parse_body, parse_switching, parse_named, parse_keeping, parse_argument, parse_arguments, parse_listed, parse_call, parse_join, parse_joined, parse_form, parse_behind_head, parse_term};
 ghost use Rattle.sf_term.specs.Arena.{HoldsExpression, HoldsTerm, HoldsTermParts, term_node_at};
 ghost use Rattle.sf_grammar.specs.Spelling.{stands_initially};
 
-use crate::listed::{behind_close, behind_sf, separator};
+use crate::listed::{behind_sf, separator};
 use sf_expr::{ExprId, Pat};
 use sf_grammar::{Head, Version, head_of, join_of};
-use sf_lex::{PlacedToken, Symbol, Token};
-use sf_parse::{
-    Stop, expression, function, inner_type, name, number, pattern, refused, stop_at, symbol,
-};
-use sf_refusal::{Rule, Spot};
+use sf_lex::{Name, PlacedToken, Symbol, Token};
+use sf_parse::{Cursor, First, Mark, Reader, Stop};
+use sf_refusal::Rule;
 use sf_term::{
     Accumulation, Argument, Bare, Heading, Join, Naming, Node, Observation, Primitive, Program,
     Side, Start, Switching, TermId, Timing, WithValue,
 };
-use std::alloc::Global;
 
 /// A term would be 65 deep here.
-fn term_too_deep(tokens: &[PlacedToken]) -> Stop
-    ensures { StopsReading {A = Term} result (too_deep begins_term (toks tokens.now)) }
+fn term_too_deep(cursor: &Cursor) -> Stop
+    ensures { StopsReading {A = Term} result (too_deep begins_term (ahead cursor.now)) }
 {
-    match tokens {
-        [first, ..] if head_of(&first.token).is_some() => stop_at(Rule::TooDeep, tokens),
-        _ => stop_at(Rule::Unexpected, tokens),
+    match cursor.tokens {
+        [first, ..] if head_of(&first.token).is_some() => cursor.stop(Rule::TooDeep),
+        _ => cursor.stop(Rule::Unexpected),
     }
 }
 
@@ -62,286 +60,197 @@ fn head_at(version: Version, tokens: &[PlacedToken]) -> Option<Head>
     head_of(&first.token)
 }
 
-/// A primitive without constants, whose word is the first of these tokens, and the tokens behind it.
-fn bare<'a>(
-    version: Version,
-    tokens: &'a [PlacedToken<'a>],
-    rest: &'a [PlacedToken<'a>],
-    program: &mut Program,
-    kind: Bare,
-    spot: Spot,
-) -> Result<(TermId, &'a [PlacedToken<'a>]), Stop>
-    ensures reads { ReadsTerm program.old program.new result (term_read (counts_of program.old) (primitive_form (bare_form kind)) (toks tokens.now) (toks rest.now)) }
-    ensures placed { IfOk result (λ x. Consumes (TermPlaced version program.new x.0) (spot ∷ places rest.now) (places x.1.now)) }
+/// A primitive without constants, behind its word.
+fn bare(reader: &mut Reader, start: Mark, kind: Bare) -> Result<TermId, Stop>
+    ensures reads { ReadsTermForm reader.old reader.new start result (term_read (counts_of reader.old.program) (primitive_form (bare_form kind))) }
+    ensures placed { StandsFrom start (TermPlaced reader.old.version reader.new.program) result reader.old.cursor reader.new.cursor }
+    ensures version { reader.new.version ≡ reader.old.version }
 {
-    match program.add(Node::Primitive(Primitive::Bare(kind)), spot) {
-        Ok(id) => Ok((id, rest)),
-        Err(refusal) => Err(refused(refusal, tokens)),
-    }
+    let node = Node::Primitive(Primitive::Bare(kind));
+    start.built(reader.program.add(node, start.spot))
 }
 
-/// `never`, which is the first of these tokens, and the tokens behind its type.
+/// `never`, behind its word.
 #[tactic(auto, unfolding(sf_grammar::specs::Reading::parse_never))]
-fn never<'a>(
-    alloc: Global,
-    version: Version,
-    tokens: &'a [PlacedToken<'a>],
-    rest: &'a [PlacedToken<'a>],
-    program: &mut Program,
-    spot: Spot,
-    left: u32,
-) -> Result<(TermId, &'a [PlacedToken<'a>]), Stop>
+fn never(reader: &mut Reader, start: Mark, left: u32) -> Result<TermId, Stop>
     requires shallow { left ≤ 63 }
-    ensures reads { ReadsTerm program.old program.new result (parse_never left version (counts_of program.old) (toks tokens.now) (toks rest.now)) }
-    ensures placed { IfOk result (λ x. Consumes (TermPlaced version program.new x.0) (spot ∷ places rest.now) (places x.1.now)) }
+    ensures reads { ReadsTermForm reader.old reader.new start result (parse_never left reader.old.version (counts_of reader.old.program)) }
+    ensures placed { StandsFrom start (TermPlaced reader.old.version reader.new.program) result reader.old.cursor reader.new.cursor }
+    ensures version { reader.new.version ≡ reader.old.version }
 {
-    let (payload, rest) = inner_type(alloc, version, rest, rest, 0, left)?;
-    match program.never(payload, spot) {
-        Ok(id) => Ok((id, rest)),
-        Err(refusal) => Err(refused(refusal, tokens)),
-    }
+    let payload = reader.cursor.type_within(reader.version, left)?;
+    start.built(reader.program.never(payload, start.spot))
 }
 
-/// A primitive with a value, whose word is the first of these tokens, and the tokens behind it.
+/// A primitive with a value, behind its word.
 #[tactic(auto, unfolding(sf_grammar::specs::Reading::parse_value))]
-fn with_value<'a>(
-    alloc: Global,
-    version: Version,
-    tokens: &'a [PlacedToken<'a>],
-    rest: &'a [PlacedToken<'a>],
-    program: &mut Program,
-    kind: WithValue,
-    spot: Spot,
-    left: u32,
-) -> Result<(TermId, &'a [PlacedToken<'a>]), Stop>
+fn with_value(reader: &mut Reader, start: Mark, kind: WithValue, left: u32) -> Result<TermId, Stop>
     requires shallow { left ≤ 63 }
     requires behind { stands_initially kind ≡ false }
-    ensures reads { ReadsTerm program.old program.new result (parse_value left version (counts_of program.old) kind (toks tokens.now) (toks rest.now)) }
-    ensures placed { IfOk result (λ x. Consumes (TermPlaced version program.new x.0) (spot ∷ places rest.now) (places x.1.now)) }
+    ensures reads { ReadsTermForm reader.old reader.new start result (parse_value left reader.old.version (counts_of reader.old.program) kind) }
+    ensures placed { StandsFrom start (TermPlaced reader.old.version reader.new.program) result reader.old.cursor reader.new.cursor }
+    ensures version { reader.new.version ≡ reader.old.version }
 {
-    let (value, rest) = expression(alloc, version, rest, program, left)?;
-    match program.add(Node::Primitive(Primitive::WithValue(kind, value)), spot) {
-        Ok(id) => Ok((id, rest)),
-        Err(refusal) => Err(refused(refusal, tokens)),
-    }
+    let value = reader.expression(left)?;
+    let node = Node::Primitive(Primitive::WithValue(kind, value));
+    start.built(reader.program.add(node, start.spot))
 }
 
-/// A primitive with a time and a value, whose word is the first of these tokens, and the tokens behind it.
+/// A primitive with a time and a value, behind its word.
 #[tactic(auto, unfolding(sf_grammar::specs::Reading::parse_timed))]
-fn timed<'a>(
-    alloc: Global,
-    version: Version,
-    tokens: &'a [PlacedToken<'a>],
-    rest: &'a [PlacedToken<'a>],
-    program: &mut Program,
-    kind: Timing,
-    spot: Spot,
-    left: u32,
-) -> Result<(TermId, &'a [PlacedToken<'a>]), Stop>
+fn timed(reader: &mut Reader, start: Mark, kind: Timing, left: u32) -> Result<TermId, Stop>
     requires shallow { left ≤ 63 }
-    ensures reads { ReadsTerm program.old program.new result (parse_timed left version (counts_of program.old) kind (toks tokens.now) (toks rest.now)) }
-    ensures placed { IfOk result (λ x. Consumes (TermPlaced version program.new x.0) (spot ∷ places rest.now) (places x.1.now)) }
+    ensures reads { ReadsTermForm reader.old reader.new start result (parse_timed left reader.old.version (counts_of reader.old.program) kind) }
+    ensures placed { StandsFrom start (TermPlaced reader.old.version reader.new.program) result reader.old.cursor reader.new.cursor }
+    ensures version { reader.new.version ≡ reader.old.version }
 {
-    let (time, rest) = number(rest)?;
-    let (value, rest) = expression(alloc, version, rest, program, left)?;
-    match program.add(Node::Primitive(Primitive::Timed(kind, time, value)), spot) {
-        Ok(id) => Ok((id, rest)),
-        Err(refusal) => Err(refused(refusal, tokens)),
-    }
+    let time = reader.cursor.number()?;
+    let value = reader.expression(left)?;
+    let node = Node::Primitive(Primitive::Timed(kind, time, value));
+    start.built(reader.program.add(node, start.spot))
 }
 
-/// A function as a primitive, whose word is the first of these tokens, and the tokens behind it.
+/// A function as a primitive, behind its word.
 #[tactic(auto, unfolding(sf_grammar::specs::Reading::parse_arrow))]
-fn arrow<'a>(
-    alloc: Global,
-    version: Version,
-    tokens: &'a [PlacedToken<'a>],
-    rest: &'a [PlacedToken<'a>],
-    program: &mut Program,
-    spot: Spot,
-    left: u32,
-) -> Result<(TermId, &'a [PlacedToken<'a>]), Stop>
+fn arrow(reader: &mut Reader, start: Mark, left: u32) -> Result<TermId, Stop>
     requires shallow { left ≤ 63 }
-    ensures reads { ReadsTerm program.old program.new result (parse_arrow left version (counts_of program.old) (toks tokens.now) (toks rest.now)) }
-    ensures placed { IfOk result (λ x. Consumes (TermPlaced version program.new x.0) (spot ∷ places rest.now) (places x.1.now)) }
+    ensures reads { ReadsTermForm reader.old reader.new start result (parse_arrow left reader.old.version (counts_of reader.old.program)) }
+    ensures placed { StandsFrom start (TermPlaced reader.old.version reader.new.program) result reader.old.cursor reader.new.cursor }
+    ensures version { reader.new.version ≡ reader.old.version }
 {
-    let (function, rest) = function(alloc, version, rest, program, left)?;
-    match program.add(Node::Primitive(Primitive::Arrow(function)), spot) {
-        Ok(id) => Ok((id, rest)),
-        Err(refusal) => Err(refused(refusal, tokens)),
-    }
+    let function = reader.function(left)?;
+    let node = Node::Primitive(Primitive::Arrow(function));
+    start.built(reader.program.add(node, start.spot))
 }
 
-/// A primitive with a value and a function, whose word is the first of these tokens, and the tokens behind it.
+/// A primitive with a value and a function, behind its word.
 #[tactic(auto, unfolding(sf_grammar::specs::Reading::parse_accumulated))]
-fn accumulated<'a>(
-    alloc: Global,
-    version: Version,
-    tokens: &'a [PlacedToken<'a>],
-    rest: &'a [PlacedToken<'a>],
-    program: &mut Program,
+fn accumulated(
+    reader: &mut Reader,
+    start: Mark,
     kind: Accumulation,
-    spot: Spot,
     left: u32,
-) -> Result<(TermId, &'a [PlacedToken<'a>]), Stop>
+) -> Result<TermId, Stop>
     requires shallow { left ≤ 63 }
-    ensures reads { ReadsTerm program.old program.new result (parse_accumulated left version (counts_of program.old) kind (toks tokens.now) (toks rest.now)) }
-    ensures placed { IfOk result (λ x. Consumes (TermPlaced version program.new x.0) (spot ∷ places rest.now) (places x.1.now)) }
+    ensures reads { ReadsTermForm reader.old reader.new start result (parse_accumulated left reader.old.version (counts_of reader.old.program) kind) }
+    ensures placed { StandsFrom start (TermPlaced reader.old.version reader.new.program) result reader.old.cursor reader.new.cursor }
+    ensures version { reader.new.version ≡ reader.old.version }
 {
-    let rest = symbol(rest, Symbol::Open)?;
-    let (value, rest) = expression(alloc, version, rest, program, left)?;
-    let rest = symbol(rest, Symbol::Comma)?;
-    let (function, rest) = function(alloc, version, rest, program, left)?;
-    let rest = symbol(rest, Symbol::Close)?;
-    match program.add(
-        Node::Primitive(Primitive::Accumulated(kind, value, function)),
-        spot,
-    ) {
-        Ok(id) => Ok((id, rest)),
-        Err(refusal) => Err(refused(refusal, tokens)),
-    }
+    reader.cursor.symbol(Symbol::Open)?;
+    let value = reader.expression(left)?;
+    reader.cursor.symbol(Symbol::Comma)?;
+    let function = reader.function(left)?;
+    reader.cursor.symbol(Symbol::Close)?;
+    let node = Node::Primitive(Primitive::Accumulated(kind, value, function));
+    start.built(reader.program.add(node, start.spot))
 }
 
-/// A form that is a name alone, whose word is the first of these tokens, and the tokens behind its name.
+/// A form that is a name alone, behind its word.
 #[tactic(auto, unfolding(sf_grammar::specs::Reading::parse_named))]
-fn named<'a>(
-    alloc: Global,
-    version: Version,
-    tokens: &'a [PlacedToken<'a>],
-    rest: &'a [PlacedToken<'a>],
-    program: &mut Program,
-    form: Naming,
-    spot: Spot,
-) -> Result<(TermId, &'a [PlacedToken<'a>]), Stop>
-    ensures reads { ReadsTerm program.old program.new result (parse_named form (counts_of program.old) (toks tokens.now) (toks rest.now)) }
-    ensures placed { IfOk result (λ x. Consumes (TermPlaced version program.new x.0) (spot ∷ places rest.now) (places x.1.now)) }
+fn named(reader: &mut Reader, start: Mark, form: Naming) -> Result<TermId, Stop>
+    ensures reads { ReadsTermForm reader.old reader.new start result (parse_named form (counts_of reader.old.program)) }
+    ensures placed { StandsFrom start (TermPlaced reader.old.version reader.new.program) result reader.old.cursor reader.new.cursor }
+    ensures version { reader.new.version ≡ reader.old.version }
 {
-    let (label, rest) = name(rest)?;
-    let known = String::from_str(alloc, label.name.as_str())?;
-    match program.named(form, known, label.spot, spot) {
-        Ok(id) => Ok((id, rest)),
-        Err(refusal) => Err(refused(refusal, tokens)),
-    }
+    let label = reader.cursor.name()?;
+    let known = String::from_str(reader.cursor.alloc, label.name.as_str())?;
+    start.built(reader.program.named(form, known, label.spot, start.spot))
 }
 
-/// The symbol between two terms, and the tokens behind it.
-fn join<'a>(tokens: &'a [PlacedToken<'a>]) -> Result<(Join, &'a [PlacedToken<'a>]), Stop>
-    ensures reads { ReadsAs (λ j. j) result (parse_join (toks tokens.now)) }
-    ensures behind { IfOk result (λ x. BehindOne (places tokens.now) (places x.1.now)) }
+/// The symbol between two terms.
+fn join(cursor: &mut Cursor) -> Result<Join, Stop>
+    ensures reads { ReadsAs (λ j. j) result cursor.new (parse_join (ahead cursor.old)) }
+    ensures behind { IfOk result (λ j. BehindOne (spots_ahead cursor.old) (spots_ahead cursor.new)) }
 {
-    if let [first, rest @ ..] = tokens {
+    if let [first, rest @ ..] = cursor.tokens {
         if let Token::Symbol(symbol) = &first.token {
             if let Some(join) = join_of(*symbol) {
-                return Ok((join, rest));
+                cursor.tokens = rest;
+                return Ok(join);
             }
         }
     }
-    Err(stop_at(Rule::Unexpected, tokens))
+    Err(cursor.stop(Rule::Unexpected))
 }
 
-/// A term of so much depth at most, and the tokens behind it.
+/// A term of so much depth at most.
 #[cycle(term)]
 #[tactic(auto, using(crate::proofs::Deeper::term_at_more, crate::proofs::Deeper::term_at_zero))]
-pub(crate) fn term<'a>(
-    alloc: Global,
-    version: Version,
-    tokens: &'a [PlacedToken<'a>],
-    program: &mut Program,
-    left: u32,
-) -> Result<(TermId, &'a [PlacedToken<'a>]), Stop>
+pub(crate) fn term(reader: &mut Reader, left: u32) -> Result<TermId, Stop>
     requires shallow { left ≤ 64 }
-    ensures reads { ReadsTerm program.old program.new result (parse_term left version (counts_of program.old) (toks tokens.now)) }
-    ensures placed { IfOk result (λ x. Consumes (TermPlaced version program.new x.0) (places tokens.now) (places x.1.now)) }
+    ensures reads { ReadsTerm reader.old reader.new result (parse_term left reader.old.version (counts_of reader.old.program) (ahead reader.old.cursor)) }
+    ensures placed { StandsOn (TermPlaced reader.old.version reader.new.program) result reader.old.cursor reader.new.cursor }
+    ensures version { reader.new.version ≡ reader.old.version }
 {
     if left == 0 {
-        return Err(term_too_deep(tokens));
+        return Err(term_too_deep(&reader.cursor));
     }
-    form(alloc, version, tokens, program, left - 1)
+    form(reader, left - 1)
 }
 
 #[cycle(term)]
-fn form<'a>(
-    alloc: Global,
-    version: Version,
-    tokens: &'a [PlacedToken<'a>],
-    program: &mut Program,
-    left: u32,
-) -> Result<(TermId, &'a [PlacedToken<'a>]), Stop>
+fn form(reader: &mut Reader, left: u32) -> Result<TermId, Stop>
     requires shallow { left ≤ 63 }
-    ensures reads { ReadsTerm program.old program.new result (parse_form left version (parse_term left version) (counts_of program.old) (toks tokens.now)) }
-    ensures placed { IfOk result (λ x. Consumes (TermPlaced version program.new x.0) (places tokens.now) (places x.1.now)) }
+    ensures reads { ReadsTerm reader.old reader.new result (parse_form left reader.old.version (parse_term left reader.old.version) (counts_of reader.old.program) (ahead reader.old.cursor)) }
+    ensures placed { StandsOn (TermPlaced reader.old.version reader.new.program) result reader.old.cursor reader.new.cursor }
+    ensures version { reader.new.version ≡ reader.old.version }
 {
-    let [first, rest @ ..] = tokens else {
-        return Err(stop_at(Rule::Unexpected, tokens));
-    };
-    let spot = first.spot;
-    match head_at(version, tokens) {
-        Some(head) => behind_head(alloc, version, tokens, rest, program, head, spot, left),
-        None => Err(stop_at(Rule::Unexpected, tokens)),
+    let head = head_at(reader.version, reader.cursor.tokens);
+    let first = reader.cursor.first()?;
+    match head {
+        Some(head) => behind_head(reader, first, head, left),
+        None => Err(Stop::At(Rule::Unexpected, first.start.ahead)),
     }
 }
 
-/// A form whose head is the first of these tokens, and the tokens behind it.
+/// A form behind its head.
 #[cycle(term)]
+#[tactic(auto, unfolding(sf_grammar::specs::Reading::parse_call))]
 fn behind_head<'a>(
-    alloc: Global,
-    version: Version,
-    tokens: &'a [PlacedToken<'a>],
-    rest: &'a [PlacedToken<'a>],
-    program: &mut Program,
+    reader: &mut Reader<'a>,
+    first: First<'a>,
     head: Head,
-    spot: Spot,
     left: u32,
-) -> Result<(TermId, &'a [PlacedToken<'a>]), Stop>
+) -> Result<TermId, Stop>
     requires shallow { left ≤ 63 }
     requires stands { HasValueSo head }
-    requires first { places tokens.now ≡ spot ∷ places rest.now }
-    ensures reads { ReadsTerm program.old program.new result (parse_behind_head left version (parse_term left version) (counts_of program.old) (Some head) (toks tokens.now) (toks rest.now)) }
-    ensures placed { IfOk result (λ x. Consumes (TermPlaced version program.new x.0) (spot ∷ places rest.now) (places x.1.now)) }
+    ensures reads { let whole = token_of first.entry.token.now ∷ ahead reader.old.cursor in length whole ≡ first.entry.start.ahead →
+        ReadsTerm reader.old reader.new result (parse_behind_head left reader.old.version (parse_term left reader.old.version) (counts_of reader.old.program) (Some head) whole (ahead reader.old.cursor)) }
+    ensures placed { StandsFrom first.entry.start (TermPlaced reader.old.version reader.new.program) result reader.old.cursor reader.new.cursor }
+    ensures version { reader.new.version ≡ reader.old.version }
 {
+    let First { token, start } = first;
     match head {
-        Head::Bare(kind) => bare(version, tokens, rest, program, kind, spot),
-        Head::Never => never(alloc, version, tokens, rest, program, spot, left),
-        Head::WithValue(kind) => with_value(
-            alloc, version, tokens, rest, program, kind, spot, left,
-        ),
-        Head::Timed(kind) => timed(alloc, version, tokens, rest, program, kind, spot, left),
-        Head::Arrow => arrow(alloc, version, tokens, rest, program, spot, left),
-        Head::Accumulated(kind) => accumulated(
-            alloc, version, tokens, rest, program, kind, spot, left,
-        ),
-        Head::Joined => joined(alloc, version, tokens, rest, program, spot, left),
-        Head::Sided(side) => sided(alloc, version, tokens, rest, program, side, spot, left),
-        Head::Headed(heading) => headed(alloc, version, tokens, rest, program, heading, spot, left),
-        Head::Switching(kind) => switching(alloc, version, tokens, rest, program, kind, spot, left),
-        Head::Named(form) => named(alloc, version, tokens, rest, program, form, spot),
-        Head::Keeping(kind) => keeping(alloc, version, tokens, rest, program, kind, spot, left),
-        Head::Call => call(alloc, version, tokens, program, left),
+        Head::Bare(kind) => bare(reader, start, kind),
+        Head::Never => never(reader, start, left),
+        Head::WithValue(kind) => with_value(reader, start, kind, left),
+        Head::Timed(kind) => timed(reader, start, kind, left),
+        Head::Arrow => arrow(reader, start, left),
+        Head::Accumulated(kind) => accumulated(reader, start, kind, left),
+        Head::Joined => joined(reader, start, left),
+        Head::Sided(side) => sided(reader, start, side, left),
+        Head::Headed(heading) => headed(reader, start, heading, left),
+        Head::Switching(kind) => switching(reader, start, kind, left),
+        Head::Named(form) => named(reader, start, form),
+        Head::Keeping(kind) => keeping(reader, start, kind, left),
+        Head::Call => match token {
+            Token::Name(name) => call(reader, start, *name, left),
+            _ => Err(Stop::At(Rule::Unexpected, start.ahead)),
+        },
     }
 }
 
-/// A term on one part of a pair, whose word is the first of these tokens, and the tokens behind it.
+/// A term on one part of a pair, behind its word.
 #[cycle(term)]
 #[tactic(auto, unfolding(sf_grammar::specs::Reading::parse_sided))]
-fn sided<'a>(
-    alloc: Global,
-    version: Version,
-    tokens: &'a [PlacedToken<'a>],
-    rest: &'a [PlacedToken<'a>],
-    program: &mut Program,
-    side: Side,
-    spot: Spot,
-    left: u32,
-) -> Result<(TermId, &'a [PlacedToken<'a>]), Stop>
+fn sided(reader: &mut Reader, start: Mark, side: Side, left: u32) -> Result<TermId, Stop>
     requires shallow { left ≤ 63 }
-    ensures reads { ReadsTerm program.old program.new result (parse_sided (parse_term left version) (counts_of program.old) side (toks tokens.now) (toks rest.now)) }
-    ensures placed { IfOk result (λ x. Consumes (TermPlaced version program.new x.0) (spot ∷ places rest.now) (places x.1.now)) }
+    ensures reads { ReadsTermForm reader.old reader.new start result (parse_sided (parse_term left reader.old.version) (counts_of reader.old.program) side) }
+    ensures placed { StandsFrom start (TermPlaced reader.old.version reader.new.program) result reader.old.cursor reader.new.cursor }
+    ensures version { reader.new.version ≡ reader.old.version }
 {
-    let (part, rest) = term(alloc, version, rest, program, left)?;
-    match program.add(Node::Sided(side, part), spot) {
-        Ok(id) => Ok((id, rest)),
-        Err(refusal) => Err(refused(refusal, tokens)),
-    }
+    let part = term(reader, left)?;
+    start.built(reader.program.add(Node::Sided(side, part), start.spot))
 }
 
 /// The node of a head, a value and a part: behind `-->`, `pre` makes one primitive with the value.
@@ -362,111 +271,78 @@ fn head_node(program: &Program, heading: Heading, value: ExprId, part: TermId) -
     }
 }
 
-/// A term with an expression at its head, whose word or `-->` is the first of these tokens, and the tokens behind it.
+/// A term with an expression at its head, behind its word or `-->`.
 #[cycle(term)]
 #[tactic(auto, unfolding(sf_grammar::specs::Reading::parse_headed))]
-fn headed<'a>(
-    alloc: Global,
-    version: Version,
-    tokens: &'a [PlacedToken<'a>],
-    rest: &'a [PlacedToken<'a>],
-    program: &mut Program,
-    heading: Heading,
-    spot: Spot,
-    left: u32,
-) -> Result<(TermId, &'a [PlacedToken<'a>]), Stop>
+fn headed(reader: &mut Reader, start: Mark, heading: Heading, left: u32) -> Result<TermId, Stop>
     requires shallow { left ≤ 63 }
-    ensures reads { ReadsTerm program.old program.new result (parse_headed left version (parse_term left version) (counts_of program.old) heading (toks tokens.now) (toks rest.now)) }
-    ensures placed { IfOk result (λ x. Consumes (TermPlaced version program.new x.0) (spot ∷ places rest.now) (places x.1.now)) }
+    ensures reads { ReadsTermForm reader.old reader.new start result (parse_headed left reader.old.version (parse_term left reader.old.version) (counts_of reader.old.program) heading) }
+    ensures placed { StandsFrom start (TermPlaced reader.old.version reader.new.program) result reader.old.cursor reader.new.cursor }
+    ensures version { reader.new.version ≡ reader.old.version }
 {
-    let rest = symbol(rest, Symbol::Open)?;
-    let (value, rest) = expression(alloc, version, rest, program, left)?;
-    let rest = symbol(rest, Symbol::Comma)?;
-    let (part, rest) = term(alloc, version, rest, program, left)?;
-    let rest = symbol(rest, Symbol::Close)?;
-    let node = head_node(&*program, heading, value, part);
-    match program.add(node, spot) {
-        Ok(id) => Ok((id, rest)),
-        Err(refusal) => Err(refused(refusal, tokens)),
-    }
+    reader.cursor.symbol(Symbol::Open)?;
+    let value = reader.expression(left)?;
+    reader.cursor.symbol(Symbol::Comma)?;
+    let part = term(reader, left)?;
+    reader.cursor.symbol(Symbol::Close)?;
+    let node = head_node(&reader.program, heading, value, part);
+    start.built(reader.program.add(node, start.spot))
 }
 
-/// The pattern and the term of a body, of so much depth at most, and the tokens behind them.
+/// The pattern and the term of a body, of so much depth at most.
 #[cycle(term)]
-fn body<'a>(
-    alloc: Global,
-    version: Version,
-    tokens: &'a [PlacedToken<'a>],
-    program: &mut Program,
-    left: u32,
-) -> Result<(Pat, TermId, &'a [PlacedToken<'a>]), Stop>
+fn body(reader: &mut Reader, left: u32) -> Result<(Pat, TermId), Stop>
     requires shallow { left ≤ 63 }
-    ensures reads { ReadsBody program.old program.new result (parse_body left (parse_term left version) (counts_of program.old) (toks tokens.now)) }
-    ensures placed { IfOk result (λ x. Consumes (Parted (PatternPlaced x.0) (TermPlaced version program.new x.1)) (places tokens.now) (places x.2.now)) }
+    ensures reads { ReadsBody reader.old reader.new result (parse_body left (parse_term left reader.old.version) (counts_of reader.old.program) (ahead reader.old.cursor)) }
+    ensures placed { StandsOn (λ x. Parted (PatternPlaced x.0) (TermPlaced reader.old.version reader.new.program x.1)) result reader.old.cursor reader.new.cursor }
+    ensures version { reader.new.version ≡ reader.old.version }
 {
-    let (pattern, rest) = pattern(alloc, tokens, left)?;
-    let rest = symbol(rest, Symbol::MapsTo)?;
-    let (id, rest) = term(alloc, version, rest, program, left)?;
-    Ok((pattern, id, rest))
+    let pattern = reader.cursor.pattern(left)?;
+    reader.cursor.symbol(Symbol::MapsTo)?;
+    let id = term(reader, left)?;
+    Ok((pattern, id))
 }
 
-/// A term that gives way to another inside a pattern, whose word is the first of these tokens, and the tokens behind it.
+/// A term that gives way to another inside a pattern, behind its word.
 #[cycle(term)]
 #[tactic(auto, unfolding(sf_grammar::specs::Reading::parse_switching))]
-fn switching<'a>(
-    alloc: Global,
-    version: Version,
-    tokens: &'a [PlacedToken<'a>],
-    rest: &'a [PlacedToken<'a>],
-    program: &mut Program,
-    kind: Switching,
-    spot: Spot,
-    left: u32,
-) -> Result<(TermId, &'a [PlacedToken<'a>]), Stop>
+fn switching(reader: &mut Reader, start: Mark, kind: Switching, left: u32) -> Result<TermId, Stop>
     requires shallow { left ≤ 63 }
-    ensures reads { ReadsTerm program.old program.new result (parse_switching left (parse_term left version) (counts_of program.old) kind (toks tokens.now) (toks rest.now)) }
-    ensures placed { IfOk result (λ x. Consumes (TermPlaced version program.new x.0) (spot ∷ places rest.now) (places x.1.now)) }
+    ensures reads { ReadsTermForm reader.old reader.new start result (parse_switching left (parse_term left reader.old.version) (counts_of reader.old.program) kind) }
+    ensures placed { StandsFrom start (TermPlaced reader.old.version reader.new.program) result reader.old.cursor reader.new.cursor }
+    ensures version { reader.new.version ≡ reader.old.version }
 {
-    let rest = symbol(rest, Symbol::Open)?;
-    let (source, rest) = term(alloc, version, rest, program, left)?;
-    let rest = symbol(rest, Symbol::Comma)?;
-    let (pattern, body, rest) = body(alloc, version, rest, program, left)?;
-    let rest = symbol(rest, Symbol::Close)?;
-    match program.switching(kind, source, pattern, body, spot) {
-        Ok(id) => Ok((id, rest)),
-        Err(refusal) => Err(refused(refusal, tokens)),
-    }
+    reader.cursor.symbol(Symbol::Open)?;
+    let source = term(reader, left)?;
+    reader.cursor.symbol(Symbol::Comma)?;
+    let (pattern, body) = body(reader, left)?;
+    reader.cursor.symbol(Symbol::Close)?;
+    let added = reader
+        .program
+        .switching(kind, source, pattern, body, start.spot);
+    start.built(added)
 }
 
-/// A term that gives way to another, which knows it by a name, and whose word is the first of these tokens, and the tokens
-/// behind it.
+/// A term that gives way to another, which knows it by a name, behind its word.
 #[cycle(term)]
 #[tactic(auto, unfolding(sf_grammar::specs::Reading::parse_keeping))]
-fn keeping<'a>(
-    alloc: Global,
-    version: Version,
-    tokens: &'a [PlacedToken<'a>],
-    rest: &'a [PlacedToken<'a>],
-    program: &mut Program,
-    kind: Observation,
-    spot: Spot,
-    left: u32,
-) -> Result<(TermId, &'a [PlacedToken<'a>]), Stop>
+fn keeping(reader: &mut Reader, start: Mark, kind: Observation, left: u32) -> Result<TermId, Stop>
     requires shallow { left ≤ 63 }
-    ensures reads { ReadsTerm program.old program.new result (parse_keeping left (parse_term left version) (counts_of program.old) kind (toks tokens.now) (toks rest.now)) }
-    ensures placed { IfOk result (λ x. Consumes (TermPlaced version program.new x.0) (spot ∷ places rest.now) (places x.1.now)) }
+    ensures reads { ReadsTermForm reader.old reader.new start result (parse_keeping left (parse_term left reader.old.version) (counts_of reader.old.program) kind) }
+    ensures placed { StandsFrom start (TermPlaced reader.old.version reader.new.program) result reader.old.cursor reader.new.cursor }
+    ensures version { reader.new.version ≡ reader.old.version }
 {
-    let rest = symbol(rest, Symbol::Open)?;
-    let (source, rest) = term(alloc, version, rest, program, left)?;
-    let rest = symbol(rest, Symbol::Comma)?;
-    let (observer, rest) = term(alloc, version, rest, program, left)?;
-    let rest = symbol(rest, Symbol::Comma)?;
-    let (process, rest) = name(rest)?;
-    let rest = symbol(rest, Symbol::Comma)?;
-    let (pattern, body, rest) = body(alloc, version, rest, program, left)?;
-    let rest = symbol(rest, Symbol::Close)?;
-    let known = String::from_str(alloc, process.name.as_str())?;
-    match program.keeping(
+    reader.cursor.symbol(Symbol::Open)?;
+    let source = term(reader, left)?;
+    reader.cursor.symbol(Symbol::Comma)?;
+    let observer = term(reader, left)?;
+    reader.cursor.symbol(Symbol::Comma)?;
+    let process = reader.cursor.name()?;
+    reader.cursor.symbol(Symbol::Comma)?;
+    let (pattern, body) = body(reader, left)?;
+    reader.cursor.symbol(Symbol::Close)?;
+    let known = String::from_str(reader.cursor.alloc, process.name.as_str())?;
+    let added = reader.program.keeping(
         kind,
         source,
         observer,
@@ -474,131 +350,97 @@ fn keeping<'a>(
         process.spot,
         pattern,
         body,
-        spot,
-    ) {
-        Ok(id) => Ok((id, rest)),
-        Err(refusal) => Err(refused(refusal, tokens)),
-    }
+        start.spot,
+    );
+    start.built(added)
 }
 
-/// Two terms joined, whose opening bracket is the first of these tokens, and the tokens behind them.
+/// Two terms joined, behind their opening bracket.
 #[cycle(term)]
 #[tactic(auto, unfolding(sf_grammar::specs::Reading::parse_joined))]
-fn joined<'a>(
-    alloc: Global,
-    version: Version,
-    tokens: &'a [PlacedToken<'a>],
-    rest: &'a [PlacedToken<'a>],
-    program: &mut Program,
-    spot: Spot,
-    left: u32,
-) -> Result<(TermId, &'a [PlacedToken<'a>]), Stop>
+fn joined(reader: &mut Reader, start: Mark, left: u32) -> Result<TermId, Stop>
     requires shallow { left ≤ 63 }
-    ensures reads { ReadsTerm program.old program.new result (parse_joined (parse_term left version) (counts_of program.old) (toks tokens.now) (toks rest.now)) }
-    ensures placed { IfOk result (λ x. Consumes (TermPlaced version program.new x.0) (spot ∷ places rest.now) (places x.1.now)) }
+    ensures reads { ReadsTermForm reader.old reader.new start result (parse_joined (parse_term left reader.old.version) (counts_of reader.old.program)) }
+    ensures placed { StandsFrom start (TermPlaced reader.old.version reader.new.program) result reader.old.cursor reader.new.cursor }
+    ensures version { reader.new.version ≡ reader.old.version }
 {
-    let (one, rest) = term(alloc, version, rest, program, left)?;
-    let (join, rest) = join(rest)?;
-    let (two, rest) = term(alloc, version, rest, program, left)?;
-    let rest = symbol(rest, Symbol::Close)?;
-    match program.add(Node::Joined(join, one, two), spot) {
-        Ok(id) => Ok((id, rest)),
-        Err(refusal) => Err(refused(refusal, tokens)),
-    }
+    let one = term(reader, left)?;
+    let join = join(&mut reader.cursor)?;
+    let two = term(reader, left)?;
+    reader.cursor.symbol(Symbol::Close)?;
+    start.built(reader.program.add(Node::Joined(join, one, two), start.spot))
 }
 
-/// An argument of a call, of so much depth at most, and the tokens behind it.
+/// An argument of a call, of so much depth at most.
 #[cycle(term)]
 #[tactic(auto, unfolding(sf_grammar::specs::Reading::parse_argument))]
-fn argument<'a>(
-    alloc: Global,
-    version: Version,
-    tokens: &'a [PlacedToken<'a>],
-    program: &mut Program,
-    left: u32,
-) -> Result<(Argument, &'a [PlacedToken<'a>]), Stop>
+fn argument(reader: &mut Reader, left: u32) -> Result<Argument, Stop>
     requires shallow { left ≤ 63 }
-    ensures reads { ReadsArgument program.old program.new result (parse_argument left version (parse_term left version) (counts_of program.old) (toks tokens.now)) }
-    ensures placed { IfOk result (λ x. Consumes (ArgumentPlaced version program.new x.0) (places tokens.now) (places x.1.now)) }
+    ensures reads { ReadsArgument reader.old reader.new result (parse_argument left reader.old.version (parse_term left reader.old.version) (counts_of reader.old.program) (ahead reader.old.cursor)) }
+    ensures placed { StandsOn (ArgumentPlaced reader.old.version reader.new.program) result reader.old.cursor reader.new.cursor }
+    ensures version { reader.new.version ≡ reader.old.version }
 {
-    match behind_sf(tokens) {
-        Some(rest) => {
-            let (process, rest) = term(alloc, version, rest, program, left)?;
-            Ok((Argument::Process(process), rest))
+    match behind_sf(&reader.cursor) {
+        Some(behind) => {
+            reader.cursor = behind;
+            let process = term(reader, left)?;
+            Ok(Argument::Process(process))
         }
         None => {
-            let (value, rest) = expression(alloc, version, tokens, program, left)?;
-            Ok((Argument::Value(value), rest))
+            let value = reader.expression(left)?;
+            Ok(Argument::Value(value))
         }
     }
 }
 
-/// Arguments of a call, one at least, each of so much depth at most, and the tokens behind the closing bracket.
+/// Arguments of a call, one at least, each of so much depth at most, and the closing bracket behind them.
 #[cycle(term)]
-fn some_arguments<'a>(
-    alloc: Global,
-    version: Version,
-    tokens: &'a [PlacedToken<'a>],
-    program: &mut Program,
-    left: u32,
-) -> Result<(Vec<Argument>, &'a [PlacedToken<'a>]), Stop>
+fn some_arguments(reader: &mut Reader, left: u32) -> Result<Vec<Argument>, Stop>
     requires shallow { left ≤ 63 }
-    ensures reads { ReadsArguments program.old program.new result (parse_arguments (suc (length (toks tokens.now))) left version (parse_term left version) (counts_of program.old) (toks tokens.now)) }
-    ensures some { IfOk result (λ x. x.0.items ≢ []) }
-    ensures placed { IfOk result (λ x. Consumes (EachArgumentPlaced version program.new x.0.items) (places tokens.now) (places x.1.now)) }
+    ensures reads { ReadsArguments reader.old reader.new result (parse_arguments (suc (length (ahead reader.old.cursor))) left reader.old.version (parse_term left reader.old.version) (counts_of reader.old.program) (ahead reader.old.cursor)) }
+    ensures some { IfOk result (λ x. x.items ≢ []) }
+    ensures placed { StandsOn (λ x. EachArgumentPlaced reader.old.version reader.new.program x.items) result reader.old.cursor reader.new.cursor }
+    ensures version { reader.new.version ≡ reader.old.version }
 {
-    let mut arguments = Vec::new(alloc);
-    let mut at = 0;
+    let mut arguments = Vec::new(reader.cursor.alloc);
     let mut more = true;
     while more {
-        let (argument, rest) = argument(alloc, version, &tokens[at..], program, left)?;
+        let argument = argument(reader, left)?;
         arguments.push(argument)?;
-        let (another, rest) = separator(rest)?;
-        more = another;
-        at = tokens.len() - rest.len();
+        more = separator(&mut reader.cursor)?;
     }
-    Ok((arguments, &tokens[at..]))
+    Ok(arguments)
 }
 
-/// The arguments of a call, if there are any, each of so much depth at most, and the tokens behind the closing bracket.
+/// The arguments of a call, if there are any, each of so much depth at most, and the closing bracket behind them.
 #[cycle(term)]
-fn arguments<'a>(
-    alloc: Global,
-    version: Version,
-    tokens: &'a [PlacedToken<'a>],
-    program: &mut Program,
-    left: u32,
-) -> Result<(Vec<Argument>, &'a [PlacedToken<'a>]), Stop>
+fn arguments(reader: &mut Reader, left: u32) -> Result<Vec<Argument>, Stop>
     requires shallow { left ≤ 63 }
-    ensures reads { ReadsArguments program.old program.new result (parse_listed no_arguments (λ ts. parse_arguments (suc (length ts)) left version (parse_term left version) (counts_of program.old) ts) (toks tokens.now)) }
-    ensures placed { IfOk result (λ x. Consumes (ArgumentsPlaced version program.new x.0.items) (places tokens.now) (places x.1.now)) }
+    ensures reads { ReadsArguments reader.old reader.new result (parse_listed no_arguments (λ ts. parse_arguments (suc (length ts)) left reader.old.version (parse_term left reader.old.version) (counts_of reader.old.program) ts) (ahead reader.old.cursor)) }
+    ensures placed { StandsOn (λ x. ArgumentsPlaced reader.old.version reader.new.program x.items) result reader.old.cursor reader.new.cursor }
+    ensures version { reader.new.version ≡ reader.old.version }
 {
-    match behind_close(tokens) {
-        Some(rest) => Ok((Vec::new(alloc), rest)),
-        None => some_arguments(alloc, version, tokens, program, left),
+    match reader.cursor.behind_close() {
+        Some(behind) => {
+            reader.cursor = behind;
+            Ok(Vec::new(reader.cursor.alloc))
+        }
+        None => some_arguments(reader, left),
     }
 }
 
-/// A call, whose name is the first of these tokens, and the tokens behind its arguments.
+/// A call, behind its name.
 #[cycle(term)]
 #[tactic(auto, unfolding(sf_grammar::specs::Reading::parse_call))]
-fn call<'a>(
-    alloc: Global,
-    version: Version,
-    tokens: &'a [PlacedToken<'a>],
-    program: &mut Program,
-    left: u32,
-) -> Result<(TermId, &'a [PlacedToken<'a>]), Stop>
+fn call<'a>(reader: &mut Reader<'a>, start: Mark, name: Name<'a>, left: u32) -> Result<TermId, Stop>
     requires shallow { left ≤ 63 }
-    ensures reads { ReadsTerm program.old program.new result (parse_call left version (parse_term left version) (counts_of program.old) (toks tokens.now)) }
-    ensures placed { IfOk result (λ x. Consumes (TermPlaced version program.new x.0) (places tokens.now) (places x.1.now)) }
+    ensures reads { let whole = name_token (name_bytes name.entry) ∷ ahead reader.old.cursor in length whole ≡ start.ahead →
+        ReadsTerm reader.old reader.new result (parse_call left reader.old.version (parse_term left reader.old.version) (counts_of reader.old.program) whole) }
+    ensures placed { StandsFrom start (TermPlaced reader.old.version reader.new.program) result reader.old.cursor reader.new.cursor }
+    ensures version { reader.new.version ≡ reader.old.version }
 {
-    let (template, rest) = name(tokens)?;
-    let rest = symbol(rest, Symbol::Open)?;
-    let (arguments, rest) = arguments(alloc, version, rest, program, left)?;
-    let known = String::from_str(alloc, template.name.as_str())?;
-    match program.call(known, arguments, template.spot) {
-        Ok(id) => Ok((id, rest)),
-        Err(refusal) => Err(refused(refusal, tokens)),
-    }
+    reader.cursor.symbol(Symbol::Open)?;
+    let arguments = arguments(reader, left)?;
+    let known = String::from_str(reader.cursor.alloc, name.as_str())?;
+    start.built(reader.program.call(known, arguments, start.spot))
 }

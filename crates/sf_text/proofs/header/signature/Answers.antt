@@ -3,4 +3,4 @@ use Rattle.sf_text.proofs.header.signature.Goals as goal
 
 pub returns-clause-behind : goal.returns-clause-behind
 returns-clause-behind c =
-    some_more (some_of_one c.in_ok-rest.ensures.behind) (some_more c.in_ok-input.ensures.behind (some_more (some_of_one c.in_ok-rest-2.ensures.behind) (some_more c.in_ok-output.ensures.behind (some_of_one c.in_ok-rest-3.ensures.behind))))
+    some_more (some_of_one c.in_ok-symbol.ensures.behind) (some_more c.in_ok-input.ensures.behind (some_more (some_of_one c.in_ok-symbol-2.ensures.behind) (some_more c.in_ok-output.ensures.behind (some_of_one c.in_ok-symbol-3.ensures.behind))))

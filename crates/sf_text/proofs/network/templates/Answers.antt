@@ -1,20 +1,9 @@
-use Rattle.std.proofs.Common.{rules, arith}
-use Rattle.sf_text.proofs.Behind.{next_at, none_reached, all_reached}
+use Rattle.sf_text.proofs.Behind.{none_reached, next_reached}
 use Rattle.sf_text.proofs.network.templates.Goals as goal
 
-pub overflow_sub-at : goal.overflow_sub-at
-overflow_sub-at c = (next_at c.args.version c.args.tokens.now c.in_ok-behind.behind.now c.loop-at.at c.loop-at.program c.template.new.program c.loop-at.invariant c.loop-at-test.true c.in_ok-behind.ensures.reads c.in_ok-behind.ensures.placed).within
+pub loop-reader-init : goal.loop-reader-init
+loop-reader-init c = none_reached c.args.reader.now c.requires.blank
 
-pub loop-at-smaller : goal.loop-at-smaller
-loop-at-smaller c =
-    let n = next_at c.args.version c.args.tokens.now c.in_ok-behind.behind.now c.loop-at.at c.loop-at.program c.template.new.program c.loop-at.invariant c.loop-at-test.true c.in_ok-behind.ensures.reads c.in_ok-behind.ensures.placed in
-    omega (arith, n.further, n.within)
-
-pub loop-at-init : goal.loop-at-init
-loop-at-init c = record { templates = search rules; placed = none_reached c.args.version c.args.tokens.now c.args.program.now c.requires.blank }
-
-pub loop-at-preserved : goal.loop-at-preserved
-loop-at-preserved c = (next_at c.args.version c.args.tokens.now c.in_ok-behind.behind.now c.loop-at.at c.loop-at.program c.template.new.program c.loop-at.invariant c.loop-at-test.true c.in_ok-behind.ensures.reads c.in_ok-behind.ensures.placed).reached
-
-pub returns-clause-placed : goal.returns-clause-placed
-returns-clause-placed c = all_reached c.args.version c.args.tokens.now c.loop-at.program c.loop-at.at c.loop-at-test.false c.loop-at.invariant.placed
+pub loop-reader-preserved : goal.loop-reader-preserved
+loop-reader-preserved c =
+    next_reached c.args.reader.now.version c.args.reader.now.cursor.tokens.now c.loop-reader.reader c.template.new.reader c.loop-reader.invariant c.in_ok-template.ensures.reads c.in_ok-template.ensures.placed c.template.ensures.version

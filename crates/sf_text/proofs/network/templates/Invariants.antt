@@ -1,9 +1,9 @@
-use Rattle.std.proofs.Common.{◌-◌, length}
+use Rattle.std.proofs.Common.{length}
 use Rattle.sf_text.proofs.Behind.{Reached}
 use Rattle.sf_text.proofs.network.templates.Given as goal
 
-abbrev pub invariant-loop-at : goal.invariant-loop-at
-invariant-loop-at l = Reached l.version l.tokens l.program l.at
+abbrev pub invariant-loop-reader : goal.invariant-loop-reader
+invariant-loop-reader l = Reached l.fn.reader.version l.fn.reader.cursor.tokens.now l.reader
 
-abbrev pub decreases-loop-at : goal.decreases-loop-at
-decreases-loop-at l = length l.tokens - l.at
+abbrev pub decreases-loop-reader : goal.decreases-loop-reader
+decreases-loop-reader l = length l.reader.cursor.tokens.now

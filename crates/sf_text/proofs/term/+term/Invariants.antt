@@ -1,4 +1,4 @@
-use Rattle.std.proofs.Common.{◌+◌, ◌-◌, ◌*◌, length}
+use Rattle.std.proofs.Common.{◌+◌, ◌*◌, length}
 use Rattle.sf_text.proofs.Lists.{ArgumentsTo}
 use Rattle.sf_text.proofs.term.+term.Given as goal
 
@@ -42,7 +42,7 @@ abbrev pub decreases-argument : goal.decreases-argument
 decreases-argument l = 8 * l.left + 2
 
 abbrev pub invariant-some_arguments-loop-more : goal.invariant-some_arguments-loop-more
-invariant-some_arguments-loop-more l = ArgumentsTo l.version l.left l.fn.program l.program l.tokens l.arguments.items l.more l.at
+invariant-some_arguments-loop-more l = ArgumentsTo l.fn.reader.version l.left l.fn.reader.program l.fn.reader.cursor.tokens.now l.reader l.arguments.items l.more
 
 abbrev pub decreases-some_arguments-loop-more : goal.decreases-some_arguments-loop-more
-decreases-some_arguments-loop-more l = length l.tokens - l.at
+decreases-some_arguments-loop-more l = length l.reader.cursor.tokens.now

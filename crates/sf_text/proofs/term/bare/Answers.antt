@@ -1,6 +1,16 @@
-use Rattle.sf_parse.specs.Consuming.{places}
+use Rattle.sf_parse.specs.Consuming.{spots_ahead}
 use Rattle.sf_text.proofs.Placed.{bare_read}
+use Rattle.sf_parse.proofs.Found.{if_built, keeps_self}
+use Rattle.sf_text.proofs.Found.{term_built, bare_ready}
+use Rattle.sf_parse.specs.Answers.{ahead}
 use Rattle.sf_text.proofs.term.bare.Goals as goal
 
-pub returns-in-Ok-clause-placed : goal.returns-in-Ok-clause-placed
-returns-in-Ok-clause-placed c = bare_read (places c.args.rest.now) c.in-Ok.ensures.ok
+pub returns-clause-reads : goal.returns-clause-reads
+returns-clause-reads c = λ whole counted.
+    term_built _ _ _ c.args.start.ahead c.add.result c.built.result
+    (bare_ready c.args.kind whole (ahead c.args.reader.now.cursor))
+    (keeps_self c.args.reader.now.program) counted c.built.ensures c.add.ensures.ok c.add.ensures.many (λ same. (c.add.ensures.deep.0 same).1) c.add.ensures.no_name
+
+pub returns-clause-placed : goal.returns-clause-placed
+returns-clause-placed c = if_built _ _ c.args.start.ahead c.add.result c.built.result c.built.ensures c.add.ensures.ok (λ id added.
+    bare_read (spots_ahead c.args.reader.now.cursor) added)

@@ -1,15 +1,17 @@
-use Rattle.std.proofs.Common.{Err, ap, sym, subst, ◌∙◌}
+use Rattle.std.proofs.Common.{sym, subst, ◌∙◌}
 use Rattle.sf_lex.specs.Words.{IsName}
-use Rattle.sf_parse.specs.Answers.{toks}
-use Rattle.sf_text.proofs.Found.{term_refused, named_ready}
+use Rattle.sf_parse.specs.Answers.{ahead}
+use Rattle.sf_text.proofs.Found.{term_built, named_ready}
 use Rattle.sf_text.proofs.Placed.{named_read}
+use Rattle.sf_parse.proofs.Found.{if_built, keeps_self}
 use Rattle.sf_text.proofs.term.named.Goals as goal
 
-pub returns-in-Err-clause-reads : goal.returns-in-Err-clause-reads
-returns-in-Err-clause-reads c =
-    term_refused c.args.tokens.now c.in-Err.refusal c.refused.result (named_ready c.args.version c.args.form (toks c.args.rest.now) c.in_ok-label.ensures.reads (c.in_ok-known.ensures.ok ∙ c.as_str.ensures.text)) c.refused.ensures
-    (λ same. c.in-Err.ensures.many.0 (ap Err same)) (λ same. absurd (c.in-Err.ensures.not_deep (ap Err same)))
-    (λ same. (c.in-Err.ensures.bad_name.0 (ap Err same)).1 (subst IsName (sym c.in_ok-known.ensures.ok) c.as_str.ensures.named))
+pub returns-clause-reads : goal.returns-clause-reads
+returns-clause-reads c = λ whole counted.
+    term_built _ _ _ c.args.start.ahead c.named.result c.built.result
+    (named_ready c.args.reader.now.version c.args.form (ahead c.args.reader.now.cursor) c.in_ok-label.ensures.reads (c.in_ok-known.ensures.ok ∙ c.as_str.ensures.text))
+    (keeps_self c.args.reader.now.program) counted c.built.ensures c.named.ensures.ok c.named.ensures.many (λ same. absurd (c.named.ensures.not_deep same)) (λ same. (c.named.ensures.bad_name.0 same).1 (subst IsName (sym c.in_ok-known.ensures.ok) c.as_str.ensures.named))
 
-pub returns-in-Ok-clause-placed : goal.returns-in-Ok-clause-placed
-returns-in-Ok-clause-placed c = named_read c.in-Ok.ensures.ok c.in_ok-label.ensures.placed
+pub returns-clause-placed : goal.returns-clause-placed
+returns-clause-placed c = if_built _ _ c.args.start.ahead c.named.result c.built.result c.built.ensures c.named.ensures.ok (λ id added.
+    named_read added c.in_ok-label.ensures.placed)

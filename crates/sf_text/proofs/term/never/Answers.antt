@@ -1,13 +1,15 @@
-use Rattle.std.proofs.Common.{Err, ap}
-use Rattle.sf_parse.specs.Answers.{toks}
-use Rattle.sf_text.proofs.Found.{term_refused, never_ready}
+use Rattle.sf_parse.specs.Answers.{ahead}
+use Rattle.sf_text.proofs.Found.{term_built, never_ready}
 use Rattle.sf_text.proofs.Placed.{never_read}
+use Rattle.sf_parse.proofs.Found.{if_built, keeps_self}
 use Rattle.sf_text.proofs.term.never.Goals as goal
 
-pub returns-in-Err-clause-reads : goal.returns-in-Err-clause-reads
-returns-in-Err-clause-reads c =
-    term_refused c.args.tokens.now c.in-Err.refusal c.refused.result (never_ready c.args.version c.args.left (toks c.args.rest.now) c.requires.shallow c.in_ok-payload.ensures.reads) c.refused.ensures
-    (λ same. c.in-Err.ensures.many.0 (ap Err same)) (λ same. absurd (c.in-Err.ensures.not_deep (ap Err same))) (λ same. c.in-Err.ensures.no_name (ap Err same))
+pub returns-clause-reads : goal.returns-clause-reads
+returns-clause-reads c = λ whole counted.
+    term_built _ _ _ c.args.start.ahead c.never.result c.built.result
+    (never_ready c.args.reader.now.version c.args.left (ahead c.args.reader.now.cursor) c.requires.shallow c.in_ok-payload.ensures.reads)
+    (keeps_self c.args.reader.now.program) counted c.built.ensures c.never.ensures.ok c.never.ensures.many (λ same. absurd (c.never.ensures.not_deep same)) c.never.ensures.no_name
 
-pub returns-in-Ok-clause-placed : goal.returns-in-Ok-clause-placed
-returns-in-Ok-clause-placed c = never_read c.args.left c.args.rest.now c.in_ok-payload.rest.now c.in-Ok.ensures.ok c.in_ok-payload.ensures.reads c.in_ok-payload.ensures.behind
+pub returns-clause-placed : goal.returns-clause-placed
+returns-clause-placed c = if_built _ _ c.args.start.ahead c.never.result c.built.result c.built.ensures c.never.ensures.ok (λ id added.
+    never_read c.args.left c.args.reader.now.cursor.tokens.now c.type_within.new.self.tokens.now added c.in_ok-payload.ensures.reads c.in_ok-payload.ensures.behind)

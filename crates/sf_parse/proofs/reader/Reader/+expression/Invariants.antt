@@ -1,5 +1,5 @@
 use Rattle.std.proofs.Common.{◌+◌, ◌*◌}
-use Rattle.sf_parse.proofs.expressions.+expression.Given as goal
+use Rattle.sf_parse.proofs.reader.Reader.+expression.Given as goal
 
 abbrev pub decreases-expression : goal.decreases-expression
 decreases-expression l = 5 * l.left

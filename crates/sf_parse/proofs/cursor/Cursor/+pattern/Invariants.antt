@@ -1,5 +1,5 @@
 use Rattle.std.proofs.Common.{◌+◌, ◌*◌}
-use Rattle.sf_parse.proofs.patterns.+pattern.Given as goal
+use Rattle.sf_parse.proofs.cursor.Cursor.+pattern.Given as goal
 
 abbrev pub decreases-pattern : goal.decreases-pattern
 decreases-pattern l = 3 * l.left

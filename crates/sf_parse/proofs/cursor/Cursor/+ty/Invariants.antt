@@ -1,5 +1,5 @@
 use Rattle.std.proofs.Common.{◌+◌, ◌*◌}
-use Rattle.sf_parse.proofs.types.+ty.Given as goal
+use Rattle.sf_parse.proofs.cursor.Cursor.+ty.Given as goal
 
 abbrev pub decreases-inner_type : goal.decreases-inner_type
 decreases-inner_type l = 4 * l.left
