@@ -122,7 +122,13 @@ fn part<'a>(whole: Found<'a>, path: &Path) -> Found<'a>
 {
     match path {
         Path::Whole => whole,
-        Path::Half(half, path) => part_within(whole.half(*half), path),
+        Path::Half(half, path) => {
+            let found = whole.half(*half);
+            match &**path {
+                Path::Whole => found,
+                Path::Half(_, _) => part_within(found, path),
+            }
+        }
     }
 }
 

@@ -541,7 +541,7 @@ fn called<F: Holds>(
     }
 }
 
-/// What code is worth, as a half of a pair: a half of a frame's value is shared.
+/// What code is worth, as a half of a pair: a half of a frame's value is shared, and arithmetic makes its number there.
 #[cycle(run)]
 fn half<F: Holds>(
     alloc: Global,
@@ -551,11 +551,16 @@ fn half<F: Holds>(
 ) -> Result<Rc<Value>, EvalFault>
     ensures { EvaluatesAs (λ half. half.value) result (worth_of (code_of code.now) (frames_of frames.now) (F.answers functions.now)) }
 {
-    if let Code::Place(place) = code {
-        if let Found::Half(shared) = frames.at(place) {
-            return Ok(shared.clone()?);
+    let value = match code {
+        Code::Place(place) => match frames.at(place) {
+            Found::Half(shared) => return Ok(shared.clone()?),
+            found => found.value(alloc)?,
+        },
+        Code::Operation(left, Operator::Arithmetic(operator), right) => {
+            let number = arithmetic(alloc, left, *operator, right, frames, functions)?;
+            Value::int(number)
         }
-    }
-    let value = run(alloc, code, frames, functions)?;
+        _ => run(alloc, code, frames, functions)?,
+    };
     Ok(Rc::new(alloc, value)?)
 }

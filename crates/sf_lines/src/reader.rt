@@ -142,24 +142,22 @@ fn parts_of(bytes: &[u8]) -> Option<Parts<'_>>
     if is_blank(bytes) {
         return Some(Parts::Blank);
     }
+    if let Some((step, value)) = step_at(bytes) {
+        return if value != b"=".as_slice() {
+            Some(Parts::Sampled(step, value))
+        } else if step > 0 {
+            Some(Parts::Repeated(step))
+        } else {
+            None
+        };
+    }
     if let Some(name) = name_behind(b"save ", bytes) {
         return Some(Parts::Save(name));
     }
     if let Some(name) = name_behind(b"back ", bytes) {
         return Some(Parts::Back(name));
     }
-    match step_at(bytes) {
-        None => None,
-        Some((step, value)) => {
-            if value != b"=".as_slice() {
-                Some(Parts::Sampled(step, value))
-            } else if step > 0 {
-                Some(Parts::Repeated(step))
-            } else {
-                None
-            }
-        }
-    }
+    None
 }
 
 /// Whether a line is empty or a comment.

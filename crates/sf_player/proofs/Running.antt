@@ -1,5 +1,5 @@
 -- How a run goes on and ends.
-use Rattle.std.proofs.Common.{◌≡◌, ◌≢◌, ℕ, ◌+◌, ◌≤◌, Bool, List, [], ◌++◌, length, Option, Some, None, sym, ap, ◌∙◌, subst, append_assoc, IsTrue}
+use Rattle.std.proofs.Common.{◌≡◌, ◌≢◌, ℕ, ◌+◌, ◌≤◌, Bool, List, [], ◌++◌, length, Option, Some, None, sym, ap, ◌∙◌, subst, append_assoc}
 use Rattle.std.proofs.lemmas.List.{append-nil}
 use Rattle.std.specs.Io.KnownBytes.{Keeps, Consumes, Appends, IsAtEnd}
 use Rattle.sf_term.specs.Trees.{Template}
@@ -11,13 +11,14 @@ use Rattle.sf_lines.specs.declared.refusal.LineRefusal.TheVariants.{Memory as Me
 use Rattle.sf_lines.proofs.Splitting.{lines_of-splits}
 use Rattle.sf_player.specs.Scripts.{at_start, LeadsTo}
 use Rattle.sf_player.specs.Telling.{RunGives, without_memory_for_lines, CanBeGiven, so_far, in_all, by_its_end, by_a_read_fault, by_a_write_fault, Told}
-use Rattle.sf_player.specs.Statuses.{is_said}
+use Rattle.sf_player.specs.Stops.{stop_end, stop_line}
+use Rattle.sf_player.specs.declared.stop.Stop.TheVariants.{Faulted, Refused}
 use Rattle.sf_player.specs.Counting.{WritesFront, CountsReads}
 use Rattle.sf_player.specs.Playing.{Played, Feeds, EndsInput, weight, line_in, IsCleared, WritesOut, runs_on, ended, failed}
 use Rattle.sf_player.specs.declared.end.PlayEnd.{PlayEnd}
-use Rattle.sf_player.specs.declared.end.PlayEnd.TheVariants.{Done, Fault, BadLine, Network as Refused, ReadFault, WriteFault}
+use Rattle.sf_player.specs.declared.end.PlayEnd.TheVariants.{Done, Fault, BadLine, ReadFault, WriteFault}
 use Rattle.sf_player.specs.declared.player.Player.{Player}
-use Rattle.sf_player.specs.declared.player.Stop.{Stop}
+use Rattle.sf_player.specs.declared.stop.Stop.{Stop}
 use Rattle.sf_player.proofs.Known.{Consumes-none, Consumes-more, Consumes-kept, Appends-none, Appends-more, nothing_left}
 
 -- What was read and written so far, and what the player has played. Nothing is gathered.
@@ -75,13 +76,13 @@ feeds_give probes n m written p mid read piece None P left =
     subst (λ (x : List ℕ). CanBeGiven probes n m (lines_of ((read ++ piece) ++ left)) (written ++ x)) (sym (append-nil mid.out.items))
     (so_far (lines_of (pending mid.cutter ++ left)) P.played.reaches (lines_of-splits (read ++ piece) P.played.lines (pending mid.cutter) left P.played.stands.splits))
 feeds_give probes n m written p mid read piece (Some s) halted left =
-    subst (λ (x : List ℕ). CanBeGiven probes n m (lines_of ((read ++ piece) ++ left)) x) (append_assoc written mid.out.items s.line) (in_all (halted left))
+    subst (λ (x : List ℕ). CanBeGiven probes n m (lines_of ((read ++ piece) ++ left)) x) (append_assoc written mid.out.items (stop_line s)) (in_all (halted left))
 
 finish_gives : {F : Type 0} {H : _} (probes : Bool) (n : Network) (m : Template) (read written : List ℕ) (mid : Player F H) (stop : Option Stop) → EndsInput probes n m read written stop mid → CanBeGiven probes n m (lines_of read) (written ++ (mid.out.items ++ line_in stop))
 finish_gives probes n m read written mid None S =
     subst (λ (x : List ℕ). CanBeGiven probes n m (lines_of read) (written ++ x)) (sym (append-nil mid.out.items)) (in_all S)
 finish_gives probes n m read written mid (Some s) S =
-    subst (λ (x : List ℕ). CanBeGiven probes n m (lines_of read) x) (append_assoc written mid.out.items s.line) (in_all S)
+    subst (λ (x : List ℕ). CanBeGiven probes n m (lines_of read) x) (append_assoc written mid.out.items (stop_line s)) (in_all S)
 
 -- a front of what was to be written
 front_gives : {probes : Bool} {n : Network} {m : Template} {lines : List (List ℕ)} {text : List ℕ} (written front more : List ℕ) → CanBeGiven probes n m lines (written ++ text) → text ≡ front ++ more → CanBeGiven probes n m lines ((written ++ front) ++ more)
@@ -101,13 +102,13 @@ told_midway {probes = probes} {n = n} {m = m} {before = before} {mid_read = b} {
       tells = λ left h. by_a_write_fault w.1 (front_gives R.written w.0 w.1 (feeds_give probes n m R.written p mid R.read piece stop F left) w.3);
     })
 told_midway {probes = probes} {n = n} {m = m} {before = before} {mid_read = b} {after = after} {held = held} {mid_held = i} {holds = holds} {mid = mid} piece (Some s) e R took F (ended wrote) q =
-    let same : s.end ≡ e = cc in
+    let same : stop_end s ≡ e = cc in
     rw (sym same) (record {
       read = R.read ++ piece;
-      said = R.written ++ (mid.out.items ++ s.line);
+      said = R.written ++ (mid.out.items ++ stop_line s);
       consumed = Consumes-more before b after R.read piece R.consumed took;
-      written = Appends-more held i holds R.written (mid.out.items ++ s.line) R.appended wrote;
-      tells = λ left h. by_its_end (subst (λ (x : List ℕ). RunGives probes n m (lines_of ((R.read ++ piece) ++ left)) x s.end) (append_assoc R.written mid.out.items s.line) (F left));
+      written = Appends-more held i holds R.written (mid.out.items ++ stop_line s) R.appended wrote;
+      tells = λ left h. by_its_end (subst (λ (x : List ℕ). RunGives probes n m (lines_of ((R.read ++ piece) ++ left)) x (stop_end s)) (append_assoc R.written mid.out.items (stop_line s)) (F left));
     })
 
 -- how a run ended, by what writing answered
@@ -139,10 +140,10 @@ told_at_end {probes = probes} {n = n} {m = m} {before = before} {mid_read = b} {
 }
 told_at_end {probes = probes} {n = n} {m = m} {before = before} {mid_read = b} {after = after} {held = held} {mid_held = i} {holds = holds} {mid = mid} (Some s) R took ends F (ended wrote) = record {
   read = R.read;
-  said = R.written ++ (mid.out.items ++ s.line);
+  said = R.written ++ (mid.out.items ++ stop_line s);
   consumed = rw (sym (append-nil R.read)) (Consumes-more before b after R.read [] R.consumed took);
-  written = Appends-more held i holds R.written (mid.out.items ++ s.line) R.appended wrote;
-  tells = λ left h. by_its_end (at_end R.read ends h (subst (λ (x : List ℕ). RunGives probes n m (lines_of R.read) x s.end) (append_assoc R.written mid.out.items s.line) F));
+  written = Appends-more held i holds R.written (mid.out.items ++ stop_line s) R.appended wrote;
+  tells = λ left h. by_its_end (at_end R.read ends h (subst (λ (x : List ℕ). RunGives probes n m (lines_of R.read) x (stop_end s)) (append_assoc R.written mid.out.items (stop_line s)) F));
 }
 
 pub told_at_end_by : {F : Type 0} {H : _} {probes : Bool} {n : Network} {m : Template} {before mid_read after held mid_held holds : Option (List ℕ)} {p mid new : Player F H} {r : Option PlayEnd} (stop : Option Stop) (e : PlayEnd) (R : Running probes n m before mid_read held mid_held p) → Consumes mid_read after [] → IsAtEnd after
@@ -185,17 +186,13 @@ pub data EndsAhead : PlayEnd → Type 0 where
   by_a_refusal : EndsAhead BadLine
   by_the_writer : EndsAhead WriteFault
 
-ends_said : (e : PlayEnd) → IsTrue (is_said e) → EndsAhead e
-ends_said Done h = absurd cc
-ends_said Fault h = by_a_fault
-ends_said BadLine h = by_a_refusal
-ends_said (Refused r) h = absurd cc
-ends_said ReadFault h = absurd cc
-ends_said WriteFault h = absurd cc
+ends_by : (s : Stop) → EndsAhead (stop_end s)
+ends_by (Faulted t f) = by_a_fault
+ends_by (Refused n r) = by_a_refusal
 
 pub ends_ahead : {F : Type 0} {H : _} {old new : Player F H} {a b : Option (List ℕ)} {stop : Option Stop} {r : Option PlayEnd} {e : PlayEnd} → WritesOut old a b stop r new → r ≡ Some e → EndsAhead e
 ends_ahead (runs_on wrote clear) q = absurd cc
-ends_ahead {e = e} (ended {s = s} wrote) q = let same : s.end ≡ e = cc in subst EndsAhead same (ends_said s.end s.said)
+ends_ahead {e = e} (ended {s = s} wrote) q = let same : stop_end s ≡ e = cc in subst EndsAhead same (ends_by s)
 ends_ahead {e = e} (failed w) q = let same : WriteFault ≡ e = cc in subst EndsAhead same by_the_writer
 
 pub not_done : {e : PlayEnd} → EndsAhead e → e ≢ Done

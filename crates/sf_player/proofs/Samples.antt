@@ -23,10 +23,9 @@ use Rattle.sf_player.specs.Scripts.{Moment, has_begun, life_after, IsSample, sam
 use Rattle.sf_player.specs.Playing.{SavesLastAtMost, IsAt, PlaysOn, PlaysLine, Halts, faults, refuses, lacks_memory, is_too_large, lacks_memory_for_its_value}
 use Rattle.sf_player.proofs.Asked.{advance_asked, start_asked, begun, not_begun, can_wait}
 use Rattle.sf_player.proofs.Saving.{later_saves}
-use Rattle.sf_player.specs.declared.end.PlayEnd.{PlayEnd}
 use Rattle.sf_player.specs.declared.end.PlayEnd.TheVariants.{Fault as PlayFault, BadLine}
 use Rattle.sf_player.specs.declared.player.Player.{Player}
-use Rattle.sf_player.specs.declared.player.Stop.{Stop}
+use Rattle.sf_player.specs.declared.stop.Stop.{Stop}
 
 -- the time after a step
 pub time-after_step : (L : Life) (d : ℕ) (x : Option Data) → L ≢ [] → time (after_step L d x) ≡ time L + d
@@ -70,19 +69,16 @@ fault_halts asked sample (had_fault G s) = faults (gives_fault asked sample refl
 fault_halts asked sample (was_large none s) = is_too_large asked sample none
 fault_halts asked sample (had_no_memory s) = lacks_memory asked sample
 
--- a stop at a fault, by its end and its line
-pub stop_halts : {F : Type 0} {H : _} {n : Network} {m : Template} {now : Moment} {line text : List ℕ} {a : Asked} {f : Fault} {e : Engine F H} {end : PlayEnd} (t : ℕ) → Asks n m now line a → IsSample a
-    → Sampled n m (life_after a now.lived) now.saved (Err f) e → t ≡ time (life_after a now.lived) → end ≡ PlayFault → text ≡ fault_line t f
-    → Halts n m now line text end
-stop_halts {n = n} {m = m} {now = now} {line = line} {f = f} t asked sample S at ended written =
-    rw ended (rw (written ∙ ap (λ u. fault_line u f) at) (fault_halts asked sample S))
+-- the same at that time
+pub stop_halts : {F : Type 0} {H : _} {n : Network} {m : Template} {now : Moment} {line : List ℕ} {a : Asked} {f : Fault} {e : Engine F H} (t : ℕ) → Asks n m now line a → IsSample a
+    → Sampled n m (life_after a now.lived) now.saved (Err f) e → t ≡ time (life_after a now.lived)
+    → Halts n m now line (fault_line t f) PlayFault
+stop_halts t asked sample S at = rw at (fault_halts asked sample S)
 
 -- a stop for want of memory
-pub memory_halts : {n : Network} {m : Template} {now : Moment} {line text : List ℕ} {a : Asked} {end : PlayEnd} (t : ℕ) → Asks n m now line a → IsSample a
-    → t ≡ time (life_after a now.lived) → end ≡ PlayFault → text ≡ fault_line t NoMemory
-    → Halts n m now line text end
-memory_halts {n = n} {m = m} {now = now} {line = line} t asked sample at ended written =
-    rw ended (rw (written ∙ ap (λ u. fault_line u NoMemory) at) (lacks_memory asked sample))
+pub memory_halts : {n : Network} {m : Template} {now : Moment} {line : List ℕ} {a : Asked} (t : ℕ) → Asks n m now line a → IsSample a
+    → t ≡ time (life_after a now.lived) → Halts n m now line (fault_line t NoMemory) PlayFault
+memory_halts t asked sample at = rw at (lacks_memory asked sample)
 
 -- few lines stand before a line within the limits
 pub few_lines : (before : ℕ) (line : List ℕ) → limit_refusal before line ≡ None → before < 1000000
@@ -145,10 +141,10 @@ nothing_said {n = n} {m = m} {now = now} {o = o} asked at engine cutter count ke
 }
 
 -- a line that is refused
-pub refusal_said : {F : Type 0} {H : _} {n : Network} {m : Template} {now : Moment} {text : List ℕ} {end : PlayEnd} (line : List ℕ) (b : Bool) (k : Kind) (p : Player F H) (r : LineRefusal) → k ≡ m.input → p.taken ≡ now.taken → limit_refusal now.taken line ≡ None → b ≡ has_begun now.lived
-    → (r ≢ MemoryRefusal → Says b k line (Err r)) → (r ≡ MemoryRefusal → HasTimelyValue b line) → end ≡ BadLine → text ≡ refusal_line (p.taken + 1) r
-    → Halts n m now line text end
-refusal_said {n = n} {m = m} {now = now} line b k p r input taken within begun says lacks ended written = rw ended (rw (written ∙ ap (λ k. refusal_line (k + 1) r) taken) (halts r says lacks))
+pub refusal_said : {F : Type 0} {H : _} {n : Network} {m : Template} {now : Moment} (line : List ℕ) (b : Bool) (k : Kind) (p : Player F H) (r : LineRefusal) → k ≡ m.input → p.taken ≡ now.taken → limit_refusal now.taken line ≡ None → b ≡ has_begun now.lived
+    → (r ≢ MemoryRefusal → Says b k line (Err r)) → (r ≡ MemoryRefusal → HasTimelyValue b line)
+    → Halts n m now line (refusal_line (p.taken + 1) r) BadLine
+refusal_said {n = n} {m = m} {now = now} line b k p r input taken within begun says lacks = subst (λ k. Halts n m now line (refusal_line (k + 1) r) BadLine) (sym taken) (halts r says lacks)
   where
     refused_so : (r : LineRefusal) → Says b k line (Err r) → Halts n m now line (refusal_line (now.taken + 1) r) BadLine
     refused_so r says = refuses (refused within (subst (λ x. Says x m.input line (Err r)) begun (subst (λ x. Says b x line (Err r)) input says)))

@@ -20,7 +20,6 @@ use Rattle.sf_lines.specs.Written.{refusal_line}
 use Rattle.sf_player.specs.Scripts.{Moment, Asks, keeps, keeps_no_more, returns, returns_nowhere}
 use Rattle.sf_player.specs.Telling.{CopiesLife}
 use Rattle.sf_player.specs.Playing.{saving_refusal, LastsAtMost, SavesLastAtMost, IsAt, PlaysOn, Halts, refuses, lacks_memory_for_a_copy}
-use Rattle.sf_player.specs.declared.end.PlayEnd.{PlayEnd}
 use Rattle.sf_player.specs.declared.end.PlayEnd.TheVariants.{BadLine}
 use Rattle.sf_player.specs.declared.player.Player.{Player}
 
@@ -135,6 +134,6 @@ module _ {F : Type 0} {H : _} {n : Network} {m : Template} {now : Moment} {name 
       halts_as line same refl q (lacks_memory_for_a_copy asked there)
   back_halts line _ asked some (returns_to begun found R) is q = absurd cc
 
--- a stop at a refusal, by its end and its line
-pub stops_at : {F : Type 0} {H : _} {n : Network} {m : Template} {now : Moment} {line text : List ℕ} (why : LineRefusal) {end : PlayEnd} (p : Player F H) → Halts n m now line (refusal_line (now.taken + 1) why) BadLine → p.taken ≡ now.taken → end ≡ BadLine → text ≡ refusal_line (p.taken + 1) why → Halts n m now line text end
-stops_at why p halts taken ended written = rw ended (rw (written ∙ ap (λ k. refusal_line (k + 1) why) taken) halts)
+-- the refusal of a player's next line
+pub stops_at : {F : Type 0} {H : _} {n : Network} {m : Template} {now : Moment} {line : List ℕ} (why : LineRefusal) (p : Player F H) → Halts n m now line (refusal_line (now.taken + 1) why) BadLine → p.taken ≡ now.taken → Halts n m now line (refusal_line (p.taken + 1) why) BadLine
+stops_at {n = n} {m = m} {now = now} {line = line} why p halts taken = subst (λ k. Halts n m now line (refusal_line (k + 1) why) BadLine) (sym taken) halts

@@ -21,7 +21,9 @@ use Rattle.sf_player.specs.Playing.{Halts, faults, refuses, lacks_memory, is_too
 use Rattle.sf_player.specs.declared.end.PlayEnd.{PlayEnd}
 use Rattle.sf_player.specs.declared.end.PlayEnd.TheVariants.{Done, BadLine}
 use Rattle.sf_player.specs.declared.player.Player.{Player}
-use Rattle.sf_player.specs.declared.player.Stop.{Stop}
+use Rattle.sf_player.specs.declared.stop.Stop.{Stop}
+use Rattle.sf_player.specs.declared.stop.Stop.TheVariants.{Refused}
+use Rattle.sf_player.specs.Stops.{stop_end, stop_line}
 
 -- a line is counted
 Replies-taken : {n : Network} {m : Template} {now later : Moment} {line text : List ℕ} {t : Turn} → Replies n m now line text t → t ≡ goes_on later → later.taken ≡ now.taken + 1
@@ -86,16 +88,16 @@ line_halts {read = read} {written = written} {line = line} {p = p} {mid = mid} {
     ∙ ap lines_of regroup
     ∙ lines_of-splits (read ++ take used piece) (P.lines ++ line ∷ []) (pending mid.cutter) more S.splits
     ∙ append_assoc P.lines (line ∷ []) (lines_of (pending mid.cutter ++ more)) in
-    said_so written s.line p.out.items new.out.items (stops_by (lines_of (pending mid.cutter ++ more)) P.reaches E.halts cut) (E.said ∙ out)
+    said_so written (stop_line s) p.out.items new.out.items (stops_by (lines_of (pending mid.cutter ++ more)) P.reaches E.halts cut) (E.said ∙ out)
 
 -- a line that the cutter refuses
-pub refusal_halts : {F : Type 0} {H : _} {probes : Bool} {n : Network} {m : Template} {read written : List ℕ} {p : Player F H} {r : LineRefusal} (s : Stop) (piece : List ℕ) (P : Played probes n m read written p) → RefusesNext (read ++ piece) P.lines r → s.end ≡ BadLine → s.line ≡ refusal_line (p.taken + 1) r → Halted probes n m (read ++ piece) (written ++ p.out.items) s
-refusal_halts {n = n} {m = m} {read = read} {written = written} {p = p} {r = r} s piece P next_refused end line = λ left.
+pub refusal_halts : {F : Type 0} {H : _} {probes : Bool} {n : Network} {m : Template} {read written : List ℕ} {p : Player F H} {r : LineRefusal} (s : Stop) (piece : List ℕ) (P : Played probes n m read written p) → RefusesNext (read ++ piece) P.lines r → s ≡ Refused (p.taken + 1) r → Halted probes n m (read ++ piece) (written ++ p.out.items) s
+refusal_halts {n = n} {m = m} {read = read} {written = written} {p = p} {r = r} s piece P next_refused is = λ left.
     let next = next_refused left in
     let taken = LeadsTo-taken P.reaches in
     let late : limit_refusal P.now.taken next.0 ≡ Some r = ap (λ k. limit_refusal k next.0) (let e : P.now.taken ≡ length P.lines = omega arith in e) ∙ next.3 in
-    let halts : Halts n m P.now next.0 s.line s.end =
-    subst (λ e. Halts n m P.now next.0 s.line e) (sym end) (subst (λ (x : List ℕ). Halts n m P.now next.0 x BadLine) (ap (λ k. refusal_line (k + 1) r) (sym P.at.taken) ∙ sym line) (refuses (past_limits late))) in
+    let halts : Halts n m P.now next.0 (stop_line s) (stop_end s) =
+    subst (λ (s : Stop). Halts n m P.now next.0 (stop_line s) (stop_end s)) (sym is) (subst (λ k. Halts n m P.now next.0 (refusal_line (k + 1) r) BadLine) (sym P.at.taken) (refuses (past_limits late))) in
     stops_by next.1 P.reaches halts next.2
 
 -- the last line
@@ -110,8 +112,8 @@ last_line_ends {probes = probes} {n = n} {m = m} {read = read} {written = writte
     subst (λ (ls : List (List ℕ)). RunGives probes n m ls (written ++ new.out.items) Done) (sym all)
     (subst (λ (x : List ℕ). RunGives probes n m (P.lines ++ line ∷ []) x Done) text (with_the_input (to_the_end (one_more P.reaches G.replies))))
 
-last_line_halts : {F : Type 0} {H : _} {probes : Bool} {n : Network} {m : Template} {read written line : List ℕ} {p mid new : Player F H} {s : Stop} (P : Played probes n m read written p) → lines_of read ≡ P.lines ++ line ∷ [] → EndsRun n m P.now line mid s new → mid.out.items ≡ p.out.items → RunGives probes n m (lines_of read) ((written ++ new.out.items) ++ s.line) s.end
-last_line_halts {written = written} {p = p} {new = new} {s = s} P all E out = said_so written s.line p.out.items new.out.items (stops_by [] P.reaches E.halts all) (E.said ∙ out)
+last_line_halts : {F : Type 0} {H : _} {probes : Bool} {n : Network} {m : Template} {read written line : List ℕ} {p mid new : Player F H} {s : Stop} (P : Played probes n m read written p) → lines_of read ≡ P.lines ++ line ∷ [] → EndsRun n m P.now line mid s new → mid.out.items ≡ p.out.items → RunGives probes n m (lines_of read) ((written ++ new.out.items) ++ stop_line s) (stop_end s)
+last_line_halts {written = written} {p = p} {new = new} {s = s} P all E out = said_so written (stop_line s) p.out.items new.out.items (stops_by [] P.reaches E.halts all) (E.said ∙ out)
 
 pub last_line : {F : Type 0} {H : _} (probes : Bool) (n : Network) (m : Template) (read written line : List ℕ) {p : Player F H} (mid new : Player F H) (r : Option Stop) (P : Played probes n m read written p) → lines_of read ≡ P.lines ++ line ∷ [] → mid.out.items ≡ p.out.items → PlaysLine n m P.now line mid r new → EndsInput probes n m read written r new
 last_line probes n m read written line mid new None P all out G = last_line_ends P all G out
@@ -164,7 +166,7 @@ pub Halted-more : {probes : Bool} {n : Network} {m : Template} (s : Stop) (said 
 Halted-more {probes = probes} {n = n} {m = m} s said read piece at h =
     let whole : (read ++ take at piece) ++ take (length piece - at) (drop at piece) ≡ read ++ piece =
     append_assoc read (take at piece) (take (length piece - at) (drop at piece)) ∙ ap (λ x. read ++ (take at piece ++ x)) (slice_from at piece) ∙ ap (λ x. read ++ x) (take-append-drop at piece) in
-    λ left. subst (λ (x : List ℕ). RunGives probes n m (lines_of (x ++ left)) (said ++ s.line) s.end) whole (h left)
+    λ left. subst (λ (x : List ℕ). RunGives probes n m (lines_of (x ++ left)) (said ++ stop_line s) (stop_end s)) whole (h left)
 
 -- a player at its start
 pub starts_played : {F : Type 0} {H : _} {probes : Bool} {n : Network} {m : Template} (p : Player F H) → CutterStands p.cutter [] [] → Runs p.engine n m [] [] → p.taken ≡ 0 → p.probes ≡ probes → p.out.items ≡ [] → Played probes n m [] [] p

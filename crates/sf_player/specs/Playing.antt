@@ -26,7 +26,8 @@ use Rattle.sf_player.specs.Counting.{WritesFront}
 use Rattle.sf_player.specs.declared.end.PlayEnd.{PlayEnd}
 use Rattle.sf_player.specs.declared.end.PlayEnd.TheVariants.{Done, Fault as PlayFault, BadLine, WriteFault}
 use Rattle.sf_player.specs.declared.player.Player.{Player}
-use Rattle.sf_player.specs.declared.player.Stop.{Stop}
+use Rattle.sf_player.specs.declared.stop.Stop.{Stop}
+use Rattle.sf_player.specs.Stops.{stop_end, stop_line}
 
 -- how far a cutter has come in its stream
 abbrev pub weight : Cutter → ℕ
@@ -49,7 +50,7 @@ module _ (n : Network) (m : Template) where
 module _ (probes : Bool) (n : Network) (m : Template) where
   -- So much was read and said, but for a last line. Whatever follows, the run ends with it.
   abbrev pub Halted : List ℕ → List ℕ → Stop → Type 0
-  Halted read said s = (left : List ℕ) → RunGives probes n m (lines_of (read ++ left)) (said ++ s.line) s.end
+  Halted read said s = (left : List ℕ) → RunGives probes n m (lines_of (read ++ left)) (said ++ stop_line s) (stop_end s)
 
 -- the refusal of a line at which the engine keeps nothing, or doesn't return
 abbrev pub saving_refusal : EngineError → Option LineRefusal
@@ -74,7 +75,7 @@ SavesLastAtMost taken S = All (λ (s : Name × Life). LastsAtMost taken s.1) S
 -- the line of a stop
 abbrev pub line_in : Option Stop → List ℕ
 line_in None = []
-line_in (Some s) = s.line
+line_in (Some s) = stop_line s
 
 -- Players of engines over functions that are held by name.
 module _ {F : Type 0} {H : _} (n : Network) (m : Template) where
@@ -97,7 +98,7 @@ module _ {F : Type 0} {H : _} (n : Network) (m : Template) where
 
   -- A line ends the run: nothing was gathered.
   pub record EndsRun (now : Moment) (line : List ℕ) (old : Player F H) (s : Stop) (new : Player F H) : Type 0 where
-    pub halts : Halts n m now line s.line s.end
+    pub halts : Halts n m now line (stop_line s) (stop_end s)
     pub said : new.out.items ≡ old.out.items
 
   -- What comes of a line.
@@ -133,7 +134,7 @@ module _ {F : Type 0} {H : _} (probes : Bool) (n : Network) (m : Template) where
   -- What comes of the end of the input.
   abbrev pub EndsInput : List ℕ → List ℕ → Option Stop → Player F H → Type 0
   EndsInput read written None new = RunGives probes n m (lines_of read) (written ++ new.out.items) Done
-  EndsInput read written (Some s) new = RunGives probes n m (lines_of read) ((written ++ new.out.items) ++ s.line) s.end
+  EndsInput read written (Some s) new = RunGives probes n m (lines_of read) ((written ++ new.out.items) ++ stop_line s) (stop_end s)
 
 -- The same of some network.
 module _ {F : Type 0} {H : _} where
@@ -165,7 +166,7 @@ module _ {F : Type 0} {H : _} where
   -- What comes of writing what is gathered and the line of a stop, and how the run ends by it.
   pub data WritesOut (old : Player F H) (before after : Option (List ℕ)) : Option Stop → Option PlayEnd → Player F H → Type 0 where
     runs_on : {new : Player F H} → Appends before after old.out.items → IsCleared old new → WritesOut old before after None None new
-    ended : {s : Stop} {new : Player F H} → Appends before after (old.out.items ++ s.line) → WritesOut old before after (Some s) (Some s.end) new
+    ended : {s : Stop} {new : Player F H} → Appends before after (old.out.items ++ stop_line s) → WritesOut old before after (Some s) (Some (stop_end s)) new
     failed : {o : Option Stop} {new : Player F H} → WritesFront before after (old.out.items ++ line_in o) → WritesOut old before after o (Some WriteFault) new
 
   -- A player has played nothing.

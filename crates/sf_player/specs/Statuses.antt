@@ -1,5 +1,5 @@
 -- The exit statuses of runs.
-use Rattle.std.specs.Prelude.{ℕ, Bool, true, false}
+use Rattle.std.specs.Prelude.{ℕ}
 use Rattle.sf_player.specs.declared.end.PlayEnd.{PlayEnd}
 use Rattle.sf_player.specs.declared.end.PlayEnd.TheVariants.{Done, Fault, BadLine, Network, ReadFault, WriteFault}
 
@@ -10,12 +10,3 @@ status_of BadLine = 4
 status_of (Network r) = 5
 status_of ReadFault = 6
 status_of WriteFault = 6
-
--- an end that a line says: a fault, or a refused line
-abbrev pub is_said : PlayEnd → Bool
-is_said Done = false
-is_said Fault = true
-is_said BadLine = true
-is_said (Network r) = false
-is_said ReadFault = false
-is_said WriteFault = false

@@ -10,6 +10,7 @@ mod options;
 mod player;
 mod save_refusal;
 mod session;
+mod stop;
 
 pub use counted::Counted;
 pub use end::PlayEnd;

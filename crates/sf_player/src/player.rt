@@ -1,30 +1,17 @@
 //! The player.
-ghost use Rattle.std.specs.Prelude.{◌≡◌, ◌≢◌, ℕ, ◌+◌, ◌*◌, ◌<◌, ◌≤◌, ◌^◌, ◌-◌, length, Bool, List, [], ◌++◌, IfOk, IfErr, IsTrue, take};
-ghost use Rattle.sf_value.specs.declared.fault.Fault.{Fault};
-ghost use Rattle.sf_lines.specs.declared.refusal.LineRefusal.{LineRefusal};
-ghost use Rattle.sf_lines.specs.Written.{fault_line, refusal_line};
-ghost use Rattle.sf_player.specs.Statuses.{is_said};
+ghost use Rattle.std.specs.Prelude.{◌≡◌, ◌≢◌, ℕ, ◌+◌, ◌*◌, ◌<◌, ◌≤◌, ◌^◌, ◌-◌, length, Bool, List, [], IfOk, take};
 
 use crate::counted::Counted;
 use crate::end::PlayEnd;
 use crate::gather::gather;
 use crate::save_refusal::refusal_of;
+use crate::stop::Stop;
 use sf_engine::{Engine, Sample};
 use sf_func::Holds;
-use sf_lines::{
-    Command, Cut, Cutter, LineRefusal, ShortLine, read_line, write_fault, write_refusal,
-};
+use sf_lines::{Command, Cut, Cutter, LineRefusal, read_line};
 use sf_value::Fault;
 use std::alloc::{AllocError, Global};
 use std::io::Write;
-
-/// How a run ends, and the line that says so.
-#[derive(Drop)]
-pub(crate) struct Stop {
-    end: PlayEnd,
-    line: ShortLine,
-    ghost said: { IsTrue (is_said end) },
-}
 
 /// A run of a network over an input. What is to be written is gathered.
 #[derive(Drop)]
@@ -174,23 +161,17 @@ impl<F: Holds + Drop> Player<F> {
                     self.taken += 1;
                     None
                 }
-                Err(_) => Some(fault_stop(sample_time, Fault::Memory)),
+                Err(_) => Some(Stop::Faulted(sample_time, Fault::Memory)),
             },
-            Err(fault) => Some(fault_stop(sample_time, fault)),
+            Err(fault) => Some(Stop::Faulted(sample_time, fault)),
         }
     }
 
     /// The refusal of the next line.
-    #[cold]
-    #[inline(never)]
     fn refuse(&self, refusal: LineRefusal) -> Stop
-        ensures end { result.end ≡ PlayEnd.BadLine }
-        ensures line { result.line ≡ refusal_line (self.now.taken + 1) refusal }
+        ensures { result ≡ Stop.Refused (self.now.taken + 1) refusal }
     {
-        Stop {
-            end: PlayEnd::BadLine,
-            line: write_refusal(u64::from(self.taken) + 1, refusal),
-        }
+        Stop::Refused(u64::from(self.taken) + 1, refusal)
     }
 
     /// Writes what is gathered, and then the line of a stop. How the run ends, if it does.
@@ -211,24 +192,11 @@ impl<F: Holds + Drop> Player<F> {
         match stop {
             None => None,
             Some(stop) => {
-                if !writer.put(stop.line.as_bytes()) {
+                if !writer.put(stop.line().as_bytes()) {
                     return Some(PlayEnd::WriteFault);
                 }
-                Some(stop.end)
+                Some(stop.end())
             }
         }
-    }
-}
-
-/// The fault of the sample at a time.
-#[cold]
-#[inline(never)]
-fn fault_stop(time: u64, fault: Fault) -> Stop
-    ensures end { result.end ≡ PlayEnd.Fault }
-    ensures line { result.line ≡ fault_line time fault }
-{
-    Stop {
-        end: PlayEnd::Fault,
-        line: write_fault(time, fault),
     }
 }

@@ -12,6 +12,7 @@ ghost use Rattle.sf_state.specs.declared.env.Env.{Env as EnvOf};
 ghost use Rattle.sf_state.specs.Standing.{IsNames, Stands, Ready, Waits, WaitsKeeping, IsProcess, AllFollow, kept_state, is_frozen};
 
 use crate::env::Env;
+use crate::feedback::Feedback;
 use sf_expr::{NameId, PatternId};
 use sf_law::PlanId;
 use sf_prim::PrimState;
@@ -121,8 +122,8 @@ pub enum Wrap {
     First,
     /// `second`.
     Second,
-    /// `loopPre`, with the value that its part is fed with next, beside the input.
-    Loop(Value),
+    /// `loopPre`, with what it feeds its part with next.
+    Loop(Feedback),
     /// `-->`, with the value of its head before the first sample.
     Initialized(Option<Value>),
 }
@@ -494,7 +495,7 @@ impl Wrap {
         match self {
             Wrap::First => Ok(Wrap::First),
             Wrap::Second => Ok(Wrap::Second),
-            Wrap::Loop(value) => Ok(Wrap::Loop(value.clone_in(alloc)?)),
+            Wrap::Loop(feedback) => Ok(Wrap::Loop(feedback.clone_in(alloc)?)),
             Wrap::Initialized(None) => Ok(Wrap::Initialized(None)),
             Wrap::Initialized(Some(value)) => Ok(Wrap::Initialized(Some(value.clone_in(alloc)?))),
         }

@@ -10,7 +10,8 @@ use Rattle.sf_value.specs.declared.fault.Fault.{Fault}
 use Rattle.sf_value.specs.declared.fault.Fault.TheVariants.{Memory}
 use Rattle.sf_expr.specs.Expressions.{Expression}
 use Rattle.sf_expr.specs.Evaluation.{Scope, functions_in, answer, failed as no_answer, ◌>>=◌, eval}
-use Rattle.sf_expr.specs.Arena.{expression, name_at}
+use Rattle.sf_expr.specs.Arena.{expression, name_at, placed_at}
+use Rattle.sf_expr.specs.Patterns.{pattern_of}
 use Rattle.sf_code.specs.declared.code.Code.{Code}
 use Rattle.sf_code.specs.Names.{scope_with}
 use Rattle.sf_operator.specs.Answers.{Evaluates}
@@ -35,8 +36,8 @@ use Rattle.sf_law.specs.declared.node.PlanPrimitive.{PlanPrimitive}
 use Rattle.sf_law.specs.Entries.{primitive_over, IsCodedPrimitive, IsCodedExpression, IsCodedArgument}
 use Rattle.sf_func.specs.Registries.{AnswersByName}
 use Rattle.sf_law.specs.declared.plan.Plan.{Plan}
-use Rattle.sf_term.specs.Trees.{Primitive, bare, probe, never, with_value, timed, arrow, accumulated, fused, Term, primitive, reference, call, joined, sided, headed}
-use Rattle.sf_law.specs.Arena.{plan_tree, plan_expressions, plan_arguments, header_at, BuildsPlan, builds_primitive, builds_joined, builds_sided, builds_headed, builds_switching, builds_keeping, builds_started, builds_probe, builds_call}
+use Rattle.sf_term.specs.Trees.{Primitive, bare, probe, never, with_value, timed, arrow, accumulated, fused, Term, primitive, reference, call, joined, sided, headed, switching, keeping}
+use Rattle.sf_law.specs.Arena.{plan_tree, plan_expressions, plan_expression_at, plan_arguments, header_at, BuildsPlan, builds_primitive, builds_joined, builds_sided, builds_headed, builds_switching, builds_keeping, builds_started, builds_probe, builds_call}
 use Rattle.sf_mean.specs.Lives.{Step, step, Life, Process, closure, base, Environment, empty, passing, process_started, scope_around, first_input}
 use Rattle.sf_mean.specs.Formulas.{formula}
 use Rattle.sf_mean.specs.Meaning.{Network, Readings, Outcome, gave, faulted, recorded, as_outcome, Cost, count, height, both_costs, over, one_term, Made, nothing_made, value_made, process_made, make, left_life, right_life, join_value, Gives, gives, Outputs, not_begun, and_gave, of_constants, of_form, Form, of_primitive, of_join, goes_on, at_start}
@@ -363,32 +364,49 @@ module _ (φ : AnswersByName) (p : Plan) where
       → (e : Environment) → IsNames φ p names e → Opens φ p t e r
   open_sided d a t names w r builds_sided W h e N = h φ p _ e nothing_made N (λ x. refl) (W _ _ _ _)
 
-  pub open_headed : (i : Heading) (j : ExprId) (c : Option Code) (a : PlanId) (t : Term) (names : Env) (v : Data) (w : Wrap) (r : Result Opened Fault) → BuildsPlan p (NHeaded i j c a) t
+  -- a part with a head opens as it does where its head's code is the head's
+  pub open_builds_headed : (i : Heading) (j : ExprId) (c : Option Code) (a : PlanId) (t : Term) (names : Env) (r : Result Opened Fault) → BuildsPlan p (NHeaded i j c a) t
+      → ((e : Environment) → IsCodedExpression (plan_expressions p) j c → IsNames φ p names e → Opens φ p (headed i (plan_expression_at p j) (plan_tree p a)) e r)
+      → (e : Environment) → IsNames φ p names e → Opens φ p t e r
+  open_builds_headed i j c a t names r (builds_headed C) h e N = h e C N
+
+  pub open_headed : (i : Heading) (j : ExprId) (c : Option Code) (a : PlanId) (names : Env) (v : Data) (w : Wrap) (r : Result Opened Fault)
       → (IsCodedExpression (plan_expressions p) j c → eval (expression (plan_expressions p) j) (scope_in names) ≡ answer v)
       → ((n : Network) (j : Expression) (t : Term) (e : Environment) → Wraps n w (headed i j t) e (value_made v) [] t [])
       → ((φ : AnswersByName) (p : Plan) (t : Term) (e : Environment) (m : Made) → IsNames φ p names e → ((x : Data) → make (network_of_plan φ p) t e x ≡ answer m) → Wraps (network_of_plan φ p) w t e m [] (plan_tree p a) [] → Opens φ p t e r)
-      → (e : Environment) → IsNames φ p names e → Opens φ p t e r
-  open_headed i j c a t names v w r (builds_headed C) g W h e N =
+      → (e : Environment) → IsCodedExpression (plan_expressions p) j c → IsNames φ p names e → Opens φ p (headed i (plan_expression_at p j) (plan_tree p a)) e r
+  open_headed i j c a names v w r g W h e C N =
       h φ p _ e (value_made v) N (λ x. ap (λ s. eval (expression (plan_expressions p) j) s >>= λ v. answer (value_made v)) (sym (scope_is φ p names e N)) ∙ ap (λ o. o >>= λ v. answer (value_made v)) (g C)) (W _ _ _ _)
 
-  pub open_headed_fails : (i : Heading) (j : ExprId) (c : Option Code) (a : PlanId) (t : Term) (names : Env) (f : EvalFault) → BuildsPlan p (NHeaded i j c a) t
-      → (IsCodedExpression (plan_expressions p) j c → Evaluates (Err f) (eval (expression (plan_expressions p) j) (scope_in names))) → (e : Environment) → IsNames φ p names e → Opens φ p t e (Err (fault_from f))
-  open_headed_fails i j c a t names (EValue x) (builds_headed C) g e N =
+  pub open_headed_fails : (i : Heading) (j : ExprId) (c : Option Code) (a : PlanId) (names : Env) (f : EvalFault)
+      → (IsCodedExpression (plan_expressions p) j c → Evaluates (Err f) (eval (expression (plan_expressions p) j) (scope_in names))) → (e : Environment) → IsCodedExpression (plan_expressions p) j c → IsNames φ p names e → Opens φ p (headed i (plan_expression_at p j) (plan_tree p a)) e (Err (fault_from f))
+  open_headed_fails i j c a names (EValue x) g e C N =
       opens_with_fault (λ s. gives not_begun (of_constants (ap (λ s. eval (expression (plan_expressions p) j) s >>= λ v. answer (value_made v)) (sym (scope_is φ p names e N)) ∙ ap (λ o. o >>= λ v. answer (value_made v)) (g C))))
-  open_headed_fails i j c a t names EMemory B g e N = opens_without_memory
+  open_headed_fails i j c a names EMemory g e C N = opens_without_memory
 
   -- a switch waits at first, and its first term isn't born
-  pub open_switch : (w : Switching) (a b : PlanId) (q : PatternId) (t : Term) (names around : Env) → BuildsPlan p (NSwitching w a q b) t → ((e : Environment) → IsNames φ p names e → IsNames φ p around e)
-      → (e : Environment) → IsNames φ p names e → Opens φ p t e (Ok (opened.Switch (record { form = w; running = Unborn (SClosure a around); pattern = q; body = b })))
-  open_switch (Basic w) a b q t names around builds_switching g e N = opens_watching (waits_so refl at_start not_begun (itself (unborn (is_closure (g e N)))))
-  open_switch (Recurring w) a b q t names around builds_switching g e N = opens_watching (recurs_so refl not_begun (itself (unborn (is_closure (g e N)))))
+  pub open_switch : (w : Switching) (a b : PlanId) (q : PatternId) (names around : Env) → ((e : Environment) → IsNames φ p names e → IsNames φ p around e)
+      → (e : Environment) → IsNames φ p names e → Opens φ p (switching w (plan_tree p a) (pattern_of (placed_at (plan_expressions p) q)) (plan_tree p b)) e (Ok (opened.Switch (record { form = w; running = Unborn (SClosure a around); pattern = q; body = b })))
+  open_switch (Basic w) a b q names around g e N = opens_watching (waits_so refl at_start not_begun (itself (unborn (is_closure (g e N)))))
+  open_switch (Recurring w) a b q names around g e N = opens_watching (recurs_so refl not_begun (itself (unborn (is_closure (g e N)))))
 
   -- and so does one that keeps its source, whose observer isn't born either
-  pub open_keeping : (w : Observation) (a b c : PlanId) (k : NameId) (q : PatternId) (t : Term) (names one two : Env) (x : State) → BuildsPlan p (NKeeping w a b k q c) t
+  pub open_keeping : (w : Observation) (a b c : PlanId) (k : NameId) (q : PatternId) (names one two : Env) (x : State)
       → ((e : Environment) → IsNames φ p names e → IsNames φ p one e) → ((e : Environment) → IsNames φ p names e → IsNames φ p two e)
-      → (e : Environment) → IsNames φ p names e → Opens φ p t e (Ok (opened.Keeping (record { shown = w; first = a; source = Unborn (SClosure a one); before = x; observer = Unborn (SClosure b two); name = k; pattern = q; body = c })))
-  open_keeping w a b c k q t names one two x builds_keeping f g e N =
+      → (e : Environment) → IsNames φ p names e → Opens φ p (keeping w (plan_tree p a) (plan_tree p b) (name_at (plan_expressions p) k) (pattern_of (placed_at (plan_expressions p) q)) (plan_tree p c)) e (Ok (opened.Keeping (record { shown = w; first = a; source = Unborn (SClosure a one); before = x; observer = Unborn (SClosure b two); name = k; pattern = q; body = c })))
+  open_keeping w a b c k q names one two x f g e N =
       opens_keeping (keeps_so at_start not_begun not_begun (itself (unborn (is_closure (f e N)))) (itself (unborn (is_closure (g e N)))))
+
+  -- nodes of switches open as their terms do
+  pub open_builds_switch : (w : Switching) (a b : PlanId) (q : PatternId) (t : Term) (names : Env) (r : Result Opened Fault) → BuildsPlan p (NSwitching w a q b) t
+      → ((e : Environment) → IsNames φ p names e → Opens φ p (switching w (plan_tree p a) (pattern_of (placed_at (plan_expressions p) q)) (plan_tree p b)) e r)
+      → (e : Environment) → IsNames φ p names e → Opens φ p t e r
+  open_builds_switch w a b q t names r builds_switching h = h
+
+  pub open_builds_keeping : (w : Observation) (a b c : PlanId) (k : NameId) (q : PatternId) (t : Term) (names : Env) (r : Result Opened Fault) → BuildsPlan p (NKeeping w a b k q c) t
+      → ((e : Environment) → IsNames φ p names e → Opens φ p (keeping w (plan_tree p a) (plan_tree p b) (name_at (plan_expressions p) k) (pattern_of (placed_at (plan_expressions p) q)) (plan_tree p c)) e r)
+      → (e : Environment) → IsNames φ p names e → Opens φ p t e r
+  open_builds_keeping w a b c k q t names r builds_keeping h = h
 
   pub open_started : (w : Start) (k : NameId) (t : Term) (names : Env) (a : State) → BuildsPlan p (NStarted w k) t
       → ((e : Environment) → IsNames φ p names e → Stands φ p a (process_started w (name_at (plan_expressions p) k) e) [])

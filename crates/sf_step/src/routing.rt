@@ -1,5 +1,5 @@
 //! What values are taken apart into, and what forms with one part keep at first.
-ghost use Rattle.std.specs.Prelude.{◌≡◌, [], IfOk, None, unwrap_or};
+ghost use Rattle.std.specs.Prelude.{◌≡◌, [], IfOk, OnOk, None, unwrap_or};
 ghost use Rattle.std.specs.Option.{option_map};
 ghost use Rattle.sf_value.specs.Values.{first_of, second_of};
 ghost use Rattle.sf_expr.specs.Expressions.{Expression};
@@ -9,7 +9,7 @@ ghost use Rattle.sf_mean.specs.Formulas.{occurring};
 ghost use Rattle.sf_mean.specs.Meaning.{Network, Made, value_made, switched_value};
 ghost use Rattle.sf_state.specs.Standing.{Wraps};
 
-use sf_state::Wrap;
+use sf_state::{Feedback, Wrap};
 use sf_term::{Heading, Observation, Side};
 use sf_value::{Form, Value};
 use std::alloc::{AllocError, Global};
@@ -72,6 +72,21 @@ pub(crate) fn switched(shown: Observation, old: Value, new: Value) -> Value
     }
 }
 
+/// Feeds back the second part of a pair; the first is put in place of a value. A value that is no pair stands for both.
+#[inline(always)]
+pub(crate) fn feed_back(
+    alloc: Global,
+    feedback: &mut Feedback,
+    both: &mut Value,
+    value: &mut Value,
+) -> Result<(), AllocError>
+    ensures output { OnOk result (value.new ≡ first_of both.old) }
+    ensures next { OnOk result (feedback.new ≡ second_of both.old) }
+{
+    let (output, next) = halves(alloc, both)?;
+    feedback.keep(alloc, output, next, value)
+}
+
 /// Puts the value of a head, which is kept before the first sample alone, in the place of the part's.
 pub(crate) fn put_first(first: &mut Option<Value>, value: &mut Value)
     ensures value { value.new ≡ unwrap_or first.old value.old }
@@ -126,12 +141,12 @@ pub(crate) fn on_side(side: Side) -> Wrap
 }
 
 /// A part with a value at its head, before its first step.
-pub(crate) fn with_head(heading: Heading, value: Value) -> Wrap
-    ensures { (n : Network) (i : Expression) (t : Term) (e : Environment) →
-        Wraps n result (headed heading i t) e (value_made value) [] t [] }
+pub(crate) fn with_head(alloc: Global, heading: Heading, value: Value) -> Result<Wrap, AllocError>
+    ensures { IfOk result (λ wrap. (n : Network) (i : Expression) (t : Term) (e : Environment) →
+        Wraps n wrap (headed heading i t) e (value_made value) [] t []) }
 {
     match heading {
-        Heading::LoopPre => Wrap::Loop(value),
-        Heading::Initialized => Wrap::Initialized(Some(value)),
+        Heading::LoopPre => Ok(Wrap::Loop(Feedback::new(alloc, value)?)),
+        Heading::Initialized => Ok(Wrap::Initialized(Some(value))),
     }
 }

@@ -4,8 +4,11 @@ ghost use Rattle.sf_value.specs.Values.{Data, pair};
 ghost use Rattle.sf_func.specs.Registries.{AnswersByName};
 ghost use Rattle.sf_expr.specs.Evaluation.{answer};
 ghost use Rattle.sf_law.specs.declared.plan.Plan.{Plan as PlanOf};
-ghost use Rattle.sf_term.specs.Trees.{Term, joined as joined_term};
-ghost use Rattle.sf_law.specs.Arena.{plan_tree, network_of_plan};
+ghost use Rattle.sf_expr.specs.Arena.{placed_at, name_at};
+ghost use Rattle.sf_expr.specs.Patterns.{pattern_of};
+ghost use Rattle.sf_term.specs.Trees.{Term, joined as joined_term, headed as headed_term, switching as switching_term, keeping as keeping_term};
+ghost use Rattle.sf_law.specs.Arena.{plan_tree, plan_expressions, plan_expression_at, network_of_plan};
+ghost use Rattle.sf_law.specs.Entries.{IsCodedExpression};
 ghost use Rattle.sf_mean.specs.Lives.{step, Life, Process as ProcessOf, Environment};
 ghost use Rattle.sf_mean.specs.Meaning.{Made, make};
 ghost use Rattle.sf_state.specs.Standing.{Stands, IsNames, Wraps};
@@ -18,16 +21,18 @@ use crate::calling::{called, started};
 use crate::context::{SampleContext, fault_of};
 use crate::meter::{Meter, Stop};
 use crate::routing::{
-    halves, on_side, parts, payload_of, put_first, switched, unshare_half, with_head,
+    feed_back, halves, on_side, parts, payload_of, put_first, switched, unshare_half, with_head,
 };
+use sf_code::Code;
+use sf_expr::{ExprId, NameId, PatternId};
 use sf_func::Holds;
 use sf_law::{Plan, PlanId, PlanNode};
 use sf_prim::{PrimState, constant};
 use sf_state::{
-    Env, Keeping, Live, NamesIn, Process, State, Switch, Wrap, unshare, unshare_keeping,
+    Env, Feedback, Keeping, Live, NamesIn, Process, State, Switch, Wrap, unshare, unshare_keeping,
     unshare_switch,
 };
-use sf_term::{Join, Observation, Switching};
+use sf_term::{Heading, Join, Observation, Switching};
 use sf_value::{Fault, Value};
 use std::alloc::{AllocError, Global};
 use std::mem;
@@ -422,7 +427,14 @@ fn step_live<R: Holds>(
             Join::FannedOut => step_fan(context, left, right, inside, value, meter),
         },
         Live::Pipeline(stages) => step_pipeline(context, stages, inside, value, meter),
-        Live::Wrap(wrap, part) => step_wrap(context, wrap, part, inside, value, meter),
+        Live::Wrap(wrap, part) => match wrap {
+            Wrap::First => step_first(context, part, inside, value, meter),
+            Wrap::Second => step_second(context, part, inside, value, meter),
+            Wrap::Loop(feedback) => step_loop(context, feedback, part, inside, value, meter),
+            Wrap::Initialized(first) => step_initialized(
+                context, first, part, inside, value, meter,
+            ),
+        },
     }
 }
 
@@ -517,58 +529,93 @@ fn step_pipeline<R: Holds>(
     Ok(())
 }
 
-// The next sample of a form with one part, likewise.
+// The next sample of a part on the first halves of pairs, likewise.
 #[cycle(step)]
 #[inline(never)]
-fn step_wrap<R: Holds>(
+fn step_first<R: Holds>(
     context: &SampleContext<R>,
-    wrap: &mut Wrap,
     part: &mut State,
     inside: u64,
     value: &mut Value,
     meter: &mut Meter,
 ) -> Result<(), Stop>
     ensures grows { entered_of meter.old ≤ entered_of meter.new }
-    ensures answers { LiveSteps (R.answers context.now.functions.now) (plan_in context.now) (Live.Wrap wrap.old part.old) (step (dt_in context.now) value.old)
-        (left_or result (Live.Wrap wrap.new part.new, value.new) (fault_in meter.new)) meter.old meter.new inside }
+    ensures answers { LiveSteps (R.answers context.now.functions.now) (plan_in context.now) (Live.Wrap Wrap.First part.old) (step (dt_in context.now) value.old)
+        (left_or result (Live.Wrap Wrap.First part.new, value.new) (fault_in meter.new)) meter.old meter.new inside }
 {
-    match wrap {
-        Wrap::First => {
-            let Ok((mut first, second)) = halves(context.alloc, value) else {
-                return Err(meter.stop(Fault::Memory));
-            };
-            step_half(context, part, inside, &mut first, meter)?;
-            *value = Value::of_halves(first, second);
-            Ok(())
-        }
-        Wrap::Second => {
-            let Ok((first, mut second)) = halves(context.alloc, value) else {
-                return Err(meter.stop(Fault::Memory));
-            };
-            step_half(context, part, inside, &mut second, meter)?;
-            *value = Value::of_halves(first, second);
-            Ok(())
-        }
-        Wrap::Loop(next) => {
-            let input = mem::replace(value, Value::int(0));
-            let fed = mem::replace(next, Value::int(0));
-            let Ok(mut both) = Value::pair(context.alloc, input, fed) else {
-                return Err(meter.stop(Fault::Memory));
-            };
-            step_state(context, part, inside, &mut both, meter)?;
-            let Ok((output, fed)) = parts(context.alloc, both) else {
-                return Err(meter.stop(Fault::Memory));
-            };
-            *value = output;
-            *next = fed;
-            Ok(())
-        }
-        Wrap::Initialized(first) => {
-            step_state(context, part, inside, value, meter)?;
-            put_first(first, value);
-            Ok(())
-        }
+    let Ok((mut first, second)) = halves(context.alloc, value) else {
+        return Err(meter.stop(Fault::Memory));
+    };
+    step_half(context, part, inside, &mut first, meter)?;
+    *value = Value::of_halves(first, second);
+    Ok(())
+}
+
+// The next sample of a part on the second halves, likewise.
+#[cycle(step)]
+#[inline(never)]
+fn step_second<R: Holds>(
+    context: &SampleContext<R>,
+    part: &mut State,
+    inside: u64,
+    value: &mut Value,
+    meter: &mut Meter,
+) -> Result<(), Stop>
+    ensures grows { entered_of meter.old ≤ entered_of meter.new }
+    ensures answers { LiveSteps (R.answers context.now.functions.now) (plan_in context.now) (Live.Wrap Wrap.Second part.old) (step (dt_in context.now) value.old)
+        (left_or result (Live.Wrap Wrap.Second part.new, value.new) (fault_in meter.new)) meter.old meter.new inside }
+{
+    let Ok((first, mut second)) = halves(context.alloc, value) else {
+        return Err(meter.stop(Fault::Memory));
+    };
+    step_half(context, part, inside, &mut second, meter)?;
+    *value = Value::of_halves(first, second);
+    Ok(())
+}
+
+// The next sample of a part that is fed back the second half of its value, likewise.
+#[cycle(step)]
+#[inline(never)]
+fn step_loop<R: Holds>(
+    context: &SampleContext<R>,
+    feedback: &mut Feedback,
+    part: &mut State,
+    inside: u64,
+    value: &mut Value,
+    meter: &mut Meter,
+) -> Result<(), Stop>
+    ensures grows { entered_of meter.old ≤ entered_of meter.new }
+    ensures answers { LiveSteps (R.answers context.now.functions.now) (plan_in context.now) (Live.Wrap (Wrap.Loop feedback.old) part.old) (step (dt_in context.now) value.old)
+        (left_or result (Live.Wrap (Wrap.Loop feedback.new) part.new, value.new) (fault_in meter.new)) meter.old meter.new inside }
+{
+    let Ok(mut both) = feedback.beside(context.alloc, value) else {
+        return Err(meter.stop(Fault::Memory));
+    };
+    step_state(context, part, inside, &mut both, meter)?;
+    match feed_back(context.alloc, feedback, &mut both, value) {
+        Ok(()) => Ok(()),
+        Err(_) => Err(meter.stop(Fault::Memory)),
     }
+}
+
+// The next sample of a part with a value at its head, likewise.
+#[cycle(step)]
+#[inline(never)]
+fn step_initialized<R: Holds>(
+    context: &SampleContext<R>,
+    first: &mut Option<Value>,
+    part: &mut State,
+    inside: u64,
+    value: &mut Value,
+    meter: &mut Meter,
+) -> Result<(), Stop>
+    ensures grows { entered_of meter.old ≤ entered_of meter.new }
+    ensures answers { LiveSteps (R.answers context.now.functions.now) (plan_in context.now) (Live.Wrap (Wrap.Initialized first.old) part.old) (step (dt_in context.now) value.old)
+        (left_or result (Live.Wrap (Wrap.Initialized first.new) part.new, value.new) (fault_in meter.new)) meter.old meter.new inside }
+{
+    step_state(context, part, inside, value, meter)?;
+    put_first(first, value);
+    Ok(())
 }
 
 // The next sample of a primitive, which has been counted, likewise.
@@ -707,13 +754,13 @@ fn open<R: Holds>(context: &SampleContext<R>, term: PlanId, names: &Env) -> Resu
     ensures { (e : Environment) → IsNames (R.answers context.now.functions.now) (plan_in context.now) names.now e →
         Opens (R.answers context.now.functions.now) (plan_in context.now) (plan_tree (plan_in context.now) term) e result }
 {
-    let exprs = context.plan.expressions();
-    let around = NamesIn {
-        expressions: exprs,
-        names,
-    };
     match context.plan.node(term) {
         PlanNode::Primitive(primitive) => {
+            let exprs = context.plan.expressions();
+            let around = NamesIn {
+                expressions: exprs,
+                names,
+            };
             match PrimState::born(context.alloc, exprs, primitive, context.functions, &around) {
                 Ok(prim) => Ok(Opened::Primitive(prim)),
                 Err(fault) => Err(fault_of(fault)),
@@ -725,53 +772,19 @@ fn open<R: Holds>(context: &SampleContext<R>, term: PlanId, names: &Env) -> Resu
         }
         PlanNode::Sided(side, part) => wrapped(on_side(*side), *part, names),
         PlanNode::Headed(heading, value, code, part) => {
-            match constant(
-                context.alloc,
-                exprs,
-                *value,
-                code,
-                context.functions,
-                &around,
-            ) {
-                Ok(head) => wrapped(with_head(*heading, head), *part, names),
-                Err(fault) => Err(fault_of(fault)),
-            }
+            headed(context, *heading, *value, code, *part, names)
         }
         PlanNode::Switching(form, first, pattern, body) => {
-            let shared = names.share()?;
-            Ok(Opened::Switch(Switch {
-                form: *form,
-                running: State::Unborn(Process {
-                    term: *first,
-                    names: shared,
-                }),
-                pattern: *pattern,
-                body: *body,
-            }))
+            let switch = switching(*form, *first, *pattern, *body, names)?;
+            Ok(Opened::Switch(switch))
         }
         PlanNode::Pipeline(stages) => {
             let begun = begin_all(context.alloc, stages, names)?;
             Ok(Opened::Live(Live::Pipeline(begun)))
         }
         PlanNode::Keeping(shown, source, observer, name, pattern, body) => {
-            let one = names.share()?;
-            let two = names.share()?;
-            Ok(Opened::Keeping(Keeping {
-                shown: *shown,
-                first: *source,
-                source: State::Unborn(Process {
-                    term: *source,
-                    names: one,
-                }),
-                before: State::unborn(*source),
-                observer: State::Unborn(Process {
-                    term: *observer,
-                    names: two,
-                }),
-                name: *name,
-                pattern: *pattern,
-                body: *body,
-            }))
+            let kept = keeping(*shown, *source, *observer, *name, *pattern, *body, names)?;
+            Ok(Opened::Keeping(kept))
         }
         PlanNode::Started(start, name) => {
             let process = started(context.alloc, context.plan, names, *start, *name)?;
@@ -804,6 +817,97 @@ fn joined(join: Join, left: PlanId, right: PlanId, names: &Env) -> Result<Live, 
         names: two,
     });
     Ok(Live::Join(join, first, second))
+}
+
+// A part with a value at its head, before its first sample, with the names around it.
+fn headed<R: Holds>(
+    context: &SampleContext<R>,
+    heading: Heading,
+    value: ExprId,
+    code: &Option<Code>,
+    part: PlanId,
+    names: &Env,
+) -> Result<Opened, Fault>
+    ensures { let p = plan_in context.now in (e : Environment) → IsCodedExpression (plan_expressions p) value code.now →
+        IsNames (R.answers context.now.functions.now) p names.now e →
+        Opens (R.answers context.now.functions.now) p (headed_term heading (plan_expression_at p value) (plan_tree p part)) e result }
+{
+    let exprs = context.plan.expressions();
+    let around = NamesIn {
+        expressions: exprs,
+        names,
+    };
+    match constant(
+        context.alloc,
+        exprs,
+        value,
+        code,
+        context.functions,
+        &around,
+    ) {
+        Ok(head) => {
+            let wrap = with_head(context.alloc, heading, head)?;
+            wrapped(wrap, part, names)
+        }
+        Err(fault) => Err(fault_of(fault)),
+    }
+}
+
+// A switch before its first sample, with the names around it.
+fn switching(
+    form: Switching,
+    first: PlanId,
+    pattern: PatternId,
+    body: PlanId,
+    names: &Env,
+) -> Result<Switch, AllocError>
+    ensures { IfOk result (λ switch. (φ : AnswersByName) (p : PlanOf) (e : Environment) → IsNames φ p names.now e →
+        Opens φ p (switching_term form (plan_tree p first) (pattern_of (placed_at (plan_expressions p) pattern)) (plan_tree p body)) e (Ok (Opened.Switch switch))) }
+{
+    let shared = names.share()?;
+    Ok(Switch {
+        form,
+        running: State::Unborn(Process {
+            term: first,
+            names: shared,
+        }),
+        pattern,
+        body,
+    })
+}
+
+// A switch that keeps its source, likewise.
+fn keeping(
+    shown: Observation,
+    source: PlanId,
+    observer: PlanId,
+    name: NameId,
+    pattern: PatternId,
+    body: PlanId,
+    names: &Env,
+) -> Result<Keeping, AllocError>
+    ensures { IfOk result (λ kept. (φ : AnswersByName) (p : PlanOf) (e : Environment) → IsNames φ p names.now e →
+        Opens φ p (keeping_term shown (plan_tree p source) (plan_tree p observer) (name_at (plan_expressions p) name) (pattern_of (placed_at (plan_expressions p) pattern)) (plan_tree p body))
+        e (Ok (Opened.Keeping kept))) }
+{
+    let one = names.share()?;
+    let two = names.share()?;
+    Ok(Keeping {
+        shown,
+        first: source,
+        source: State::Unborn(Process {
+            term: source,
+            names: one,
+        }),
+        before: State::unborn(source),
+        observer: State::Unborn(Process {
+            term: observer,
+            names: two,
+        }),
+        name,
+        pattern,
+        body,
+    })
 }
 
 // Stages before their first sample, with the names around them.

@@ -1,5 +1,5 @@
 //! Networks.
-ghost use Rattle.std.specs.Prelude.{◌≡◌, ◌≢◌, ◌≤◌, ◌-◌, ◌^◌, [], length, drop, IfOk, IfErr, OnOk};
+ghost use Rattle.std.specs.Prelude.{◌≡◌, ◌≢◌, IfOk, IfErr, OnOk};
 ghost use Rattle.sf_term.specs.Arena.{templates_of, headers_of};
 ghost use Rattle.sf_term.specs.Trees.{Templates};
 ghost use Rattle.sf_refusal.specs.Refusals.{OrMemory};

@@ -1,7 +1,7 @@
 //! Terms.
-ghost use Rattle.std.specs.Prelude.{◌≡◌, ◌≢◌, ◌≤◌, IfOk, suc, List, [], ◌∷◌, length, false};
+ghost use Rattle.std.specs.Prelude.{◌≡◌, ◌≢◌, ◌≤◌, IfOk, suc, [], ◌∷◌, length, false};
 ghost use Rattle.sf_term.specs.Trees.{Term, no_arguments, primitive as primitive_form, bare as bare_form};
-ghost use Rattle.sf_lex.specs.Tokens.{Tok, token_of, name as name_token, name_bytes};
+ghost use Rattle.sf_lex.specs.Tokens.{token_of, name as name_token, name_bytes};
 ghost use Rattle.sf_parse.specs.Answers.{toks, ahead, StopsReading, ReadsAs, counts_of};
 ghost use Rattle.sf_text.specs.Answers.{ReadsTerm, ReadsTermForm, ReadsBody, ReadsArgument, ReadsArguments};
 ghost use Rattle.sf_grammar.specs.Placing.{PatternPlaced, TermPlaced, ArgumentPlaced, EachArgumentPlaced, ArgumentsPlaced};

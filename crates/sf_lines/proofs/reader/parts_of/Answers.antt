@@ -6,22 +6,22 @@ use Rattle.sf_lines.proofs.reader.parts_of.Goals as goal
 
 pub returns-then-ne : goal.returns-then-ne
 returns-then-ne c =
-    let s = c.in-Some-step_at.ensures in
-    (s.step, s.capped, with_value s.cut (differs c.in-Some-step_at.value.now c.as_slice.result.now c.as_slice.ensures (sym c.if-ne.true ∙ c.ne.ensures)))
+    let s = c.in-Some.ensures in
+    (s.step, s.capped, with_value s.cut (differs c.in-Some.value.now c.as_slice.result.now c.as_slice.ensures (sym c.if-ne.true ∙ c.ne.ensures)))
 
 pub returns-then-step-gt0 : goal.returns-then-step-gt0
 returns-then-step-gt0 c =
-    let s = c.in-Some-step_at.ensures in
-    let value = equals c.in-Some-step_at.value.now c.as_slice.result.now c.as_slice.ensures (sym c.if-ne.false ∙ c.ne.ensures) in
-    (s.step, s.capped, unchanged (s.cut ∙ ap (λ x. natural s.step ++ 32 ∷ x) value) (step_positive c.in-Some-step_at.step s.step s.capped c.if-step-gt0.true))
+    let s = c.in-Some.ensures in
+    let value = equals c.in-Some.value.now c.as_slice.result.now c.as_slice.ensures (sym c.if-ne.false ∙ c.ne.ensures) in
+    (s.step, s.capped, unchanged (s.cut ∙ ap (λ x. natural s.step ++ 32 ∷ x) value) (step_positive c.in-Some.step s.step s.capped c.if-step-gt0.true))
 
 pub returns-else-step-gt0 : goal.returns-else-step-gt0
 returns-else-step-gt0 c =
-    let value = equals c.in-Some-step_at.value.now c.as_slice.result.now c.as_slice.ensures (sym c.if-ne.false ∙ c.ne.ensures) in
-    formless_zero c.args.bytes.now c.in-Some-step_at.step c.in-Some-step_at.value.now (not_blank _ _ c.if-is_blank.false c.is_blank.ensures) c.in-Some-step_at.ensures value (omega arith)
-
-pub returns-in-Some : goal.returns-in-Some
-returns-in-Some c = let n = c.in-Some.ensures in with_save n.cut n.named
+    let value = equals c.in-Some.value.now c.as_slice.result.now c.as_slice.ensures (sym c.if-ne.false ∙ c.ne.ensures) in
+    formless_zero c.args.bytes.now c.in-Some.step c.in-Some.value.now (not_blank _ _ c.if-is_blank.false c.is_blank.ensures) c.in-Some.ensures value (omega arith)
 
 pub returns-in-Some-name_behind : goal.returns-in-Some-name_behind
-returns-in-Some-name_behind c = let n = c.in-Some-name_behind.ensures in with_back n.cut n.named
+returns-in-Some-name_behind c = let n = c.in-Some-name_behind.ensures in with_save n.cut n.named
+
+pub returns-in-Some-name_behind-2 : goal.returns-in-Some-name_behind-2
+returns-in-Some-name_behind-2 c = let n = c.in-Some-name_behind-2.ensures in with_back n.cut n.named

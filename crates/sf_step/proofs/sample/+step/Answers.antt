@@ -1,7 +1,7 @@
 use Rattle.std.proofs.Common.{◌≡◌, length, Ok, Err, refl, ap, ◌∙◌, subst, arith}
 use Rattle.std.specs.Vec.{with_items}
 use Rattle.std.proofs.lemmas.List.{with_items_is}
-use Rattle.sf_state.specs.declared.state.Wrap.TheVariants.{Loop, Initialized}
+use Rattle.sf_state.specs.declared.state.Wrap.TheVariants.{First, Second, Loop, Initialized}
 use Rattle.sf_term.specs.declared.form.Join.TheVariants.{InSequence, InParallel, FannedOut}
 use Rattle.sf_value.specs.Values.{first_of, second_of}
 use Rattle.sf_mean.specs.Lives.{step, Life, Process}
@@ -355,62 +355,68 @@ step_fan-returns-clause-answers g t c =
     c.step_state.new.state c.step_state.new.value c.args.value.now refl c.in_ok-step_state.ensures.answers
     c.step_state-2.new.meter c.step_state-2.new.state c.step_state-2.new.value c.in-Ok-pair.both (rw c.replace-second.ensures.value at c.in-Ok-pair.ensures) c.in_ok-step_state-2.ensures.answers
 
--- ## step_wrap
+-- ## step_first
 
-pub step_wrap-returns-in_err-step_half-in-First-clause-answers : goal.step_wrap-returns-in_err-step_half-in-First-clause-answers
-step_wrap-returns-in_err-step_half-in-First-clause-answers g t c = λ m depth t P L R.
-    pass_exit _ _ c.from_residual.ensures.0 (wrap_fails (g.R.Holds.answers c.args.context.now.functions.now) c.args.context.now.plan.now c.args.wrap.now c.args.part.now c.args.meter.now c.step_half.new.meter c.args.inside c.args.context.now.dt c.args.value.now _ (rw c.in-First.is c.in-Ok.ensures.0)
-    _ c.in_err-step_half-in-First.ensures.answers m depth t P L R)
+pub step_first-returns-in_default-clause-answers : goal.step_first-returns-in_default-clause-answers
+step_first-returns-in_default-clause-answers g t c = λ m depth t P L R. early_memory (g.R.Holds.answers c.args.context.now.functions.now) c.args.context.now.plan.now t c.stop.ensures.entered c.stop.ensures.height c.stop.ensures.fault
 
-pub step_wrap-returns-in_err-step_half-in-Second-clause-answers : goal.step_wrap-returns-in_err-step_half-in-Second-clause-answers
-step_wrap-returns-in_err-step_half-in-Second-clause-answers g t c = λ m depth t P L R.
-    pass_exit _ _ c.from_residual-in_err-step_half-in-Second.ensures.0 (wrap_fails (g.R.Holds.answers c.args.context.now.functions.now) c.args.context.now.plan.now c.args.wrap.now c.args.part.now c.args.meter.now c.step_half-in-Second.new.meter c.args.inside c.args.context.now.dt c.args.value.now _ (rw c.in-Second.is c.in-Ok-halves.ensures.1)
-    _ c.in_err-step_half-in-Second.ensures.answers m depth t P L R)
+pub step_first-returns-in_err-step_half-clause-answers : goal.step_first-returns-in_err-step_half-clause-answers
+step_first-returns-in_err-step_half-clause-answers g t c = λ m depth t P L R.
+    pass_exit _ _ c.from_residual.ensures.0 (wrap_fails (g.R.Holds.answers c.args.context.now.functions.now) c.args.context.now.plan.now First c.args.part.now c.args.meter.now c.step_half.new.meter c.args.inside c.args.context.now.dt c.args.value.now _ c.in-Ok.ensures.0
+    _ c.in_err-step_half.ensures.answers m depth t P L R)
 
-pub step_wrap-returns-in_err-step_state-in-Loop-clause-answers : goal.step_wrap-returns-in_err-step_state-in-Loop-clause-answers
-step_wrap-returns-in_err-step_state-in-Loop-clause-answers g t c = λ m depth t P L R.
-    pass_exit _ _ c.from_residual-in_err-step_state-in-Loop.ensures.0 (wrap_fails (g.R.Holds.answers c.args.context.now.functions.now) c.args.context.now.plan.now c.args.wrap.now c.args.part.now c.args.meter.now c.step_state.new.meter c.args.inside c.args.context.now.dt c.args.value.now c.in-Ok-pair.both (rw c.in-Loop.is (rw (c.replace-input.ensures.value, c.replace-fed.ensures.value) at c.in-Ok-pair.ensures))
-    _ c.in_err-step_state-in-Loop.ensures.answers m depth t P L R)
+pub step_first-returns-clause-answers : goal.step_first-returns-clause-answers
+step_first-returns-clause-answers g t c =
+    wrap_steps (g.R.Holds.answers c.args.context.now.functions.now) c.args.context.now.plan.now First c.args.part.now c.args.meter.now c.step_half.new.meter c.args.inside c.args.context.now.dt c.args.value.now _ c.in-Ok.ensures.0
+    c.step_half.new.state First c.step_half.new.half.value c.of_halves.result refl (rw c.in-Ok.ensures.1 at c.of_halves.ensures) c.in_ok-step_half.ensures.answers
 
-pub step_wrap-returns-in_default-clause-answers : goal.step_wrap-returns-in_default-clause-answers
-step_wrap-returns-in_default-clause-answers g t c = λ m depth t P L R. early_memory (g.R.Holds.answers c.args.context.now.functions.now) c.args.context.now.plan.now t c.stop.ensures.entered c.stop.ensures.height c.stop.ensures.fault
+-- ## step_second
 
-pub step_wrap-returns-in_default-halves-clause-answers : goal.step_wrap-returns-in_default-halves-clause-answers
-step_wrap-returns-in_default-halves-clause-answers g t c = λ m depth t P L R. early_memory (g.R.Holds.answers c.args.context.now.functions.now) c.args.context.now.plan.now t c.stop-in_default-halves.ensures.entered c.stop-in_default-halves.ensures.height c.stop-in_default-halves.ensures.fault
+pub step_second-returns-in_default-clause-answers : goal.step_second-returns-in_default-clause-answers
+step_second-returns-in_default-clause-answers g t c = λ m depth t P L R. early_memory (g.R.Holds.answers c.args.context.now.functions.now) c.args.context.now.plan.now t c.stop.ensures.entered c.stop.ensures.height c.stop.ensures.fault
 
-pub step_wrap-returns-in_default-pair-clause-answers : goal.step_wrap-returns-in_default-pair-clause-answers
-step_wrap-returns-in_default-pair-clause-answers g t c = λ m depth t P L R. early_memory (g.R.Holds.answers c.args.context.now.functions.now) c.args.context.now.plan.now t c.stop-in_default-pair.ensures.entered c.stop-in_default-pair.ensures.height c.stop-in_default-pair.ensures.fault
+pub step_second-returns-in_err-step_half-clause-answers : goal.step_second-returns-in_err-step_half-clause-answers
+step_second-returns-in_err-step_half-clause-answers g t c = λ m depth t P L R.
+    pass_exit _ _ c.from_residual.ensures.0 (wrap_fails (g.R.Holds.answers c.args.context.now.functions.now) c.args.context.now.plan.now Second c.args.part.now c.args.meter.now c.step_half.new.meter c.args.inside c.args.context.now.dt c.args.value.now _ c.in-Ok.ensures.1
+    _ c.in_err-step_half.ensures.answers m depth t P L R)
 
-pub step_wrap-returns-in_ok-step_half-in-First-clause-answers : goal.step_wrap-returns-in_ok-step_half-in-First-clause-answers
-step_wrap-returns-in_ok-step_half-in-First-clause-answers g t c =
-    wrap_steps (g.R.Holds.answers c.args.context.now.functions.now) c.args.context.now.plan.now c.args.wrap.now c.args.part.now c.args.meter.now c.step_half.new.meter c.args.inside c.args.context.now.dt c.args.value.now _ (rw c.in-First.is c.in-Ok.ensures.0)
-    c.step_half.new.state c.args.wrap.now c.step_half.new.half.value c.of_halves.result (rw c.in-First.is refl) (rw c.in-First.is (rw c.in-Ok.ensures.1 at c.of_halves.ensures)) c.in_ok-step_half-in-First.ensures.answers
+pub step_second-returns-clause-answers : goal.step_second-returns-clause-answers
+step_second-returns-clause-answers g t c =
+    wrap_steps (g.R.Holds.answers c.args.context.now.functions.now) c.args.context.now.plan.now Second c.args.part.now c.args.meter.now c.step_half.new.meter c.args.inside c.args.context.now.dt c.args.value.now _ c.in-Ok.ensures.1
+    c.step_half.new.state Second c.step_half.new.half.value c.of_halves.result refl (rw c.in-Ok.ensures.0 at c.of_halves.ensures) c.in_ok-step_half.ensures.answers
 
-pub step_wrap-returns-in_ok-step_half-in-Second-clause-answers : goal.step_wrap-returns-in_ok-step_half-in-Second-clause-answers
-step_wrap-returns-in_ok-step_half-in-Second-clause-answers g t c =
-    wrap_steps (g.R.Holds.answers c.args.context.now.functions.now) c.args.context.now.plan.now c.args.wrap.now c.args.part.now c.args.meter.now c.step_half-in-Second.new.meter c.args.inside c.args.context.now.dt c.args.value.now _ (rw c.in-Second.is c.in-Ok-halves.ensures.1)
-    c.step_half-in-Second.new.state c.args.wrap.now c.step_half-in-Second.new.half.value c.of_halves-in-Second.result (rw c.in-Second.is refl) (rw c.in-Second.is (rw c.in-Ok-halves.ensures.0 at c.of_halves-in-Second.ensures)) c.in_ok-step_half-in-Second.ensures.answers
+-- ## step_loop
 
-pub step_wrap-returns-in_default-parts-clause-answers : goal.step_wrap-returns-in_default-parts-clause-answers
-step_wrap-returns-in_default-parts-clause-answers g t c =
-    late_memory (g.R.Holds.answers c.args.context.now.functions.now) c.args.context.now.plan.now (wrap_steps (g.R.Holds.answers c.args.context.now.functions.now) c.args.context.now.plan.now c.args.wrap.now c.args.part.now c.args.meter.now c.step_state.new.meter c.args.inside c.args.context.now.dt c.args.value.now c.in-Ok-pair.both (rw c.in-Loop.is (rw (c.replace-input.ensures.value, c.replace-fed.ensures.value) at c.in-Ok-pair.ensures))
-    c.step_state.new.state _ c.step_state.new.value _ refl refl c.in_ok-step_state-in-Loop.ensures.answers)
-    c.stop-in_default-parts.ensures.entered c.stop-in_default-parts.ensures.height c.stop-in_default-parts.ensures.fault
+pub step_loop-returns-in_default-clause-answers : goal.step_loop-returns-in_default-clause-answers
+step_loop-returns-in_default-clause-answers g t c = λ m depth t P L R. early_memory (g.R.Holds.answers c.args.context.now.functions.now) c.args.context.now.plan.now t c.stop.ensures.entered c.stop.ensures.height c.stop.ensures.fault
 
-pub step_wrap-returns-in-Ok-parts-clause-answers : goal.step_wrap-returns-in-Ok-parts-clause-answers
-step_wrap-returns-in-Ok-parts-clause-answers g t c =
-    wrap_steps (g.R.Holds.answers c.args.context.now.functions.now) c.args.context.now.plan.now c.args.wrap.now c.args.part.now c.args.meter.now c.step_state.new.meter c.args.inside c.args.context.now.dt c.args.value.now c.in-Ok-pair.both (rw c.in-Loop.is (rw (c.replace-input.ensures.value, c.replace-fed.ensures.value) at c.in-Ok-pair.ensures))
-    c.step_state.new.state (Loop c.in-Ok-parts.fed) c.step_state.new.value c.in-Ok-parts.output (rw c.in-Loop.is (ap Loop c.in-Ok-parts.ensures.1)) (rw c.in-Loop.is c.in-Ok-parts.ensures.0) c.in_ok-step_state-in-Loop.ensures.answers
+pub step_loop-returns-in_err-step_state-clause-answers : goal.step_loop-returns-in_err-step_state-clause-answers
+step_loop-returns-in_err-step_state-clause-answers g t c = λ m depth t P L R.
+    pass_exit _ _ c.from_residual.ensures.0 (wrap_fails (g.R.Holds.answers c.args.context.now.functions.now) c.args.context.now.plan.now (Loop c.args.feedback.now) c.args.part.now c.args.meter.now c.step_state.new.meter c.args.inside c.args.context.now.dt c.args.value.now c.in-Ok.both c.in-Ok.ensures.both
+    _ c.in_err-step_state.ensures.answers m depth t P L R)
 
-pub step_wrap-returns-in_err-step_state-in-Initialized-clause-answers : goal.step_wrap-returns-in_err-step_state-in-Initialized-clause-answers
-step_wrap-returns-in_err-step_state-in-Initialized-clause-answers g t c = λ m depth t P L R.
-    pass_exit _ _ c.from_residual-in_err-step_state-in-Initialized.ensures.0 (wrap_fails (g.R.Holds.answers c.args.context.now.functions.now) c.args.context.now.plan.now c.args.wrap.now c.args.part.now c.args.meter.now c.step_state-in-Initialized.new.meter c.args.inside c.args.context.now.dt c.args.value.now _ (rw c.in-Initialized.is refl)
-    _ c.in_err-step_state-in-Initialized.ensures.answers m depth t P L R)
+pub step_loop-returns-clause-answers : goal.step_loop-returns-clause-answers
+step_loop-returns-clause-answers g t c =
+    late_memory (g.R.Holds.answers c.args.context.now.functions.now) c.args.context.now.plan.now (wrap_steps (g.R.Holds.answers c.args.context.now.functions.now) c.args.context.now.plan.now (Loop c.args.feedback.now) c.args.part.now c.args.meter.now c.step_state.new.meter c.args.inside c.args.context.now.dt c.args.value.now c.in-Ok.both c.in-Ok.ensures.both
+    c.step_state.new.state _ c.step_state.new.value _ refl refl c.in_ok-step_state.ensures.answers)
+    c.stop-in-Err.ensures.entered c.stop-in-Err.ensures.height c.stop-in-Err.ensures.fault
 
-pub step_wrap-returns-in_ok-step_state-in-Initialized-clause-answers : goal.step_wrap-returns-in_ok-step_state-in-Initialized-clause-answers
-step_wrap-returns-in_ok-step_state-in-Initialized-clause-answers g t c =
-    wrap_steps (g.R.Holds.answers c.args.context.now.functions.now) c.args.context.now.plan.now c.args.wrap.now c.args.part.now c.args.meter.now c.step_state-in-Initialized.new.meter c.args.inside c.args.context.now.dt c.args.value.now _ (rw c.in-Initialized.is refl)
-    c.step_state-in-Initialized.new.state (Initialized c.put_first.new.first) c.step_state-in-Initialized.new.value c.put_first.new.value (rw c.in-Initialized.is (ap Initialized c.put_first.ensures.first)) (rw c.in-Initialized.is c.put_first.ensures.value) c.in_ok-step_state-in-Initialized.ensures.answers
+pub step_loop-returns-in-Ok-feed_back-clause-answers : goal.step_loop-returns-in-Ok-feed_back-clause-answers
+step_loop-returns-in-Ok-feed_back-clause-answers g t c =
+    wrap_steps (g.R.Holds.answers c.args.context.now.functions.now) c.args.context.now.plan.now (Loop c.args.feedback.now) c.args.part.now c.args.meter.now c.step_state.new.meter c.args.inside c.args.context.now.dt c.args.value.now c.in-Ok.both c.in-Ok.ensures.both
+    c.step_state.new.state (Loop c.feed_back.new.feedback) c.step_state.new.value c.feed_back.new.value (ap Loop c.in-Ok-feed_back.ensures.next) c.in-Ok-feed_back.ensures.output c.in_ok-step_state.ensures.answers
+
+-- ## step_initialized
+
+pub step_initialized-returns-in_err-step_state-clause-answers : goal.step_initialized-returns-in_err-step_state-clause-answers
+step_initialized-returns-in_err-step_state-clause-answers g t c = λ m depth t P L R.
+    pass_exit _ _ c.from_residual.ensures.0 (wrap_fails (g.R.Holds.answers c.args.context.now.functions.now) c.args.context.now.plan.now (Initialized c.args.first.now) c.args.part.now c.args.meter.now c.step_state.new.meter c.args.inside c.args.context.now.dt c.args.value.now _ refl
+    _ c.in_err-step_state.ensures.answers m depth t P L R)
+
+pub step_initialized-returns-clause-answers : goal.step_initialized-returns-clause-answers
+step_initialized-returns-clause-answers g t c =
+    wrap_steps (g.R.Holds.answers c.args.context.now.functions.now) c.args.context.now.plan.now (Initialized c.args.first.now) c.args.part.now c.args.meter.now c.step_state.new.meter c.args.inside c.args.context.now.dt c.args.value.now _ refl
+    c.step_state.new.state (Initialized c.put_first.new.first) c.step_state.new.value c.put_first.new.value (ap Initialized c.put_first.ensures.first) c.put_first.ensures.value c.in_ok-step_state.ensures.answers
 
 -- ## A switch that keeps its source, and a frozen state
 

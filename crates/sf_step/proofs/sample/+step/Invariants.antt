@@ -23,8 +23,17 @@ decreases-step_parallel g l = 10 * (1000000 - entered_of l.meter.now) + 6
 abbrev pub decreases-step_fan : goal.decreases-step_fan
 decreases-step_fan g l = 10 * (1000000 - entered_of l.meter.now) + 6
 
-abbrev pub decreases-step_wrap : goal.decreases-step_wrap
-decreases-step_wrap g l = 10 * (1000000 - entered_of l.meter.now) + 6
+abbrev pub decreases-step_first : goal.decreases-step_first
+decreases-step_first g l = 10 * (1000000 - entered_of l.meter.now) + 6
+
+abbrev pub decreases-step_second : goal.decreases-step_second
+decreases-step_second g l = 10 * (1000000 - entered_of l.meter.now) + 6
+
+abbrev pub decreases-step_loop : goal.decreases-step_loop
+decreases-step_loop g l = 10 * (1000000 - entered_of l.meter.now) + 6
+
+abbrev pub decreases-step_initialized : goal.decreases-step_initialized
+decreases-step_initialized g l = 10 * (1000000 - entered_of l.meter.now) + 6
 
 abbrev pub decreases-step_live : goal.decreases-step_live
 decreases-step_live g l = 10 * (1000000 - entered_of l.meter.now) + 7

@@ -2,7 +2,7 @@ use Rattle.std.proofs.Common.{Result, Ok, Err, subst}
 use Rattle.sf_value.specs.declared.fault.Fault.{Fault}
 use Rattle.sf_state.specs.declared.state.State.{State}
 use Rattle.sf_step.specs.Sampling.{AllBegin}
-use Rattle.sf_step.proofs.Exits.{open_exit, open_failure, open_prim, open_prim_fails, open_joined, open_sided, open_headed, open_headed_fails, open_switch, open_keeping, open_started, open_probe, open_call, open_call_fails, coded_arguments}
+use Rattle.sf_step.proofs.Exits.{open_exit, open_failure, open_prim, open_prim_fails, open_joined, open_sided, open_builds_headed, open_builds_switch, open_builds_keeping, open_started, open_probe, open_call, open_call_fails, coded_arguments}
 use Rattle.sf_step.proofs.Arguments.{StandsCalled}
 use Rattle.sf_step.proofs.Stages.{open_staged}
 use Rattle.sf_step.proofs.sample.open.Goals as goal
@@ -17,15 +17,9 @@ returns-in-Err g c =
 pub returns-in-Sided : goal.returns-in-Sided
 returns-in-Sided g c = open_sided (g.R.Holds.answers c.args.context.now.functions.now) c.args.context.now.plan.now c.in-Sided.side c.in-Sided.part _ c.args.names.now _ _ (rw c.in-Sided.is at c.node.ensures.builds) c.on_side.ensures c.wrapped.ensures
 
-pub returns-in-Ok-constant : goal.returns-in-Ok-constant
-returns-in-Ok-constant g c =
-    open_headed (g.R.Holds.answers c.args.context.now.functions.now) c.args.context.now.plan.now c.in-Headed.heading c.in-Headed.value c.in-Headed.code c.in-Headed.part _ c.args.names.now c.in-Ok-constant.head _ _ (rw c.in-Headed.is at c.node.ensures.builds)
-    (rw c.expressions-exprs.ensures at c.in-Ok-constant.ensures) c.with_head.ensures c.wrapped-in-Ok-constant.ensures
-
-pub returns-in-Err-constant : goal.returns-in-Err-constant
-returns-in-Err-constant g c =
-    rw c.fault_of-in-Err-constant.ensures (open_headed_fails (g.R.Holds.answers c.args.context.now.functions.now) c.args.context.now.plan.now c.in-Headed.heading c.in-Headed.value c.in-Headed.code c.in-Headed.part _ c.args.names.now c.in-Err-constant.fault (rw c.in-Headed.is at c.node.ensures.builds)
-    (rw c.expressions-exprs.ensures at c.in-Err-constant.ensures))
+pub returns-in-Headed : goal.returns-in-Headed
+returns-in-Headed g c =
+    open_builds_headed (g.R.Holds.answers c.args.context.now.functions.now) c.args.context.now.plan.now c.in-Headed.heading c.in-Headed.value c.in-Headed.code c.in-Headed.part _ c.args.names.now _ (rw c.in-Headed.is at c.node.ensures.builds) c.headed.ensures
 
 pub returns-in_err-both-in-Joined : goal.returns-in_err-both-in-Joined
 returns-in_err-both-in-Joined g c = λ e N. open_exit (g.R.Holds.answers c.args.context.now.functions.now) c.args.context.now.plan.now _ e _ c.from_residual.ensures.1
@@ -35,13 +29,13 @@ returns-in_ok-both-in-Joined g c =
     open_joined (g.R.Holds.answers c.args.context.now.functions.now) c.args.context.now.plan.now c.in-Joined.join c.in-Joined.left c.in-Joined.right _ c.args.names.now c.in_ok-both-in-Joined.both (rw c.in-Joined.is at c.node.ensures.builds)
     (c.in_ok-both-in-Joined.ensures (g.R.Holds.answers c.args.context.now.functions.now) c.args.context.now.plan.now)
 
-pub returns-in_err-shared-in-Switching : goal.returns-in_err-shared-in-Switching
-returns-in_err-shared-in-Switching g c = λ e N. open_exit (g.R.Holds.answers c.args.context.now.functions.now) c.args.context.now.plan.now _ e _ c.from_residual-in_err-shared-in-Switching.ensures.1
+pub returns-in_err-switch-in-Switching : goal.returns-in_err-switch-in-Switching
+returns-in_err-switch-in-Switching g c = λ e N. open_exit (g.R.Holds.answers c.args.context.now.functions.now) c.args.context.now.plan.now _ e _ c.from_residual-in_err-switch-in-Switching.ensures.1
 
-pub returns-in_ok-shared-in-Switching : goal.returns-in_ok-shared-in-Switching
-returns-in_ok-shared-in-Switching g c =
-    open_switch (g.R.Holds.answers c.args.context.now.functions.now) c.args.context.now.plan.now c.in-Switching.form c.in-Switching.first c.in-Switching.body c.in-Switching.pattern _ c.args.names.now c.in_ok-shared-in-Switching.shared
-    (rw c.in-Switching.is at c.node.ensures.builds) (c.in_ok-shared-in-Switching.ensures (g.R.Holds.answers c.args.context.now.functions.now) c.args.context.now.plan.now)
+pub returns-in_ok-switch-in-Switching : goal.returns-in_ok-switch-in-Switching
+returns-in_ok-switch-in-Switching g c =
+    open_builds_switch (g.R.Holds.answers c.args.context.now.functions.now) c.args.context.now.plan.now c.in-Switching.form c.in-Switching.first c.in-Switching.body c.in-Switching.pattern _ c.args.names.now _ (rw c.in-Switching.is at c.node.ensures.builds)
+    (c.in_ok-switch-in-Switching.ensures (g.R.Holds.answers c.args.context.now.functions.now) c.args.context.now.plan.now)
 
 pub returns-in_err-begun-in-Pipeline : goal.returns-in_err-begun-in-Pipeline
 returns-in_err-begun-in-Pipeline g c = λ e N. open_exit (g.R.Holds.answers c.args.context.now.functions.now) c.args.context.now.plan.now _ e _ c.from_residual-in_err-begun-in-Pipeline.ensures.1
@@ -52,16 +46,13 @@ returns-in_ok-begun-in-Pipeline g c = λ e N.
     let w = c.in_ok-begun-in-Pipeline.begun in
     open_staged (g.R.Holds.answers c.args.context.now.functions.now) c.args.context.now.plan.now v _ w e (rw c.in-Pipeline.is at c.node.ensures.builds) (subst (λ ids. AllBegin (g.R.Holds.answers c.args.context.now.functions.now) c.args.context.now.plan.now e ids w.items) c.deref.ensures.value (c.in_ok-begun-in-Pipeline.ensures (g.R.Holds.answers c.args.context.now.functions.now) c.args.context.now.plan.now e N))
 
-pub returns-in_err-one-in-Keeping : goal.returns-in_err-one-in-Keeping
-returns-in_err-one-in-Keeping g c = λ e N. open_exit (g.R.Holds.answers c.args.context.now.functions.now) c.args.context.now.plan.now _ e _ c.from_residual-in_err-one-in-Keeping.ensures.1
+pub returns-in_err-kept-in-Keeping : goal.returns-in_err-kept-in-Keeping
+returns-in_err-kept-in-Keeping g c = λ e N. open_exit (g.R.Holds.answers c.args.context.now.functions.now) c.args.context.now.plan.now _ e _ c.from_residual-in_err-kept-in-Keeping.ensures.1
 
-pub returns-in_err-two-in-Keeping : goal.returns-in_err-two-in-Keeping
-returns-in_err-two-in-Keeping g c = λ e N. open_exit (g.R.Holds.answers c.args.context.now.functions.now) c.args.context.now.plan.now _ e _ c.from_residual-in_err-two-in-Keeping.ensures.1
-
-pub returns-in_ok-two-in-Keeping : goal.returns-in_ok-two-in-Keeping
-returns-in_ok-two-in-Keeping g c =
-    open_keeping (g.R.Holds.answers c.args.context.now.functions.now) c.args.context.now.plan.now c.in-Keeping.shown c.in-Keeping.source c.in-Keeping.observer c.in-Keeping.body c.in-Keeping.name c.in-Keeping.pattern _ c.args.names.now c.in_ok-one-in-Keeping.one c.in_ok-two-in-Keeping.two _
-    (rw c.in-Keeping.is at c.node.ensures.builds) (c.in_ok-one-in-Keeping.ensures (g.R.Holds.answers c.args.context.now.functions.now) c.args.context.now.plan.now) (c.in_ok-two-in-Keeping.ensures (g.R.Holds.answers c.args.context.now.functions.now) c.args.context.now.plan.now)
+pub returns-in_ok-kept-in-Keeping : goal.returns-in_ok-kept-in-Keeping
+returns-in_ok-kept-in-Keeping g c =
+    open_builds_keeping (g.R.Holds.answers c.args.context.now.functions.now) c.args.context.now.plan.now c.in-Keeping.shown c.in-Keeping.source c.in-Keeping.observer c.in-Keeping.body c.in-Keeping.name c.in-Keeping.pattern _ c.args.names.now _ (rw c.in-Keeping.is at c.node.ensures.builds)
+    (c.in_ok-kept-in-Keeping.ensures (g.R.Holds.answers c.args.context.now.functions.now) c.args.context.now.plan.now)
 
 pub returns-in_err-process-in-Started : goal.returns-in_err-process-in-Started
 returns-in_err-process-in-Started g c = λ e N. open_exit (g.R.Holds.answers c.args.context.now.functions.now) c.args.context.now.plan.now _ e _ c.from_residual-in_err-process-in-Started.ensures.1

@@ -43,4 +43,4 @@ returns-in-Ok-Part-clause-advances g c = λ probes n m read written P.
 
 pub returns-in-Err-clause-advances : goal.returns-in-Err-clause-advances
 returns-in-Err-clause-advances g c = λ probes n m read written P.
-    refusal_halts c.refuse.result c.args.piece.now P (c.in-Err.ensures.cuts read P.lines P.stands) c.refuse.ensures.end c.refuse.ensures.line
+    refusal_halts c.refuse.result c.args.piece.now P (c.in-Err.ensures.cuts read P.lines P.stands) c.refuse.ensures

@@ -64,7 +64,7 @@ returns-in-Err g c = λ n m now at.
     let within : limit_refusal now.taken (line_of c.args.self.now.cutter) ≡ None = ap (λ k. limit_refusal k (line_of c.args.self.now.cutter)) (sym at.taken ∙ c.requires.at.taken) ∙ c.requires.within in
     let started = has_begun-is _ _ (c.is_started-started.ensures.history n m now.lived now.saved at.runs) in
     record {
-      halts = refusal_said (line_of c.args.self.now.cutter) _ _ c.args.self.now c.in-Err.refusal (c.input.ensures n m now.lived now.saved at.runs) at.taken within started (rw c.line.ensures at c.in-Err.ensures.refused) (rw c.line.ensures at c.in-Err.ensures.memory) c.refuse-in-Err.ensures.end c.refuse-in-Err.ensures.line;
+      halts = rw c.refuse-in-Err.ensures (refusal_said (line_of c.args.self.now.cutter) _ _ c.args.self.now c.in-Err.refusal (c.input.ensures n m now.lived now.saved at.runs) at.taken within started (rw c.line.ensures at c.in-Err.ensures.refused) (rw c.line.ensures at c.in-Err.ensures.memory));
       said = refl;
     }
 
@@ -91,7 +91,7 @@ returns-in-Err-save g c = λ n m now at.
     let asked = asks (line_of c.args.self.now.cutter) _ _ within started (c.input.ensures n m now.lived now.saved at.runs) says in
     let some = begun _ now.lived started (save_asked says refl) in
     record {
-      halts = stops_at c.refusal_of.result c.args.self.now (save_halts (line_of c.args.self.now.cutter) c.save.result asked some (c.save.ensures.running n m now.lived now.saved at.runs) c.in-Err-save.is c.refusal_of.ensures) at.taken c.refuse.ensures.end c.refuse.ensures.line;
+      halts = rw c.refuse.ensures (stops_at c.refusal_of.result c.args.self.now (save_halts (line_of c.args.self.now.cutter) c.save.result asked some (c.save.ensures.running n m now.lived now.saved at.runs) c.in-Err-save.is c.refusal_of.ensures) at.taken);
       said = refl;
     }
 
@@ -118,6 +118,6 @@ returns-in-Err-back g c = λ n m now at.
     let asked = asks (line_of c.args.self.now.cutter) _ _ within started (c.input.ensures n m now.lived now.saved at.runs) says in
     let some = begun _ now.lived started (back_asked says refl) in
     record {
-      halts = stops_at c.refusal_of-in-Err-back.result c.args.self.now (back_halts (line_of c.args.self.now.cutter) c.back.result asked some (c.back.ensures.running n m now.lived now.saved at.runs) c.in-Err-back.is c.refusal_of-in-Err-back.ensures) at.taken c.refuse-in-Err-back.ensures.end c.refuse-in-Err-back.ensures.line;
+      halts = rw c.refuse-in-Err-back.ensures (stops_at c.refusal_of-in-Err-back.result c.args.self.now (back_halts (line_of c.args.self.now.cutter) c.back.result asked some (c.back.ensures.running n m now.lived now.saved at.runs) c.in-Err-back.is c.refusal_of-in-Err-back.ensures) at.taken);
       said = refl;
     }

@@ -8,12 +8,12 @@ returns-in-Ok-gather g c = λ n m now line a asked sample S at slow saves taken 
 
 pub returns-in-Ok : goal.returns-in-Ok
 returns-in-Ok g c = λ n m now line a asked sample S at slow saves taken probes. record {
-  halts = memory_halts c.args.sample_time asked sample at c.fault_stop.ensures.end c.fault_stop.ensures.line;
+  halts = memory_halts c.args.sample_time asked sample at;
   said = c.in-Err-gather.ensures.err;
 }
 
 pub returns : goal.returns
 returns g c = λ n m now line a asked sample S at slow saves taken probes. record {
-  halts = stop_halts c.args.sample_time asked sample (rw c.in-Err.is at S) at c.fault_stop-in-Err.ensures.end c.fault_stop-in-Err.ensures.line;
+  halts = stop_halts c.args.sample_time asked sample (rw c.in-Err.is at S) at;
   said = refl;
 }
