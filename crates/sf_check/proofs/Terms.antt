@@ -31,7 +31,6 @@ use Rattle.sf_term.specs.declared.form.WithValue.{WithValue}
 use Rattle.sf_term.specs.declared.form.Timing.{Timing}
 use Rattle.sf_term.specs.declared.form.Accumulation.{Accumulation}
 use Rattle.sf_term.specs.declared.form.Accumulation.TheVariants.{AccumBy, AccumHoldBy, Scan}
-use Rattle.sf_term.specs.declared.form.Join.{Join}
 use Rattle.sf_term.specs.declared.form.Join.TheVariants.{InSequence, InParallel, FannedOut}
 use Rattle.sf_term.specs.declared.form.Side.{Side}
 use Rattle.sf_term.specs.declared.form.Side.TheVariants.{First, Second}
@@ -102,14 +101,8 @@ memory_answers p Γ t a r h = err_answers p Γ t a r Memory h no_memory
 pub named_there : (p : Program) (t : TermId) {w x : Naming} {k : NameId} {n : Spot} → w ≡ x → term_node_at p t ≡ nodes.Named w k n → term_node_at p t ≡ nodes.Named x k n
 named_there p t {k = k} {n = n} e there = there ∙ ap (λ w. nodes.Named w k n) e
 
-pub joined_there : (p : Program) (t : TermId) {j k : Join} {f g : TermId} → j ≡ k → term_node_at p t ≡ nodes.Joined j f g → term_node_at p t ≡ nodes.Joined k f g
-joined_there p t {f = f} {g = g} e there = there ∙ ap (λ j. nodes.Joined j f g) e
-
 pub sided_there : (p : Program) (t : TermId) {d k : Side} {f : TermId} → d ≡ k → term_node_at p t ≡ nodes.Sided d f → term_node_at p t ≡ nodes.Sided k f
 sided_there p t {f = f} e there = there ∙ ap (λ d. nodes.Sided d f) e
-
-pub switching_there : (p : Program) (t : TermId) {w x : Switching} {f g : TermId} {q : PatternId} → w ≡ x → term_node_at p t ≡ nodes.Switching w f q g → term_node_at p t ≡ nodes.Switching x f q g
-switching_there p t {f = f} {g = g} {q = q} e there = there ∙ ap (λ w. nodes.Switching w f q g) e
 
 -- a switch takes inputs where its body gives what is wanted of it
 pub wanted_takes : {p : Program} {Γ : Context} {w : Switching} {f : TermId} {q : Pattern} {u : Term} {a x b c : Kind} → BodyWanted p Γ w f a x b c → BindsInside q c Γ → Takes (inside_pattern q c Γ) u x b → FormTakes Γ (switching w (tree p f) q u) a b

@@ -1,6 +1,6 @@
 //! The types of terms, under contexts.
 ghost use Rattle.std.specs.Prelude.{◌≡◌, ◌↔◌, ◌<◌, All, IsTrue, IfOk, IfErr, OnOk};
-ghost use Rattle.sf_value.specs.Values.{Kind, pair_kind, event_kind, IsNoPair};
+ghost use Rattle.sf_value.specs.Values.{pair_kind, event_kind, IsNoPair};
 ghost use Rattle.sf_refusal.specs.Refusals.{breach_of, broken, OrMemory};
 ghost use Rattle.sf_refusal.specs.declared.rule.Rule.TheVariants.{Mismatch};
 ghost use Rattle.sf_func.specs.Signatures.{signatures_in};
@@ -15,7 +15,7 @@ ghost use Rattle.sf_mean.specs.Typing.{value_kind, takes_time as a_time, timed_k
 ghost use Rattle.sf_check.specs.Contexts.{program_in, context_in};
 ghost use Rattle.sf_check.specs.Answering.{AnswersBare, AnswersPrimitive, AnswersArgument, AnswersTerm, AnswersBody};
 ghost use Rattle.sf_check.specs.Names.{names_of_set, program_names};
-ghost use Rattle.sf_check.specs.Breaking.{IsNoPairWith, IsNoEventBeside, TemplateBreaks, AreTyped, IsFirstBreak};
+ghost use Rattle.sf_check.specs.Breaking.{IsNoPairWith, IsNoEventBeside, TemplateBreaks, AreTyped, IsFirstBreak, keeping_inside};
 
 use crate::context::TypingContext;
 use indexmap::IndexSet;
@@ -71,6 +71,23 @@ fn constant_type(alloc: Global, context: &TypingContext, value: ExprId) -> Resul
     )
 }
 
+/// The type of the outputs of an integral on inputs of a type. Refused at the spot with `Mismatch` where these are no numbers.
+fn integral_output(input: Ty, spot: Spot) -> Result<Ty, Refusal>
+    ensures { AnswersBare Bare.Integral input spot result }
+{
+    same(&input, &Ty::int(), spot)?;
+    Ok(input)
+}
+
+/// The type of the outputs of what leaves the first event out, on inputs of a type. Refused at the spot with `Mismatch` where
+/// these are no events.
+fn not_yet_output(input: Ty, spot: Spot) -> Result<Ty, Refusal>
+    ensures { AnswersBare Bare.NotYet input spot result }
+{
+    payload(&input, spot)?;
+    Ok(input)
+}
+
 /// The type of the outputs of a primitive without constants on inputs of a type. Refused at the spot with `BarePre` where it
 /// is `pre`, which stands behind `-->` alone, with `Mismatch` where it is none on such inputs, then with `TypeTooLarge`, and
 /// with `Memory`.
@@ -80,18 +97,12 @@ fn bare_output(alloc: Global, kind: Bare, input: Ty, spot: Spot) -> Result<Ty, R
     match kind {
         Bare::Identity => Ok(input),
         Bare::LocalTime => Ok(Ty::int()),
-        Bare::Integral => {
-            same(&input, &Ty::int(), spot)?;
-            Ok(input)
-        }
+        Bare::Integral => integral_output(input, spot),
         Bare::Edge => {
             same(&input, &Ty::bool(), spot)?;
             event_type(alloc, &Ty::unit(), spot)
         }
-        Bare::NotYet => {
-            payload(&input, spot)?;
-            Ok(input)
-        }
+        Bare::NotYet => not_yet_output(input, spot),
         Bare::Count => {
             payload(&input, spot)?;
             event_type(alloc, &Ty::int(), spot)
@@ -329,24 +340,73 @@ fn joined_output(
     requires below { (term_number left < term_number term) × (term_number right < term_number term) }
     ensures { AnswersTerm (program_in context.now) (context_in context.now) term input result }
 {
-    let spot = context.program.spot(term);
     match join {
-        Join::InSequence => {
-            let middle = output_of(alloc, context, left, input)?;
-            output_of(alloc, context, right, middle)
-        }
-        Join::InParallel => {
-            let (a, b) = parts(alloc, &input, spot)?;
-            let first = output_of(alloc, context, left, a)?;
-            let second = output_of(alloc, context, right, b)?;
-            pair_type(alloc, first, second, spot)
-        }
-        Join::FannedOut => {
-            let first = output_of(alloc, context, left, input.clone_in(alloc)?)?;
-            let second = output_of(alloc, context, right, input)?;
-            pair_type(alloc, first, second, spot)
-        }
+        Join::InSequence => sequence_output(alloc, context, term, left, right, input),
+        Join::InParallel => parallel_output(alloc, context, term, left, right, input),
+        Join::FannedOut => fan_output(alloc, context, term, left, right, input),
     }
+}
+
+/// The type of the outputs of two parts in sequence on inputs of a type.
+#[cycle(output)]
+fn sequence_output(
+    alloc: Global,
+    context: &TypingContext,
+    term: TermId,
+    left: TermId,
+    right: TermId,
+    input: Ty,
+) -> Result<Ty, Refusal>
+    requires fits { Fits input }
+    requires there { term_node_at (program_in context.now) term ≡ Node.Joined Join.InSequence left right }
+    requires below { (term_number left < term_number term) × (term_number right < term_number term) }
+    ensures { AnswersTerm (program_in context.now) (context_in context.now) term input result }
+{
+    let middle = output_of(alloc, context, left, input)?;
+    output_of(alloc, context, right, middle)
+}
+
+/// The type of the outputs of two parts side by side on inputs of a type.
+#[cycle(output)]
+fn parallel_output(
+    alloc: Global,
+    context: &TypingContext,
+    term: TermId,
+    left: TermId,
+    right: TermId,
+    input: Ty,
+) -> Result<Ty, Refusal>
+    requires fits { Fits input }
+    requires there { term_node_at (program_in context.now) term ≡ Node.Joined Join.InParallel left right }
+    requires below { (term_number left < term_number term) × (term_number right < term_number term) }
+    ensures { AnswersTerm (program_in context.now) (context_in context.now) term input result }
+{
+    let spot = context.program.spot(term);
+    let (a, b) = parts(alloc, &input, spot)?;
+    let first = output_of(alloc, context, left, a)?;
+    let second = output_of(alloc, context, right, b)?;
+    pair_type(alloc, first, second, spot)
+}
+
+/// The type of the outputs of two parts that both stand on the input, on inputs of a type.
+#[cycle(output)]
+fn fan_output(
+    alloc: Global,
+    context: &TypingContext,
+    term: TermId,
+    left: TermId,
+    right: TermId,
+    input: Ty,
+) -> Result<Ty, Refusal>
+    requires fits { Fits input }
+    requires there { term_node_at (program_in context.now) term ≡ Node.Joined Join.FannedOut left right }
+    requires below { (term_number left < term_number term) × (term_number right < term_number term) }
+    ensures { AnswersTerm (program_in context.now) (context_in context.now) term input result }
+{
+    let spot = context.program.spot(term);
+    let first = output_of(alloc, context, left, input.clone_in(alloc)?)?;
+    let second = output_of(alloc, context, right, input)?;
+    pair_type(alloc, first, second, spot)
 }
 
 /// The type of the outputs of a part on one side of a pair, on inputs of a type.
@@ -462,22 +522,63 @@ fn switching_output(
     requires below { (term_number first < term_number term) × (term_number body < term_number term) }
     ensures { AnswersTerm (program_in context.now) (context_in context.now) term input result }
 {
-    let spot = context.program.spot(term);
     match form {
-        Switching::Basic(_) => {
-            let output = output_of(alloc, context, first, input.clone_in(alloc)?)?;
-            let (value, payload) = value_and_payload(&output, spot)?;
-            body_output(alloc, context, pattern, payload, body, input, value, spot)
+        Switching::Basic(shown) => {
+            basic_output(alloc, context, term, shown, first, pattern, body, input)
         }
-        Switching::Recurring(_) => {
-            let (value, payload) = value_and_payload(&input, spot)?;
-            let output = output_of(alloc, context, first, value.clone_in(alloc)?)?;
-            let same_input = value.clone_in(alloc)?;
-            body_output(
-                alloc, context, pattern, payload, body, same_input, &output, spot,
-            )
+        Switching::Recurring(shown) => {
+            recurring_output(alloc, context, term, shown, first, pattern, body, &input)
         }
     }
+}
+
+/// The type of the outputs of a term that gives way at an event of its own, on inputs of a type.
+#[cycle(output)]
+fn basic_output(
+    alloc: Global,
+    context: &TypingContext,
+    term: TermId,
+    form: Observation,
+    first: TermId,
+    pattern: PatternId,
+    body: TermId,
+    input: Ty,
+) -> Result<Ty, Refusal>
+    requires fits { Fits input }
+    requires there { term_node_at (program_in context.now) term ≡ Node.Switching (Switching.Basic form) first pattern body }
+    requires below { (term_number first < term_number term) × (term_number body < term_number term) }
+    ensures { AnswersTerm (program_in context.now) (context_in context.now) term input result }
+{
+    let spot = context.program.spot(term);
+    let output = output_of(alloc, context, first, input.clone_in(alloc)?)?;
+    let (value, payload) = value_and_payload(&output, spot)?;
+    body_output(alloc, context, pattern, payload, body, input, value, spot)
+}
+
+/// The type of the outputs of a term that gives way at an event beside its input, on inputs of a type.
+#[cycle(output)]
+fn recurring_output(
+    alloc: Global,
+    context: &TypingContext,
+    term: TermId,
+    form: Observation,
+    first: TermId,
+    pattern: PatternId,
+    body: TermId,
+    input: &Ty,
+) -> Result<Ty, Refusal>
+    requires fits { Fits input.now }
+    requires there { term_node_at (program_in context.now) term ≡ Node.Switching (Switching.Recurring form) first pattern body }
+    requires below { (term_number first < term_number term) × (term_number body < term_number term) }
+    ensures { AnswersTerm (program_in context.now) (context_in context.now) term input.now result }
+{
+    let spot = context.program.spot(term);
+    let (value, payload) = value_and_payload(input, spot)?;
+    let output = output_of(alloc, context, first, value.clone_in(alloc)?)?;
+    let same_input = value.clone_in(alloc)?;
+    body_output(
+        alloc, context, pattern, payload, body, same_input, &output, spot,
+    )
 }
 
 /// The type of the outputs of a term that gives way to another inside a pattern at the event that an observer sees, and is
@@ -506,10 +607,32 @@ fn keeping_output(
     let watched = pair_of(alloc, &input, &value, spot)?;
     let seen = output_of(alloc, context, observer, watched)?;
     let payload = payload(&seen, spot)?;
-    let inner = (&*context).keeping(alloc, name, &input, &value)?;
+    kept_output(
+        alloc, context, name, pattern, payload, body, &input, &value, spot,
+    )
+}
+
+/// The type of the outputs of a body, on inputs of a type, which gives what is wanted of it inside the pattern for payloads of
+/// a type and the name of a process from the one to the other.
+#[cycle(output)]
+fn kept_output(
+    alloc: Global,
+    context: &TypingContext,
+    name: NameId,
+    pattern: PatternId,
+    payload: &Ty,
+    body: TermId,
+    input: &Ty,
+    wanted: &Ty,
+    spot: Spot,
+) -> Result<Ty, Refusal>
+    requires { Fits input.now }
+    ensures { AnswersBody (program_in context.now) (keeping_inside (program_in context.now) name input.now wanted.now (context_in context.now)) spot pattern body input.now wanted.now payload.now result }
+{
     let same_input = input.clone_in(alloc)?;
+    let inner = (&*context).keeping(alloc, name, input, wanted)?;
     body_output(
-        alloc, &inner, pattern, payload, body, same_input, &value, spot,
+        alloc, &inner, pattern, payload, body, same_input, wanted, spot,
     )
 }
 
@@ -655,8 +778,8 @@ fn check_template(
     ensures ok { OnOk result (IsTyped (signatures_in functions.now) (templates_of program.now) (template_in program.now template.now)) }
     ensures err { IfErr result (OrMemory (TemplateBreaks (signatures_in functions.now) program.now template.now)) }
 {
-    let context = TypingContext::of_body(alloc, program, names, functions, template.parameters())?;
     let input = template.input().clone_in(alloc)?;
+    let context = TypingContext::of_body(alloc, program, names, functions, template.parameters())?;
     let output = output_of(alloc, &context, template.body(), input)?;
     if same_type(&output, template.output()) {
         Ok(())

@@ -1,5 +1,5 @@
 //! What code is worth.
-ghost use Rattle.std.specs.Prelude.{◌≡◌, ◌∷◌};
+ghost use Rattle.std.specs.Prelude.{◌≡◌, ◌∷◌, IfOk, Some};
 ghost use Rattle.sf_code.specs.Codes as trees;
 ghost use Rattle.sf_code.specs.Running.{run as worth_of};
 ghost use Rattle.sf_code.specs.CodeView.{code_of};
@@ -7,12 +7,16 @@ ghost use Rattle.sf_code.specs.FrameView.{frames_of};
 ghost use Rattle.sf_operator.specs.Answers.{Evaluates, EvaluatesAs};
 ghost use Rattle.sf_operator.specs.declared.operator.Folding.TheVariants as foldings;
 ghost use Rattle.sf_operator.specs.declared.operator.Operator.TheVariants as operators;
-ghost use Rattle.sf_value.specs.Values.{number as number_of};
+ghost use Rattle.sf_value.specs.Values.{number as number_of, pair as pair_data};
 ghost use Rattle.sf_operator.specs.declared.operator.Unary.TheVariants as unaries;
 ghost use Rattle.std.specs.Ordering.{int_cmp};
 ghost use Rattle.sf_operator.specs.Operations.{truth_in, of_comparison};
 ghost use Rattle.sf_code.specs.FrameView.{found_value};
 ghost use Rattle.sf_code.specs.Numbers.{AnswersNumber, AnswersTruth};
+ghost use Rattle.sf_value.specs.View.{key_of, rows_of};
+ghost use Rattle.sf_operator.specs.Outcomes.{answer as worth_as};
+ghost use Rattle.sf_operator.specs.FunctionForms.{mapped_value, mapped_payload, folded_value, folded_rows, value_of_key as data_of_key};
+ghost use Rattle.sf_operator.specs.declared.operator.Mapping.TheVariants as mappings;
 
 use crate::code::Code;
 use crate::frames::{Found, Frames, number_in};
@@ -21,8 +25,8 @@ use sf_operator::{
     Arithmetic, Comparison, EvalFault, Folding, Logic, Mapping, Operator, Unary, calculate, decide,
     is_true, operate, operate_on, payload_in, rows_in, value_of_key,
 };
-use sf_value::{Value, ValueFault};
-use std::alloc::Global;
+use sf_value::{Key, Value, ValueFault};
+use std::alloc::{AllocError, Global};
 use std::rc::Rc;
 
 /// What code is worth over the values of frames, or the first fault of its operations: operands stand from left to right.
@@ -396,24 +400,64 @@ fn mapped<F: Holds>(
     let part = run(alloc, part, frames, functions)?;
     match mapping {
         Mapping::Let => answer(alloc, body, &part, frames, functions),
-        Mapping::Filter => match payload_in(&part) {
-            Some(Some(payload)) => match accepted(alloc, body, payload, frames, functions)? {
-                Some(true) => Ok(part),
-                Some(false) => Ok(Value::no_event()),
-                None => Ok(Value::int(0)),
-            },
-            Some(None) => Ok(Value::no_event()),
-            None => Ok(Value::int(0)),
-        },
-        Mapping::Map => match payload_in(&part) {
-            Some(Some(payload)) => {
-                let made = answer(alloc, body, payload, frames, functions)?;
-                Ok(Value::event(alloc, made)?)
-            }
-            Some(None) => Ok(Value::no_event()),
-            None => Ok(Value::int(0)),
-        },
+        Mapping::Filter => filter(alloc, part, body, frames, functions),
+        Mapping::Map => map(alloc, &part, body, frames, functions),
     }
+}
+
+/// The event, where a function is true of its payload, or the fault of the function.
+#[cycle(run)]
+fn filter<F: Holds>(
+    alloc: Global,
+    event: Value,
+    body: &Code,
+    frames: &Frames,
+    functions: &F,
+) -> Result<Value, EvalFault>
+    ensures { Evaluates result (mapped_value mappings.Filter event (λ x. worth_of (code_of body.now) (x ∷ frames_of frames.now) (F.answers functions.now))) }
+{
+    match payload_in(&event) {
+        Some(Some(payload)) => match accepted(alloc, body, payload, frames, functions)? {
+            Some(true) => Ok(event),
+            Some(false) => Ok(Value::no_event()),
+            None => Ok(Value::int(0)),
+        },
+        Some(None) => Ok(Value::no_event()),
+        None => Ok(Value::int(0)),
+    }
+}
+
+/// The event of what a function makes of an event's payload, or the fault of the function.
+#[cycle(run)]
+fn map<F: Holds>(
+    alloc: Global,
+    event: &Value,
+    body: &Code,
+    frames: &Frames,
+    functions: &F,
+) -> Result<Value, EvalFault>
+    ensures { Evaluates result (mapped_value mappings.Map event.now (λ x. worth_of (code_of body.now) (x ∷ frames_of frames.now) (F.answers functions.now))) }
+{
+    match payload_in(event) {
+        Some(Some(payload)) => occurring(alloc, body, payload, frames, functions),
+        Some(None) => Ok(Value::no_event()),
+        None => Ok(Value::int(0)),
+    }
+}
+
+/// The event of what the code of a function is worth over a value, or the first fault.
+#[cycle(run)]
+fn occurring<F: Holds>(
+    alloc: Global,
+    body: &Code,
+    value: &Value,
+    frames: &Frames,
+    functions: &F,
+) -> Result<Value, EvalFault>
+    ensures { Evaluates result (mapped_payload (Some value.now) (λ x. worth_of (code_of body.now) (x ∷ frames_of frames.now) (F.answers functions.now))) }
+{
+    let made = answer(alloc, body, value, frames, functions)?;
+    Ok(Value::event(alloc, made)?)
 }
 
 /// What a form makes of two codes and a function, or the first fault.
@@ -473,12 +517,26 @@ fn merged<F: Holds>(
 {
     let first = run(alloc, first, frames, functions)?;
     let second = run(alloc, second, frames, functions)?;
+    merge(alloc, first, second, body, frames, functions)
+}
+
+/// The one of two events that occurs, or, where both do, that of what a function makes of both payloads, or its fault.
+#[cycle(run)]
+fn merge<F: Holds>(
+    alloc: Global,
+    first: Value,
+    second: Value,
+    body: &Code,
+    frames: &Frames,
+    functions: &F,
+) -> Result<Value, EvalFault>
+    ensures { Evaluates result (folded_value foldings.Merge first (worth_as second) (λ x. worth_of (code_of body.now) (x ∷ frames_of frames.now) (F.answers functions.now))) }
+{
     match payload_in(&first) {
         Some(Some(left)) => match payload_in(&second) {
             Some(Some(right)) => {
-                let both = Value::of_halves(left.clone()?, right.clone()?);
-                let made = answer(alloc, body, &both, frames, functions)?;
-                Ok(Value::event(alloc, made)?)
+                let both = pair_of(left, right)?;
+                occurring(alloc, body, &both, frames, functions)
             }
             Some(None) => Ok(first),
             None => Ok(Value::int(0)),
@@ -489,6 +547,13 @@ fn merged<F: Holds>(
         },
         None => Ok(Value::int(0)),
     }
+}
+
+/// The pair of two values that stay shared.
+fn pair_of(first: &Rc<Value>, second: &Rc<Value>) -> Result<Value, AllocError>
+    ensures { IfOk result (λ both. both ≡ pair_data first.now.value second.now.value) }
+{
+    Ok(Value::of_halves(first.clone()?, second.clone()?))
 }
 
 /// What a function makes of the second value and the rows of a table, one after the other, or the first fault.
@@ -505,20 +570,41 @@ fn fold<F: Holds>(
     ensures { Evaluates result (worth_of (trees.folded (code_of first.now) foldings.Fold (code_of second.now) (code_of body.now)) (frames_of frames.now) (F.answers functions.now)) }
 {
     let table = run(alloc, first, frames, functions)?;
-    let mut so_far = run(alloc, second, frames, functions)?;
+    let start = run(alloc, second, frames, functions)?;
     match rows_in(&table) {
-        Some(rows) => {
-            let mut rest = rows;
-            while let [(key, value), after @ ..] = rest {
-                let row = Value::pair(alloc, value_of_key(key)?, value.clone_in(alloc)?)?;
-                let argument = Value::pair(alloc, so_far, row)?;
-                so_far = answer(alloc, body, &argument, frames, functions)?;
-                rest = after;
-            }
-            Ok(so_far)
-        }
+        Some(rows) => fold_rows(alloc, rows, start, body, frames, functions),
         None => Ok(Value::int(0)),
     }
+}
+
+/// What a function makes of a value and rows, one after the other, or the first fault.
+#[cycle(run)]
+fn fold_rows<F: Holds>(
+    alloc: Global,
+    rows: &[(Key, Value)],
+    start: Value,
+    body: &Code,
+    frames: &Frames,
+    functions: &F,
+) -> Result<Value, EvalFault>
+    ensures { Evaluates result (folded_rows (rows_of rows.now) start (λ x. worth_of (code_of body.now) (x ∷ frames_of frames.now) (F.answers functions.now))) }
+{
+    let mut so_far = start;
+    let mut rest = rows;
+    while let [(key, value), after @ ..] = rest {
+        let argument = with_row(alloc, so_far, key, value)?;
+        so_far = answer(alloc, body, &argument, frames, functions)?;
+        rest = after;
+    }
+    Ok(so_far)
+}
+
+/// A value with a row of a table, as the argument of a fold's function.
+fn with_row(alloc: Global, so_far: Value, key: &Key, value: &Value) -> Result<Value, AllocError>
+    ensures { IfOk result (λ v. v ≡ pair_data so_far (pair_data (data_of_key (key_of key.now)) value.now)) }
+{
+    let row = Value::pair(alloc, value_of_key(key)?, value.clone_in(alloc)?)?;
+    Value::pair(alloc, so_far, row)
 }
 
 /// What a stored function answers to what code is worth, or the first fault.

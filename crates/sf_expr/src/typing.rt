@@ -3,7 +3,8 @@ ghost use Rattle.std.specs.Prelude.{◌≡◌, ◌++◌, [], ◌↔◌, IsTrue, 
 ghost use Rattle.sf_expr.specs.Typing.{Fits, AddsNames, Binds, AllDifferent, only_functions, typed_name, untyped_name, named_in, with_types, literal_kind};
 ghost use Rattle.sf_expr.specs.Expressions.{names_in};
 ghost use Rattle.sf_expr.specs.Inference.{is_valued};
-ghost use Rattle.sf_expr.specs.Arena.{expression, function_at};
+ghost use Rattle.sf_expr.specs.Arena.{expression, function_at, node_at, id_number, PartsBelow};
+ghost use Rattle.sf_expr.specs.declared.exprs.ExprNode.TheVariants.{Conditional, Mapped, Folded};
 ghost use Rattle.sf_expr.specs.Patterns.{pattern_of};
 ghost use Rattle.sf_expr.specs.Scopes.{names_of, names_seen, type_in, kind_seen};
 ghost use Rattle.sf_expr.specs.Refusals.{Types, TypesFunction, Judges, JudgesFunction, AnswersPair, AnswersCall, AnswersName, BindRefused, RepeatRefused, PatternRefused, JudgesPart};
@@ -13,13 +14,13 @@ ghost use Rattle.sf_func.specs.Registries.{types_named};
 ghost use Rattle.sf_func.specs.Signatures.{signatures_in};
 
 use crate::constant::{Constant, ConstantForm};
-use crate::exprs::{ExprId, ExprNode, Exprs, FunctionId};
+use crate::exprs::{ExprId, ExprNode, Exprs, FunctionId, PatternId};
 use crate::pat::{Pat, PatForm};
 use crate::typed_name::TypedName;
 use sf_func::Signatures;
 use sf_operator::{
-    binary_type, called_type, conditional_type, event_type, folded_argument_type, folded_type,
-    mapped_argument_type, mapped_type, unary_type,
+    Folding, Mapping, binary_type, called_type, conditional_type, event_type, folded_argument_type,
+    folded_type, mapped_argument_type, mapped_type, unary_type,
 };
 use sf_refusal::{Refusal, Rule, Spot};
 use sf_value::Ty;
@@ -273,41 +274,17 @@ fn judge(
             binary_type(alloc, operator, &left, &right, exprs.spot(id))
         }
         ExprNode::Conditional(condition, first, second) => {
-            let condition = judge(alloc, exprs, condition, names, functions)?;
-            let first = judge(alloc, exprs, first, names, functions)?;
-            let second = judge(alloc, exprs, second, names, functions)?;
-            conditional_type(alloc, &condition, &first, &second, exprs.spot(id))
+            judge_conditional(alloc, exprs, id, condition, first, second, names, functions)
         }
         ExprNode::Mapped(part, mapping, pattern, body) => {
-            let part = judge(alloc, exprs, part, names, functions)?;
-            let argument = mapped_argument_type(alloc, mapping, &part, exprs.spot(id))?;
-            let made = judge_part(
-                alloc,
-                exprs,
-                exprs.placed(pattern),
-                body,
-                &argument,
-                names,
-                functions,
-                exprs.spot(id),
-            )?;
-            mapped_type(alloc, mapping, &part, &made, exprs.spot(id))
+            judge_mapped(
+                alloc, exprs, id, part, mapping, pattern, body, names, functions,
+            )
         }
         ExprNode::Folded(first, folding, second, pattern, body) => {
-            let first = judge(alloc, exprs, first, names, functions)?;
-            let second = judge(alloc, exprs, second, names, functions)?;
-            let argument = folded_argument_type(alloc, folding, &first, &second, exprs.spot(id))?;
-            let made = judge_part(
-                alloc,
-                exprs,
-                exprs.placed(pattern),
-                body,
-                &argument,
-                names,
-                functions,
-                exprs.spot(id),
-            )?;
-            folded_type(alloc, folding, &first, &second, &made, exprs.spot(id))
+            judge_folded(
+                alloc, exprs, id, first, folding, second, pattern, body, names, functions,
+            )
         }
         ExprNode::Called(function, place, part) => {
             let part = judge(alloc, exprs, part, names, functions)?;
@@ -315,6 +292,80 @@ fn judge(
             call_type(alloc, functions, name, &part, place, exprs.spot(id))
         }
     }
+}
+
+/// The type of the conditional at an id, with these parts, or why it has none.
+#[cycle(judge)]
+fn judge_conditional(
+    alloc: Global,
+    exprs: &Exprs,
+    id: ExprId,
+    condition: ExprId,
+    first: ExprId,
+    second: ExprId,
+    names: &TypeScope,
+    functions: &Signatures,
+) -> Result<Ty, Refusal>
+    requires node { node_at exprs.now id ≡ Conditional condition first second }
+    requires below { PartsBelow (Conditional condition first second) (id_number id) }
+    ensures { Judges exprs.now (with_types (signatures_in functions.now) (names_of names.now)) id result }
+{
+    let condition = judge(alloc, exprs, condition, names, functions)?;
+    let first = judge(alloc, exprs, first, names, functions)?;
+    let second = judge(alloc, exprs, second, names, functions)?;
+    conditional_type(alloc, &condition, &first, &second, exprs.spot(id))
+}
+
+/// The type of the mapping at an id, with these parts, or why it has none.
+#[cycle(judge)]
+fn judge_mapped(
+    alloc: Global,
+    exprs: &Exprs,
+    id: ExprId,
+    part: ExprId,
+    mapping: Mapping,
+    pattern: PatternId,
+    body: ExprId,
+    names: &TypeScope,
+    functions: &Signatures,
+) -> Result<Ty, Refusal>
+    requires node { node_at exprs.now id ≡ Mapped part mapping pattern body }
+    requires below { PartsBelow (Mapped part mapping pattern body) (id_number id) }
+    ensures { Judges exprs.now (with_types (signatures_in functions.now) (names_of names.now)) id result }
+{
+    let part = judge(alloc, exprs, part, names, functions)?;
+    let at = exprs.spot(id);
+    let argument = mapped_argument_type(alloc, mapping, &part, at)?;
+    let pattern = exprs.placed(pattern);
+    let made = judge_part(alloc, exprs, pattern, body, &argument, names, functions, at)?;
+    mapped_type(alloc, mapping, &part, &made, at)
+}
+
+/// The type of the fold at an id, with these parts, or why it has none.
+#[cycle(judge)]
+fn judge_folded(
+    alloc: Global,
+    exprs: &Exprs,
+    id: ExprId,
+    first: ExprId,
+    folding: Folding,
+    second: ExprId,
+    pattern: PatternId,
+    body: ExprId,
+    names: &TypeScope,
+    functions: &Signatures,
+) -> Result<Ty, Refusal>
+    requires node { node_at exprs.now id ≡ Folded first folding second pattern body }
+    requires below { PartsBelow (Folded first folding second pattern body) (id_number id) }
+    ensures { Judges exprs.now (with_types (signatures_in functions.now) (names_of names.now)) id result }
+{
+    let first = judge(alloc, exprs, first, names, functions)?;
+    let second = judge(alloc, exprs, second, names, functions)?;
+    let at = exprs.spot(id);
+    let argument = folded_argument_type(alloc, folding, &first, &second, at)?;
+    let pattern = exprs.placed(pattern);
+    let made = judge_part(alloc, exprs, pattern, body, &argument, names, functions, at)?;
+    folded_type(alloc, folding, &first, &second, &made, at)
 }
 
 /// The type of an expression where a pattern before it binds names for the parts of a type, or the first refusal.

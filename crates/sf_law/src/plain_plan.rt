@@ -1,16 +1,16 @@
 //! The plan that is the network itself.
-ghost use Rattle.std.specs.Prelude.{◌≡◌, List, [], map, All, IsTrue, MatchOption, IfOk, OnOk, IfSome};
+ghost use Rattle.std.specs.Prelude.{◌≡◌, List, map, All, IsTrue, IfOk, OnOk, IfSome};
 ghost use Rattle.std.specs.List.{AllZip};
-ghost use Rattle.sf_expr.specs.Arena.{function_at, IsCopy, Keeps};
-ghost use Rattle.sf_term.specs.Arena.{expressions_of as program_expressions, headers_of as program_headers, HoldsTermParts, TermPartsBelow, HoldsArgument};
+ghost use Rattle.sf_expr.specs.Arena.{function_at, placed_at, HoldsPattern, Keeps};
+ghost use Rattle.sf_expr.specs.Patterns.{placed_name};
+ghost use Rattle.sf_term.specs.Arena.{expressions_of as program_expressions, headers_of as program_headers};
 ghost use Rattle.sf_term.specs.ParameterView.{kind_of_form};
 ghost use Rattle.sf_term.specs.declared.node.Node.TheVariants.{Call as call_node, Named as named_node};
 ghost use Rattle.sf_code.specs.Worth.{IsCodeOfFunction};
 ghost use Rattle.sf_refusal.specs.declared.spot.Spot.{Spot};
 ghost use Rattle.sf_law.specs.Headers.{PlanHeader};
-ghost use Rattle.sf_law.specs.declared.node.PlanId.{PlanId as PlanIdOf};
-ghost use Rattle.sf_law.specs.Entries.{BindsNames, IsCodedPrimitive, IsCodedArgument, IsCoded, calls_first};
-ghost use Rattle.sf_law.specs.Arena.{plan_expressions, node_count, plan_tree, plan_headers};
+ghost use Rattle.sf_law.specs.Entries.{IsCodedPrimitive, IsCodedArgument, IsCoded, calls_first};
+ghost use Rattle.sf_law.specs.Arena.{plan_expressions, node_count, plan_headers};
 ghost use Rattle.sf_law.specs.Copies.{plan_id as id_of, named_process, CopiesArgument, CopiesPrimitive, CopiesNode, CopiesParameter, CopiesTemplate, ShowsTerms};
 ghost use Rattle.sf_law.specs.Plans.{IsPlainPlan};
 
@@ -19,7 +19,7 @@ use crate::plan::Plan;
 use crate::template::{PlanParameter, PlanTemplate};
 use sf_check::Checked;
 use sf_code::{Code, expression_code, function_code};
-use sf_expr::{Exprs, FunctionId, NameId, Pat};
+use sf_expr::{Exprs, FunctionId, NameId, Pat, PatternId};
 use sf_term::{
     Argument, ArgumentsId, Naming, Node, Parameter, ParameterForm, Primitive, Program, Start,
     Template, TermId,
@@ -32,11 +32,20 @@ pub fn plain(alloc: Global, checked: &Checked) -> Result<Plan, AllocError>
     ensures { IfOk result (λ plan. IsPlainPlan checked.now plan) }
 {
     let program = checked.program();
+    let empty = empty_plan(alloc, program)?;
+    let plan = with_terms(alloc, empty, program)?;
+    Ok(plan.with_main(plan_id(checked.main())))
+}
+
+// A plan with the expressions and the templates of a program, and no term yet.
+fn empty_plan(alloc: Global, program: &Program) -> Result<Plan, AllocError>
+    ensures empty { IfOk result (λ plan. node_count plan ≡ 0) }
+    ensures kept { IfOk result (λ plan. Keeps (program_expressions program.now) (plan_expressions plan)) }
+    ensures copied { IfOk result (λ plan. AllZip (CopiesTemplate (plan_expressions plan)) (program_headers program.now) (plan_headers plan)) }
+{
     let mut expressions = program.expressions().clone_in(alloc)?;
     let templates = plan_templates(alloc, &mut expressions, program.templates())?;
-    let mut plan = Plan::new(alloc, expressions, templates)?;
-    copy_terms(alloc, &mut plan, program)?;
-    Ok(plan.with_main(plan_id(checked.main())))
+    Plan::new(alloc, expressions, templates)
 }
 
 // The templates of a program, in order, with names and patterns of their parameters among expressions.
@@ -84,11 +93,25 @@ fn plan_parameter(
     ensures kept { OnOk result (Keeps expressions.old expressions.new) }
     ensures copied { IfOk result (λ copy. CopiesParameter expressions.new parameter.now copy) }
 {
-    let form = parameter_form(alloc, parameter.form())?;
     let name = expressions.name(String::from_str(alloc, parameter.name())?)?;
+    let pattern = parameter_pattern(alloc, expressions, parameter)?;
+    let form = parameter_form(alloc, parameter.form())?;
+    Ok(PlanParameter::new(name, pattern, form))
+}
+
+// The pattern that binds the name of a parameter, among expressions.
+fn parameter_pattern(
+    alloc: Global,
+    expressions: &mut Exprs,
+    parameter: &Parameter,
+) -> Result<PatternId, AllocError>
+    ensures kept { OnOk result (Keeps expressions.old expressions.new) }
+    ensures held { IfOk result (λ pattern. HoldsPattern expressions.new pattern) }
+    ensures bound { IfOk result (λ pattern. placed_at expressions.new pattern ≡ placed_name parameter.now.name parameter.now.spot) }
+{
     let pattern = Pat::name(String::from_str(alloc, parameter.name())?, parameter.spot());
     match expressions.pattern_in(pattern) {
-        Ok(pattern) => Ok(PlanParameter::new(name, pattern, form)),
+        Ok(pattern) => Ok(pattern),
         Err(_) => Err(AllocError),
     }
 }
@@ -105,6 +128,18 @@ fn parameter_form(alloc: Global, form: &ParameterForm) -> Result<ParameterForm, 
             Ok(ParameterForm::Process(from, to))
         }
     }
+}
+
+// A plan with the terms of a program, where it has none yet.
+fn with_terms(alloc: Global, empty: Plan, program: &Program) -> Result<Plan, AllocError>
+    requires empty { node_count empty ≡ 0 }
+    requires kept { Keeps (program_expressions program.now) (plan_expressions empty) }
+    ensures terms { IfOk result (λ plan. ShowsTerms program.now plan) }
+    ensures templates { IfOk result (λ plan. plan_headers plan ≡ plan_headers empty) }
+    ensures expressions { IfOk result (λ plan. plan_expressions plan ≡ plan_expressions empty) }
+{
+    let mut plan = empty;
+    copy_terms(alloc, &mut plan, program).map(|()| plan)
 }
 
 // The terms of a program, under ids of the same numbers, each with its code.

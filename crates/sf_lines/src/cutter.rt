@@ -1,5 +1,5 @@
 //! The lines of a stream that comes in pieces.
-ghost use Rattle.std.specs.Prelude.{◌≡◌, ℕ, ◌+◌, ◌-◌, ◌<◌, ◌≤◌, ◌≢◌, length, IfOk, IfErr, MatchOption, List, [], ◌∷◌, ◌++◌, take, vec_len, vec_capacity, None};
+ghost use Rattle.std.specs.Prelude.{◌≡◌, ℕ, ◌+◌, ◌-◌, ◌<◌, ◌≤◌, ◌≢◌, length, IfOk, IfErr, MatchOption, List, [], ◌++◌, take, vec_len, vec_capacity, None};
 ghost use Rattle.sf_lines.specs.Lines.{NoFeed, FirstFeed};
 ghost use Rattle.sf_lines.specs.declared.cutter.State.TheVariants.{Unfinished};
 
@@ -54,7 +54,7 @@ impl Cutter {
         })
     }
 
-    /// TakesPiece the bytes of a piece up to and with its first line feed, or all where it has none. It takes no memory.
+    /// Takes the bytes of a piece up to and with its first line feed, or all where it has none. It takes no memory.
     ///
     /// `TooManyLines` comes at the first byte of line 1,000,001, and else `LineTooLong` at the 65,537th byte of a
     /// line. After a refusal each later call answers it again.

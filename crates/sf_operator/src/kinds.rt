@@ -7,10 +7,10 @@ ghost use Rattle.sf_value.specs.declared.ty.TyRefusal.TheVariants.{TypeTooLarge,
 ghost use Rattle.sf_refusal.specs.declared.rule.Rule.TheVariants.{Mismatch, TypeTooLarge as LargeRule};
 ghost use Rattle.sf_refusal.specs.declared.refusal.Refusal.TheVariants.{Memory as NoMemory};
 ghost use Rattle.sf_operator.specs.Kinds.{same_kind, only, parts_of, payload_of, columns_of, kind_of_keys, is_ordered, unary_kind, binary_kind, conditional_kind};
-ghost use Rattle.sf_operator.specs.declared.operator.Operator.TheVariants.{Attach, Get};
+ghost use Rattle.sf_operator.specs.declared.operator.Operator.TheVariants as operators;
 ghost use Rattle.sf_operator.specs.Breaches.{AnswersKind};
 
-use crate::operator::{Operator, Unary};
+use crate::operator::{Merge, Operator, Unary};
 use sf_refusal::{Refusal, Rule, Spot};
 use sf_value::{KeyType, Ty, TyForm, TyRefusal, same_type};
 use std::alloc::Global;
@@ -148,7 +148,7 @@ fn comparison_type(left: &Ty, right: &Ty, at: Spot) -> Result<Ty, Refusal>
 /// The type of events whose payloads have a value beside them. Refused at `at` with `Mismatch` where the first type is
 /// none of events, then with `TypeTooLarge` where the type would be made of more than 256 types.
 fn attach_type(alloc: Global, left: &Ty, right: &Ty, at: Spot) -> Result<Ty, Refusal>
-    ensures { AnswersKind (binary_kind Attach left.now right.now) at result }
+    ensures { AnswersKind (binary_kind operators.Attach left.now right.now) at result }
 {
     let pair = pair_type(alloc, payload(left, at)?, right, at)?;
     event_type(alloc, &pair, at)
@@ -158,11 +158,40 @@ fn attach_type(alloc: Global, left: &Ty, right: &Ty, at: Spot) -> Result<Ty, Ref
 /// tables or the second is not that of its keys, then with `TypeTooLarge` where the type would be made of more than 256
 /// types.
 fn get_type(alloc: Global, left: &Ty, right: &Ty, at: Spot) -> Result<Ty, Refusal>
-    ensures { AnswersKind (binary_kind Get left.now right.now) at result }
+    ensures { AnswersKind (binary_kind operators.Get left.now right.now) at result }
 {
     let (keys, values) = columns(left, at)?;
     same(right, &type_of_keys(keys), at)?;
     event_type(alloc, values, at)
+}
+
+/// The type of a payload or the value in its place. Refused at `at` with `Mismatch` where the first type is none of events or
+/// the second is not that of its payloads.
+fn from_event_type(alloc: Global, left: &Ty, right: &Ty, at: Spot) -> Result<Ty, Refusal>
+    ensures { AnswersKind (binary_kind operators.FromEvent left.now right.now) at result }
+{
+    let payload = payload(left, at)?;
+    same(payload, right, at)?;
+    Ok(payload.clone_in(alloc)?)
+}
+
+/// The type of events where a truth holds. Refused at `at` with `Mismatch` where the first type is none of events or the
+/// second is not that of truths.
+fn gate_type(alloc: Global, left: &Ty, right: &Ty, at: Spot) -> Result<Ty, Refusal>
+    ensures { AnswersKind (binary_kind operators.Gate left.now right.now) at result }
+{
+    payload(left, at)?;
+    same(right, &Ty::bool(), at)?;
+    Ok(left.clone_in(alloc)?)
+}
+
+/// The type of two events made one. Refused at `at` with `Mismatch` where the types are not the same of events.
+fn merge_type(alloc: Global, side: Merge, left: &Ty, right: &Ty, at: Spot) -> Result<Ty, Refusal>
+    ensures { AnswersKind (binary_kind (operators.Merge side) left.now right.now) at result }
+{
+    payload(left, at)?;
+    same(left, right, at)?;
+    Ok(left.clone_in(alloc)?)
 }
 
 /// The type of what an operator makes of values of two types. Refused at `at` with `Mismatch` where the operator is none
@@ -189,21 +218,9 @@ pub fn binary_type(
             event_type(alloc, right, at)
         }
         Operator::Attach => attach_type(alloc, left, right, at),
-        Operator::FromEvent => {
-            let payload = payload(left, at)?;
-            same(payload, right, at)?;
-            Ok(payload.clone_in(alloc)?)
-        }
-        Operator::Gate => {
-            payload(left, at)?;
-            same(right, &Ty::bool(), at)?;
-            Ok(left.clone_in(alloc)?)
-        }
-        Operator::Merge(_) => {
-            payload(left, at)?;
-            same(left, right, at)?;
-            Ok(left.clone_in(alloc)?)
-        }
+        Operator::FromEvent => from_event_type(alloc, left, right, at),
+        Operator::Gate => gate_type(alloc, left, right, at),
+        Operator::Merge(side) => merge_type(alloc, side, left, right, at),
         Operator::Get => get_type(alloc, left, right, at),
     }
 }

@@ -1,16 +1,16 @@
 //! Samples of primitives that take or give events.
-ghost use Rattle.std.specs.Prelude.{◌≡◌, ◌&&◌, None, true, cond, OnOk};
+ghost use Rattle.std.specs.Prelude.{◌≡◌, ◌&&◌, ◌+ℤ◌, pos, None, true, cond, OnOk};
 ghost use Rattle.std.specs.Option.{option_map};
 ghost use Rattle.sf_value.specs.Values.{event, no_event};
-ghost use Rattle.sf_operator.specs.Outcomes.{answer};
+ghost use Rattle.sf_operator.specs.Outcomes.{answer, tested};
 ghost use Rattle.sf_operator.specs.Operations.{event_of, payload_or};
-ghost use Rattle.sf_operator.specs.Answers.{Evaluates};
+ghost use Rattle.sf_operator.specs.Answers.{Computes, Evaluates};
 ghost use Rattle.sf_mean.specs.Formulas.{is_high, is_low, event_if, occurring};
 ghost use Rattle.sf_prim.specs.Gifts.{gift};
 ghost use Rattle.sf_prim.specs.Keeping.{counted_after, count_after};
 
 use sf_operator::{EvalFault, is_true, narrow, payload_in};
-use sf_value::Value;
+use sf_value::{Value, ValueFault};
 use std::alloc::Global;
 use std::rc::Rc;
 
@@ -52,6 +52,13 @@ pub(crate) fn occurs(value: &Value) -> Option<&Rc<Value>>
     }
 }
 
+/// One more, where it is within signed 64 bits.
+fn one_more(count: i64) -> Result<i64, ValueFault>
+    ensures { Computes result (tested (pos 1 +ℤ count)) }
+{
+    narrow(1 + i128::from(count))
+}
+
 /// At an event, one of how many there were so far in place of the input. The fault is `Overflow`, and the error `Memory`.
 #[inline(never)]
 pub(crate) fn count_event(
@@ -63,7 +70,7 @@ pub(crate) fn count_event(
     ensures kept { OnOk result (count.new ≡ count_after (occurring value.old) count.old) }
 {
     if occurs(value).is_some() {
-        let next = narrow(1 + i128::from(*count))?;
+        let next = one_more(*count)?;
         *value = Value::event(alloc, Value::int(next))?;
         *count = next;
     } else {

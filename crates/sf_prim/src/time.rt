@@ -13,6 +13,13 @@ use sf_operator::{EvalFault, narrow, number_in};
 use sf_value::{Value, ValueFault};
 use std::alloc::{AllocError, Global};
 
+/// A time so many milliseconds later, where it is within signed 64 bits.
+fn later(before: i64, dt: u64) -> Result<i64, ValueFault>
+    ensures { Computes result (tested (before +ℤ pos dt)) }
+{
+    narrow(i128::from(before) + i128::from(dt))
+}
+
 /// The milliseconds since the first sample in place of the input, `dt` milliseconds after the sample before; `dt` isn't
 /// looked at where there was none. The fault is `Overflow`.
 #[inline(never)]
@@ -25,7 +32,7 @@ pub(crate) fn tell_time(
     ensures kept { OnOk result (clock.new ≡ Some (time_after clock.old dt)) }
 {
     let time = match *clock {
-        Some(before) => narrow(i128::from(before) + i128::from(dt))?,
+        Some(before) => later(before, dt)?,
         None => 0,
     };
     *clock = Some(time);

@@ -1,6 +1,5 @@
 -- Switches: while they wait, and at their event.
 use Rattle.std.proofs.Common.{◌≡◌, ℕ, [], ◌∷◌, ◌++◌, Option, Some, None, Ok, Err, refl, sym, ap, ◌∙◌, subst, append-nil, arith}
-use Rattle.std.specs.Option.{option_map}
 use Rattle.sf_value.specs.Values.{Data, first_of, second_of}
 use Rattle.sf_value.specs.declared.fault.Fault.{Fault}
 use Rattle.sf_func.specs.Registries.{AnswersByName}
@@ -27,13 +26,6 @@ use Rattle.sf_step.specs.Meters.{entered_of, height_of}
 use Rattle.sf_step.specs.Sampling.{Rel, Ticks, Spent, Within, StopsFor, answers, StateSteps, SwitchSteps}
 use Rattle.sf_step.proofs.Parts.{Over, counted, Then, then_on, then_stop, Alike, over_spent, both_spent, alike_within, over_within, then_within, fails_alike, over_fails, then_fails, rest_fails, spent_within, answered, failed}
 use Rattle.sf_step.proofs.Forms.{single_gives, form_alike}
-
--- what a payload's owner says of an event
-pub comes_some : {X : Type 0} (f : X → Data) (r : Option X) (x : X) (event y : Data) → option_map f r ≡ occurring event → r ≡ Some x → event ≡ second_of y → occurring (second_of y) ≡ Some (f x)
-comes_some f r x event y h e k = ap occurring (sym k) ∙ sym h ∙ ap (option_map f) e
-
-pub comes_none : {X : Type 0} (f : X → Data) (r : Option X) (event y : Data) → option_map f r ≡ occurring event → r ≡ None → event ≡ second_of y → occurring (second_of y) ≡ None
-comes_none f r event y h e k = ap occurring (sym k) ∙ sym h ∙ ap (option_map f) e
 
 pub not_fired : {Q : Process} {M : Life} → fired Q M ≡ waits → ⊥
 not_fired h = cc

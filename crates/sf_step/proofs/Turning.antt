@@ -1,6 +1,6 @@
 -- What a process gives that gives way to another one, and what is left waiting by a switch.
 use Rattle.std.proofs.Common.{◌≡◌, ℕ, [], ◌∷◌, Option, Some, None, Result, Ok, Err, refl, sym, ap, subst}
-use Rattle.std.specs.Prelude.{IsErr}
+use Rattle.std.specs.Prelude.{IsErr, unwrap_or}
 use Rattle.sf_value.specs.Values.{Name, Data}
 use Rattle.sf_value.specs.declared.fault.Fault.{Fault}
 use Rattle.sf_func.specs.Registries.{AnswersByName}
@@ -195,24 +195,35 @@ module _ (φ : AnswersByName) (p : Plan) where
   seen_keeping names k P L (keeping_prepared N S) = waits_at N S
 
   module _ (at : _) (names : Env) (k own : Switch) (follows : (P : Process) (L : Life) → Waits φ p k P L → Waits φ p own P L) (s : Step) (n n' : Meter) (inside : ℕ) where
-    pub watching_goes : (o : Option State) (b : State) (k' : Switch) (v : Data) → o ≡ Some b → WaitingSteps φ p (Waits φ p) names own s (Ok ((o, k'), v)) n n' inside → CountedSteps φ p (Watching' names at k.form k.running k.pattern k.body) s (Ok (b, v)) n n' inside
+    watching_goes : (o : Option State) (b : State) (k' : Switch) (v : Data) → o ≡ Some b → WaitingSteps φ p (Waits φ p) names own s (Ok ((o, k'), v)) n n' inside → CountedSteps φ p (Watching' names at k.form k.running k.pattern k.body) s (Ok (b, v)) n n' inside
     watching_goes o b k' v is h = goes_over (Waits φ p) names k own follows _ s n n' inside (seen_watching names k) o b k' v is h
 
-    pub watching_stays : (at' : _) (o : Option State) (k' : Switch) (v : Data) → o ≡ None → WaitingSteps φ p (Waits φ p) names own s (Ok ((o, k'), v)) n n' inside
+    watching_stays : (at' : _) (o : Option State) (k' : Switch) (v : Data) → o ≡ None → WaitingSteps φ p (Waits φ p) names own s (Ok ((o, k'), v)) n n' inside
         → CountedSteps φ p (Watching' names at k.form k.running k.pattern k.body) s (Ok (Watching' names at' k'.form k'.running k'.pattern k'.body, v)) n n' inside
     watching_stays at' o k' v none h = stays_on (Waits φ p) names k own follows _ s n n' inside (seen_watching names k) o _ k' v none (is_watching names k') h
+
+    -- what takes over, if anything does, and the switch that waits on
+    pub watching_turns : (at' : _) (o : Option State) (k' : Switch) (v : Data) (b : State) → b ≡ unwrap_or o (Watching' names at' k'.form k'.running k'.pattern k'.body) → WaitingSteps φ p (Waits φ p) names own s (Ok ((o, k'), v)) n n' inside
+        → CountedSteps φ p (Watching' names at k.form k.running k.pattern k.body) s (Ok (b, v)) n n' inside
+    watching_turns at' (Some a) k' v b same h = subst (λ (b : State). CountedSteps φ p (Watching' names at k.form k.running k.pattern k.body) s (Ok (b, v)) n n' inside) (sym same) (watching_goes (Some a) a k' v refl h)
+    watching_turns at' None k' v b same h = subst (λ (b : State). CountedSteps φ p (Watching' names at k.form k.running k.pattern k.body) s (Ok (b, v)) n n' inside) (sym same) (watching_stays at' None k' v refl h)
 
     pub watching_fails : (f : Fault) → WaitingSteps φ p (Waits φ p) names own s (Err f) n n' inside → CountedSteps φ p (Watching' names at k.form k.running k.pattern k.body) s (Err f) n n' inside
     watching_fails f h = waiting_fails (Waits φ p) names k own follows _ s n n' inside (seen_watching names k) f h
 
   module _ (at : _) (names : Env) (k own : Keeping) (follows : (P : Process) (L : Life) → WaitsKeeping φ p k P L → WaitsKeeping φ p own P L) (s : Step) (n n' : Meter) (inside : ℕ) where
-    pub keeping_goes : (o : Option State) (b : State) (k' : Keeping) (v : Data) → o ≡ Some b → WaitingSteps φ p (WaitsKeeping φ p) names own s (Ok ((o, k'), v)) n n' inside
+    keeping_goes : (o : Option State) (b : State) (k' : Keeping) (v : Data) → o ≡ Some b → WaitingSteps φ p (WaitsKeeping φ p) names own s (Ok ((o, k'), v)) n n' inside
         → CountedSteps φ p (Keeping' names at k.shown k.first k.source k.before k.observer k.name k.pattern k.body) s (Ok (b, v)) n n' inside
     keeping_goes o b k' v is h = goes_over (WaitsKeeping φ p) names k own follows _ s n n' inside (seen_keeping names k) o b k' v is h
 
-    pub keeping_stays : (at' : _) (o : Option State) (k' : Keeping) (v : Data) → o ≡ None → WaitingSteps φ p (WaitsKeeping φ p) names own s (Ok ((o, k'), v)) n n' inside
+    keeping_stays : (at' : _) (o : Option State) (k' : Keeping) (v : Data) → o ≡ None → WaitingSteps φ p (WaitsKeeping φ p) names own s (Ok ((o, k'), v)) n n' inside
         → CountedSteps φ p (Keeping' names at k.shown k.first k.source k.before k.observer k.name k.pattern k.body) s (Ok (Keeping' names at' k'.shown k'.first k'.source k'.before k'.observer k'.name k'.pattern k'.body, v)) n n' inside
     keeping_stays at' o k' v none h = stays_on (WaitsKeeping φ p) names k own follows _ s n n' inside (seen_keeping names k) o _ k' v none (is_keeping names k') h
+
+    pub keeping_turns : (at' : _) (o : Option State) (k' : Keeping) (v : Data) (b : State) → b ≡ unwrap_or o (Keeping' names at' k'.shown k'.first k'.source k'.before k'.observer k'.name k'.pattern k'.body) → WaitingSteps φ p (WaitsKeeping φ p) names own s (Ok ((o, k'), v)) n n' inside
+        → CountedSteps φ p (Keeping' names at k.shown k.first k.source k.before k.observer k.name k.pattern k.body) s (Ok (b, v)) n n' inside
+    keeping_turns at' (Some a) k' v b same h = subst (λ (b : State). CountedSteps φ p (Keeping' names at k.shown k.first k.source k.before k.observer k.name k.pattern k.body) s (Ok (b, v)) n n' inside) (sym same) (keeping_goes (Some a) a k' v refl h)
+    keeping_turns at' None k' v b same h = subst (λ (b : State). CountedSteps φ p (Keeping' names at k.shown k.first k.source k.before k.observer k.name k.pattern k.body) s (Ok (b, v)) n n' inside) (sym same) (keeping_stays at' None k' v refl h)
 
     pub keeping_fails : (f : Fault) → WaitingSteps φ p (WaitsKeeping φ p) names own s (Err f) n n' inside → CountedSteps φ p (Keeping' names at k.shown k.first k.source k.before k.observer k.name k.pattern k.body) s (Err f) n n' inside
     keeping_fails f h = waiting_fails (WaitsKeeping φ p) names k own follows _ s n n' inside (seen_keeping names k) f h

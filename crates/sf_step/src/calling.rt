@@ -3,6 +3,7 @@ ghost use Rattle.std.specs.Prelude.{[], ◌∷◌, Some, All, IfOk};
 ghost use Rattle.sf_func.specs.Registries.{AnswersByName};
 ghost use Rattle.sf_expr.specs.Arena.{name_at};
 ghost use Rattle.sf_law.specs.Arena.{plan_expressions, plan_binding, plan_template, plan_arguments};
+ghost use Rattle.sf_law.specs.declared.node.PlanArgument.TheVariants as arguments;
 ghost use Rattle.sf_law.specs.Entries.{BindsName, BindsNames, IsCodedArgument};
 ghost use Rattle.sf_mean.specs.Lives.{Environment, base, process_of, process_started};
 ghost use Rattle.sf_mean.specs.Meaning.{argued, process_called};
@@ -11,9 +12,10 @@ ghost use Rattle.sf_step.specs.Contexts.{plan_in};
 ghost use Rattle.sf_step.specs.Sampling.{Makes};
 
 use crate::context::{SampleContext, fault_of};
-use sf_expr::NameId;
+use sf_code::Code;
+use sf_expr::{ExprId, NameId};
 use sf_func::Holds;
-use sf_law::{Plan, PlanArgument, PlanParameter, PlanTemplate};
+use sf_law::{Plan, PlanArgument, PlanId, PlanParameter, PlanTemplate};
 use sf_prim::constant;
 use sf_state::{Env, NamesIn, Process, State};
 use sf_term::Start;
@@ -102,40 +104,87 @@ fn bind<R: Holds>(
 {
     match argument {
         PlanArgument::Value(value, code) => {
-            let exprs = context.plan.expressions();
-            let around = NamesIn {
-                expressions: exprs,
-                names,
-            };
-            match constant(
-                context.alloc,
-                exprs,
-                *value,
-                code,
-                context.functions,
-                &around,
-            ) {
-                Ok(value) => {
-                    let shared = Rc::new(context.alloc, value)?;
-                    Ok(bound.inside(context.alloc, parameter.pattern(), shared)?)
-                }
-                Err(fault) => Err(fault_of(fault)),
-            }
+            bind_value(context, parameter, *value, code, names, bound)
         }
         PlanArgument::Started(start, name) => {
-            let process = started(context.alloc, context.plan, names, *start, *name)?;
-            let base = began(context.plan, names, *name)?;
-            Ok(bound.with_process(context.alloc, parameter.name(), process, base)?)
+            bind_started(context, parameter, *start, *name, names, bound)
         }
-        PlanArgument::Closed(term) => {
-            let around = names.share()?;
-            let process = Process {
-                term: *term,
-                names: around,
-            };
-            let base = process.share()?;
-            let process = State::Unborn(process);
-            Ok(bound.with_process(context.alloc, parameter.name(), process, base)?)
-        }
+        PlanArgument::Closed(term) => bind_closed(context, parameter, *term, names, bound),
     }
+}
+
+// The same where the argument is an expression: its value.
+fn bind_value<R: Holds>(
+    context: &SampleContext<R>,
+    parameter: &PlanParameter,
+    value: ExprId,
+    code: &Option<Code>,
+    names: &Env,
+    bound: &Env,
+) -> Result<Env, Fault>
+    requires bound { BindsName (plan_expressions (plan_in context.now)) parameter.now }
+    requires coded { IsCodedArgument (plan_expressions (plan_in context.now)) (arguments.Value value code.now) }
+    ensures { (e d : Environment) → IsNames (R.answers context.now.functions.now) (plan_in context.now) names.now e → IsNames (R.answers context.now.functions.now) (plan_in context.now) bound.now d →
+        Makes (IsNames (R.answers context.now.functions.now) (plan_in context.now))
+        (argued (R.answers context.now.functions.now) (plan_binding (plan_in context.now) parameter.now ∷ []) (plan_arguments (plan_in context.now) (arguments.Value value code.now ∷ [])) e d) result }
+{
+    let exprs = context.plan.expressions();
+    let around = NamesIn {
+        expressions: exprs,
+        names,
+    };
+    match constant(
+        context.alloc,
+        exprs,
+        value,
+        code,
+        context.functions,
+        &around,
+    ) {
+        Ok(value) => {
+            let shared = Rc::new(context.alloc, value)?;
+            Ok(bound.inside(context.alloc, parameter.pattern(), shared)?)
+        }
+        Err(fault) => Err(fault_of(fault)),
+    }
+}
+
+// The same where the argument is the process of a name.
+fn bind_started<R: Holds>(
+    context: &SampleContext<R>,
+    parameter: &PlanParameter,
+    start: Start,
+    name: NameId,
+    names: &Env,
+    bound: &Env,
+) -> Result<Env, Fault>
+    ensures { (e d : Environment) → IsNames (R.answers context.now.functions.now) (plan_in context.now) names.now e → IsNames (R.answers context.now.functions.now) (plan_in context.now) bound.now d →
+        Makes (IsNames (R.answers context.now.functions.now) (plan_in context.now))
+        (argued (R.answers context.now.functions.now) (plan_binding (plan_in context.now) parameter.now ∷ []) (plan_arguments (plan_in context.now) (arguments.Started start name ∷ [])) e d) result }
+{
+    let process = started(context.alloc, context.plan, names, start, name)?;
+    let base = began(context.plan, names, name)?;
+    Ok(bound.with_process(context.alloc, parameter.name(), process, base)?)
+}
+
+// The same where the argument is a term: its process in the names around the call.
+fn bind_closed<R: Holds>(
+    context: &SampleContext<R>,
+    parameter: &PlanParameter,
+    term: PlanId,
+    names: &Env,
+    bound: &Env,
+) -> Result<Env, Fault>
+    ensures { (e d : Environment) → IsNames (R.answers context.now.functions.now) (plan_in context.now) names.now e → IsNames (R.answers context.now.functions.now) (plan_in context.now) bound.now d →
+        Makes (IsNames (R.answers context.now.functions.now) (plan_in context.now))
+        (argued (R.answers context.now.functions.now) (plan_binding (plan_in context.now) parameter.now ∷ []) (plan_arguments (plan_in context.now) (arguments.Closed term ∷ [])) e d) result }
+{
+    let around = names.share()?;
+    let process = Process {
+        term,
+        names: around,
+    };
+    let base = process.share()?;
+    let process = State::Unborn(process);
+    Ok(bound.with_process(context.alloc, parameter.name(), process, base)?)
 }

@@ -9,7 +9,7 @@ ghost use Rattle.sf_mean.specs.Formulas.{occurring};
 ghost use Rattle.sf_mean.specs.Meaning.{Network, Made, value_made, switched_value};
 ghost use Rattle.sf_state.specs.Standing.{Wraps};
 
-use sf_state::{Feedback, Wrap};
+use sf_state::{Feedback, State, Wrap};
 use sf_term::{Heading, Observation, Side};
 use sf_value::{Form, Value};
 use std::alloc::{AllocError, Global};
@@ -42,14 +42,28 @@ fn doubled(alloc: Global, value: &mut Value) -> Result<(Rc<Value>, Rc<Value>), A
     Ok((first, second))
 }
 
-/// The two parts of a pair, taken out of it; a value that is no pair stands for both.
+// The two parts of a pair, taken out of it; a value that is no pair stands for both.
 #[inline]
-pub(crate) fn parts(alloc: Global, pair: Value) -> Result<(Value, Value), AllocError>
+fn parts(alloc: Global, pair: Value) -> Result<(Value, Value), AllocError>
     ensures { IfOk result (λ parts. (parts.0 ≡ first_of pair) × (parts.1 ≡ second_of pair)) }
 {
     let mut pair = pair;
     let (first, second) = halves(alloc, &mut pair)?;
     Ok((taken(alloc, first)?, taken(alloc, second)?))
+}
+
+/// The first part of a pair, and the payload of the event beside it, if it occurs; a value that is no pair stands for both
+/// parts. It leaves a number in its place.
+#[inline]
+pub(crate) fn value_and_payload(
+    alloc: Global,
+    value: &mut Value,
+) -> Result<(Value, Option<Rc<Value>>), AllocError>
+    ensures { IfOk result (λ x. (x.0 ≡ first_of value.old) × (option_map (λ r. r.value) x.1 ≡ occurring (second_of value.old))) }
+{
+    let both = mem::replace(value, Value::int(0));
+    let (first, event) = parts(alloc, both)?;
+    Ok((first, payload_of(event)))
 }
 
 /// The payload of an event that occurs, which may be shared; none of another value.
@@ -148,5 +162,15 @@ pub(crate) fn with_head(alloc: Global, heading: Heading, value: Value) -> Result
     match heading {
         Heading::LoopPre => Ok(Wrap::Loop(Feedback::new(alloc, value)?)),
         Heading::Initialized => Ok(Wrap::Initialized(Some(value))),
+    }
+}
+
+/// What takes over from a state stands in its place, if anything does.
+#[inline]
+pub(crate) fn take_over(state: &mut State, over: Option<State>)
+    ensures { state.new ≡ unwrap_or over state.old }
+{
+    if let Some(body) = over {
+        *state = body;
     }
 }

@@ -21,7 +21,8 @@ use crate::calling::{called, started};
 use crate::context::{SampleContext, fault_of};
 use crate::meter::{Meter, Stop};
 use crate::routing::{
-    feed_back, halves, on_side, parts, payload_of, put_first, switched, unshare_half, with_head,
+    feed_back, halves, on_side, payload_of, put_first, switched, take_over, unshare_half,
+    value_and_payload, with_head,
 };
 use sf_code::Code;
 use sf_expr::{ExprId, NameId, PatternId};
@@ -170,39 +171,65 @@ fn step_counted<R: Holds>(
         State::Primitive(prim) => step_prim(context, prim, value, meter),
         State::Live(_, node) => step_node(context, node, inside, value, meter),
         State::Switch(names, node) => {
-            let Ok(()) = unshare_switch(context.alloc, node) else {
-                return Err(meter.stop(Fault::Memory));
-            };
-            let Some(switch) = Rc::get_mut(node) else {
-                return Err(meter.stop(Fault::Memory));
-            };
-            let over = step_switch(context, switch, names, inside, value, meter)?;
-            match over {
-                Some(body) => {
-                    *state = body;
-                    Ok(())
-                }
-                None => Ok(()),
-            }
+            let over = step_watching(context, node, names, inside, value, meter)?;
+            take_over(state, over);
+            Ok(())
         }
         State::Keeping(names, node) => {
-            let Ok(()) = unshare_keeping(context.alloc, node) else {
-                return Err(meter.stop(Fault::Memory));
-            };
-            let Some(keeping) = Rc::get_mut(node) else {
-                return Err(meter.stop(Fault::Memory));
-            };
-            let kept = step_keeping(context, keeping, names, inside, value, meter)?;
-            match kept {
-                Some(body) => {
-                    *state = body;
-                    Ok(())
-                }
-                None => Ok(()),
-            }
+            let kept = step_observing(context, node, names, inside, value, meter)?;
+            take_over(state, kept);
+            Ok(())
         }
         // these aren't prepared
         State::Unborn(_) | State::Frozen(_) => Err(meter.stop(Fault::Memory)),
+    }
+}
+
+// The next sample of a switch that waits at a node, which other states may share, and that has been counted.
+#[cycle(step)]
+#[inline(always)]
+fn step_watching<R: Holds>(
+    context: &SampleContext<R>,
+    node: &mut Rc<Switch>,
+    names: &Env,
+    inside: u64,
+    value: &mut Value,
+    meter: &mut Meter,
+) -> Result<Option<State>, Stop>
+    ensures grows { entered_of meter.old ≤ entered_of meter.new }
+    ensures answers { SwitchSteps (R.answers context.now.functions.now) (plan_in context.now) names.now node.old.value (step (dt_in context.now) value.old)
+        (left_beside result node.new.value value.new (fault_in meter.new)) meter.old meter.new inside }
+{
+    let Ok(()) = unshare_switch(context.alloc, node) else {
+        return Err(meter.stop(Fault::Memory));
+    };
+    match Rc::get_mut(node) {
+        Some(switch) => step_switch(context, switch, names, inside, value, meter),
+        None => Err(meter.stop(Fault::Memory)),
+    }
+}
+
+// The same of a switch that keeps its source.
+#[cycle(step)]
+#[inline(always)]
+fn step_observing<R: Holds>(
+    context: &SampleContext<R>,
+    node: &mut Rc<Keeping>,
+    names: &Env,
+    inside: u64,
+    value: &mut Value,
+    meter: &mut Meter,
+) -> Result<Option<State>, Stop>
+    ensures grows { entered_of meter.old ≤ entered_of meter.new }
+    ensures answers { KeepingSteps (R.answers context.now.functions.now) (plan_in context.now) names.now node.old.value (step (dt_in context.now) value.old)
+        (left_beside result node.new.value value.new (fault_in meter.new)) meter.old meter.new inside }
+{
+    let Ok(()) = unshare_keeping(context.alloc, node) else {
+        return Err(meter.stop(Fault::Memory));
+    };
+    match Rc::get_mut(node) {
+        Some(keeping) => step_keeping(context, keeping, names, inside, value, meter),
+        None => Err(meter.stop(Fault::Memory)),
     }
 }
 
@@ -254,11 +281,10 @@ fn step_basic<R: Holds>(
         return Err(meter.stop(Fault::Memory));
     };
     step_state(context, &mut switch.running, inside, value, meter)?;
-    let both = mem::replace(value, Value::int(0));
-    let Ok((old, event)) = parts(context.alloc, both) else {
+    let Ok((old, occurring)) = value_and_payload(context.alloc, value) else {
         return Err(meter.stop(Fault::Memory));
     };
-    match payload_of(event) {
+    match occurring {
         None => {
             *value = old;
             Ok(None)
@@ -292,12 +318,11 @@ fn step_recurring<R: Holds>(
     ensures answers { SwitchSteps (R.answers context.now.functions.now) (plan_in context.now) names.now switch.old (step (dt_in context.now) value.old)
         (left_or result ((None, switch.new), value.new) (fault_in meter.new)) meter.old meter.new inside }
 {
-    let both = mem::replace(value, Value::int(0));
-    let Ok((input, event)) = parts(context.alloc, both) else {
+    let Ok((input, occurring)) = value_and_payload(context.alloc, value) else {
         return Err(meter.stop(Fault::Memory));
     };
     *value = input;
-    match payload_of(event) {
+    match occurring {
         None => step_state(context, &mut switch.running, inside, value, meter),
         Some(payload) => {
             let Ok(mut begun) = value.clone_in(context.alloc) else {
@@ -309,7 +334,7 @@ fn step_recurring<R: Holds>(
                 return Err(meter.stop(Fault::Memory));
             };
             step_state(context, &mut next, inside, &mut begun, meter)?;
-            switch.running = next;
+            take_over(&mut switch.running, Some(next));
             let old = mem::replace(value, Value::int(0));
             *value = switched(shown, old, begun);
             Ok(())
@@ -707,30 +732,35 @@ fn begin<R: Holds>(
         BeginsAs (R.answers context.now.functions.now) (plan_in context.now) (plan_tree (plan_in context.now) term) e state.new result }
 {
     match open(context, term, &names) {
-        Ok(Opened::Primitive(prim)) => {
-            *state = State::Primitive(prim);
-            Ok(Begun::Itself)
-        }
-        Ok(Opened::Live(live)) => {
-            let node = Rc::new(context.alloc, live)?;
-            *state = State::Live(names, node);
-            Ok(Begun::Itself)
-        }
-        Ok(Opened::Switch(switch)) => {
-            let watching = Rc::new(context.alloc, switch)?;
-            *state = State::Switch(names, watching);
-            Ok(Begun::Itself)
-        }
-        Ok(Opened::Keeping(keeping)) => {
-            let kept = Rc::new(context.alloc, keeping)?;
-            *state = State::Keeping(names, kept);
-            Ok(Begun::Itself)
-        }
-        Ok(Opened::Running(process)) => {
-            *state = process;
-            Ok(Begun::Referred)
+        Ok(opened) => {
+            let (next, begun) = prepared(context.alloc, opened, names)?;
+            *state = next;
+            Ok(begun)
         }
         Err(fault) => Err(fault),
+    }
+}
+
+// A part that is opened, as a state that is prepared for its first sample, with the names around it.
+fn prepared(alloc: Global, opened: Opened, names: Env) -> Result<(State, Begun), AllocError>
+    ensures { IfOk result (λ x. (φ : AnswersByName) (p : PlanOf) (u : Term) → ((e : Environment) → IsNames φ p names e → Opens φ p u e (Ok opened)) →
+        (e : Environment) → IsNames φ p names e → BeginsAs φ p u e x.0 (Ok x.1)) }
+{
+    match opened {
+        Opened::Primitive(prim) => Ok((State::Primitive(prim), Begun::Itself)),
+        Opened::Live(live) => {
+            let node = Rc::new(alloc, live)?;
+            Ok((State::Live(names, node), Begun::Itself))
+        }
+        Opened::Switch(switch) => {
+            let watching = Rc::new(alloc, switch)?;
+            Ok((State::Switch(names, watching), Begun::Itself))
+        }
+        Opened::Keeping(keeping) => {
+            let kept = Rc::new(alloc, keeping)?;
+            Ok((State::Keeping(names, kept), Begun::Itself))
+        }
+        Opened::Running(process) => Ok((process, Begun::Referred)),
     }
 }
 

@@ -42,8 +42,8 @@ pub struct Program {
 }
 
 impl Program {
-    ghost use Rattle.sf_term.specs.Arena.{term_count, expression_count, HoldsTerm, HoldsExpression, ProgramHoldsFunction};
-    ghost use Rattle.sf_term.specs.Arena.{tree, expression_under, function_in, term_entry_of, term_node_at, term_spot_at, term_of, term_number};
+    ghost use Rattle.sf_term.specs.Arena.{term_count, expression_count, HoldsTerm, HoldsExpression};
+    ghost use Rattle.sf_term.specs.Arena.{tree, expression_under, term_entry_of, term_node_at, term_spot_at, term_of, term_number};
     ghost use Rattle.sf_term.specs.Arena.{expressions_of, headers_of, HoldsPatternIn, pattern_under, TermPartsBelow, HoldsTermParts};
     ghost use Rattle.sf_term.specs.Arena.{HoldsArgument, HoldsArguments, arguments_under, arguments_of, next_arguments};
     ghost use Rattle.sf_term.specs.Arena.{AddsTerm, AddsExpression, AddsProgramFunction, AddsTemplate, IsSameProgram, IsProgramCopy};
@@ -743,10 +743,10 @@ impl Program {
     pub fn clone_in(&self, alloc: Global) -> Result<Program, AllocError>
         ensures { IfOk result (λ copy. IsProgramCopy self.now copy) }
     {
-        let expressions = self.expressions.clone_in(alloc)?;
-        let terms = self.terms.clone_in(alloc)?;
-        let arguments = clone_lists(alloc, &self.arguments)?;
         let templates = clone_all(alloc, &self.templates)?;
+        let arguments = clone_lists(alloc, &self.arguments)?;
+        let terms = self.terms.clone_in(alloc)?;
+        let expressions = self.expressions.clone_in(alloc)?;
         Ok(Program {
             expressions,
             terms,

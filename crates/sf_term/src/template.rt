@@ -71,17 +71,27 @@ impl Parameter {
     fn clone_in(&self, alloc: Global) -> Result<Parameter, AllocError>
         ensures { IfOk result (λ copy. copy ≡ self.now) }
     {
-        let form = match &self.form {
-            ParameterForm::Value(ty) => ParameterForm::Value(ty.clone_in(alloc)?),
-            ParameterForm::Process(from, to) => {
-                ParameterForm::Process(from.clone_in(alloc)?, to.clone_in(alloc)?)
-            }
-        };
         Ok(Parameter {
             name: String::from_str(alloc, self.name.as_str())?,
             spot: self.spot,
-            form,
+            form: self.form.clone_in(alloc)?,
         })
+    }
+}
+
+impl ParameterForm {
+    /// A copy.
+    pub fn clone_in(&self, alloc: Global) -> Result<ParameterForm, AllocError>
+        ensures { IfOk result (λ copy. kind_of_form copy ≡ kind_of_form self.now) }
+    {
+        match self {
+            ParameterForm::Value(ty) => Ok(ParameterForm::Value(ty.clone_in(alloc)?)),
+            ParameterForm::Process(from, to) => {
+                let from = from.clone_in(alloc)?;
+                let to = to.clone_in(alloc)?;
+                Ok(ParameterForm::Process(from, to))
+            }
+        }
     }
 }
 

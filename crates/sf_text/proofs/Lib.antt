@@ -1,3 +1,4 @@
+pub mod Stops
 pub mod Placed
 pub mod Deeper
 pub mod Found

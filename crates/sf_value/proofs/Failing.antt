@@ -1,10 +1,11 @@
 -- Steps that fail, and the code's readers of numbers.
-use Rattle.std.proofs.Common.{◌≡◌, ℕ, suc, ◌-◌, ◌≤◌, ◌<◌, List, [], ◌∷◌, length, take, drop, get_or, Result, Ok, true, sym, ap, subst, ◌∙◌, arith}
+use Rattle.std.proofs.Common.{◌≡◌, ℕ, suc, ◌-◌, ◌≤◌, ◌<◌, List, [], ◌∷◌, length, take, drop, get_or, Result, Ok, Err, true, sym, ap, subst, ◌∙◌, arith}
+use Rattle.std.specs.Prelude.{IsErrAnd}
 use Rattle.sf_value.specs.declared.read.Failure.{Failure}
 use Rattle.sf_value.specs.declared.read.Failure.TheVariants.{Bad, Wide, Again, Memory}
 use Rattle.sf_value.specs.Scan.{Stop, ◌>>=◌, positive_at, integer_at, narrow}
 use Rattle.sf_decimal.specs.Decimals.{signed}
-use Rattle.sf_value.specs.Gives.{Fails}
+use Rattle.sf_value.specs.Gives.{Fails, GivesRead}
 use Rattle.sf_decimal.proofs.Runs.{take_whole}
 use Rattle.sf_value.proofs.Integers.{PositiveSound, positive_sound}
 
@@ -14,6 +15,15 @@ fails_then (Bad n) r f h = (h.0, ap (λ x. x >>= f) h.1, h.2)
 fails_then (Wide n) r f h = (h.0, ap (λ x. x >>= f) h.1, h.2)
 fails_then (Again n) r f h = (h.0, ap (λ x. x >>= f) h.1, h.2)
 fails_then Memory r f h = tt
+
+-- and what fails after a step
+pub goes_then : {X Y : Type 0} (e : Failure) (r : Result X Stop) (x : X) (f : X → Result Y Stop) → r ≡ Ok x → Fails e (f x) → Fails e (r >>= f)
+goes_then e r x f is h = subst (λ r. Fails e (r >>= f)) (sym is) h
+
+-- a reader that gives this failure on
+pub fails_so : {X Y : Type 0} (view : X → Y) (e : Failure) (r : Result X Failure) (read : Result Y Stop) → IsErrAnd r (λ g. g ≡ e) → Fails e read → GivesRead view r read
+fails_so view e (Ok x) read is h = absurd is
+fails_so view e (Err g) read is h = subst (λ (g : Failure). Fails g read) (sym is) h
 
 positive_is : (s : List ℕ) (m : ℕ) (after : List ℕ) → positive_at s ≡ Ok (m, after) → 0 < m
 positive_is s m after e = (subst (PositiveSound s) e (positive_sound s)).0

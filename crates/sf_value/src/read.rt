@@ -1,12 +1,12 @@
 //! Values from their spellings.
-ghost use Rattle.std.specs.Prelude.{◌≡◌, ◌≤◌, ◌<◌, ℕ, IfOk, IfErr, MatchResult, min, codes, map, ◌++◌, ◌∷◌, []};
+ghost use Rattle.std.specs.Prelude.{◌≡◌, ◌<◌, ℕ, IfOk, IfErr, OnOk, MatchResult, min, codes, map, ◌++◌, ◌∷◌, []};
 ghost use Rattle.sf_value.specs.Values.{Data, unit_kind, bool_kind, int_kind, text_kind, pair_kind, event_kind, table_kind, HasKind, HasDifferentKeys};
 ghost use Rattle.sf_value.specs.KindView.{key_kind_of};
 ghost use Rattle.sf_value.specs.View.{key_of, rows_of};
 ghost use Rattle.sf_value.specs.Tables.{AreKeysOf, spellings};
 ghost use Rattle.sf_value.specs.Spelling.{spelling};
 ghost use Rattle.sf_decimal.specs.Decimals.{signed};
-ghost use Rattle.sf_value.specs.Scan.{byte_at, word_at, positive_at, integer_at, value_at, truth_at, narrow, begins_digit, key_at, new_key_at, row_at, rows_at};
+ghost use Rattle.sf_value.specs.Scan.{byte_at, word_at, positive_at, integer_at, value_at, narrow, begins_digit, key_at, new_key_at, row_at, rows_at};
 ghost use Rattle.sf_value.specs.Reading.{Reads};
 ghost use Rattle.sf_value.specs.Refuses.{Refuses, IsMemory};
 ghost use Rattle.sf_value.specs.Gives.{GivesRead, GivesCapped, cap};
@@ -199,7 +199,7 @@ fn string_of(alloc: Global, bytes: &[u8]) -> Result<(Value, &[u8]), Failure>
 }
 
 #[cycle(value_of)]
-#[tactic(auto, using(crate::proofs::Failing::fails_then), unfolding(crate::specs::Scan::value_at))]
+#[tactic(auto, unfolding(crate::specs::Scan::value_at))]
 fn pair_of<'a>(
     alloc: Global,
     first: &Ty,
@@ -320,7 +320,7 @@ fn new_key_in<'a>(
 
 /// A table of a type at the front, and what is after it. Keys are looked up in its index.
 #[cycle(value_of)]
-#[tactic(auto, using(crate::proofs::Failing::fails_then), unfolding(crate::specs::Scan::value_at))]
+#[tactic(auto, unfolding(crate::specs::Scan::value_at))]
 fn table_of<'a>(
     alloc: Global,
     keys: KeyType,
@@ -354,10 +354,29 @@ fn rows_in<'a>(
         rows: Vec::new(alloc),
         keys: IndexSet::new(alloc),
     };
+    let rest = read_rows(alloc, keys, values, &mut table, bytes)?;
+    Ok((table, rest))
+}
+
+/// Puts the rows up to a closing brace in a table that has none yet, and gives what is after it.
+#[cycle(value_of)]
+fn read_rows<'a>(
+    alloc: Global,
+    keys: KeyType,
+    values: &Ty,
+    table: &mut Table,
+    bytes: &'a [u8],
+) -> Result<&'a [u8], Failure>
+    requires no_rows { table.old.rows.items ≡ [] }
+    requires no_keys { table.old.keys.keys ≡ [] }
+    ensures rows { GivesRead (λ rest. (rows_of table.new.rows.items, rest.now)) result (rows_at (key_kind_of keys) (value_at values.now) bytes.now) }
+    ensures different { OnOk result (HasDifferentKeys (rows_of table.new.rows.items)) }
+    ensures indexed { OnOk result (AreKeysOf table.new.keys.keys table.new.rows.items) }
+{
     let mut left = bytes;
     if let [c, rest @ ..] = bytes {
         if *c == b'}' {
-            return Ok((table, rest));
+            return Ok(rest);
         }
     }
     loop {
@@ -369,7 +388,7 @@ fn rows_in<'a>(
             [] => return Err(Failure::Bad(0)),
             [c, behind @ ..] => {
                 if *c == b'}' {
-                    return Ok((table, behind));
+                    return Ok(behind);
                 }
                 if *c != b',' {
                     return Err(Failure::Bad(rest.len()));
@@ -382,7 +401,6 @@ fn rows_in<'a>(
 
 /// A row at the front, whose key is none of those seen, and what is after it. Its key is then seen.
 #[cycle(value_of)]
-#[tactic(auto, using(crate::proofs::Failing::fails_then))]
 fn row_in<'a>(
     alloc: Global,
     keys: KeyType,

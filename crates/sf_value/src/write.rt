@@ -3,6 +3,7 @@ ghost use Rattle.std.specs.Prelude.{◌≡◌, ◌++◌, ◌∷◌, [], OnOk, On
 ghost use Rattle.std.specs.List.{flat_map};
 ghost use Rattle.sf_value.specs.Spelling.{escaped, quoted, key_spelling, spelling, rows_spelling, more_spelling};
 ghost use Rattle.sf_value.specs.View.{key_of, rows_of};
+ghost use Rattle.sf_value.specs.Values.{pair, table};
 
 use crate::value::{Form, Key, Value};
 use sf_decimal::write_integer;
@@ -23,7 +24,6 @@ pub fn write_value(value: &Value, out: &mut Vec<u8>) -> Result<(), AllocError>
 
 // An error may leave a part of the spelling behind what was there, here and in the functions below.
 #[cycle(append)]
-#[tactic(auto, using(crate::proofs::Fronts::front_kept))]
 fn append(value: &Value, out: &mut Vec<u8>) -> Result<(), AllocError>
     ensures ok { OnOk result (out.new.items ≡ out.old.items ++ spelling value.now) }
     ensures err { OnErr result (take (length out.old.items) out.new.items ≡ out.old.items) }
@@ -34,30 +34,41 @@ fn append(value: &Value, out: &mut Vec<u8>) -> Result<(), AllocError>
         Form::Bool(false) => out.extend_from_slice(b"false"),
         Form::Int(n) => write_integer(*n, out),
         Form::Text(s) => append_text(s.as_str(), out),
-        Form::Pair(first, second) => {
-            out.push(b'(')?;
-            append(first, out)?;
-            out.push(b',')?;
-            append(second, out)?;
-            out.push(b')')?;
-            Ok(())
-        }
+        Form::Pair(first, second) => append_pair(first, second, out),
         Form::NoEvent => out.extend_from_slice(b"none"),
         Form::Event(payload) => {
             out.extend_from_slice(b"event ")?;
             append(payload, out)
         }
-        Form::Table(table) => {
-            out.push(b'{')?;
-            append_rows(&table.rows, out)?;
-            out.push(b'}')?;
-            Ok(())
-        }
+        Form::Table(table) => append_table(&table.rows, out),
     }
 }
 
 #[cycle(append)]
-#[tactic(auto, using(crate::proofs::Fronts::front_kept))]
+fn append_pair(first: &Value, second: &Value, out: &mut Vec<u8>) -> Result<(), AllocError>
+    ensures ok { OnOk result (out.new.items ≡ out.old.items ++ spelling (pair first.now second.now)) }
+    ensures err { OnErr result (take (length out.old.items) out.new.items ≡ out.old.items) }
+{
+    out.push(b'(')?;
+    append(first, out)?;
+    out.push(b',')?;
+    append(second, out)?;
+    out.push(b')')?;
+    Ok(())
+}
+
+#[cycle(append)]
+fn append_table(rows: &[(Key, Value)], out: &mut Vec<u8>) -> Result<(), AllocError>
+    ensures ok { OnOk result (out.new.items ≡ out.old.items ++ spelling (table (rows_of rows.now))) }
+    ensures err { OnErr result (take (length out.old.items) out.new.items ≡ out.old.items) }
+{
+    out.push(b'{')?;
+    append_rows(rows, out)?;
+    out.push(b'}')?;
+    Ok(())
+}
+
+#[cycle(append)]
 fn append_rows(rows: &[(Key, Value)], out: &mut Vec<u8>) -> Result<(), AllocError>
     ensures ok { OnOk result (out.new.items ≡ out.old.items ++ rows_spelling (rows_of rows.now)) }
     ensures err { OnErr result (take (length out.old.items) out.new.items ≡ out.old.items) }
@@ -73,7 +84,6 @@ fn append_rows(rows: &[(Key, Value)], out: &mut Vec<u8>) -> Result<(), AllocErro
 }
 
 #[cycle(append)]
-#[tactic(auto, using(crate::proofs::Fronts::front_kept))]
 fn append_more(rows: &[(Key, Value)], out: &mut Vec<u8>) -> Result<(), AllocError>
     ensures ok { OnOk result (out.new.items ≡ out.old.items ++ more_spelling (rows_of rows.now)) }
     ensures err { OnErr result (take (length out.old.items) out.new.items ≡ out.old.items) }
@@ -90,7 +100,6 @@ fn append_more(rows: &[(Key, Value)], out: &mut Vec<u8>) -> Result<(), AllocErro
 }
 
 /// A key and the colon after it.
-#[tactic(auto, using(crate::proofs::Fronts::front_kept))]
 fn append_key(key: &Key, out: &mut Vec<u8>) -> Result<(), AllocError>
     ensures ok { OnOk result (out.new.items ≡ out.old.items ++ (key_spelling (key_of key.now) ++ 58 ∷ [])) }
     ensures err { OnErr result (take (length out.old.items) out.new.items ≡ out.old.items) }
@@ -103,7 +112,6 @@ fn append_key(key: &Key, out: &mut Vec<u8>) -> Result<(), AllocError>
     Ok(())
 }
 
-#[tactic(auto, using(crate::proofs::Fronts::front_kept))]
 fn append_text(s: &str, out: &mut Vec<u8>) -> Result<(), AllocError>
     ensures ok { OnOk result (out.new.items ≡ out.old.items ++ quoted s.now) }
     ensures err { OnErr result (take (length out.old.items) out.new.items ≡ out.old.items) }
@@ -114,7 +122,6 @@ fn append_text(s: &str, out: &mut Vec<u8>) -> Result<(), AllocError>
     Ok(())
 }
 
-#[tactic(auto, using(crate::proofs::Fronts::front_kept))]
 fn append_escaped(bytes: &[u8], out: &mut Vec<u8>) -> Result<(), AllocError>
     ensures ok { OnOk result (out.new.items ≡ out.old.items ++ flat_map escaped bytes.now) }
     ensures err { OnErr result (take (length out.old.items) out.new.items ≡ out.old.items) }

@@ -4,13 +4,14 @@ use Rattle.std.specs.Slice.Iter.{iter_rest}
 use Rattle.std.proofs.lemmas.List.Elements.{All-same, All-rest}
 use Rattle.std.proofs.lemmas.List.{length-map}
 use Rattle.std.proofs.lemmas.Slice.Zip.{Zip-more, either_empty_from_Zip}
-use Rattle.sf_value.specs.Values.{pair_kind}
+use Rattle.sf_value.specs.Values.{Kind, pair_kind}
 use Rattle.sf_refusal.specs.declared.rule.Rule.TheVariants.{Mismatch}
-use Rattle.sf_refusal.specs.Refusals.{broken}
-use Rattle.sf_check.specs.Breaking.{initialized_part, sequence_left, fan_right, parallel_input, side_input}
+use Rattle.sf_refusal.specs.Refusals.{broken, no_memory}
+use Rattle.sf_check.specs.Answering.{AnswersBody}
+use Rattle.sf_check.specs.Breaking.{keeping_inside, initialized_part, sequence_left, fan_right, parallel_input, side_input}
 use Rattle.sf_term.specs.Arena.{term_number, expressions_of, term_spot_at, arguments_under, ArgumentBelow}
 use Rattle.sf_check.specs.Contexts.{context_in}
-use Rattle.sf_check.proofs.Terms.{part_refused, err_answers, memory_answers, named_there, joined_there, sided_there, mismatch_refused, primitive_answers, probe_answers, sequence_answers, fan_answers, copy_reached, copy_takes, left_reached, right_reached, first_reached, second_reached, parallel_answers, first_answers, second_answers, start_answers, initialized_refused, initialized_answers, fed_refused, loop_reached, loop_answers, answers_under, body_under, err_body, pattern_stops, within_stops, other_stops, body_answered, switch_answers, source_reached, source_answers, source_wants, input_answers, first_term_reached, input_wants, switching_there, kept_reached, watched_answers, observer_reached, observer_answers, keeping_answers}
+use Rattle.sf_check.proofs.Terms.{part_refused, err_answers, memory_answers, named_there, sided_there, mismatch_refused, primitive_answers, probe_answers, sequence_answers, fan_answers, copy_reached, copy_takes, left_reached, right_reached, first_reached, second_reached, parallel_answers, first_answers, second_answers, start_answers, initialized_refused, initialized_answers, fed_refused, loop_reached, loop_answers, answers_under, body_under, err_body, pattern_stops, within_stops, other_stops, body_answered, switch_answers, source_reached, source_answers, source_wants, input_answers, first_term_reached, input_wants, kept_reached, watched_answers, observer_reached, observer_answers, keeping_answers}
 use Rattle.sf_term.specs.ParameterView.{kind_of_form}
 use Rattle.sf_check.specs.Contexts.{program_in}
 use Rattle.sf_check.proofs.Calls.{err_argument, value_refused, value_answers, misplaced, term_stops, process_answers, memory_argument, no_template_answers, other_number_answers, none_absent, all_so, so_next, so_end, next_so, answer_for, argument_answers, differs_answers, call_answers}
@@ -25,50 +26,50 @@ output_of-returns-in-Primitive t c =
 
 -- ## In sequence
 
-pub joined_output-returns-in_err-middle-in-InSequence : goal.joined_output-returns-in_err-middle-in-InSequence
-joined_output-returns-in_err-middle-in-InSequence t c =
-    err_answers _ _ _ _ _ _ c.from_residual.ensures.1 (part_refused _ _ _ _ _ (joined_there _ _ c.in-InSequence.is c.requires.there) _ _ _ sequence_left c.in_err-middle-in-InSequence.ensures)
+pub sequence_output-returns-in_err-middle : goal.sequence_output-returns-in_err-middle
+sequence_output-returns-in_err-middle t c =
+    err_answers _ _ _ _ _ _ c.from_residual.ensures.1 (part_refused _ _ _ _ _ c.requires.there _ _ _ sequence_left c.in_err-middle.ensures)
 
-pub joined_output-returns-in_ok-middle-in-InSequence : goal.joined_output-returns-in_ok-middle-in-InSequence
-joined_output-returns-in_ok-middle-in-InSequence t c =
-    sequence_answers _ _ _ _ _ c.spot-spot.ensures _ _ _ _ (joined_there _ _ c.in-InSequence.is c.requires.there) c.requires.fits c.in_ok-middle-in-InSequence.ensures c.output_of-in-InSequence.ensures
+pub sequence_output-returns : goal.sequence_output-returns
+sequence_output-returns t c =
+    sequence_answers _ _ c.args.term _ _ refl _ _ _ _ c.requires.there c.requires.fits c.in_ok-middle.ensures c.output_of-2.ensures
 
 -- ## Side by side
 
-pub joined_output-returns-in_err-a-in-InParallel : goal.joined_output-returns-in_err-a-in-InParallel
-joined_output-returns-in_err-a-in-InParallel t c =
-    err_answers _ _ _ _ _ _ c.from_residual-in_err-a-in-InParallel.ensures.1 (mismatch_refused _ _ _ _ _ c.spot-spot.ensures _ (joined_there _ _ c.in-InParallel.is c.requires.there) _ c.in_err-a-in-InParallel.ensures.err parallel_input)
+pub parallel_output-returns-in_err-a : goal.parallel_output-returns-in_err-a
+parallel_output-returns-in_err-a t c =
+    err_answers _ _ _ _ _ _ c.from_residual.ensures.1 (mismatch_refused _ _ _ _ _ c.spot-spot.ensures _ c.requires.there _ c.in_err-a.ensures.err parallel_input)
 
-pub joined_output-returns-in_err-first-in-InParallel : goal.joined_output-returns-in_err-first-in-InParallel
-joined_output-returns-in_err-first-in-InParallel t c =
-    let parts = c.in_ok-a-in-InParallel.ensures.ok in
-    err_answers _ _ _ _ _ _ c.from_residual-in_err-first-in-InParallel.ensures.1 (part_refused _ _ _ _ _ (joined_there _ _ c.in-InParallel.is c.requires.there) _ _ _ (left_reached c.args.context.now.program.now _ c.args.term _ _ c.spot-spot.ensures _ _ parts _ _) c.in_err-first-in-InParallel.ensures)
+pub parallel_output-returns-in_err-first : goal.parallel_output-returns-in_err-first
+parallel_output-returns-in_err-first t c =
+    let parts = c.in_ok-a.ensures.ok in
+    err_answers _ _ _ _ _ _ c.from_residual-in_err-first.ensures.1 (part_refused _ _ _ _ _ c.requires.there _ _ _ (left_reached c.args.context.now.program.now _ c.args.term _ _ c.spot-spot.ensures _ _ parts _ _) c.in_err-first.ensures)
 
-pub joined_output-returns-in_err-second-in-InParallel : goal.joined_output-returns-in_err-second-in-InParallel
-joined_output-returns-in_err-second-in-InParallel t c =
-    let parts = c.in_ok-a-in-InParallel.ensures.ok in
-    err_answers _ _ _ _ _ _ c.from_residual-in_err-second-in-InParallel.ensures.1 (part_refused _ _ _ _ _ (joined_there _ _ c.in-InParallel.is c.requires.there) _ _ _ (right_reached c.args.context.now.program.now _ c.args.term _ _ c.spot-spot.ensures _ _ parts _ _ _ c.in_ok-first-in-InParallel.ensures) c.in_err-second-in-InParallel.ensures)
+pub parallel_output-returns-in_err-second : goal.parallel_output-returns-in_err-second
+parallel_output-returns-in_err-second t c =
+    let parts = c.in_ok-a.ensures.ok in
+    err_answers _ _ _ _ _ _ c.from_residual-in_err-second.ensures.1 (part_refused _ _ _ _ _ c.requires.there _ _ _ (right_reached c.args.context.now.program.now _ c.args.term _ _ c.spot-spot.ensures _ _ parts _ _ _ c.in_ok-first.ensures) c.in_err-second.ensures)
 
-pub joined_output-returns-in_ok-second-in-InParallel : goal.joined_output-returns-in_ok-second-in-InParallel
-joined_output-returns-in_ok-second-in-InParallel t c =
-    parallel_answers _ _ _ _ _ c.spot-spot.ensures _ _ c.in_ok-a-in-InParallel.ensures.ok _ _ _ _ _ (joined_there _ _ c.in-InParallel.is c.requires.there) c.requires.fits c.in_ok-first-in-InParallel.ensures c.in_ok-second-in-InParallel.ensures c.pair_type.ensures
+pub parallel_output-returns : goal.parallel_output-returns
+parallel_output-returns t c =
+    parallel_answers _ _ _ _ _ c.spot-spot.ensures _ _ c.in_ok-a.ensures.ok _ _ _ _ _ c.requires.there c.requires.fits c.in_ok-first.ensures c.in_ok-second.ensures c.pair_type.ensures
 
 -- ## Both on the input
 
-pub joined_output-returns-in_err-first-in-FannedOut : goal.joined_output-returns-in_err-first-in-FannedOut
-joined_output-returns-in_err-first-in-FannedOut t c =
-    err_answers _ _ _ _ _ _ c.from_residual-in_err-first-in-FannedOut.ensures.1 (part_refused _ _ _ _ _ (joined_there _ _ c.in-FannedOut.is c.requires.there) _ _ _ (copy_reached c.args.context.now.program.now _ c.args.term _ _ c.spot-spot.ensures _ c.in_ok-clone_in-in-FannedOut.ensures.same _ _) c.in_err-first-in-FannedOut.ensures)
+pub fan_output-returns-in_err-first : goal.fan_output-returns-in_err-first
+fan_output-returns-in_err-first t c =
+    err_answers _ _ _ _ _ _ c.from_residual-in_err-first.ensures.1 (part_refused _ _ _ _ _ c.requires.there _ _ _ (copy_reached c.args.context.now.program.now _ c.args.term _ _ c.spot-spot.ensures _ c.in_ok-clone_in.ensures.same _ _) c.in_err-first.ensures)
 
-pub joined_output-returns-in_err-second-in-FannedOut : goal.joined_output-returns-in_err-second-in-FannedOut
-joined_output-returns-in_err-second-in-FannedOut t c =
-    err_answers _ _ _ _ _ _ c.from_residual-in_err-second-in-FannedOut.ensures.1 (part_refused _ _ _ _ _ (joined_there _ _ c.in-FannedOut.is c.requires.there) _ _ _ (fan_right (copy_takes c.args.context.now.program.now _ c.args.term _ _ c.spot-spot.ensures _ c.in_ok-clone_in-in-FannedOut.ensures.same _ _ c.in_ok-first-in-FannedOut.ensures)) c.in_err-second-in-FannedOut.ensures)
+pub fan_output-returns-in_err-second : goal.fan_output-returns-in_err-second
+fan_output-returns-in_err-second t c =
+    err_answers _ _ _ _ _ _ c.from_residual-in_err-second.ensures.1 (part_refused _ _ _ _ _ c.requires.there _ _ _ (fan_right (copy_takes c.args.context.now.program.now _ c.args.term _ _ c.spot-spot.ensures _ c.in_ok-clone_in.ensures.same _ _ c.in_ok-first.ensures)) c.in_err-second.ensures)
 
-pub joined_output-returns-in_ok-second-in-FannedOut : goal.joined_output-returns-in_ok-second-in-FannedOut
-joined_output-returns-in_ok-second-in-FannedOut t c =
-    fan_answers _ _ _ _ _ c.spot-spot.ensures _ _ _ _ _ (joined_there _ _ c.in-FannedOut.is c.requires.there) c.requires.fits (copy_takes c.args.context.now.program.now _ c.args.term _ _ c.spot-spot.ensures _ c.in_ok-clone_in-in-FannedOut.ensures.same _ _ c.in_ok-first-in-FannedOut.ensures) c.in_ok-second-in-FannedOut.ensures c.pair_type-in-FannedOut.ensures
+pub fan_output-returns : goal.fan_output-returns
+fan_output-returns t c =
+    fan_answers _ _ _ _ _ c.spot-spot.ensures _ _ _ _ _ c.requires.there c.requires.fits (copy_takes c.args.context.now.program.now _ c.args.term _ _ c.spot-spot.ensures _ c.in_ok-clone_in.ensures.same _ _ c.in_ok-first.ensures) c.in_ok-second.ensures c.pair_type.ensures
 
-pub joined_output-returns-in_err-clone_in-in-FannedOut : goal.joined_output-returns-in_err-clone_in-in-FannedOut
-joined_output-returns-in_err-clone_in-in-FannedOut t c = memory_answers _ _ c.args.term _ _ c.from_residual-in_err-clone_in-in-FannedOut.ensures.1
+pub fan_output-returns-in_err-clone_in : goal.fan_output-returns-in_err-clone_in
+fan_output-returns-in_err-clone_in t c = memory_answers _ _ c.args.term _ _ c.from_residual.ensures.1
 
 -- ## On one side
 
@@ -167,50 +168,50 @@ body_output-returns t c =
 
 -- ## Switches
 
-pub switching_output-returns-in_err-clone_in-in-Basic : goal.switching_output-returns-in_err-clone_in-in-Basic
-switching_output-returns-in_err-clone_in-in-Basic t c = memory_answers _ _ c.args.term _ _ c.from_residual.ensures.1
+pub basic_output-returns-in_err-clone_in : goal.basic_output-returns-in_err-clone_in
+basic_output-returns-in_err-clone_in t c = memory_answers _ _ c.args.term _ _ c.from_residual.ensures.1
 
-pub switching_output-returns-in_err-output-in-Basic : goal.switching_output-returns-in_err-output-in-Basic
-switching_output-returns-in_err-output-in-Basic t c =
-    err_answers _ _ _ _ _ _ c.from_residual-in_err-output-in-Basic.ensures.1 (part_refused _ _ _ _ _ (switching_there _ _ c.in-Basic.is c.requires.there) _ _ _
-    (source_reached c.args.context.now.program.now _ c.args.term _ _ c.spot-spot.ensures _ _ _ _ _ c.in_ok-clone_in-in-Basic.ensures.same) c.in_err-output-in-Basic.ensures)
+pub basic_output-returns-in_err-output : goal.basic_output-returns-in_err-output
+basic_output-returns-in_err-output t c =
+    err_answers _ _ _ _ _ _ c.from_residual-in_err-output.ensures.1 (part_refused _ _ _ _ _ c.requires.there _ _ _
+    (source_reached c.args.context.now.program.now _ c.args.term _ _ c.spot-spot.ensures _ _ _ _ _ c.in_ok-clone_in.ensures.same) c.in_err-output.ensures)
 
-pub switching_output-returns-in_err-value-in-Basic : goal.switching_output-returns-in_err-value-in-Basic
-switching_output-returns-in_err-value-in-Basic t c =
-    let wrong = c.in_err-value-in-Basic.ensures.err in
-    err_answers _ _ _ _ _ _ c.from_residual-in_err-value-in-Basic.ensures.1
-    (source_answers c.args.context.now.program.now _ c.args.term _ _ c.spot-spot.ensures _ _ _ _ _ c.in_ok-clone_in-in-Basic.ensures.same _ c.in_ok-output-in-Basic.ensures _ (switching_there _ _ c.in-Basic.is c.requires.there) wrong.0 wrong.1)
+pub basic_output-returns-in_err-value : goal.basic_output-returns-in_err-value
+basic_output-returns-in_err-value t c =
+    let wrong = c.in_err-value.ensures.err in
+    err_answers _ _ _ _ _ _ c.from_residual-in_err-value.ensures.1
+    (source_answers c.args.context.now.program.now _ c.args.term _ _ c.spot-spot.ensures _ _ _ _ _ c.in_ok-clone_in.ensures.same _ c.in_ok-output.ensures _ c.requires.there wrong.0 wrong.1)
 
-pub switching_output-returns-in_ok-value-in-Basic : goal.switching_output-returns-in_ok-value-in-Basic
-switching_output-returns-in_ok-value-in-Basic t c =
+pub basic_output-returns : goal.basic_output-returns
+basic_output-returns t c =
     let p = c.args.context.now.program.now in
-    switch_answers p _ c.args.term _ _ c.spot-spot.ensures _ _ _ _ _ _ _ _ (switching_there _ _ c.in-Basic.is c.requires.there)
-    (source_wants p _ c.args.term _ _ c.spot-spot.ensures _ _ c.args.pattern c.args.body _ c.in_ok-clone_in-in-Basic.ensures.same _ c.in_ok-output-in-Basic.ensures _ _ c.in_ok-value-in-Basic.ensures.ok)
+    switch_answers p _ c.args.term _ _ c.spot-spot.ensures _ _ _ _ _ _ _ _ c.requires.there
+    (source_wants p _ c.args.term _ _ c.spot-spot.ensures _ _ c.args.pattern c.args.body _ c.in_ok-clone_in.ensures.same _ c.in_ok-output.ensures _ _ c.in_ok-value.ensures.ok)
     c.requires.fits c.body_output.ensures
 
-pub switching_output-returns-in_err-value-in-Recurring : goal.switching_output-returns-in_err-value-in-Recurring
-switching_output-returns-in_err-value-in-Recurring t c =
-    let wrong = c.in_err-value-in-Recurring.ensures.err in
-    err_answers _ _ _ _ _ _ c.from_residual-in_err-value-in-Recurring.ensures.1
-    (input_answers c.args.context.now.program.now _ c.args.term _ _ c.spot-spot.ensures _ _ _ _ _ (switching_there _ _ c.in-Recurring.is c.requires.there) wrong.0 wrong.1)
+pub recurring_output-returns-in_err-value : goal.recurring_output-returns-in_err-value
+recurring_output-returns-in_err-value t c =
+    let wrong = c.in_err-value.ensures.err in
+    err_answers _ _ _ _ _ _ c.from_residual.ensures.1
+    (input_answers c.args.context.now.program.now _ c.args.term _ _ c.spot-spot.ensures _ _ _ _ _ c.requires.there wrong.0 wrong.1)
 
-pub switching_output-returns-in_err-clone_in-in-Recurring : goal.switching_output-returns-in_err-clone_in-in-Recurring
-switching_output-returns-in_err-clone_in-in-Recurring t c = memory_answers _ _ c.args.term _ _ c.from_residual-in_err-clone_in-in-Recurring.ensures.1
+pub recurring_output-returns-in_err-clone_in : goal.recurring_output-returns-in_err-clone_in
+recurring_output-returns-in_err-clone_in t c = memory_answers _ _ c.args.term _ _ c.from_residual-in_err-clone_in.ensures.1
 
-pub switching_output-returns-in_err-output-in-Recurring : goal.switching_output-returns-in_err-output-in-Recurring
-switching_output-returns-in_err-output-in-Recurring t c =
-    err_answers _ _ _ _ _ _ c.from_residual-in_err-output-in-Recurring.ensures.1 (part_refused _ _ _ _ _ (switching_there _ _ c.in-Recurring.is c.requires.there) _ _ _
-    (first_term_reached c.args.context.now.program.now _ c.args.term _ _ c.spot-spot.ensures _ _ _ _ _ _ c.in_ok-value-in-Recurring.ensures.ok _ c.in_ok-clone_in-in-Recurring.ensures.same) c.in_err-output-in-Recurring.ensures)
+pub recurring_output-returns-in_err-output : goal.recurring_output-returns-in_err-output
+recurring_output-returns-in_err-output t c =
+    err_answers _ _ _ _ _ _ c.from_residual-in_err-output.ensures.1 (part_refused _ _ _ _ _ c.requires.there _ _ _
+    (first_term_reached c.args.context.now.program.now _ c.args.term _ _ c.spot-spot.ensures _ _ _ _ _ _ c.in_ok-value.ensures.ok _ c.in_ok-clone_in.ensures.same) c.in_err-output.ensures)
 
-pub switching_output-returns-in_err-same_input-in-Recurring : goal.switching_output-returns-in_err-same_input-in-Recurring
-switching_output-returns-in_err-same_input-in-Recurring t c = memory_answers _ _ c.args.term _ _ c.from_residual-in_err-same_input-in-Recurring.ensures.1
+pub recurring_output-returns-in_err-same_input : goal.recurring_output-returns-in_err-same_input
+recurring_output-returns-in_err-same_input t c = memory_answers _ _ c.args.term _ _ c.from_residual-in_err-same_input.ensures.1
 
-pub switching_output-returns-in_ok-same_input-in-Recurring : goal.switching_output-returns-in_ok-same_input-in-Recurring
-switching_output-returns-in_ok-same_input-in-Recurring t c =
+pub recurring_output-returns : goal.recurring_output-returns
+recurring_output-returns t c =
     let p = c.args.context.now.program.now in
-    switch_answers p _ c.args.term _ _ c.spot-spot.ensures _ _ _ _ _ _ _ _ (switching_there _ _ c.in-Recurring.is c.requires.there)
-    (input_wants p _ c.args.term _ _ c.spot-spot.ensures _ _ c.args.pattern c.args.body _ _ c.in_ok-value-in-Recurring.ensures.ok _ c.in_ok-clone_in-in-Recurring.ensures.same _ _ c.in_ok-same_input-in-Recurring.ensures.same c.in_ok-output-in-Recurring.ensures)
-    c.requires.fits c.body_output-in-Recurring.ensures
+    switch_answers p _ c.args.term _ _ c.spot-spot.ensures _ _ _ _ _ _ _ _ c.requires.there
+    (input_wants p _ c.args.term _ _ c.spot-spot.ensures _ _ c.args.pattern c.args.body _ _ c.in_ok-value.ensures.ok _ c.in_ok-clone_in.ensures.same _ _ c.in_ok-same_input.ensures.same c.in_ok-output.ensures)
+    c.requires.fits c.body_output.ensures
 
 -- ## Processes
 
@@ -238,18 +239,27 @@ keeping_output-returns-in_err-payload t c =
     err_answers _ _ _ _ _ _ c.from_residual-in_err-payload.ensures.1
     (observer_answers c.args.context.now.program.now _ c.args.term _ _ c.spot-spot.ensures _ _ _ _ _ _ _ c.requires.there _ c.in_ok-clone_in.ensures.same _ c.in_ok-value.ensures _ c.in_ok-watched.ensures _ c.in_ok-seen.ensures _ wrong.0 wrong.1)
 
-pub keeping_output-returns-in_err-inner : goal.keeping_output-returns-in_err-inner
-keeping_output-returns-in_err-inner t c = memory_answers _ _ c.args.term _ _ c.from_residual-in_err-inner.ensures.1
-
-pub keeping_output-returns-in_err-same_input : goal.keeping_output-returns-in_err-same_input
-keeping_output-returns-in_err-same_input t c = memory_answers _ _ c.args.term _ _ c.from_residual-in_err-same_input.ensures.1
-
 pub keeping_output-returns : goal.keeping_output-returns
 keeping_output-returns t c =
+    keeping_answers c.args.context.now.program.now _ c.args.term _ _ c.spot-spot.ensures _ _ _ _ _ _ _ c.requires.there _ c.in_ok-clone_in.ensures.same _ c.in_ok-value.ensures _ c.in_ok-watched.ensures _ c.in_ok-seen.ensures _ _ _
+    c.in_ok-payload.ensures.ok refl c.requires.fits c.kept_output.ensures
+
+pub kept_output-returns-in_err-inner : goal.kept_output-returns-in_err-inner
+kept_output-returns-in_err-inner t c =
+    let p = c.args.context.now.program.now in
+    err_body p (keeping_inside p c.args.name c.args.input.now c.args.wanted.now (context_in c.args.context.now)) c.args.spot c.args.pattern c.args.body c.args.input.now c.args.wanted.now c.args.payload.now _ _ c.from_residual-in_err-inner.ensures.1 no_memory
+
+pub kept_output-returns-in_err-same_input : goal.kept_output-returns-in_err-same_input
+kept_output-returns-in_err-same_input t c =
+    let p = c.args.context.now.program.now in
+    err_body p (keeping_inside p c.args.name c.args.input.now c.args.wanted.now (context_in c.args.context.now)) c.args.spot c.args.pattern c.args.body c.args.input.now c.args.wanted.now c.args.payload.now _ _ c.from_residual.ensures.1 no_memory
+
+pub kept_output-returns : goal.kept_output-returns
+kept_output-returns t c =
     let p = c.args.context.now.program.now in
     let inner = c.in_ok-inner.ensures in
-    keeping_answers p _ c.args.term _ _ c.spot-spot.ensures _ _ _ _ _ _ _ c.requires.there _ c.in_ok-clone_in.ensures.same _ c.in_ok-value.ensures _ c.in_ok-watched.ensures _ c.in_ok-seen.ensures _ _ _
-    c.in_ok-payload.ensures.ok c.in_ok-same_input.ensures.same c.requires.fits (body_under _ p _ _ _ _ _ _ _ _ _ inner.program inner.context c.body_output.ensures)
+    subst (λ (a : Kind). AnswersBody p (keeping_inside p c.args.name c.args.input.now c.args.wanted.now (context_in c.args.context.now)) c.args.spot c.args.pattern c.args.body a c.args.wanted.now c.args.payload.now c.body_output.result)
+    c.in_ok-same_input.ensures.same (body_under _ p _ _ _ _ _ _ _ _ _ inner.program inner.context c.body_output.ensures)
 
 pub output_of-returns-in-Named-Process-default-default : goal.output_of-returns-in-Named-Process-default-default
 output_of-returns-in-Named-Process-default-default t c = c.process_output.ensures

@@ -9,10 +9,10 @@ use Rattle.sf_check.proofs.Terms.{answers_under, template_refused, header_refuse
 use Rattle.sf_check.proofs.typing.check_template.Goals as goal
 
 pub returns-in_err-context-clause-err : goal.returns-in_err-context-clause-err
-returns-in_err-context-clause-err c = memory_on _ _ c.from_residual.ensures.1
+returns-in_err-context-clause-err c = memory_on _ _ c.from_residual-in_err-context.ensures.1
 
 pub returns-in_err-input-clause-err : goal.returns-in_err-input-clause-err
-returns-in_err-input-clause-err c = memory_on _ _ c.from_residual-in_err-input.ensures.1
+returns-in_err-input-clause-err c = memory_on _ _ c.from_residual.ensures.1
 
 pub returns-in_err-output-clause-err : goal.returns-in_err-output-clause-err
 returns-in_err-output-clause-err c =

@@ -37,22 +37,37 @@ abbrev pub decreases-matched : goal.decreases-matched
 decreases-matched g l = 8 * (code_size (code_of l.first.now) + (code_size (code_of l.second.now) + code_size (code_of l.body.now))) + 4
 
 abbrev pub decreases-merged : goal.decreases-merged
-decreases-merged g l = 8 * (code_size (code_of l.first.now) + (code_size (code_of l.second.now) + code_size (code_of l.body.now))) + 4
+decreases-merged g l = 8 * (code_size (code_of l.first.now) + (code_size (code_of l.second.now) + code_size (code_of l.body.now))) + 6
 
 abbrev pub decreases-fold : goal.decreases-fold
 decreases-fold g l = 8 * (code_size (code_of l.first.now) + (code_size (code_of l.second.now) + code_size (code_of l.body.now))) + 4
 
-abbrev pub decreases-folded : goal.decreases-folded
-decreases-folded g l = 8 * (code_size (code_of l.first.now) + (code_size (code_of l.second.now) + code_size (code_of l.body.now))) + 6
+abbrev pub decreases-fold_rows : goal.decreases-fold_rows
+decreases-fold_rows g l = 8 * code_size (code_of l.body.now) + 3
 
-abbrev pub invariant-fold-loop-rest : goal.invariant-fold-loop-rest
-invariant-fold-loop-rest g l = record {
+abbrev pub decreases-merge : goal.decreases-merge
+decreases-merge g l = 8 * code_size (code_of l.body.now) + 5
+
+abbrev pub decreases-filter : goal.decreases-filter
+decreases-filter g l = 8 * code_size (code_of l.body.now) + 5
+
+abbrev pub decreases-map : goal.decreases-map
+decreases-map g l = 8 * code_size (code_of l.body.now) + 5
+
+abbrev pub decreases-occurring : goal.decreases-occurring
+decreases-occurring g l = 8 * code_size (code_of l.body.now) + 4
+
+abbrev pub decreases-folded : goal.decreases-folded
+decreases-folded g l = 8 * (code_size (code_of l.first.now) + (code_size (code_of l.second.now) + code_size (code_of l.body.now))) + 7
+
+abbrev pub invariant-fold_rows-loop-rest : goal.invariant-fold_rows-loop-rest
+invariant-fold_rows-loop-rest g l = record {
   within : length l.rest ≤ length l.initial.rest;
   worth : fold_worth (code_of l.body) (frames_of l.frames) (g.F.Holds.answers l.functions) (rows_of l.rest) l.so_far ≡ fold_worth (code_of l.body) (frames_of l.frames) (g.F.Holds.answers l.functions) (rows_of l.initial.rest) l.initial.so_far;
 }
 
-abbrev pub decreases-fold-loop-rest : goal.decreases-fold-loop-rest
-decreases-fold-loop-rest g l = length l.rest
+abbrev pub decreases-fold_rows-loop-rest : goal.decreases-fold_rows-loop-rest
+decreases-fold_rows-loop-rest g l = length l.rest
 
 abbrev pub decreases-computed : goal.decreases-computed
 decreases-computed g l = 8 * (code_size (code_of l.left.now) + code_size (code_of l.right.now)) + 6

@@ -73,57 +73,57 @@ pub judge-returns-in_ok-part-in-Applied : goal.judge-returns-in_ok-part-in-Appli
 judge-returns-in_ok-part-in-Applied t c =
     applied_judged c.args.exprs.now _ c.args.id c.in-Applied.part c.in-Applied.operator _ _ _ (sym c.in-Applied.ensures.value) c.in_ok-part-in-Applied.ensures c.spot-in-Applied.ensures c.unary_type.ensures
 
-pub judge-returns-in_err-condition-in-Conditional : goal.judge-returns-in_err-condition-in-Conditional
-judge-returns-in_err-condition-in-Conditional t c =
-    condition_judged c.args.exprs.now _ c.args.id c.in-Conditional.condition c.in-Conditional.first c.in-Conditional.second _ c.in_err-condition-in-Conditional.field-0.0 (sym c.in-Conditional.ensures.value) c.from_residual-in_err-condition-in-Conditional.ensures.1 c.in_err-condition-in-Conditional.ensures
+pub judge_conditional-returns-in_err-condition : goal.judge_conditional-returns-in_err-condition
+judge_conditional-returns-in_err-condition t c =
+    condition_judged c.args.exprs.now _ c.args.id c.args.condition c.args.first c.args.second _ c.in_err-condition.field-0.0 c.requires.node c.from_residual.ensures.1 c.in_err-condition.ensures
 
-pub judge-returns-in_err-first-in-Conditional : goal.judge-returns-in_err-first-in-Conditional
-judge-returns-in_err-first-in-Conditional t c =
-    then_judged c.args.exprs.now _ c.args.id c.in-Conditional.condition c.in-Conditional.first c.in-Conditional.second _ _ c.in_err-first-in-Conditional.field-0.0 (sym c.in-Conditional.ensures.value) c.in_ok-condition-in-Conditional.ensures c.from_residual-in_err-first-in-Conditional.ensures.1 c.in_err-first-in-Conditional.ensures
+pub judge_conditional-returns-in_err-first : goal.judge_conditional-returns-in_err-first
+judge_conditional-returns-in_err-first t c =
+    then_judged c.args.exprs.now _ c.args.id c.args.condition c.args.first c.args.second _ _ c.in_err-first.field-0.0 c.requires.node c.in_ok-condition.ensures c.from_residual-in_err-first.ensures.1 c.in_err-first.ensures
 
-pub judge-returns-in_err-second-in-Conditional : goal.judge-returns-in_err-second-in-Conditional
-judge-returns-in_err-second-in-Conditional t c =
-    else_judged c.args.exprs.now _ c.args.id c.in-Conditional.condition c.in-Conditional.first c.in-Conditional.second _ _ _ c.in_err-second-in-Conditional.field-0.0 (sym c.in-Conditional.ensures.value) c.in_ok-condition-in-Conditional.ensures c.in_ok-first-in-Conditional.ensures c.from_residual-in_err-second-in-Conditional.ensures.1 c.in_err-second-in-Conditional.ensures
+pub judge_conditional-returns-in_err-second : goal.judge_conditional-returns-in_err-second
+judge_conditional-returns-in_err-second t c =
+    else_judged c.args.exprs.now _ c.args.id c.args.condition c.args.first c.args.second _ _ _ c.in_err-second.field-0.0 c.requires.node c.in_ok-condition.ensures c.in_ok-first.ensures c.from_residual-in_err-second.ensures.1 c.in_err-second.ensures
 
-pub judge-returns-in_ok-second-in-Conditional : goal.judge-returns-in_ok-second-in-Conditional
-judge-returns-in_ok-second-in-Conditional t c =
-    conditional_judged c.args.exprs.now _ c.args.id c.in-Conditional.condition c.in-Conditional.first c.in-Conditional.second _ _ _ _ _ (sym c.in-Conditional.ensures.value) c.in_ok-condition-in-Conditional.ensures c.in_ok-first-in-Conditional.ensures c.in_ok-second-in-Conditional.ensures c.spot-in-Conditional.ensures c.conditional_type.ensures
+pub judge_conditional-returns : goal.judge_conditional-returns
+judge_conditional-returns t c =
+    conditional_judged c.args.exprs.now _ c.args.id c.args.condition c.args.first c.args.second _ _ _ _ _ c.requires.node c.in_ok-condition.ensures c.in_ok-first.ensures c.in_ok-second.ensures c.spot.ensures c.conditional_type.ensures
 
-pub judge-returns-in_err-part-in-Mapped : goal.judge-returns-in_err-part-in-Mapped
-judge-returns-in_err-part-in-Mapped t c =
-    mapped_first_judged c.args.exprs.now _ c.args.id c.in-Mapped.part c.in-Mapped.body c.in-Mapped.mapping c.in-Mapped.pattern (sym c.in-Mapped.ensures.value) _ c.in_err-part-in-Mapped.field-0.0 c.from_residual-in_err-part-in-Mapped.ensures.1 c.in_err-part-in-Mapped.ensures
+pub judge_mapped-returns-in_err-part : goal.judge_mapped-returns-in_err-part
+judge_mapped-returns-in_err-part t c =
+    mapped_first_judged c.args.exprs.now _ c.args.id c.args.part c.args.body c.args.mapping c.args.pattern c.requires.node _ c.in_err-part.field-0.0 c.from_residual.ensures.1 c.in_err-part.ensures
 
-pub judge-returns-in_err-argument-in-Mapped : goal.judge-returns-in_err-argument-in-Mapped
-judge-returns-in_err-argument-in-Mapped t c =
-    mapped_argument_judged c.args.exprs.now _ c.args.id c.in-Mapped.part c.in-Mapped.body c.in-Mapped.mapping c.in-Mapped.pattern (sym c.in-Mapped.ensures.value) _ _ c.in_err-argument-in-Mapped.field-0.0 c.in_ok-part-in-Mapped.ensures c.spot-in-Mapped.ensures c.from_residual-in_err-argument-in-Mapped.ensures.1 c.in_err-argument-in-Mapped.ensures
+pub judge_mapped-returns-in_err-argument : goal.judge_mapped-returns-in_err-argument
+judge_mapped-returns-in_err-argument t c =
+    mapped_argument_judged c.args.exprs.now _ c.args.id c.args.part c.args.body c.args.mapping c.args.pattern c.requires.node _ _ c.in_err-argument.field-0.0 c.in_ok-part.ensures c.spot-at.ensures c.from_residual-in_err-argument.ensures.1 c.in_err-argument.ensures
 
-pub judge-returns-in_err-made-in-Mapped : goal.judge-returns-in_err-made-in-Mapped
-judge-returns-in_err-made-in-Mapped t c =
-    mapped_part_judged c.args.exprs.now _ c.args.id c.in-Mapped.part c.in-Mapped.body c.in-Mapped.mapping c.in-Mapped.pattern (sym c.in-Mapped.ensures.value) c.placed.ensures _ c.spot-in-Mapped-2.ensures c.in_ok-part-in-Mapped.ensures c.in_ok-argument-in-Mapped.ensures _ c.in_err-made-in-Mapped.field-0.0 c.from_residual-in_err-made-in-Mapped.ensures.1 c.in_err-made-in-Mapped.ensures
+pub judge_mapped-returns-in_err-made : goal.judge_mapped-returns-in_err-made
+judge_mapped-returns-in_err-made t c =
+    mapped_part_judged c.args.exprs.now _ c.args.id c.args.part c.args.body c.args.mapping c.args.pattern c.requires.node c.placed-pattern.ensures _ c.spot-at.ensures c.in_ok-part.ensures c.in_ok-argument.ensures _ c.in_err-made.field-0.0 c.from_residual-in_err-made.ensures.1 c.in_err-made.ensures
 
-pub judge-returns-in_ok-made-in-Mapped : goal.judge-returns-in_ok-made-in-Mapped
-judge-returns-in_ok-made-in-Mapped t c =
-    mapped_judged c.args.exprs.now _ c.args.id c.in-Mapped.part c.in-Mapped.body c.in-Mapped.mapping c.in-Mapped.pattern (sym c.in-Mapped.ensures.value) c.placed.ensures _ c.spot-in-Mapped-3.ensures c.in_ok-part-in-Mapped.ensures c.in_ok-argument-in-Mapped.ensures _ c.in_ok-made-in-Mapped.ensures c.mapped_type.ensures
+pub judge_mapped-returns : goal.judge_mapped-returns
+judge_mapped-returns t c =
+    mapped_judged c.args.exprs.now _ c.args.id c.args.part c.args.body c.args.mapping c.args.pattern c.requires.node c.placed-pattern.ensures _ c.spot-at.ensures c.in_ok-part.ensures c.in_ok-argument.ensures _ c.in_ok-made.ensures c.mapped_type.ensures
 
-pub judge-returns-in_err-first-in-Folded : goal.judge-returns-in_err-first-in-Folded
-judge-returns-in_err-first-in-Folded t c =
-    folded_first_judged c.args.exprs.now _ c.args.id c.in-Folded.first c.in-Folded.second c.in-Folded.body c.in-Folded.folding c.in-Folded.pattern (sym c.in-Folded.ensures.value) _ c.in_err-first-in-Folded.field-0.0 c.from_residual-in_err-first-in-Folded.ensures.1 c.in_err-first-in-Folded.ensures
+pub judge_folded-returns-in_err-first : goal.judge_folded-returns-in_err-first
+judge_folded-returns-in_err-first t c =
+    folded_first_judged c.args.exprs.now _ c.args.id c.args.first c.args.second c.args.body c.args.folding c.args.pattern c.requires.node _ c.in_err-first.field-0.0 c.from_residual.ensures.1 c.in_err-first.ensures
 
-pub judge-returns-in_err-second-in-Folded : goal.judge-returns-in_err-second-in-Folded
-judge-returns-in_err-second-in-Folded t c =
-    folded_second_judged c.args.exprs.now _ c.args.id c.in-Folded.first c.in-Folded.second c.in-Folded.body c.in-Folded.folding c.in-Folded.pattern (sym c.in-Folded.ensures.value) _ c.in_err-second-in-Folded.field-0.0 c.in_ok-first-in-Folded.ensures c.from_residual-in_err-second-in-Folded.ensures.1 c.in_err-second-in-Folded.ensures
+pub judge_folded-returns-in_err-second : goal.judge_folded-returns-in_err-second
+judge_folded-returns-in_err-second t c =
+    folded_second_judged c.args.exprs.now _ c.args.id c.args.first c.args.second c.args.body c.args.folding c.args.pattern c.requires.node _ c.in_err-second.field-0.0 c.in_ok-first.ensures c.from_residual-in_err-second.ensures.1 c.in_err-second.ensures
 
-pub judge-returns-in_err-argument-in-Folded : goal.judge-returns-in_err-argument-in-Folded
-judge-returns-in_err-argument-in-Folded t c =
-    folded_argument_judged c.args.exprs.now _ c.args.id c.in-Folded.first c.in-Folded.second c.in-Folded.body c.in-Folded.folding c.in-Folded.pattern (sym c.in-Folded.ensures.value) c.in_ok-first-in-Folded.ensures c.in_ok-second-in-Folded.ensures _ c.spot-in-Folded.ensures _ c.in_err-argument-in-Folded.field-0.0 c.from_residual-in_err-argument-in-Folded.ensures.1 c.in_err-argument-in-Folded.ensures
+pub judge_folded-returns-in_err-argument : goal.judge_folded-returns-in_err-argument
+judge_folded-returns-in_err-argument t c =
+    folded_argument_judged c.args.exprs.now _ c.args.id c.args.first c.args.second c.args.body c.args.folding c.args.pattern c.requires.node c.in_ok-first.ensures c.in_ok-second.ensures _ c.spot-at.ensures _ c.in_err-argument.field-0.0 c.from_residual-in_err-argument.ensures.1 c.in_err-argument.ensures
 
-pub judge-returns-in_err-made-in-Folded : goal.judge-returns-in_err-made-in-Folded
-judge-returns-in_err-made-in-Folded t c =
-    folded_part_judged c.args.exprs.now _ c.args.id c.in-Folded.first c.in-Folded.second c.in-Folded.body c.in-Folded.folding c.in-Folded.pattern (sym c.in-Folded.ensures.value) c.in_ok-first-in-Folded.ensures c.in_ok-second-in-Folded.ensures _ c.spot-in-Folded-2.ensures c.placed-in-Folded.ensures c.in_ok-argument-in-Folded.ensures _ c.in_err-made-in-Folded.field-0.0 c.from_residual-in_err-made-in-Folded.ensures.1 c.in_err-made-in-Folded.ensures
+pub judge_folded-returns-in_err-made : goal.judge_folded-returns-in_err-made
+judge_folded-returns-in_err-made t c =
+    folded_part_judged c.args.exprs.now _ c.args.id c.args.first c.args.second c.args.body c.args.folding c.args.pattern c.requires.node c.in_ok-first.ensures c.in_ok-second.ensures _ c.spot-at.ensures c.placed-pattern.ensures c.in_ok-argument.ensures _ c.in_err-made.field-0.0 c.from_residual-in_err-made.ensures.1 c.in_err-made.ensures
 
-pub judge-returns-in_ok-made-in-Folded : goal.judge-returns-in_ok-made-in-Folded
-judge-returns-in_ok-made-in-Folded t c =
-    folded_judged c.args.exprs.now _ c.args.id c.in-Folded.first c.in-Folded.second c.in-Folded.body c.in-Folded.folding c.in-Folded.pattern (sym c.in-Folded.ensures.value) c.in_ok-first-in-Folded.ensures c.in_ok-second-in-Folded.ensures _ c.spot-in-Folded-3.ensures c.placed-in-Folded.ensures c.in_ok-argument-in-Folded.ensures _ c.in_ok-made-in-Folded.ensures c.folded_type.ensures
+pub judge_folded-returns : goal.judge_folded-returns
+judge_folded-returns t c =
+    folded_judged c.args.exprs.now _ c.args.id c.args.first c.args.second c.args.body c.args.folding c.args.pattern c.requires.node c.in_ok-first.ensures c.in_ok-second.ensures _ c.spot-at.ensures c.placed-pattern.ensures c.in_ok-argument.ensures _ c.in_ok-made.ensures c.folded_type.ensures
 
 pub judge_part-returns-in_err-names : goal.judge_part-returns-in_err-names
 judge_part-returns-in_err-names t c =

@@ -3,18 +3,19 @@ use Rattle.std.specs.Vec.{with_items}
 use Rattle.std.proofs.lemmas.List.{with_items_is}
 use Rattle.sf_state.specs.declared.state.Wrap.TheVariants.{First, Second, Loop, Initialized}
 use Rattle.sf_term.specs.declared.form.Join.TheVariants.{InSequence, InParallel, FannedOut}
-use Rattle.sf_value.specs.Values.{first_of, second_of}
+use Rattle.sf_value.specs.Values.{second_of}
 use Rattle.sf_mean.specs.Lives.{step, Life, Process}
 use Rattle.sf_state.specs.declared.state.Frozen.{Frozen}
+use Rattle.sf_state.specs.declared.state.State.{State}
 use Rattle.sf_state.specs.Standing.{Stands, kept_state}
 use Rattle.sf_mean.specs.Meaning.{switched_value}
 use Rattle.sf_step.specs.Meters.{fault_of}
 use Rattle.sf_step.specs.Sampling.{left_or, StateSteps}
 use Rattle.sf_step.proofs.Parts.{pass_exit, failed, memory_exit}
 use Rattle.sf_step.proofs.Recurring.{run_fails, run_memory, new_fails, new_runs, runs_alone}
-use Rattle.sf_step.proofs.Switches.{comes_some, comes_none, source_fails, switch_memory, switch_waits_on, body_fails, body_takes_over}
+use Rattle.sf_step.proofs.Switches.{source_fails, switch_memory, switch_waits_on, body_fails, body_takes_over}
 use Rattle.sf_step.proofs.Keeping.{runs_alike, kept_fails, kept_memory, observer_fails, observer_memory, keeps_on, kept_body_fails, kept_body_takes_over, some_occurs, none_occurs}
-use Rattle.sf_step.proofs.Turning.{frozen_steps, pass_beside, watching_goes, watching_stays, watching_fails, keeping_goes, keeping_stays, keeping_fails}
+use Rattle.sf_step.proofs.Turning.{frozen_steps, pass_beside, watching_turns, watching_fails, keeping_turns, keeping_fails}
 use Rattle.sf_step.proofs.Stages.{StagesStep, continues_first, continues_next, continues_fails, continues_last, pipeline_steps, pipeline_fails}
 use Rattle.sf_step.proofs.Exits.{ticked_by, tick_fails, first_memory, join_left_fails, join_right_fails, join_steps, join_last, wrap_fails, wrap_steps, early_memory, late_memory, primitive_counted, live_counted, own_steps, primitive_is, live_is, switch_is, keeping_is, counted_steps, begun_steps, begun_runs, begun_fails}
 use Rattle.sf_step.proofs.sample.+step.Goals as goal
@@ -62,51 +63,45 @@ pub step_counted-returns-in-Live-clause-answers : goal.step_counted-returns-in-L
 step_counted-returns-in-Live-clause-answers g t c = λ m depth t P L A.
     live_counted (g.R.Holds.answers c.args.context.now.functions.now) c.args.context.now.plan.now _ c.in-Live.field-0 c.in-Live.node.value c.step_node.new.node.value _ c.step_node.new.value c.step_node.result _ c.step_node.ensures.answers m depth t P L (rw c.in-Live.is at A)
 
-pub step_counted-returns-in_default-clause-answers : goal.step_counted-returns-in_default-clause-answers
-step_counted-returns-in_default-clause-answers g t c = λ m depth t P L A. early_memory (g.R.Holds.answers c.args.context.now.functions.now) c.args.context.now.plan.now t c.stop.ensures.entered c.stop.ensures.height c.stop.ensures.fault
-
-pub step_counted-returns-in_default-get_mut-clause-answers : goal.step_counted-returns-in_default-get_mut-clause-answers
-step_counted-returns-in_default-get_mut-clause-answers g t c = λ m depth t P L A. early_memory (g.R.Holds.answers c.args.context.now.functions.now) c.args.context.now.plan.now t c.stop-in_default-get_mut.ensures.entered c.stop-in_default-get_mut.ensures.height c.stop-in_default-get_mut.ensures.fault
-
 pub step_counted-returns-in_err-over-in-Switch-clause-answers : goal.step_counted-returns-in_err-over-in-Switch-clause-answers
 step_counted-returns-in_err-over-in-Switch-clause-answers g t c = λ m depth t P L A.
-    pass_exit _ _ c.from_residual.ensures.0 (failed (watching_fails (g.R.Holds.answers c.args.context.now.functions.now) c.args.context.now.plan.now _ c.in-Switch.names c.in-Switch.node.value c.in-Some.switch.now (λ P L S. rw c.in-Some.ensures.value (c.unshare_switch.ensures (g.R.Holds.answers c.args.context.now.functions.now) c.args.context.now.plan.now P L S))
-    (step c.args.context.now.dt c.args.value.now) c.args.meter.now c.step_switch.new.meter c.args.inside _ c.in_err-over-in-Switch.ensures.answers m depth t P L (rw c.in-Switch.is at A)))
+    pass_exit _ _ c.from_residual.ensures.0 (failed (watching_fails (g.R.Holds.answers c.args.context.now.functions.now) c.args.context.now.plan.now _ c.in-Switch.names c.in-Switch.node.value c.in-Switch.node.value (λ P L S. S)
+    (step c.args.context.now.dt c.args.value.now) c.args.meter.now c.step_watching.new.meter c.args.inside _ c.in_err-over-in-Switch.ensures.answers m depth t P L (rw c.in-Switch.is at A)))
 
-pub step_counted-returns-in-Some-over-clause-answers : goal.step_counted-returns-in-Some-over-clause-answers
-step_counted-returns-in-Some-over-clause-answers g t c = λ m depth t P L A.
-    watching_goes (g.R.Holds.answers c.args.context.now.functions.now) c.args.context.now.plan.now _ c.in-Switch.names c.in-Switch.node.value c.in-Some.switch.now (λ P L S. rw c.in-Some.ensures.value (c.unshare_switch.ensures (g.R.Holds.answers c.args.context.now.functions.now) c.args.context.now.plan.now P L S))
-    (step c.args.context.now.dt c.args.value.now) c.args.meter.now c.step_switch.new.meter c.args.inside
-    c.in_ok-over-in-Switch.over c.in-Some-over.body c.step_switch.new.switch c.step_switch.new.value c.in-Some-over.is c.in_ok-over-in-Switch.ensures.answers m depth t P L (rw c.in-Switch.is at A)
-
-pub step_counted-returns-in-None-clause-answers : goal.step_counted-returns-in-None-clause-answers
-step_counted-returns-in-None-clause-answers g t c = λ m depth t P L A.
-    watching_stays (g.R.Holds.answers c.args.context.now.functions.now) c.args.context.now.plan.now _ c.in-Switch.names c.in-Switch.node.value c.in-Some.switch.now (λ P L S. rw c.in-Some.ensures.value (c.unshare_switch.ensures (g.R.Holds.answers c.args.context.now.functions.now) c.args.context.now.plan.now P L S))
-    (step c.args.context.now.dt c.args.value.now) c.args.meter.now c.step_switch.new.meter c.args.inside
-    _ c.in_ok-over-in-Switch.over c.step_switch.new.switch c.step_switch.new.value c.in-None.is c.in_ok-over-in-Switch.ensures.answers m depth t P L (rw c.in-Switch.is at A)
-
-pub step_counted-returns-in_default-unshare_keeping-clause-answers : goal.step_counted-returns-in_default-unshare_keeping-clause-answers
-step_counted-returns-in_default-unshare_keeping-clause-answers g t c = λ m depth t P L A. early_memory (g.R.Holds.answers c.args.context.now.functions.now) c.args.context.now.plan.now t c.stop-in_default-unshare_keeping.ensures.entered c.stop-in_default-unshare_keeping.ensures.height c.stop-in_default-unshare_keeping.ensures.fault
-
-pub step_counted-returns-in_default-get_mut-2-clause-answers : goal.step_counted-returns-in_default-get_mut-2-clause-answers
-step_counted-returns-in_default-get_mut-2-clause-answers g t c = λ m depth t P L A. early_memory (g.R.Holds.answers c.args.context.now.functions.now) c.args.context.now.plan.now t c.stop-in_default-get_mut-2.ensures.entered c.stop-in_default-get_mut-2.ensures.height c.stop-in_default-get_mut-2.ensures.fault
+pub step_counted-returns-in_ok-over-in-Switch-clause-answers : goal.step_counted-returns-in_ok-over-in-Switch-clause-answers
+step_counted-returns-in_ok-over-in-Switch-clause-answers g t c = λ m depth t P L A.
+    watching_turns (g.R.Holds.answers c.args.context.now.functions.now) c.args.context.now.plan.now _ c.in-Switch.names c.in-Switch.node.value c.in-Switch.node.value (λ P L S. S) (step c.args.context.now.dt c.args.value.now) c.args.meter.now c.step_watching.new.meter c.args.inside
+    _ c.in_ok-over-in-Switch.over c.step_watching.new.node.value c.step_watching.new.value _ c.take_over.ensures c.in_ok-over-in-Switch.ensures.answers m depth t P L (rw c.in-Switch.is at A)
 
 pub step_counted-returns-in_err-kept-in-Keeping-clause-answers : goal.step_counted-returns-in_err-kept-in-Keeping-clause-answers
 step_counted-returns-in_err-kept-in-Keeping-clause-answers g t c = λ m depth t P L A.
-    pass_exit _ _ c.from_residual-in_err-kept-in-Keeping.ensures.0 (failed (keeping_fails (g.R.Holds.answers c.args.context.now.functions.now) c.args.context.now.plan.now _ c.in-Keeping.names c.in-Keeping.node.value c.in-Some-get_mut.keeping.now (λ P L S. rw c.in-Some-get_mut.ensures.value (c.unshare_keeping.ensures (g.R.Holds.answers c.args.context.now.functions.now) c.args.context.now.plan.now P L S))
-    (step c.args.context.now.dt c.args.value.now) c.args.meter.now c.step_keeping.new.meter c.args.inside _ c.in_err-kept-in-Keeping.ensures.answers m depth t P L (rw c.in-Keeping.is at A)))
+    pass_exit _ _ c.from_residual-in_err-kept-in-Keeping.ensures.0 (failed (keeping_fails (g.R.Holds.answers c.args.context.now.functions.now) c.args.context.now.plan.now _ c.in-Keeping.names c.in-Keeping.node.value c.in-Keeping.node.value (λ P L S. S)
+    (step c.args.context.now.dt c.args.value.now) c.args.meter.now c.step_observing.new.meter c.args.inside _ c.in_err-kept-in-Keeping.ensures.answers m depth t P L (rw c.in-Keeping.is at A)))
 
-pub step_counted-returns-in-Some-kept-clause-answers : goal.step_counted-returns-in-Some-kept-clause-answers
-step_counted-returns-in-Some-kept-clause-answers g t c = λ m depth t P L A.
-    keeping_goes (g.R.Holds.answers c.args.context.now.functions.now) c.args.context.now.plan.now _ c.in-Keeping.names c.in-Keeping.node.value c.in-Some-get_mut.keeping.now (λ P L S. rw c.in-Some-get_mut.ensures.value (c.unshare_keeping.ensures (g.R.Holds.answers c.args.context.now.functions.now) c.args.context.now.plan.now P L S))
-    (step c.args.context.now.dt c.args.value.now) c.args.meter.now c.step_keeping.new.meter c.args.inside
-    c.in_ok-kept-in-Keeping.kept c.in-Some-kept.body c.step_keeping.new.keeping c.step_keeping.new.value c.in-Some-kept.is c.in_ok-kept-in-Keeping.ensures.answers m depth t P L (rw c.in-Keeping.is at A)
+pub step_counted-returns-in_ok-kept-in-Keeping-clause-answers : goal.step_counted-returns-in_ok-kept-in-Keeping-clause-answers
+step_counted-returns-in_ok-kept-in-Keeping-clause-answers g t c = λ m depth t P L A.
+    keeping_turns (g.R.Holds.answers c.args.context.now.functions.now) c.args.context.now.plan.now _ c.in-Keeping.names c.in-Keeping.node.value c.in-Keeping.node.value (λ P L S. S) (step c.args.context.now.dt c.args.value.now) c.args.meter.now c.step_observing.new.meter c.args.inside
+    _ c.in_ok-kept-in-Keeping.kept c.step_observing.new.node.value c.step_observing.new.value _ c.take_over-in-Keeping.ensures c.in_ok-kept-in-Keeping.ensures.answers m depth t P L (rw c.in-Keeping.is at A)
 
-pub step_counted-returns-in-None-kept-clause-answers : goal.step_counted-returns-in-None-kept-clause-answers
-step_counted-returns-in-None-kept-clause-answers g t c = λ m depth t P L A.
-    keeping_stays (g.R.Holds.answers c.args.context.now.functions.now) c.args.context.now.plan.now _ c.in-Keeping.names c.in-Keeping.node.value c.in-Some-get_mut.keeping.now (λ P L S. rw c.in-Some-get_mut.ensures.value (c.unshare_keeping.ensures (g.R.Holds.answers c.args.context.now.functions.now) c.args.context.now.plan.now P L S))
-    (step c.args.context.now.dt c.args.value.now) c.args.meter.now c.step_keeping.new.meter c.args.inside
-    _ c.in_ok-kept-in-Keeping.kept c.step_keeping.new.keeping c.step_keeping.new.value c.in-None-kept.is c.in_ok-kept-in-Keeping.ensures.answers m depth t P L (rw c.in-Keeping.is at A)
+-- ## step_watching, step_observing
+
+pub step_watching-returns-in_default-clause-answers : goal.step_watching-returns-in_default-clause-answers
+step_watching-returns-in_default-clause-answers g t c = λ m depth t T e L N W. early_memory (g.R.Holds.answers c.args.context.now.functions.now) c.args.context.now.plan.now t c.stop.ensures.entered c.stop.ensures.height c.stop.ensures.fault
+
+pub step_watching-returns-in-Some-clause-answers : goal.step_watching-returns-in-Some-clause-answers
+step_watching-returns-in-Some-clause-answers g t c = λ m depth t T e L N W. c.step_switch.ensures.answers m depth t T e L N (rw c.in-Some.ensures.value (c.unshare_switch.ensures (g.R.Holds.answers c.args.context.now.functions.now) c.args.context.now.plan.now _ _ W))
+
+pub step_watching-returns-in-None-clause-answers : goal.step_watching-returns-in-None-clause-answers
+step_watching-returns-in-None-clause-answers g t c = λ m depth t T e L N W. early_memory (g.R.Holds.answers c.args.context.now.functions.now) c.args.context.now.plan.now t c.stop-in-None.ensures.entered c.stop-in-None.ensures.height c.stop-in-None.ensures.fault
+
+pub step_observing-returns-in_default-clause-answers : goal.step_observing-returns-in_default-clause-answers
+step_observing-returns-in_default-clause-answers g t c = λ m depth t T e L N W. early_memory (g.R.Holds.answers c.args.context.now.functions.now) c.args.context.now.plan.now t c.stop.ensures.entered c.stop.ensures.height c.stop.ensures.fault
+
+pub step_observing-returns-in-Some-clause-answers : goal.step_observing-returns-in-Some-clause-answers
+step_observing-returns-in-Some-clause-answers g t c = λ m depth t T e L N W. c.step_keeping.ensures.answers m depth t T e L N (rw c.in-Some.ensures.value (c.unshare_keeping.ensures (g.R.Holds.answers c.args.context.now.functions.now) c.args.context.now.plan.now _ _ W))
+
+pub step_observing-returns-in-None-clause-answers : goal.step_observing-returns-in-None-clause-answers
+step_observing-returns-in-None-clause-answers g t c = λ m depth t T e L N W. early_memory (g.R.Holds.answers c.args.context.now.functions.now) c.args.context.now.plan.now t c.stop-in-None.ensures.entered c.stop-in-None.ensures.height c.stop-in-None.ensures.fault
 
 -- ## step_other
 
@@ -158,18 +153,17 @@ step_basic-returns-in_err-step_state-clause-answers g t c = λ m depth t T e L N
     pass_beside (g.R.Holds.answers c.args.context.now.functions.now) c.args.context.now.plan.now _ _ _ c.from_residual.ensures.0 (source_fails (g.R.Holds.answers c.args.context.now.functions.now) c.args.context.now.plan.now c.args.names.now c.args.switch.now c.args.shown c.requires.form (step c.args.context.now.dt c.args.value.now) c.args.meter.now c.step_state.new.meter c.args.inside
     _ c.in_err-step_state.ensures.answers m depth t T e L N W)
 
-pub step_basic-returns-in_default-parts-clause-answers : goal.step_basic-returns-in_default-parts-clause-answers
-step_basic-returns-in_default-parts-clause-answers g t c = λ m depth t T e L N W.
-    memory_exit c.stop-in_default-parts.ensures.fault (switch_memory (g.R.Holds.answers c.args.context.now.functions.now) c.args.context.now.plan.now c.args.names.now c.args.switch.now c.args.shown c.requires.form (step c.args.context.now.dt c.args.value.now) c.args.meter.now c.step_state.new.meter c.args.inside
-    c.step_state.new.state c.step_state.new.value c.in_ok-step_state.ensures.answers _ c.stop-in_default-parts.ensures.entered c.stop-in_default-parts.ensures.height m depth t T e L N W)
+pub step_basic-returns-in_default-value_and_payload-clause-answers : goal.step_basic-returns-in_default-value_and_payload-clause-answers
+step_basic-returns-in_default-value_and_payload-clause-answers g t c = λ m depth t T e L N W.
+    memory_exit c.stop-in_default-value_and_payload.ensures.fault (switch_memory (g.R.Holds.answers c.args.context.now.functions.now) c.args.context.now.plan.now c.args.names.now c.args.switch.now c.args.shown c.requires.form (step c.args.context.now.dt c.args.value.now) c.args.meter.now c.step_state.new.meter c.args.inside
+    c.step_state.new.state c.step_state.new.value c.in_ok-step_state.ensures.answers _ c.stop-in_default-value_and_payload.ensures.entered c.stop-in_default-value_and_payload.ensures.height m depth t T e L N W)
 
 pub step_basic-returns-in-None-clause-answers : goal.step_basic-returns-in-None-clause-answers
 step_basic-returns-in-None-clause-answers g t c =
     let y = c.step_state.new.value in
-    let same = c.replace-both.ensures.value in
     switch_waits_on (g.R.Holds.answers c.args.context.now.functions.now) c.args.context.now.plan.now c.args.names.now c.args.switch.now c.args.shown c.requires.form (step c.args.context.now.dt c.args.value.now) c.args.meter.now c.step_state.new.meter c.args.inside
-    c.step_state.new.state y c.in_ok-step_state.ensures.answers (comes_none _ c.payload_of.result c.in-Ok-parts.event y c.payload_of.ensures c.in-None.is (c.in-Ok-parts.ensures.1 ∙ ap second_of same))
-    c.in-Ok-parts.old (c.in-Ok-parts.ensures.0 ∙ ap first_of same) _ refl
+    c.step_state.new.state y c.in_ok-step_state.ensures.answers (none_occurs _ c.in-Ok-value_and_payload.occurring (second_of y) c.in-Ok-value_and_payload.ensures.1 c.in-None.is)
+    c.in-Ok-value_and_payload.old c.in-Ok-value_and_payload.ensures.0 _ refl
 
 pub step_basic-returns-in_default-begin-clause-answers : goal.step_basic-returns-in_default-begin-clause-answers
 step_basic-returns-in_default-begin-clause-answers g t c = λ m depth t T e L N W.
@@ -179,19 +173,17 @@ step_basic-returns-in_default-begin-clause-answers g t c = λ m depth t T e L N 
 pub step_basic-returns-in_err-step_state-in-Some-clause-answers : goal.step_basic-returns-in_err-step_state-in-Some-clause-answers
 step_basic-returns-in_err-step_state-in-Some-clause-answers g t c = λ m depth t T e L N W.
     let y = c.step_state.new.value in
-    let same = c.replace-both.ensures.value in
     pass_beside (g.R.Holds.answers c.args.context.now.functions.now) c.args.context.now.plan.now _ _ _ c.from_residual-in_err-step_state-in-Some.ensures.0 (body_fails (g.R.Holds.answers c.args.context.now.functions.now) c.args.context.now.plan.now c.args.names.now c.args.switch.now c.args.shown c.requires.form (step c.args.context.now.dt c.args.value.now) c.args.meter.now c.step_state.new.meter c.args.inside
-    c.step_state.new.state y c.in_ok-step_state.ensures.answers c.in-Some.payload.value (comes_some _ c.payload_of.result c.in-Some.payload c.in-Ok-parts.event y c.payload_of.ensures c.in-Some.is (c.in-Ok-parts.ensures.1 ∙ ap second_of same))
+    c.step_state.new.state y c.in_ok-step_state.ensures.answers c.in-Some.payload.value (some_occurs _ c.in-Ok-value_and_payload.occurring c.in-Some.payload (second_of y) c.in-Ok-value_and_payload.ensures.1 c.in-Some.is)
     c.in-Ok-begin.body (c.in-Ok-begin.ensures (g.R.Holds.answers c.args.context.now.functions.now) c.args.context.now.plan.now) c.step_state-in-Some.new.meter _ (rw c.in-Ok.ensures at c.in_err-step_state-in-Some.ensures.answers) m depth t T e L N W)
 
 pub step_basic-returns-in_ok-step_state-in-Some-clause-answers : goal.step_basic-returns-in_ok-step_state-in-Some-clause-answers
 step_basic-returns-in_ok-step_state-in-Some-clause-answers g t c =
     let y = c.step_state.new.value in
-    let same = c.replace-both.ensures.value in
     body_takes_over (g.R.Holds.answers c.args.context.now.functions.now) c.args.context.now.plan.now c.args.names.now c.args.switch.now c.args.shown c.requires.form (step c.args.context.now.dt c.args.value.now) c.args.meter.now c.step_state.new.meter c.args.inside
-    c.step_state.new.state y c.in_ok-step_state.ensures.answers c.in-Some.payload.value (comes_some _ c.payload_of.result c.in-Some.payload c.in-Ok-parts.event y c.payload_of.ensures c.in-Some.is (c.in-Ok-parts.ensures.1 ∙ ap second_of same))
+    c.step_state.new.state y c.in_ok-step_state.ensures.answers c.in-Some.payload.value (some_occurs _ c.in-Ok-value_and_payload.occurring c.in-Some.payload (second_of y) c.in-Ok-value_and_payload.ensures.1 c.in-Some.is)
     c.in-Ok-begin.body (c.in-Ok-begin.ensures (g.R.Holds.answers c.args.context.now.functions.now) c.args.context.now.plan.now) c.step_state-in-Some.new.meter
-    c.step_state-in-Some.new.state c.step_state-in-Some.new.value _ (c.switched.ensures ∙ ap (λ d. switched_value c.args.shown d c.step_state-in-Some.new.value) (c.in-Ok-parts.ensures.0 ∙ ap first_of same)) _
+    c.step_state-in-Some.new.state c.step_state-in-Some.new.value _ (c.switched.ensures ∙ ap (λ d. switched_value c.args.shown d c.step_state-in-Some.new.value) c.in-Ok-value_and_payload.ensures.0) _
     (rw c.in-Ok.ensures at c.in_ok-step_state-in-Some.ensures.answers)
 
 -- ## step_recurring
@@ -201,9 +193,8 @@ step_recurring-returns-in_default-clause-answers g t c = λ m depth t T e L N W.
 
 pub step_recurring-returns-in-None-clause-answers : goal.step_recurring-returns-in-None-clause-answers
 step_recurring-returns-in-None-clause-answers g t c =
-    let same = c.replace-both.ensures.value in
-    runs_alone (g.R.Holds.answers c.args.context.now.functions.now) c.args.context.now.plan.now c.args.names.now c.args.switch.now c.args.shown c.requires.form c.args.context.now.dt c.args.value.now c.in-Ok.input (c.in-Ok.ensures.0 ∙ ap first_of same) c.args.meter.now c.step_state.new.meter c.args.inside
-    c.step_state.result c.step_state.new.state c.step_state.new.value (fault_of c.step_state.new.meter) (comes_none _ c.payload_of.result c.in-Ok.event c.args.value.now c.payload_of.ensures c.in-None.is (c.in-Ok.ensures.1 ∙ ap second_of same))
+    runs_alone (g.R.Holds.answers c.args.context.now.functions.now) c.args.context.now.plan.now c.args.names.now c.args.switch.now c.args.shown c.requires.form c.args.context.now.dt c.args.value.now c.in-Ok.input c.in-Ok.ensures.0 c.args.meter.now c.step_state.new.meter c.args.inside
+    c.step_state.result c.step_state.new.state c.step_state.new.value (fault_of c.step_state.new.meter) (none_occurs _ c.in-Ok.occurring (second_of c.args.value.now) c.in-Ok.ensures.1 c.in-None.is)
     _ refl c.step_state.ensures.answers
 
 pub step_recurring-returns-in_default-clone_in-clause-answers : goal.step_recurring-returns-in_default-clone_in-clause-answers
@@ -211,30 +202,26 @@ step_recurring-returns-in_default-clone_in-clause-answers g t c = λ m depth t T
 
 pub step_recurring-returns-in_err-step_state-in-Some-clause-answers : goal.step_recurring-returns-in_err-step_state-in-Some-clause-answers
 step_recurring-returns-in_err-step_state-in-Some-clause-answers g t c = λ m depth t T e L N W.
-    let same = c.replace-both.ensures.value in
-    pass_exit _ _ c.from_residual.ensures.0 (run_fails (g.R.Holds.answers c.args.context.now.functions.now) c.args.context.now.plan.now c.args.names.now c.args.switch.now c.args.shown c.requires.form c.args.context.now.dt c.args.value.now c.in-Ok.input (c.in-Ok.ensures.0 ∙ ap first_of same) c.args.meter.now c.step_state-in-Some.new.meter c.args.inside
+    pass_exit _ _ c.from_residual.ensures.0 (run_fails (g.R.Holds.answers c.args.context.now.functions.now) c.args.context.now.plan.now c.args.names.now c.args.switch.now c.args.shown c.requires.form c.args.context.now.dt c.args.value.now c.in-Ok.input c.in-Ok.ensures.0 c.args.meter.now c.step_state-in-Some.new.meter c.args.inside
     _ c.in_err-step_state-in-Some.ensures.answers m depth t T e L N W)
 
 pub step_recurring-returns-in_default-begin-clause-answers : goal.step_recurring-returns-in_default-begin-clause-answers
 step_recurring-returns-in_default-begin-clause-answers g t c = λ m depth t T e L N W.
-    let same = c.replace-both.ensures.value in
-    memory_exit c.stop-in_default-begin.ensures.fault (run_memory (g.R.Holds.answers c.args.context.now.functions.now) c.args.context.now.plan.now c.args.names.now c.args.switch.now c.args.shown c.requires.form c.args.context.now.dt c.args.value.now c.in-Ok.input (c.in-Ok.ensures.0 ∙ ap first_of same) c.args.meter.now c.step_state-in-Some.new.meter c.args.inside
+    memory_exit c.stop-in_default-begin.ensures.fault (run_memory (g.R.Holds.answers c.args.context.now.functions.now) c.args.context.now.plan.now c.args.names.now c.args.switch.now c.args.shown c.requires.form c.args.context.now.dt c.args.value.now c.in-Ok.input c.in-Ok.ensures.0 c.args.meter.now c.step_state-in-Some.new.meter c.args.inside
     c.step_state-in-Some.new.state c.step_state-in-Some.new.value c.in_ok-step_state-in-Some.ensures.answers _ c.stop-in_default-begin.ensures.entered c.stop-in_default-begin.ensures.height m depth t T e L N W)
 
 pub step_recurring-returns-in_err-step_state-in-Some-2-clause-answers : goal.step_recurring-returns-in_err-step_state-in-Some-2-clause-answers
 step_recurring-returns-in_err-step_state-in-Some-2-clause-answers g t c = λ m depth t T e L N W.
-    let same = c.replace-both.ensures.value in
-    pass_exit _ _ c.from_residual-in_err-step_state-in-Some-2.ensures.0 (new_fails (g.R.Holds.answers c.args.context.now.functions.now) c.args.context.now.plan.now c.args.names.now c.args.switch.now c.args.shown c.requires.form c.args.context.now.dt c.args.value.now c.in-Ok.input (c.in-Ok.ensures.0 ∙ ap first_of same) c.args.meter.now c.step_state-in-Some.new.meter c.args.inside
-    c.step_state-in-Some.new.state c.step_state-in-Some.new.value c.in_ok-step_state-in-Some.ensures.answers c.in-Some.payload.value (comes_some _ c.payload_of.result c.in-Some.payload c.in-Ok.event c.args.value.now c.payload_of.ensures c.in-Some.is (c.in-Ok.ensures.1 ∙ ap second_of same))
+    pass_exit _ _ c.from_residual-in_err-step_state-in-Some-2.ensures.0 (new_fails (g.R.Holds.answers c.args.context.now.functions.now) c.args.context.now.plan.now c.args.names.now c.args.switch.now c.args.shown c.requires.form c.args.context.now.dt c.args.value.now c.in-Ok.input c.in-Ok.ensures.0 c.args.meter.now c.step_state-in-Some.new.meter c.args.inside
+    c.step_state-in-Some.new.state c.step_state-in-Some.new.value c.in_ok-step_state-in-Some.ensures.answers c.in-Some.payload.value (some_occurs _ c.in-Ok.occurring c.in-Some.payload (second_of c.args.value.now) c.in-Ok.ensures.1 c.in-Some.is)
     c.in-Ok-begin.next c.in-Ok-clone_in.begun c.in-Ok-clone_in.ensures (c.in-Ok-begin.ensures (g.R.Holds.answers c.args.context.now.functions.now) c.args.context.now.plan.now) c.step_state-in-Some-2.new.meter _ c.in_err-step_state-in-Some-2.ensures.answers m depth t T e L N W)
 
 pub step_recurring-returns-in_ok-step_state-in-Some-2-clause-answers : goal.step_recurring-returns-in_ok-step_state-in-Some-2-clause-answers
 step_recurring-returns-in_ok-step_state-in-Some-2-clause-answers g t c =
-    let same = c.replace-both.ensures.value in
-    new_runs (g.R.Holds.answers c.args.context.now.functions.now) c.args.context.now.plan.now c.args.names.now c.args.switch.now c.args.shown c.requires.form c.args.context.now.dt c.args.value.now c.in-Ok.input (c.in-Ok.ensures.0 ∙ ap first_of same) c.args.meter.now c.step_state-in-Some.new.meter c.args.inside
-    c.step_state-in-Some.new.state c.step_state-in-Some.new.value c.in_ok-step_state-in-Some.ensures.answers c.in-Some.payload.value (comes_some _ c.payload_of.result c.in-Some.payload c.in-Ok.event c.args.value.now c.payload_of.ensures c.in-Some.is (c.in-Ok.ensures.1 ∙ ap second_of same))
+    new_runs (g.R.Holds.answers c.args.context.now.functions.now) c.args.context.now.plan.now c.args.names.now c.args.switch.now c.args.shown c.requires.form c.args.context.now.dt c.args.value.now c.in-Ok.input c.in-Ok.ensures.0 c.args.meter.now c.step_state-in-Some.new.meter c.args.inside
+    c.step_state-in-Some.new.state c.step_state-in-Some.new.value c.in_ok-step_state-in-Some.ensures.answers c.in-Some.payload.value (some_occurs _ c.in-Ok.occurring c.in-Some.payload (second_of c.args.value.now) c.in-Ok.ensures.1 c.in-Some.is)
     c.in-Ok-begin.next c.in-Ok-clone_in.begun c.in-Ok-clone_in.ensures (c.in-Ok-begin.ensures (g.R.Holds.answers c.args.context.now.functions.now) c.args.context.now.plan.now) c.step_state-in-Some-2.new.meter
-    c.step_state-in-Some-2.new.state c.step_state-in-Some-2.new.value _ (c.switched.ensures ∙ ap (λ d. switched_value c.args.shown d c.step_state-in-Some-2.new.value) c.replace-old.ensures.value) _ refl c.in_ok-step_state-in-Some-2.ensures.answers
+    c.step_state-in-Some-2.new.state c.step_state-in-Some-2.new.value _ (c.switched.ensures ∙ ap (λ d. switched_value c.args.shown d c.step_state-in-Some-2.new.value) c.replace-old.ensures.value) _ (ap (λ (a : State). record { form = c.args.switch.now.form; running = a; pattern = c.args.switch.now.pattern; body = c.args.switch.now.body }) c.take_over.ensures) c.in_ok-step_state-in-Some-2.ensures.answers
 
 -- ## step_pipeline
 

@@ -47,6 +47,12 @@ decreases-step_counted g l = 10 * (1000000 - entered_of l.meter.now) + 9
 abbrev pub decreases-step_pipeline : goal.decreases-step_pipeline
 decreases-step_pipeline g l = 10 * (1000000 - entered_of l.meter.now) + 6
 
+abbrev pub decreases-step_watching : goal.decreases-step_watching
+decreases-step_watching g l = 10 * (1000000 - entered_of l.meter.now) + 7
+
+abbrev pub decreases-step_observing : goal.decreases-step_observing
+decreases-step_observing g l = 10 * (1000000 - entered_of l.meter.now) + 7
+
 abbrev pub decreases-step_switch : goal.decreases-step_switch
 decreases-step_switch g l = 10 * (1000000 - entered_of l.meter.now) + 6
 

@@ -2,12 +2,13 @@ use Rattle.std.proofs.Common.{true, List, sym, subst, ◌∙◌}
 use Rattle.sf_lex.specs.Words.{IsName}
 use Rattle.sf_lex.specs.Tokens.{name_bytes}
 use Rattle.sf_term.specs.declared.node.Argument.{Argument}
-use Rattle.sf_parse.specs.Answers.{ahead}
+use Rattle.sf_parse.specs.Answers.{ahead, counts_of}
 use Rattle.sf_parse.specs.Consuming.{spots_ahead, Consumes}
 use Rattle.sf_grammar.specs.Placing.{ArgumentsPlaced}
 use Rattle.sf_term.proofs.Kept.{keeps_trans}
 use Rattle.sf_text.proofs.Found.{term_built, headed_ready, joined_ready, sided_ready, switching_ready, keeping_ready, call_ready, body_found, term_at, body_at}
 use Rattle.sf_text.proofs.Placed.{headed_read, joined_read, sided_read, switching_read, keeping_read, call_read, value_read, process_read, no_arguments_placed_behind, each_argument_placed, term_placed_at, body_placed_at}
+use Rattle.sf_text.proofs.Stops.{if_stopped, term_stopped, body_stopped, headed_opening, headed_value, headed_comma, headed_part, headed_closing, joined_one, joined_join, joined_two, joined_closing, sided_part, switching_opening, switching_source, switching_comma, switching_body, switching_closing, keeping_opening, keeping_source, keeping_comma, keeping_observer, keeping_second, keeping_name, keeping_third, keeping_body, keeping_closing, body_pattern, body_leads, body_term, call_opening, call_arguments}
 use Rattle.sf_text.proofs.Lists.{ArgumentsTo, arguments_go_on, no_arguments_to, next_argument, argument_stopped, argument_separator_stopped, all_arguments, arguments_stopped_as}
 use Rattle.sf_parse.proofs.Found.{if_built, if_built_on}
 use Rattle.sf_parse.proofs.Placed.{parted_read}
@@ -122,3 +123,316 @@ some_arguments-loop-more-preserved t c =
 pub some_arguments-returns-clause-reads : goal.some_arguments-returns-clause-reads
 some_arguments-returns-clause-reads t c =
     (all_arguments c.args.reader.now.version c.args.left c.args.reader.now.program c.loop-more.reader.program c.args.reader.now.cursor.tokens.now c.loop-more.arguments.items c.loop-more.more c.loop-more.reader.cursor.tokens.now c.loop-more-test.false c.loop-more.invariant.read).found
+
+pub headed-returns-in_err-symbol-clause-reads : goal.headed-returns-in_err-symbol-clause-reads
+headed-returns-in_err-symbol-clause-reads t c = λ whole counted.
+    term_stopped _ _ _ c.from_residual.result c.in_err-symbol.field-0.0 _ c.from_residual.ensures.1
+    (headed_opening c.args.reader.now.version c.args.reader.now.program c.args.heading whole c.args.left (ahead c.args.reader.now.cursor) c.in_err-symbol.field-0.0 c.in_err-symbol.ensures.reads)
+
+pub headed-returns-in_err-value-clause-reads : goal.headed-returns-in_err-value-clause-reads
+headed-returns-in_err-value-clause-reads t c = λ whole counted.
+    term_stopped _ _ _ c.from_residual-in_err-value.result c.in_err-value.field-0.0 _ c.from_residual-in_err-value.ensures.1
+    (headed_value c.args.reader.now.version c.args.reader.now.program c.args.heading whole c.args.left (ahead c.args.reader.now.cursor) c.in_err-value.field-0.0 c.in_ok-symbol.ensures.reads c.in_err-value.ensures.reads)
+
+pub headed-returns-in_err-symbol-2-clause-reads : goal.headed-returns-in_err-symbol-2-clause-reads
+headed-returns-in_err-symbol-2-clause-reads t c = λ whole counted.
+    term_stopped _ _ _ c.from_residual-in_err-symbol-2.result c.in_err-symbol-2.field-0.0 _ c.from_residual-in_err-symbol-2.ensures.1
+    (headed_comma c.args.reader.now.version c.args.reader.now.program c.args.heading whole c.args.left (ahead c.args.reader.now.cursor) c.in_err-symbol-2.field-0.0 c.in_ok-symbol.ensures.reads c.in_ok-value.ensures.reads c.in_err-symbol-2.ensures.reads)
+
+pub headed-returns-in_err-part-clause-reads : goal.headed-returns-in_err-part-clause-reads
+headed-returns-in_err-part-clause-reads t c = λ whole counted.
+    term_stopped _ _ _ c.from_residual-in_err-part.result c.in_err-part.field-0.0 _ c.from_residual-in_err-part.ensures.1
+    (headed_part c.args.reader.now.version c.args.reader.now.program c.args.heading whole c.args.left (ahead c.args.reader.now.cursor) c.in_err-part.field-0.0 c.in_ok-symbol.ensures.reads c.in_ok-value.ensures.reads c.in_ok-symbol-2.ensures.reads c.expression.ensures.version c.in_err-part.ensures.reads)
+
+pub headed-returns-in_err-symbol-3-clause-reads : goal.headed-returns-in_err-symbol-3-clause-reads
+headed-returns-in_err-symbol-3-clause-reads t c = λ whole counted.
+    term_stopped _ _ _ c.from_residual-in_err-symbol-3.result c.in_err-symbol-3.field-0.0 _ c.from_residual-in_err-symbol-3.ensures.1
+    (headed_closing c.args.reader.now.version c.args.reader.now.program c.args.heading whole c.args.left (ahead c.args.reader.now.cursor) c.in_err-symbol-3.field-0.0 c.in_ok-symbol.ensures.reads c.in_ok-value.ensures.reads c.in_ok-symbol-2.ensures.reads c.expression.ensures.version c.in_ok-part.ensures.reads c.in_err-symbol-3.ensures.reads)
+
+pub joined-returns-in_err-one-clause-reads : goal.joined-returns-in_err-one-clause-reads
+joined-returns-in_err-one-clause-reads t c = λ whole counted.
+    term_stopped _ _ _ c.from_residual.result c.in_err-one.field-0.0 _ c.from_residual.ensures.1
+    (joined_one c.args.reader.now.version c.args.reader.now.program whole c.args.left (ahead c.args.reader.now.cursor) c.in_err-one.field-0.0 c.in_err-one.ensures.reads)
+
+pub joined-returns-in_err-join-clause-reads : goal.joined-returns-in_err-join-clause-reads
+joined-returns-in_err-join-clause-reads t c = λ whole counted.
+    term_stopped _ _ _ c.from_residual-in_err-join.result c.in_err-join.field-0.0 _ c.from_residual-in_err-join.ensures.1
+    (joined_join c.args.reader.now.version c.args.reader.now.program whole c.args.left (ahead c.args.reader.now.cursor) c.in_err-join.field-0.0 c.in_ok-one.ensures.reads c.in_err-join.ensures.reads)
+
+pub joined-returns-in_err-two-clause-reads : goal.joined-returns-in_err-two-clause-reads
+joined-returns-in_err-two-clause-reads t c = λ whole counted.
+    term_stopped _ _ _ c.from_residual-in_err-two.result c.in_err-two.field-0.0 _ c.from_residual-in_err-two.ensures.1
+    (joined_two c.args.reader.now.version c.args.reader.now.program whole c.args.left (ahead c.args.reader.now.cursor) c.in_err-two.field-0.0 c.in_ok-one.ensures.reads c.in_ok-join.ensures.reads c.term.ensures.version c.in_err-two.ensures.reads)
+
+pub joined-returns-in_err-symbol-clause-reads : goal.joined-returns-in_err-symbol-clause-reads
+joined-returns-in_err-symbol-clause-reads t c = λ whole counted.
+    term_stopped _ _ _ c.from_residual-in_err-symbol.result c.in_err-symbol.field-0.0 _ c.from_residual-in_err-symbol.ensures.1
+    (joined_closing c.args.reader.now.version c.args.reader.now.program whole c.args.left (ahead c.args.reader.now.cursor) c.in_err-symbol.field-0.0 c.in_ok-one.ensures.reads c.in_ok-join.ensures.reads c.term.ensures.version c.in_ok-two.ensures.reads c.in_err-symbol.ensures.reads)
+
+pub sided-returns-in_err-part-clause-reads : goal.sided-returns-in_err-part-clause-reads
+sided-returns-in_err-part-clause-reads t c = λ whole counted.
+    term_stopped _ _ _ c.from_residual.result c.in_err-part.field-0.0 _ c.from_residual.ensures.1
+    (sided_part c.args.reader.now.version c.args.reader.now.program c.args.side whole c.args.left (ahead c.args.reader.now.cursor) c.in_err-part.field-0.0 c.in_err-part.ensures.reads)
+
+pub switching-returns-in_err-symbol-clause-reads : goal.switching-returns-in_err-symbol-clause-reads
+switching-returns-in_err-symbol-clause-reads t c = λ whole counted.
+    term_stopped _ _ _ c.from_residual.result c.in_err-symbol.field-0.0 _ c.from_residual.ensures.1
+    (switching_opening c.args.reader.now.version c.args.reader.now.program c.args.kind whole c.args.left (ahead c.args.reader.now.cursor) c.in_err-symbol.field-0.0 c.in_err-symbol.ensures.reads)
+
+pub switching-returns-in_err-source-clause-reads : goal.switching-returns-in_err-source-clause-reads
+switching-returns-in_err-source-clause-reads t c = λ whole counted.
+    term_stopped _ _ _ c.from_residual-in_err-source.result c.in_err-source.field-0.0 _ c.from_residual-in_err-source.ensures.1
+    (switching_source c.args.reader.now.version c.args.reader.now.program c.args.kind whole c.args.left (ahead c.args.reader.now.cursor) c.in_err-source.field-0.0 c.in_ok-symbol.ensures.reads c.in_err-source.ensures.reads)
+
+pub switching-returns-in_err-symbol-2-clause-reads : goal.switching-returns-in_err-symbol-2-clause-reads
+switching-returns-in_err-symbol-2-clause-reads t c = λ whole counted.
+    term_stopped _ _ _ c.from_residual-in_err-symbol-2.result c.in_err-symbol-2.field-0.0 _ c.from_residual-in_err-symbol-2.ensures.1
+    (switching_comma c.args.reader.now.version c.args.reader.now.program c.args.kind whole c.args.left (ahead c.args.reader.now.cursor) c.in_err-symbol-2.field-0.0 c.in_ok-symbol.ensures.reads c.in_ok-source.ensures.reads c.in_err-symbol-2.ensures.reads)
+
+pub switching-returns-in_err-pattern-clause-reads : goal.switching-returns-in_err-pattern-clause-reads
+switching-returns-in_err-pattern-clause-reads t c = λ whole counted.
+    term_stopped _ _ _ c.from_residual-in_err-pattern.result c.in_err-pattern.field-0.0 _ c.from_residual-in_err-pattern.ensures.1
+    (switching_body c.args.reader.now.version c.args.reader.now.program c.args.kind whole c.args.left (ahead c.args.reader.now.cursor) c.in_err-pattern.field-0.0 c.in_ok-symbol.ensures.reads c.in_ok-source.ensures.reads c.in_ok-symbol-2.ensures.reads c.term.ensures.version c.in_err-pattern.ensures.reads)
+
+pub switching-returns-in_err-symbol-3-clause-reads : goal.switching-returns-in_err-symbol-3-clause-reads
+switching-returns-in_err-symbol-3-clause-reads t c = λ whole counted.
+    term_stopped _ _ _ c.from_residual-in_err-symbol-3.result c.in_err-symbol-3.field-0.0 _ c.from_residual-in_err-symbol-3.ensures.1
+    (switching_closing c.args.reader.now.version c.args.reader.now.program c.args.kind whole c.args.left (ahead c.args.reader.now.cursor) c.in_err-symbol-3.field-0.0 c.in_ok-symbol.ensures.reads c.in_ok-source.ensures.reads c.in_ok-symbol-2.ensures.reads c.term.ensures.version c.in_ok-pattern.ensures.reads c.in_err-symbol-3.ensures.reads)
+
+pub keeping-returns-in_err-symbol-clause-reads : goal.keeping-returns-in_err-symbol-clause-reads
+keeping-returns-in_err-symbol-clause-reads t c = λ whole counted.
+    term_stopped _ _ _ c.from_residual.result c.in_err-symbol.field-0.0 _ c.from_residual.ensures.1
+    (keeping_opening c.args.reader.now.version c.args.reader.now.program c.args.kind whole c.args.left (ahead c.args.reader.now.cursor) c.in_err-symbol.field-0.0 c.in_err-symbol.ensures.reads)
+
+pub keeping-returns-in_err-source-clause-reads : goal.keeping-returns-in_err-source-clause-reads
+keeping-returns-in_err-source-clause-reads t c = λ whole counted.
+    term_stopped _ _ _ c.from_residual-in_err-source.result c.in_err-source.field-0.0 _ c.from_residual-in_err-source.ensures.1
+    (keeping_source c.args.reader.now.version c.args.reader.now.program c.args.kind whole c.args.left (ahead c.args.reader.now.cursor) c.in_err-source.field-0.0 c.in_ok-symbol.ensures.reads c.in_err-source.ensures.reads)
+
+pub keeping-returns-in_err-symbol-2-clause-reads : goal.keeping-returns-in_err-symbol-2-clause-reads
+keeping-returns-in_err-symbol-2-clause-reads t c = λ whole counted.
+    term_stopped _ _ _ c.from_residual-in_err-symbol-2.result c.in_err-symbol-2.field-0.0 _ c.from_residual-in_err-symbol-2.ensures.1
+    (keeping_comma c.args.reader.now.version c.args.reader.now.program c.args.kind whole c.args.left (ahead c.args.reader.now.cursor) c.in_err-symbol-2.field-0.0 c.in_ok-symbol.ensures.reads c.in_ok-source.ensures.reads c.in_err-symbol-2.ensures.reads)
+
+pub keeping-returns-in_err-observer-clause-reads : goal.keeping-returns-in_err-observer-clause-reads
+keeping-returns-in_err-observer-clause-reads t c = λ whole counted.
+    term_stopped _ _ _ c.from_residual-in_err-observer.result c.in_err-observer.field-0.0 _ c.from_residual-in_err-observer.ensures.1
+    (keeping_observer c.args.reader.now.version c.args.reader.now.program c.args.kind whole c.args.left (ahead c.args.reader.now.cursor) c.in_err-observer.field-0.0 c.in_ok-symbol.ensures.reads c.in_ok-source.ensures.reads c.in_ok-symbol-2.ensures.reads c.term.ensures.version c.in_err-observer.ensures.reads)
+
+pub keeping-returns-in_err-symbol-3-clause-reads : goal.keeping-returns-in_err-symbol-3-clause-reads
+keeping-returns-in_err-symbol-3-clause-reads t c = λ whole counted.
+    term_stopped _ _ _ c.from_residual-in_err-symbol-3.result c.in_err-symbol-3.field-0.0 _ c.from_residual-in_err-symbol-3.ensures.1
+    (keeping_second c.args.reader.now.version c.args.reader.now.program c.args.kind whole c.args.left (ahead c.args.reader.now.cursor) c.in_err-symbol-3.field-0.0 c.in_ok-symbol.ensures.reads c.in_ok-source.ensures.reads c.in_ok-symbol-2.ensures.reads c.term.ensures.version c.in_ok-observer.ensures.reads c.in_err-symbol-3.ensures.reads)
+
+pub keeping-returns-in_err-process-clause-reads : goal.keeping-returns-in_err-process-clause-reads
+keeping-returns-in_err-process-clause-reads t c = λ whole counted.
+    term_stopped _ _ _ c.from_residual-in_err-process.result c.in_err-process.field-0.0 _ c.from_residual-in_err-process.ensures.1
+    (keeping_name c.args.reader.now.version c.args.reader.now.program c.args.kind whole c.args.left (ahead c.args.reader.now.cursor) c.in_err-process.field-0.0 c.in_ok-symbol.ensures.reads c.in_ok-source.ensures.reads c.in_ok-symbol-2.ensures.reads c.term.ensures.version c.in_ok-observer.ensures.reads c.in_ok-symbol-3.ensures.reads c.in_err-process.ensures.reads)
+
+pub keeping-returns-in_err-symbol-4-clause-reads : goal.keeping-returns-in_err-symbol-4-clause-reads
+keeping-returns-in_err-symbol-4-clause-reads t c = λ whole counted.
+    term_stopped _ _ _ c.from_residual-in_err-symbol-4.result c.in_err-symbol-4.field-0.0 _ c.from_residual-in_err-symbol-4.ensures.1
+    (keeping_third c.args.reader.now.version c.args.reader.now.program c.args.kind whole c.args.left (ahead c.args.reader.now.cursor) c.in_err-symbol-4.field-0.0 c.in_ok-symbol.ensures.reads c.in_ok-source.ensures.reads c.in_ok-symbol-2.ensures.reads c.term.ensures.version c.in_ok-observer.ensures.reads c.in_ok-symbol-3.ensures.reads c.in_ok-process.ensures.reads c.in_err-symbol-4.ensures.reads)
+
+pub keeping-returns-in_err-pattern-clause-reads : goal.keeping-returns-in_err-pattern-clause-reads
+keeping-returns-in_err-pattern-clause-reads t c = λ whole counted.
+    term_stopped _ _ _ c.from_residual-in_err-pattern.result c.in_err-pattern.field-0.0 _ c.from_residual-in_err-pattern.ensures.1
+    (keeping_body c.args.reader.now.version c.args.reader.now.program c.args.kind whole c.args.left (ahead c.args.reader.now.cursor) c.in_err-pattern.field-0.0 c.in_ok-symbol.ensures.reads c.in_ok-source.ensures.reads c.in_ok-symbol-2.ensures.reads c.term.ensures.version c.in_ok-observer.ensures.reads c.in_ok-symbol-3.ensures.reads c.in_ok-process.ensures.reads c.in_ok-symbol-4.ensures.reads (c.term-2.ensures.version ∙ c.term.ensures.version) c.in_err-pattern.ensures.reads)
+
+pub keeping-returns-in_err-symbol-5-clause-reads : goal.keeping-returns-in_err-symbol-5-clause-reads
+keeping-returns-in_err-symbol-5-clause-reads t c = λ whole counted.
+    term_stopped _ _ _ c.from_residual-in_err-symbol-5.result c.in_err-symbol-5.field-0.0 _ c.from_residual-in_err-symbol-5.ensures.1
+    (keeping_closing c.args.reader.now.version c.args.reader.now.program c.args.kind whole c.args.left (ahead c.args.reader.now.cursor) c.in_err-symbol-5.field-0.0 c.in_ok-symbol.ensures.reads c.in_ok-source.ensures.reads c.in_ok-symbol-2.ensures.reads c.term.ensures.version c.in_ok-observer.ensures.reads c.in_ok-symbol-3.ensures.reads c.in_ok-process.ensures.reads c.in_ok-symbol-4.ensures.reads (c.term-2.ensures.version ∙ c.term.ensures.version) c.in_ok-pattern.ensures.reads c.in_err-symbol-5.ensures.reads)
+
+pub body-returns-in_err-pattern-clause-reads : goal.body-returns-in_err-pattern-clause-reads
+body-returns-in_err-pattern-clause-reads t c =
+    body_stopped c.args.reader.now (record c.args.reader.now { cursor = c.pattern.new.self }) c.from_residual.result c.in_err-pattern.field-0.0 _ c.from_residual.ensures.1
+    (body_pattern c.args.reader.now.version c.args.reader.now.program c.args.left (ahead c.args.reader.now.cursor) c.in_err-pattern.field-0.0 c.in_err-pattern.ensures.reads)
+
+pub body-returns-in_err-symbol-clause-reads : goal.body-returns-in_err-symbol-clause-reads
+body-returns-in_err-symbol-clause-reads t c =
+    body_stopped c.args.reader.now (record c.args.reader.now { cursor = c.symbol.new.self }) c.from_residual-in_err-symbol.result c.in_err-symbol.field-0.0 _ c.from_residual-in_err-symbol.ensures.1
+    (body_leads c.args.reader.now.version c.args.reader.now.program c.args.left (ahead c.args.reader.now.cursor) c.in_err-symbol.field-0.0 c.in_ok-pattern.ensures.reads c.in_err-symbol.ensures.reads)
+
+pub body-returns-in_err-id-clause-reads : goal.body-returns-in_err-id-clause-reads
+body-returns-in_err-id-clause-reads t c =
+    body_stopped c.args.reader.now c.term.new.reader c.from_residual-in_err-id.result c.in_err-id.field-0.0 _ c.from_residual-in_err-id.ensures.1
+    (body_term c.args.reader.now.version c.args.reader.now.program c.args.left (ahead c.args.reader.now.cursor) c.in_err-id.field-0.0 c.in_ok-pattern.ensures.reads c.in_ok-symbol.ensures.reads c.in_err-id.ensures.reads)
+
+pub call-returns-in_err-symbol-clause-reads : goal.call-returns-in_err-symbol-clause-reads
+call-returns-in_err-symbol-clause-reads t c = λ counted.
+    term_stopped _ _ _ c.from_residual.result c.in_err-symbol.field-0.0 _ c.from_residual.ensures.1
+    (call_opening c.args.reader.now.version (counts_of c.args.reader.now.program) c.args.left (name_bytes c.args.name) (ahead c.args.reader.now.cursor) c.in_err-symbol.field-0.0 c.in_err-symbol.ensures.reads)
+
+pub call-returns-in_err-arguments-clause-reads : goal.call-returns-in_err-arguments-clause-reads
+call-returns-in_err-arguments-clause-reads t c = λ counted.
+    term_stopped _ _ _ c.from_residual-in_err-arguments.result c.in_err-arguments.field-0.0 _ c.from_residual-in_err-arguments.ensures.1
+    (call_arguments c.args.reader.now.version (counts_of c.args.reader.now.program) c.args.left (name_bytes c.args.name) (ahead c.args.reader.now.cursor) c.in_err-arguments.field-0.0 c.in_ok-symbol.ensures.reads c.in_err-arguments.ensures.reads)
+
+pub headed-returns-in_err-symbol-clause-placed : goal.headed-returns-in_err-symbol-clause-placed
+headed-returns-in_err-symbol-clause-placed t c = if_stopped _ _ c.from_residual.result c.from_residual.ensures.1
+
+pub headed-returns-in_err-value-clause-placed : goal.headed-returns-in_err-value-clause-placed
+headed-returns-in_err-value-clause-placed t c = if_stopped _ _ c.from_residual-in_err-value.result c.from_residual-in_err-value.ensures.1
+
+pub headed-returns-in_err-value-clause-version : goal.headed-returns-in_err-value-clause-version
+headed-returns-in_err-value-clause-version t c = c.expression.ensures.version
+
+pub headed-returns-in_err-symbol-2-clause-placed : goal.headed-returns-in_err-symbol-2-clause-placed
+headed-returns-in_err-symbol-2-clause-placed t c = if_stopped _ _ c.from_residual-in_err-symbol-2.result c.from_residual-in_err-symbol-2.ensures.1
+
+pub headed-returns-in_err-symbol-2-clause-version : goal.headed-returns-in_err-symbol-2-clause-version
+headed-returns-in_err-symbol-2-clause-version t c = c.expression.ensures.version
+
+pub headed-returns-in_err-part-clause-placed : goal.headed-returns-in_err-part-clause-placed
+headed-returns-in_err-part-clause-placed t c = if_stopped _ _ c.from_residual-in_err-part.result c.from_residual-in_err-part.ensures.1
+
+pub headed-returns-in_err-part-clause-version : goal.headed-returns-in_err-part-clause-version
+headed-returns-in_err-part-clause-version t c = c.term.ensures.version ∙ c.expression.ensures.version
+
+pub headed-returns-in_err-symbol-3-clause-placed : goal.headed-returns-in_err-symbol-3-clause-placed
+headed-returns-in_err-symbol-3-clause-placed t c = if_stopped _ _ c.from_residual-in_err-symbol-3.result c.from_residual-in_err-symbol-3.ensures.1
+
+pub headed-returns-in_err-symbol-3-clause-version : goal.headed-returns-in_err-symbol-3-clause-version
+headed-returns-in_err-symbol-3-clause-version t c = c.term.ensures.version ∙ c.expression.ensures.version
+
+pub joined-returns-in_err-one-clause-placed : goal.joined-returns-in_err-one-clause-placed
+joined-returns-in_err-one-clause-placed t c = if_stopped _ _ c.from_residual.result c.from_residual.ensures.1
+
+pub joined-returns-in_err-one-clause-version : goal.joined-returns-in_err-one-clause-version
+joined-returns-in_err-one-clause-version t c = c.term.ensures.version
+
+pub joined-returns-in_err-join-clause-placed : goal.joined-returns-in_err-join-clause-placed
+joined-returns-in_err-join-clause-placed t c = if_stopped _ _ c.from_residual-in_err-join.result c.from_residual-in_err-join.ensures.1
+
+pub joined-returns-in_err-join-clause-version : goal.joined-returns-in_err-join-clause-version
+joined-returns-in_err-join-clause-version t c = c.term.ensures.version
+
+pub joined-returns-in_err-two-clause-placed : goal.joined-returns-in_err-two-clause-placed
+joined-returns-in_err-two-clause-placed t c = if_stopped _ _ c.from_residual-in_err-two.result c.from_residual-in_err-two.ensures.1
+
+pub joined-returns-in_err-two-clause-version : goal.joined-returns-in_err-two-clause-version
+joined-returns-in_err-two-clause-version t c = c.term-2.ensures.version ∙ c.term.ensures.version
+
+pub joined-returns-in_err-symbol-clause-placed : goal.joined-returns-in_err-symbol-clause-placed
+joined-returns-in_err-symbol-clause-placed t c = if_stopped _ _ c.from_residual-in_err-symbol.result c.from_residual-in_err-symbol.ensures.1
+
+pub joined-returns-in_err-symbol-clause-version : goal.joined-returns-in_err-symbol-clause-version
+joined-returns-in_err-symbol-clause-version t c = c.term-2.ensures.version ∙ c.term.ensures.version
+
+pub sided-returns-in_err-part-clause-placed : goal.sided-returns-in_err-part-clause-placed
+sided-returns-in_err-part-clause-placed t c = if_stopped _ _ c.from_residual.result c.from_residual.ensures.1
+
+pub sided-returns-in_err-part-clause-version : goal.sided-returns-in_err-part-clause-version
+sided-returns-in_err-part-clause-version t c = c.term.ensures.version
+
+pub switching-returns-in_err-symbol-clause-placed : goal.switching-returns-in_err-symbol-clause-placed
+switching-returns-in_err-symbol-clause-placed t c = if_stopped _ _ c.from_residual.result c.from_residual.ensures.1
+
+pub switching-returns-in_err-source-clause-placed : goal.switching-returns-in_err-source-clause-placed
+switching-returns-in_err-source-clause-placed t c = if_stopped _ _ c.from_residual-in_err-source.result c.from_residual-in_err-source.ensures.1
+
+pub switching-returns-in_err-source-clause-version : goal.switching-returns-in_err-source-clause-version
+switching-returns-in_err-source-clause-version t c = c.term.ensures.version
+
+pub switching-returns-in_err-symbol-2-clause-placed : goal.switching-returns-in_err-symbol-2-clause-placed
+switching-returns-in_err-symbol-2-clause-placed t c = if_stopped _ _ c.from_residual-in_err-symbol-2.result c.from_residual-in_err-symbol-2.ensures.1
+
+pub switching-returns-in_err-symbol-2-clause-version : goal.switching-returns-in_err-symbol-2-clause-version
+switching-returns-in_err-symbol-2-clause-version t c = c.term.ensures.version
+
+pub switching-returns-in_err-pattern-clause-placed : goal.switching-returns-in_err-pattern-clause-placed
+switching-returns-in_err-pattern-clause-placed t c = if_stopped _ _ c.from_residual-in_err-pattern.result c.from_residual-in_err-pattern.ensures.1
+
+pub switching-returns-in_err-pattern-clause-version : goal.switching-returns-in_err-pattern-clause-version
+switching-returns-in_err-pattern-clause-version t c = c.body.ensures.version ∙ c.term.ensures.version
+
+pub switching-returns-in_err-symbol-3-clause-placed : goal.switching-returns-in_err-symbol-3-clause-placed
+switching-returns-in_err-symbol-3-clause-placed t c = if_stopped _ _ c.from_residual-in_err-symbol-3.result c.from_residual-in_err-symbol-3.ensures.1
+
+pub switching-returns-in_err-symbol-3-clause-version : goal.switching-returns-in_err-symbol-3-clause-version
+switching-returns-in_err-symbol-3-clause-version t c = c.body.ensures.version ∙ c.term.ensures.version
+
+pub keeping-returns-in_err-symbol-clause-placed : goal.keeping-returns-in_err-symbol-clause-placed
+keeping-returns-in_err-symbol-clause-placed t c = if_stopped _ _ c.from_residual.result c.from_residual.ensures.1
+
+pub keeping-returns-in_err-source-clause-placed : goal.keeping-returns-in_err-source-clause-placed
+keeping-returns-in_err-source-clause-placed t c = if_stopped _ _ c.from_residual-in_err-source.result c.from_residual-in_err-source.ensures.1
+
+pub keeping-returns-in_err-source-clause-version : goal.keeping-returns-in_err-source-clause-version
+keeping-returns-in_err-source-clause-version t c = c.term.ensures.version
+
+pub keeping-returns-in_err-symbol-2-clause-placed : goal.keeping-returns-in_err-symbol-2-clause-placed
+keeping-returns-in_err-symbol-2-clause-placed t c = if_stopped _ _ c.from_residual-in_err-symbol-2.result c.from_residual-in_err-symbol-2.ensures.1
+
+pub keeping-returns-in_err-symbol-2-clause-version : goal.keeping-returns-in_err-symbol-2-clause-version
+keeping-returns-in_err-symbol-2-clause-version t c = c.term.ensures.version
+
+pub keeping-returns-in_err-observer-clause-placed : goal.keeping-returns-in_err-observer-clause-placed
+keeping-returns-in_err-observer-clause-placed t c = if_stopped _ _ c.from_residual-in_err-observer.result c.from_residual-in_err-observer.ensures.1
+
+pub keeping-returns-in_err-observer-clause-version : goal.keeping-returns-in_err-observer-clause-version
+keeping-returns-in_err-observer-clause-version t c = c.term-2.ensures.version ∙ c.term.ensures.version
+
+pub keeping-returns-in_err-symbol-3-clause-placed : goal.keeping-returns-in_err-symbol-3-clause-placed
+keeping-returns-in_err-symbol-3-clause-placed t c = if_stopped _ _ c.from_residual-in_err-symbol-3.result c.from_residual-in_err-symbol-3.ensures.1
+
+pub keeping-returns-in_err-symbol-3-clause-version : goal.keeping-returns-in_err-symbol-3-clause-version
+keeping-returns-in_err-symbol-3-clause-version t c = c.term-2.ensures.version ∙ c.term.ensures.version
+
+pub keeping-returns-in_err-process-clause-placed : goal.keeping-returns-in_err-process-clause-placed
+keeping-returns-in_err-process-clause-placed t c = if_stopped _ _ c.from_residual-in_err-process.result c.from_residual-in_err-process.ensures.1
+
+pub keeping-returns-in_err-process-clause-version : goal.keeping-returns-in_err-process-clause-version
+keeping-returns-in_err-process-clause-version t c = c.term-2.ensures.version ∙ c.term.ensures.version
+
+pub keeping-returns-in_err-symbol-4-clause-placed : goal.keeping-returns-in_err-symbol-4-clause-placed
+keeping-returns-in_err-symbol-4-clause-placed t c = if_stopped _ _ c.from_residual-in_err-symbol-4.result c.from_residual-in_err-symbol-4.ensures.1
+
+pub keeping-returns-in_err-symbol-4-clause-version : goal.keeping-returns-in_err-symbol-4-clause-version
+keeping-returns-in_err-symbol-4-clause-version t c = c.term-2.ensures.version ∙ c.term.ensures.version
+
+pub keeping-returns-in_err-pattern-clause-placed : goal.keeping-returns-in_err-pattern-clause-placed
+keeping-returns-in_err-pattern-clause-placed t c = if_stopped _ _ c.from_residual-in_err-pattern.result c.from_residual-in_err-pattern.ensures.1
+
+pub keeping-returns-in_err-pattern-clause-version : goal.keeping-returns-in_err-pattern-clause-version
+keeping-returns-in_err-pattern-clause-version t c = c.body.ensures.version ∙ c.term-2.ensures.version ∙ c.term.ensures.version
+
+pub keeping-returns-in_err-symbol-5-clause-placed : goal.keeping-returns-in_err-symbol-5-clause-placed
+keeping-returns-in_err-symbol-5-clause-placed t c = if_stopped _ _ c.from_residual-in_err-symbol-5.result c.from_residual-in_err-symbol-5.ensures.1
+
+pub keeping-returns-in_err-symbol-5-clause-version : goal.keeping-returns-in_err-symbol-5-clause-version
+keeping-returns-in_err-symbol-5-clause-version t c = c.body.ensures.version ∙ c.term-2.ensures.version ∙ c.term.ensures.version
+
+pub keeping-returns-in_err-known-clause-placed : goal.keeping-returns-in_err-known-clause-placed
+keeping-returns-in_err-known-clause-placed t c = if_stopped _ _ c.from_residual-in_err-known.result c.from_residual-in_err-known.ensures.1
+
+pub keeping-returns-in_err-known-clause-version : goal.keeping-returns-in_err-known-clause-version
+keeping-returns-in_err-known-clause-version t c = c.body.ensures.version ∙ c.term-2.ensures.version ∙ c.term.ensures.version
+
+pub body-returns-in_err-pattern-clause-placed : goal.body-returns-in_err-pattern-clause-placed
+body-returns-in_err-pattern-clause-placed t c = if_stopped _ _ c.from_residual.result c.from_residual.ensures.1
+
+pub body-returns-in_err-symbol-clause-placed : goal.body-returns-in_err-symbol-clause-placed
+body-returns-in_err-symbol-clause-placed t c = if_stopped _ _ c.from_residual-in_err-symbol.result c.from_residual-in_err-symbol.ensures.1
+
+pub body-returns-in_err-id-clause-placed : goal.body-returns-in_err-id-clause-placed
+body-returns-in_err-id-clause-placed t c = if_stopped _ _ c.from_residual-in_err-id.result c.from_residual-in_err-id.ensures.1
+
+pub body-returns-in_err-id-clause-version : goal.body-returns-in_err-id-clause-version
+body-returns-in_err-id-clause-version t c = c.term.ensures.version
+
+pub call-returns-in_err-symbol-clause-placed : goal.call-returns-in_err-symbol-clause-placed
+call-returns-in_err-symbol-clause-placed t c = if_stopped _ _ c.from_residual.result c.from_residual.ensures.1
+
+pub call-returns-in_err-arguments-clause-placed : goal.call-returns-in_err-arguments-clause-placed
+call-returns-in_err-arguments-clause-placed t c = if_stopped _ _ c.from_residual-in_err-arguments.result c.from_residual-in_err-arguments.ensures.1
+
+pub call-returns-in_err-arguments-clause-version : goal.call-returns-in_err-arguments-clause-version
+call-returns-in_err-arguments-clause-version t c = c.arguments.ensures.version
+
+pub call-returns-in_err-known-clause-placed : goal.call-returns-in_err-known-clause-placed
+call-returns-in_err-known-clause-placed t c = if_stopped _ _ c.from_residual-in_err-known.result c.from_residual-in_err-known.ensures.1
+
+pub call-returns-in_err-known-clause-version : goal.call-returns-in_err-known-clause-version
+call-returns-in_err-known-clause-version t c = c.arguments.ensures.version

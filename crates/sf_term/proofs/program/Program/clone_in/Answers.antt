@@ -14,8 +14,8 @@ invariant_of-result c =
     let p = c.args.self.now in
     let x = c.in_ok-expressions.expressions in
     let b : TermBase = record { expressions = x; arguments = c.in_ok-arguments.arguments.items } in
-    let templates = c.in_ok-templates.ensures ∙ c.deref-2.ensures.value in
-    let lists = arguments_copied p.arguments.items c.in_ok-arguments.arguments.items (c.in_ok-arguments.ensures ∙ c.deref.ensures.value) in
+    let templates = c.in_ok-templates.ensures ∙ c.deref.ensures.value in
+    let lists = arguments_copied p.arguments.items c.in_ok-arguments.arguments.items (c.in_ok-arguments.ensures ∙ c.deref-2.ensures.value) in
     record {
       arena = subst (λ (es : List (Entry Node)). AreTerms b es) (sym c.in_ok-terms.ensures) (arena_grown (base_of p) b (entries_of p.terms) (unchanged_grown p.expressions x c.in_ok-expressions.ensures) lists p.arena);
       bodies = omega (arith, ap bodies_end templates, ap (λ (es : List (Entry Node)). length es) c.in_ok-terms.ensures, p.bodies);
@@ -25,5 +25,5 @@ pub returns : goal.returns
 unfolding headers_of
 returns c =
     let p = c.args.self.now in
-    let lists = arguments_copied p.arguments.items c.in_ok-arguments.arguments.items (c.in_ok-arguments.ensures ∙ c.deref.ensures.value) in
-    unchanged p _ c.in_ok-expressions.ensures lists c.in_ok-terms.ensures (c.in_ok-templates.ensures ∙ c.deref-2.ensures.value)
+    let lists = arguments_copied p.arguments.items c.in_ok-arguments.arguments.items (c.in_ok-arguments.ensures ∙ c.deref-2.ensures.value) in
+    unchanged p _ c.in_ok-expressions.ensures lists c.in_ok-terms.ensures (c.in_ok-templates.ensures ∙ c.deref.ensures.value)
