@@ -1,8 +1,6 @@
 -- A template behind those that were read.
-use Rattle.std.proofs.Common.{rules, ◌≡◌, ◌+◌, ◌≤◌, Bool, false, length, Result, Ok, Err, List, [], ◌∷◌, ◌++◌, map, refl, sym, ◌∙◌, ap, append_assoc, subst, arith}
+use Rattle.std.proofs.Common.{rules, ◌≡◌, ◌+◌, ◌≤◌, List, [], ◌∷◌, ◌++◌, map, refl, sym, ◌∙◌, ap, append_assoc, subst, arith}
 use Rattle.std.specs.List.{All}
-use Rattle.std.specs.Bool.{◌==◌}
-use Rattle.std.specs.Result.{IsErrAnd}
 use Rattle.std.proofs.lemmas.List.{flat_map_more}
 use Rattle.std.proofs.lemmas.List.Elements.{All-append, All-cons, All-nil}
 use Rattle.std.proofs.lemmas.List.Sums.{sum_by_push}
@@ -23,7 +21,7 @@ use Rattle.sf_parse.specs.declared.reader.Reader.{Reader}
 use Rattle.sf_parse.specs.Answers.{StopsReading, toks, ahead, counts_of}
 use Rattle.sf_text.specs.Answers.{FoundTemplate}
 use Rattle.sf_grammar.specs.Stopping.{Stopped}
-use Rattle.sf_text.specs.Progress.{Behind, StopsAfter, ReadsTemplates, IsBlankProgram}
+use Rattle.sf_text.specs.Progress.{Behind, StopsAfter, IsBlankProgram}
 use Rattle.sf_grammar.specs.Placing.{TemplatesPlaced, none_placed}
 use Rattle.sf_parse.specs.Consuming.{places, spots_ahead, Consumes}
 use Rattle.sf_text.specs.Consuming.{PlacesTemplate}
@@ -109,13 +107,3 @@ stops_after v tokens now (At' fault left) reached some stopped = record {
     nothing : (rest : List PlacedToken) → toks rest ≡ [] → rest ≡ []
     nothing [] none = refl
     nothing (t ∷ ts) none = cc
-
--- some tokens are left where the reader has not come to the end
-pub some_left : (tokens : List PlacedToken) (empty : Bool) → empty ≡ (length tokens == 0) → empty ≡ false → tokens ≡ [] → ⊥
-some_left [] empty is some none = cc
-some_left (t ∷ ts) empty is some none = cc
-
--- what a `?` returns where a template stopped
-pub templates_stopped : (v : Version) (tokens : List Tok) (p : Program) (answer : Result (Unit {0}) Stop) (e : Stop) → IsErrAnd answer (λ f. f ≡ e) → StopsAfter v e tokens → ReadsTemplates v answer tokens p
-templates_stopped v tokens p (Ok u) e is s = absurd is
-templates_stopped v tokens p (Err f) e is s = subst (λ (e : Stop). StopsAfter v e tokens) (sym is) s

@@ -107,7 +107,7 @@ template_at {old = old} {new = new} {rest = rest} tokens same f = subst (λ (v :
 term_taken : (v : Version) (old new : Program) (id : TermId) (rest tokens : List Tok) (d : ℕ) → (f : FoundTerm old new id rest (parse_term d v (counts_of old) tokens)) → Took v d (counts_of old) tokens f.term rest
 term_taken v old new id rest tokens d f = term_takes v d (counts_of old) tokens f.term rest (few_program_expressions old) f.is
 
-pub behind_term : (old mid : Program) (f : Term) → term_count mid ≡ term_count old + terms_in f → expression_count mid ≡ expression_count old + expressions_in f → counts_of mid ≡ counts_with (counts_of old) f
+behind_term : (old mid : Program) (f : Term) → term_count mid ≡ term_count old + terms_in f → expression_count mid ≡ expression_count old + expressions_in f → counts_of mid ≡ counts_with (counts_of old) f
 behind_term old mid f terms expressions = rw (terms, expressions) refl
 
 -- a value that stands behind its word makes one term with it

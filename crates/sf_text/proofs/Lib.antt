@@ -1,4 +1,3 @@
-pub mod Stops
 pub mod Placed
 pub mod Deeper
 pub mod Found

@@ -1,6 +1,5 @@
 -- Reading a network, and the texts that it is read from.
-use Rattle.std.proofs.Common.{◌≡◌, ℕ, ◌-◌, List, [], ◌∷◌, ◌++◌, length, drop, map, Result, Ok, Err, refl, sym, ◌∙◌, ap, subst}
-use Rattle.std.specs.Result.{IsErrAnd}
+use Rattle.std.proofs.Common.{◌≡◌, ℕ, ◌-◌, List, [], ◌∷◌, ◌++◌, length, drop, map, refl, sym, ◌∙◌, ap, subst}
 use mathlib.Core.Path.{ap₂}
 use Rattle.std.proofs.lemmas.List.{append-nil, length-map, drop-map}
 use Rattle.sf_term.specs.declared.program.Program.{Program}
@@ -13,14 +12,13 @@ use Rattle.sf_refusal.specs.declared.rule.Rule.{Rule}
 use Rattle.sf_refusal.specs.declared.refusal.Refusal.{Refusal}
 use Rattle.sf_refusal.specs.Refusals.{OrMemory, because, no_memory}
 use Rattle.sf_refusal.proofs.Explained.{or_memory}
-use Rattle.sf_parse.specs.declared.reader.Reader.{Reader}
 use Rattle.sf_parse.specs.declared.stop.Stop.{Stop}
 use Rattle.sf_parse.specs.declared.stop.Stop.TheVariants.{At, Memory}
 use Rattle.sf_grammar.specs.declared.ty.Version.{Version}
 use Rattle.sf_grammar.specs.Spelling.{spell, spell_templates, IsNetworkText}
 use Rattle.sf_grammar.specs.Reading.{got, parse_opening}
 use Rattle.sf_parse.specs.Answers.{StopsReading, toks}
-use Rattle.sf_text.specs.Progress.{Behind, StopsAfter, StopsNetwork, ReadsNetwork, IsSpelled, first_place, stop_refusal}
+use Rattle.sf_text.specs.Progress.{Behind, StopsAfter, StopsNetwork, IsSpelled, first_place, stop_refusal}
 use Rattle.sf_grammar.specs.Stopping.{StopsIn, in_opening, in_template, StopsAt, offset_of, place_before, BreaksText, no_tokens, no_network}
 use Rattle.sf_grammar.proofs.Takes.{opening_takes}
 
@@ -40,11 +38,6 @@ network_spelled tokens rest v p is behind = record {
 pub network_stops : (e : Stop) (tokens rest : List Tok) (v : Version) → parse_opening tokens ≡ got v rest → StopsAfter v e rest → StopsNetwork e tokens
 network_stops (At fault left) tokens rest v is stops = in_template v (opened tokens rest v is) stops
 network_stops Memory tokens rest v is stops = tt
-
--- what a `?` returns where reading the network stopped
-pub network_stopped : (tokens : List Tok) (answer : Result Reader Stop) (e : Stop) → IsErrAnd answer (λ f. f ≡ e) → StopsNetwork e tokens → ReadsNetwork answer tokens
-network_stopped tokens (Ok r) e is s = absurd is
-network_stopped tokens (Err f) e is s = subst (λ (e : Stop). StopsNetwork e tokens) (sym is) s
 
 -- the first tokens, as the code has them and as the bytes have them
 first_same : (bytes : List ℕ) (found : List PlacedToken) (ls : List Located) → map seen found ≡ map (shown bytes) ls

@@ -7,7 +7,7 @@ ghost use Rattle.sf_parse.specs.Answers.{toks, ahead};
 ghost use Rattle.sf_grammar.specs.Spelling.{IsNetworkText};
 ghost use Rattle.sf_grammar.specs.Placing.{TemplatesPlaced, NetworkPlaced, IsPlacedIn};
 ghost use Rattle.sf_parse.specs.Consuming.{places, spots_ahead};
-ghost use Rattle.sf_text.specs.Progress.{ReadsTemplates, ReadsNetwork, IsBlankProgram};
+ghost use Rattle.sf_text.specs.Progress.{Behind, ReadsTemplates, ReadsNetwork, IsBlankProgram};
 ghost use Rattle.sf_grammar.specs.Stopping.{BreaksText};
 
 use crate::header::opening;
@@ -20,6 +20,7 @@ use sf_term::Program;
 use std::alloc::Global;
 
 /// Reads templates up to the end.
+#[tactic(auto, using(crate::proofs::Behind::stops_after))]
 fn templates(reader: &mut Reader) -> Result<(), Stop>
     requires blank { IsBlankProgram reader.old.program }
     ensures reads { ReadsTemplates reader.old.version result (ahead reader.old.cursor) reader.new.program }
@@ -33,6 +34,7 @@ fn templates(reader: &mut Reader) -> Result<(), Stop>
 }
 
 /// Reads the tokens of a network to their end.
+#[tactic(auto, using(crate::proofs::Whole::stops_opening, crate::proofs::Whole::network_spelled, crate::proofs::Whole::network_stops))]
 fn network<'a>(alloc: Global, tokens: &'a [PlacedToken<'a>]) -> Result<Reader<'a>, Stop>
     ensures reads { ReadsNetwork result (toks tokens.now) }
     ensures placed { IfOk result (λ r. NetworkPlaced r.version r.program (places tokens.now)) }

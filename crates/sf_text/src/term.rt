@@ -124,6 +124,7 @@ fn arrow(reader: &mut Reader, start: Mark, left: u32) -> Result<TermId, Stop>
 }
 
 /// A primitive with a value and a function, behind its word.
+#[tactic(auto, unfolding(sf_grammar::specs::Reading::parse_accumulated))]
 fn accumulated(
     reader: &mut Reader,
     start: Mark,
@@ -241,6 +242,7 @@ fn behind_head<'a>(
 
 /// A term on one part of a pair, behind its word.
 #[cycle(term)]
+#[tactic(auto, unfolding(sf_grammar::specs::Reading::parse_sided))]
 fn sided(reader: &mut Reader, start: Mark, side: Side, left: u32) -> Result<TermId, Stop>
     requires shallow { left ≤ 63 }
     ensures reads { ReadsTermForm reader.old reader.new start result (parse_sided (parse_term left reader.old.version) (counts_of reader.old.program) side) }
@@ -271,6 +273,7 @@ fn head_node(program: &Program, heading: Heading, value: ExprId, part: TermId) -
 
 /// A term with an expression at its head, behind its word or `-->`.
 #[cycle(term)]
+#[tactic(auto, unfolding(sf_grammar::specs::Reading::parse_headed))]
 fn headed(reader: &mut Reader, start: Mark, heading: Heading, left: u32) -> Result<TermId, Stop>
     requires shallow { left ≤ 63 }
     ensures reads { ReadsTermForm reader.old reader.new start result (parse_headed left reader.old.version (parse_term left reader.old.version) (counts_of reader.old.program) heading) }
@@ -302,6 +305,7 @@ fn body(reader: &mut Reader, left: u32) -> Result<(Pat, TermId), Stop>
 
 /// A term that gives way to another inside a pattern, behind its word.
 #[cycle(term)]
+#[tactic(auto, unfolding(sf_grammar::specs::Reading::parse_switching))]
 fn switching(reader: &mut Reader, start: Mark, kind: Switching, left: u32) -> Result<TermId, Stop>
     requires shallow { left ≤ 63 }
     ensures reads { ReadsTermForm reader.old reader.new start result (parse_switching left (parse_term left reader.old.version) (counts_of reader.old.program) kind) }
@@ -321,6 +325,7 @@ fn switching(reader: &mut Reader, start: Mark, kind: Switching, left: u32) -> Re
 
 /// A term that gives way to another, which knows it by a name, behind its word.
 #[cycle(term)]
+#[tactic(auto, unfolding(sf_grammar::specs::Reading::parse_keeping))]
 fn keeping(reader: &mut Reader, start: Mark, kind: Observation, left: u32) -> Result<TermId, Stop>
     requires shallow { left ≤ 63 }
     ensures reads { ReadsTermForm reader.old reader.new start result (parse_keeping left (parse_term left reader.old.version) (counts_of reader.old.program) kind) }
@@ -352,6 +357,7 @@ fn keeping(reader: &mut Reader, start: Mark, kind: Observation, left: u32) -> Re
 
 /// Two terms joined, behind their opening bracket.
 #[cycle(term)]
+#[tactic(auto, unfolding(sf_grammar::specs::Reading::parse_joined))]
 fn joined(reader: &mut Reader, start: Mark, left: u32) -> Result<TermId, Stop>
     requires shallow { left ≤ 63 }
     ensures reads { ReadsTermForm reader.old reader.new start result (parse_joined (parse_term left reader.old.version) (counts_of reader.old.program)) }

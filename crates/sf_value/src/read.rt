@@ -1,5 +1,5 @@
 //! Values from their spellings.
-ghost use Rattle.std.specs.Prelude.{◌≡◌, ◌<◌, ℕ, IfOk, IfErr, OnOk, MatchResult, min, codes, map, ◌++◌, ◌∷◌, []};
+ghost use Rattle.std.specs.Prelude.{◌≡◌, ◌<◌, ℕ, IfOk, IfErr, MatchResult, min, codes, map, ◌++◌, ◌∷◌, []};
 ghost use Rattle.sf_value.specs.Values.{Data, unit_kind, bool_kind, int_kind, text_kind, pair_kind, event_kind, table_kind, HasKind, HasDifferentKeys};
 ghost use Rattle.sf_value.specs.KindView.{key_kind_of};
 ghost use Rattle.sf_value.specs.View.{key_of, rows_of};
@@ -354,29 +354,10 @@ fn rows_in<'a>(
         rows: Vec::new(alloc),
         keys: IndexSet::new(alloc),
     };
-    let rest = read_rows(alloc, keys, values, &mut table, bytes)?;
-    Ok((table, rest))
-}
-
-/// Puts the rows up to a closing brace in a table that has none yet, and gives what is after it.
-#[cycle(value_of)]
-fn read_rows<'a>(
-    alloc: Global,
-    keys: KeyType,
-    values: &Ty,
-    table: &mut Table,
-    bytes: &'a [u8],
-) -> Result<&'a [u8], Failure>
-    requires no_rows { table.old.rows.items ≡ [] }
-    requires no_keys { table.old.keys.keys ≡ [] }
-    ensures rows { GivesRead (λ rest. (rows_of table.new.rows.items, rest.now)) result (rows_at (key_kind_of keys) (value_at values.now) bytes.now) }
-    ensures different { OnOk result (HasDifferentKeys (rows_of table.new.rows.items)) }
-    ensures indexed { OnOk result (AreKeysOf table.new.keys.keys table.new.rows.items) }
-{
     let mut left = bytes;
     if let [c, rest @ ..] = bytes {
         if *c == b'}' {
-            return Ok(rest);
+            return Ok((table, rest));
         }
     }
     loop {
@@ -388,7 +369,7 @@ fn read_rows<'a>(
             [] => return Err(Failure::Bad(0)),
             [c, behind @ ..] => {
                 if *c == b'}' {
-                    return Ok(behind);
+                    return Ok((table, behind));
                 }
                 if *c != b',' {
                     return Err(Failure::Bad(rest.len()));

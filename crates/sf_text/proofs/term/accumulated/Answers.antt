@@ -1,7 +1,6 @@
 use Rattle.sf_parse.specs.Answers.{ahead}
 use Rattle.sf_text.proofs.Found.{term_built, accumulated_ready, function_at}
 use Rattle.sf_text.proofs.Placed.{accumulated_read, function_placed_at}
-use Rattle.sf_text.proofs.Stops.{term_stopped, accumulated_opening, accumulated_value, accumulated_comma, accumulated_function, accumulated_closing}
 use Rattle.sf_parse.proofs.Found.{if_built}
 use Rattle.sf_term.proofs.Kept.{keeps_trans}
 use Rattle.sf_text.proofs.term.accumulated.Goals as goal
@@ -15,28 +14,3 @@ returns-clause-reads c = λ whole counted.
 pub returns-clause-placed : goal.returns-clause-placed
 returns-clause-placed c = if_built _ _ c.args.start.ahead c.add.result c.built.result c.built.ensures c.add.ensures.ok (λ id added.
     accumulated_read c.in_ok-function.ensures.reads.kept.trees added c.in_ok-symbol.ensures.behind c.in_ok-value.ensures.placed c.in_ok-symbol-2.ensures.behind (function_placed_at c.expression.ensures.version c.in_ok-function.ensures.placed) c.in_ok-symbol-3.ensures.behind)
-
-pub returns-in_err-symbol-clause-reads : goal.returns-in_err-symbol-clause-reads
-returns-in_err-symbol-clause-reads c = λ whole counted.
-    term_stopped _ _ _ c.from_residual.result c.in_err-symbol.field-0.0 _ c.from_residual.ensures.1
-    (accumulated_opening c.args.reader.now.version c.args.reader.now.program c.args.kind whole c.args.left (ahead c.args.reader.now.cursor) c.in_err-symbol.field-0.0 c.in_err-symbol.ensures.reads)
-
-pub returns-in_err-value-clause-reads : goal.returns-in_err-value-clause-reads
-returns-in_err-value-clause-reads c = λ whole counted.
-    term_stopped _ _ _ c.from_residual-in_err-value.result c.in_err-value.field-0.0 _ c.from_residual-in_err-value.ensures.1
-    (accumulated_value c.args.reader.now.version c.args.reader.now.program c.args.kind whole c.args.left (ahead c.args.reader.now.cursor) c.in_err-value.field-0.0 c.in_ok-symbol.ensures.reads c.in_err-value.ensures.reads)
-
-pub returns-in_err-symbol-2-clause-reads : goal.returns-in_err-symbol-2-clause-reads
-returns-in_err-symbol-2-clause-reads c = λ whole counted.
-    term_stopped _ _ _ c.from_residual-in_err-symbol-2.result c.in_err-symbol-2.field-0.0 _ c.from_residual-in_err-symbol-2.ensures.1
-    (accumulated_comma c.args.reader.now.version c.args.reader.now.program c.args.kind whole c.args.left (ahead c.args.reader.now.cursor) c.in_err-symbol-2.field-0.0 c.in_ok-symbol.ensures.reads c.in_ok-value.ensures.reads c.in_err-symbol-2.ensures.reads)
-
-pub returns-in_err-function-clause-reads : goal.returns-in_err-function-clause-reads
-returns-in_err-function-clause-reads c = λ whole counted.
-    term_stopped _ _ _ c.from_residual-in_err-function.result c.in_err-function.field-0.0 _ c.from_residual-in_err-function.ensures.1
-    (accumulated_function c.args.reader.now.version c.args.reader.now.program c.args.kind whole c.args.left (ahead c.args.reader.now.cursor) c.in_err-function.field-0.0 c.in_ok-symbol.ensures.reads c.in_ok-value.ensures.reads c.in_ok-symbol-2.ensures.reads c.expression.ensures.version c.in_err-function.ensures.reads)
-
-pub returns-in_err-symbol-3-clause-reads : goal.returns-in_err-symbol-3-clause-reads
-returns-in_err-symbol-3-clause-reads c = λ whole counted.
-    term_stopped _ _ _ c.from_residual-in_err-symbol-3.result c.in_err-symbol-3.field-0.0 _ c.from_residual-in_err-symbol-3.ensures.1
-    (accumulated_closing c.args.reader.now.version c.args.reader.now.program c.args.kind whole c.args.left (ahead c.args.reader.now.cursor) c.in_err-symbol-3.field-0.0 c.in_ok-symbol.ensures.reads c.in_ok-value.ensures.reads c.in_ok-symbol-2.ensures.reads c.expression.ensures.version c.in_ok-function.ensures.reads c.in_err-symbol-3.ensures.reads)

@@ -8,30 +8,27 @@ use Rattle.sf_value.proofs.Loops.{Follows}
 use Rattle.sf_value.proofs.read.+value_of.Given as goal
 
 abbrev pub decreases-value_of : goal.decreases-value_of
-decreases-value_of l = 5 * nodes l.ty.now
+decreases-value_of l = 4 * nodes l.ty.now
 
 abbrev pub decreases-pair_of : goal.decreases-pair_of
-decreases-pair_of l = 5 * nodes l.first.now + 5 * nodes l.second.now + 1
+decreases-pair_of l = 4 * nodes l.first.now + 4 * nodes l.second.now + 1
 
 abbrev pub decreases-event_of : goal.decreases-event_of
-decreases-event_of l = 5 * nodes l.payload.now + 1
+decreases-event_of l = 4 * nodes l.payload.now + 1
 
 abbrev pub decreases-table_of : goal.decreases-table_of
-decreases-table_of l = 5 * nodes l.values.now + 4
+decreases-table_of l = 4 * nodes l.values.now + 3
 
 abbrev pub decreases-rows_in : goal.decreases-rows_in
-decreases-rows_in l = 5 * nodes l.values.now + 3
-
-abbrev pub decreases-read_rows : goal.decreases-read_rows
-decreases-read_rows l = 5 * nodes l.values.now + 2
+decreases-rows_in l = 4 * nodes l.values.now + 2
 
 abbrev pub decreases-row_in : goal.decreases-row_in
-decreases-row_in l = 5 * nodes l.values.now + 1
+decreases-row_in l = 4 * nodes l.values.now + 1
 
-abbrev pub invariant-read_rows-loop-key : goal.invariant-read_rows-loop-key
-invariant-read_rows-loop-key l =
+abbrev pub invariant-rows_in-loop-table : goal.invariant-rows_in-loop-table
+invariant-rows_in-loop-table l =
     Follows (key_kind_of l.keys) (value_at l.values) l.bytes l.table.rows.items l.table.keys.keys l.left
     × AreKeysOf l.table.keys.keys l.table.rows.items × HasDifferentKeys (rows_of l.table.rows.items)
 
-abbrev pub decreases-read_rows-loop-key : goal.decreases-read_rows-loop-key
-decreases-read_rows-loop-key l = length l.left
+abbrev pub decreases-rows_in-loop-table : goal.decreases-rows_in-loop-table
+decreases-rows_in-loop-table l = length l.left
