@@ -7,8 +7,7 @@ use Rattle.sf_refusal.specs.declared.spot.Spot.{Spot}
 use Rattle.sf_refusal.specs.declared.rule.Rule.TheVariants.{UnknownName, Arity, Mismatch}
 use Rattle.sf_refusal.specs.declared.refusal.Breach.{Breach}
 use Rattle.sf_refusal.specs.declared.refusal.Refusal.{Refusal}
-use Rattle.sf_refusal.specs.declared.refusal.Refusal.TheVariants.{Memory}
-use Rattle.sf_refusal.specs.Refusals.{breach_of, broken, OrMemory, no_memory}
+use Rattle.sf_refusal.specs.Refusals.{breach_of, broken, OrMemory}
 use Rattle.sf_refusal.proofs.Explained.{or_memory, breaks_at}
 use Rattle.sf_expr.specs.declared.exprs.ExprId.{ExprId}
 use Rattle.sf_expr.specs.declared.exprs.NameId.{NameId}
@@ -49,9 +48,6 @@ module _ (p : Program) (Γ : Context) (s : Spot) (v : Argument) (k : NameKind) w
   err_argument (Ok b) e h stops = absurd h
   err_argument (Err y) e h stops = subst (OrMemory (ArgumentStops p Γ s v k)) (sym h) stops
 
-  pub memory_argument : (r : Result Bool Refusal) → IsErrAnd r (λ y. y ≡ Memory) → AnswersArgument p Γ s v k r
-  memory_argument r h = err_argument r Memory h no_memory
-
   pub value_refused : (i : ExprId) → v ≡ arguments.Value i → (e : Refusal) → OrMemory (Refused (expressions_of p) (names_of_values Γ) i) e → OrMemory (ArgumentStops p Γ s v k) e
   value_refused i is e h = or_memory (λ r h. stops_itself (subst (λ v. ArgumentBreaks p Γ s v k r) (sym is) (argument_refused h))) h
 
@@ -66,13 +62,12 @@ module _ (p : Program) (Γ : Context) (s : Spot) (v : Argument) (k : NameKind) w
     pub misplaced : (u : Kind) → k ≡ value u → (e : Refusal) → e ≡ broken Mismatch s → OrMemory (ArgumentStops p Γ s v k) e
     misplaced u for e wrong = breaks_at Mismatch wrong refl (stops_itself (subst₂ (λ v k. ArgumentBreaks p Γ s v k (breach_of Mismatch s)) (sym is) (sym for) process_for_value))
 
-    module _ (a b : Kind) (for : k ≡ process a b) (z : Kind) (copy : z ≡ a) where
-      pub term_stops : (e : Refusal) → OrMemory (TermBreaks p Γ t z) e → OrMemory (ArgumentStops p Γ s v k) e
-      term_stops e h = or_memory (λ r h. subst₂ (λ v k. ArgumentStops p Γ s v k r) (sym is) (sym for) (stops_within (subst (λ z. TermBreaks p Γ t z r) copy h))) h
+    module _ (a b : Kind) (for : k ≡ process a b) where
+      pub term_stops : (e : Refusal) → OrMemory (TermBreaks p Γ t a) e → OrMemory (ArgumentStops p Γ s v k) e
+      term_stops e h = or_memory (λ r h. subst₂ (λ v k. ArgumentStops p Γ s v k r) (sym is) (sym for) (stops_within h)) h
 
-      pub process_answers : (c : Kind) (fits : Bool) → Takes Γ (tree p t) z c → IsTrue fits ↔ (c ≡ b) → AnswersArgument p Γ s v k (Ok fits)
-      process_answers c fits given same =
-          let h : Takes Γ (tree p t) a c = subst (λ z. Takes Γ (tree p t) z c) copy given in
+      pub process_answers : (c : Kind) (fits : Bool) → Takes Γ (tree p t) a c → IsTrue fits ↔ (c ≡ b) → AnswersArgument p Γ s v k (Ok fits)
+      process_answers c fits h same =
           let answer : AnswersArgument p Γ s (arguments.Process t) (process a b) (Ok fits) =
           (process_keeps h, (λ z. subst (Takes Γ (tree p t) a) (same.0 z) h, λ other. same.1 (takes_one h other))) in
           subst₂ (λ v k. AnswersArgument p Γ s v k (Ok fits)) (sym is) (sym for) answer

@@ -1,8 +1,7 @@
 -- What is answered for terms, by their forms.
-use Rattle.std.proofs.Common.{◌≡◌, ◌≢◌, ◌⊎◌, inl, inr, ℤ, true, false, Some, None, refl, sym, subst, ap, ◌∙◌, Result, Ok, Err, IfOk, IfErr, arith, IsErrAnd}
+use Rattle.std.proofs.Common.{◌≡◌, ◌≢◌, ◌⊎◌, inl, inr, ℤ, true, false, Some, None, refl, sym, subst, ap, ◌∙◌, Result, Ok, Err, is_ok, IfOk, IfErr, arith, IsErrAnd}
 use Rattle.std.proofs.lemmas.Option.{same_Some}
-use mathlib.Core.Path.{subst₂}
-use Rattle.sf_value.specs.Values.{Kind, pair_kind, event_kind}
+use Rattle.sf_value.specs.Values.{Kind, pair_kind, event_kind, IsNoPair}
 use Rattle.sf_func.specs.Registries.{TypesByName}
 use Rattle.sf_expr.specs.declared.exprs.ConstantId.{ConstantId}
 use Rattle.sf_expr.specs.declared.exprs.ExprId.{ExprId}
@@ -56,7 +55,7 @@ use Rattle.sf_term.specs.Parameters.{parameters_of}
 use Rattle.sf_term.specs.Arena.{tree, term_node_at, term_spot_at, expressions_of, templates_of}
 use Rattle.sf_mean.specs.Contexts.{process, Context, names_of_values, context_of, inside_pattern}
 use Rattle.sf_mean.specs.Typing.{value_kind, takes_time, timed_kind, accumulated_argument, accumulated_kind, PrimitiveTakes, bare_takes, probe_takes, never_takes, value_takes, timed_takes, accumulated_takes, arrow_takes, Takes, takes, FormTakes, primitive_takes, started_takes, sequence_takes, parallel_takes, fan_takes, first_takes, second_takes, loop_takes, initialized_takes, switch_takes, recurring_takes, keeping_takes}
-use Rattle.sf_check.specs.Breaking.{IsNoPairWith, IsNoEventBeside, kind_named, ProcessRefused, pattern_in, name_in, keeping_inside, BindsInside, Exceeds, PrimitiveBreaks, argument_refused, accumulator_refused, made_refused, value_refused, bare_refused, never_refused, given_refused, timed_value_refused, time_outside, timed_refused, start_value_refused, accumulation_breaks, function_refused, FormBreaks, primitive_breaks, no_process, process_differs, parallel_exceeds, fan_exceeds, first_exceeds, second_exceeds, start_refused, fed_exceeds, loop_differs, initialized_differs, BodyWanted, after_source, beside_input, BodyBreaks, pattern_refused, body_differs, source_differs, recurring_input, switch_body_breaks, observed_exceeds, observer_differs, keeping_body_breaks, Reaches, sequence_right, fan_left, parallel_left, parallel_right, first_part, second_part, loop_part, switch_source, recurring_first, switch_body, keeping_source, keeping_observer, keeping_body, TermBreaks, itself, within, TemplateBreaks, breaks_within, breaks_header}
+use Rattle.sf_check.specs.Breaking.{IsNoPairWith, IsNoEventBeside, kind_named, ProcessRefused, pattern_in, name_in, keeping_inside, BindsInside, Exceeds, PrimitiveBreaks, argument_refused, accumulator_refused, made_refused, value_refused, bare_refused, never_refused, given_refused, timed_value_refused, time_outside, timed_refused, start_value_refused, accumulation_breaks, function_refused, FormBreaks, primitive_breaks, no_process, process_differs, parallel_exceeds, fan_exceeds, first_exceeds, second_exceeds, start_refused, fed_exceeds, loop_differs, initialized_differs, BodyWanted, after_source, beside_input, BodyBreaks, pattern_refused, body_differs, source_differs, recurring_input, switch_body_breaks, observed_exceeds, observer_differs, keeping_body_breaks, Reaches, sequence_right, parallel_left, parallel_right, first_part, second_part, loop_part, recurring_first, switch_body, keeping_observer, keeping_body, TermBreaks, itself, within, TemplateBreaks, breaks_within, breaks_header}
 use Rattle.sf_check.specs.Answering.{primitive_in, AnswersBare, AnswersPrimitive, AnswersTerm, AnswersBody}
 use Rattle.sf_check.proofs.Made.{made, tree_made}
 use Rattle.sf_check.proofs.Types.{primitive_fits, output_fits, no_event}
@@ -96,6 +95,10 @@ err_answers p Γ t a (Err y) e h broken = subst (OrMemory (TermBreaks p Γ t a))
 pub memory_answers : (p : Program) (Γ : Context) (t : TermId) (a : Kind) (r : Result Kind Refusal) → IsErrAnd r (λ y. y ≡ Memory) → AnswersTerm p Γ t a r
 memory_answers p Γ t a r h = err_answers p Γ t a r Memory h no_memory
 
+-- a type of pairs is wanted
+pub pair_differs : {s : Spot} {a : Kind} {e : Refusal} → (e ≡ broken Mismatch s) × IsNoPair a → OrMemory (λ b. (b ≡ breach_of Mismatch s) × IsNoPair a) e
+pair_differs h = breaks_at Mismatch h.0 refl (refl, h.1)
+
 -- ## The node at an id
 
 pub named_there : (p : Program) (t : TermId) {w x : Naming} {k : NameId} {n : Spot} → w ≡ x → term_node_at p t ≡ nodes.Named w k n → term_node_at p t ≡ nodes.Named x k n
@@ -128,11 +131,11 @@ module _ (p : Program) (Δ : Context) (s : Spot) (q : PatternId) (u : TermId) (x
     within_stops e h = or_memory (λ r k. inr (binds, k)) h
 
     module _ (v : Kind) (body : Takes (inside_pattern (pattern_in p q) c Δ) (tree p u) x v) where
-      pub other_stops : (e : Refusal) → same_kind v b ≡ false → e ≡ broken Mismatch s → OrMemory Stops e
-      other_stops e other wrong = breaks_at Mismatch wrong refl (inl (body_differs binds body (other_kind v b other)))
-
-      pub body_answered : same_kind v b ≡ true → AnswersBody p Δ s q u x b c (Ok v)
-      body_answered same = (same_is v b same, binds, subst (Takes (inside_pattern (pattern_in p q) c Δ) (tree p u) x) (same_is v b same) body)
+      pub body_answered : (r : Result Kind Refusal) → same_kind v b ≡ is_ok r → IfOk r (λ d. d ≡ v) → IfErr r (λ e. e ≡ broken Mismatch s) → AnswersBody p Δ s q u x b c r
+      body_answered (Ok d) same is wrong =
+          let wanted = is ∙ same_is v b same in
+          (wanted, binds, subst (Takes (inside_pattern (pattern_in p q) c Δ) (tree p u) x) (same_is v b same) body)
+      body_answered (Err e) other is wrong = breaks_at Mismatch wrong refl (inl (body_differs binds body (other_kind v b other)))
 
 -- ## The answers of each form
 
@@ -148,14 +151,6 @@ module _ (p : Program) (Γ : Context) (t : TermId) (a : Kind) (s : Spot) (at : s
   pub sequence_answers : (f g : TermId) (b : Kind) (r : Result Kind Refusal) → term_node_at p t ≡ nodes.Joined InSequence f g → Fits a → Takes Γ (tree p f) a b → AnswersTerm p Γ g b r → AnswersTerm p Γ t a r
   sequence_answers f g b (Ok c) is fit h k = form_ok p Γ t (nodes.Joined InSequence f g) a is c fit (output_fits k) (sequence_takes h k)
   sequence_answers f g b (Err e) is fit h k = part_refused p Γ t (nodes.Joined InSequence f g) a is g b e (sequence_right h) k
-
-  -- of a copy of the input
-  module _ (z : Kind) (copy : z ≡ a) where
-    pub copy_reached : (f g : TermId) → Reaches p Γ (nodes.Joined FannedOut f g) a Γ f z
-    copy_reached f g = subst (Reaches p Γ (nodes.Joined FannedOut f g) a Γ f) (sym copy) fan_left
-
-    pub copy_takes : (f : TermId) (b : Kind) → Takes Γ (tree p f) z b → Takes Γ (tree p f) a b
-    copy_takes f b h = subst (λ a. Takes Γ (tree p f) a b) copy h
 
   pub fan_answers : (f g : TermId) (b c : Kind) (r : Result Kind Refusal) → term_node_at p t ≡ nodes.Joined FannedOut f g → Fits a → Takes Γ (tree p f) a b → Takes Γ (tree p g) a c → AnswersPair b c s r → AnswersTerm p Γ t a r
   fan_answers f g b c r is fit h k = pair_answers p Γ t (nodes.Joined FannedOut f g) a is b c s r at fit (fan_takes h k) (fan_exceeds h k)
@@ -193,13 +188,11 @@ module _ (p : Program) (Γ : Context) (t : TermId) (a : Kind) (s : Spot) (at : s
 
   -- `-->`
   module _ (v : ExprId) (f : TermId) (is : term_node_at p t ≡ nodes.Headed Initialized v f) (c : Kind) (typed : HasType (names_of_values Γ) (expression (expressions_of p) v) c) (d : Kind) (part : Takes Γ (tree p f) a d) where
-    pub initialized_refused : (e : Refusal) → same_kind d c ≡ false → e ≡ broken Mismatch s → OrMemory (TermBreaks p Γ t a) e
-    initialized_refused e other wrong =
+    pub initialized_answers : (r : Result Kind Refusal) → Fits a → same_kind d c ≡ is_ok r → IfOk r (λ b. b ≡ d) → IfErr r (λ e. e ≡ broken Mismatch s) → AnswersTerm p Γ t a r
+    initialized_answers (Ok b) fit same output wrong =
+        subst (Takes Γ (tree p t) a) (sym output) (form_ok p Γ t (nodes.Headed Initialized v f) a is d fit (output_fits part) (initialized_takes (subst (HasType (names_of_values Γ) (expression (expressions_of p) v)) (sym (same_is d c same)) typed) part))
+    initialized_answers (Err e) fit other output wrong =
         itself_refused p Γ t (nodes.Headed Initialized v f) a is s e at (breaks_at Mismatch wrong refl (initialized_differs typed part (other_kind d c other)))
-
-    pub initialized_answers : Fits a → same_kind d c ≡ true → Takes Γ (tree p t) a d
-    initialized_answers fit same =
-        form_ok p Γ t (nodes.Headed Initialized v f) a is d fit (output_fits part) (initialized_takes (subst (HasType (names_of_values Γ) (expression (expressions_of p) v)) (sym (same_is d c same)) typed) part)
 
   -- `loopPre`
   module _ (v : ExprId) (f : TermId) (is : term_node_at p t ≡ nodes.Headed LoopPre v f) (x : Exprs) (of : x ≡ expressions_of p) where
@@ -207,8 +200,8 @@ module _ (p : Program) (Γ : Context) (t : TermId) (a : Kind) (s : Spot) (at : s
       typed_in : HasType (names_of_values Γ) (expression (expressions_of p) v) c
       typed_in = subst (λ x. HasType (names_of_values Γ) (expression x v) c) of typed
 
-      pub fed_refused : (z : Kind) (e : Refusal) → z ≡ c → OrMemory (PairRefused a z s) e → OrMemory (TermBreaks p Γ t a) e
-      fed_refused z e same h = itself_refused p Γ t (nodes.Headed LoopPre v f) a is s e at (or_memory (λ c k. subst (λ c. FormBreaks p Γ s (nodes.Headed LoopPre v f) a c) (sym k.0) (fed_exceeds typed_in (subst Exceeds (ap (pair_kind a) same) k.1))) h)
+      pub fed_refused : (e : Refusal) → OrMemory (PairRefused a c s) e → OrMemory (TermBreaks p Γ t a) e
+      fed_refused e h = itself_refused p Γ t (nodes.Headed LoopPre v f) a is s e at (or_memory (λ c k. subst (λ c. FormBreaks p Γ s (nodes.Headed LoopPre v f) a c) (sym k.0) (fed_exceeds typed_in k.1)) h)
 
       pub loop_reached : (w : Kind) → w ≡ pair_kind a c → Fits w → Reaches p Γ (nodes.Headed LoopPre v f) a Γ f w
       loop_reached w e fits = subst (Reaches p Γ (nodes.Headed LoopPre v f) a Γ f) (sym e) (loop_part typed_in (subst Fits e fits))
@@ -238,63 +231,51 @@ module _ (p : Program) (Γ : Context) (t : TermId) (a : Kind) (s : Spot) (at : s
   switch_answers w f q g x b c r is wanted = by_body (nodes.Switching w f q g) is Γ q g x b c (λ r h. switch_body_breaks wanted h) (switch_body wanted) (wanted_takes wanted) r
 
   -- its event stands beside its first term's value
-  module _ (w : Observation) (f : TermId) (q : PatternId) (g : TermId) (z : Kind) (copy : z ≡ a) where
-    pub source_reached : Reaches p Γ (nodes.Switching (Basic w) f q g) a Γ f z
-    source_reached = subst (Reaches p Γ (nodes.Switching (Basic w) f q g) a Γ f) (sym copy) switch_source
+  module _ (w : Observation) (f : TermId) (q : PatternId) (g : TermId) (d : Kind) (given : Takes Γ (tree p f) a d) where
+    pub source_answers : (e : Refusal) → term_node_at p t ≡ nodes.Switching (Basic w) f q g → e ≡ broken Mismatch s → IsNoEventBeside d → OrMemory (TermBreaks p Γ t a) e
+    source_answers e is wrong none = itself_refused p Γ t (nodes.Switching (Basic w) f q g) a is s e at (breaks_at Mismatch wrong refl (source_differs given none))
 
-    module _ (d : Kind) (given : Takes Γ (tree p f) z d) where
-      pub source_answers : (e : Refusal) → term_node_at p t ≡ nodes.Switching (Basic w) f q g → e ≡ broken Mismatch s → IsNoEventBeside d → OrMemory (TermBreaks p Γ t a) e
-      source_answers e is wrong none = itself_refused p Γ t (nodes.Switching (Basic w) f q g) a is s e at (breaks_at Mismatch wrong refl (source_differs (copy_takes z copy f d given) none))
-
-      pub source_wants : (b c : Kind) → d ≡ pair_kind b (event_kind c) → BodyWanted p Γ (Basic w) f a a b c
-      source_wants b c beside = after_source (subst (Takes Γ (tree p f) a) beside (copy_takes z copy f d given))
+    pub source_wants : (b c : Kind) → d ≡ pair_kind b (event_kind c) → BodyWanted p Γ (Basic w) f a a b c
+    source_wants b c beside = after_source (subst (Takes Γ (tree p f) a) beside given)
 
   -- its event stands beside its input
   module _ (w : Observation) (f : TermId) (q : PatternId) (g : TermId) where
     pub input_answers : (e : Refusal) → term_node_at p t ≡ nodes.Switching (Recurring w) f q g → e ≡ broken Mismatch s → IsNoEventBeside a → OrMemory (TermBreaks p Γ t a) e
     input_answers e is wrong none = itself_refused p Γ t (nodes.Switching (Recurring w) f q g) a is s e at (breaks_at Mismatch wrong refl (recurring_input none))
 
-    module _ (x c : Kind) (beside : a ≡ pair_kind x (event_kind c)) (z : Kind) (copy : z ≡ x) where
-      pub first_term_reached : Reaches p Γ (nodes.Switching (Recurring w) f q g) a Γ f z
-      first_term_reached = subst₂ (λ a z. Reaches p Γ (nodes.Switching (Recurring w) f q g) a Γ f z) (sym beside) (sym copy) recurring_first
+    module _ (x c : Kind) (beside : a ≡ pair_kind x (event_kind c)) where
+      pub first_term_reached : Reaches p Γ (nodes.Switching (Recurring w) f q g) a Γ f x
+      first_term_reached = subst (λ a. Reaches p Γ (nodes.Switching (Recurring w) f q g) a Γ f x) (sym beside) recurring_first
 
-      pub input_wants : (b y : Kind) → y ≡ x → Takes Γ (tree p f) z b → BodyWanted p Γ (Recurring w) f a y b c
-      input_wants b y again given = subst₂ (λ a y. BodyWanted p Γ (Recurring w) f a y b c) (sym beside) (sym again) (beside_input (subst (λ z. Takes Γ (tree p f) z b) copy given))
+      pub input_wants : (b : Kind) → Takes Γ (tree p f) x b → BodyWanted p Γ (Recurring w) f a x b c
+      input_wants b given = subst (λ a. BodyWanted p Γ (Recurring w) f a x b c) (sym beside) (beside_input given)
 
   -- a switch that keeps its source
-  module _ (w : Observation) (f o : TermId) (k : NameId) (n : Spot) (q : PatternId) (g : TermId) (is : term_node_at p t ≡ nodes.Keeping w f o k n q g) (z : Kind) (copy : z ≡ a) where
-    pub kept_reached : Reaches p Γ (nodes.Keeping w f o k n q g) a Γ f z
-    kept_reached = subst (Reaches p Γ (nodes.Keeping w f o k n q g) a Γ f) (sym copy) keeping_source
+  module _ (w : Observation) (f o : TermId) (k : NameId) (n : Spot) (q : PatternId) (g : TermId) (is : term_node_at p t ≡ nodes.Keeping w f o k n q g) (b : Kind) (given : Takes Γ (tree p f) a b) where
+    pub watched_answers : (e : Refusal) → AnswersKind (Some (pair_kind a b)) s (Err e) → OrMemory (TermBreaks p Γ t a) e
+    watched_answers e h = itself_refused p Γ t (nodes.Keeping w f o k n q g) a is s e at (or_memory (λ r h. subst (FormBreaks p Γ s (nodes.Keeping w f o k n q g) a) (sym h.0) (observed_exceeds given h.1)) h)
 
-    module _ (b : Kind) (given : Takes Γ (tree p f) z b) where
-      kept_given : Takes Γ (tree p f) a b
-      kept_given = copy_takes z copy f b given
+    module _ (v : Kind) (watched : AnswersKind (Some (pair_kind a b)) s (Ok v)) where
+      pub observer_reached : Reaches p Γ (nodes.Keeping w f o k n q g) a Γ o v
+      observer_reached =
+          let same = same_Some _ _ watched.0 in
+          subst (Reaches p Γ (nodes.Keeping w f o k n q g) a Γ o) same (keeping_observer given (subst Fits (sym same) watched.1))
 
-      pub watched_answers : (e : Refusal) → AnswersKind (Some (pair_kind a b)) s (Err e) → OrMemory (TermBreaks p Γ t a) e
-      watched_answers e h = itself_refused p Γ t (nodes.Keeping w f o k n q g) a is s e at (or_memory (λ r h. subst (FormBreaks p Γ s (nodes.Keeping w f o k n q g) a) (sym h.0) (observed_exceeds kept_given h.1)) h)
+      module _ (d : Kind) (seen : Takes Γ (tree p o) v d) where
+        observer_seen : Takes Γ (tree p o) (pair_kind a b) d
+        observer_seen = subst (λ v. Takes Γ (tree p o) v d) (sym (same_Some _ _ watched.0)) seen
 
-      module _ (v : Kind) (watched : AnswersKind (Some (pair_kind a b)) s (Ok v)) where
-        pub observer_reached : Reaches p Γ (nodes.Keeping w f o k n q g) a Γ o v
-        observer_reached =
-            let same = same_Some _ _ watched.0 in
-            subst (Reaches p Γ (nodes.Keeping w f o k n q g) a Γ o) same (keeping_observer kept_given (subst Fits (sym same) watched.1))
+        pub observer_answers : (e : Refusal) → payload_of d ≡ None → e ≡ broken Mismatch s → OrMemory (TermBreaks p Γ t a) e
+        observer_answers e none wrong = itself_refused p Γ t (nodes.Keeping w f o k n q g) a is s e at (breaks_at Mismatch wrong refl (observer_differs given observer_seen (no_event d none)))
 
-        module _ (d : Kind) (seen : Takes Γ (tree p o) v d) where
-          observer_seen : Takes Γ (tree p o) (pair_kind a b) d
-          observer_seen = subst (λ v. Takes Γ (tree p o) v d) (sym (same_Some _ _ watched.0)) seen
-
-          pub observer_answers : (e : Refusal) → payload_of d ≡ None → e ≡ broken Mismatch s → OrMemory (TermBreaks p Γ t a) e
-          observer_answers e none wrong = itself_refused p Γ t (nodes.Keeping w f o k n q g) a is s e at (breaks_at Mismatch wrong refl (observer_differs kept_given observer_seen (no_event d none)))
-
-          pub keeping_answers : (y c : Kind) (r : Result Kind Refusal) → payload_of d ≡ Some c → y ≡ a → Fits a → AnswersBody p (keeping_inside p k a b Γ) s q g y b c r → AnswersTerm p Γ t a r
-          keeping_answers y c r event same fit h =
-              let O = subst (Takes Γ (tree p o) (pair_kind a b)) (payload_is d event) observer_seen in
-              by_body (nodes.Keeping w f o k n q g) is (keeping_inside p k a b Γ) q g a b c (λ r h. keeping_body_breaks kept_given O h) (keeping_body kept_given O) (keeping_takes kept_given O) r fit
-              (subst (λ y. AnswersBody p (keeping_inside p k a b Γ) s q g y b c r) same h)
+        pub keeping_answers : (c : Kind) (r : Result Kind Refusal) → payload_of d ≡ Some c → Fits a → AnswersBody p (keeping_inside p k a b Γ) s q g a b c r → AnswersTerm p Γ t a r
+        keeping_answers c r event fit h =
+            let O = subst (Takes Γ (tree p o) (pair_kind a b)) (payload_is d event) observer_seen in
+            by_body (nodes.Keeping w f o k n q g) is (keeping_inside p k a b Γ) q g a b c (λ r h. keeping_body_breaks given O h) (keeping_body given O) (keeping_takes given O) r fit h
 
   -- a name alone: `probe`
-  pub probe_answers : (k : NameId) (n : Spot) → term_node_at p t ≡ nodes.Named Probe k n → Fits a → Takes Γ (tree p t) a a
-  probe_answers k n is fit = form_ok p Γ t (nodes.Named Probe k n) a is a fit fit (primitive_takes (probe_takes fit))
+  pub probe_answers : (k : NameId) (n : Spot) (b : Kind) → term_node_at p t ≡ nodes.Named Probe k n → Fits a → b ≡ a → Takes Γ (tree p t) a b
+  probe_answers k n b is fit same = subst (Takes Γ (tree p t) a) (sym same) (form_ok p Γ t (nodes.Named Probe k n) a is a fit fit (primitive_takes (probe_takes fit)))
 
   -- and the process of a name
   module _ (w : Start) (k : NameId) (n : Spot) (is : term_node_at p t ≡ nodes.Named (Process w) k n) where

@@ -1,5 +1,5 @@
 //! The types of terms, under contexts.
-ghost use Rattle.std.specs.Prelude.{◌≡◌, ◌↔◌, ◌<◌, All, IsTrue, IfOk, IfErr, OnOk};
+ghost use Rattle.std.specs.Prelude.{◌≡◌, ◌↔◌, ◌<◌, All, IsTrue, is_ok, IfOk, IfErr, OnOk};
 ghost use Rattle.sf_value.specs.Values.{pair_kind, event_kind, IsNoPair};
 ghost use Rattle.sf_refusal.specs.Refusals.{breach_of, broken, OrMemory};
 ghost use Rattle.sf_refusal.specs.declared.rule.Rule.TheVariants.{Mismatch};
@@ -11,6 +11,7 @@ ghost use Rattle.sf_term.specs.ParameterView.{kind_of_form};
 ghost use Rattle.sf_term.specs.declared.form.Start.{Start};
 ghost use Rattle.sf_mean.specs.Contexts.{value, names_of_values};
 ghost use Rattle.sf_operator.specs.Breaches.{AnswersKind};
+ghost use Rattle.sf_operator.specs.Kinds.{same_kind};
 ghost use Rattle.sf_mean.specs.Typing.{value_kind, takes_time as a_time, timed_kind, accumulated_argument, accumulated_kind, IsTyped};
 ghost use Rattle.sf_check.specs.Contexts.{program_in, context_in};
 ghost use Rattle.sf_check.specs.Answering.{AnswersBare, AnswersPrimitive, AnswersArgument, AnswersTerm, AnswersBody};
@@ -33,14 +34,14 @@ use sf_term::{
 use sf_value::{Ty, same_type};
 use std::alloc::Global;
 
-/// The two parts of a type of pairs, which are shared; `Mismatch` at the spot for another type.
-fn parts(alloc: Global, ty: &Ty, spot: Spot) -> Result<(Ty, Ty), Refusal>
-    ensures ok { IfOk result (λ parts. ty.now ≡ pair_kind parts.0 parts.1) }
-    ensures fits { IfOk result (λ parts. Fits parts.0 × Fits parts.1) }
-    ensures err { IfErr result (OrMemory (λ b. (b ≡ breach_of Mismatch spot) × IsNoPair ty.now)) }
+/// The two parts of a type of pairs; another type is refused with `Mismatch` at the spot.
+fn parts(ty: &Ty, spot: Spot) -> Result<(&Ty, &Ty), Refusal>
+    ensures ok { IfOk result (λ parts. ty.now ≡ pair_kind parts.0.now parts.1.now) }
+    ensures fits { IfOk result (λ parts. Fits parts.0.now × Fits parts.1.now) }
+    ensures err { IfErr result (λ r. (r ≡ broken Mismatch spot) × IsNoPair ty.now) }
 {
     match ty.parts() {
-        Some((first, second)) => Ok((first.clone_in(alloc)?, second.clone_in(alloc)?)),
+        Some(parts) => Ok(parts),
         None => Err(Refusal::broken(Rule::Mismatch, spot)),
     }
 }
@@ -71,40 +72,29 @@ fn constant_type(alloc: Global, context: &TypingContext, value: ExprId) -> Resul
     )
 }
 
-/// The type of the outputs of an integral on inputs of a type. Refused at the spot with `Mismatch` where these are no numbers.
-fn integral_output(input: Ty, spot: Spot) -> Result<Ty, Refusal>
-    ensures { AnswersBare Bare.Integral input spot result }
-{
-    same(&input, &Ty::int(), spot)?;
-    Ok(input)
-}
-
-/// The type of the outputs of what leaves the first event out, on inputs of a type. Refused at the spot with `Mismatch` where
-/// these are no events.
-fn not_yet_output(input: Ty, spot: Spot) -> Result<Ty, Refusal>
-    ensures { AnswersBare Bare.NotYet input spot result }
-{
-    payload(&input, spot)?;
-    Ok(input)
-}
-
 /// The type of the outputs of a primitive without constants on inputs of a type. Refused at the spot with `BarePre` where it
 /// is `pre`, which stands behind `-->` alone, with `Mismatch` where it is none on such inputs, then with `TypeTooLarge`, and
 /// with `Memory`.
-fn bare_output(alloc: Global, kind: Bare, input: Ty, spot: Spot) -> Result<Ty, Refusal>
-    ensures { AnswersBare kind input spot result }
+fn bare_output(alloc: Global, kind: Bare, input: &Ty, spot: Spot) -> Result<Ty, Refusal>
+    ensures { AnswersBare kind input.now spot result }
 {
     match kind {
-        Bare::Identity => Ok(input),
+        Bare::Identity => Ok(input.clone_in(alloc)?),
         Bare::LocalTime => Ok(Ty::int()),
-        Bare::Integral => integral_output(input, spot),
+        Bare::Integral => {
+            same(input, &Ty::int(), spot)?;
+            Ok(Ty::int())
+        }
         Bare::Edge => {
-            same(&input, &Ty::bool(), spot)?;
+            same(input, &Ty::bool(), spot)?;
             event_type(alloc, &Ty::unit(), spot)
         }
-        Bare::NotYet => not_yet_output(input, spot),
+        Bare::NotYet => {
+            payload(input, spot)?;
+            Ok(input.clone_in(alloc)?)
+        }
         Bare::Count => {
-            payload(&input, spot)?;
+            payload(input, spot)?;
             event_type(alloc, &Ty::int(), spot)
         }
         Bare::Pre => Err(Refusal::broken(Rule::BarePre, spot)),
@@ -290,23 +280,23 @@ fn primitive_output(
     alloc: Global,
     context: &TypingContext,
     primitive: Primitive,
-    input: Ty,
+    input: &Ty,
     spot: Spot,
 ) -> Result<Ty, Refusal>
-    ensures { AnswersPrimitive (expressions_of (program_in context.now)) (context_in context.now) primitive input spot result }
+    ensures { AnswersPrimitive (expressions_of (program_in context.now)) (context_in context.now) primitive input.now spot result }
 {
     match primitive {
         Primitive::Bare(kind) => bare_output(alloc, kind, input, spot),
-        Primitive::Never(constant) => never_output(alloc, context, constant, &input, spot),
+        Primitive::Never(constant) => never_output(alloc, context, constant, input, spot),
         Primitive::WithValue(kind, value) => {
-            value_output(alloc, context, kind, value, &input, spot)
+            value_output(alloc, context, kind, value, input, spot)
         }
         Primitive::Timed(kind, time, value) => {
-            timed_output(alloc, context, kind, time, value, &input, spot)
+            timed_output(alloc, context, kind, time, value, input, spot)
         }
-        Primitive::Arrow(function) => answer_type(alloc, context, function, &input, spot),
+        Primitive::Arrow(function) => answer_type(alloc, context, function, input, spot),
         Primitive::Accumulated(kind, value, function) => {
-            accumulated_output(alloc, context, kind, value, function, &input, spot)
+            accumulated_output(alloc, context, kind, value, function, input, spot)
         }
     }
 }
@@ -316,9 +306,9 @@ fn loop_output(alloc: Global, output: &Ty, fed: &Ty, spot: Spot) -> Result<Ty, R
     ensures ok { IfOk result (λ t. output.now ≡ pair_kind t fed.now) }
     ensures err { IfErr result (OrMemory (λ b. (b ≡ breach_of Mismatch spot) × IsNoPairWith fed.now output.now)) }
 {
-    let (first, second) = parts(alloc, output, spot)?;
-    if same_type(&second, fed) {
-        Ok(first)
+    let (first, second) = parts(output, spot)?;
+    if same_type(second, fed) {
+        Ok(first.clone_in(alloc)?)
     } else {
         Err(Refusal::broken(Rule::Mismatch, spot))
     }
@@ -333,12 +323,12 @@ fn joined_output(
     join: Join,
     left: TermId,
     right: TermId,
-    input: Ty,
+    input: &Ty,
 ) -> Result<Ty, Refusal>
-    requires fits { Fits input }
+    requires fits { Fits input.now }
     requires there { term_node_at (program_in context.now) term ≡ Node.Joined join left right }
     requires below { (term_number left < term_number term) × (term_number right < term_number term) }
-    ensures { AnswersTerm (program_in context.now) (context_in context.now) term input result }
+    ensures { AnswersTerm (program_in context.now) (context_in context.now) term input.now result }
 {
     match join {
         Join::InSequence => sequence_output(alloc, context, term, left, right, input),
@@ -355,15 +345,15 @@ fn sequence_output(
     term: TermId,
     left: TermId,
     right: TermId,
-    input: Ty,
+    input: &Ty,
 ) -> Result<Ty, Refusal>
-    requires fits { Fits input }
+    requires fits { Fits input.now }
     requires there { term_node_at (program_in context.now) term ≡ Node.Joined Join.InSequence left right }
     requires below { (term_number left < term_number term) × (term_number right < term_number term) }
-    ensures { AnswersTerm (program_in context.now) (context_in context.now) term input result }
+    ensures { AnswersTerm (program_in context.now) (context_in context.now) term input.now result }
 {
     let middle = output_of(alloc, context, left, input)?;
-    output_of(alloc, context, right, middle)
+    output_of(alloc, context, right, &middle)
 }
 
 /// The type of the outputs of two parts side by side on inputs of a type.
@@ -374,15 +364,15 @@ fn parallel_output(
     term: TermId,
     left: TermId,
     right: TermId,
-    input: Ty,
+    input: &Ty,
 ) -> Result<Ty, Refusal>
-    requires fits { Fits input }
+    requires fits { Fits input.now }
     requires there { term_node_at (program_in context.now) term ≡ Node.Joined Join.InParallel left right }
     requires below { (term_number left < term_number term) × (term_number right < term_number term) }
-    ensures { AnswersTerm (program_in context.now) (context_in context.now) term input result }
+    ensures { AnswersTerm (program_in context.now) (context_in context.now) term input.now result }
 {
     let spot = context.program.spot(term);
-    let (a, b) = parts(alloc, &input, spot)?;
+    let (a, b) = parts(input, spot)?;
     let first = output_of(alloc, context, left, a)?;
     let second = output_of(alloc, context, right, b)?;
     pair_type(alloc, first, second, spot)
@@ -396,15 +386,15 @@ fn fan_output(
     term: TermId,
     left: TermId,
     right: TermId,
-    input: Ty,
+    input: &Ty,
 ) -> Result<Ty, Refusal>
-    requires fits { Fits input }
+    requires fits { Fits input.now }
     requires there { term_node_at (program_in context.now) term ≡ Node.Joined Join.FannedOut left right }
     requires below { (term_number left < term_number term) × (term_number right < term_number term) }
-    ensures { AnswersTerm (program_in context.now) (context_in context.now) term input result }
+    ensures { AnswersTerm (program_in context.now) (context_in context.now) term input.now result }
 {
     let spot = context.program.spot(term);
-    let first = output_of(alloc, context, left, input.clone_in(alloc)?)?;
+    let first = output_of(alloc, context, left, input)?;
     let second = output_of(alloc, context, right, input)?;
     pair_type(alloc, first, second, spot)
 }
@@ -417,23 +407,23 @@ fn sided_output(
     term: TermId,
     side: Side,
     part: TermId,
-    input: Ty,
+    input: &Ty,
 ) -> Result<Ty, Refusal>
-    requires fits { Fits input }
+    requires fits { Fits input.now }
     requires there { term_node_at (program_in context.now) term ≡ Node.Sided side part }
     requires below { term_number part < term_number term }
-    ensures { AnswersTerm (program_in context.now) (context_in context.now) term input result }
+    ensures { AnswersTerm (program_in context.now) (context_in context.now) term input.now result }
 {
     let spot = context.program.spot(term);
-    let (a, b) = parts(alloc, &input, spot)?;
+    let (a, b) = parts(input, spot)?;
     match side {
         Side::First => {
             let first = output_of(alloc, context, part, a)?;
-            pair_type(alloc, first, b, spot)
+            pair_of(alloc, &first, b, spot)
         }
         Side::Second => {
             let second = output_of(alloc, context, part, b)?;
-            pair_type(alloc, a, second, spot)
+            pair_of(alloc, a, &second, spot)
         }
     }
 }
@@ -446,19 +436,28 @@ fn looped_output(
     term: TermId,
     start: ExprId,
     part: TermId,
-    input: Ty,
+    input: &Ty,
 ) -> Result<Ty, Refusal>
-    requires fits { Fits input }
+    requires fits { Fits input.now }
     requires there { term_node_at (program_in context.now) term ≡ Node.Headed Heading.LoopPre start part }
     requires below { term_number part < term_number term }
-    ensures { AnswersTerm (program_in context.now) (context_in context.now) term input result }
+    ensures { AnswersTerm (program_in context.now) (context_in context.now) term input.now result }
 {
     let spot = context.program.spot(term);
     let fed = constant_type(alloc, context, start)?;
-    let second = fed.clone_in(alloc)?;
-    let given = pair_type(alloc, input, second, spot)?;
-    let output = output_of(alloc, context, part, given)?;
+    let given = pair_of(alloc, input, &fed, spot)?;
+    let output = output_of(alloc, context, part, &given)?;
     loop_output(alloc, &output, &fed, spot)
+}
+
+/// The type of outputs, where it is the one that is wanted; another one is refused with `Mismatch` at the spot.
+fn wanted_output(output: Ty, wanted: &Ty, spot: Spot) -> Result<Ty, Refusal>
+    ensures same { same_kind output wanted.now ≡ is_ok result }
+    ensures ok { IfOk result (λ t. t ≡ output) }
+    ensures err { IfErr result (λ r. r ≡ broken Mismatch spot) }
+{
+    same(&output, wanted, spot)?;
+    Ok(output)
 }
 
 /// The type of the outputs of a body, on inputs of a type, which gives what is wanted of it inside the pattern for payloads of
@@ -470,17 +469,17 @@ fn body_output(
     pattern: PatternId,
     payload: &Ty,
     body: TermId,
-    input: Ty,
+    input: &Ty,
     wanted: &Ty,
     spot: Spot,
 ) -> Result<Ty, Refusal>
-    requires { Fits input }
-    ensures { AnswersBody (program_in context.now) (context_in context.now) spot pattern body input wanted.now payload.now result }
+    requires { Fits input.now }
+    ensures { AnswersBody (program_in context.now) (context_in context.now) spot pattern body input.now wanted.now payload.now result }
 {
     let inner = (&*context).within(alloc, pattern, payload, spot)?;
-    let given = output_of(alloc, &inner, body, input)?;
-    same(&given, wanted, spot)?;
-    Ok(given)
+    let given = output_of(alloc, &inner, body, input);
+    drop(inner);
+    wanted_output(given?, wanted, spot)
 }
 
 /// The type of the outputs of a part whose first value another takes the place of, on inputs of a type.
@@ -491,18 +490,17 @@ fn initialized_output(
     term: TermId,
     value: ExprId,
     part: TermId,
-    input: Ty,
+    input: &Ty,
 ) -> Result<Ty, Refusal>
-    requires fits { Fits input }
+    requires fits { Fits input.now }
     requires there { term_node_at (program_in context.now) term ≡ Node.Headed Heading.Initialized value part }
     requires below { term_number part < term_number term }
-    ensures { AnswersTerm (program_in context.now) (context_in context.now) term input result }
+    ensures { AnswersTerm (program_in context.now) (context_in context.now) term input.now result }
 {
     let spot = context.program.spot(term);
     let given = constant_type(alloc, context, value)?;
     let output = output_of(alloc, context, part, input)?;
-    same(&output, &given, spot)?;
-    Ok(output)
+    wanted_output(output, &given, spot)
 }
 
 /// The type of the outputs of a term that gives way to another inside a pattern, on inputs of a type.
@@ -515,19 +513,19 @@ fn switching_output(
     first: TermId,
     pattern: PatternId,
     body: TermId,
-    input: Ty,
+    input: &Ty,
 ) -> Result<Ty, Refusal>
-    requires fits { Fits input }
+    requires fits { Fits input.now }
     requires there { term_node_at (program_in context.now) term ≡ Node.Switching form first pattern body }
     requires below { (term_number first < term_number term) × (term_number body < term_number term) }
-    ensures { AnswersTerm (program_in context.now) (context_in context.now) term input result }
+    ensures { AnswersTerm (program_in context.now) (context_in context.now) term input.now result }
 {
     match form {
         Switching::Basic(shown) => {
             basic_output(alloc, context, term, shown, first, pattern, body, input)
         }
         Switching::Recurring(shown) => {
-            recurring_output(alloc, context, term, shown, first, pattern, body, &input)
+            recurring_output(alloc, context, term, shown, first, pattern, body, input)
         }
     }
 }
@@ -542,15 +540,15 @@ fn basic_output(
     first: TermId,
     pattern: PatternId,
     body: TermId,
-    input: Ty,
+    input: &Ty,
 ) -> Result<Ty, Refusal>
-    requires fits { Fits input }
+    requires fits { Fits input.now }
     requires there { term_node_at (program_in context.now) term ≡ Node.Switching (Switching.Basic form) first pattern body }
     requires below { (term_number first < term_number term) × (term_number body < term_number term) }
-    ensures { AnswersTerm (program_in context.now) (context_in context.now) term input result }
+    ensures { AnswersTerm (program_in context.now) (context_in context.now) term input.now result }
 {
     let spot = context.program.spot(term);
-    let output = output_of(alloc, context, first, input.clone_in(alloc)?)?;
+    let output = output_of(alloc, context, first, input)?;
     let (value, payload) = value_and_payload(&output, spot)?;
     body_output(alloc, context, pattern, payload, body, input, value, spot)
 }
@@ -574,11 +572,8 @@ fn recurring_output(
 {
     let spot = context.program.spot(term);
     let (value, payload) = value_and_payload(input, spot)?;
-    let output = output_of(alloc, context, first, value.clone_in(alloc)?)?;
-    let same_input = value.clone_in(alloc)?;
-    body_output(
-        alloc, context, pattern, payload, body, same_input, &output, spot,
-    )
+    let output = output_of(alloc, context, first, value)?;
+    body_output(alloc, context, pattern, payload, body, value, &output, spot)
 }
 
 /// The type of the outputs of a term that gives way to another inside a pattern at the event that an observer sees, and is
@@ -595,20 +590,20 @@ fn keeping_output(
     place: Spot,
     pattern: PatternId,
     body: TermId,
-    input: Ty,
+    input: &Ty,
 ) -> Result<Ty, Refusal>
-    requires fits { Fits input }
+    requires fits { Fits input.now }
     requires there { term_node_at (program_in context.now) term ≡ Node.Keeping form source observer name place pattern body }
     requires below { (term_number source < term_number term) × (term_number observer < term_number term) × (term_number body < term_number term) }
-    ensures { AnswersTerm (program_in context.now) (context_in context.now) term input result }
+    ensures { AnswersTerm (program_in context.now) (context_in context.now) term input.now result }
 {
     let spot = context.program.spot(term);
-    let value = output_of(alloc, context, source, input.clone_in(alloc)?)?;
-    let watched = pair_of(alloc, &input, &value, spot)?;
-    let seen = output_of(alloc, context, observer, watched)?;
+    let value = output_of(alloc, context, source, input)?;
+    let watched = pair_of(alloc, input, &value, spot)?;
+    let seen = output_of(alloc, context, observer, &watched)?;
     let payload = payload(&seen, spot)?;
     kept_output(
-        alloc, context, name, pattern, payload, body, &input, &value, spot,
+        alloc, context, name, pattern, payload, body, input, &value, spot,
     )
 }
 
@@ -629,11 +624,10 @@ fn kept_output(
     requires { Fits input.now }
     ensures { AnswersBody (program_in context.now) (keeping_inside (program_in context.now) name input.now wanted.now (context_in context.now)) spot pattern body input.now wanted.now payload.now result }
 {
-    let same_input = input.clone_in(alloc)?;
     let inner = (&*context).keeping(alloc, name, input, wanted)?;
-    body_output(
-        alloc, &inner, pattern, payload, body, same_input, wanted, spot,
-    )
+    let output = body_output(alloc, &inner, pattern, payload, body, input, wanted, spot);
+    drop(inner);
+    output
 }
 
 /// The type of the outputs of the process of a name on inputs of a type.
@@ -686,7 +680,8 @@ fn argument_fits(
             Err(Refusal::broken(Rule::Mismatch, context.program.spot(term)))
         }
         (Argument::Process(part), ParameterForm::Process(from, to)) => {
-            let given = output_of(alloc, context, part, from.clone_in(alloc)?)?;
+            prove!(from.nodes() <= 256);
+            let given = output_of(alloc, context, part, from)?;
             Ok(same_type(&given, to))
         }
     }
@@ -731,21 +726,24 @@ fn call_output(
 
 /// The type of a term's outputs on inputs of a type, or the first rule that a form in it breaks.
 #[cycle(output)]
-fn output_of(alloc: Global, context: &TypingContext, term: TermId, input: Ty) -> Result<Ty, Refusal>
-    requires { Fits input }
-    ensures { AnswersTerm (program_in context.now) (context_in context.now) term input result }
+fn output_of(
+    alloc: Global,
+    context: &TypingContext,
+    term: TermId,
+    input: &Ty,
+) -> Result<Ty, Refusal>
+    requires { Fits input.now }
+    ensures { AnswersTerm (program_in context.now) (context_in context.now) term input.now result }
 {
     match context.program.node(term) {
         Node::Primitive(primitive) => {
             primitive_output(alloc, context, primitive, input, context.program.spot(term))
         }
         Node::Named(Naming::Process(_), name, place) => {
-            process_output(alloc, context, term, name, place, &input)
+            process_output(alloc, context, term, name, place, input)
         }
-        Node::Named(Naming::Probe, _, _) => Ok(input),
-        Node::Call(name, arguments) => {
-            call_output(alloc, context, term, name, arguments, &input)
-        }
+        Node::Named(Naming::Probe, _, _) => Ok(input.clone_in(alloc)?),
+        Node::Call(name, arguments) => { call_output(alloc, context, term, name, arguments, input) }
         Node::Joined(join, left, right) => {
             joined_output(alloc, context, term, join, left, right, input)
         }
@@ -778,9 +776,12 @@ fn check_template(
     ensures ok { OnOk result (IsTyped (signatures_in functions.now) (templates_of program.now) (template_in program.now template.now)) }
     ensures err { IfErr result (OrMemory (TemplateBreaks (signatures_in functions.now) program.now template.now)) }
 {
-    let input = template.input().clone_in(alloc)?;
     let context = TypingContext::of_body(alloc, program, names, functions, template.parameters())?;
-    let output = output_of(alloc, &context, template.body(), input)?;
+    let input = template.input();
+    prove!(input.nodes() <= 256);
+    let output = output_of(alloc, &context, template.body(), input);
+    drop(context);
+    let output = output?;
     if same_type(&output, template.output()) {
         Ok(())
     } else {

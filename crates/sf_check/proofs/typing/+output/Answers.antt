@@ -4,25 +4,24 @@ use Rattle.std.specs.Slice.Iter.{iter_rest}
 use Rattle.std.proofs.lemmas.List.Elements.{All-same, All-rest}
 use Rattle.std.proofs.lemmas.List.{length-map}
 use Rattle.std.proofs.lemmas.Slice.Zip.{Zip-more, either_empty_from_Zip}
-use Rattle.sf_value.specs.Values.{Kind, pair_kind}
 use Rattle.sf_refusal.specs.declared.rule.Rule.TheVariants.{Mismatch}
 use Rattle.sf_refusal.specs.Refusals.{broken, no_memory}
-use Rattle.sf_check.specs.Answering.{AnswersBody}
-use Rattle.sf_check.specs.Breaking.{keeping_inside, initialized_part, sequence_left, fan_right, parallel_input, side_input}
+use Rattle.sf_check.specs.Breaking.{keeping_inside, initialized_part, sequence_left, fan_left, fan_right, parallel_input, side_input, switch_source, keeping_source}
 use Rattle.sf_term.specs.Arena.{term_number, expressions_of, term_spot_at, arguments_under, ArgumentBelow}
 use Rattle.sf_check.specs.Contexts.{context_in}
-use Rattle.sf_check.proofs.Terms.{part_refused, err_answers, memory_answers, named_there, sided_there, mismatch_refused, primitive_answers, probe_answers, sequence_answers, fan_answers, copy_reached, copy_takes, left_reached, right_reached, first_reached, second_reached, parallel_answers, first_answers, second_answers, start_answers, initialized_refused, initialized_answers, fed_refused, loop_reached, loop_answers, answers_under, body_under, err_body, pattern_stops, within_stops, other_stops, body_answered, switch_answers, source_reached, source_answers, source_wants, input_answers, first_term_reached, input_wants, kept_reached, watched_answers, observer_reached, observer_answers, keeping_answers}
+use Rattle.sf_check.proofs.Terms.{part_refused, err_answers, memory_answers, named_there, sided_there, pair_differs, mismatch_refused, primitive_answers, probe_answers, sequence_answers, fan_answers, left_reached, right_reached, first_reached, second_reached, parallel_answers, first_answers, second_answers, start_answers, initialized_answers, fed_refused, loop_reached, loop_answers, answers_under, body_under, err_body, pattern_stops, within_stops, body_answered, switch_answers, source_answers, source_wants, input_answers, first_term_reached, input_wants, watched_answers, observer_reached, observer_answers, keeping_answers}
 use Rattle.sf_term.specs.ParameterView.{kind_of_form}
 use Rattle.sf_check.specs.Contexts.{program_in}
-use Rattle.sf_check.proofs.Calls.{err_argument, value_refused, value_answers, misplaced, term_stops, process_answers, memory_argument, no_template_answers, other_number_answers, none_absent, all_so, so_next, so_end, next_so, answer_for, argument_answers, differs_answers, call_answers}
+use Rattle.sf_check.proofs.Calls.{err_argument, value_refused, value_answers, misplaced, term_stops, process_answers, no_template_answers, other_number_answers, none_absent, all_so, so_next, so_end, next_so, answer_for, argument_answers, differs_answers, call_answers}
 use Rattle.sf_term.specs.Parameters.{binding_of}
 use Rattle.sf_expr.specs.Typing.{Fits}
+use Rattle.sf_expr.proofs.Judged.{answers_pair}
 use Rattle.sf_check.proofs.typing.+output.Goals.{call_output-else-fit-via-then-fit+else-same_type, call_output-else-fit-via-else-fit}
 use Rattle.sf_check.proofs.typing.+output.Goals as goal
 
 pub output_of-returns-in-Primitive : goal.output_of-returns-in-Primitive
 output_of-returns-in-Primitive t c =
-    primitive_answers c.args.context.now.program.now (context_in c.args.context.now) c.args.term c.args.input _ c.spot.ensures (expressions_of c.args.context.now.program.now) c.in-Primitive.primitive _ refl (sym c.in-Primitive.ensures.value) c.requires c.primitive_output.ensures
+    primitive_answers c.args.context.now.program.now (context_in c.args.context.now) c.args.term c.args.input.now _ c.spot.ensures (expressions_of c.args.context.now.program.now) c.in-Primitive.primitive _ refl (sym c.in-Primitive.ensures.value) c.requires c.primitive_output.ensures
 
 -- ## In sequence
 
@@ -38,7 +37,7 @@ sequence_output-returns t c =
 
 pub parallel_output-returns-in_err-a : goal.parallel_output-returns-in_err-a
 parallel_output-returns-in_err-a t c =
-    err_answers _ _ _ _ _ _ c.from_residual.ensures.1 (mismatch_refused _ _ _ _ _ c.spot-spot.ensures _ c.requires.there _ c.in_err-a.ensures.err parallel_input)
+    err_answers _ _ _ _ _ _ c.from_residual.ensures.1 (mismatch_refused _ _ _ _ _ c.spot-spot.ensures _ c.requires.there _ (pair_differs c.in_err-a.ensures.err) parallel_input)
 
 pub parallel_output-returns-in_err-first : goal.parallel_output-returns-in_err-first
 parallel_output-returns-in_err-first t c =
@@ -58,40 +57,37 @@ parallel_output-returns t c =
 
 pub fan_output-returns-in_err-first : goal.fan_output-returns-in_err-first
 fan_output-returns-in_err-first t c =
-    err_answers _ _ _ _ _ _ c.from_residual-in_err-first.ensures.1 (part_refused _ _ _ _ _ c.requires.there _ _ _ (copy_reached c.args.context.now.program.now _ c.args.term _ _ c.spot-spot.ensures _ c.in_ok-clone_in.ensures.same _ _) c.in_err-first.ensures)
+    err_answers _ _ _ _ _ _ c.from_residual.ensures.1 (part_refused _ _ _ _ _ c.requires.there _ _ _ fan_left c.in_err-first.ensures)
 
 pub fan_output-returns-in_err-second : goal.fan_output-returns-in_err-second
 fan_output-returns-in_err-second t c =
-    err_answers _ _ _ _ _ _ c.from_residual-in_err-second.ensures.1 (part_refused _ _ _ _ _ c.requires.there _ _ _ (fan_right (copy_takes c.args.context.now.program.now _ c.args.term _ _ c.spot-spot.ensures _ c.in_ok-clone_in.ensures.same _ _ c.in_ok-first.ensures)) c.in_err-second.ensures)
+    err_answers _ _ _ _ _ _ c.from_residual-in_err-second.ensures.1 (part_refused _ _ _ _ _ c.requires.there _ _ _ (fan_right c.in_ok-first.ensures) c.in_err-second.ensures)
 
 pub fan_output-returns : goal.fan_output-returns
 fan_output-returns t c =
-    fan_answers _ _ _ _ _ c.spot-spot.ensures _ _ _ _ _ c.requires.there c.requires.fits (copy_takes c.args.context.now.program.now _ c.args.term _ _ c.spot-spot.ensures _ c.in_ok-clone_in.ensures.same _ _ c.in_ok-first.ensures) c.in_ok-second.ensures c.pair_type.ensures
-
-pub fan_output-returns-in_err-clone_in : goal.fan_output-returns-in_err-clone_in
-fan_output-returns-in_err-clone_in t c = memory_answers _ _ c.args.term _ _ c.from_residual.ensures.1
+    fan_answers _ _ _ _ _ c.spot-spot.ensures _ _ _ _ _ c.requires.there c.requires.fits c.in_ok-first.ensures c.in_ok-second.ensures c.pair_type.ensures
 
 -- ## On one side
 
 pub sided_output-returns-in_err-a : goal.sided_output-returns-in_err-a
 sided_output-returns-in_err-a t c =
-    err_answers _ _ _ _ _ _ c.from_residual.ensures.1 (mismatch_refused _ _ _ _ _ c.spot-spot.ensures _ c.requires.there _ c.in_err-a.ensures.err side_input)
+    err_answers _ _ _ _ _ _ c.from_residual.ensures.1 (mismatch_refused _ _ _ _ _ c.spot-spot.ensures _ c.requires.there _ (pair_differs c.in_err-a.ensures.err) side_input)
 
 pub sided_output-returns-in_err-first-in-First : goal.sided_output-returns-in_err-first-in-First
 sided_output-returns-in_err-first-in-First t c =
     err_answers _ _ _ _ _ _ c.from_residual-in_err-first-in-First.ensures.1 (part_refused _ _ _ _ _ (sided_there _ _ c.in-First.is c.requires.there) _ _ _ (first_reached c.args.context.now.program.now _ c.args.term _ _ c.spot-spot.ensures _ _ c.in_ok-a.ensures.ok _) c.in_err-first-in-First.ensures)
 
-pub sided_output-returns-in-First : goal.sided_output-returns-in-First
-sided_output-returns-in-First t c =
-    first_answers _ _ _ _ _ c.spot-spot.ensures _ _ c.in_ok-a.ensures.ok _ _ _ (sided_there _ _ c.in-First.is c.requires.there) c.requires.fits c.in_ok-first-in-First.ensures c.pair_type.ensures
+pub sided_output-returns-in_ok-first-in-First : goal.sided_output-returns-in_ok-first-in-First
+sided_output-returns-in_ok-first-in-First t c =
+    first_answers _ _ _ _ _ c.spot-spot.ensures _ _ c.in_ok-a.ensures.ok _ _ _ (sided_there _ _ c.in-First.is c.requires.there) c.requires.fits c.in_ok-first-in-First.ensures (answers_pair _ _ _ _ c.pair_type.ensures)
 
 pub sided_output-returns-in_err-second-in-Second : goal.sided_output-returns-in_err-second-in-Second
 sided_output-returns-in_err-second-in-Second t c =
     err_answers _ _ _ _ _ _ c.from_residual-in_err-second-in-Second.ensures.1 (part_refused _ _ _ _ _ (sided_there _ _ c.in-Second.is c.requires.there) _ _ _ (second_reached c.args.context.now.program.now _ c.args.term _ _ c.spot-spot.ensures _ _ c.in_ok-a.ensures.ok _) c.in_err-second-in-Second.ensures)
 
-pub sided_output-returns : goal.sided_output-returns
-sided_output-returns t c =
-    second_answers _ _ _ _ _ c.spot-spot.ensures _ _ c.in_ok-a.ensures.ok _ _ _ (sided_there _ _ c.in-Second.is c.requires.there) c.requires.fits c.in_ok-second-in-Second.ensures c.pair_type-in-Second.ensures
+pub sided_output-returns-in_ok-second-in-Second : goal.sided_output-returns-in_ok-second-in-Second
+sided_output-returns-in_ok-second-in-Second t c =
+    second_answers _ _ _ _ _ c.spot-spot.ensures _ _ c.in_ok-a.ensures.ok _ _ _ (sided_there _ _ c.in-Second.is c.requires.there) c.requires.fits c.in_ok-second-in-Second.ensures (answers_pair _ _ _ _ c.pair_type-in-Second.ensures)
 
 -- ## `loopPre`
 
@@ -101,23 +97,17 @@ looped_output-returns-in_err-fed t c =
 
 pub looped_output-returns-in_err-given : goal.looped_output-returns-in_err-given
 looped_output-returns-in_err-given t c =
-    let fed = c.in_ok-second in
-    err_answers _ _ _ _ _ _ c.from_residual-in_err-given.ensures.1 (fed_refused _ _ _ _ _ c.spot-spot.ensures _ _ c.requires.there _ refl _ c.in_ok-fed.ensures fed.second _ fed.ensures.same c.in_err-given.ensures)
+    err_answers _ _ _ _ _ _ c.from_residual-in_err-given.ensures.1 (fed_refused _ _ _ _ _ c.spot-spot.ensures _ _ c.requires.there _ refl _ c.in_ok-fed.ensures _ (answers_pair _ _ _ (Err _) c.in_err-given.ensures))
 
 pub looped_output-returns-in_err-output : goal.looped_output-returns-in_err-output
 looped_output-returns-in_err-output t c =
-    let fed = c.in_ok-second in
-    let given = c.in_ok-given in
-    err_answers _ _ _ _ _ _ c.from_residual-in_err-output.ensures.1 (part_refused _ _ _ _ _ c.requires.there _ _ _ (loop_reached _ _ _ _ _ c.spot-spot.ensures _ _ c.requires.there _ refl _ c.in_ok-fed.ensures given.given (given.ensures.0 ∙ ap (pair_kind c.args.input) fed.ensures.same) given.ensures.1) c.in_err-output.ensures)
+    let given = answers_pair _ _ c.spot-spot.result (Ok _) c.in_ok-given.ensures in
+    err_answers _ _ _ _ _ _ c.from_residual-in_err-output.ensures.1 (part_refused _ _ _ _ _ c.requires.there _ _ _ (loop_reached _ _ _ _ _ c.spot-spot.ensures _ _ c.requires.there _ refl _ c.in_ok-fed.ensures _ given.0 given.1) c.in_err-output.ensures)
 
 pub looped_output-returns : goal.looped_output-returns
 looped_output-returns t c =
-    let fed = c.in_ok-second in
-    let given = c.in_ok-given in
-    loop_answers _ _ _ _ _ c.spot-spot.ensures _ _ c.requires.there _ refl _ c.in_ok-fed.ensures given.given _ _ (given.ensures.0 ∙ ap (pair_kind c.args.input) fed.ensures.same) c.requires.fits c.in_ok-output.ensures c.loop_output.ensures.ok c.loop_output.ensures.err
-
-pub looped_output-returns-in_err-second : goal.looped_output-returns-in_err-second
-looped_output-returns-in_err-second t c = memory_answers _ _ c.args.term _ _ c.from_residual-in_err-second.ensures.1
+    let given = answers_pair _ _ c.spot-spot.result (Ok _) c.in_ok-given.ensures in
+    loop_answers _ _ _ _ _ c.spot-spot.ensures _ _ c.requires.there _ refl _ c.in_ok-fed.ensures _ _ _ given.0 c.requires.fits c.in_ok-output.ensures c.loop_output.ensures.ok c.loop_output.ensures.err
 
 -- ## `-->`
 
@@ -129,14 +119,10 @@ pub initialized_output-returns-in_err-output : goal.initialized_output-returns-i
 initialized_output-returns-in_err-output t c =
     err_answers _ _ _ _ _ _ c.from_residual-in_err-output.ensures.1 (part_refused _ _ _ _ _ c.requires.there _ _ _ (initialized_part c.in_ok-given.ensures) c.in_err-output.ensures)
 
-pub initialized_output-returns-in_err-same : goal.initialized_output-returns-in_err-same
-initialized_output-returns-in_err-same t c =
-    let other = c.in_err-same.ensures.err in
-    err_answers _ _ _ _ _ _ c.from_residual-in_err-same.ensures.1 (initialized_refused _ _ _ _ _ c.spot-spot.ensures _ _ c.requires.there _ c.in_ok-given.ensures _ c.in_ok-output.ensures _ other.0 other.1)
-
 pub initialized_output-returns : goal.initialized_output-returns
 initialized_output-returns t c =
-    initialized_answers _ _ _ _ _ c.spot-spot.ensures _ _ c.requires.there _ c.in_ok-given.ensures _ c.in_ok-output.ensures c.requires.fits c.in_ok-same.ensures.ok
+    let wanted = c.wanted_output.ensures in
+    initialized_answers _ _ _ _ _ c.spot-spot.ensures _ _ c.requires.there _ c.in_ok-given.ensures _ c.in_ok-output.ensures _ c.requires.fits wanted.same wanted.ok wanted.err
 
 -- ## Bodies
 
@@ -151,42 +137,31 @@ body_output-returns-in_err-given t c =
     err_body _ _ _ _ _ _ _ _ _ _ c.from_residual-in_err-given.ensures.1
     (within_stops p _ _ _ _ _ c.args.wanted.now _ inner.bound _ (answers_under _ p _ _ _ _ (Err _) inner.program inner.context c.in_err-given.ensures))
 
-pub body_output-returns-in_err-same : goal.body_output-returns-in_err-same
-body_output-returns-in_err-same t c =
-    let p = c.args.context.now.program.now in
-    let inner = c.in_ok-inner.ensures in
-    let body = answers_under _ p _ _ _ _ (Ok _) inner.program inner.context c.in_ok-given.ensures in
-    let other = c.in_err-same.ensures.err in
-    err_body _ _ _ _ _ _ _ _ _ _ c.from_residual-in_err-same.ensures.1 (other_stops p _ _ _ _ _ _ _ inner.bound _ body _ other.0 other.1)
-
 pub body_output-returns : goal.body_output-returns
 body_output-returns t c =
     let p = c.args.context.now.program.now in
     let inner = c.in_ok-inner.ensures in
     let body = answers_under _ p _ _ _ _ (Ok _) inner.program inner.context c.in_ok-given.ensures in
-    body_answered p _ c.args.spot _ _ _ _ _ inner.bound _ body c.in_ok-same.ensures.ok
+    let wanted = c.wanted_output.ensures in
+    body_answered p _ c.args.spot _ _ _ _ _ inner.bound _ body _ wanted.same wanted.ok wanted.err
 
 -- ## Switches
 
-pub basic_output-returns-in_err-clone_in : goal.basic_output-returns-in_err-clone_in
-basic_output-returns-in_err-clone_in t c = memory_answers _ _ c.args.term _ _ c.from_residual.ensures.1
-
 pub basic_output-returns-in_err-output : goal.basic_output-returns-in_err-output
 basic_output-returns-in_err-output t c =
-    err_answers _ _ _ _ _ _ c.from_residual-in_err-output.ensures.1 (part_refused _ _ _ _ _ c.requires.there _ _ _
-    (source_reached c.args.context.now.program.now _ c.args.term _ _ c.spot-spot.ensures _ _ _ _ _ c.in_ok-clone_in.ensures.same) c.in_err-output.ensures)
+    err_answers _ _ _ _ _ _ c.from_residual.ensures.1 (part_refused _ _ _ _ _ c.requires.there _ _ _ switch_source c.in_err-output.ensures)
 
 pub basic_output-returns-in_err-value : goal.basic_output-returns-in_err-value
 basic_output-returns-in_err-value t c =
     let wrong = c.in_err-value.ensures.err in
     err_answers _ _ _ _ _ _ c.from_residual-in_err-value.ensures.1
-    (source_answers c.args.context.now.program.now _ c.args.term _ _ c.spot-spot.ensures _ _ _ _ _ c.in_ok-clone_in.ensures.same _ c.in_ok-output.ensures _ c.requires.there wrong.0 wrong.1)
+    (source_answers c.args.context.now.program.now _ c.args.term _ _ c.spot-spot.ensures _ _ _ _ _ c.in_ok-output.ensures _ c.requires.there wrong.0 wrong.1)
 
 pub basic_output-returns : goal.basic_output-returns
 basic_output-returns t c =
     let p = c.args.context.now.program.now in
     switch_answers p _ c.args.term _ _ c.spot-spot.ensures _ _ _ _ _ _ _ _ c.requires.there
-    (source_wants p _ c.args.term _ _ c.spot-spot.ensures _ _ c.args.pattern c.args.body _ c.in_ok-clone_in.ensures.same _ c.in_ok-output.ensures _ _ c.in_ok-value.ensures.ok)
+    (source_wants p _ c.args.term _ _ c.spot-spot.ensures _ _ c.args.pattern c.args.body _ c.in_ok-output.ensures _ _ c.in_ok-value.ensures.ok)
     c.requires.fits c.body_output.ensures
 
 pub recurring_output-returns-in_err-value : goal.recurring_output-returns-in_err-value
@@ -195,62 +170,47 @@ recurring_output-returns-in_err-value t c =
     err_answers _ _ _ _ _ _ c.from_residual.ensures.1
     (input_answers c.args.context.now.program.now _ c.args.term _ _ c.spot-spot.ensures _ _ _ _ _ c.requires.there wrong.0 wrong.1)
 
-pub recurring_output-returns-in_err-clone_in : goal.recurring_output-returns-in_err-clone_in
-recurring_output-returns-in_err-clone_in t c = memory_answers _ _ c.args.term _ _ c.from_residual-in_err-clone_in.ensures.1
-
 pub recurring_output-returns-in_err-output : goal.recurring_output-returns-in_err-output
 recurring_output-returns-in_err-output t c =
     err_answers _ _ _ _ _ _ c.from_residual-in_err-output.ensures.1 (part_refused _ _ _ _ _ c.requires.there _ _ _
-    (first_term_reached c.args.context.now.program.now _ c.args.term _ _ c.spot-spot.ensures _ _ _ _ _ _ c.in_ok-value.ensures.ok _ c.in_ok-clone_in.ensures.same) c.in_err-output.ensures)
-
-pub recurring_output-returns-in_err-same_input : goal.recurring_output-returns-in_err-same_input
-recurring_output-returns-in_err-same_input t c = memory_answers _ _ c.args.term _ _ c.from_residual-in_err-same_input.ensures.1
+    (first_term_reached c.args.context.now.program.now _ c.args.term _ _ c.spot-spot.ensures _ _ _ _ _ _ c.in_ok-value.ensures.ok) c.in_err-output.ensures)
 
 pub recurring_output-returns : goal.recurring_output-returns
 recurring_output-returns t c =
     let p = c.args.context.now.program.now in
     switch_answers p _ c.args.term _ _ c.spot-spot.ensures _ _ _ _ _ _ _ _ c.requires.there
-    (input_wants p _ c.args.term _ _ c.spot-spot.ensures _ _ c.args.pattern c.args.body _ _ c.in_ok-value.ensures.ok _ c.in_ok-clone_in.ensures.same _ _ c.in_ok-same_input.ensures.same c.in_ok-output.ensures)
+    (input_wants p _ c.args.term _ _ c.spot-spot.ensures _ _ c.args.pattern c.args.body _ _ c.in_ok-value.ensures.ok _ c.in_ok-output.ensures)
     c.requires.fits c.body_output.ensures
 
 -- ## Processes
 
-pub keeping_output-returns-in_err-clone_in : goal.keeping_output-returns-in_err-clone_in
-keeping_output-returns-in_err-clone_in t c = memory_answers _ _ c.args.term _ _ c.from_residual.ensures.1
-
 pub keeping_output-returns-in_err-value : goal.keeping_output-returns-in_err-value
 keeping_output-returns-in_err-value t c =
-    err_answers _ _ _ _ _ _ c.from_residual-in_err-value.ensures.1 (part_refused _ _ _ _ _ c.requires.there _ _ _
-    (kept_reached c.args.context.now.program.now _ c.args.term _ _ c.spot-spot.ensures _ _ _ _ _ _ _ c.requires.there _ c.in_ok-clone_in.ensures.same) c.in_err-value.ensures)
+    err_answers _ _ _ _ _ _ c.from_residual.ensures.1 (part_refused _ _ _ _ _ c.requires.there _ _ _ keeping_source c.in_err-value.ensures)
 
 pub keeping_output-returns-in_err-watched : goal.keeping_output-returns-in_err-watched
 keeping_output-returns-in_err-watched t c =
     err_answers _ _ _ _ _ _ c.from_residual-in_err-watched.ensures.1
-    (watched_answers c.args.context.now.program.now _ c.args.term _ _ c.spot-spot.ensures _ _ _ _ _ _ _ c.requires.there _ c.in_ok-clone_in.ensures.same _ c.in_ok-value.ensures _ c.in_err-watched.ensures)
+    (watched_answers c.args.context.now.program.now _ c.args.term _ _ c.spot-spot.ensures _ _ _ _ _ _ _ c.requires.there _ c.in_ok-value.ensures _ c.in_err-watched.ensures)
 
 pub keeping_output-returns-in_err-seen : goal.keeping_output-returns-in_err-seen
 keeping_output-returns-in_err-seen t c =
     err_answers _ _ _ _ _ _ c.from_residual-in_err-seen.ensures.1 (part_refused _ _ _ _ _ c.requires.there _ _ _
-    (observer_reached c.args.context.now.program.now _ c.args.term _ _ c.spot-spot.ensures _ _ _ _ _ _ _ c.requires.there _ c.in_ok-clone_in.ensures.same _ c.in_ok-value.ensures _ c.in_ok-watched.ensures) c.in_err-seen.ensures)
+    (observer_reached c.args.context.now.program.now _ c.args.term _ _ c.spot-spot.ensures _ _ _ _ _ _ _ c.requires.there _ c.in_ok-value.ensures _ c.in_ok-watched.ensures) c.in_err-seen.ensures)
 
 pub keeping_output-returns-in_err-payload : goal.keeping_output-returns-in_err-payload
 keeping_output-returns-in_err-payload t c =
     let wrong = c.in_err-payload.ensures.err in
     err_answers _ _ _ _ _ _ c.from_residual-in_err-payload.ensures.1
-    (observer_answers c.args.context.now.program.now _ c.args.term _ _ c.spot-spot.ensures _ _ _ _ _ _ _ c.requires.there _ c.in_ok-clone_in.ensures.same _ c.in_ok-value.ensures _ c.in_ok-watched.ensures _ c.in_ok-seen.ensures _ wrong.0 wrong.1)
+    (observer_answers c.args.context.now.program.now _ c.args.term _ _ c.spot-spot.ensures _ _ _ _ _ _ _ c.requires.there _ c.in_ok-value.ensures _ c.in_ok-watched.ensures _ c.in_ok-seen.ensures _ wrong.0 wrong.1)
 
 pub keeping_output-returns : goal.keeping_output-returns
 keeping_output-returns t c =
-    keeping_answers c.args.context.now.program.now _ c.args.term _ _ c.spot-spot.ensures _ _ _ _ _ _ _ c.requires.there _ c.in_ok-clone_in.ensures.same _ c.in_ok-value.ensures _ c.in_ok-watched.ensures _ c.in_ok-seen.ensures _ _ _
-    c.in_ok-payload.ensures.ok refl c.requires.fits c.kept_output.ensures
+    keeping_answers c.args.context.now.program.now _ c.args.term _ _ c.spot-spot.ensures _ _ _ _ _ _ _ c.requires.there _ c.in_ok-value.ensures _ c.in_ok-watched.ensures _ c.in_ok-seen.ensures _ _
+    c.in_ok-payload.ensures.ok c.requires.fits c.kept_output.ensures
 
 pub kept_output-returns-in_err-inner : goal.kept_output-returns-in_err-inner
 kept_output-returns-in_err-inner t c =
-    let p = c.args.context.now.program.now in
-    err_body p (keeping_inside p c.args.name c.args.input.now c.args.wanted.now (context_in c.args.context.now)) c.args.spot c.args.pattern c.args.body c.args.input.now c.args.wanted.now c.args.payload.now _ _ c.from_residual-in_err-inner.ensures.1 no_memory
-
-pub kept_output-returns-in_err-same_input : goal.kept_output-returns-in_err-same_input
-kept_output-returns-in_err-same_input t c =
     let p = c.args.context.now.program.now in
     err_body p (keeping_inside p c.args.name c.args.input.now c.args.wanted.now (context_in c.args.context.now)) c.args.spot c.args.pattern c.args.body c.args.input.now c.args.wanted.now c.args.payload.now _ _ c.from_residual.ensures.1 no_memory
 
@@ -258,16 +218,18 @@ pub kept_output-returns : goal.kept_output-returns
 kept_output-returns t c =
     let p = c.args.context.now.program.now in
     let inner = c.in_ok-inner.ensures in
-    subst (λ (a : Kind). AnswersBody p (keeping_inside p c.args.name c.args.input.now c.args.wanted.now (context_in c.args.context.now)) c.args.spot c.args.pattern c.args.body a c.args.wanted.now c.args.payload.now c.body_output.result)
-    c.in_ok-same_input.ensures.same (body_under _ p _ _ _ _ _ _ _ _ _ inner.program inner.context c.body_output.ensures)
+    body_under _ p _ _ _ _ _ _ _ _ _ inner.program inner.context c.body_output-output.ensures
 
 pub output_of-returns-in-Named-Process-default-default : goal.output_of-returns-in-Named-Process-default-default
 output_of-returns-in-Named-Process-default-default t c = c.process_output.ensures
 
-pub output_of-returns-in-Named-Probe-default-default : goal.output_of-returns-in-Named-Probe-default-default
-output_of-returns-in-Named-Probe-default-default t c =
+pub output_of-returns-in_err-clone_in-in-Named-Probe-default-default : goal.output_of-returns-in_err-clone_in-in-Named-Probe-default-default
+output_of-returns-in_err-clone_in-in-Named-Probe-default-default t c = memory_answers _ _ c.args.term _ _ c.from_residual.ensures.1
+
+pub output_of-returns-in_ok-clone_in-in-Named-Probe-default-default : goal.output_of-returns-in_ok-clone_in-in-Named-Probe-default-default
+output_of-returns-in_ok-clone_in-in-Named-Probe-default-default t c =
     let probe = c.in-Named-Probe-default-default in
-    probe_answers c.args.context.now.program.now (context_in c.args.context.now) c.args.term c.args.input _ refl _ _ (named_there _ _ probe.field-0-is (sym probe.ensures.value)) c.requires
+    probe_answers c.args.context.now.program.now (context_in c.args.context.now) c.args.term c.args.input.now _ refl _ _ _ (named_there _ _ probe.field-0-is (sym probe.ensures.value)) c.requires c.in_ok-clone_in-in-Named-Probe-default-default.ensures.same
 
 -- ## An argument of a call
 
@@ -275,13 +237,10 @@ pub argument_fits-returns-in_err-given-in-Value-default : goal.argument_fits-ret
 argument_fits-returns-in_err-given-in-Value-default t c =
     err_argument _ _ _ _ _ _ _ c.from_residual.ensures.1 (value_refused _ _ _ _ _ _ c.in-Value-default.is-0 _ c.in_err-given-in-Value-default.ensures)
 
-pub argument_fits-returns-in_err-clone_in-in-Process-Process : goal.argument_fits-returns-in_err-clone_in-in-Process-Process
-argument_fits-returns-in_err-clone_in-in-Process-Process t c = memory_argument _ _ _ _ _ _ c.from_residual-in_err-clone_in-in-Process-Process.ensures.1
-
 pub argument_fits-returns-in_err-given-in-Process-Process : goal.argument_fits-returns-in_err-given-in-Process-Process
 argument_fits-returns-in_err-given-in-Process-Process t c =
     err_argument _ _ _ _ _ _ _ c.from_residual-in_err-given-in-Process-Process.ensures.1
-    (term_stops _ _ _ _ _ _ c.in-Process-Process.is-0 _ _ (ap kind_of_form c.in-Process-Process.is-1) _ c.in_ok-clone_in-in-Process-Process.ensures.same _ c.in_err-given-in-Process-Process.ensures)
+    (term_stops _ _ _ _ _ _ c.in-Process-Process.is-0 _ _ (ap kind_of_form c.in-Process-Process.is-1) _ c.in_err-given-in-Process-Process.ensures)
 
 pub argument_fits-returns-in_ok-given-in-Value-default : goal.argument_fits-returns-in_ok-given-in-Value-default
 argument_fits-returns-in_ok-given-in-Value-default t c =
@@ -293,7 +252,7 @@ argument_fits-returns-in-Process-Value t c =
 
 pub argument_fits-returns-in_ok-given-in-Process-Process : goal.argument_fits-returns-in_ok-given-in-Process-Process
 argument_fits-returns-in_ok-given-in-Process-Process t c =
-    process_answers _ _ (term_spot_at (program_in c.args.context.now) c.args.term) _ _ _ c.in-Process-Process.is-0 _ _ (ap kind_of_form c.in-Process-Process.is-1) _ c.in_ok-clone_in-in-Process-Process.ensures.same _ _ c.in_ok-given-in-Process-Process.ensures c.same_type.ensures
+    process_answers _ _ (term_spot_at (program_in c.args.context.now) c.args.term) _ _ _ c.in-Process-Process.is-0 _ _ (ap kind_of_form c.in-Process-Process.is-1) _ _ c.in_ok-given-in-Process-Process.ensures c.same_type.ensures
 
 -- ## A call
 

@@ -9,10 +9,7 @@ use Rattle.sf_check.proofs.Terms.{answers_under, template_refused, header_refuse
 use Rattle.sf_check.proofs.typing.check_template.Goals as goal
 
 pub returns-in_err-context-clause-err : goal.returns-in_err-context-clause-err
-returns-in_err-context-clause-err c = memory_on _ _ c.from_residual-in_err-context.ensures.1
-
-pub returns-in_err-input-clause-err : goal.returns-in_err-input-clause-err
-returns-in_err-input-clause-err c = memory_on _ _ c.from_residual.ensures.1
+returns-in_err-context-clause-err c = memory_on _ _ c.from_residual.ensures.1
 
 pub returns-in_err-output-clause-err : goal.returns-in_err-output-clause-err
 returns-in_err-output-clause-err c =
@@ -20,12 +17,12 @@ returns-in_err-output-clause-err c =
     let fs = signatures_in c.args.functions.now in
     let under = c.in_ok-context.ensures.context ∙ ap (λ (qs : List PlacedParameter). context_of fs (parameters_of qs) (templates_of p)) c.parameters.ensures in
     let e = err_from_is_err_and c.from_residual-in_err-output.result c.from_residual-in_err-output.ensures.1 in
-    rw (e.1, e.2) (template_refused fs p c.args.template.now c.body.result _ _ c.body.ensures (c.in_ok-input.ensures.same ∙ c.input.ensures) (answers_under _ p _ _ _ _ (Err _) c.in_ok-context.ensures.program under c.in_err-output.ensures))
+    rw (e.1, e.2) (template_refused fs p c.args.template.now c.body.result _ _ c.body.ensures c.input-input.ensures (answers_under _ p _ _ _ _ (Err _) c.in_ok-context.ensures.program under c.in_err-output.ensures))
 
 pub returns-clause-err : goal.returns-clause-err
 returns-clause-err c =
     let p = c.args.program.now in
     let fs = signatures_in c.args.functions.now in
     let under = c.in_ok-context.ensures.context ∙ ap (λ (qs : List PlacedParameter). context_of fs (parameters_of qs) (templates_of p)) c.parameters.ensures in
-    header_refused fs p c.args.template.now c.body.result c.spot.result _ _ _ _ c.body.ensures (c.spot.ensures ∙ ap (term_spot_at p) (c.body-else-same_type.ensures ∙ sym c.body.ensures)) (c.in_ok-input.ensures.same ∙ c.input.ensures) c.output-2.ensures
+    header_refused fs p c.args.template.now c.body.result c.spot.result _ _ _ _ c.body.ensures (c.spot.ensures ∙ ap (term_spot_at p) (c.body-else-same_type.ensures ∙ sym c.body.ensures)) c.input-input.ensures c.output-2.ensures
     (answers_under _ p _ _ _ _ (Ok _) c.in_ok-context.ensures.program under c.in_ok-output.ensures) (λ e. true≢false (sym (c.if-same_type.ensures.1 e))) c.broken.ensures
