@@ -4,7 +4,6 @@ ghost use Rattle.std.specs.List.{AllZip};
 ghost use Rattle.sf_expr.specs.Arena.{function_at, placed_at, HoldsPattern, Keeps};
 ghost use Rattle.sf_expr.specs.Patterns.{placed_name};
 ghost use Rattle.sf_term.specs.Arena.{expressions_of as program_expressions, headers_of as program_headers};
-ghost use Rattle.sf_term.specs.ParameterView.{kind_of_form};
 ghost use Rattle.sf_term.specs.declared.node.Node.TheVariants.{Call as call_node, Named as named_node};
 ghost use Rattle.sf_code.specs.Worth.{IsCodeOfFunction};
 ghost use Rattle.sf_refusal.specs.declared.spot.Spot.{Spot};
@@ -21,8 +20,7 @@ use sf_check::Checked;
 use sf_code::{Code, expression_code, function_code};
 use sf_expr::{Exprs, FunctionId, NameId, Pat, PatternId};
 use sf_term::{
-    Argument, ArgumentsId, Naming, Node, Parameter, ParameterForm, Primitive, Program, Start,
-    Template, TermId,
+    Argument, ArgumentsId, Naming, Node, Parameter, Primitive, Program, Start, Template, TermId,
 };
 use std::alloc::{AllocError, Global};
 use std::rc::Rc;
@@ -95,7 +93,7 @@ fn plan_parameter(
 {
     let name = expressions.name(String::from_str(alloc, parameter.name())?)?;
     let pattern = parameter_pattern(alloc, expressions, parameter)?;
-    let form = parameter_form(alloc, parameter.form())?;
+    let form = parameter.form().clone_in(alloc)?;
     Ok(PlanParameter::new(name, pattern, form))
 }
 
@@ -113,20 +111,6 @@ fn parameter_pattern(
     match expressions.pattern_in(pattern) {
         Ok(pattern) => Ok(pattern),
         Err(_) => Err(AllocError),
-    }
-}
-
-// A copy of what a parameter stands for.
-fn parameter_form(alloc: Global, form: &ParameterForm) -> Result<ParameterForm, AllocError>
-    ensures { IfOk result (λ copy. kind_of_form copy ≡ kind_of_form form.now) }
-{
-    match form {
-        ParameterForm::Value(ty) => Ok(ParameterForm::Value(ty.clone_in(alloc)?)),
-        ParameterForm::Process(from, to) => {
-            let from = from.clone_in(alloc)?;
-            let to = to.clone_in(alloc)?;
-            Ok(ParameterForm::Process(from, to))
-        }
     }
 }
 

@@ -11,13 +11,12 @@ ghost use Rattle.sf_state.specs.Standing.{IsNames, IsProcess, Stands};
 ghost use Rattle.sf_step.specs.Contexts.{plan_in};
 ghost use Rattle.sf_step.specs.Sampling.{Makes};
 
-use crate::context::{SampleContext, fault_of};
+use crate::context::{SampleContext, constant_in, fault_of};
 use sf_code::Code;
 use sf_expr::{ExprId, NameId};
 use sf_func::Holds;
 use sf_law::{Plan, PlanArgument, PlanId, PlanParameter, PlanTemplate};
-use sf_prim::constant;
-use sf_state::{Env, NamesIn, Process, State};
+use sf_state::{Env, Process, State};
 use sf_term::Start;
 use sf_value::Fault;
 use std::alloc::{AllocError, Global};
@@ -128,19 +127,7 @@ fn bind_value<R: Holds>(
         Makes (IsNames (R.answers context.now.functions.now) (plan_in context.now))
         (argued (R.answers context.now.functions.now) (plan_binding (plan_in context.now) parameter.now ∷ []) (plan_arguments (plan_in context.now) (arguments.Value value code.now ∷ [])) e d) result }
 {
-    let exprs = context.plan.expressions();
-    let around = NamesIn {
-        expressions: exprs,
-        names,
-    };
-    match constant(
-        context.alloc,
-        exprs,
-        value,
-        code,
-        context.functions,
-        &around,
-    ) {
+    match constant_in(context, value, code, names) {
         Ok(value) => {
             let shared = Rc::new(context.alloc, value)?;
             Ok(bound.inside(context.alloc, parameter.pattern(), shared)?)
@@ -162,8 +149,8 @@ fn bind_started<R: Holds>(
         Makes (IsNames (R.answers context.now.functions.now) (plan_in context.now))
         (argued (R.answers context.now.functions.now) (plan_binding (plan_in context.now) parameter.now ∷ []) (plan_arguments (plan_in context.now) (arguments.Started start name ∷ [])) e d) result }
 {
-    let process = started(context.alloc, context.plan, names, start, name)?;
     let base = began(context.plan, names, name)?;
+    let process = started(context.alloc, context.plan, names, start, name)?;
     Ok(bound.with_process(context.alloc, parameter.name(), process, base)?)
 }
 

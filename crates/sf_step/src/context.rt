@@ -1,10 +1,23 @@
 //! What the parts of a sample share.
 ghost use Rattle.std.specs.Prelude.{◌≡◌};
+ghost use Rattle.sf_expr.specs.Arena.{expression};
+ghost use Rattle.sf_expr.specs.Evaluation.{eval};
+ghost use Rattle.sf_code.specs.Names.{scope_with};
+ghost use Rattle.sf_operator.specs.Answers.{Evaluates};
+ghost use Rattle.sf_law.specs.Arena.{plan_expressions};
+ghost use Rattle.sf_law.specs.Entries.{IsCodedExpression};
+ghost use Rattle.sf_state.specs.Names.{values_around};
+ghost use Rattle.sf_step.specs.Contexts.{plan_in};
 ghost use Rattle.sf_step.specs.Sampling.{fault_from};
 
+use sf_code::Code;
+use sf_expr::ExprId;
+use sf_func::Holds;
 use sf_law::Plan;
 use sf_operator::EvalFault;
-use sf_value::Fault;
+use sf_prim::constant;
+use sf_state::{Env, NamesIn};
+use sf_value::{Fault, Value};
 use std::alloc::Global;
 
 /// What each part of one sample is stepped with.
@@ -16,6 +29,22 @@ pub(crate) struct SampleContext<'a, R> {
     pub(crate) functions: &'a R,
     /// Milliseconds since the sample before.
     pub(crate) dt: u64,
+}
+
+/// The value of a constant with these names around it, or the first fault of its operations.
+pub(crate) fn constant_in<R: Holds>(
+    context: &SampleContext<R>,
+    value: ExprId,
+    code: &Option<Code>,
+    names: &Env,
+) -> Result<Value, EvalFault>
+    ensures { let exprs = plan_expressions (plan_in context.now) in IsCodedExpression exprs value code.now →
+        Evaluates result (eval (expression exprs value) (scope_with (values_around exprs names.now) (R.answers context.now.functions.now))) }
+{
+    let expressions = context.plan.expressions();
+    let around = NamesIn { expressions, names };
+    let functions = context.functions;
+    constant(context.alloc, expressions, value, code, functions, &around)
 }
 
 /// The fault of an expression, as that of the sample.

@@ -18,7 +18,7 @@ ghost use Rattle.sf_step.specs.Sampling.{Opens, BeginsAs, AllBegin, StateSteps, 
 ghost use Rattle.sf_step.specs.Stepping.{Steps};
 
 use crate::calling::{called, started};
-use crate::context::{SampleContext, fault_of};
+use crate::context::{SampleContext, constant_in, fault_of};
 use crate::meter::{Meter, Stop};
 use crate::routing::{
     feed_back, halves, on_side, payload_of, put_first, switched, take_over, unshare_half,
@@ -28,7 +28,7 @@ use sf_code::Code;
 use sf_expr::{ExprId, NameId, PatternId};
 use sf_func::Holds;
 use sf_law::{Plan, PlanId, PlanNode};
-use sf_prim::{PrimState, constant};
+use sf_prim::PrimState;
 use sf_state::{
     Env, Feedback, Keeping, Live, NamesIn, Process, State, Switch, Wrap, unshare, unshare_keeping,
     unshare_switch,
@@ -862,19 +862,7 @@ fn headed<R: Holds>(
         IsNames (R.answers context.now.functions.now) p names.now e →
         Opens (R.answers context.now.functions.now) p (headed_term heading (plan_expression_at p value) (plan_tree p part)) e result }
 {
-    let exprs = context.plan.expressions();
-    let around = NamesIn {
-        expressions: exprs,
-        names,
-    };
-    match constant(
-        context.alloc,
-        exprs,
-        value,
-        code,
-        context.functions,
-        &around,
-    ) {
+    match constant_in(context, value, code, names) {
         Ok(head) => {
             let wrap = with_head(context.alloc, heading, head)?;
             wrapped(wrap, part, names)

@@ -9,11 +9,11 @@ use Rattle.sf_step.specs.Sampling.{makes_nothing}
 use Rattle.sf_step.proofs.Arguments.{made_failure, started_bound}
 use Rattle.sf_step.proofs.calling.bind_started.Goals as goal
 
-pub returns-in_err-process : goal.returns-in_err-process
-returns-in_err-process g c = λ e d N M. made_failure _ _ _ Memory c.from_residual.ensures.1 makes_nothing
-
 pub returns-in_err-base : goal.returns-in_err-base
-returns-in_err-base g c = λ e d N M. made_failure _ _ _ Memory c.from_residual-in_err-base.ensures.1 makes_nothing
+returns-in_err-base g c = λ e d N M. made_failure _ _ _ Memory c.from_residual.ensures.1 makes_nothing
+
+pub returns-in_err-process : goal.returns-in_err-process
+returns-in_err-process g c = λ e d N M. made_failure _ _ _ Memory c.from_residual-in_err-process.ensures.1 makes_nothing
 
 pub returns-in_err-with_process : goal.returns-in_err-with_process
 returns-in_err-with_process g c = λ e d N M. made_failure _ _ _ Memory c.from_residual-in_err-with_process.ensures.1 makes_nothing

@@ -14,11 +14,11 @@ returns-in-Err g c =
     let φ = g.R.Holds.answers c.args.context.now.functions.now in
     let p = c.args.context.now.plan.now in
     (rw c.fault_of.ensures (value_fails φ p c.args.parameter.now c.args.names.now c.args.bound.now c.args.value c.args.code.now c.in-Err.fault
-    ((rw c.expressions-exprs.ensures at c.in-Err.ensures) c.requires.coded)))
+    (c.in-Err.ensures c.requires.coded)))
 
 pub returns-in_ok-inside-in-Ok : goal.returns-in_ok-inside-in-Ok
 returns-in_ok-inside-in-Ok g c =
     let φ = g.R.Holds.answers c.args.context.now.functions.now in
     let p = c.args.context.now.plan.now in
     (value_bound φ p c.args.parameter.now c.args.names.now c.args.bound.now c.args.value c.args.code.now c.in_ok-inside-in-Ok.field-0 c.in-Ok.value c.in_ok-shared-in-Ok.shared.value c.requires.bound
-    ((rw c.expressions-exprs.ensures at c.in-Ok.ensures) c.requires.coded) c.in_ok-shared-in-Ok.ensures.ok (λ d M. rw c.pattern.ensures at (c.in_ok-inside-in-Ok.ensures φ p d M)))
+    (c.in-Ok.ensures c.requires.coded) c.in_ok-shared-in-Ok.ensures.ok (λ d M. rw c.pattern.ensures at (c.in_ok-inside-in-Ok.ensures φ p d M)))
