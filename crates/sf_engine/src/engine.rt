@@ -117,12 +117,13 @@ impl<F: Holds> Engine<F> {
         ensures runs { IfOk result (λ e. Runs e (network_of (F.answers functions) (program_of checked)) (checked_main checked) [] []) }
         ensures handed_back { IfErr result (λ back. (back.0 ≡ checked) × (back.1 ≡ functions)) }
     {
-        let Ok(plan) = planned(alloc, &checked, mode) else {
-            return Err((checked, functions));
-        };
         let Ok(input) = checked.input().clone_in(alloc) else {
             return Err((checked, functions));
         };
+        let Ok(plan) = planned(alloc, &checked, mode) else {
+            return Err((checked, functions));
+        };
+        drop(checked);
         let state = State::unborn(plan.main());
         Ok(Engine {
             alloc,

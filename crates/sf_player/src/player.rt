@@ -46,7 +46,10 @@ impl<F: Holds + Drop> Player<F> {
         ensures { IfOk result (λ p. (n : Network) (m : Template) → Runs engine n m [] []
             → Played probes n m [] [] p × (p.out.items ≡ [])) }
     {
-        let cutter = Cutter::new(alloc)?;
+        let Ok(cutter) = Cutter::new(alloc) else {
+            drop(engine);
+            return Err(AllocError);
+        };
         Ok(Player {
             alloc,
             cutter,
@@ -120,12 +123,12 @@ impl<F: Holds + Drop> Player<F> {
             }
             Ok(Command::Start(value)) => {
                 let sampled = self.engine.first_sample(value);
-                self.say(0, sampled)
+                self.say(0, &sampled)
             }
             Ok(Command::Step { dt, input }) => {
                 let time = self.engine.time() + dt;
                 let sampled = self.engine.next_sample(dt, input);
-                self.say(time, sampled)
+                self.say(time, &sampled)
             }
             Ok(Command::Save(name)) => match self.engine.save(name) {
                 Ok(()) => {
@@ -147,23 +150,23 @@ impl<F: Holds + Drop> Player<F> {
 
     /// Gathers the lines of a sample at a time.
     #[inline(always)]
-    fn say(&mut self, sample_time: u64, sampled: Result<Sample, Fault>) -> Option<Stop>
+    fn say(&mut self, sample_time: u64, sampled: &Result<Sample, Fault>) -> Option<Stop>
         requires { self.old.taken < 1000000 }
         ensures { (n : Network) (m : Template) (now : Moment) (line : List ℕ) (a : Asked)
             → Asks n m now line a → IsSample a
-            → Sampled n m (life_after a now.lived) now.saved sampled self.old.engine
+            → Sampled n m (life_after a now.lived) now.saved sampled.now self.old.engine
             → sample_time ≡ time (life_after a now.lived) → sample_time ≤ 3600000 * (now.taken + 1)
             → SavesLastAtMost now.taken now.saved → self.old.taken ≡ now.taken → self.old.probes ≡ now.probes → PlaysLine n m now line self.old result self.new }
     {
         match sampled {
-            Ok(sample) => match gather(self.probes, &sample, &mut self.out) {
+            Ok(sample) => match gather(self.probes, sample, &mut self.out) {
                 Ok(()) => {
                     self.taken += 1;
                     None
                 }
                 Err(_) => Some(Stop::Faulted(sample_time, Fault::Memory)),
             },
-            Err(fault) => Some(Stop::Faulted(sample_time, fault)),
+            Err(fault) => Some(Stop::Faulted(sample_time, *fault)),
         }
     }
 

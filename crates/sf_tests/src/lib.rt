@@ -9,6 +9,8 @@ mod calling;
 #[cfg(test)]
 mod library;
 #[cfg(test)]
+mod networks;
+#[cfg(test)]
 mod playing;
 #[cfg(test)]
 mod probing;

@@ -1,38 +1,36 @@
 //! What probes record, as a caller of the library takes it: each call once.
-use sf_check::{Checked, check};
-use sf_engine::{Engine, Mode};
+use crate::networks::{checked, running};
+use sf_check::Checked;
+use sf_engine::Engine;
 use sf_func::{Holds, Registry};
 use sf_probe::{Latest, Reading, Readings, Watch};
-use sf_text::read_network;
 use sf_value::{Value, same};
 use std::alloc::Global;
 use std::test::Fail;
 
-const AREA: &[u8] =
+/// A speed and the place that it leads to.
+const PLACE: &[u8] =
     b"network 1;\ntemplate main(): Int ~> Int = (probe speed >>> (integral >>> probe place));\n";
 
-/// The network of a speed and the place that it leads to.
-fn checked(alloc: Global, functions: &Registry) -> Result<Checked, Fail> {
-    match check(alloc, read_network(alloc, AREA)?, functions) {
-        Ok(checked) => Ok(checked),
-        Err(_) => Err(Fail::new("refused")),
-    }
-}
-
 /// What was last read at a start with 1 and a step of 10 to 2, and what was read at the step.
-fn read<F: Holds + Drop>(
-    alloc: Global,
-    checked: Checked,
-    functions: F,
-) -> Result<(Latest, Readings), Fail> {
-    let Ok(mut engine) = Engine::new(alloc, checked, functions, Mode::Plain) else {
-        return Err(Fail::new("no memory"));
-    };
+fn readings<F: Holds>(alloc: Global, engine: &mut Engine<F>) -> Result<(Latest, Readings), Fail> {
     let mut latest = Latest::new(alloc);
     latest.note(&engine.start(Value::int(1))?.readings)?;
     let second = engine.step(10, Some(Value::int(2)))?;
     latest.note(&second.readings)?;
     Ok((latest, second.readings))
+}
+
+/// The same of an engine of a network.
+fn read<F: Holds + Drop>(
+    alloc: Global,
+    checked: Checked,
+    functions: F,
+) -> Result<(Latest, Readings), Fail> {
+    let mut engine = running(alloc, checked, functions)?;
+    let read = readings(alloc, &mut engine);
+    drop(engine);
+    read
 }
 
 fn is_last(latest: &Latest, name: &str, number: i64) -> bool {
@@ -53,7 +51,7 @@ fn is_reading(reading: Option<&Reading>, name: &str, number: i64) -> bool {
 fn the_last_readings_are_kept(rt: HostRuntime) -> Result<(), Fail> {
     let alloc = rt.alloc();
     let functions = Registry::new(alloc);
-    let network = checked(alloc, &functions)?;
+    let network = checked(alloc, PLACE, &functions)?;
     let (latest, readings) = read(alloc, network, functions)?;
     assert!(rt; is_last(&latest, "speed", 2));
     assert!(rt; is_last(&latest, "place", 10));

@@ -2,49 +2,37 @@
 ghost use Rattle.std.specs.Prelude.{◌≡◌, ◌↔◌, IsTrue};
 ghost use Rattle.sf_value.specs.Values.{number};
 
-use sf_check::{Checked, check};
-use sf_engine::{Actuator, Embedded, Engine, EngineError, Mode, React, Sample};
+use crate::networks::{AREA, DELAY, Told, checked, running, told};
+use sf_check::Checked;
+use sf_engine::{Actuator, Embedded, Engine, EngineError, React, Sample};
 use sf_func::{Holds, Registry};
-use sf_text::read_network;
-use sf_value::{Form, Value, same};
+use sf_value::{Form, Value};
 use std::alloc::Global;
 use std::test::Fail;
 
-const DELAY: &[u8] = b"network 1;\ntemplate main(): Int ~> Int = iPre 7;\n";
-
-const AREA: &[u8] = b"network 1;\ntemplate main(): Int ~> Int = integral;\n";
-
-/// A network that was checked.
-fn checked(alloc: Global, network: &[u8], functions: &Registry) -> Result<Checked, Fail> {
-    let program = read_network(alloc, network)?;
-    match check(alloc, program, functions) {
-        Ok(checked) => Ok(checked),
-        Err(_) => Err(Fail::new("refused")),
-    }
-}
-
-fn is_sample(sample: &Sample, time: u64, number: i64) -> bool {
-    sample.time == time && same(&sample.value, &Value::int(number))
-}
-
 /// What an engine gives 5 behind a save at 10, what it gives 7 behind it after a return, and again 5 behind it.
+fn returns<F: Holds>(engine: &mut Engine<F>) -> Result<(Told, Told, Told), Fail> {
+    drop(engine.start(Value::int(1))?);
+    drop(engine.step(10, Some(Value::int(2)))?);
+    engine.save("a")?;
+    let first = told(&engine.step(5, Some(Value::int(3)))?);
+    engine.back("a")?;
+    let second = told(&engine.step(7, None)?);
+    engine.back("a")?;
+    let third = told(&engine.step(5, None)?);
+    Ok((first, second, third))
+}
+
+/// The same of an engine of a network.
 fn returned<F: Holds + Drop>(
     alloc: Global,
     checked: Checked,
     functions: F,
-) -> Result<(Sample, Sample, Sample), Fail> {
-    let Ok(mut engine) = Engine::new(alloc, checked, functions, Mode::Plain) else {
-        return Err(Fail::new("no memory"));
-    };
-    drop(engine.start(Value::int(1))?);
-    drop(engine.step(10, Some(Value::int(2)))?);
-    engine.save("a")?;
-    let first = engine.step(5, Some(Value::int(3)))?;
-    engine.back("a")?;
-    let second = engine.step(7, None)?;
-    engine.back("a")?;
-    let third = engine.step(5, None)?;
-    Ok((first, second, third))
+) -> Result<(Told, Told, Told), Fail> {
+    let mut engine = running(alloc, checked, functions)?;
+    let told = returns(&mut engine);
+    drop(engine);
+    told
 }
 
 #[test]
@@ -53,26 +41,32 @@ fn an_engine_returns_to_what_it_kept(rt: HostRuntime) -> Result<(), Fail> {
     let functions = Registry::new(alloc);
     let network = checked(alloc, AREA, &functions)?;
     let (first, second, third) = returned(alloc, network, functions)?;
-    assert!(rt; is_sample(&first, 15, 20));
-    assert!(rt; is_sample(&second, 17, 24));
-    assert!(rt; is_sample(&third, 15, 20));
+    assert_eq!(rt;
+        (first, second, third),
+        ((15, Some(20)), (17, Some(24)), (15, Some(20)))
+    );
     Ok(())
 }
 
 /// What an engine gives on a start with 1, a step of 16 to 2, one of 0, which is refused, and another one.
-fn embedded<F: Holds + Drop>(
-    alloc: Global,
-    checked: Checked,
-    functions: F,
-) -> Result<Embedded, Fail> {
-    let Ok(mut engine) = Engine::new(alloc, checked, functions, Mode::Plain) else {
-        return Err(Fail::new("no memory"));
-    };
+fn embeds<F: Holds>(alloc: Global, engine: &mut Engine<F>) -> Result<Embedded, Fail> {
     let mut steps = Vec::new(alloc);
     steps.push((16, Some(Value::int(2))))?;
     steps.push((0, None))?;
     steps.push((16, None))?;
     Ok(engine.embed(Value::int(1), steps)?)
+}
+
+/// The same of an engine of a network.
+fn embedded<F: Holds + Drop>(
+    alloc: Global,
+    checked: Checked,
+    functions: F,
+) -> Result<Embedded, Fail> {
+    let mut engine = running(alloc, checked, functions)?;
+    let run = embeds(alloc, &mut engine);
+    drop(engine);
+    run
 }
 
 #[test]
@@ -84,7 +78,7 @@ fn a_list_of_steps_ends_at_the_first_error(rt: HostRuntime) -> Result<(), Fail> 
     assert_eq!(rt; run.ended, Some(EngineError::BadStep));
     assert_eq!(rt; run.samples.len(), 2);
     for (sample, (time, number)) in run.samples.iter().zip([(0, 7), (16, 1)]) {
-        assert!(rt; is_sample(sample, time, number));
+        assert_eq!(rt; told(sample), (time, Some(number)));
     }
     Ok(())
 }
@@ -107,21 +101,28 @@ impl Actuator for EndsAt {
 }
 
 /// What an engine with an actuator answers to a step before its start, to a start with 1, and to steps to 2 and 3.
+fn reacts<F: Holds, A: Actuator>(
+    react: &mut React<F, A>,
+) -> Result<(Option<EngineError>, bool, bool, bool), Fail> {
+    let early = react.react(16, None).err();
+    let first = react.react_init(Value::int(1))?;
+    let second = react.react(16, Some(Value::int(2)))?;
+    let third = react.react(16, Some(Value::int(3)))?;
+    Ok((early, first, second, third))
+}
+
+/// The same of an engine of a network.
 fn reacted<F: Holds + Drop, A: Actuator>(
     alloc: Global,
     checked: Checked,
     functions: F,
     actuator: A,
 ) -> Result<(Option<EngineError>, bool, bool, bool), Fail> {
-    let Ok(engine) = Engine::new(alloc, checked, functions, Mode::Plain) else {
-        return Err(Fail::new("no memory"));
-    };
+    let engine = running(alloc, checked, functions)?;
     let mut react = React::new(engine, actuator);
-    let early = react.react(16, None).err();
-    let first = react.react_init(Value::int(1))?;
-    let second = react.react(16, Some(Value::int(2)))?;
-    let third = react.react(16, Some(Value::int(3)))?;
-    Ok((early, first, second, third))
+    let told = reacts(&mut react);
+    drop(react);
+    told
 }
 
 #[test]

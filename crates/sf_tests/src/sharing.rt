@@ -1,10 +1,9 @@
 //! What states and values share, which no clause speaks of. The test holds whichever allocation fails.
-use sf_check::{Checked, check};
+use crate::networks::checked;
 use sf_func::Registry;
 use sf_law::{Plan, plain};
 use sf_state::State;
 use sf_step::{Meter, step};
-use sf_text::read_network;
 use sf_value::{Fault, Form, Key, Value, same};
 use std::alloc::Global;
 use std::rc::Rc;
@@ -23,15 +22,6 @@ const RECURRING: &[u8] =
 /// The same, where what gives the event sees the delay from outside, and the delay is frozen.
 const KEEPING: &[u8] =
     b"network 1;\ntemplate main(): Int ~> Int = kSwitch((iPre 7 >>> identity), after 2000 (), kept, _ => iPre 8);\n";
-
-/// A network that was checked.
-fn checked(alloc: Global, network: &[u8], functions: &Registry) -> Result<Checked, Fail> {
-    let program = read_network(alloc, network)?;
-    match check(alloc, program, functions) {
-        Ok(checked) => Ok(checked),
-        Err(_) => Err(Fail::new("refused")),
-    }
-}
 
 /// How many owners a state's node has.
 fn owners(state: &State) -> usize {
@@ -53,69 +43,7 @@ fn source_owners(state: &State) -> usize {
     }
 }
 
-/// What a network gives at its second sample, and what it then gives when it goes on from the first, where it was shared;
-/// and the owners of its source's node, and of the shared node before and after. The input is 5 each time.
-fn gives_again(
-    alloc: Global,
-    checked: &Checked,
-    functions: &Registry,
-) -> Result<
-    (
-        Result<Value, Fault>,
-        Result<Value, Fault>,
-        (usize, usize, usize),
-    ),
-    Fail,
-> {
-    let plan = plain(alloc, checked)?;
-    let mut state = State::unborn(plan.main());
-    let mut meter = Meter::new(alloc);
-    drop(step(
-        alloc,
-        &mut state,
-        &plan,
-        functions,
-        0,
-        Value::int(5),
-        &mut meter,
-    )?);
-    let source = source_owners(&state);
-    let mut shared = state.share(alloc)?;
-    let before = owners(&shared);
-    let running = step(
-        alloc,
-        &mut state,
-        &plan,
-        functions,
-        1000,
-        Value::int(5),
-        &mut meter,
-    );
-    if running.is_ok() {
-        drop(step(
-            alloc,
-            &mut state,
-            &plan,
-            functions,
-            1000,
-            Value::int(5),
-            &mut meter,
-        ));
-    }
-    let after = owners(&shared);
-    let resumed = step(
-        alloc,
-        &mut shared,
-        &plan,
-        functions,
-        1000,
-        Value::int(5),
-        &mut meter,
-    );
-    Ok((running, resumed, (source, before, after)))
-}
-
-/// What a state gives at its next sample, where the input is 5.
+/// What a state gives at its next sample, 1,000 milliseconds after the one before, where the input is 5.
 fn given(
     alloc: Global,
     state: &mut State,
@@ -132,6 +60,85 @@ fn given(
         Value::int(5),
         &mut meter,
     )
+}
+
+/// What a network gives at its second sample, and again where it goes on from the first, at which it was shared.
+#[derive(Drop)]
+struct Again {
+    running: Result<Value, Fault>,
+    resumed: Result<Value, Fault>,
+    /// The owners of its source's node, and of the shared node before and after the second sample.
+    owners: (usize, usize, usize),
+}
+
+/// What a state before its first sample gives and then gives again.
+fn gives_again(
+    alloc: Global,
+    state: &mut State,
+    plan: &Plan,
+    functions: &Registry,
+) -> Result<Again, Fail> {
+    drop(given(alloc, state, plan, functions)?);
+    let source = source_owners(state);
+    let mut shared = state.share(alloc)?;
+    let before = owners(&shared);
+    let running = given(alloc, state, plan, functions);
+    if running.is_ok() {
+        drop(given(alloc, state, plan, functions));
+    }
+    let after = owners(&shared);
+    let resumed = given(alloc, &mut shared, plan, functions);
+    Ok(Again {
+        running,
+        resumed,
+        owners: (source, before, after),
+    })
+}
+
+/// The same of a network that calls no function.
+fn network_gives_again(alloc: Global, network: &[u8]) -> Result<Again, Fail> {
+    let functions = Registry::new(alloc);
+    let plan = planned(alloc, network, &functions)?;
+    let mut state = State::unborn(plan.main());
+    let again = gives_again(alloc, &mut state, &plan, &functions);
+    drop(plan);
+    again
+}
+
+/// The plan of a network.
+fn planned(alloc: Global, network: &[u8], functions: &Registry) -> Result<Plan, Fail> {
+    let checked = checked(alloc, network, functions)?;
+    let plan = plain(alloc, &checked);
+    drop(checked);
+    Ok(plan?)
+}
+
+/// Whether a state that is renewed before each of three samples goes on as the running one.
+fn renewed_goes_on(alloc: Global, plan: &Plan, functions: &Registry) -> Result<bool, Fail> {
+    let mut running = State::unborn(plan.main());
+    let mut renewed = State::unborn(plan.main());
+    // at the third sample its nodes are its own, and are used again
+    for number in [8, 7, 5] {
+        if !renewed_gives(alloc, &mut renewed, &mut running, plan, functions, number)? {
+            return Ok(false);
+        }
+    }
+    Ok(true)
+}
+
+/// Whether a state that was renewed from a running one and this one give the same number at their next samples.
+fn renewed_gives(
+    alloc: Global,
+    renewed: &mut State,
+    running: &mut State,
+    plan: &Plan,
+    functions: &Registry,
+    number: i64,
+) -> Result<bool, Fail> {
+    renewed.renew(alloc, running)?;
+    let one = given(alloc, renewed, plan, functions)?;
+    let other = given(alloc, running, plan, functions)?;
+    Ok(same(&one, &Value::int(number)) && same(&other, &Value::int(number)))
 }
 
 /// Whether a sample gave this number, or there was no memory.
@@ -162,32 +169,23 @@ fn table_owners(value: &Value) -> usize {
 fn a_renewed_state_goes_on_by_itself(rt: HostRuntime) -> Result<(), Fail> {
     let alloc = rt.alloc();
     let functions = Registry::new(alloc);
-    let checked = checked(alloc, DELAYS, &functions)?;
-    let plan = plain(alloc, &checked)?;
-    let mut state = State::unborn(plan.main());
-    let mut other = State::unborn(plan.main());
-    // at the third sample its nodes are its own, and are used again
-    for number in [8, 7, 5] {
-        other.renew(alloc, &state)?;
-        let renewed = given(alloc, &mut other, &plan, &functions)?;
-        let running = given(alloc, &mut state, &plan, &functions)?;
-        assert!(rt; same(&renewed, &Value::int(number)) && same(&running, &Value::int(number)));
-    }
+    let plan = planned(alloc, DELAYS, &functions)?;
+    let goes_on = renewed_goes_on(alloc, &plan, &functions);
+    drop(plan);
+    assert!(rt; goes_on?);
     Ok(())
 }
 
 #[test]
 fn a_shared_state_and_a_copy_share(rt: HostRuntime) -> Result<(), Fail> {
     let alloc = rt.alloc();
-    let functions = Registry::new(alloc);
     // The first gives 8, 7, 5, the others 7, 5, 8. A step that is refused for want of memory leaves the shared state as it
     // was. After a sample without an event a source that was held back has nodes of its own.
     for (network, second) in [(DELAYS, 7), (SWITCH, 5), (RECURRING, 5), (KEEPING, 5)] {
-        let checked = checked(alloc, network, &functions)?;
-        let (running, resumed, owners) = gives_again(alloc, &checked, &functions)?;
-        assert!(rt; is_or_refused(&running, second) && is_or_refused(&resumed, second));
-        assert!(rt; running.is_ok() || resumed.is_ok());
-        assert!(rt; running.is_err() || owners == (1, 2, 1));
+        let again = network_gives_again(alloc, network)?;
+        assert!(rt; is_or_refused(&again.running, second) && is_or_refused(&again.resumed, second));
+        assert!(rt; again.running.is_ok() || again.resumed.is_ok());
+        assert!(rt; again.running.is_err() || again.owners == (1, 2, 1));
     }
     let table = table(alloc)?;
     let copy = table.clone_in(alloc)?;

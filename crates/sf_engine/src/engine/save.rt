@@ -33,9 +33,9 @@ impl Save {
         ensures { IfOk result (λ same. (φ : AnswersByName) (p : Plan) (m : Template) (L : Life) → IsSaveOf φ p m self.now L → IsSaveOf φ p m same L) }
     {
         Ok(Save {
-            state: self.state.share(alloc)?,
-            time: self.time,
             last: self.last.clone_in(alloc)?,
+            time: self.time,
+            state: self.state.share(alloc)?,
         })
     }
 }
@@ -113,11 +113,11 @@ impl<F: Holds> Engine<F> {
     {
         let key = String::from_str(self.alloc, name)?;
         let save = Save {
-            state: self.state.share(self.alloc)?,
-            time: self.time,
             last: self.repeated()?,
+            time: self.time,
+            state: self.state.share(self.alloc)?,
         };
-        self.saves.insert(key, save)?;
+        drop(self.saves.insert(key, save)?);
         Ok(())
     }
 }

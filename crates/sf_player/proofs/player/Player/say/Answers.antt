@@ -6,14 +6,14 @@ pub returns-in-Ok-gather : goal.returns-in-Ok-gather
 returns-in-Ok-gather g c = λ n m now line a asked sample S at slow saves taken probes.
     value_said c.args.sample_time asked sample (rw c.in-Ok.is at S) at slow saves taken probes refl refl refl refl c.in-Ok-gather.ensures.ok
 
-pub returns-in-Ok : goal.returns-in-Ok
-returns-in-Ok g c = λ n m now line a asked sample S at slow saves taken probes. record {
+pub returns-in-Err-gather : goal.returns-in-Err-gather
+returns-in-Err-gather g c = λ n m now line a asked sample S at slow saves taken probes. record {
   halts = memory_halts c.args.sample_time asked sample at;
   said = c.in-Err-gather.ensures.err;
 }
 
-pub returns : goal.returns
-returns g c = λ n m now line a asked sample S at slow saves taken probes. record {
+pub returns-in-Err : goal.returns-in-Err
+returns-in-Err g c = λ n m now line a asked sample S at slow saves taken probes. record {
   halts = stop_halts c.args.sample_time asked sample (rw c.in-Err.is at S) at;
   said = refl;
 }
