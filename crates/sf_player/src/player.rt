@@ -110,6 +110,7 @@ impl<F: Holds + Drop> Player<F> {
     }
 
     /// Plays the cutter's complete line.
+    #[inline(always)]
     fn play_line(&mut self) -> Option<Stop>
         requires { AwaitsLine self.old }
         ensures { (n : Network) (m : Template) (now : Moment) → IsAt n m self.old now
