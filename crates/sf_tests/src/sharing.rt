@@ -114,12 +114,16 @@ fn planned(alloc: Global, network: &[u8], functions: &Registry) -> Result<Plan, 
 }
 
 /// Whether a state that is renewed before each of three samples goes on as the running one.
-fn renewed_goes_on(alloc: Global, plan: &Plan, functions: &Registry) -> Result<bool, Fail> {
-    let mut running = State::unborn(plan.main());
-    let mut renewed = State::unborn(plan.main());
+fn renewed_goes_on(
+    alloc: Global,
+    renewed: &mut State,
+    running: &mut State,
+    plan: &Plan,
+    functions: &Registry,
+) -> Result<bool, Fail> {
     // at the third sample its nodes are its own, and are used again
     for number in [8, 7, 5] {
-        if !renewed_gives(alloc, &mut renewed, &mut running, plan, functions, number)? {
+        if !renewed_gives(alloc, renewed, running, plan, functions, number)? {
             return Ok(false);
         }
     }
@@ -170,8 +174,10 @@ fn a_renewed_state_goes_on_by_itself(rt: HostRuntime) -> Result<(), Fail> {
     let alloc = rt.alloc();
     let functions = Registry::new(alloc);
     let plan = planned(alloc, DELAYS, &functions)?;
-    let goes_on = renewed_goes_on(alloc, &plan, &functions);
-    drop(plan);
+    let mut running = State::unborn(plan.main());
+    let mut renewed = State::unborn(plan.main());
+    let goes_on = renewed_goes_on(alloc, &mut renewed, &mut running, &plan, &functions);
+    drop((plan, running, renewed));
     assert!(rt; goes_on?);
     Ok(())
 }
