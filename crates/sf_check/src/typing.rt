@@ -53,10 +53,8 @@ fn value_and_payload(ty: &Ty, spot: Spot) -> Result<(&Ty, &Ty), Refusal>
     ensures fits { IfOk result (λ types. Fits types.0.now) }
     ensures err { IfErr result (λ r. (r ≡ broken Mismatch spot) × IsNoEventBeside ty.now) }
 {
-    match ty.parts() {
-        Some((value, event)) => Ok((value, payload(event, spot)?)),
-        None => Err(Refusal::broken(Rule::Mismatch, spot)),
-    }
+    let (value, event) = parts(ty, spot)?;
+    Ok((value, payload(event, spot)?))
 }
 
 /// The type of a constant.
