@@ -152,9 +152,9 @@ impl<'a> TypingContext<'a> {
         ensures context { IfOk result (λ inner. context_in inner ≡ keeping_inside (program_in self.now) name from.now to.now (context_in self.now)) }
     {
         let name = self.program.expressions().name_of(name);
-        let names = self.names.with_other(alloc, name)?;
         let mut processes = self.same_processes(alloc)?;
         processes.push(Some(NamedProcess { name, from, to }))?;
+        let names = self.names.with_other(alloc, name)?;
         Ok(TypingContext {
             program: self.program,
             templates: self.templates,

@@ -400,7 +400,7 @@ fn mapped<F: Holds>(
     let part = run(alloc, part, frames, functions)?;
     match mapping {
         Mapping::Let => answer(alloc, body, &part, frames, functions),
-        Mapping::Filter => filter(alloc, part, body, frames, functions),
+        Mapping::Filter => filter(alloc, &part, body, frames, functions),
         Mapping::Map => map(alloc, &part, body, frames, functions),
     }
 }
@@ -409,16 +409,16 @@ fn mapped<F: Holds>(
 #[cycle(run)]
 fn filter<F: Holds>(
     alloc: Global,
-    event: Value,
+    event: &Value,
     body: &Code,
     frames: &Frames,
     functions: &F,
 ) -> Result<Value, EvalFault>
-    ensures { Evaluates result (mapped_value mappings.Filter event (λ x. worth_of (code_of body.now) (x ∷ frames_of frames.now) (F.answers functions.now))) }
+    ensures { Evaluates result (mapped_value mappings.Filter event.now (λ x. worth_of (code_of body.now) (x ∷ frames_of frames.now) (F.answers functions.now))) }
 {
-    match payload_in(&event) {
+    match payload_in(event) {
         Some(Some(payload)) => match accepted(alloc, body, payload, frames, functions)? {
-            Some(true) => Ok(event),
+            Some(true) => Ok(event.clone_in(alloc)?),
             Some(false) => Ok(Value::no_event()),
             None => Ok(Value::int(0)),
         },
@@ -517,32 +517,32 @@ fn merged<F: Holds>(
 {
     let first = run(alloc, first, frames, functions)?;
     let second = run(alloc, second, frames, functions)?;
-    merge(alloc, first, second, body, frames, functions)
+    merge(alloc, &first, &second, body, frames, functions)
 }
 
 /// The one of two events that occurs, or, where both do, that of what a function makes of both payloads, or its fault.
 #[cycle(run)]
 fn merge<F: Holds>(
     alloc: Global,
-    first: Value,
-    second: Value,
+    first: &Value,
+    second: &Value,
     body: &Code,
     frames: &Frames,
     functions: &F,
 ) -> Result<Value, EvalFault>
-    ensures { Evaluates result (folded_value foldings.Merge first (worth_as second) (λ x. worth_of (code_of body.now) (x ∷ frames_of frames.now) (F.answers functions.now))) }
+    ensures { Evaluates result (folded_value foldings.Merge first.now (worth_as second.now) (λ x. worth_of (code_of body.now) (x ∷ frames_of frames.now) (F.answers functions.now))) }
 {
-    match payload_in(&first) {
-        Some(Some(left)) => match payload_in(&second) {
+    match payload_in(first) {
+        Some(Some(left)) => match payload_in(second) {
             Some(Some(right)) => {
                 let both = pair_of(left, right)?;
                 occurring(alloc, body, &both, frames, functions)
             }
-            Some(None) => Ok(first),
+            Some(None) => Ok(first.clone_in(alloc)?),
             None => Ok(Value::int(0)),
         },
-        Some(None) => match payload_in(&second) {
-            Some(_) => Ok(second),
+        Some(None) => match payload_in(second) {
+            Some(_) => Ok(second.clone_in(alloc)?),
             None => Ok(Value::int(0)),
         },
         None => Ok(Value::int(0)),
@@ -594,6 +594,7 @@ fn fold_rows<F: Holds>(
     while let [(key, value), after @ ..] = rest {
         let argument = with_row(alloc, so_far, key, value)?;
         so_far = answer(alloc, body, &argument, frames, functions)?;
+        drop(argument);
         rest = after;
     }
     Ok(so_far)

@@ -1,5 +1,5 @@
 -- The first templates of names.
-use Rattle.std.proofs.Common.{◌≡◌, ℕ, ◌+◌, ◌<◌, ◌≤◌, List, [], ◌∷◌, ◌++◌, length, Bool, true, false, bytes_eq, Option, None, Some, is_some, unwrap_or, slice_index_or, HashMap, String, string_bytes, refl, sym, ◌∙◌, ap, subst, true≢false, arith, ⊎_elim}
+use Rattle.std.proofs.Common.{◌≡◌, ℕ, ◌+◌, ◌<◌, List, [], ◌∷◌, ◌++◌, length, Bool, true, false, bytes_eq, Option, None, Some, is_some, unwrap_or, slice_index_or, HashMap, String, string_bytes, refl, sym, ◌∙◌, ap, subst, true≢false, arith, ⊎_elim}
 use Rattle.std.specs.declared.alloc.Global.{Global}
 use Rattle.std.specs.HashMap.{get_by_text}
 use Rattle.std.specs.Option.{MatchOption}

@@ -16,6 +16,7 @@ use sf_operator::EvalFault;
 use sf_term::Accumulation;
 use sf_value::Value;
 use std::alloc::{AllocError, Global};
+use std::mem;
 use std::rc::Rc;
 
 /// An accumulation that has lived through some samples.
@@ -90,8 +91,10 @@ pub(crate) fn accumulate<R: Holds>(
     if let Some(argument) = came {
         let before = Rc::new(alloc, accumulator.value.clone_in(alloc)?)?;
         let both = Value::of_halves(before, argument);
-        accumulator.value = apply(alloc, &accumulator.code, &both, functions)?;
+        let next = apply(alloc, &accumulator.code, &both, functions)?;
+        drop(mem::replace(&mut accumulator.value, next));
     }
-    *value = shown(alloc, form, comes, &accumulator.value)?;
+    let shown = shown(alloc, form, comes, &accumulator.value)?;
+    drop(mem::replace(value, shown));
     Ok(())
 }

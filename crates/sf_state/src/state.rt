@@ -19,6 +19,7 @@ use sf_prim::PrimState;
 use sf_term::{Join, Observation, Switching};
 use sf_value::Value;
 use std::alloc::{AllocError, Global};
+use std::mem;
 use std::rc::Rc;
 
 /// A part of a network, before its first sample or after it. It is whole in itself.
@@ -225,12 +226,14 @@ impl State {
         if let State::Live(names, node) = other {
             if let State::Live(around, own) = self {
                 if let Some(live) = Rc::get_mut(own) {
-                    *around = names.share()?;
+                    let shared = names.share()?;
+                    drop(mem::replace(around, shared));
                     return live.renew(alloc, node);
                 }
             }
         }
-        *self = other.share(alloc)?;
+        let shared = other.share(alloc)?;
+        drop(mem::replace(self, shared));
         Ok(())
     }
 }
@@ -291,13 +294,15 @@ impl Live {
             }
             Live::Wrap(wrap, part) => {
                 if let Live::Wrap(kept, inner) = self {
-                    *kept = wrap.clone_in(alloc)?;
+                    let copy = wrap.clone_in(alloc)?;
+                    drop(mem::replace(kept, copy));
                     return inner.renew(alloc, part);
                 }
             }
             _ => {}
         }
-        *self = other.clone_in(alloc)?;
+        let copy = other.clone_in(alloc)?;
+        drop(mem::replace(self, copy));
         Ok(())
     }
 }

@@ -29,7 +29,7 @@ pub struct Meter {
 }
 
 impl Meter {
-    ghost use Rattle.std.specs.Prelude.{◌≡◌, ◌<◌, ◌++◌, [], ◌∷◌, OnOk, string_bytes};
+    ghost use Rattle.std.specs.Prelude.{◌≡◌, ◌<◌, ◌++◌, [], ◌∷◌, IfOk, OnOk, string_bytes};
     ghost use Rattle.sf_probe.specs.Readings.{readings_of};
     ghost use Rattle.sf_step.specs.Meters.{entered_of, height_of, fault_of, readings as recorded_in};
     ghost use Rattle.sf_step.specs.Sampling.{Ticked, kept};
@@ -103,9 +103,8 @@ impl Meter {
     /// One more node, inside `depth` others. Answers how many its parts stand inside.
     pub(crate) fn tick(&mut self, depth: u64) -> Result<u64, Stop>
         ensures ticked { Ticked self.old self.new depth (kept result (fault_of self.new)) }
-        ensures grows { entered_of self.old ≤ entered_of self.new }
-        ensures counts { OnOk result (entered_of self.old < entered_of self.new) }
-        ensures few { entered_of self.new ≤ 1000000 }
+        ensures deeper { IfOk result (λ inside. depth < inside) }
+        ensures low { IfOk result (λ inside. inside ≤ 1600) }
     {
         if self.entered >= MOST_NODES || depth >= MOST_HEIGHT {
             return Err(self.stop(Fault::Large));

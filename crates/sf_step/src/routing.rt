@@ -76,13 +76,13 @@ pub(crate) fn payload_of(event: Value) -> Option<Rc<Value>>
     }
 }
 
-/// The value at the step of a switch's event, from that of what ran before and that of its body.
-pub(crate) fn switched(shown: Observation, old: Value, new: Value) -> Value
-    ensures { result ≡ switched_value shown old new }
+/// What a switch shows at the step of its event: its body's value in place of that of what ran before, or that still.
+pub(crate) fn show(shown: Observation, value: &mut Value, new: Value)
+    ensures { value.new ≡ switched_value shown value.old new }
 {
     match shown {
-        Observation::Immediate => new,
-        Observation::Delayed => old,
+        Observation::Immediate => drop(mem::replace(value, new)),
+        Observation::Delayed => drop(new),
     }
 }
 
@@ -171,6 +171,6 @@ pub(crate) fn take_over(state: &mut State, over: Option<State>)
     ensures { state.new ≡ unwrap_or over state.old }
 {
     if let Some(body) = over {
-        *state = body;
+        drop(mem::replace(state, body));
     }
 }

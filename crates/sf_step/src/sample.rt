@@ -14,14 +14,14 @@ ghost use Rattle.sf_mean.specs.Meaning.{Made, make};
 ghost use Rattle.sf_state.specs.Standing.{Stands, IsNames, Wraps};
 ghost use Rattle.sf_step.specs.Contexts.{plan_in, dt_in};
 ghost use Rattle.sf_step.specs.Meters.{entered_of, height_of, fault_of as fault_in};
-ghost use Rattle.sf_step.specs.Sampling.{Opens, BeginsAs, AllBegin, StateSteps, PrimSteps, LiveSteps, SwitchSteps, KeepingSteps, CountedSteps, left_or, left_beside};
+ghost use Rattle.sf_step.specs.Sampling.{Opens, BeginsAs, AllBegin, StateSteps, PrimSteps, LiveSteps, SwitchSteps, KeepingSteps, CountedSteps, kept, left_or, left_beside};
 ghost use Rattle.sf_step.specs.Stepping.{Steps};
 
 use crate::calling::{called, started};
 use crate::context::{SampleContext, constant_in, fault_of};
 use crate::meter::{Meter, Stop};
 use crate::routing::{
-    feed_back, halves, on_side, payload_of, put_first, switched, take_over, unshare_half,
+    feed_back, halves, on_side, payload_of, put_first, show, take_over, unshare_half,
     value_and_payload, with_head,
 };
 use sf_code::Code;
@@ -85,8 +85,7 @@ fn step_state<R: Holds>(
     value: &mut Value,
     meter: &mut Meter,
 ) -> Result<(), Stop>
-    ensures grows { entered_of meter.old ≤ entered_of meter.new }
-    ensures answers { StateSteps (R.answers context.now.functions.now) (plan_in context.now) state.old (step (dt_in context.now) value.old)
+    ensures { StateSteps (R.answers context.now.functions.now) (plan_in context.now) state.old (step (dt_in context.now) value.old)
         (left_or result (state.new, value.new) (fault_in meter.new)) meter.old meter.new depth }
 {
     match state {
@@ -112,8 +111,7 @@ fn step_other<R: Holds>(
     value: &mut Value,
     meter: &mut Meter,
 ) -> Result<(), Stop>
-    ensures grows { entered_of meter.old ≤ entered_of meter.new }
-    ensures answers { StateSteps (R.answers context.now.functions.now) (plan_in context.now) state.old (step (dt_in context.now) value.old)
+    ensures { StateSteps (R.answers context.now.functions.now) (plan_in context.now) state.old (step (dt_in context.now) value.old)
         (left_or result (state.new, value.new) (fault_in meter.new)) meter.old meter.new depth }
 {
     match state {
@@ -145,7 +143,7 @@ fn step_other<R: Holds>(
             let Ok(awake) = frozen.wake(context.alloc) else {
                 return Err(meter.stop(Fault::Memory));
             };
-            *state = awake;
+            drop(mem::replace(state, awake));
             step_state(&later, state, depth, value, meter)
         }
         // these are stepped in place, above
@@ -163,8 +161,7 @@ fn step_counted<R: Holds>(
     value: &mut Value,
     meter: &mut Meter,
 ) -> Result<(), Stop>
-    ensures grows { entered_of meter.old ≤ entered_of meter.new }
-    ensures answers { CountedSteps (R.answers context.now.functions.now) (plan_in context.now) state.old (step (dt_in context.now) value.old)
+    ensures { CountedSteps (R.answers context.now.functions.now) (plan_in context.now) state.old (step (dt_in context.now) value.old)
         (left_or result (state.new, value.new) (fault_in meter.new)) meter.old meter.new inside }
 {
     match state {
@@ -196,8 +193,7 @@ fn step_watching<R: Holds>(
     value: &mut Value,
     meter: &mut Meter,
 ) -> Result<Option<State>, Stop>
-    ensures grows { entered_of meter.old ≤ entered_of meter.new }
-    ensures answers { SwitchSteps (R.answers context.now.functions.now) (plan_in context.now) names.now node.old.value (step (dt_in context.now) value.old)
+    ensures { SwitchSteps (R.answers context.now.functions.now) (plan_in context.now) names.now node.old.value (step (dt_in context.now) value.old)
         (left_beside result node.new.value value.new (fault_in meter.new)) meter.old meter.new inside }
 {
     let Ok(()) = unshare_switch(context.alloc, node) else {
@@ -220,8 +216,7 @@ fn step_observing<R: Holds>(
     value: &mut Value,
     meter: &mut Meter,
 ) -> Result<Option<State>, Stop>
-    ensures grows { entered_of meter.old ≤ entered_of meter.new }
-    ensures answers { KeepingSteps (R.answers context.now.functions.now) (plan_in context.now) names.now node.old.value (step (dt_in context.now) value.old)
+    ensures { KeepingSteps (R.answers context.now.functions.now) (plan_in context.now) names.now node.old.value (step (dt_in context.now) value.old)
         (left_beside result node.new.value value.new (fault_in meter.new)) meter.old meter.new inside }
 {
     let Ok(()) = unshare_keeping(context.alloc, node) else {
@@ -245,8 +240,7 @@ fn step_switch<R: Holds>(
     value: &mut Value,
     meter: &mut Meter,
 ) -> Result<Option<State>, Stop>
-    ensures grows { entered_of meter.old ≤ entered_of meter.new }
-    ensures answers { SwitchSteps (R.answers context.now.functions.now) (plan_in context.now) names.now switch.old (step (dt_in context.now) value.old)
+    ensures { SwitchSteps (R.answers context.now.functions.now) (plan_in context.now) names.now switch.old (step (dt_in context.now) value.old)
         (left_beside result switch.new value.new (fault_in meter.new)) meter.old meter.new inside }
 {
     match switch.form {
@@ -273,28 +267,25 @@ fn step_basic<R: Holds>(
     meter: &mut Meter,
 ) -> Result<Option<State>, Stop>
     requires form { switch.old.form ≡ Switching.Basic shown }
-    ensures grows { entered_of meter.old ≤ entered_of meter.new }
-    ensures answers { SwitchSteps (R.answers context.now.functions.now) (plan_in context.now) names.now switch.old (step (dt_in context.now) value.old)
+    ensures { SwitchSteps (R.answers context.now.functions.now) (plan_in context.now) names.now switch.old (step (dt_in context.now) value.old)
         (left_beside result switch.new value.new (fault_in meter.new)) meter.old meter.new inside }
 {
-    let Ok(mut output) = value.clone_in(context.alloc) else {
+    let Ok(output) = value.clone_in(context.alloc) else {
         return Err(meter.stop(Fault::Memory));
     };
     step_state(context, &mut switch.running, inside, value, meter)?;
     let Ok((old, occurring)) = value_and_payload(context.alloc, value) else {
         return Err(meter.stop(Fault::Memory));
     };
+    *value = old;
     match occurring {
-        None => {
-            *value = old;
-            Ok(None)
-        }
+        None => Ok(None),
         Some(payload) => {
-            let Ok(mut body) = switch.begin(context.alloc, names, payload) else {
+            let Ok(body) = switch.begin(context.alloc, names, payload) else {
                 return Err(meter.stop(Fault::Memory));
             };
-            step_state(context, &mut body, inside, &mut output, meter)?;
-            *value = switched(shown, old, output);
+            let (body, output) = step_begun(context, body, inside, output, meter)?;
+            show(shown, value, output);
             Ok(Some(body))
         }
     }
@@ -314,8 +305,7 @@ fn step_recurring<R: Holds>(
     meter: &mut Meter,
 ) -> Result<(), Stop>
     requires form { switch.old.form ≡ Switching.Recurring shown }
-    ensures grows { entered_of meter.old ≤ entered_of meter.new }
-    ensures answers { SwitchSteps (R.answers context.now.functions.now) (plan_in context.now) names.now switch.old (step (dt_in context.now) value.old)
+    ensures { SwitchSteps (R.answers context.now.functions.now) (plan_in context.now) names.now switch.old (step (dt_in context.now) value.old)
         (left_or result ((None, switch.new), value.new) (fault_in meter.new)) meter.old meter.new inside }
 {
     let Ok((input, occurring)) = value_and_payload(context.alloc, value) else {
@@ -325,18 +315,17 @@ fn step_recurring<R: Holds>(
     match occurring {
         None => step_state(context, &mut switch.running, inside, value, meter),
         Some(payload) => {
-            let Ok(mut begun) = value.clone_in(context.alloc) else {
+            let Ok(begun) = value.clone_in(context.alloc) else {
                 return Err(meter.stop(Fault::Memory));
             };
             let ran = &mut switch.running;
             step_state(context, ran, inside, value, meter)?;
-            let Ok(mut next) = switch.begin(context.alloc, names, payload) else {
+            let Ok(body) = switch.begin(context.alloc, names, payload) else {
                 return Err(meter.stop(Fault::Memory));
             };
-            step_state(context, &mut next, inside, &mut begun, meter)?;
-            take_over(&mut switch.running, Some(next));
-            let old = mem::replace(value, Value::int(0));
-            *value = switched(shown, old, begun);
+            let (body, output) = step_begun(context, body, inside, begun, meter)?;
+            take_over(&mut switch.running, Some(body));
+            show(shown, value, output);
             Ok(())
         }
     }
@@ -354,14 +343,13 @@ fn step_keeping<R: Holds>(
     value: &mut Value,
     meter: &mut Meter,
 ) -> Result<Option<State>, Stop>
-    ensures grows { entered_of meter.old ≤ entered_of meter.new }
-    ensures answers { KeepingSteps (R.answers context.now.functions.now) (plan_in context.now) names.now keeping.old (step (dt_in context.now) value.old)
+    ensures { KeepingSteps (R.answers context.now.functions.now) (plan_in context.now) names.now keeping.old (step (dt_in context.now) value.old)
         (left_beside result keeping.new value.new (fault_in meter.new)) meter.old meter.new inside }
 {
     let Ok(()) = hold_back(context.alloc, &mut keeping.source, &mut keeping.before) else {
         return Err(meter.stop(Fault::Memory));
     };
-    let Ok((input, mut output)) = copies(context.alloc, &*value) else {
+    let Ok((input, output)) = copies(context.alloc, &*value) else {
         return Err(meter.stop(Fault::Memory));
     };
     step_state(context, &mut keeping.source, inside, value, meter)?;
@@ -372,13 +360,37 @@ fn step_keeping<R: Holds>(
     match payload_of(seen) {
         None => Ok(None),
         Some(payload) => {
-            let Ok(mut successor) = keeping.begin(context.alloc, names, context.dt, payload) else {
+            let Ok(successor) = keeping.begin(context.alloc, names, context.dt, payload) else {
                 return Err(meter.stop(Fault::Memory));
             };
-            step_state(context, &mut successor, inside, &mut output, meter)?;
-            let old = mem::replace(value, Value::int(0));
-            *value = switched(keeping.shown, old, output);
+            let (successor, output) = step_begun(context, successor, inside, output, meter)?;
+            show(keeping.shown, value, output);
             Ok(Some(successor))
+        }
+    }
+}
+
+// The first sample of a body on an input of its own: the body after it, and its value. After an error both are let go of.
+#[cycle(step)]
+#[inline]
+fn step_begun<R: Holds>(
+    context: &SampleContext<R>,
+    body: State,
+    inside: u64,
+    input: Value,
+    meter: &mut Meter,
+) -> Result<(State, Value), Stop>
+    ensures { StateSteps (R.answers context.now.functions.now) (plan_in context.now) body (step (dt_in context.now) input)
+        (kept result (fault_in meter.new)) meter.old meter.new inside }
+{
+    let mut body = body;
+    let mut value = input;
+    match step_state(context, &mut body, inside, &mut value, meter) {
+        Ok(()) => Ok((body, value)),
+        Err(Stop) => {
+            drop(body);
+            drop(value);
+            Err(Stop)
         }
     }
 }
@@ -393,8 +405,7 @@ fn step_half<R: Holds>(
     half: &mut Rc<Value>,
     meter: &mut Meter,
 ) -> Result<(), Stop>
-    ensures grows { entered_of meter.old ≤ entered_of meter.new }
-    ensures answers { StateSteps (R.answers context.now.functions.now) (plan_in context.now) state.old (step (dt_in context.now) half.old.value)
+    ensures { StateSteps (R.answers context.now.functions.now) (plan_in context.now) state.old (step (dt_in context.now) half.old.value)
         (left_or result (state.new, half.new.value) (fault_in meter.new)) meter.old meter.new depth }
 {
     let Ok(()) = unshare_half(context.alloc, half) else {
@@ -417,8 +428,7 @@ fn step_node<R: Holds>(
     value: &mut Value,
     meter: &mut Meter,
 ) -> Result<(), Stop>
-    ensures grows { entered_of meter.old ≤ entered_of meter.new }
-    ensures answers { LiveSteps (R.answers context.now.functions.now) (plan_in context.now) node.old.value (step (dt_in context.now) value.old)
+    ensures { LiveSteps (R.answers context.now.functions.now) (plan_in context.now) node.old.value (step (dt_in context.now) value.old)
         (left_or result (node.new.value, value.new) (fault_in meter.new)) meter.old meter.new inside }
 {
     let Ok(()) = unshare(context.alloc, node) else {
@@ -440,8 +450,7 @@ fn step_live<R: Holds>(
     value: &mut Value,
     meter: &mut Meter,
 ) -> Result<(), Stop>
-    ensures grows { entered_of meter.old ≤ entered_of meter.new }
-    ensures answers { LiveSteps (R.answers context.now.functions.now) (plan_in context.now) live.old (step (dt_in context.now) value.old)
+    ensures { LiveSteps (R.answers context.now.functions.now) (plan_in context.now) live.old (step (dt_in context.now) value.old)
         (left_or result (live.new, value.new) (fault_in meter.new)) meter.old meter.new inside }
 {
     match live {
@@ -474,8 +483,7 @@ fn step_sequence<R: Holds>(
     value: &mut Value,
     meter: &mut Meter,
 ) -> Result<(), Stop>
-    ensures grows { entered_of meter.old ≤ entered_of meter.new }
-    ensures answers { LiveSteps (R.answers context.now.functions.now) (plan_in context.now) (Live.Join Join.InSequence left.old right.old) (step (dt_in context.now) value.old)
+    ensures { LiveSteps (R.answers context.now.functions.now) (plan_in context.now) (Live.Join Join.InSequence left.old right.old) (step (dt_in context.now) value.old)
         (left_or result (Live.Join Join.InSequence left.new right.new, value.new) (fault_in meter.new)) meter.old meter.new inside }
 {
     step_state(context, left, inside, value, meter)?;
@@ -493,8 +501,7 @@ fn step_parallel<R: Holds>(
     value: &mut Value,
     meter: &mut Meter,
 ) -> Result<(), Stop>
-    ensures grows { entered_of meter.old ≤ entered_of meter.new }
-    ensures answers { LiveSteps (R.answers context.now.functions.now) (plan_in context.now) (Live.Join Join.InParallel left.old right.old) (step (dt_in context.now) value.old)
+    ensures { LiveSteps (R.answers context.now.functions.now) (plan_in context.now) (Live.Join Join.InParallel left.old right.old) (step (dt_in context.now) value.old)
         (left_or result (Live.Join Join.InParallel left.new right.new, value.new) (fault_in meter.new)) meter.old meter.new inside }
 {
     let Ok((mut first, mut second)) = halves(context.alloc, value) else {
@@ -517,8 +524,7 @@ fn step_fan<R: Holds>(
     value: &mut Value,
     meter: &mut Meter,
 ) -> Result<(), Stop>
-    ensures grows { entered_of meter.old ≤ entered_of meter.new }
-    ensures answers { LiveSteps (R.answers context.now.functions.now) (plan_in context.now) (Live.Join Join.FannedOut left.old right.old) (step (dt_in context.now) value.old)
+    ensures { LiveSteps (R.answers context.now.functions.now) (plan_in context.now) (Live.Join Join.FannedOut left.old right.old) (step (dt_in context.now) value.old)
         (left_or result (Live.Join Join.FannedOut left.new right.new, value.new) (fault_in meter.new)) meter.old meter.new inside }
 {
     let Ok(mut first) = value.clone_in(context.alloc) else {
@@ -544,8 +550,7 @@ fn step_pipeline<R: Holds>(
     value: &mut Value,
     meter: &mut Meter,
 ) -> Result<(), Stop>
-    ensures grows { entered_of meter.old ≤ entered_of meter.new }
-    ensures answers { LiveSteps (R.answers context.now.functions.now) (plan_in context.now) (Live.Pipeline stages.old) (step (dt_in context.now) value.old)
+    ensures { LiveSteps (R.answers context.now.functions.now) (plan_in context.now) (Live.Pipeline stages.old) (step (dt_in context.now) value.old)
         (left_or result (Live.Pipeline stages.new, value.new) (fault_in meter.new)) meter.old meter.new inside }
 {
     for stage in stages.iter_mut() {
@@ -564,8 +569,7 @@ fn step_first<R: Holds>(
     value: &mut Value,
     meter: &mut Meter,
 ) -> Result<(), Stop>
-    ensures grows { entered_of meter.old ≤ entered_of meter.new }
-    ensures answers { LiveSteps (R.answers context.now.functions.now) (plan_in context.now) (Live.Wrap Wrap.First part.old) (step (dt_in context.now) value.old)
+    ensures { LiveSteps (R.answers context.now.functions.now) (plan_in context.now) (Live.Wrap Wrap.First part.old) (step (dt_in context.now) value.old)
         (left_or result (Live.Wrap Wrap.First part.new, value.new) (fault_in meter.new)) meter.old meter.new inside }
 {
     let Ok((mut first, second)) = halves(context.alloc, value) else {
@@ -586,8 +590,7 @@ fn step_second<R: Holds>(
     value: &mut Value,
     meter: &mut Meter,
 ) -> Result<(), Stop>
-    ensures grows { entered_of meter.old ≤ entered_of meter.new }
-    ensures answers { LiveSteps (R.answers context.now.functions.now) (plan_in context.now) (Live.Wrap Wrap.Second part.old) (step (dt_in context.now) value.old)
+    ensures { LiveSteps (R.answers context.now.functions.now) (plan_in context.now) (Live.Wrap Wrap.Second part.old) (step (dt_in context.now) value.old)
         (left_or result (Live.Wrap Wrap.Second part.new, value.new) (fault_in meter.new)) meter.old meter.new inside }
 {
     let Ok((first, mut second)) = halves(context.alloc, value) else {
@@ -609,8 +612,7 @@ fn step_loop<R: Holds>(
     value: &mut Value,
     meter: &mut Meter,
 ) -> Result<(), Stop>
-    ensures grows { entered_of meter.old ≤ entered_of meter.new }
-    ensures answers { LiveSteps (R.answers context.now.functions.now) (plan_in context.now) (Live.Wrap (Wrap.Loop feedback.old) part.old) (step (dt_in context.now) value.old)
+    ensures { LiveSteps (R.answers context.now.functions.now) (plan_in context.now) (Live.Wrap (Wrap.Loop feedback.old) part.old) (step (dt_in context.now) value.old)
         (left_or result (Live.Wrap (Wrap.Loop feedback.new) part.new, value.new) (fault_in meter.new)) meter.old meter.new inside }
 {
     let Ok(mut both) = feedback.beside(context.alloc, value) else {
@@ -634,8 +636,7 @@ fn step_initialized<R: Holds>(
     value: &mut Value,
     meter: &mut Meter,
 ) -> Result<(), Stop>
-    ensures grows { entered_of meter.old ≤ entered_of meter.new }
-    ensures answers { LiveSteps (R.answers context.now.functions.now) (plan_in context.now) (Live.Wrap (Wrap.Initialized first.old) part.old) (step (dt_in context.now) value.old)
+    ensures { LiveSteps (R.answers context.now.functions.now) (plan_in context.now) (Live.Wrap (Wrap.Initialized first.old) part.old) (step (dt_in context.now) value.old)
         (left_or result (Live.Wrap (Wrap.Initialized first.new) part.new, value.new) (fault_in meter.new)) meter.old meter.new inside }
 {
     step_state(context, part, inside, value, meter)?;
@@ -734,7 +735,7 @@ fn begin<R: Holds>(
     match open(context, term, &names) {
         Ok(opened) => {
             let (next, begun) = prepared(context.alloc, opened, names)?;
-            *state = next;
+            drop(mem::replace(state, next));
             Ok(begun)
         }
         Err(fault) => Err(fault),

@@ -61,26 +61,29 @@ Exit statuses:
 
 /// What the words of the command line ask for.
 fn matches<'a>(alloc: Global, words: &'a [String]) -> Result<ArgMatches<'a>, Error> {
-    let net = Arg::new(alloc, "NET")
-        .help(NET)
-        .required(true)
-        .action(ArgAction::Set);
-    let plain = Arg::new(alloc, "plain")
-        .long("plain")
-        .help(PLAIN)
-        .action(ArgAction::SetTrue);
-    let probes = Arg::new(alloc, "probes")
-        .long("probes")
-        .help(PROBES)
-        .action(ArgAction::SetTrue);
     Command::new(alloc, "sfplay")
         .version(VERSION)
         .about(ABOUT)
         .long_about(LONG_ABOUT)
         .after_long_help(STATUSES)
-        .arg(net)?
-        .arg(plain)?
-        .arg(probes)?
+        .arg(
+            Arg::new(alloc, "NET")
+                .help(NET)
+                .required(true)
+                .action(ArgAction::Set),
+        )?
+        .arg(
+            Arg::new(alloc, "plain")
+                .long("plain")
+                .help(PLAIN)
+                .action(ArgAction::SetTrue),
+        )?
+        .arg(
+            Arg::new(alloc, "probes")
+                .long("probes")
+                .help(PROBES)
+                .action(ArgAction::SetTrue),
+        )?
         .try_get_matches_from(words)
 }
 

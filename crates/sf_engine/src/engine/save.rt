@@ -6,6 +6,7 @@ use sf_func::Holds;
 use sf_state::State;
 use sf_value::Value;
 use std::alloc::{AllocError, Global};
+use std::mem;
 
 const MOST_SAVES: usize = 64;
 
@@ -92,7 +93,7 @@ impl<F: Holds> Engine<F> {
         let Ok(copy) = save.share(self.alloc) else {
             return Err(EngineError::Memory);
         };
-        self.state = copy.state;
+        drop(mem::replace(&mut self.state, copy.state));
         self.time = copy.time;
         self.last = Some(copy.last);
         Ok(())

@@ -22,206 +22,206 @@ use Rattle.sf_step.proofs.sample.+step.Goals as goal
 
 -- ## step_state
 
-pub step_state-returns-in_err-tick-in-Primitive-clause-answers : goal.step_state-returns-in_err-tick-in-Primitive-clause-answers
-step_state-returns-in_err-tick-in-Primitive-clause-answers g t c = λ P L A. pass_exit _ _ c.from_residual.ensures.0 (tick_fails (g.R.Holds.answers c.args.context.now.functions.now) c.args.context.now.plan.now P _ c.in_err-tick-in-Primitive.ensures.ticked)
+pub step_state-returns-in_err-tick-in-Primitive : goal.step_state-returns-in_err-tick-in-Primitive
+step_state-returns-in_err-tick-in-Primitive g t c = λ P L A. pass_exit _ _ c.from_residual.ensures.0 (tick_fails (g.R.Holds.answers c.args.context.now.functions.now) c.args.context.now.plan.now P _ c.in_err-tick-in-Primitive.ensures.ticked)
 
-pub step_state-returns-in_err-inside-in-Live-clause-answers : goal.step_state-returns-in_err-inside-in-Live-clause-answers
-step_state-returns-in_err-inside-in-Live-clause-answers g t c = λ P L A. pass_exit _ _ c.from_residual-in_err-inside-in-Live.ensures.0 (tick_fails (g.R.Holds.answers c.args.context.now.functions.now) c.args.context.now.plan.now P _ c.in_err-inside-in-Live.ensures.ticked)
+pub step_state-returns-in_err-inside-in-Live : goal.step_state-returns-in_err-inside-in-Live
+step_state-returns-in_err-inside-in-Live g t c = λ P L A. pass_exit _ _ c.from_residual-in_err-inside-in-Live.ensures.0 (tick_fails (g.R.Holds.answers c.args.context.now.functions.now) c.args.context.now.plan.now P _ c.in_err-inside-in-Live.ensures.ticked)
 
-pub step_state-returns-in_default-clause-answers : goal.step_state-returns-in_default-clause-answers
-step_state-returns-in_default-clause-answers g t c = c.step_other.ensures.answers
+pub step_state-returns-in_default : goal.step_state-returns-in_default
+step_state-returns-in_default g t c = c.step_other.ensures
 
-pub step_state-returns-in_ok-tick-in-Primitive-clause-answers : goal.step_state-returns-in_ok-tick-in-Primitive-clause-answers
-step_state-returns-in_ok-tick-in-Primitive-clause-answers g t c = λ P L A.
+pub step_state-returns-in_ok-tick-in-Primitive : goal.step_state-returns-in_ok-tick-in-Primitive
+step_state-returns-in_ok-tick-in-Primitive g t c = λ P L A.
     counted_steps (g.R.Holds.answers c.args.context.now.functions.now) c.args.context.now.plan.now _ _ _ (ticked_by c.in_ok-tick-in-Primitive.ensures.ticked) (primitive_is (g.R.Holds.answers c.args.context.now.functions.now) c.args.context.now.plan.now c.in-Primitive.prim)
     (primitive_counted (g.R.Holds.answers c.args.context.now.functions.now) c.args.context.now.plan.now c.in-Primitive.prim c.step_prim.new.prim _ c.step_prim.new.value c.step_prim.result _ c.step_prim.ensures.answers) P L (rw c.in-Primitive.is at A)
 
-pub step_state-returns-in_ok-inside-in-Live-clause-answers : goal.step_state-returns-in_ok-inside-in-Live-clause-answers
-step_state-returns-in_ok-inside-in-Live-clause-answers g t c = λ P L A.
+pub step_state-returns-in_ok-inside-in-Live : goal.step_state-returns-in_ok-inside-in-Live
+step_state-returns-in_ok-inside-in-Live g t c = λ P L A.
     counted_steps (g.R.Holds.answers c.args.context.now.functions.now) c.args.context.now.plan.now _ _ _ (ticked_by c.in_ok-inside-in-Live.ensures.ticked) (live_is (g.R.Holds.answers c.args.context.now.functions.now) c.args.context.now.plan.now c.in-Live.field-0 c.in-Live.node.value)
-    (live_counted (g.R.Holds.answers c.args.context.now.functions.now) c.args.context.now.plan.now _ c.in-Live.field-0 c.in-Live.node.value c.step_node.new.node.value _ c.step_node.new.value c.step_node.result _ c.step_node.ensures.answers) P L (rw c.in-Live.is at A)
+    (live_counted (g.R.Holds.answers c.args.context.now.functions.now) c.args.context.now.plan.now _ c.in-Live.field-0 c.in-Live.node.value c.step_node.new.node.value _ c.step_node.new.value c.step_node.result _ c.step_node.ensures) P L (rw c.in-Live.is at A)
 
 -- ## step_node
 
-pub step_node-returns-in_default-clause-answers : goal.step_node-returns-in_default-clause-answers
-step_node-returns-in_default-clause-answers g t c = λ m depth t P L R. early_memory (g.R.Holds.answers c.args.context.now.functions.now) c.args.context.now.plan.now t c.stop.ensures.entered c.stop.ensures.height c.stop.ensures.fault
+pub step_node-returns-in_default : goal.step_node-returns-in_default
+step_node-returns-in_default g t c = λ m depth t P L R. early_memory (g.R.Holds.answers c.args.context.now.functions.now) c.args.context.now.plan.now t c.stop.ensures.entered c.stop.ensures.height c.stop.ensures.fault
 
-pub step_node-returns-in-Some-clause-answers : goal.step_node-returns-in-Some-clause-answers
-step_node-returns-in-Some-clause-answers g t c =
-    own_steps (g.R.Holds.answers c.args.context.now.functions.now) c.args.context.now.plan.now c.args.node.now.value c.in-Some.live.now _ _ (λ P x L R. rw c.in-Some.ensures.value (c.unshare.ensures (g.R.Holds.answers c.args.context.now.functions.now) c.args.context.now.plan.now P x L R)) c.step_live.ensures.answers
+pub step_node-returns-in-Some : goal.step_node-returns-in-Some
+step_node-returns-in-Some g t c =
+    own_steps (g.R.Holds.answers c.args.context.now.functions.now) c.args.context.now.plan.now c.args.node.now.value c.in-Some.live.now _ _ (λ P x L R. rw c.in-Some.ensures.value (c.unshare.ensures (g.R.Holds.answers c.args.context.now.functions.now) c.args.context.now.plan.now P x L R)) c.step_live.ensures
 
-pub step_node-returns-in-None-clause-answers : goal.step_node-returns-in-None-clause-answers
-step_node-returns-in-None-clause-answers g t c = λ m depth t P L R. early_memory (g.R.Holds.answers c.args.context.now.functions.now) c.args.context.now.plan.now t c.stop-in-None.ensures.entered c.stop-in-None.ensures.height c.stop-in-None.ensures.fault
+pub step_node-returns-in-None : goal.step_node-returns-in-None
+step_node-returns-in-None g t c = λ m depth t P L R. early_memory (g.R.Holds.answers c.args.context.now.functions.now) c.args.context.now.plan.now t c.stop-in-None.ensures.entered c.stop-in-None.ensures.height c.stop-in-None.ensures.fault
 
 -- ## step_counted
 
-pub step_counted-returns-in-Primitive-clause-answers : goal.step_counted-returns-in-Primitive-clause-answers
-step_counted-returns-in-Primitive-clause-answers g t c = λ m depth t P L A.
+pub step_counted-returns-in-Primitive : goal.step_counted-returns-in-Primitive
+step_counted-returns-in-Primitive g t c = λ m depth t P L A.
     primitive_counted (g.R.Holds.answers c.args.context.now.functions.now) c.args.context.now.plan.now c.in-Primitive.prim c.step_prim.new.prim _ c.step_prim.new.value c.step_prim.result _ c.step_prim.ensures.answers m depth t P L (rw c.in-Primitive.is at A)
 
-pub step_counted-returns-in-Live-clause-answers : goal.step_counted-returns-in-Live-clause-answers
-step_counted-returns-in-Live-clause-answers g t c = λ m depth t P L A.
-    live_counted (g.R.Holds.answers c.args.context.now.functions.now) c.args.context.now.plan.now _ c.in-Live.field-0 c.in-Live.node.value c.step_node.new.node.value _ c.step_node.new.value c.step_node.result _ c.step_node.ensures.answers m depth t P L (rw c.in-Live.is at A)
+pub step_counted-returns-in-Live : goal.step_counted-returns-in-Live
+step_counted-returns-in-Live g t c = λ m depth t P L A.
+    live_counted (g.R.Holds.answers c.args.context.now.functions.now) c.args.context.now.plan.now _ c.in-Live.field-0 c.in-Live.node.value c.step_node.new.node.value _ c.step_node.new.value c.step_node.result _ c.step_node.ensures m depth t P L (rw c.in-Live.is at A)
 
-pub step_counted-returns-in_err-over-in-Switch-clause-answers : goal.step_counted-returns-in_err-over-in-Switch-clause-answers
-step_counted-returns-in_err-over-in-Switch-clause-answers g t c = λ m depth t P L A.
+pub step_counted-returns-in_err-over-in-Switch : goal.step_counted-returns-in_err-over-in-Switch
+step_counted-returns-in_err-over-in-Switch g t c = λ m depth t P L A.
     pass_exit _ _ c.from_residual.ensures.0 (failed (watching_fails (g.R.Holds.answers c.args.context.now.functions.now) c.args.context.now.plan.now _ c.in-Switch.names c.in-Switch.node.value c.in-Switch.node.value (λ P L S. S)
-    (step c.args.context.now.dt c.args.value.now) c.args.meter.now c.step_watching.new.meter c.args.inside _ c.in_err-over-in-Switch.ensures.answers m depth t P L (rw c.in-Switch.is at A)))
+    (step c.args.context.now.dt c.args.value.now) c.args.meter.now c.step_watching.new.meter c.args.inside _ c.in_err-over-in-Switch.ensures m depth t P L (rw c.in-Switch.is at A)))
 
-pub step_counted-returns-in_ok-over-in-Switch-clause-answers : goal.step_counted-returns-in_ok-over-in-Switch-clause-answers
-step_counted-returns-in_ok-over-in-Switch-clause-answers g t c = λ m depth t P L A.
+pub step_counted-returns-in_ok-over-in-Switch : goal.step_counted-returns-in_ok-over-in-Switch
+step_counted-returns-in_ok-over-in-Switch g t c = λ m depth t P L A.
     watching_turns (g.R.Holds.answers c.args.context.now.functions.now) c.args.context.now.plan.now _ c.in-Switch.names c.in-Switch.node.value c.in-Switch.node.value (λ P L S. S) (step c.args.context.now.dt c.args.value.now) c.args.meter.now c.step_watching.new.meter c.args.inside
-    _ c.in_ok-over-in-Switch.over c.step_watching.new.node.value c.step_watching.new.value _ c.take_over.ensures c.in_ok-over-in-Switch.ensures.answers m depth t P L (rw c.in-Switch.is at A)
+    _ c.in_ok-over-in-Switch.over c.step_watching.new.node.value c.step_watching.new.value _ c.take_over.ensures c.in_ok-over-in-Switch.ensures m depth t P L (rw c.in-Switch.is at A)
 
-pub step_counted-returns-in_err-kept-in-Keeping-clause-answers : goal.step_counted-returns-in_err-kept-in-Keeping-clause-answers
-step_counted-returns-in_err-kept-in-Keeping-clause-answers g t c = λ m depth t P L A.
+pub step_counted-returns-in_err-kept-in-Keeping : goal.step_counted-returns-in_err-kept-in-Keeping
+step_counted-returns-in_err-kept-in-Keeping g t c = λ m depth t P L A.
     pass_exit _ _ c.from_residual-in_err-kept-in-Keeping.ensures.0 (failed (keeping_fails (g.R.Holds.answers c.args.context.now.functions.now) c.args.context.now.plan.now _ c.in-Keeping.names c.in-Keeping.node.value c.in-Keeping.node.value (λ P L S. S)
-    (step c.args.context.now.dt c.args.value.now) c.args.meter.now c.step_observing.new.meter c.args.inside _ c.in_err-kept-in-Keeping.ensures.answers m depth t P L (rw c.in-Keeping.is at A)))
+    (step c.args.context.now.dt c.args.value.now) c.args.meter.now c.step_observing.new.meter c.args.inside _ c.in_err-kept-in-Keeping.ensures m depth t P L (rw c.in-Keeping.is at A)))
 
-pub step_counted-returns-in_ok-kept-in-Keeping-clause-answers : goal.step_counted-returns-in_ok-kept-in-Keeping-clause-answers
-step_counted-returns-in_ok-kept-in-Keeping-clause-answers g t c = λ m depth t P L A.
+pub step_counted-returns-in_ok-kept-in-Keeping : goal.step_counted-returns-in_ok-kept-in-Keeping
+step_counted-returns-in_ok-kept-in-Keeping g t c = λ m depth t P L A.
     keeping_turns (g.R.Holds.answers c.args.context.now.functions.now) c.args.context.now.plan.now _ c.in-Keeping.names c.in-Keeping.node.value c.in-Keeping.node.value (λ P L S. S) (step c.args.context.now.dt c.args.value.now) c.args.meter.now c.step_observing.new.meter c.args.inside
-    _ c.in_ok-kept-in-Keeping.kept c.step_observing.new.node.value c.step_observing.new.value _ c.take_over-in-Keeping.ensures c.in_ok-kept-in-Keeping.ensures.answers m depth t P L (rw c.in-Keeping.is at A)
+    _ c.in_ok-kept-in-Keeping.kept c.step_observing.new.node.value c.step_observing.new.value _ c.take_over-in-Keeping.ensures c.in_ok-kept-in-Keeping.ensures m depth t P L (rw c.in-Keeping.is at A)
 
 -- ## step_watching, step_observing
 
-pub step_watching-returns-in_default-clause-answers : goal.step_watching-returns-in_default-clause-answers
-step_watching-returns-in_default-clause-answers g t c = λ m depth t T e L N W. early_memory (g.R.Holds.answers c.args.context.now.functions.now) c.args.context.now.plan.now t c.stop.ensures.entered c.stop.ensures.height c.stop.ensures.fault
+pub step_watching-returns-in_default : goal.step_watching-returns-in_default
+step_watching-returns-in_default g t c = λ m depth t T e L N W. early_memory (g.R.Holds.answers c.args.context.now.functions.now) c.args.context.now.plan.now t c.stop.ensures.entered c.stop.ensures.height c.stop.ensures.fault
 
-pub step_watching-returns-in-Some-clause-answers : goal.step_watching-returns-in-Some-clause-answers
-step_watching-returns-in-Some-clause-answers g t c = λ m depth t T e L N W. c.step_switch.ensures.answers m depth t T e L N (rw c.in-Some.ensures.value (c.unshare_switch.ensures (g.R.Holds.answers c.args.context.now.functions.now) c.args.context.now.plan.now _ _ W))
+pub step_watching-returns-in-Some : goal.step_watching-returns-in-Some
+step_watching-returns-in-Some g t c = λ m depth t T e L N W. c.step_switch.ensures m depth t T e L N (rw c.in-Some.ensures.value (c.unshare_switch.ensures (g.R.Holds.answers c.args.context.now.functions.now) c.args.context.now.plan.now _ _ W))
 
-pub step_watching-returns-in-None-clause-answers : goal.step_watching-returns-in-None-clause-answers
-step_watching-returns-in-None-clause-answers g t c = λ m depth t T e L N W. early_memory (g.R.Holds.answers c.args.context.now.functions.now) c.args.context.now.plan.now t c.stop-in-None.ensures.entered c.stop-in-None.ensures.height c.stop-in-None.ensures.fault
+pub step_watching-returns-in-None : goal.step_watching-returns-in-None
+step_watching-returns-in-None g t c = λ m depth t T e L N W. early_memory (g.R.Holds.answers c.args.context.now.functions.now) c.args.context.now.plan.now t c.stop-in-None.ensures.entered c.stop-in-None.ensures.height c.stop-in-None.ensures.fault
 
-pub step_observing-returns-in_default-clause-answers : goal.step_observing-returns-in_default-clause-answers
-step_observing-returns-in_default-clause-answers g t c = λ m depth t T e L N W. early_memory (g.R.Holds.answers c.args.context.now.functions.now) c.args.context.now.plan.now t c.stop.ensures.entered c.stop.ensures.height c.stop.ensures.fault
+pub step_observing-returns-in_default : goal.step_observing-returns-in_default
+step_observing-returns-in_default g t c = λ m depth t T e L N W. early_memory (g.R.Holds.answers c.args.context.now.functions.now) c.args.context.now.plan.now t c.stop.ensures.entered c.stop.ensures.height c.stop.ensures.fault
 
-pub step_observing-returns-in-Some-clause-answers : goal.step_observing-returns-in-Some-clause-answers
-step_observing-returns-in-Some-clause-answers g t c = λ m depth t T e L N W. c.step_keeping.ensures.answers m depth t T e L N (rw c.in-Some.ensures.value (c.unshare_keeping.ensures (g.R.Holds.answers c.args.context.now.functions.now) c.args.context.now.plan.now _ _ W))
+pub step_observing-returns-in-Some : goal.step_observing-returns-in-Some
+step_observing-returns-in-Some g t c = λ m depth t T e L N W. c.step_keeping.ensures m depth t T e L N (rw c.in-Some.ensures.value (c.unshare_keeping.ensures (g.R.Holds.answers c.args.context.now.functions.now) c.args.context.now.plan.now _ _ W))
 
-pub step_observing-returns-in-None-clause-answers : goal.step_observing-returns-in-None-clause-answers
-step_observing-returns-in-None-clause-answers g t c = λ m depth t T e L N W. early_memory (g.R.Holds.answers c.args.context.now.functions.now) c.args.context.now.plan.now t c.stop-in-None.ensures.entered c.stop-in-None.ensures.height c.stop-in-None.ensures.fault
+pub step_observing-returns-in-None : goal.step_observing-returns-in-None
+step_observing-returns-in-None g t c = λ m depth t T e L N W. early_memory (g.R.Holds.answers c.args.context.now.functions.now) c.args.context.now.plan.now t c.stop-in-None.ensures.entered c.stop-in-None.ensures.height c.stop-in-None.ensures.fault
 
 -- ## step_other
 
-pub step_other-returns-in-Primitive-clause-answers : goal.step_other-returns-in-Primitive-clause-answers
-step_other-returns-in-Primitive-clause-answers g t c = first_memory (g.R.Holds.answers c.args.context.now.functions.now) c.args.context.now.plan.now c.stop-in-Primitive.ensures.entered c.stop-in-Primitive.ensures.height c.stop-in-Primitive.ensures.fault
+pub step_other-returns-in-Primitive : goal.step_other-returns-in-Primitive
+step_other-returns-in-Primitive g t c = first_memory (g.R.Holds.answers c.args.context.now.functions.now) c.args.context.now.plan.now c.stop-in-Primitive.ensures.entered c.stop-in-Primitive.ensures.height c.stop-in-Primitive.ensures.fault
 
-pub step_other-returns-in_err-inside-in-Switch-clause-answers : goal.step_other-returns-in_err-inside-in-Switch-clause-answers
-step_other-returns-in_err-inside-in-Switch-clause-answers g t c = λ P L A. pass_exit _ _ c.from_residual.ensures.0 (tick_fails (g.R.Holds.answers c.args.context.now.functions.now) c.args.context.now.plan.now P _ c.in_err-inside-in-Switch.ensures.ticked)
+pub step_other-returns-in_err-inside-in-Switch : goal.step_other-returns-in_err-inside-in-Switch
+step_other-returns-in_err-inside-in-Switch g t c = λ P L A. pass_exit _ _ c.from_residual.ensures.0 (tick_fails (g.R.Holds.answers c.args.context.now.functions.now) c.args.context.now.plan.now P _ c.in_err-inside-in-Switch.ensures.ticked)
 
-pub step_other-returns-in_ok-inside-in-Switch-clause-answers : goal.step_other-returns-in_ok-inside-in-Switch-clause-answers
-step_other-returns-in_ok-inside-in-Switch-clause-answers g t c =
-    counted_steps (g.R.Holds.answers c.args.context.now.functions.now) c.args.context.now.plan.now c.args.state.now _ _ (ticked_by c.in_ok-inside-in-Switch.ensures.ticked) (rw c.in-Switch.is (switch_is (g.R.Holds.answers c.args.context.now.functions.now) c.args.context.now.plan.now c.in-Switch.field-0 c.in-Switch.field-1.value)) c.step_counted.ensures.answers
+pub step_other-returns-in_ok-inside-in-Switch : goal.step_other-returns-in_ok-inside-in-Switch
+step_other-returns-in_ok-inside-in-Switch g t c =
+    counted_steps (g.R.Holds.answers c.args.context.now.functions.now) c.args.context.now.plan.now c.args.state.now _ _ (ticked_by c.in_ok-inside-in-Switch.ensures.ticked) (rw c.in-Switch.is (switch_is (g.R.Holds.answers c.args.context.now.functions.now) c.args.context.now.plan.now c.in-Switch.field-0 c.in-Switch.field-1.value)) c.step_counted.ensures
 
-pub step_other-returns-in_err-inside-in-Keeping-clause-answers : goal.step_other-returns-in_err-inside-in-Keeping-clause-answers
-step_other-returns-in_err-inside-in-Keeping-clause-answers g t c = λ P L A. pass_exit _ _ c.from_residual-in_err-inside-in-Keeping.ensures.0 (tick_fails (g.R.Holds.answers c.args.context.now.functions.now) c.args.context.now.plan.now P _ c.in_err-inside-in-Keeping.ensures.ticked)
+pub step_other-returns-in_err-inside-in-Keeping : goal.step_other-returns-in_err-inside-in-Keeping
+step_other-returns-in_err-inside-in-Keeping g t c = λ P L A. pass_exit _ _ c.from_residual-in_err-inside-in-Keeping.ensures.0 (tick_fails (g.R.Holds.answers c.args.context.now.functions.now) c.args.context.now.plan.now P _ c.in_err-inside-in-Keeping.ensures.ticked)
 
-pub step_other-returns-in_ok-inside-in-Keeping-clause-answers : goal.step_other-returns-in_ok-inside-in-Keeping-clause-answers
-step_other-returns-in_ok-inside-in-Keeping-clause-answers g t c =
-    counted_steps (g.R.Holds.answers c.args.context.now.functions.now) c.args.context.now.plan.now c.args.state.now _ _ (ticked_by c.in_ok-inside-in-Keeping.ensures.ticked) (rw c.in-Keeping.is (keeping_is (g.R.Holds.answers c.args.context.now.functions.now) c.args.context.now.plan.now c.in-Keeping.field-0 c.in-Keeping.field-1.value)) c.step_counted-in-Keeping.ensures.answers
+pub step_other-returns-in_ok-inside-in-Keeping : goal.step_other-returns-in_ok-inside-in-Keeping
+step_other-returns-in_ok-inside-in-Keeping g t c =
+    counted_steps (g.R.Holds.answers c.args.context.now.functions.now) c.args.context.now.plan.now c.args.state.now _ _ (ticked_by c.in_ok-inside-in-Keeping.ensures.ticked) (rw c.in-Keeping.is (keeping_is (g.R.Holds.answers c.args.context.now.functions.now) c.args.context.now.plan.now c.in-Keeping.field-0 c.in-Keeping.field-1.value)) c.step_counted-in-Keeping.ensures
 
-pub step_other-returns-in_err-inside-in-Unborn-clause-answers : goal.step_other-returns-in_err-inside-in-Unborn-clause-answers
-step_other-returns-in_err-inside-in-Unborn-clause-answers g t c = λ P L A. pass_exit _ _ c.from_residual-in_err-inside-in-Unborn.ensures.0 (tick_fails (g.R.Holds.answers c.args.context.now.functions.now) c.args.context.now.plan.now P _ c.in_err-inside-in-Unborn.ensures.ticked)
+pub step_other-returns-in_err-inside-in-Unborn : goal.step_other-returns-in_err-inside-in-Unborn
+step_other-returns-in_err-inside-in-Unborn g t c = λ P L A. pass_exit _ _ c.from_residual-in_err-inside-in-Unborn.ensures.0 (tick_fails (g.R.Holds.answers c.args.context.now.functions.now) c.args.context.now.plan.now P _ c.in_err-inside-in-Unborn.ensures.ticked)
 
-pub step_other-returns-in-Ok-Itself-clause-answers : goal.step_other-returns-in-Ok-Itself-clause-answers
-step_other-returns-in-Ok-Itself-clause-answers g t c = λ P L A.
-    begun_steps (g.R.Holds.answers c.args.context.now.functions.now) c.args.context.now.plan.now c.in-Unborn.process.term c.in-Unborn.process.names c.args.context.now.dt c.args.value.now (ticked_by c.in_ok-inside-in-Unborn.ensures.ticked) c.begin.new.state _ (rw (c.replace-names.ensures.value, c.in-Ok-Itself.field-0-is) at c.in-Ok-Itself.ensures) c.step_counted-in-Ok-Itself.ensures.answers P L (rw c.in-Unborn.is at A)
+pub step_other-returns-in-Ok-Itself : goal.step_other-returns-in-Ok-Itself
+step_other-returns-in-Ok-Itself g t c = λ P L A.
+    begun_steps (g.R.Holds.answers c.args.context.now.functions.now) c.args.context.now.plan.now c.in-Unborn.process.term c.in-Unborn.process.names c.args.context.now.dt c.args.value.now (ticked_by c.in_ok-inside-in-Unborn.ensures.ticked) c.begin.new.state _ (rw (c.replace-names.ensures.value, c.in-Ok-Itself.field-0-is) at c.in-Ok-Itself.ensures) c.step_counted-in-Ok-Itself.ensures P L (rw c.in-Unborn.is at A)
 
-pub step_other-returns-in-Ok-Referred-clause-answers : goal.step_other-returns-in-Ok-Referred-clause-answers
-step_other-returns-in-Ok-Referred-clause-answers g t c = λ P L A.
-    begun_runs (g.R.Holds.answers c.args.context.now.functions.now) c.args.context.now.plan.now c.in-Unborn.process.term c.in-Unborn.process.names c.args.context.now.dt c.args.value.now (ticked_by c.in_ok-inside-in-Unborn.ensures.ticked) c.begin.new.state _ (rw (c.replace-names.ensures.value, c.in-Ok-Referred.field-0-is) at c.in-Ok-Referred.ensures) c.step_state.ensures.answers P L (rw c.in-Unborn.is at A)
+pub step_other-returns-in-Ok-Referred : goal.step_other-returns-in-Ok-Referred
+step_other-returns-in-Ok-Referred g t c = λ P L A.
+    begun_runs (g.R.Holds.answers c.args.context.now.functions.now) c.args.context.now.plan.now c.in-Unborn.process.term c.in-Unborn.process.names c.args.context.now.dt c.args.value.now (ticked_by c.in_ok-inside-in-Unborn.ensures.ticked) c.begin.new.state _ (rw (c.replace-names.ensures.value, c.in-Ok-Referred.field-0-is) at c.in-Ok-Referred.ensures) c.step_state.ensures P L (rw c.in-Unborn.is at A)
 
-pub step_other-returns-in-Err-clause-answers : goal.step_other-returns-in-Err-clause-answers
-step_other-returns-in-Err-clause-answers g t c = λ P L A.
+pub step_other-returns-in-Err : goal.step_other-returns-in-Err
+step_other-returns-in-Err g t c = λ P L A.
     begun_fails (g.R.Holds.answers c.args.context.now.functions.now) c.args.context.now.plan.now c.in-Unborn.process.term c.in-Unborn.process.names c.args.context.now.dt c.args.value.now (ticked_by c.in_ok-inside-in-Unborn.ensures.ticked) c.stop.ensures.entered c.stop.ensures.height c.begin.new.state c.in-Err.fault _ c.stop.ensures.fault (rw c.replace-names.ensures.value at c.in-Err.ensures) P L (rw c.in-Unborn.is at A)
 
 -- ## step_switch
 
-pub step_switch-returns-in_err-step_recurring-in-Recurring-clause-answers : goal.step_switch-returns-in_err-step_recurring-in-Recurring-clause-answers
-step_switch-returns-in_err-step_recurring-in-Recurring-clause-answers g t c = λ m depth t T e L N W.
-    pass_beside (g.R.Holds.answers c.args.context.now.functions.now) c.args.context.now.plan.now _ _ _ c.from_residual.ensures.0 (failed (c.in_err-step_recurring-in-Recurring.ensures.answers m depth t T e L N W))
+pub step_switch-returns-in_err-step_recurring-in-Recurring : goal.step_switch-returns-in_err-step_recurring-in-Recurring
+step_switch-returns-in_err-step_recurring-in-Recurring g t c = λ m depth t T e L N W.
+    pass_beside (g.R.Holds.answers c.args.context.now.functions.now) c.args.context.now.plan.now _ _ _ c.from_residual.ensures.0 (failed (c.in_err-step_recurring-in-Recurring.ensures m depth t T e L N W))
 
 -- ## step_basic
 
-pub step_basic-returns-in_default-clause-answers : goal.step_basic-returns-in_default-clause-answers
-step_basic-returns-in_default-clause-answers g t c = λ m depth t T e L N W. early_memory (g.R.Holds.answers c.args.context.now.functions.now) c.args.context.now.plan.now t c.stop.ensures.entered c.stop.ensures.height c.stop.ensures.fault
+pub step_basic-returns-in_default : goal.step_basic-returns-in_default
+step_basic-returns-in_default g t c = λ m depth t T e L N W. early_memory (g.R.Holds.answers c.args.context.now.functions.now) c.args.context.now.plan.now t c.stop.ensures.entered c.stop.ensures.height c.stop.ensures.fault
 
-pub step_basic-returns-in_err-step_state-clause-answers : goal.step_basic-returns-in_err-step_state-clause-answers
-step_basic-returns-in_err-step_state-clause-answers g t c = λ m depth t T e L N W.
+pub step_basic-returns-in_err-step_state : goal.step_basic-returns-in_err-step_state
+step_basic-returns-in_err-step_state g t c = λ m depth t T e L N W.
     pass_beside (g.R.Holds.answers c.args.context.now.functions.now) c.args.context.now.plan.now _ _ _ c.from_residual.ensures.0 (source_fails (g.R.Holds.answers c.args.context.now.functions.now) c.args.context.now.plan.now c.args.names.now c.args.switch.now c.args.shown c.requires.form (step c.args.context.now.dt c.args.value.now) c.args.meter.now c.step_state.new.meter c.args.inside
-    _ c.in_err-step_state.ensures.answers m depth t T e L N W)
+    _ c.in_err-step_state.ensures m depth t T e L N W)
 
-pub step_basic-returns-in_default-value_and_payload-clause-answers : goal.step_basic-returns-in_default-value_and_payload-clause-answers
-step_basic-returns-in_default-value_and_payload-clause-answers g t c = λ m depth t T e L N W.
+pub step_basic-returns-in_default-value_and_payload : goal.step_basic-returns-in_default-value_and_payload
+step_basic-returns-in_default-value_and_payload g t c = λ m depth t T e L N W.
     memory_exit c.stop-in_default-value_and_payload.ensures.fault (switch_memory (g.R.Holds.answers c.args.context.now.functions.now) c.args.context.now.plan.now c.args.names.now c.args.switch.now c.args.shown c.requires.form (step c.args.context.now.dt c.args.value.now) c.args.meter.now c.step_state.new.meter c.args.inside
-    c.step_state.new.state c.step_state.new.value c.in_ok-step_state.ensures.answers _ c.stop-in_default-value_and_payload.ensures.entered c.stop-in_default-value_and_payload.ensures.height m depth t T e L N W)
+    c.step_state.new.state c.step_state.new.value c.in_ok-step_state.ensures _ c.stop-in_default-value_and_payload.ensures.entered c.stop-in_default-value_and_payload.ensures.height m depth t T e L N W)
 
-pub step_basic-returns-in-None-clause-answers : goal.step_basic-returns-in-None-clause-answers
-step_basic-returns-in-None-clause-answers g t c =
+pub step_basic-returns-in-None : goal.step_basic-returns-in-None
+step_basic-returns-in-None g t c =
     let y = c.step_state.new.value in
     switch_waits_on (g.R.Holds.answers c.args.context.now.functions.now) c.args.context.now.plan.now c.args.names.now c.args.switch.now c.args.shown c.requires.form (step c.args.context.now.dt c.args.value.now) c.args.meter.now c.step_state.new.meter c.args.inside
-    c.step_state.new.state y c.in_ok-step_state.ensures.answers (none_occurs _ c.in-Ok-value_and_payload.occurring (second_of y) c.in-Ok-value_and_payload.ensures.1 c.in-None.is)
+    c.step_state.new.state y c.in_ok-step_state.ensures (none_occurs _ c.in-Ok-value_and_payload.occurring (second_of y) c.in-Ok-value_and_payload.ensures.1 c.in-None.is)
     c.in-Ok-value_and_payload.old c.in-Ok-value_and_payload.ensures.0 _ refl
 
-pub step_basic-returns-in_default-begin-clause-answers : goal.step_basic-returns-in_default-begin-clause-answers
-step_basic-returns-in_default-begin-clause-answers g t c = λ m depth t T e L N W.
+pub step_basic-returns-in_default-begin : goal.step_basic-returns-in_default-begin
+step_basic-returns-in_default-begin g t c = λ m depth t T e L N W.
     memory_exit c.stop-in_default-begin.ensures.fault (switch_memory (g.R.Holds.answers c.args.context.now.functions.now) c.args.context.now.plan.now c.args.names.now c.args.switch.now c.args.shown c.requires.form (step c.args.context.now.dt c.args.value.now) c.args.meter.now c.step_state.new.meter c.args.inside
-    c.step_state.new.state c.step_state.new.value c.in_ok-step_state.ensures.answers _ c.stop-in_default-begin.ensures.entered c.stop-in_default-begin.ensures.height m depth t T e L N W)
+    c.step_state.new.state c.step_state.new.value c.in_ok-step_state.ensures _ c.stop-in_default-begin.ensures.entered c.stop-in_default-begin.ensures.height m depth t T e L N W)
 
-pub step_basic-returns-in_err-step_state-in-Some-clause-answers : goal.step_basic-returns-in_err-step_state-in-Some-clause-answers
-step_basic-returns-in_err-step_state-in-Some-clause-answers g t c = λ m depth t T e L N W.
+pub step_basic-returns-in_err-body-in-Some : goal.step_basic-returns-in_err-body-in-Some
+step_basic-returns-in_err-body-in-Some g t c = λ m depth t T e L N W.
     let y = c.step_state.new.value in
-    pass_beside (g.R.Holds.answers c.args.context.now.functions.now) c.args.context.now.plan.now _ _ _ c.from_residual-in_err-step_state-in-Some.ensures.0 (body_fails (g.R.Holds.answers c.args.context.now.functions.now) c.args.context.now.plan.now c.args.names.now c.args.switch.now c.args.shown c.requires.form (step c.args.context.now.dt c.args.value.now) c.args.meter.now c.step_state.new.meter c.args.inside
-    c.step_state.new.state y c.in_ok-step_state.ensures.answers c.in-Some.payload.value (some_occurs _ c.in-Ok-value_and_payload.occurring c.in-Some.payload (second_of y) c.in-Ok-value_and_payload.ensures.1 c.in-Some.is)
-    c.in-Ok-begin.body (c.in-Ok-begin.ensures (g.R.Holds.answers c.args.context.now.functions.now) c.args.context.now.plan.now) c.step_state-in-Some.new.meter _ (rw c.in-Ok.ensures at c.in_err-step_state-in-Some.ensures.answers) m depth t T e L N W)
+    pass_beside (g.R.Holds.answers c.args.context.now.functions.now) c.args.context.now.plan.now _ _ _ c.from_residual-in_err-body-in-Some.ensures.0 (body_fails (g.R.Holds.answers c.args.context.now.functions.now) c.args.context.now.plan.now c.args.names.now c.args.switch.now c.args.shown c.requires.form (step c.args.context.now.dt c.args.value.now) c.args.meter.now c.step_state.new.meter c.args.inside
+    c.step_state.new.state y c.in_ok-step_state.ensures c.in-Some.payload.value (some_occurs _ c.in-Ok-value_and_payload.occurring c.in-Some.payload (second_of y) c.in-Ok-value_and_payload.ensures.1 c.in-Some.is)
+    c.in-Ok-begin.body (c.in-Ok-begin.ensures (g.R.Holds.answers c.args.context.now.functions.now) c.args.context.now.plan.now) c.step_begun.new.meter _ (rw c.in-Ok.ensures at c.in_err-body-in-Some.ensures) m depth t T e L N W)
 
-pub step_basic-returns-in_ok-step_state-in-Some-clause-answers : goal.step_basic-returns-in_ok-step_state-in-Some-clause-answers
-step_basic-returns-in_ok-step_state-in-Some-clause-answers g t c =
+pub step_basic-returns-in_ok-body-in-Some : goal.step_basic-returns-in_ok-body-in-Some
+step_basic-returns-in_ok-body-in-Some g t c =
     let y = c.step_state.new.value in
     body_takes_over (g.R.Holds.answers c.args.context.now.functions.now) c.args.context.now.plan.now c.args.names.now c.args.switch.now c.args.shown c.requires.form (step c.args.context.now.dt c.args.value.now) c.args.meter.now c.step_state.new.meter c.args.inside
-    c.step_state.new.state y c.in_ok-step_state.ensures.answers c.in-Some.payload.value (some_occurs _ c.in-Ok-value_and_payload.occurring c.in-Some.payload (second_of y) c.in-Ok-value_and_payload.ensures.1 c.in-Some.is)
-    c.in-Ok-begin.body (c.in-Ok-begin.ensures (g.R.Holds.answers c.args.context.now.functions.now) c.args.context.now.plan.now) c.step_state-in-Some.new.meter
-    c.step_state-in-Some.new.state c.step_state-in-Some.new.value _ (c.switched.ensures ∙ ap (λ d. switched_value c.args.shown d c.step_state-in-Some.new.value) c.in-Ok-value_and_payload.ensures.0) _
-    (rw c.in-Ok.ensures at c.in_ok-step_state-in-Some.ensures.answers)
+    c.step_state.new.state y c.in_ok-step_state.ensures c.in-Some.payload.value (some_occurs _ c.in-Ok-value_and_payload.occurring c.in-Some.payload (second_of y) c.in-Ok-value_and_payload.ensures.1 c.in-Some.is)
+    c.in-Ok-begin.body (c.in-Ok-begin.ensures (g.R.Holds.answers c.args.context.now.functions.now) c.args.context.now.plan.now) c.step_begun.new.meter
+    c.in_ok-body-in-Some.body c.in_ok-body-in-Some.output _ (c.show.ensures ∙ ap (λ d. switched_value c.args.shown d c.in_ok-body-in-Some.output) c.in-Ok-value_and_payload.ensures.0) _
+    (rw c.in-Ok.ensures at c.in_ok-body-in-Some.ensures)
 
 -- ## step_recurring
 
-pub step_recurring-returns-in_default-clause-answers : goal.step_recurring-returns-in_default-clause-answers
-step_recurring-returns-in_default-clause-answers g t c = λ m depth t T e L N W. early_memory (g.R.Holds.answers c.args.context.now.functions.now) c.args.context.now.plan.now t c.stop.ensures.entered c.stop.ensures.height c.stop.ensures.fault
+pub step_recurring-returns-in_default : goal.step_recurring-returns-in_default
+step_recurring-returns-in_default g t c = λ m depth t T e L N W. early_memory (g.R.Holds.answers c.args.context.now.functions.now) c.args.context.now.plan.now t c.stop.ensures.entered c.stop.ensures.height c.stop.ensures.fault
 
-pub step_recurring-returns-in-None-clause-answers : goal.step_recurring-returns-in-None-clause-answers
-step_recurring-returns-in-None-clause-answers g t c =
+pub step_recurring-returns-in-None : goal.step_recurring-returns-in-None
+step_recurring-returns-in-None g t c =
     runs_alone (g.R.Holds.answers c.args.context.now.functions.now) c.args.context.now.plan.now c.args.names.now c.args.switch.now c.args.shown c.requires.form c.args.context.now.dt c.args.value.now c.in-Ok.input c.in-Ok.ensures.0 c.args.meter.now c.step_state.new.meter c.args.inside
     c.step_state.result c.step_state.new.state c.step_state.new.value (fault_of c.step_state.new.meter) (none_occurs _ c.in-Ok.occurring (second_of c.args.value.now) c.in-Ok.ensures.1 c.in-None.is)
-    _ refl c.step_state.ensures.answers
+    _ refl c.step_state.ensures
 
-pub step_recurring-returns-in_default-clone_in-clause-answers : goal.step_recurring-returns-in_default-clone_in-clause-answers
-step_recurring-returns-in_default-clone_in-clause-answers g t c = λ m depth t T e L N W. early_memory (g.R.Holds.answers c.args.context.now.functions.now) c.args.context.now.plan.now t c.stop-in_default-clone_in.ensures.entered c.stop-in_default-clone_in.ensures.height c.stop-in_default-clone_in.ensures.fault
+pub step_recurring-returns-in_default-clone_in : goal.step_recurring-returns-in_default-clone_in
+step_recurring-returns-in_default-clone_in g t c = λ m depth t T e L N W. early_memory (g.R.Holds.answers c.args.context.now.functions.now) c.args.context.now.plan.now t c.stop-in_default-clone_in.ensures.entered c.stop-in_default-clone_in.ensures.height c.stop-in_default-clone_in.ensures.fault
 
-pub step_recurring-returns-in_err-step_state-in-Some-clause-answers : goal.step_recurring-returns-in_err-step_state-in-Some-clause-answers
-step_recurring-returns-in_err-step_state-in-Some-clause-answers g t c = λ m depth t T e L N W.
+pub step_recurring-returns-in_err-step_state-in-Some : goal.step_recurring-returns-in_err-step_state-in-Some
+step_recurring-returns-in_err-step_state-in-Some g t c = λ m depth t T e L N W.
     pass_exit _ _ c.from_residual.ensures.0 (run_fails (g.R.Holds.answers c.args.context.now.functions.now) c.args.context.now.plan.now c.args.names.now c.args.switch.now c.args.shown c.requires.form c.args.context.now.dt c.args.value.now c.in-Ok.input c.in-Ok.ensures.0 c.args.meter.now c.step_state-in-Some.new.meter c.args.inside
-    _ c.in_err-step_state-in-Some.ensures.answers m depth t T e L N W)
+    _ c.in_err-step_state-in-Some.ensures m depth t T e L N W)
 
-pub step_recurring-returns-in_default-begin-clause-answers : goal.step_recurring-returns-in_default-begin-clause-answers
-step_recurring-returns-in_default-begin-clause-answers g t c = λ m depth t T e L N W.
+pub step_recurring-returns-in_default-begin : goal.step_recurring-returns-in_default-begin
+step_recurring-returns-in_default-begin g t c = λ m depth t T e L N W.
     memory_exit c.stop-in_default-begin.ensures.fault (run_memory (g.R.Holds.answers c.args.context.now.functions.now) c.args.context.now.plan.now c.args.names.now c.args.switch.now c.args.shown c.requires.form c.args.context.now.dt c.args.value.now c.in-Ok.input c.in-Ok.ensures.0 c.args.meter.now c.step_state-in-Some.new.meter c.args.inside
-    c.step_state-in-Some.new.state c.step_state-in-Some.new.value c.in_ok-step_state-in-Some.ensures.answers _ c.stop-in_default-begin.ensures.entered c.stop-in_default-begin.ensures.height m depth t T e L N W)
+    c.step_state-in-Some.new.state c.step_state-in-Some.new.value c.in_ok-step_state-in-Some.ensures _ c.stop-in_default-begin.ensures.entered c.stop-in_default-begin.ensures.height m depth t T e L N W)
 
-pub step_recurring-returns-in_err-step_state-in-Some-2-clause-answers : goal.step_recurring-returns-in_err-step_state-in-Some-2-clause-answers
-step_recurring-returns-in_err-step_state-in-Some-2-clause-answers g t c = λ m depth t T e L N W.
-    pass_exit _ _ c.from_residual-in_err-step_state-in-Some-2.ensures.0 (new_fails (g.R.Holds.answers c.args.context.now.functions.now) c.args.context.now.plan.now c.args.names.now c.args.switch.now c.args.shown c.requires.form c.args.context.now.dt c.args.value.now c.in-Ok.input c.in-Ok.ensures.0 c.args.meter.now c.step_state-in-Some.new.meter c.args.inside
-    c.step_state-in-Some.new.state c.step_state-in-Some.new.value c.in_ok-step_state-in-Some.ensures.answers c.in-Some.payload.value (some_occurs _ c.in-Ok.occurring c.in-Some.payload (second_of c.args.value.now) c.in-Ok.ensures.1 c.in-Some.is)
-    c.in-Ok-begin.next c.in-Ok-clone_in.begun c.in-Ok-clone_in.ensures (c.in-Ok-begin.ensures (g.R.Holds.answers c.args.context.now.functions.now) c.args.context.now.plan.now) c.step_state-in-Some-2.new.meter _ c.in_err-step_state-in-Some-2.ensures.answers m depth t T e L N W)
+pub step_recurring-returns-in_err-body-in-Some : goal.step_recurring-returns-in_err-body-in-Some
+step_recurring-returns-in_err-body-in-Some g t c = λ m depth t T e L N W.
+    pass_exit _ _ c.from_residual-in_err-body-in-Some.ensures.0 (new_fails (g.R.Holds.answers c.args.context.now.functions.now) c.args.context.now.plan.now c.args.names.now c.args.switch.now c.args.shown c.requires.form c.args.context.now.dt c.args.value.now c.in-Ok.input c.in-Ok.ensures.0 c.args.meter.now c.step_state-in-Some.new.meter c.args.inside
+    c.step_state-in-Some.new.state c.step_state-in-Some.new.value c.in_ok-step_state-in-Some.ensures c.in-Some.payload.value (some_occurs _ c.in-Ok.occurring c.in-Some.payload (second_of c.args.value.now) c.in-Ok.ensures.1 c.in-Some.is)
+    c.in-Ok-begin.body c.in-Ok-clone_in.begun c.in-Ok-clone_in.ensures (c.in-Ok-begin.ensures (g.R.Holds.answers c.args.context.now.functions.now) c.args.context.now.plan.now) c.step_begun.new.meter _ c.in_err-body-in-Some.ensures m depth t T e L N W)
 
-pub step_recurring-returns-in_ok-step_state-in-Some-2-clause-answers : goal.step_recurring-returns-in_ok-step_state-in-Some-2-clause-answers
-step_recurring-returns-in_ok-step_state-in-Some-2-clause-answers g t c =
+pub step_recurring-returns-in_ok-body-in-Some : goal.step_recurring-returns-in_ok-body-in-Some
+step_recurring-returns-in_ok-body-in-Some g t c =
     new_runs (g.R.Holds.answers c.args.context.now.functions.now) c.args.context.now.plan.now c.args.names.now c.args.switch.now c.args.shown c.requires.form c.args.context.now.dt c.args.value.now c.in-Ok.input c.in-Ok.ensures.0 c.args.meter.now c.step_state-in-Some.new.meter c.args.inside
-    c.step_state-in-Some.new.state c.step_state-in-Some.new.value c.in_ok-step_state-in-Some.ensures.answers c.in-Some.payload.value (some_occurs _ c.in-Ok.occurring c.in-Some.payload (second_of c.args.value.now) c.in-Ok.ensures.1 c.in-Some.is)
-    c.in-Ok-begin.next c.in-Ok-clone_in.begun c.in-Ok-clone_in.ensures (c.in-Ok-begin.ensures (g.R.Holds.answers c.args.context.now.functions.now) c.args.context.now.plan.now) c.step_state-in-Some-2.new.meter
-    c.step_state-in-Some-2.new.state c.step_state-in-Some-2.new.value _ (c.switched.ensures ∙ ap (λ d. switched_value c.args.shown d c.step_state-in-Some-2.new.value) c.replace-old.ensures.value) _ (ap (λ (a : State). record { form = c.args.switch.now.form; running = a; pattern = c.args.switch.now.pattern; body = c.args.switch.now.body }) c.take_over.ensures) c.in_ok-step_state-in-Some-2.ensures.answers
+    c.step_state-in-Some.new.state c.step_state-in-Some.new.value c.in_ok-step_state-in-Some.ensures c.in-Some.payload.value (some_occurs _ c.in-Ok.occurring c.in-Some.payload (second_of c.args.value.now) c.in-Ok.ensures.1 c.in-Some.is)
+    c.in-Ok-begin.body c.in-Ok-clone_in.begun c.in-Ok-clone_in.ensures (c.in-Ok-begin.ensures (g.R.Holds.answers c.args.context.now.functions.now) c.args.context.now.plan.now) c.step_begun.new.meter
+    c.in_ok-body-in-Some.body c.in_ok-body-in-Some.output _ c.show.ensures _ (ap (λ (a : State). record { form = c.args.switch.now.form; running = a; pattern = c.args.switch.now.pattern; body = c.args.switch.now.body }) c.take_over.ensures) c.in_ok-body-in-Some.ensures
 
 -- ## step_pipeline
 
@@ -230,18 +230,17 @@ step_pipeline-loop-stage-init g t c =
     let φ = g.R.Holds.answers c.args.context.now.functions.now in
     let p = c.args.context.now.plan.now in
     record {
-      grows = omega arith;
       goes_on = continues_first φ p c.deref_mut-stage-items.result.now c.args.context.now.dt c.args.value.now c.args.meter.now c.args.inside;
     }
 
-pub step_pipeline-returns-in_err-step_state-clause-answers : goal.step_pipeline-returns-in_err-step_state-clause-answers
-step_pipeline-returns-in_err-step_state-clause-answers g t c = λ m depth t P L R.
+pub step_pipeline-returns-in_err-step_state : goal.step_pipeline-returns-in_err-step_state
+step_pipeline-returns-in_err-step_state g t c = λ m depth t P L R.
     let φ = g.R.Holds.answers c.args.context.now.functions.now in
     let p = c.args.context.now.plan.now in
     let l = c.loop-stage in
     let f = fault_of c.step_state.new.meter in
     let failed = continues_fails φ p _ c.args.context.now.dt c.args.value.now c.args.meter.now l.stage-items l.stage-index l.value l.meter c.args.inside c.stage-item.result (omega (arith, c.loop-stage-test.true, l.auto.stage-items)) l.invariant.goes_on
-    f c.step_state.new.meter c.in_err-step_state.ensures.answers in
+    f c.step_state.new.meter c.in_err-step_state.ensures in
     pass_exit _ _ c.from_residual.ensures.0 (pipeline_fails φ p c.args.stages.now c.args.context.now.dt c.args.value.now c.args.meter.now c.step_state.new.meter c.args.inside f
     (subst (λ bs. StagesStep φ p bs c.args.context.now.dt c.args.value.now (Err f) c.args.meter.now c.step_state.new.meter c.args.inside) c.deref_mut-stage-items.ensures.value failed) m depth t P L R)
 
@@ -251,13 +250,12 @@ step_pipeline-loop-stage-preserved g t c =
     let p = c.args.context.now.plan.now in
     let l = c.loop-stage in
     record {
-      grows = omega (arith, l.invariant.grows, c.in_ok-step_state.ensures.grows);
       goes_on = continues_next φ p _ c.args.context.now.dt c.args.value.now c.args.meter.now l.stage-items l.stage-index l.value l.meter c.args.inside c.stage-item.result (omega (arith, c.loop-stage-test.true, l.auto.stage-items)) l.invariant.goes_on
-          c.step_state.new.state c.step_state.new.value c.step_state.new.meter c.in_ok-step_state.ensures.answers;
+          c.step_state.new.state c.step_state.new.value c.step_state.new.meter c.in_ok-step_state.ensures;
     }
 
-pub step_pipeline-returns-clause-answers : goal.step_pipeline-returns-clause-answers
-step_pipeline-returns-clause-answers g t c =
+pub step_pipeline-returns : goal.step_pipeline-returns
+step_pipeline-returns g t c =
     let φ = g.R.Holds.answers c.args.context.now.functions.now in
     let p = c.args.context.now.plan.now in
     let l = c.loop-stage in
@@ -269,201 +267,201 @@ step_pipeline-returns-clause-answers g t c =
 
 -- ## step_half
 
-pub step_half-returns-in_default-clause-answers : goal.step_half-returns-in_default-clause-answers
-step_half-returns-in_default-clause-answers g t c = first_memory (g.R.Holds.answers c.args.context.now.functions.now) c.args.context.now.plan.now c.stop.ensures.entered c.stop.ensures.height c.stop.ensures.fault
+pub step_half-returns-in_default : goal.step_half-returns-in_default
+step_half-returns-in_default g t c = first_memory (g.R.Holds.answers c.args.context.now.functions.now) c.args.context.now.plan.now c.stop.ensures.entered c.stop.ensures.height c.stop.ensures.fault
 
-pub step_half-returns-in-None-clause-answers : goal.step_half-returns-in-None-clause-answers
-step_half-returns-in-None-clause-answers g t c = first_memory (g.R.Holds.answers c.args.context.now.functions.now) c.args.context.now.plan.now c.stop-in-None.ensures.entered c.stop-in-None.ensures.height c.stop-in-None.ensures.fault
+pub step_half-returns-in-None : goal.step_half-returns-in-None
+step_half-returns-in-None g t c = first_memory (g.R.Holds.answers c.args.context.now.functions.now) c.args.context.now.plan.now c.stop-in-None.ensures.entered c.stop-in-None.ensures.height c.stop-in-None.ensures.fault
 
-pub step_half-returns-in-Some-clause-answers : goal.step_half-returns-in-Some-clause-answers
-step_half-returns-in-Some-clause-answers g t c = rw (c.in-Some.ensures.value ∙ c.unshare_half.ensures) at c.step_state.ensures.answers
+pub step_half-returns-in-Some : goal.step_half-returns-in-Some
+step_half-returns-in-Some g t c = rw (c.in-Some.ensures.value ∙ c.unshare_half.ensures) at c.step_state.ensures
 
 -- ## step_sequence
 
-pub step_sequence-returns-in_err-step_state-clause-answers : goal.step_sequence-returns-in_err-step_state-clause-answers
-step_sequence-returns-in_err-step_state-clause-answers g t c = λ m depth t P L R.
+pub step_sequence-returns-in_err-step_state : goal.step_sequence-returns-in_err-step_state
+step_sequence-returns-in_err-step_state g t c = λ m depth t P L R.
     pass_exit _ _ c.from_residual.ensures.0 (join_left_fails (g.R.Holds.answers c.args.context.now.functions.now) c.args.context.now.plan.now InSequence c.args.left.now c.args.right.now c.args.meter.now c.step_state.new.meter c.args.inside c.args.context.now.dt c.args.value.now c.args.value.now refl
-    _ c.in_err-step_state.ensures.answers m depth t P L R)
+    _ c.in_err-step_state.ensures m depth t P L R)
 
-pub step_sequence-returns-clause-answers : goal.step_sequence-returns-clause-answers
-step_sequence-returns-clause-answers g t c =
+pub step_sequence-returns : goal.step_sequence-returns
+step_sequence-returns g t c =
     join_last (g.R.Holds.answers c.args.context.now.functions.now) c.args.context.now.plan.now InSequence c.args.left.now c.args.right.now c.args.meter.now c.step_state.new.meter c.args.inside c.args.context.now.dt c.args.value.now c.args.value.now refl
-    c.step_state.new.state c.step_state.new.value c.step_state.new.value refl c.in_ok-step_state.ensures.answers
-    c.step_state-2.new.meter c.step_state-2.new.state c.step_state-2.new.value c.step_state-2.new.value c.step_state-2.result _ refl c.step_state-2.ensures.answers
+    c.step_state.new.state c.step_state.new.value c.step_state.new.value refl c.in_ok-step_state.ensures
+    c.step_state-2.new.meter c.step_state-2.new.state c.step_state-2.new.value c.step_state-2.new.value c.step_state-2.result _ refl c.step_state-2.ensures
 
 -- ## step_parallel
 
-pub step_parallel-returns-in_default-clause-answers : goal.step_parallel-returns-in_default-clause-answers
-step_parallel-returns-in_default-clause-answers g t c = λ m depth t P L R. early_memory (g.R.Holds.answers c.args.context.now.functions.now) c.args.context.now.plan.now t c.stop.ensures.entered c.stop.ensures.height c.stop.ensures.fault
+pub step_parallel-returns-in_default : goal.step_parallel-returns-in_default
+step_parallel-returns-in_default g t c = λ m depth t P L R. early_memory (g.R.Holds.answers c.args.context.now.functions.now) c.args.context.now.plan.now t c.stop.ensures.entered c.stop.ensures.height c.stop.ensures.fault
 
-pub step_parallel-returns-in_err-step_half-clause-answers : goal.step_parallel-returns-in_err-step_half-clause-answers
-step_parallel-returns-in_err-step_half-clause-answers g t c = λ m depth t P L R.
+pub step_parallel-returns-in_err-step_half : goal.step_parallel-returns-in_err-step_half
+step_parallel-returns-in_err-step_half g t c = λ m depth t P L R.
     pass_exit _ _ c.from_residual.ensures.0 (join_left_fails (g.R.Holds.answers c.args.context.now.functions.now) c.args.context.now.plan.now InParallel c.args.left.now c.args.right.now c.args.meter.now c.step_half.new.meter c.args.inside c.args.context.now.dt c.args.value.now _ c.in-Ok.ensures.0
-    _ c.in_err-step_half.ensures.answers m depth t P L R)
+    _ c.in_err-step_half.ensures m depth t P L R)
 
-pub step_parallel-returns-in_err-step_half-2-clause-answers : goal.step_parallel-returns-in_err-step_half-2-clause-answers
-step_parallel-returns-in_err-step_half-2-clause-answers g t c = λ m depth t P L R.
+pub step_parallel-returns-in_err-step_half-2 : goal.step_parallel-returns-in_err-step_half-2
+step_parallel-returns-in_err-step_half-2 g t c = λ m depth t P L R.
     pass_exit _ _ c.from_residual-in_err-step_half-2.ensures.0 (join_right_fails (g.R.Holds.answers c.args.context.now.functions.now) c.args.context.now.plan.now InParallel c.args.left.now c.args.right.now c.args.meter.now c.step_half.new.meter c.args.inside c.args.context.now.dt c.args.value.now _ c.in-Ok.ensures.0
-    c.step_half.new.state c.step_half.new.half.value _ c.in-Ok.ensures.1 c.in_ok-step_half.ensures.answers
-    c.step_half-2.new.meter _ c.in_err-step_half-2.ensures.answers m depth t P L R)
+    c.step_half.new.state c.step_half.new.half.value _ c.in-Ok.ensures.1 c.in_ok-step_half.ensures
+    c.step_half-2.new.meter _ c.in_err-step_half-2.ensures m depth t P L R)
 
-pub step_parallel-returns-clause-answers : goal.step_parallel-returns-clause-answers
-step_parallel-returns-clause-answers g t c =
+pub step_parallel-returns : goal.step_parallel-returns
+step_parallel-returns g t c =
     join_steps (g.R.Holds.answers c.args.context.now.functions.now) c.args.context.now.plan.now InParallel c.args.left.now c.args.right.now c.args.meter.now c.step_half.new.meter c.args.inside c.args.context.now.dt c.args.value.now _ c.in-Ok.ensures.0
-    c.step_half.new.state c.step_half.new.half.value _ c.in-Ok.ensures.1 c.in_ok-step_half.ensures.answers
-    c.step_half-2.new.meter c.step_half-2.new.state c.step_half-2.new.half.value c.of_halves.result c.of_halves.ensures c.in_ok-step_half-2.ensures.answers
+    c.step_half.new.state c.step_half.new.half.value _ c.in-Ok.ensures.1 c.in_ok-step_half.ensures
+    c.step_half-2.new.meter c.step_half-2.new.state c.step_half-2.new.half.value c.of_halves.result c.of_halves.ensures c.in_ok-step_half-2.ensures
 
 -- ## step_fan
 
-pub step_fan-returns-in_default-clause-answers : goal.step_fan-returns-in_default-clause-answers
-step_fan-returns-in_default-clause-answers g t c = λ m depth t P L R. early_memory (g.R.Holds.answers c.args.context.now.functions.now) c.args.context.now.plan.now t c.stop.ensures.entered c.stop.ensures.height c.stop.ensures.fault
+pub step_fan-returns-in_default : goal.step_fan-returns-in_default
+step_fan-returns-in_default g t c = λ m depth t P L R. early_memory (g.R.Holds.answers c.args.context.now.functions.now) c.args.context.now.plan.now t c.stop.ensures.entered c.stop.ensures.height c.stop.ensures.fault
 
-pub step_fan-returns-in_err-step_state-clause-answers : goal.step_fan-returns-in_err-step_state-clause-answers
-step_fan-returns-in_err-step_state-clause-answers g t c = λ m depth t P L R.
+pub step_fan-returns-in_err-step_state : goal.step_fan-returns-in_err-step_state
+step_fan-returns-in_err-step_state g t c = λ m depth t P L R.
     pass_exit _ _ c.from_residual.ensures.0 (join_left_fails (g.R.Holds.answers c.args.context.now.functions.now) c.args.context.now.plan.now FannedOut c.args.left.now c.args.right.now c.args.meter.now c.step_state.new.meter c.args.inside c.args.context.now.dt c.args.value.now c.in-Ok.first c.in-Ok.ensures
-    _ c.in_err-step_state.ensures.answers m depth t P L R)
+    _ c.in_err-step_state.ensures m depth t P L R)
 
-pub step_fan-returns-in_err-step_state-2-clause-answers : goal.step_fan-returns-in_err-step_state-2-clause-answers
-step_fan-returns-in_err-step_state-2-clause-answers g t c = λ m depth t P L R.
+pub step_fan-returns-in_err-step_state-2 : goal.step_fan-returns-in_err-step_state-2
+step_fan-returns-in_err-step_state-2 g t c = λ m depth t P L R.
     pass_exit _ _ c.from_residual-in_err-step_state-2.ensures.0 (join_right_fails (g.R.Holds.answers c.args.context.now.functions.now) c.args.context.now.plan.now FannedOut c.args.left.now c.args.right.now c.args.meter.now c.step_state.new.meter c.args.inside c.args.context.now.dt c.args.value.now c.in-Ok.first c.in-Ok.ensures
-    c.step_state.new.state c.step_state.new.value c.args.value.now refl c.in_ok-step_state.ensures.answers
-    c.step_state-2.new.meter _ c.in_err-step_state-2.ensures.answers m depth t P L R)
+    c.step_state.new.state c.step_state.new.value c.args.value.now refl c.in_ok-step_state.ensures
+    c.step_state-2.new.meter _ c.in_err-step_state-2.ensures m depth t P L R)
 
-pub step_fan-returns-in_default-pair-clause-answers : goal.step_fan-returns-in_default-pair-clause-answers
-step_fan-returns-in_default-pair-clause-answers g t c =
+pub step_fan-returns-in_default-pair : goal.step_fan-returns-in_default-pair
+step_fan-returns-in_default-pair g t c =
     late_memory (g.R.Holds.answers c.args.context.now.functions.now) c.args.context.now.plan.now (join_steps (g.R.Holds.answers c.args.context.now.functions.now) c.args.context.now.plan.now FannedOut c.args.left.now c.args.right.now c.args.meter.now c.step_state.new.meter c.args.inside c.args.context.now.dt c.args.value.now c.in-Ok.first c.in-Ok.ensures
-    c.step_state.new.state c.step_state.new.value c.args.value.now refl c.in_ok-step_state.ensures.answers
-    c.step_state-2.new.meter c.step_state-2.new.state c.step_state-2.new.value _ refl c.in_ok-step_state-2.ensures.answers)
+    c.step_state.new.state c.step_state.new.value c.args.value.now refl c.in_ok-step_state.ensures
+    c.step_state-2.new.meter c.step_state-2.new.state c.step_state-2.new.value _ refl c.in_ok-step_state-2.ensures)
     c.stop-in_default-pair.ensures.entered c.stop-in_default-pair.ensures.height c.stop-in_default-pair.ensures.fault
 
-pub step_fan-returns-clause-answers : goal.step_fan-returns-clause-answers
-step_fan-returns-clause-answers g t c =
+pub step_fan-returns : goal.step_fan-returns
+step_fan-returns g t c =
     join_steps (g.R.Holds.answers c.args.context.now.functions.now) c.args.context.now.plan.now FannedOut c.args.left.now c.args.right.now c.args.meter.now c.step_state.new.meter c.args.inside c.args.context.now.dt c.args.value.now c.in-Ok.first c.in-Ok.ensures
-    c.step_state.new.state c.step_state.new.value c.args.value.now refl c.in_ok-step_state.ensures.answers
-    c.step_state-2.new.meter c.step_state-2.new.state c.step_state-2.new.value c.in-Ok-pair.both (rw c.replace-second.ensures.value at c.in-Ok-pair.ensures) c.in_ok-step_state-2.ensures.answers
+    c.step_state.new.state c.step_state.new.value c.args.value.now refl c.in_ok-step_state.ensures
+    c.step_state-2.new.meter c.step_state-2.new.state c.step_state-2.new.value c.in-Ok-pair.both (rw c.replace-second.ensures.value at c.in-Ok-pair.ensures) c.in_ok-step_state-2.ensures
 
 -- ## step_first
 
-pub step_first-returns-in_default-clause-answers : goal.step_first-returns-in_default-clause-answers
-step_first-returns-in_default-clause-answers g t c = λ m depth t P L R. early_memory (g.R.Holds.answers c.args.context.now.functions.now) c.args.context.now.plan.now t c.stop.ensures.entered c.stop.ensures.height c.stop.ensures.fault
+pub step_first-returns-in_default : goal.step_first-returns-in_default
+step_first-returns-in_default g t c = λ m depth t P L R. early_memory (g.R.Holds.answers c.args.context.now.functions.now) c.args.context.now.plan.now t c.stop.ensures.entered c.stop.ensures.height c.stop.ensures.fault
 
-pub step_first-returns-in_err-step_half-clause-answers : goal.step_first-returns-in_err-step_half-clause-answers
-step_first-returns-in_err-step_half-clause-answers g t c = λ m depth t P L R.
+pub step_first-returns-in_err-step_half : goal.step_first-returns-in_err-step_half
+step_first-returns-in_err-step_half g t c = λ m depth t P L R.
     pass_exit _ _ c.from_residual.ensures.0 (wrap_fails (g.R.Holds.answers c.args.context.now.functions.now) c.args.context.now.plan.now First c.args.part.now c.args.meter.now c.step_half.new.meter c.args.inside c.args.context.now.dt c.args.value.now _ c.in-Ok.ensures.0
-    _ c.in_err-step_half.ensures.answers m depth t P L R)
+    _ c.in_err-step_half.ensures m depth t P L R)
 
-pub step_first-returns-clause-answers : goal.step_first-returns-clause-answers
-step_first-returns-clause-answers g t c =
+pub step_first-returns : goal.step_first-returns
+step_first-returns g t c =
     wrap_steps (g.R.Holds.answers c.args.context.now.functions.now) c.args.context.now.plan.now First c.args.part.now c.args.meter.now c.step_half.new.meter c.args.inside c.args.context.now.dt c.args.value.now _ c.in-Ok.ensures.0
-    c.step_half.new.state First c.step_half.new.half.value c.of_halves.result refl (rw c.in-Ok.ensures.1 at c.of_halves.ensures) c.in_ok-step_half.ensures.answers
+    c.step_half.new.state First c.step_half.new.half.value c.of_halves.result refl (rw c.in-Ok.ensures.1 at c.of_halves.ensures) c.in_ok-step_half.ensures
 
 -- ## step_second
 
-pub step_second-returns-in_default-clause-answers : goal.step_second-returns-in_default-clause-answers
-step_second-returns-in_default-clause-answers g t c = λ m depth t P L R. early_memory (g.R.Holds.answers c.args.context.now.functions.now) c.args.context.now.plan.now t c.stop.ensures.entered c.stop.ensures.height c.stop.ensures.fault
+pub step_second-returns-in_default : goal.step_second-returns-in_default
+step_second-returns-in_default g t c = λ m depth t P L R. early_memory (g.R.Holds.answers c.args.context.now.functions.now) c.args.context.now.plan.now t c.stop.ensures.entered c.stop.ensures.height c.stop.ensures.fault
 
-pub step_second-returns-in_err-step_half-clause-answers : goal.step_second-returns-in_err-step_half-clause-answers
-step_second-returns-in_err-step_half-clause-answers g t c = λ m depth t P L R.
+pub step_second-returns-in_err-step_half : goal.step_second-returns-in_err-step_half
+step_second-returns-in_err-step_half g t c = λ m depth t P L R.
     pass_exit _ _ c.from_residual.ensures.0 (wrap_fails (g.R.Holds.answers c.args.context.now.functions.now) c.args.context.now.plan.now Second c.args.part.now c.args.meter.now c.step_half.new.meter c.args.inside c.args.context.now.dt c.args.value.now _ c.in-Ok.ensures.1
-    _ c.in_err-step_half.ensures.answers m depth t P L R)
+    _ c.in_err-step_half.ensures m depth t P L R)
 
-pub step_second-returns-clause-answers : goal.step_second-returns-clause-answers
-step_second-returns-clause-answers g t c =
+pub step_second-returns : goal.step_second-returns
+step_second-returns g t c =
     wrap_steps (g.R.Holds.answers c.args.context.now.functions.now) c.args.context.now.plan.now Second c.args.part.now c.args.meter.now c.step_half.new.meter c.args.inside c.args.context.now.dt c.args.value.now _ c.in-Ok.ensures.1
-    c.step_half.new.state Second c.step_half.new.half.value c.of_halves.result refl (rw c.in-Ok.ensures.0 at c.of_halves.ensures) c.in_ok-step_half.ensures.answers
+    c.step_half.new.state Second c.step_half.new.half.value c.of_halves.result refl (rw c.in-Ok.ensures.0 at c.of_halves.ensures) c.in_ok-step_half.ensures
 
 -- ## step_loop
 
-pub step_loop-returns-in_default-clause-answers : goal.step_loop-returns-in_default-clause-answers
-step_loop-returns-in_default-clause-answers g t c = λ m depth t P L R. early_memory (g.R.Holds.answers c.args.context.now.functions.now) c.args.context.now.plan.now t c.stop.ensures.entered c.stop.ensures.height c.stop.ensures.fault
+pub step_loop-returns-in_default : goal.step_loop-returns-in_default
+step_loop-returns-in_default g t c = λ m depth t P L R. early_memory (g.R.Holds.answers c.args.context.now.functions.now) c.args.context.now.plan.now t c.stop.ensures.entered c.stop.ensures.height c.stop.ensures.fault
 
-pub step_loop-returns-in_err-step_state-clause-answers : goal.step_loop-returns-in_err-step_state-clause-answers
-step_loop-returns-in_err-step_state-clause-answers g t c = λ m depth t P L R.
+pub step_loop-returns-in_err-step_state : goal.step_loop-returns-in_err-step_state
+step_loop-returns-in_err-step_state g t c = λ m depth t P L R.
     pass_exit _ _ c.from_residual.ensures.0 (wrap_fails (g.R.Holds.answers c.args.context.now.functions.now) c.args.context.now.plan.now (Loop c.args.feedback.now) c.args.part.now c.args.meter.now c.step_state.new.meter c.args.inside c.args.context.now.dt c.args.value.now c.in-Ok.both c.in-Ok.ensures.both
-    _ c.in_err-step_state.ensures.answers m depth t P L R)
+    _ c.in_err-step_state.ensures m depth t P L R)
 
-pub step_loop-returns-clause-answers : goal.step_loop-returns-clause-answers
-step_loop-returns-clause-answers g t c =
+pub step_loop-returns : goal.step_loop-returns
+step_loop-returns g t c =
     late_memory (g.R.Holds.answers c.args.context.now.functions.now) c.args.context.now.plan.now (wrap_steps (g.R.Holds.answers c.args.context.now.functions.now) c.args.context.now.plan.now (Loop c.args.feedback.now) c.args.part.now c.args.meter.now c.step_state.new.meter c.args.inside c.args.context.now.dt c.args.value.now c.in-Ok.both c.in-Ok.ensures.both
-    c.step_state.new.state _ c.step_state.new.value _ refl refl c.in_ok-step_state.ensures.answers)
+    c.step_state.new.state _ c.step_state.new.value _ refl refl c.in_ok-step_state.ensures)
     c.stop-in-Err.ensures.entered c.stop-in-Err.ensures.height c.stop-in-Err.ensures.fault
 
-pub step_loop-returns-in-Ok-feed_back-clause-answers : goal.step_loop-returns-in-Ok-feed_back-clause-answers
-step_loop-returns-in-Ok-feed_back-clause-answers g t c =
+pub step_loop-returns-in-Ok-feed_back : goal.step_loop-returns-in-Ok-feed_back
+step_loop-returns-in-Ok-feed_back g t c =
     wrap_steps (g.R.Holds.answers c.args.context.now.functions.now) c.args.context.now.plan.now (Loop c.args.feedback.now) c.args.part.now c.args.meter.now c.step_state.new.meter c.args.inside c.args.context.now.dt c.args.value.now c.in-Ok.both c.in-Ok.ensures.both
-    c.step_state.new.state (Loop c.feed_back.new.feedback) c.step_state.new.value c.feed_back.new.value (ap Loop c.in-Ok-feed_back.ensures.next) c.in-Ok-feed_back.ensures.output c.in_ok-step_state.ensures.answers
+    c.step_state.new.state (Loop c.feed_back.new.feedback) c.step_state.new.value c.feed_back.new.value (ap Loop c.in-Ok-feed_back.ensures.next) c.in-Ok-feed_back.ensures.output c.in_ok-step_state.ensures
 
 -- ## step_initialized
 
-pub step_initialized-returns-in_err-step_state-clause-answers : goal.step_initialized-returns-in_err-step_state-clause-answers
-step_initialized-returns-in_err-step_state-clause-answers g t c = λ m depth t P L R.
+pub step_initialized-returns-in_err-step_state : goal.step_initialized-returns-in_err-step_state
+step_initialized-returns-in_err-step_state g t c = λ m depth t P L R.
     pass_exit _ _ c.from_residual.ensures.0 (wrap_fails (g.R.Holds.answers c.args.context.now.functions.now) c.args.context.now.plan.now (Initialized c.args.first.now) c.args.part.now c.args.meter.now c.step_state.new.meter c.args.inside c.args.context.now.dt c.args.value.now _ refl
-    _ c.in_err-step_state.ensures.answers m depth t P L R)
+    _ c.in_err-step_state.ensures m depth t P L R)
 
-pub step_initialized-returns-clause-answers : goal.step_initialized-returns-clause-answers
-step_initialized-returns-clause-answers g t c =
+pub step_initialized-returns : goal.step_initialized-returns
+step_initialized-returns g t c =
     wrap_steps (g.R.Holds.answers c.args.context.now.functions.now) c.args.context.now.plan.now (Initialized c.args.first.now) c.args.part.now c.args.meter.now c.step_state.new.meter c.args.inside c.args.context.now.dt c.args.value.now _ refl
-    c.step_state.new.state (Initialized c.put_first.new.first) c.step_state.new.value c.put_first.new.value (ap Initialized c.put_first.ensures.first) c.put_first.ensures.value c.in_ok-step_state.ensures.answers
+    c.step_state.new.state (Initialized c.put_first.new.first) c.step_state.new.value c.put_first.new.value (ap Initialized c.put_first.ensures.first) c.put_first.ensures.value c.in_ok-step_state.ensures
 
 -- ## A switch that keeps its source, and a frozen state
 
-pub step_other-returns-in_default-clause-answers : goal.step_other-returns-in_default-clause-answers
-step_other-returns-in_default-clause-answers g t c = first_memory (g.R.Holds.answers c.args.context.now.functions.now) c.args.context.now.plan.now c.stop-in_default.ensures.entered c.stop-in_default.ensures.height c.stop-in_default.ensures.fault
+pub step_other-returns-in_default : goal.step_other-returns-in_default
+step_other-returns-in_default g t c = first_memory (g.R.Holds.answers c.args.context.now.functions.now) c.args.context.now.plan.now c.stop-in_default.ensures.entered c.stop-in_default.ensures.height c.stop-in_default.ensures.fault
 
-pub step_other-returns-in-Ok-clause-answers : goal.step_other-returns-in-Ok-clause-answers
-step_other-returns-in-Ok-clause-answers g t c = λ P L A.
+pub step_other-returns-in-Ok : goal.step_other-returns-in-Ok
+step_other-returns-in-Ok g t c = λ P L A.
     let r = left_or c.step_state-in-Frozen.result (c.step_state-in-Frozen.new.state, c.step_state-in-Frozen.new.value) (fault_of c.step_state-in-Frozen.new.meter) in
     frozen_steps (g.R.Holds.answers c.args.context.now.functions.now) c.args.context.now.plan.now _ c.in-Frozen.frozen.value.wait c.in-Frozen.frozen.value.names c.in-Frozen.frozen.value.node c.in-Ok.awake c.args.context.now.dt c.args.value.now r c.args.meter.now c.step_state-in-Frozen.new.meter c.args.depth
     (subst (λ (f : Frozen). (P : Process) (L : Life) → Stands (g.R.Holds.answers c.args.context.now.functions.now) c.args.context.now.plan.now (kept_state f.names f.node) P L → Stands (g.R.Holds.answers c.args.context.now.functions.now) c.args.context.now.plan.now c.in-Ok.awake P L)
     c.deref-in-Frozen.ensures (c.in-Ok.ensures.stands (g.R.Holds.answers c.args.context.now.functions.now) c.args.context.now.plan.now))
     (subst (λ (f : Frozen). StateSteps (g.R.Holds.answers c.args.context.now.functions.now) c.args.context.now.plan.now c.in-Ok.awake (step f.wait c.args.value.now) r c.args.meter.now c.step_state-in-Frozen.new.meter c.args.depth)
-    c.deref.ensures c.step_state-in-Frozen.ensures.answers) P L (rw c.in-Frozen.is at A)
+    c.deref.ensures (rw c.replace.ensures.after at c.step_state-in-Frozen.ensures)) P L (rw c.in-Frozen.is at A)
 
-pub step_keeping-returns-in_default-clause-answers : goal.step_keeping-returns-in_default-clause-answers
-step_keeping-returns-in_default-clause-answers g t c = λ m depth t T e L N W. early_memory (g.R.Holds.answers c.args.context.now.functions.now) c.args.context.now.plan.now t c.stop.ensures.entered c.stop.ensures.height c.stop.ensures.fault
+pub step_keeping-returns-in_default : goal.step_keeping-returns-in_default
+step_keeping-returns-in_default g t c = λ m depth t T e L N W. early_memory (g.R.Holds.answers c.args.context.now.functions.now) c.args.context.now.plan.now t c.stop.ensures.entered c.stop.ensures.height c.stop.ensures.fault
 
-pub step_keeping-returns-in_default-copies-clause-answers : goal.step_keeping-returns-in_default-copies-clause-answers
-step_keeping-returns-in_default-copies-clause-answers g t c = λ m depth t T e L N W. early_memory (g.R.Holds.answers c.args.context.now.functions.now) c.args.context.now.plan.now t c.stop-in_default-copies.ensures.entered c.stop-in_default-copies.ensures.height c.stop-in_default-copies.ensures.fault
+pub step_keeping-returns-in_default-copies : goal.step_keeping-returns-in_default-copies
+step_keeping-returns-in_default-copies g t c = λ m depth t T e L N W. early_memory (g.R.Holds.answers c.args.context.now.functions.now) c.args.context.now.plan.now t c.stop-in_default-copies.ensures.entered c.stop-in_default-copies.ensures.height c.stop-in_default-copies.ensures.fault
 
-pub step_keeping-returns-in_err-step_state-clause-answers : goal.step_keeping-returns-in_err-step_state-clause-answers
-step_keeping-returns-in_err-step_state-clause-answers g t c = λ m depth t T e L N W.
+pub step_keeping-returns-in_err-step_state : goal.step_keeping-returns-in_err-step_state
+step_keeping-returns-in_err-step_state g t c = λ m depth t T e L N W.
     pass_beside (g.R.Holds.answers c.args.context.now.functions.now) c.args.context.now.plan.now _ _ _ c.from_residual.ensures.0 (kept_fails (g.R.Holds.answers c.args.context.now.functions.now) c.args.context.now.plan.now c.args.names.now c.args.keeping.now c.args.context.now.dt c.args.value.now c.args.meter.now c.step_state.new.meter c.args.inside
-    _ (runs_alike (g.R.Holds.answers c.args.context.now.functions.now) c.args.context.now.plan.now (c.in-Ok.ensures.runs_on (g.R.Holds.answers c.args.context.now.functions.now) c.args.context.now.plan.now) c.in_err-step_state.ensures.answers) m depth t T e L N W)
+    _ (runs_alike (g.R.Holds.answers c.args.context.now.functions.now) c.args.context.now.plan.now (c.in-Ok.ensures.runs_on (g.R.Holds.answers c.args.context.now.functions.now) c.args.context.now.plan.now) c.in_err-step_state.ensures) m depth t T e L N W)
 
-pub step_keeping-returns-in_default-beside-clause-answers : goal.step_keeping-returns-in_default-beside-clause-answers
-step_keeping-returns-in_default-beside-clause-answers g t c = λ m depth t T e L N W.
+pub step_keeping-returns-in_default-beside : goal.step_keeping-returns-in_default-beside
+step_keeping-returns-in_default-beside g t c = λ m depth t T e L N W.
     memory_exit c.stop-in_default-beside.ensures.fault (kept_memory (g.R.Holds.answers c.args.context.now.functions.now) c.args.context.now.plan.now c.args.names.now c.args.keeping.now c.args.context.now.dt c.args.value.now c.args.meter.now c.step_state.new.meter c.args.inside
-    c.step_state.new.state c.step_state.new.value (runs_alike (g.R.Holds.answers c.args.context.now.functions.now) c.args.context.now.plan.now (c.in-Ok.ensures.runs_on (g.R.Holds.answers c.args.context.now.functions.now) c.args.context.now.plan.now) c.in_ok-step_state.ensures.answers) _ c.stop-in_default-beside.ensures.entered c.stop-in_default-beside.ensures.height m depth t T e L N W)
+    c.step_state.new.state c.step_state.new.value (runs_alike (g.R.Holds.answers c.args.context.now.functions.now) c.args.context.now.plan.now (c.in-Ok.ensures.runs_on (g.R.Holds.answers c.args.context.now.functions.now) c.args.context.now.plan.now) c.in_ok-step_state.ensures) _ c.stop-in_default-beside.ensures.entered c.stop-in_default-beside.ensures.height m depth t T e L N W)
 
-pub step_keeping-returns-in_err-step_state-2-clause-answers : goal.step_keeping-returns-in_err-step_state-2-clause-answers
-step_keeping-returns-in_err-step_state-2-clause-answers g t c = λ m depth t T e L N W.
+pub step_keeping-returns-in_err-step_state-2 : goal.step_keeping-returns-in_err-step_state-2
+step_keeping-returns-in_err-step_state-2 g t c = λ m depth t T e L N W.
     pass_beside (g.R.Holds.answers c.args.context.now.functions.now) c.args.context.now.plan.now _ _ _ c.from_residual-in_err-step_state-2.ensures.0 (observer_fails (g.R.Holds.answers c.args.context.now.functions.now) c.args.context.now.plan.now c.args.names.now c.args.keeping.now c.args.context.now.dt c.args.value.now c.args.meter.now c.step_state.new.meter c.args.inside
-    c.step_state.new.state c.step_state.new.value (runs_alike (g.R.Holds.answers c.args.context.now.functions.now) c.args.context.now.plan.now (c.in-Ok.ensures.runs_on (g.R.Holds.answers c.args.context.now.functions.now) c.args.context.now.plan.now) c.in_ok-step_state.ensures.answers) c.in-Ok-beside.seen (rw c.in-Ok-copies.ensures.0 at c.in-Ok-beside.ensures) c.step_state-2.new.meter
-    _ c.in_err-step_state-2.ensures.answers m depth t T e L N W)
+    c.step_state.new.state c.step_state.new.value (runs_alike (g.R.Holds.answers c.args.context.now.functions.now) c.args.context.now.plan.now (c.in-Ok.ensures.runs_on (g.R.Holds.answers c.args.context.now.functions.now) c.args.context.now.plan.now) c.in_ok-step_state.ensures) c.in-Ok-beside.seen (rw c.in-Ok-copies.ensures.0 at c.in-Ok-beside.ensures) c.step_state-2.new.meter
+    _ c.in_err-step_state-2.ensures m depth t T e L N W)
 
-pub step_keeping-returns-in-None-clause-answers : goal.step_keeping-returns-in-None-clause-answers
-step_keeping-returns-in-None-clause-answers g t c =
+pub step_keeping-returns-in-None : goal.step_keeping-returns-in-None
+step_keeping-returns-in-None g t c =
     keeps_on (g.R.Holds.answers c.args.context.now.functions.now) c.args.context.now.plan.now c.args.names.now c.args.keeping.now c.args.context.now.dt c.args.value.now c.args.meter.now c.step_state.new.meter c.args.inside
-    c.step_state.new.state c.step_state.new.value (runs_alike (g.R.Holds.answers c.args.context.now.functions.now) c.args.context.now.plan.now (c.in-Ok.ensures.runs_on (g.R.Holds.answers c.args.context.now.functions.now) c.args.context.now.plan.now) c.in_ok-step_state.ensures.answers) c.in-Ok-beside.seen (rw c.in-Ok-copies.ensures.0 at c.in-Ok-beside.ensures) c.step_state-2.new.meter
-    c.step_state-2.new.state c.step_state-2.new.value c.in_ok-step_state-2.ensures.answers (none_occurs _ c.payload_of.result c.step_state-2.new.value c.payload_of.ensures c.in-None.is) _ _ refl
+    c.step_state.new.state c.step_state.new.value (runs_alike (g.R.Holds.answers c.args.context.now.functions.now) c.args.context.now.plan.now (c.in-Ok.ensures.runs_on (g.R.Holds.answers c.args.context.now.functions.now) c.args.context.now.plan.now) c.in_ok-step_state.ensures) c.in-Ok-beside.seen (rw c.in-Ok-copies.ensures.0 at c.in-Ok-beside.ensures) c.step_state-2.new.meter
+    c.step_state-2.new.state c.step_state-2.new.value c.in_ok-step_state-2.ensures (none_occurs _ c.payload_of.result c.step_state-2.new.value c.payload_of.ensures c.in-None.is) _ _ refl
 
-pub step_keeping-returns-in_default-begin-clause-answers : goal.step_keeping-returns-in_default-begin-clause-answers
-step_keeping-returns-in_default-begin-clause-answers g t c = λ m depth t T e L N W.
+pub step_keeping-returns-in_default-begin : goal.step_keeping-returns-in_default-begin
+step_keeping-returns-in_default-begin g t c = λ m depth t T e L N W.
     memory_exit c.stop-in_default-begin.ensures.fault (observer_memory (g.R.Holds.answers c.args.context.now.functions.now) c.args.context.now.plan.now c.args.names.now c.args.keeping.now c.args.context.now.dt c.args.value.now c.args.meter.now c.step_state.new.meter c.args.inside
-    c.step_state.new.state c.step_state.new.value (runs_alike (g.R.Holds.answers c.args.context.now.functions.now) c.args.context.now.plan.now (c.in-Ok.ensures.runs_on (g.R.Holds.answers c.args.context.now.functions.now) c.args.context.now.plan.now) c.in_ok-step_state.ensures.answers) c.in-Ok-beside.seen (rw c.in-Ok-copies.ensures.0 at c.in-Ok-beside.ensures) c.step_state-2.new.meter
-    c.step_state-2.new.state c.step_state-2.new.value c.in_ok-step_state-2.ensures.answers _ c.stop-in_default-begin.ensures.entered c.stop-in_default-begin.ensures.height m depth t T e L N W)
+    c.step_state.new.state c.step_state.new.value (runs_alike (g.R.Holds.answers c.args.context.now.functions.now) c.args.context.now.plan.now (c.in-Ok.ensures.runs_on (g.R.Holds.answers c.args.context.now.functions.now) c.args.context.now.plan.now) c.in_ok-step_state.ensures) c.in-Ok-beside.seen (rw c.in-Ok-copies.ensures.0 at c.in-Ok-beside.ensures) c.step_state-2.new.meter
+    c.step_state-2.new.state c.step_state-2.new.value c.in_ok-step_state-2.ensures _ c.stop-in_default-begin.ensures.entered c.stop-in_default-begin.ensures.height m depth t T e L N W)
 
-pub step_keeping-returns-in_err-step_state-in-Some-clause-answers : goal.step_keeping-returns-in_err-step_state-in-Some-clause-answers
-step_keeping-returns-in_err-step_state-in-Some-clause-answers g t c = λ m depth t T e L N W.
-    pass_beside (g.R.Holds.answers c.args.context.now.functions.now) c.args.context.now.plan.now _ _ _ c.from_residual-in_err-step_state-in-Some.ensures.0 (kept_body_fails (g.R.Holds.answers c.args.context.now.functions.now) c.args.context.now.plan.now c.args.names.now c.args.keeping.now c.args.context.now.dt c.args.value.now c.args.meter.now c.step_state.new.meter c.args.inside
-    c.step_state.new.state c.step_state.new.value (runs_alike (g.R.Holds.answers c.args.context.now.functions.now) c.args.context.now.plan.now (c.in-Ok.ensures.runs_on (g.R.Holds.answers c.args.context.now.functions.now) c.args.context.now.plan.now) c.in_ok-step_state.ensures.answers) c.in-Ok-beside.seen (rw c.in-Ok-copies.ensures.0 at c.in-Ok-beside.ensures) c.step_state-2.new.meter
-    c.step_state-2.new.state c.step_state-2.new.value c.in_ok-step_state-2.ensures.answers c.in-Some.payload.value (some_occurs _ c.payload_of.result c.in-Some.payload c.step_state-2.new.value c.payload_of.ensures c.in-Some.is)
-    c.in-Ok-begin.successor (rw c.in-Ok.ensures.held at (c.in-Ok-begin.ensures (g.R.Holds.answers c.args.context.now.functions.now) c.args.context.now.plan.now)) c.in-Ok-copies.output c.in-Ok-copies.ensures.1 c.step_state-in-Some.new.meter _ c.in_err-step_state-in-Some.ensures.answers m depth t T e L N W)
+pub step_keeping-returns-in_err-successor-in-Some : goal.step_keeping-returns-in_err-successor-in-Some
+step_keeping-returns-in_err-successor-in-Some g t c = λ m depth t T e L N W.
+    pass_beside (g.R.Holds.answers c.args.context.now.functions.now) c.args.context.now.plan.now _ _ _ c.from_residual-in_err-successor-in-Some.ensures.0 (kept_body_fails (g.R.Holds.answers c.args.context.now.functions.now) c.args.context.now.plan.now c.args.names.now c.args.keeping.now c.args.context.now.dt c.args.value.now c.args.meter.now c.step_state.new.meter c.args.inside
+    c.step_state.new.state c.step_state.new.value (runs_alike (g.R.Holds.answers c.args.context.now.functions.now) c.args.context.now.plan.now (c.in-Ok.ensures.runs_on (g.R.Holds.answers c.args.context.now.functions.now) c.args.context.now.plan.now) c.in_ok-step_state.ensures) c.in-Ok-beside.seen (rw c.in-Ok-copies.ensures.0 at c.in-Ok-beside.ensures) c.step_state-2.new.meter
+    c.step_state-2.new.state c.step_state-2.new.value c.in_ok-step_state-2.ensures c.in-Some.payload.value (some_occurs _ c.payload_of.result c.in-Some.payload c.step_state-2.new.value c.payload_of.ensures c.in-Some.is)
+    c.in-Ok-begin.successor (rw c.in-Ok.ensures.held at (c.in-Ok-begin.ensures (g.R.Holds.answers c.args.context.now.functions.now) c.args.context.now.plan.now)) c.in-Ok-copies.output c.in-Ok-copies.ensures.1 c.step_begun.new.meter _ c.in_err-successor-in-Some.ensures m depth t T e L N W)
 
-pub step_keeping-returns-in_ok-step_state-in-Some-clause-answers : goal.step_keeping-returns-in_ok-step_state-in-Some-clause-answers
-step_keeping-returns-in_ok-step_state-in-Some-clause-answers g t c =
+pub step_keeping-returns-in_ok-successor-in-Some : goal.step_keeping-returns-in_ok-successor-in-Some
+step_keeping-returns-in_ok-successor-in-Some g t c =
     kept_body_takes_over (g.R.Holds.answers c.args.context.now.functions.now) c.args.context.now.plan.now c.args.names.now c.args.keeping.now c.args.context.now.dt c.args.value.now c.args.meter.now c.step_state.new.meter c.args.inside
-    c.step_state.new.state c.step_state.new.value (runs_alike (g.R.Holds.answers c.args.context.now.functions.now) c.args.context.now.plan.now (c.in-Ok.ensures.runs_on (g.R.Holds.answers c.args.context.now.functions.now) c.args.context.now.plan.now) c.in_ok-step_state.ensures.answers) c.in-Ok-beside.seen (rw c.in-Ok-copies.ensures.0 at c.in-Ok-beside.ensures) c.step_state-2.new.meter
-    c.step_state-2.new.state c.step_state-2.new.value c.in_ok-step_state-2.ensures.answers c.in-Some.payload.value (some_occurs _ c.payload_of.result c.in-Some.payload c.step_state-2.new.value c.payload_of.ensures c.in-Some.is)
-    c.in-Ok-begin.successor (rw c.in-Ok.ensures.held at (c.in-Ok-begin.ensures (g.R.Holds.answers c.args.context.now.functions.now) c.args.context.now.plan.now)) c.in-Ok-copies.output c.in-Ok-copies.ensures.1 c.step_state-in-Some.new.meter
-    c.step_state-in-Some.new.state c.step_state-in-Some.new.value _ (c.switched.ensures ∙ ap (λ d. switched_value c.args.keeping.now.shown d c.step_state-in-Some.new.value) c.replace-old.ensures.value) _ c.in_ok-step_state-in-Some.ensures.answers
+    c.step_state.new.state c.step_state.new.value (runs_alike (g.R.Holds.answers c.args.context.now.functions.now) c.args.context.now.plan.now (c.in-Ok.ensures.runs_on (g.R.Holds.answers c.args.context.now.functions.now) c.args.context.now.plan.now) c.in_ok-step_state.ensures) c.in-Ok-beside.seen (rw c.in-Ok-copies.ensures.0 at c.in-Ok-beside.ensures) c.step_state-2.new.meter
+    c.step_state-2.new.state c.step_state-2.new.value c.in_ok-step_state-2.ensures c.in-Some.payload.value (some_occurs _ c.payload_of.result c.in-Some.payload c.step_state-2.new.value c.payload_of.ensures c.in-Some.is)
+    c.in-Ok-begin.successor (rw c.in-Ok.ensures.held at (c.in-Ok-begin.ensures (g.R.Holds.answers c.args.context.now.functions.now) c.args.context.now.plan.now)) c.in-Ok-copies.output c.in-Ok-copies.ensures.1 c.step_begun.new.meter
+    c.in_ok-successor-in-Some.successor c.in_ok-successor-in-Some.output _ c.show.ensures _ c.in_ok-successor-in-Some.ensures

@@ -1,72 +1,73 @@
-use Rattle.std.proofs.Common.{◌+◌, ◌-◌, ◌*◌, ◌≤◌, if◌then◌else◌, take, drop}
+use Rattle.std.proofs.Common.{◌+◌, ◌-◌, ◌*◌, if◌then◌else◌, take, drop}
 use Rattle.sf_state.specs.Standing.{is_frozen}
-use Rattle.sf_step.specs.Meters.{entered_of}
 use Rattle.sf_step.proofs.Stages.{Continues}
 use Rattle.sf_step.proofs.sample.+step.Given as goal
 
--- the nodes that the meter has left, and which of the functions it is; a frozen state is stepped once it is awake
+-- how many nodes may still stand inside, and which of the functions it is; a frozen state is stepped once it is awake
 abbrev pub decreases-step_state : goal.decreases-step_state
-decreases-step_state g l = 10 * (1000000 - entered_of l.meter.now) + (if is_frozen l.state.now then 4 else 2)
+decreases-step_state g l = 10 * (1600 - l.depth) + (if is_frozen l.state.now then 4 else 2)
 
 abbrev pub decreases-step_other : goal.decreases-step_other
-decreases-step_other g l = 10 * (1000000 - entered_of l.meter.now) + (if is_frozen l.state.now then 3 else 1)
+decreases-step_other g l = 10 * (1600 - l.depth) + (if is_frozen l.state.now then 3 else 1)
 
 abbrev pub decreases-step_half : goal.decreases-step_half
-decreases-step_half g l = 10 * (1000000 - entered_of l.meter.now) + 5
+decreases-step_half g l = 10 * (1600 - l.depth) + 5
 
 abbrev pub decreases-step_sequence : goal.decreases-step_sequence
-decreases-step_sequence g l = 10 * (1000000 - entered_of l.meter.now) + 6
+decreases-step_sequence g l = 10 * (1600 - l.inside) + 6
 
 abbrev pub decreases-step_parallel : goal.decreases-step_parallel
-decreases-step_parallel g l = 10 * (1000000 - entered_of l.meter.now) + 6
+decreases-step_parallel g l = 10 * (1600 - l.inside) + 6
 
 abbrev pub decreases-step_fan : goal.decreases-step_fan
-decreases-step_fan g l = 10 * (1000000 - entered_of l.meter.now) + 6
+decreases-step_fan g l = 10 * (1600 - l.inside) + 6
 
 abbrev pub decreases-step_first : goal.decreases-step_first
-decreases-step_first g l = 10 * (1000000 - entered_of l.meter.now) + 6
+decreases-step_first g l = 10 * (1600 - l.inside) + 6
 
 abbrev pub decreases-step_second : goal.decreases-step_second
-decreases-step_second g l = 10 * (1000000 - entered_of l.meter.now) + 6
+decreases-step_second g l = 10 * (1600 - l.inside) + 6
 
 abbrev pub decreases-step_loop : goal.decreases-step_loop
-decreases-step_loop g l = 10 * (1000000 - entered_of l.meter.now) + 6
+decreases-step_loop g l = 10 * (1600 - l.inside) + 6
 
 abbrev pub decreases-step_initialized : goal.decreases-step_initialized
-decreases-step_initialized g l = 10 * (1000000 - entered_of l.meter.now) + 6
+decreases-step_initialized g l = 10 * (1600 - l.inside) + 6
 
 abbrev pub decreases-step_live : goal.decreases-step_live
-decreases-step_live g l = 10 * (1000000 - entered_of l.meter.now) + 7
+decreases-step_live g l = 10 * (1600 - l.inside) + 7
 
 abbrev pub decreases-step_node : goal.decreases-step_node
-decreases-step_node g l = 10 * (1000000 - entered_of l.meter.now) + 8
+decreases-step_node g l = 10 * (1600 - l.inside) + 8
 
 abbrev pub decreases-step_counted : goal.decreases-step_counted
-decreases-step_counted g l = 10 * (1000000 - entered_of l.meter.now) + 9
+decreases-step_counted g l = 10 * (1600 - l.inside) + 9
 
 abbrev pub decreases-step_pipeline : goal.decreases-step_pipeline
-decreases-step_pipeline g l = 10 * (1000000 - entered_of l.meter.now) + 6
+decreases-step_pipeline g l = 10 * (1600 - l.inside) + 6
 
 abbrev pub decreases-step_watching : goal.decreases-step_watching
-decreases-step_watching g l = 10 * (1000000 - entered_of l.meter.now) + 7
+decreases-step_watching g l = 10 * (1600 - l.inside) + 8
 
 abbrev pub decreases-step_observing : goal.decreases-step_observing
-decreases-step_observing g l = 10 * (1000000 - entered_of l.meter.now) + 7
+decreases-step_observing g l = 10 * (1600 - l.inside) + 8
 
 abbrev pub decreases-step_switch : goal.decreases-step_switch
-decreases-step_switch g l = 10 * (1000000 - entered_of l.meter.now) + 6
+decreases-step_switch g l = 10 * (1600 - l.inside) + 7
 
 abbrev pub decreases-step_basic : goal.decreases-step_basic
-decreases-step_basic g l = 10 * (1000000 - entered_of l.meter.now) + 5
+decreases-step_basic g l = 10 * (1600 - l.inside) + 6
 
 abbrev pub decreases-step_recurring : goal.decreases-step_recurring
-decreases-step_recurring g l = 10 * (1000000 - entered_of l.meter.now) + 5
+decreases-step_recurring g l = 10 * (1600 - l.inside) + 6
 
 abbrev pub decreases-step_keeping : goal.decreases-step_keeping
-decreases-step_keeping g l = 10 * (1000000 - entered_of l.meter.now) + 5
+decreases-step_keeping g l = 10 * (1600 - l.inside) + 6
+
+abbrev pub decreases-step_begun : goal.decreases-step_begun
+decreases-step_begun g l = 10 * (1600 - l.inside) + 5
 
 abbrev pub invariant-step_pipeline-loop-stage : goal.invariant-step_pipeline-loop-stage
 invariant-step_pipeline-loop-stage g l = record {
-  grows : entered_of l.initial.meter ≤ entered_of l.meter;
   goes_on : Continues (g.R.Holds.answers l.context.functions.now) l.context.plan.now l.initial.stage-items l.context.dt l.initial.value l.initial.meter (take l.stage-index l.stage-items) (drop l.stage-index l.stage-items) l.value l.meter l.inside;
 }
