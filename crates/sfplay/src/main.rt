@@ -1,14 +1,15 @@
 //! Plays the lines of standard input through a network.
 #![tactic(auto)]
 
-ghost use Rattle.std.specs.Prelude.{◌-◌, ◌<◌, ◌^◌, IfOk};
-ghost use Rattle.sf_func.specs.Registries.{AnswersByName};
+ghost use Rattle.std.specs.Prelude.{◌≡◌, ◌≢◌, ◌-◌, ◌<◌, ◌^◌, [], ◌∷◌, ◌++◌, IfOk};
+ghost use Rattle.sf_value.specs.Values.{Name, Data, int_kind, pair_kind};
+ghost use Rattle.sf_func.specs.Registries.{AnswersByName, KeepsTypes, types_shown};
 ghost use Rattle.sf_player.specs.Counting.{failures_of, inner_of};
 ghost use Rattle.sf_player.specs.Telling.{Plays};
 ghost use Rattle.sfplay.specs.Functions.{types_offered, AreOffered};
 
 use clap::{Arg, ArgAction, ArgMatches, Command, Error};
-use sf_func::{Absolute, Function, Greatest, Int1, Int2, Least, Registry, Sign};
+use sf_func::{Absolute, Function, Greatest, Holds, Int1, Int2, Least, Registry, Sign};
 use sf_player::{Counted, Options, PlayEnd, Refusal, play};
 use sf_value::Ty;
 use std::alloc::Global;
@@ -105,6 +106,37 @@ fn network<R: Files + Alloc<A = Global>>(rt: &R, path: &str) -> io::Result<Vec<u
     Ok(text)
 }
 
+/// The type of a pair of numbers.
+fn numbers(alloc: Global) -> Result<Ty, Refusal>
+    ensures { IfOk result (λ ty. ty ≡ pair_kind int_kind int_kind) }
+{
+    match Ty::pair(alloc, Ty::int(), Ty::int()) {
+        Ok(ty) => Ok(ty),
+        Err(_) => Err(Refusal::Memory),
+    }
+}
+
+/// The functions that networks may call with one more, of a name that none of them has. The refusal is want of memory.
+fn offered(
+    alloc: Global,
+    functions: Registry,
+    name: &str,
+    from: Ty,
+    to: Ty,
+    function: Box<dyn Function>,
+) -> Result<Registry, Refusal>
+    requires { KeepsTypes from to (answers function) }
+    ensures types { IfOk result (λ more. ⟦<Registry as Holds>⟧.types more ≡ ⟦<Registry as Holds>⟧.types functions ++ (name.now, types_shown from to) ∷ []) }
+    ensures answers { IfOk result (λ more. (d : Data) → ⟦<Registry as Holds>⟧.answers more name.now d ≡ answers function d) }
+    ensures others { IfOk result (λ more. (n : Name) (d : Data) → n ≢ name.now → ⟦<Registry as Holds>⟧.answers more n d ≡ ⟦<Registry as Holds>⟧.answers functions n d) }
+{
+    let mut functions = functions;
+    match functions.add(alloc, name, from, to, function) {
+        Ok(()) => Ok(functions),
+        Err(_) => Err(Refusal::Memory),
+    }
+}
+
 /// Plays the lines of an input through the network that a text is, which may call `abs`, `sign`, `max` and `min`. The
 /// refusal is want of memory for these functions.
 fn play_lines<R: Read, W: Write>(
@@ -121,29 +153,17 @@ fn play_lines<R: Read, W: Write>(
         (R.remaining (inner_of reader.old)) (R.remaining (inner_of reader.new))
         (W.contents (inner_of writer.old)) (W.contents (inner_of writer.new)) end) }
 {
-    let mut functions = Registry::new(alloc);
     let abs: Box<dyn Function> = Box::new(alloc, Int1::new(Absolute))?;
-    let Ok(()) = functions.add(alloc, "abs", Ty::int(), Ty::int(), abs) else {
-        return Err(Refusal::Memory);
-    };
+    let functions = Registry::new(alloc);
+    let functions = offered(alloc, functions, "abs", Ty::int(), Ty::int(), abs)?;
     let sign: Box<dyn Function> = Box::new(alloc, Int1::new(Sign))?;
-    let Ok(()) = functions.add(alloc, "sign", Ty::int(), Ty::int(), sign) else {
-        return Err(Refusal::Memory);
-    };
-    let Ok(from) = Ty::pair(alloc, Ty::int(), Ty::int()) else {
-        return Err(Refusal::Memory);
-    };
+    let functions = offered(alloc, functions, "sign", Ty::int(), Ty::int(), sign)?;
     let max: Box<dyn Function> = Box::new(alloc, Int2::new(Greatest))?;
-    let Ok(()) = functions.add(alloc, "max", from, Ty::int(), max) else {
-        return Err(Refusal::Memory);
-    };
-    let Ok(from) = Ty::pair(alloc, Ty::int(), Ty::int()) else {
-        return Err(Refusal::Memory);
-    };
+    let from = numbers(alloc)?;
+    let functions = offered(alloc, functions, "max", from, Ty::int(), max)?;
     let min: Box<dyn Function> = Box::new(alloc, Int2::new(Least))?;
-    let Ok(()) = functions.add(alloc, "min", from, Ty::int(), min) else {
-        return Err(Refusal::Memory);
-    };
+    let from = numbers(alloc)?;
+    let functions = offered(alloc, functions, "min", from, Ty::int(), min)?;
     Ok(play(alloc, net, reader, writer, functions, options))
 }
 
