@@ -12,7 +12,7 @@ use clap::{Arg, ArgAction, ArgMatches, Command, Error};
 use sf_func::{Absolute, Function, Greatest, Holds, Int1, Int2, Least, Registry, Sign};
 use sf_player::{Counted, Options, PlayEnd, Refusal, play};
 use sf_value::Ty;
-use std::alloc::Global;
+use std::alloc::{AllocError, Global};
 use std::fs::File;
 use std::io::{Read, Write};
 use std::process::ExitCode;
@@ -107,16 +107,16 @@ fn network<R: Files + Alloc<A = Global>>(rt: &R, path: &str) -> io::Result<Vec<u
 }
 
 /// The type of a pair of numbers.
-fn numbers(alloc: Global) -> Result<Ty, Refusal>
+fn numbers(alloc: Global) -> Result<Ty, AllocError>
     ensures { IfOk result (λ ty. ty ≡ pair_kind int_kind int_kind) }
 {
     match Ty::pair(alloc, Ty::int(), Ty::int()) {
         Ok(ty) => Ok(ty),
-        Err(_) => Err(Refusal::Memory),
+        Err(_) => Err(AllocError),
     }
 }
 
-/// The functions that networks may call with one more, of a name that none of them has. The refusal is want of memory.
+/// The functions that networks may call with one more, of a name that none of them has.
 fn offered(
     alloc: Global,
     functions: Registry,
@@ -124,7 +124,7 @@ fn offered(
     from: Ty,
     to: Ty,
     function: Box<dyn Function>,
-) -> Result<Registry, Refusal>
+) -> Result<Registry, AllocError>
     requires { KeepsTypes from to (answers function) }
     ensures types { IfOk result (λ more. ⟦<Registry as Holds>⟧.types more ≡ ⟦<Registry as Holds>⟧.types functions ++ (name.now, types_shown from to) ∷ []) }
     ensures answers { IfOk result (λ more. (d : Data) → ⟦<Registry as Holds>⟧.answers more name.now d ≡ answers function d) }
@@ -133,19 +133,19 @@ fn offered(
     let mut functions = functions;
     match functions.add(alloc, name, from, to, function) {
         Ok(()) => Ok(functions),
-        Err(_) => Err(Refusal::Memory),
+        Err(_) => Err(AllocError),
     }
 }
 
 /// Plays the lines of an input through the network that a text is, which may call `abs`, `sign`, `max` and `min`. The
-/// refusal is want of memory for these functions.
+/// error is want of memory for these functions.
 fn play_lines<R: Read, W: Write>(
     alloc: Global,
     net: &[u8],
     reader: &mut Counted<R>,
     writer: &mut Counted<W>,
     options: Options,
-) -> Result<PlayEnd, Refusal>
+) -> Result<PlayEnd, AllocError>
     requires reads { failures_of reader.old < 2 ^ 64 - 1 }
     requires writes { failures_of writer.old < 2 ^ 64 - 1 }
     // What was read and written, by the meaning of the network with these functions.
@@ -194,7 +194,7 @@ fn main(rt: HostRuntime) -> ExitCode {
     let mut writer = Counted::new(io::writer(&rt));
     let end = match play_lines(alloc, net.as_slice(), &mut reader, &mut writer, options) {
         Ok(end) => end,
-        Err(refusal) => PlayEnd::Network(refusal),
+        Err(AllocError) => PlayEnd::Network(Refusal::Memory),
     };
     report(&rt, end);
     ExitCode::from(end.status())
