@@ -139,14 +139,6 @@ literal_ready l start rest = record { value = literal l; is = refl; same = refl;
 pub expression_taken : (v : Version) (old new : Program) (id : ExprId) (rest tokens : List Tok) (d : ℕ) → (f : FoundExpression old new id rest (parse_expression d v (counts_of old) tokens)) → TookExpression v d (counts_of old) tokens f.value rest
 expression_taken v old new id rest tokens d f = expression_takes v d (counts_of old) tokens f.value rest f.is
 
--- what was read in a version was read in the same one
-pub expression_at : {v w : Version} {old new : Program} {id : ExprId} {rest : List Tok} (d : ℕ) (c : Counts) (tokens : List Tok) → w ≡ v → FoundExpression old new id rest (parse_expression d w c tokens) → FoundExpression old new id rest (parse_expression d v c tokens)
-expression_at {old = old} {new = new} {id = id} {rest = rest} d c tokens same f = subst (λ (v : Version). FoundExpression old new id rest (parse_expression d v c tokens)) same f
-
-pub mapping_at : {v w : Version} {old new : Program} {p : Pattern} {id : ExprId} {rest : List Tok} (d : ℕ) (tokens : List Tok) → w ≡ v
-    → FoundMapping old new p id rest (parse_mapping d (parse_expression d w) (counts_of old) tokens) → FoundMapping old new p id rest (parse_mapping d (parse_expression d v) (counts_of old) tokens)
-mapping_at {old = old} {new = new} {p = p} {id = id} {rest = rest} d tokens same f = subst (λ (v : Version). FoundMapping old new p id rest (parse_mapping d (parse_expression d v) (counts_of old) tokens)) same f
-
 pub behind_expression : (old mid : Program) (e : Expression) → term_count mid ≡ term_count old → expression_count mid ≡ expression_count old + size e → counts_of mid ≡ counts_with_expression (counts_of old) e
 behind_expression old mid e terms expressions = rw (terms, expressions) refl
 

@@ -77,14 +77,6 @@ if_ok_map P Q (Err e) f h = tt
 pub first_alone : {P : List Spot → Type 0} {tokens rest : List Spot} {at : Spot} → tokens ≡ at ∷ rest → P (at ∷ []) → Consumes P tokens rest
 first_alone {at = at} split h = record { front = at ∷ []; split = split; holds = h }
 
--- what was read in a version was read in the same one
-pub expression_placed_at : {v w : Version} {p : Program} {id : ExprId} {tokens rest : List Spot} → w ≡ v → Consumes (ExpressionPlaced w p id) tokens rest → Consumes (ExpressionPlaced v p id) tokens rest
-expression_placed_at {p = p} {id = id} {tokens = tokens} {rest = rest} same c = subst (λ (v : Version). Consumes (ExpressionPlaced v p id) tokens rest) same c
-
-pub mapping_placed_at : {v w : Version} {q : PlacedPattern} {p : Program} {id : ExprId} {tokens rest : List Spot} → w ≡ v
-    → Consumes (Parted (PatternPlaced q) (ExpressionPlaced w p id)) tokens rest → Consumes (Parted (PatternPlaced q) (ExpressionPlaced v p id)) tokens rest
-mapping_placed_at {q = q} {p = p} {id = id} {tokens = tokens} {rest = rest} same c = subst (λ (v : Version). Consumes (Parted (PatternPlaced q) (ExpressionPlaced v p id)) tokens rest) same c
-
 -- tokens behind a first one
 pub behind_first : {P Q : List Spot → Type 0} {at : Spot} {tokens rest : List Spot} → Consumes P tokens rest → ((xs : List Spot) → P xs → Q (at ∷ xs)) → Consumes Q (at ∷ tokens) rest
 behind_first {P} {Q} {at} c f = record { front = at ∷ c.front; split = ap (λ ts. at ∷ ts) c.split; holds = f c.front c.holds }

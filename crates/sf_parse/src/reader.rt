@@ -1,13 +1,11 @@
 //! A text that is read.
 
 use crate::cursor::Cursor;
-use sf_grammar::Version;
 use sf_term::Program;
 
-/// A text that is read: its version, the tokens that are left of it, and the program that takes what is read.
+/// A text that is read: the tokens that are left of it, and the program that takes what is read.
 #[derive(Drop)]
 pub struct Reader<'a> {
-    pub version: Version,
     pub cursor: Cursor<'a>,
     pub program: Program,
 }

@@ -25,8 +25,7 @@ use Rattle.sf_text.specs.Progress.{Behind, StopsAfter, IsBlankProgram}
 use Rattle.sf_grammar.specs.Placing.{TemplatesPlaced, none_placed}
 use Rattle.sf_parse.specs.Consuming.{places, spots_ahead, Consumes}
 use Rattle.sf_text.specs.Consuming.{PlacesTemplate}
-use Rattle.sf_text.proofs.Found.{template_at}
-use Rattle.sf_text.proofs.Placed.{templates_keep, templates_more, template_placed_at}
+use Rattle.sf_text.proofs.Placed.{templates_keep, templates_more}
 use Rattle.sf_grammar.proofs.Takes.{TookTemplate, template_takes}
 
 took : (v : Version) (old new : Program) (rest behind : List Tok) (f : FoundTemplate old new behind (parse_template v (counts_of old) rest)) → TookTemplate v (counts_of old) rest f.template behind
@@ -56,7 +55,6 @@ behind_more v tokens rest behind old new b f =
 
 -- the templates up to where the reader is were read, and stand where their tokens do
 pub record Reached (v : Version) (tokens : List PlacedToken) (now : Reader) : Type 0 where
-  pub version : now.version ≡ v
   pub templates : Behind v (toks tokens) now.program (ahead now.cursor)
   pub placed : Consumes (TemplatesPlaced v now.program (headers_of now.program)) (places tokens) (spots_ahead now.cursor)
 
@@ -67,11 +65,10 @@ no_headers : (p : Program) (hs : List Header) → map (template_in p) hs ≡ [] 
 no_headers p [] same = refl
 no_headers p (h ∷ hs) same = cc
 
-pub none_reached : (now : Reader) → IsBlankProgram now.program → Reached now.version now.cursor.tokens.now now
-none_reached now blank = record {
-  version = refl;
-  templates = none_behind now.version (ahead now.cursor) now.program blank;
-  placed = record { front = []; split = refl; holds = subst (λ hs. TemplatesPlaced now.version now.program hs []) (sym (no_headers now.program (headers_of now.program) blank.templates)) none_placed };
+pub none_reached : (v : Version) (now : Reader) → IsBlankProgram now.program → Reached v now.cursor.tokens.now now
+none_reached v now blank = record {
+  templates = none_behind v (ahead now.cursor) now.program blank;
+  placed = record { front = []; split = refl; holds = subst (λ hs. TemplatesPlaced v now.program hs []) (sym (no_headers now.program (headers_of now.program) blank.templates)) none_placed };
 }
 
 placed_more : (v : Version) (tokens rest behind : List Spot) (old new : Program) → Consumes (TemplatesPlaced v old (headers_of old)) tokens rest → PlacesTemplate v old new rest behind → Consumes (TemplatesPlaced v new (headers_of new)) tokens behind
@@ -83,16 +80,15 @@ placed_more v tokens rest behind old new a t = record {
 }
 
 -- one template more was reached
-pub next_reached : (v : Version) (tokens : List PlacedToken) (now after : Reader) → Reached v tokens now → FoundTemplate now.program after.program (ahead after.cursor) (parse_template now.version (counts_of now.program) (ahead now.cursor))
-    → PlacesTemplate now.version now.program after.program (spots_ahead now.cursor) (spots_ahead after.cursor) → after.version ≡ now.version → Reached v tokens after
-next_reached v tokens now after reached found placed kept = record {
-  version = kept ∙ reached.version;
-  templates = behind_more v (toks tokens) (ahead now.cursor) (ahead after.cursor) now.program after.program reached.templates (template_at (ahead now.cursor) reached.version found);
-  placed = placed_more v (places tokens) (spots_ahead now.cursor) (spots_ahead after.cursor) now.program after.program reached.placed (template_placed_at reached.version placed);
+pub next_reached : (v : Version) (tokens : List PlacedToken) (now after : Reader) → Reached v tokens now → FoundTemplate now.program after.program (ahead after.cursor) (parse_template v (counts_of now.program) (ahead now.cursor))
+    → PlacesTemplate v now.program after.program (spots_ahead now.cursor) (spots_ahead after.cursor) → Reached v tokens after
+next_reached v tokens now after reached found placed = record {
+  templates = behind_more v (toks tokens) (ahead now.cursor) (ahead after.cursor) now.program after.program reached.templates found;
+  placed = placed_more v (places tokens) (spots_ahead now.cursor) (spots_ahead after.cursor) now.program after.program reached.placed placed;
 }
 
 -- a template stops behind others
-pub stops_after : (v : Version) (tokens : List PlacedToken) (now : Reader) (e : Stop) → Reached v tokens now → (now.cursor.tokens.now ≡ [] → ⊥) → StopsReading e (parse_template now.version (counts_of now.program) (ahead now.cursor)) → StopsAfter v e (toks tokens)
+pub stops_after : (v : Version) (tokens : List PlacedToken) (now : Reader) (e : Stop) → Reached v tokens now → (now.cursor.tokens.now ≡ [] → ⊥) → StopsReading e (parse_template v (counts_of now.program) (ahead now.cursor)) → StopsAfter v e (toks tokens)
 stops_after v tokens now Memory reached some stopped = tt
 stops_after v tokens now (At' fault left) reached some stopped = record {
   read = templates_of now.program;
@@ -100,8 +96,7 @@ stops_after v tokens now (At' fault left) reached some stopped = record {
   spelled = reached.templates.spelled;
   limited = reached.templates.limited;
   more = λ none. some (nothing now.cursor.tokens.now none);
-  stopped = subst (λ (c : Counts). Stopped fault left (parse_template v c (ahead now.cursor))) reached.templates.counted
-      (subst (λ (w : Version). Stopped fault left (parse_template w (counts_of now.program) (ahead now.cursor))) reached.version stopped);
+  stopped = subst (λ (c : Counts). Stopped fault left (parse_template v c (ahead now.cursor))) reached.templates.counted stopped;
 }
   where
     nothing : (rest : List PlacedToken) → toks rest ≡ [] → rest ≡ []

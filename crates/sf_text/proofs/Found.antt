@@ -30,11 +30,12 @@ use Rattle.sf_refusal.specs.declared.spot.Spot.{Spot}
 use Rattle.sf_lex.specs.declared.symbol.Symbol.TheVariants as symbols
 use Rattle.sf_lex.specs.Tokens.{Tok, name as name_token}
 use Rattle.sf_grammar.specs.declared.ty.Version.{Version}
+use Rattle.sf_grammar.specs.declared.ty.Version.TheVariants as versions
 use Rattle.sf_parse.specs.declared.stop.Stop.{Stop}
 use Rattle.sf_grammar.specs.Spelling.{stands_initially, head_makes}
-use Rattle.sf_grammar.specs.Reading.{parse_number, parse_never, parse_timed, Read, got, Counts, counts_with, counts_with_expression, parse_symbol, parse_inner_type, parse_pattern, parse_expression, parse_function, parse_value, parse_arrow, parse_accumulated, parse_sided, parse_headed, parse_body, parse_switching, parse_name, parse_named, parse_keeping, parse_listed, parse_arguments, parse_call, parse_name_kind, parse_parameter, term_read, parse_join, parse_joined, parse_term, parse_argument, parse_template}
+use Rattle.sf_grammar.specs.Reading.{parse_number, parse_never, parse_timed, Read, got, Counts, counts_with, counts_with_expression, parse_symbol, parse_inner_type, parse_pattern, parse_expression, parse_function, parse_value, parse_arrow, parse_accumulated, parse_sided, parse_headed, parse_body, parse_switching, parse_name, parse_named, parse_keeping, parse_listed, parse_arguments, parse_call, parse_name_kind, parse_parameter, term_read, parse_join, parse_joined, parse_term}
 use Rattle.sf_parse.specs.Answers.{StopsReading, FoundExpression, FoundFunction, counts_of, stop_for, built_as}
-use Rattle.sf_text.specs.Answers.{FoundTerm, ReadsTermInto, FoundBody, FoundArgument, FoundArguments, FoundTemplate}
+use Rattle.sf_text.specs.Answers.{FoundTerm, ReadsTermInto, FoundBody, FoundArguments}
 use Rattle.sf_grammar.proofs.Words.{IsLone, named_alone}
 use Rattle.sf_grammar.proofs.Takes.{HeadMakes, with_pre, stays_headed, head_view, TookFunction, Took, TookBody, TookListed, function_takes, body_takes, arguments_take, term_takes}
 use Rattle.sf_text.specs.Consuming.{headed_node}
@@ -84,25 +85,6 @@ term_built {old = old} {rest = rest} {read = read} new node spot left (Err refus
 -- a primitive without constants
 pub bare_ready : {old : Program} (k : Bare) (start rest : List Tok) → Ready old old (primitive (bare k)) start rest (term_read (counts_of old) (primitive (bare k)) start rest)
 bare_ready k start rest = record { term = primitive (bare k); is = refl; same = refl; shallow = omega arith; terms = omega arith; expressions = omega arith }
-
--- what was read in a version was read in the same one
-pub term_at : {v w : Version} {old new : Program} {id : TermId} {rest : List Tok} (d : ℕ) (c : Counts) (tokens : List Tok) → w ≡ v → FoundTerm old new id rest (parse_term d w c tokens) → FoundTerm old new id rest (parse_term d v c tokens)
-term_at {old = old} {new = new} {id = id} {rest = rest} d c tokens same f = subst (λ (v : Version). FoundTerm old new id rest (parse_term d v c tokens)) same f
-
-pub function_at : {v w : Version} {old new : Program} {id : FunctionId} {rest : List Tok} (d : ℕ) (c : Counts) (tokens : List Tok) → w ≡ v
-    → FoundFunction old new id rest (parse_function d w c tokens) → FoundFunction old new id rest (parse_function d v c tokens)
-function_at {old = old} {new = new} {id = id} {rest = rest} d c tokens same f = subst (λ (v : Version). FoundFunction old new id rest (parse_function d v c tokens)) same f
-
-pub body_at : {v w : Version} {old new : Program} {p : Pattern} {id : TermId} {rest : List Tok} (d : ℕ) (tokens : List Tok) → w ≡ v
-    → FoundBody old new p id rest (parse_body d (parse_term d w) (counts_of old) tokens) → FoundBody old new p id rest (parse_body d (parse_term d v) (counts_of old) tokens)
-body_at {old = old} {new = new} {p = p} {id = id} {rest = rest} d tokens same f = subst (λ (v : Version). FoundBody old new p id rest (parse_body d (parse_term d v) (counts_of old) tokens)) same f
-
-pub argument_at : {v w : Version} {old new : Program} {a : Argument} {rest : List Tok} (d : ℕ) (tokens : List Tok) → w ≡ v
-    → FoundArgument old new a rest (parse_argument d w (parse_term d w) (counts_of old) tokens) → FoundArgument old new a rest (parse_argument d v (parse_term d v) (counts_of old) tokens)
-argument_at {old = old} {new = new} {a = a} {rest = rest} d tokens same f = subst (λ (v : Version). FoundArgument old new a rest (parse_argument d v (parse_term d v) (counts_of old) tokens)) same f
-
-pub template_at : {v w : Version} {old new : Program} {rest : List Tok} (tokens : List Tok) → w ≡ v → FoundTemplate old new rest (parse_template w (counts_of old) tokens) → FoundTemplate old new rest (parse_template v (counts_of old) tokens)
-template_at {old = old} {new = new} {rest = rest} tokens same f = subst (λ (v : Version). FoundTemplate old new rest (parse_template v (counts_of old) tokens)) same f
 
 term_taken : (v : Version) (old new : Program) (id : TermId) (rest tokens : List Tok) (d : ℕ) → (f : FoundTerm old new id rest (parse_term d v (counts_of old) tokens)) → Took v d (counts_of old) tokens f.term rest
 term_taken v old new id rest tokens d f = term_takes v d (counts_of old) tokens f.term rest (few_program_expressions old) f.is
@@ -263,10 +245,10 @@ switching_ready v {old} {one} {two} {start} {r0} {r1} {r2} {r3} {rest} {a} {b} {
     }
 
 -- a form that is a name alone
-pub named_ready : (v : Version) {old : Program} (w : Naming) {start rest : List Tok} {k n : Name} (tokens : List Tok) → parse_name tokens ≡ got k rest → n ≡ k → Ready old old (named_term w n) start rest (parse_named w (counts_of old) start tokens)
+pub named_ready : {old : Program} (w : Naming) {start rest : List Tok} {k n : Name} (tokens : List Tok) → parse_name tokens ≡ got k rest → n ≡ k → Ready old old (named_term w n) start rest (parse_named w (counts_of old) start tokens)
 unfolding parse_named
-named_ready v w {k = k} tokens named bytes =
-    let lone : IsLone v w k = named_alone v w k in
+named_ready w {k = k} tokens named bytes =
+    let lone : IsLone versions.One w k = named_alone versions.One w k in
     record { term = named_term w k; is = rw named refl; same = ap (named_term w) bytes; shallow = omega (arith, lone.depth); terms = omega (arith, lone.terms); expressions = omega (arith, lone.expressions) }
 
 -- a term that gives way to another, which knows it by a name

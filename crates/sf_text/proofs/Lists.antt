@@ -30,8 +30,7 @@ use Rattle.sf_parse.specs.Answers.{StopsReading, ReadsAs, toks, ahead, counts_of
 use Rattle.sf_parse.specs.Consuming.{places, spots_ahead, BehindOne, Consumes}
 use Rattle.sf_text.specs.Answers.{actual_of, FoundArgument, FoundArguments, ReadsArguments}
 use Rattle.sf_parse.proofs.Found.{keeps_self}
-use Rattle.sf_text.proofs.Found.{argument_at}
-use Rattle.sf_text.proofs.Placed.{each_argument_keeps, argument_placed_at}
+use Rattle.sf_text.proofs.Placed.{each_argument_keeps}
 
 -- reading that stops within a part stops within the whole
 stops_within : {A B : Type 0} (e : Stop) (part : Read A) (f : A → List Tok → Read B) → StopsReading e part → StopsReading e (part and_then f)
@@ -317,7 +316,7 @@ unfolding parse_arguments
 argument_stops_so v d n c e rest stops = stops_within e (parse_argument d v (parse_term d v) c rest) (λ a rest. parse_further no_arguments (parse_arguments n d v (parse_term d v) (counts_with_actual c a)) rest and_then λ vs rest. got (with_actual a vs) rest) stops
 
 -- reading stops within a further argument
-argument_stops : (v : Version) (d : ℕ) (old one : Program) (tokens : List PlacedToken) (rest : List Tok) (spots : List Spot) (bs : List Argument) (e : Stop) → ReadArguments v d old one tokens bs true rest spots
+pub argument_stops : (v : Version) (d : ℕ) (old one : Program) (tokens : List PlacedToken) (rest : List Tok) (spots : List Spot) (bs : List Argument) (e : Stop) → ReadArguments v d old one tokens bs true rest spots
     → StopsReading e (parse_argument d v (parse_term d v) (counts_of one) rest) → StopsReading e (parse_arguments (suc (length (toks tokens))) d v (parse_term d v) (counts_of old) (toks tokens))
 argument_stops v d old one tokens rest spots bs e read stops = from read.most read.so read.enough
   where
@@ -331,7 +330,7 @@ argument_stops_behind v d n c e rest r1 a is stops = rw is (stops_within e (pars
     (stops_within e (parse_separator r1) (λ more rest. further_from no_arguments (parse_arguments n d v (parse_term d v) (counts_with_actual c a)) more rest) stops))
 
 -- reading stops behind a further argument
-argument_separator_stops : (v : Version) (d : ℕ) (old one : Program) (tokens : List PlacedToken) (rest r1 : List Tok) (spots : List Spot) (bs : List Argument) (a : Actual) (e : Stop) → ReadArguments v d old one tokens bs true rest spots
+pub argument_separator_stops : (v : Version) (d : ℕ) (old one : Program) (tokens : List PlacedToken) (rest r1 : List Tok) (spots : List Spot) (bs : List Argument) (a : Actual) (e : Stop) → ReadArguments v d old one tokens bs true rest spots
     → parse_argument d v (parse_term d v) (counts_of one) rest ≡ got a r1 → StopsReading e (parse_separator r1) → StopsReading e (parse_arguments (suc (length (toks tokens))) d v (parse_term d v) (counts_of old) (toks tokens))
 argument_separator_stops v d old one tokens rest r1 spots bs a e read is stops = from read.most read.so read.enough
   where
@@ -339,39 +338,19 @@ argument_separator_stops v d old one tokens rest r1 spots bs a e read is stops =
     from zero so enough = absurd (omega arith)
     from (suc n) so enough = subst (λ (r : Read Arguments). StopsReading e r) (sym so) (stops_within e (parse_arguments (suc n) d v (parse_term d v) (counts_of one) rest) (λ vs rest. got (arguments_before read.values vs) rest) (argument_stops_behind v d n (counts_of one) e rest r1 a is stops))
 
--- arguments were read up to where the reader is, and whether further ones follow
-pub record ArgumentsTo (v : Version) (d : ℕ) (old : Program) (tokens : List PlacedToken) (now : Reader) (bs : List Argument) (more : Bool) : Type 0 where
-  pub version : now.version ≡ v
-  pub read : ReadArguments v d old now.program tokens bs more (ahead now.cursor) (spots_ahead now.cursor)
-
 -- further ones follow
-pub arguments_go_on : {v : Version} {d : ℕ} {old : Program} {tokens : List PlacedToken} {now : Reader} {bs : List Argument} {more : Bool} → more ≡ true → ArgumentsTo v d old tokens now bs more → ArgumentsTo v d old tokens now bs true
-arguments_go_on {v} {d} {old} {tokens} {now} {bs} {more} going to = subst (λ (m : Bool). ArgumentsTo v d old tokens now bs m) going to
-
-pub no_arguments_to : (d : ℕ) (now : Reader) → ArgumentsTo now.version d now.program now.cursor.tokens.now now [] true
-no_arguments_to d now = record { version = refl; read = no_arguments_read now.version d now.program now.cursor.tokens.now }
+pub arguments_go_on : {v : Version} {d : ℕ} {old new : Program} {tokens : List PlacedToken} {bs : List Argument} {more : Bool} {rest : List Tok} {spots : List Spot} → more ≡ true
+    → ReadArguments v d old new tokens bs more rest spots → ReadArguments v d old new tokens bs true rest spots
+arguments_go_on {v} {d} {old} {new} {tokens} {bs} {more} {rest} {spots} going read = subst (λ (m : Bool). ReadArguments v d old new tokens bs m rest spots) going read
 
 -- one argument more, up to these tokens
-pub next_argument : (v : Version) (d : ℕ) (old : Program) (tokens : List PlacedToken) (now after : Reader) (behind : Cursor) (bs : List Argument) (b : Argument) (more : Bool) → ArgumentsTo v d old tokens now bs true
-    → FoundArgument now.program after.program b (ahead after.cursor) (parse_argument d now.version (parse_term d now.version) (counts_of now.program) (ahead now.cursor)) → Consumes (ArgumentPlaced now.version after.program b) (spots_ahead now.cursor) (spots_ahead after.cursor)
-    → after.version ≡ now.version → parse_separator (ahead after.cursor) ≡ got more (ahead behind) → BehindOne (spots_ahead after.cursor) (spots_ahead behind) → ArgumentsTo v d old tokens (record after { cursor = behind }) (bs ++ b ∷ []) more
-next_argument v d old tokens now after behind bs b more to found placed kept separator one = record {
-  version = kept ∙ to.version;
-  read = argument_more v d old now.program after.program tokens (ahead now.cursor) (ahead after.cursor) (ahead behind) (spots_ahead now.cursor) (spots_ahead after.cursor) (spots_ahead behind) bs b more to.read
-      (argument_at d (ahead now.cursor) to.version found) (argument_placed_at to.version placed) separator one (fewer_behind now.cursor.tokens.now after.cursor.tokens.now behind.tokens.now placed one);
-}
-
-pub argument_stopped : (v : Version) (d : ℕ) (old : Program) (tokens : List PlacedToken) (now : Reader) (bs : List Argument) (e : Stop) → ArgumentsTo v d old tokens now bs true
-    → StopsReading e (parse_argument d now.version (parse_term d now.version) (counts_of now.program) (ahead now.cursor)) → StopsReading e (parse_arguments (suc (length (toks tokens))) d v (parse_term d v) (counts_of old) (toks tokens))
-argument_stopped v d old tokens now bs e to stops =
-    argument_stops v d old now.program tokens (ahead now.cursor) (spots_ahead now.cursor) bs e to.read (subst (λ (w : Version). StopsReading e (parse_argument d w (parse_term d w) (counts_of now.program) (ahead now.cursor))) to.version stops)
-
-pub argument_separator_stopped : (v : Version) (d : ℕ) (old : Program) (tokens : List PlacedToken) (now after : Reader) (bs : List Argument) (b : Argument) (e : Stop) → ArgumentsTo v d old tokens now bs true
-    → FoundArgument now.program after.program b (ahead after.cursor) (parse_argument d now.version (parse_term d now.version) (counts_of now.program) (ahead now.cursor)) → StopsReading e (parse_separator (ahead after.cursor))
-    → StopsReading e (parse_arguments (suc (length (toks tokens))) d v (parse_term d v) (counts_of old) (toks tokens))
-argument_separator_stopped v d old tokens now after bs b e to found stops =
-    let f = argument_at d (ahead now.cursor) to.version found in
-    argument_separator_stops v d old now.program tokens (ahead now.cursor) (ahead after.cursor) (spots_ahead now.cursor) bs f.value e to.read f.is stops
+pub next_argument : (v : Version) (d : ℕ) (old : Program) (tokens : List PlacedToken) (now after : Reader) (behind : Cursor) (bs : List Argument) (b : Argument) (more : Bool)
+    → ReadArguments v d old now.program tokens bs true (ahead now.cursor) (spots_ahead now.cursor)
+    → FoundArgument now.program after.program b (ahead after.cursor) (parse_argument d v (parse_term d v) (counts_of now.program) (ahead now.cursor)) → Consumes (ArgumentPlaced v after.program b) (spots_ahead now.cursor) (spots_ahead after.cursor)
+    → parse_separator (ahead after.cursor) ≡ got more (ahead behind) → BehindOne (spots_ahead after.cursor) (spots_ahead behind) → ReadArguments v d old after.program tokens (bs ++ b ∷ []) more (ahead behind) (spots_ahead behind)
+next_argument v d old tokens now after behind bs b more read found placed separator one =
+    argument_more v d old now.program after.program tokens (ahead now.cursor) (ahead after.cursor) (ahead behind) (spots_ahead now.cursor) (spots_ahead after.cursor) (spots_ahead behind) bs b more read
+    found placed separator one (fewer_behind now.cursor.tokens.now after.cursor.tokens.now behind.tokens.now placed one)
 
 arguments_so : (p : Program) (bs : List Argument) → arguments_of p bs ≡ arguments_before (map (actual_of p) bs) no_arguments
 arguments_so p [] = refl

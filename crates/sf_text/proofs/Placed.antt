@@ -127,23 +127,6 @@ templates_more v p hs h xs ys (template_placed {xs = front} {ys = behind} first 
 term_stands : (old new : Program) (id : TermId) (n : Node) (t : Term) (spot : Spot) → AddsTerm old new id n t spot → TermStands new id n spot
 term_stands old new id n t spot a = record { held = a.within; node = a.node; spot = a.spotted }
 
--- what was read in a version was read in the same one
-pub term_placed_at : {v w : Version} {p : Program} {id : TermId} {tokens rest : List Spot} → w ≡ v → Consumes (TermPlaced w p id) tokens rest → Consumes (TermPlaced v p id) tokens rest
-term_placed_at {p = p} {id = id} {tokens = tokens} {rest = rest} same c = subst (λ (v : Version). Consumes (TermPlaced v p id) tokens rest) same c
-
-pub function_placed_at : {v w : Version} {p : Program} {f : FunctionId} {tokens rest : List Spot} → w ≡ v → Consumes (FunctionPlaced w p f) tokens rest → Consumes (FunctionPlaced v p f) tokens rest
-function_placed_at {p = p} {f = f} {tokens = tokens} {rest = rest} same c = subst (λ (v : Version). Consumes (FunctionPlaced v p f) tokens rest) same c
-
-pub body_placed_at : {v w : Version} {q : PlacedPattern} {p : Program} {id : TermId} {tokens rest : List Spot} → w ≡ v
-    → Consumes (Parted (PatternPlaced q) (TermPlaced w p id)) tokens rest → Consumes (Parted (PatternPlaced q) (TermPlaced v p id)) tokens rest
-body_placed_at {q = q} {p = p} {id = id} {tokens = tokens} {rest = rest} same c = subst (λ (v : Version). Consumes (Parted (PatternPlaced q) (TermPlaced v p id)) tokens rest) same c
-
-pub argument_placed_at : {v w : Version} {p : Program} {a : Argument} {tokens rest : List Spot} → w ≡ v → Consumes (ArgumentPlaced w p a) tokens rest → Consumes (ArgumentPlaced v p a) tokens rest
-argument_placed_at {p = p} {a = a} {tokens = tokens} {rest = rest} same c = subst (λ (v : Version). Consumes (ArgumentPlaced v p a) tokens rest) same c
-
-pub template_placed_at : {v w : Version} {old new : Program} {tokens rest : List Spot} → w ≡ v → PlacesTemplate w old new tokens rest → PlacesTemplate v old new tokens rest
-template_placed_at {old = old} {new = new} {tokens = tokens} {rest = rest} same c = subst (λ (v : Version). PlacesTemplate v old new tokens rest) same c
-
 pub bare_read : {v : Version} {old new : Program} {id : TermId} {k : Bare} {t : Term} {spot : Spot} (rest : List Spot) → AddsTerm old new id (nodes.Primitive (primitives.Bare k)) t spot → Consumes (TermPlaced v new id) (spot ∷ rest) rest
 bare_read {v} {old} {new} {id} {k} {t} {spot} rest added = record { front = spot ∷ []; split = refl; holds = bare_placed (term_stands old new id _ t spot added) }
 

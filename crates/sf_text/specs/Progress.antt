@@ -11,7 +11,6 @@ use Rattle.sf_term.specs.Arena.{templates_of}
 use Rattle.sf_grammar.specs.declared.ty.Version.{Version}
 use Rattle.sf_grammar.specs.Spelling.{spell, spell_templates, IsWithinLimits}
 use Rattle.sf_grammar.specs.Stopping.{counts_in, StopsBehind, StopsIn}
-use Rattle.sf_parse.specs.declared.reader.Reader.{Reader}
 use Rattle.sf_parse.specs.declared.stop.Stop.{Stop}
 use Rattle.sf_parse.specs.declared.stop.Stop.TheVariants as stops
 use Rattle.sf_parse.specs.Answers.{counts_of}
@@ -45,8 +44,8 @@ pub record IsSpelled (v : Version) (tokens : List Tok) (p : Program) : Type 0 wh
   pub spelled : tokens ≡ spell v (templates_of p)
   pub limited : IsWithinLimits v (templates_of p)
 
-abbrev pub ReadsNetwork : Result Reader Stop → List Tok → Type 0
-ReadsNetwork (Ok r) tokens = IsSpelled r.version tokens r.program
+abbrev pub ReadsNetwork : Result (Version × Program) Stop → List Tok → Type 0
+ReadsNetwork (Ok r) tokens = IsSpelled r.0 tokens r.1
 ReadsNetwork (Err e) tokens = StopsNetwork e tokens
 
 -- the place of the first of these tokens, or where they end

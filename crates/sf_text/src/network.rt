@@ -13,6 +13,7 @@ ghost use Rattle.sf_grammar.specs.Stopping.{BreaksText};
 use crate::header::opening;
 use crate::place::refusal_at;
 use crate::template::template;
+use sf_grammar::Version;
 use sf_lex::{PlacedToken, tokens};
 use sf_parse::{Cursor, Reader, Stop};
 use sf_refusal::Refusal;
@@ -21,33 +22,29 @@ use std::alloc::Global;
 
 /// Reads templates up to the end.
 #[tactic(auto, using(crate::proofs::Behind::stops_after))]
-fn templates(reader: &mut Reader) -> Result<(), Stop>
+fn templates(reader: &mut Reader, version: Version) -> Result<(), Stop>
     requires blank { IsBlankProgram reader.old.program }
-    ensures reads { ReadsTemplates reader.old.version result (ahead reader.old.cursor) reader.new.program }
-    ensures placed { OnOk result (TemplatesPlaced reader.old.version reader.new.program (headers_of reader.new.program) (spots_ahead reader.old.cursor)) }
-    ensures version { reader.new.version ≡ reader.old.version }
+    ensures reads { ReadsTemplates version result (ahead reader.old.cursor) reader.new.program }
+    ensures placed { OnOk result (TemplatesPlaced version reader.new.program (headers_of reader.new.program) (spots_ahead reader.old.cursor)) }
 {
     while !reader.cursor.tokens.is_empty() {
-        template(reader)?;
+        template(reader, version)?;
     }
     Ok(())
 }
 
-/// Reads the tokens of a network to their end.
+/// Reads the tokens of a network to their end: its version and the network.
 #[tactic(auto, using(crate::proofs::Whole::stops_opening, crate::proofs::Whole::network_spelled, crate::proofs::Whole::network_stops))]
-fn network<'a>(alloc: Global, tokens: &'a [PlacedToken<'a>]) -> Result<Reader<'a>, Stop>
+fn network(alloc: Global, tokens: &[PlacedToken]) -> Result<(Version, Program), Stop>
     ensures reads { ReadsNetwork result (toks tokens.now) }
-    ensures placed { IfOk result (λ r. NetworkPlaced r.version r.program (places tokens.now)) }
+    ensures placed { IfOk result (λ r. NetworkPlaced r.0 r.1 (places tokens.now)) }
 {
     let mut cursor = Cursor { alloc, tokens };
     let version = opening(&mut cursor)?;
-    let mut reader = Reader {
-        version,
-        cursor,
-        program: Program::new(alloc),
-    };
-    templates(&mut reader)?;
-    Ok(reader)
+    let program = Program::new(alloc);
+    let mut reader = Reader { cursor, program };
+    templates(&mut reader, version)?;
+    Ok((version, reader.program))
 }
 
 /// The network whose text this is: version 1 or 2, at most 1,048,576 bytes, 100,000 terms and 100,000 expressions. At most 64
@@ -68,7 +65,7 @@ pub fn read_network(alloc: Global, bytes: &[u8]) -> Result<Program, Refusal>
 {
     let tokens = tokens(alloc, bytes)?;
     match network(alloc, &tokens) {
-        Ok(reader) => Ok(reader.program),
+        Ok((_version, program)) => Ok(program),
         Err(stop) => Err(refusal_at(stop, &tokens, bytes)),
     }
 }

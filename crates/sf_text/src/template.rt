@@ -8,20 +8,20 @@ ghost use Rattle.sf_grammar.specs.Reading.{parse_template};
 
 use crate::header::{heading, signature};
 use crate::term::term;
+use sf_grammar::Version;
 use sf_lex::Symbol;
 use sf_parse::{Reader, Stop, refused};
 
 /// Reads a template into the program.
 #[tactic(auto, unfolding(sf_grammar::specs::Reading::parse_template))]
-pub(crate) fn template(reader: &mut Reader) -> Result<(), Stop>
-    ensures reads { ReadsTemplate reader.old reader.new result (parse_template reader.old.version (counts_of reader.old.program) (ahead reader.old.cursor)) }
-    ensures placed { IfOk result (λ u. PlacesTemplate reader.old.version reader.old.program reader.new.program (spots_ahead reader.old.cursor) (spots_ahead reader.new.cursor)) }
-    ensures version { reader.new.version ≡ reader.old.version }
+pub(crate) fn template(reader: &mut Reader, version: Version) -> Result<(), Stop>
+    ensures reads { ReadsTemplate reader.old reader.new result (parse_template version (counts_of reader.old.program) (ahead reader.old.cursor)) }
+    ensures placed { IfOk result (λ u. PlacesTemplate version reader.old.program reader.new.program (spots_ahead reader.old.cursor) (spots_ahead reader.new.cursor)) }
 {
     let ahead = reader.cursor.tokens.len();
-    let titled = heading(&mut reader.cursor, reader.version)?;
-    let types = signature(&mut reader.cursor, reader.version)?;
-    let body = term(reader, 64)?;
+    let titled = heading(&mut reader.cursor, version)?;
+    let types = signature(&mut reader.cursor, version)?;
+    let body = term(reader, version, 64)?;
     reader.cursor.symbol(Symbol::Semicolon)?;
     let name = String::from_str(reader.cursor.alloc, titled.name.name.as_str())?;
     match reader.program.template(

@@ -63,8 +63,7 @@ fn head_at(version: Version, tokens: &[PlacedToken]) -> Option<Head>
 /// A primitive without constants, behind its word.
 fn bare(reader: &mut Reader, start: Mark, kind: Bare) -> Result<TermId, Stop>
     ensures reads { ReadsTermForm reader.old reader.new start result (term_read (counts_of reader.old.program) (primitive_form (bare_form kind))) }
-    ensures placed { StandsFrom start (TermPlaced reader.old.version reader.new.program) result reader.old.cursor reader.new.cursor }
-    ensures version { reader.new.version ≡ reader.old.version }
+    ensures placed { (version : Version) → StandsFrom start (TermPlaced version reader.new.program) result reader.old.cursor reader.new.cursor }
 {
     let node = Node::Primitive(Primitive::Bare(kind));
     start.built(reader.program.add(node, start.spot))
@@ -72,53 +71,61 @@ fn bare(reader: &mut Reader, start: Mark, kind: Bare) -> Result<TermId, Stop>
 
 /// `never`, behind its word.
 #[tactic(auto, unfolding(sf_grammar::specs::Reading::parse_never))]
-fn never(reader: &mut Reader, start: Mark, left: u32) -> Result<TermId, Stop>
+fn never(reader: &mut Reader, version: Version, start: Mark, left: u32) -> Result<TermId, Stop>
     requires shallow { left ≤ 63 }
-    ensures reads { ReadsTermForm reader.old reader.new start result (parse_never left reader.old.version (counts_of reader.old.program)) }
-    ensures placed { StandsFrom start (TermPlaced reader.old.version reader.new.program) result reader.old.cursor reader.new.cursor }
-    ensures version { reader.new.version ≡ reader.old.version }
+    ensures reads { ReadsTermForm reader.old reader.new start result (parse_never left version (counts_of reader.old.program)) }
+    ensures placed { StandsFrom start (TermPlaced version reader.new.program) result reader.old.cursor reader.new.cursor }
 {
-    let payload = reader.cursor.type_within(reader.version, left)?;
+    let payload = reader.cursor.type_within(version, left)?;
     start.built(reader.program.never(payload, start.spot))
 }
 
 /// A primitive with a value, behind its word.
 #[tactic(auto, unfolding(sf_grammar::specs::Reading::parse_value))]
-fn with_value(reader: &mut Reader, start: Mark, kind: WithValue, left: u32) -> Result<TermId, Stop>
+fn with_value(
+    reader: &mut Reader,
+    version: Version,
+    start: Mark,
+    kind: WithValue,
+    left: u32,
+) -> Result<TermId, Stop>
     requires shallow { left ≤ 63 }
     requires behind { stands_initially kind ≡ false }
-    ensures reads { ReadsTermForm reader.old reader.new start result (parse_value left reader.old.version (counts_of reader.old.program) kind) }
-    ensures placed { StandsFrom start (TermPlaced reader.old.version reader.new.program) result reader.old.cursor reader.new.cursor }
-    ensures version { reader.new.version ≡ reader.old.version }
+    ensures reads { ReadsTermForm reader.old reader.new start result (parse_value left version (counts_of reader.old.program) kind) }
+    ensures placed { StandsFrom start (TermPlaced version reader.new.program) result reader.old.cursor reader.new.cursor }
 {
-    let value = reader.expression(left)?;
+    let value = reader.expression(version, left)?;
     let node = Node::Primitive(Primitive::WithValue(kind, value));
     start.built(reader.program.add(node, start.spot))
 }
 
 /// A primitive with a time and a value, behind its word.
 #[tactic(auto, unfolding(sf_grammar::specs::Reading::parse_timed))]
-fn timed(reader: &mut Reader, start: Mark, kind: Timing, left: u32) -> Result<TermId, Stop>
+fn timed(
+    reader: &mut Reader,
+    version: Version,
+    start: Mark,
+    kind: Timing,
+    left: u32,
+) -> Result<TermId, Stop>
     requires shallow { left ≤ 63 }
-    ensures reads { ReadsTermForm reader.old reader.new start result (parse_timed left reader.old.version (counts_of reader.old.program) kind) }
-    ensures placed { StandsFrom start (TermPlaced reader.old.version reader.new.program) result reader.old.cursor reader.new.cursor }
-    ensures version { reader.new.version ≡ reader.old.version }
+    ensures reads { ReadsTermForm reader.old reader.new start result (parse_timed left version (counts_of reader.old.program) kind) }
+    ensures placed { StandsFrom start (TermPlaced version reader.new.program) result reader.old.cursor reader.new.cursor }
 {
     let time = reader.cursor.number()?;
-    let value = reader.expression(left)?;
+    let value = reader.expression(version, left)?;
     let node = Node::Primitive(Primitive::Timed(kind, time, value));
     start.built(reader.program.add(node, start.spot))
 }
 
 /// A function as a primitive, behind its word.
 #[tactic(auto, unfolding(sf_grammar::specs::Reading::parse_arrow))]
-fn arrow(reader: &mut Reader, start: Mark, left: u32) -> Result<TermId, Stop>
+fn arrow(reader: &mut Reader, version: Version, start: Mark, left: u32) -> Result<TermId, Stop>
     requires shallow { left ≤ 63 }
-    ensures reads { ReadsTermForm reader.old reader.new start result (parse_arrow left reader.old.version (counts_of reader.old.program)) }
-    ensures placed { StandsFrom start (TermPlaced reader.old.version reader.new.program) result reader.old.cursor reader.new.cursor }
-    ensures version { reader.new.version ≡ reader.old.version }
+    ensures reads { ReadsTermForm reader.old reader.new start result (parse_arrow left version (counts_of reader.old.program)) }
+    ensures placed { StandsFrom start (TermPlaced version reader.new.program) result reader.old.cursor reader.new.cursor }
 {
-    let function = reader.function(left)?;
+    let function = reader.function(version, left)?;
     let node = Node::Primitive(Primitive::Arrow(function));
     start.built(reader.program.add(node, start.spot))
 }
@@ -127,19 +134,19 @@ fn arrow(reader: &mut Reader, start: Mark, left: u32) -> Result<TermId, Stop>
 #[tactic(auto, unfolding(sf_grammar::specs::Reading::parse_accumulated))]
 fn accumulated(
     reader: &mut Reader,
+    version: Version,
     start: Mark,
     kind: Accumulation,
     left: u32,
 ) -> Result<TermId, Stop>
     requires shallow { left ≤ 63 }
-    ensures reads { ReadsTermForm reader.old reader.new start result (parse_accumulated left reader.old.version (counts_of reader.old.program) kind) }
-    ensures placed { StandsFrom start (TermPlaced reader.old.version reader.new.program) result reader.old.cursor reader.new.cursor }
-    ensures version { reader.new.version ≡ reader.old.version }
+    ensures reads { ReadsTermForm reader.old reader.new start result (parse_accumulated left version (counts_of reader.old.program) kind) }
+    ensures placed { StandsFrom start (TermPlaced version reader.new.program) result reader.old.cursor reader.new.cursor }
 {
     reader.cursor.symbol(Symbol::Open)?;
-    let value = reader.expression(left)?;
+    let value = reader.expression(version, left)?;
     reader.cursor.symbol(Symbol::Comma)?;
-    let function = reader.function(left)?;
+    let function = reader.function(version, left)?;
     reader.cursor.symbol(Symbol::Close)?;
     let node = Node::Primitive(Primitive::Accumulated(kind, value, function));
     start.built(reader.program.add(node, start.spot))
@@ -149,8 +156,7 @@ fn accumulated(
 #[tactic(auto, unfolding(sf_grammar::specs::Reading::parse_named))]
 fn named(reader: &mut Reader, start: Mark, form: Naming) -> Result<TermId, Stop>
     ensures reads { ReadsTermForm reader.old reader.new start result (parse_named form (counts_of reader.old.program)) }
-    ensures placed { StandsFrom start (TermPlaced reader.old.version reader.new.program) result reader.old.cursor reader.new.cursor }
-    ensures version { reader.new.version ≡ reader.old.version }
+    ensures placed { (version : Version) → StandsFrom start (TermPlaced version reader.new.program) result reader.old.cursor reader.new.cursor }
 {
     let label = reader.cursor.name()?;
     let known = String::from_str(reader.cursor.alloc, label.name.as_str())?;
@@ -176,29 +182,27 @@ fn join(cursor: &mut Cursor) -> Result<Join, Stop>
 /// A term of so much depth at most.
 #[cycle(term)]
 #[tactic(auto, using(crate::proofs::Deeper::term_at_more, crate::proofs::Deeper::term_at_zero))]
-pub(crate) fn term(reader: &mut Reader, left: u32) -> Result<TermId, Stop>
+pub(crate) fn term(reader: &mut Reader, version: Version, left: u32) -> Result<TermId, Stop>
     requires shallow { left ≤ 64 }
-    ensures reads { ReadsTerm reader.old reader.new result (parse_term left reader.old.version (counts_of reader.old.program) (ahead reader.old.cursor)) }
-    ensures placed { StandsOn (TermPlaced reader.old.version reader.new.program) result reader.old.cursor reader.new.cursor }
-    ensures version { reader.new.version ≡ reader.old.version }
+    ensures reads { ReadsTerm reader.old reader.new result (parse_term left version (counts_of reader.old.program) (ahead reader.old.cursor)) }
+    ensures placed { StandsOn (TermPlaced version reader.new.program) result reader.old.cursor reader.new.cursor }
 {
     if left == 0 {
         return Err(term_too_deep(&reader.cursor));
     }
-    form(reader, left - 1)
+    form(reader, version, left - 1)
 }
 
 #[cycle(term)]
-fn form(reader: &mut Reader, left: u32) -> Result<TermId, Stop>
+fn form(reader: &mut Reader, version: Version, left: u32) -> Result<TermId, Stop>
     requires shallow { left ≤ 63 }
-    ensures reads { ReadsTerm reader.old reader.new result (parse_form left reader.old.version (parse_term left reader.old.version) (counts_of reader.old.program) (ahead reader.old.cursor)) }
-    ensures placed { StandsOn (TermPlaced reader.old.version reader.new.program) result reader.old.cursor reader.new.cursor }
-    ensures version { reader.new.version ≡ reader.old.version }
+    ensures reads { ReadsTerm reader.old reader.new result (parse_form left version (parse_term left version) (counts_of reader.old.program) (ahead reader.old.cursor)) }
+    ensures placed { StandsOn (TermPlaced version reader.new.program) result reader.old.cursor reader.new.cursor }
 {
-    let head = head_at(reader.version, reader.cursor.tokens);
+    let head = head_at(version, reader.cursor.tokens);
     let first = reader.cursor.first()?;
     match head {
-        Some(head) => behind_head(reader, first, head, left),
+        Some(head) => behind_head(reader, version, first, head, left),
         None => Err(Stop::At(Rule::Unexpected, first.start.ahead)),
     }
 }
@@ -208,6 +212,7 @@ fn form(reader: &mut Reader, left: u32) -> Result<TermId, Stop>
 #[tactic(auto, unfolding(sf_grammar::specs::Reading::parse_call))]
 fn behind_head<'a>(
     reader: &mut Reader<'a>,
+    version: Version,
     first: First<'a>,
     head: Head,
     left: u32,
@@ -215,26 +220,25 @@ fn behind_head<'a>(
     requires shallow { left ≤ 63 }
     requires stands { HasValueSo head }
     ensures reads { let whole = token_of first.entry.token.now ∷ ahead reader.old.cursor in length whole ≡ first.entry.start.ahead →
-        ReadsTerm reader.old reader.new result (parse_behind_head left reader.old.version (parse_term left reader.old.version) (counts_of reader.old.program) (Some head) whole (ahead reader.old.cursor)) }
-    ensures placed { StandsFrom first.entry.start (TermPlaced reader.old.version reader.new.program) result reader.old.cursor reader.new.cursor }
-    ensures version { reader.new.version ≡ reader.old.version }
+        ReadsTerm reader.old reader.new result (parse_behind_head left version (parse_term left version) (counts_of reader.old.program) (Some head) whole (ahead reader.old.cursor)) }
+    ensures placed { StandsFrom first.entry.start (TermPlaced version reader.new.program) result reader.old.cursor reader.new.cursor }
 {
     let First { token, start } = first;
     match head {
         Head::Bare(kind) => bare(reader, start, kind),
-        Head::Never => never(reader, start, left),
-        Head::WithValue(kind) => with_value(reader, start, kind, left),
-        Head::Timed(kind) => timed(reader, start, kind, left),
-        Head::Arrow => arrow(reader, start, left),
-        Head::Accumulated(kind) => accumulated(reader, start, kind, left),
-        Head::Joined => joined(reader, start, left),
-        Head::Sided(side) => sided(reader, start, side, left),
-        Head::Headed(heading) => headed(reader, start, heading, left),
-        Head::Switching(kind) => switching(reader, start, kind, left),
+        Head::Never => never(reader, version, start, left),
+        Head::WithValue(kind) => with_value(reader, version, start, kind, left),
+        Head::Timed(kind) => timed(reader, version, start, kind, left),
+        Head::Arrow => arrow(reader, version, start, left),
+        Head::Accumulated(kind) => accumulated(reader, version, start, kind, left),
+        Head::Joined => joined(reader, version, start, left),
+        Head::Sided(side) => sided(reader, version, start, side, left),
+        Head::Headed(heading) => headed(reader, version, start, heading, left),
+        Head::Switching(kind) => switching(reader, version, start, kind, left),
         Head::Named(form) => named(reader, start, form),
-        Head::Keeping(kind) => keeping(reader, start, kind, left),
+        Head::Keeping(kind) => keeping(reader, version, start, kind, left),
         Head::Call => match token {
-            Token::Name(name) => call(reader, start, *name, left),
+            Token::Name(name) => call(reader, version, start, *name, left),
             _ => Err(Stop::At(Rule::Unexpected, start.ahead)),
         },
     }
@@ -243,13 +247,18 @@ fn behind_head<'a>(
 /// A term on one part of a pair, behind its word.
 #[cycle(term)]
 #[tactic(auto, unfolding(sf_grammar::specs::Reading::parse_sided))]
-fn sided(reader: &mut Reader, start: Mark, side: Side, left: u32) -> Result<TermId, Stop>
+fn sided(
+    reader: &mut Reader,
+    version: Version,
+    start: Mark,
+    side: Side,
+    left: u32,
+) -> Result<TermId, Stop>
     requires shallow { left ≤ 63 }
-    ensures reads { ReadsTermForm reader.old reader.new start result (parse_sided (parse_term left reader.old.version) (counts_of reader.old.program) side) }
-    ensures placed { StandsFrom start (TermPlaced reader.old.version reader.new.program) result reader.old.cursor reader.new.cursor }
-    ensures version { reader.new.version ≡ reader.old.version }
+    ensures reads { ReadsTermForm reader.old reader.new start result (parse_sided (parse_term left version) (counts_of reader.old.program) side) }
+    ensures placed { StandsFrom start (TermPlaced version reader.new.program) result reader.old.cursor reader.new.cursor }
 {
-    let part = term(reader, left)?;
+    let part = term(reader, version, left)?;
     start.built(reader.program.add(Node::Sided(side, part), start.spot))
 }
 
@@ -274,16 +283,21 @@ fn head_node(program: &Program, heading: Heading, value: ExprId, part: TermId) -
 /// A term with an expression at its head, behind its word or `-->`.
 #[cycle(term)]
 #[tactic(auto, unfolding(sf_grammar::specs::Reading::parse_headed))]
-fn headed(reader: &mut Reader, start: Mark, heading: Heading, left: u32) -> Result<TermId, Stop>
+fn headed(
+    reader: &mut Reader,
+    version: Version,
+    start: Mark,
+    heading: Heading,
+    left: u32,
+) -> Result<TermId, Stop>
     requires shallow { left ≤ 63 }
-    ensures reads { ReadsTermForm reader.old reader.new start result (parse_headed left reader.old.version (parse_term left reader.old.version) (counts_of reader.old.program) heading) }
-    ensures placed { StandsFrom start (TermPlaced reader.old.version reader.new.program) result reader.old.cursor reader.new.cursor }
-    ensures version { reader.new.version ≡ reader.old.version }
+    ensures reads { ReadsTermForm reader.old reader.new start result (parse_headed left version (parse_term left version) (counts_of reader.old.program) heading) }
+    ensures placed { StandsFrom start (TermPlaced version reader.new.program) result reader.old.cursor reader.new.cursor }
 {
     reader.cursor.symbol(Symbol::Open)?;
-    let value = reader.expression(left)?;
+    let value = reader.expression(version, left)?;
     reader.cursor.symbol(Symbol::Comma)?;
-    let part = term(reader, left)?;
+    let part = term(reader, version, left)?;
     reader.cursor.symbol(Symbol::Close)?;
     let node = head_node(&reader.program, heading, value, part);
     start.built(reader.program.add(node, start.spot))
@@ -291,31 +305,35 @@ fn headed(reader: &mut Reader, start: Mark, heading: Heading, left: u32) -> Resu
 
 /// The pattern and the term of a body, of so much depth at most.
 #[cycle(term)]
-fn body(reader: &mut Reader, left: u32) -> Result<(Pat, TermId), Stop>
+fn body(reader: &mut Reader, version: Version, left: u32) -> Result<(Pat, TermId), Stop>
     requires shallow { left ≤ 63 }
-    ensures reads { ReadsBody reader.old reader.new result (parse_body left (parse_term left reader.old.version) (counts_of reader.old.program) (ahead reader.old.cursor)) }
-    ensures placed { StandsOn (λ x. Parted (PatternPlaced x.0) (TermPlaced reader.old.version reader.new.program x.1)) result reader.old.cursor reader.new.cursor }
-    ensures version { reader.new.version ≡ reader.old.version }
+    ensures reads { ReadsBody reader.old reader.new result (parse_body left (parse_term left version) (counts_of reader.old.program) (ahead reader.old.cursor)) }
+    ensures placed { StandsOn (λ x. Parted (PatternPlaced x.0) (TermPlaced version reader.new.program x.1)) result reader.old.cursor reader.new.cursor }
 {
     let pattern = reader.cursor.pattern(left)?;
     reader.cursor.symbol(Symbol::MapsTo)?;
-    let id = term(reader, left)?;
+    let id = term(reader, version, left)?;
     Ok((pattern, id))
 }
 
 /// A term that gives way to another inside a pattern, behind its word.
 #[cycle(term)]
 #[tactic(auto, unfolding(sf_grammar::specs::Reading::parse_switching))]
-fn switching(reader: &mut Reader, start: Mark, kind: Switching, left: u32) -> Result<TermId, Stop>
+fn switching(
+    reader: &mut Reader,
+    version: Version,
+    start: Mark,
+    kind: Switching,
+    left: u32,
+) -> Result<TermId, Stop>
     requires shallow { left ≤ 63 }
-    ensures reads { ReadsTermForm reader.old reader.new start result (parse_switching left (parse_term left reader.old.version) (counts_of reader.old.program) kind) }
-    ensures placed { StandsFrom start (TermPlaced reader.old.version reader.new.program) result reader.old.cursor reader.new.cursor }
-    ensures version { reader.new.version ≡ reader.old.version }
+    ensures reads { ReadsTermForm reader.old reader.new start result (parse_switching left (parse_term left version) (counts_of reader.old.program) kind) }
+    ensures placed { StandsFrom start (TermPlaced version reader.new.program) result reader.old.cursor reader.new.cursor }
 {
     reader.cursor.symbol(Symbol::Open)?;
-    let source = term(reader, left)?;
+    let source = term(reader, version, left)?;
     reader.cursor.symbol(Symbol::Comma)?;
-    let (pattern, body) = body(reader, left)?;
+    let (pattern, body) = body(reader, version, left)?;
     reader.cursor.symbol(Symbol::Close)?;
     let added = reader
         .program
@@ -326,20 +344,25 @@ fn switching(reader: &mut Reader, start: Mark, kind: Switching, left: u32) -> Re
 /// A term that gives way to another, which knows it by a name, behind its word.
 #[cycle(term)]
 #[tactic(auto, unfolding(sf_grammar::specs::Reading::parse_keeping))]
-fn keeping(reader: &mut Reader, start: Mark, kind: Observation, left: u32) -> Result<TermId, Stop>
+fn keeping(
+    reader: &mut Reader,
+    version: Version,
+    start: Mark,
+    kind: Observation,
+    left: u32,
+) -> Result<TermId, Stop>
     requires shallow { left ≤ 63 }
-    ensures reads { ReadsTermForm reader.old reader.new start result (parse_keeping left (parse_term left reader.old.version) (counts_of reader.old.program) kind) }
-    ensures placed { StandsFrom start (TermPlaced reader.old.version reader.new.program) result reader.old.cursor reader.new.cursor }
-    ensures version { reader.new.version ≡ reader.old.version }
+    ensures reads { ReadsTermForm reader.old reader.new start result (parse_keeping left (parse_term left version) (counts_of reader.old.program) kind) }
+    ensures placed { StandsFrom start (TermPlaced version reader.new.program) result reader.old.cursor reader.new.cursor }
 {
     reader.cursor.symbol(Symbol::Open)?;
-    let source = term(reader, left)?;
+    let source = term(reader, version, left)?;
     reader.cursor.symbol(Symbol::Comma)?;
-    let observer = term(reader, left)?;
+    let observer = term(reader, version, left)?;
     reader.cursor.symbol(Symbol::Comma)?;
     let process = reader.cursor.name()?;
     reader.cursor.symbol(Symbol::Comma)?;
-    let (pattern, body) = body(reader, left)?;
+    let (pattern, body) = body(reader, version, left)?;
     reader.cursor.symbol(Symbol::Close)?;
     let known = String::from_str(reader.cursor.alloc, process.name.as_str())?;
     let added = reader.program.keeping(
@@ -358,15 +381,14 @@ fn keeping(reader: &mut Reader, start: Mark, kind: Observation, left: u32) -> Re
 /// Two terms joined, behind their opening bracket.
 #[cycle(term)]
 #[tactic(auto, unfolding(sf_grammar::specs::Reading::parse_joined))]
-fn joined(reader: &mut Reader, start: Mark, left: u32) -> Result<TermId, Stop>
+fn joined(reader: &mut Reader, version: Version, start: Mark, left: u32) -> Result<TermId, Stop>
     requires shallow { left ≤ 63 }
-    ensures reads { ReadsTermForm reader.old reader.new start result (parse_joined (parse_term left reader.old.version) (counts_of reader.old.program)) }
-    ensures placed { StandsFrom start (TermPlaced reader.old.version reader.new.program) result reader.old.cursor reader.new.cursor }
-    ensures version { reader.new.version ≡ reader.old.version }
+    ensures reads { ReadsTermForm reader.old reader.new start result (parse_joined (parse_term left version) (counts_of reader.old.program)) }
+    ensures placed { StandsFrom start (TermPlaced version reader.new.program) result reader.old.cursor reader.new.cursor }
 {
-    let one = term(reader, left)?;
+    let one = term(reader, version, left)?;
     let join = join(&mut reader.cursor)?;
-    let two = term(reader, left)?;
+    let two = term(reader, version, left)?;
     reader.cursor.symbol(Symbol::Close)?;
     start.built(reader.program.add(Node::Joined(join, one, two), start.spot))
 }
@@ -374,20 +396,19 @@ fn joined(reader: &mut Reader, start: Mark, left: u32) -> Result<TermId, Stop>
 /// An argument of a call, of so much depth at most.
 #[cycle(term)]
 #[tactic(auto, unfolding(sf_grammar::specs::Reading::parse_argument))]
-fn argument(reader: &mut Reader, left: u32) -> Result<Argument, Stop>
+fn argument(reader: &mut Reader, version: Version, left: u32) -> Result<Argument, Stop>
     requires shallow { left ≤ 63 }
-    ensures reads { ReadsArgument reader.old reader.new result (parse_argument left reader.old.version (parse_term left reader.old.version) (counts_of reader.old.program) (ahead reader.old.cursor)) }
-    ensures placed { StandsOn (ArgumentPlaced reader.old.version reader.new.program) result reader.old.cursor reader.new.cursor }
-    ensures version { reader.new.version ≡ reader.old.version }
+    ensures reads { ReadsArgument reader.old reader.new result (parse_argument left version (parse_term left version) (counts_of reader.old.program) (ahead reader.old.cursor)) }
+    ensures placed { StandsOn (ArgumentPlaced version reader.new.program) result reader.old.cursor reader.new.cursor }
 {
     match behind_sf(&reader.cursor) {
         Some(behind) => {
             reader.cursor = behind;
-            let process = term(reader, left)?;
+            let process = term(reader, version, left)?;
             Ok(Argument::Process(process))
         }
         None => {
-            let value = reader.expression(left)?;
+            let value = reader.expression(version, left)?;
             Ok(Argument::Value(value))
         }
     }
@@ -395,17 +416,16 @@ fn argument(reader: &mut Reader, left: u32) -> Result<Argument, Stop>
 
 /// Arguments of a call, one at least, each of so much depth at most, and the closing bracket behind them.
 #[cycle(term)]
-fn some_arguments(reader: &mut Reader, left: u32) -> Result<Vec<Argument>, Stop>
+fn some_arguments(reader: &mut Reader, version: Version, left: u32) -> Result<Vec<Argument>, Stop>
     requires shallow { left ≤ 63 }
-    ensures reads { ReadsArguments reader.old reader.new result (parse_arguments (suc (length (ahead reader.old.cursor))) left reader.old.version (parse_term left reader.old.version) (counts_of reader.old.program) (ahead reader.old.cursor)) }
+    ensures reads { ReadsArguments reader.old reader.new result (parse_arguments (suc (length (ahead reader.old.cursor))) left version (parse_term left version) (counts_of reader.old.program) (ahead reader.old.cursor)) }
     ensures some { IfOk result (λ x. x.items ≢ []) }
-    ensures placed { StandsOn (λ x. EachArgumentPlaced reader.old.version reader.new.program x.items) result reader.old.cursor reader.new.cursor }
-    ensures version { reader.new.version ≡ reader.old.version }
+    ensures placed { StandsOn (λ x. EachArgumentPlaced version reader.new.program x.items) result reader.old.cursor reader.new.cursor }
 {
     let mut arguments = Vec::new(reader.cursor.alloc);
     let mut more = true;
     while more {
-        let argument = argument(reader, left)?;
+        let argument = argument(reader, version, left)?;
         arguments.push(argument)?;
         more = separator(&mut reader.cursor)?;
     }
@@ -414,33 +434,37 @@ fn some_arguments(reader: &mut Reader, left: u32) -> Result<Vec<Argument>, Stop>
 
 /// The arguments of a call, if there are any, each of so much depth at most, and the closing bracket behind them.
 #[cycle(term)]
-fn arguments(reader: &mut Reader, left: u32) -> Result<Vec<Argument>, Stop>
+fn arguments(reader: &mut Reader, version: Version, left: u32) -> Result<Vec<Argument>, Stop>
     requires shallow { left ≤ 63 }
-    ensures reads { ReadsArguments reader.old reader.new result (parse_listed no_arguments (λ ts. parse_arguments (suc (length ts)) left reader.old.version (parse_term left reader.old.version) (counts_of reader.old.program) ts) (ahead reader.old.cursor)) }
-    ensures placed { StandsOn (λ x. ArgumentsPlaced reader.old.version reader.new.program x.items) result reader.old.cursor reader.new.cursor }
-    ensures version { reader.new.version ≡ reader.old.version }
+    ensures reads { ReadsArguments reader.old reader.new result (parse_listed no_arguments (λ ts. parse_arguments (suc (length ts)) left version (parse_term left version) (counts_of reader.old.program) ts) (ahead reader.old.cursor)) }
+    ensures placed { StandsOn (λ x. ArgumentsPlaced version reader.new.program x.items) result reader.old.cursor reader.new.cursor }
 {
     match reader.cursor.behind_close() {
         Some(behind) => {
             reader.cursor = behind;
             Ok(Vec::new(reader.cursor.alloc))
         }
-        None => some_arguments(reader, left),
+        None => some_arguments(reader, version, left),
     }
 }
 
 /// A call, behind its name.
 #[cycle(term)]
 #[tactic(auto, unfolding(sf_grammar::specs::Reading::parse_call))]
-fn call<'a>(reader: &mut Reader<'a>, start: Mark, name: Name<'a>, left: u32) -> Result<TermId, Stop>
+fn call<'a>(
+    reader: &mut Reader<'a>,
+    version: Version,
+    start: Mark,
+    name: Name<'a>,
+    left: u32,
+) -> Result<TermId, Stop>
     requires shallow { left ≤ 63 }
     ensures reads { let whole = name_token (name_bytes name.entry) ∷ ahead reader.old.cursor in length whole ≡ start.ahead →
-        ReadsTerm reader.old reader.new result (parse_call left reader.old.version (parse_term left reader.old.version) (counts_of reader.old.program) whole) }
-    ensures placed { StandsFrom start (TermPlaced reader.old.version reader.new.program) result reader.old.cursor reader.new.cursor }
-    ensures version { reader.new.version ≡ reader.old.version }
+        ReadsTerm reader.old reader.new result (parse_call left version (parse_term left version) (counts_of reader.old.program) whole) }
+    ensures placed { StandsFrom start (TermPlaced version reader.new.program) result reader.old.cursor reader.new.cursor }
 {
     reader.cursor.symbol(Symbol::Open)?;
-    let arguments = arguments(reader, left)?;
+    let arguments = arguments(reader, version, left)?;
     let known = String::from_str(reader.cursor.alloc, name.as_str())?;
     start.built(reader.program.call(known, arguments, start.spot))
 }

@@ -24,8 +24,8 @@ returns-clause-refused c =
 
 pub returns-in-Ok-clause-placed : goal.returns-in-Ok-clause-placed
 returns-in-Ok-clause-placed c =
-    subst (λ (ts : List PlacedToken). IsSpelled c.in-Ok.reader.version (toks ts) c.in-Ok.reader.program → NetworkPlaced c.in-Ok.reader.version c.in-Ok.reader.program (places ts) → IsPlacedIn c.args.bytes.now c.in-Ok.reader.program) (sym c.deref.ensures.value)
-    (placed_in c.args.bytes.now c.in_ok-tokens.tokens.items c.in-Ok.reader.version c.in-Ok.reader.program c.in_ok-tokens.ensures.found) c.in-Ok.ensures.reads c.in-Ok.ensures.placed
+    subst (λ (ts : List PlacedToken). IsSpelled c.in-Ok._version (toks ts) c.in-Ok.program → NetworkPlaced c.in-Ok._version c.in-Ok.program (places ts) → IsPlacedIn c.args.bytes.now c.in-Ok.program) (sym c.deref.ensures.value)
+    (placed_in c.args.bytes.now c.in_ok-tokens.tokens.items c.in-Ok._version c.in-Ok.program c.in_ok-tokens.ensures.found) c.in-Ok.ensures.reads c.in-Ok.ensures.placed
 
 pub returns-in_err-tokens-clause-fault : goal.returns-in_err-tokens-clause-fault
 returns-in_err-tokens-clause-fault c =

@@ -12,12 +12,12 @@ pub returns-in-Err-clause-reads : goal.returns-in-Err-clause-reads
 returns-in-Err-clause-reads c =
     let is : c.refused.result ≡ stop_for c.in-Err.refusal (length c.args.reader.now.cursor.tokens.now) = c.refused.ensures in
     let named : IsName (string_bytes c.in_ok-name.name) = subst IsName (sym c.in_ok-name.ensures.ok) c.as_str.ensures.named in
-    subst (λ (s : Stop). StopsReading s (parse_template c.args.reader.now.version (counts_of c.args.reader.now.program) (ahead c.args.reader.now.cursor))) (sym is)
-    (template_refused c.in-Err.refusal (length c.args.reader.now.cursor.tokens.now) (parse_template c.args.reader.now.version (counts_of c.args.reader.now.program) (ahead c.args.reader.now.cursor)) (named, c.in_ok-titled.ensures.named)
+    subst (λ (s : Stop). StopsReading s (parse_template c.args.version (counts_of c.args.reader.now.program) (ahead c.args.reader.now.cursor))) (sym is)
+    (template_refused c.in-Err.refusal (length c.args.reader.now.cursor.tokens.now) (parse_template c.args.version (counts_of c.args.reader.now.program) (ahead c.args.reader.now.cursor)) (named, c.in_ok-titled.ensures.named)
     (λ same. c.in-Err.ensures.bad_name.0 (ap Err same)) (λ same. c.in-Err.ensures.not_many (ap Err same)) (λ same. c.in-Err.ensures.not_deep (ap Err same)))
 
 pub returns-in-Ok-clause-placed : goal.returns-in-Ok-clause-placed
 returns-in-Ok-clause-placed c =
     template_read c.in_ok-body.ensures.reads.kept c.in-Ok.ensures.ok c.in_ok-titled.ensures.placed c.in_ok-types.ensures.behind
-    (signature_counted c.args.reader.now.version c.heading.new.cursor.tokens.now c.signature.new.cursor.tokens.now (kinds_in c.in_ok-types.types) c.in_ok-types.ensures.reads c.in_ok-types.ensures.behind)
+    (signature_counted c.args.version c.heading.new.cursor.tokens.now c.signature.new.cursor.tokens.now (kinds_in c.in_ok-types.types) c.in_ok-types.ensures.reads c.in_ok-types.ensures.behind)
     c.in_ok-body.ensures.placed c.in_ok-symbol.ensures.behind

@@ -6,9 +6,9 @@ use Rattle.sf_parse.specs.Answers.{ahead}
 use Rattle.sf_parse.specs.Consuming.{spots_ahead, Consumes}
 use Rattle.sf_grammar.specs.Placing.{ArgumentsPlaced}
 use Rattle.sf_term.proofs.Kept.{keeps_trans}
-use Rattle.sf_text.proofs.Found.{term_built, headed_ready, joined_ready, sided_ready, switching_ready, keeping_ready, call_ready, body_found, term_at, body_at}
-use Rattle.sf_text.proofs.Placed.{headed_read, joined_read, sided_read, switching_read, keeping_read, call_read, value_read, process_read, no_arguments_placed_behind, each_argument_placed, term_placed_at, body_placed_at}
-use Rattle.sf_text.proofs.Lists.{ArgumentsTo, arguments_go_on, no_arguments_to, next_argument, argument_stopped, argument_separator_stopped, all_arguments, arguments_stopped_as}
+use Rattle.sf_text.proofs.Found.{term_built, headed_ready, joined_ready, sided_ready, switching_ready, keeping_ready, call_ready, body_found}
+use Rattle.sf_text.proofs.Placed.{headed_read, joined_read, sided_read, switching_read, keeping_read, call_read, value_read, process_read, no_arguments_placed_behind, each_argument_placed}
+use Rattle.sf_text.proofs.Lists.{ReadArguments, arguments_go_on, no_arguments_read, next_argument, argument_stops, argument_separator_stops, all_arguments, arguments_stopped_as}
 use Rattle.sf_parse.proofs.Found.{if_built, if_built_on}
 use Rattle.sf_parse.proofs.Placed.{parted_read}
 use Rattle.sf_text.proofs.term.+term.Goals as goal
@@ -16,27 +16,27 @@ use Rattle.sf_text.proofs.term.+term.Goals as goal
 pub headed-returns-clause-reads : goal.headed-returns-clause-reads
 headed-returns-clause-reads t c = λ whole counted.
     term_built _ _ _ c.args.start.ahead c.add.result c.built.result
-    (headed_ready c.args.reader.now.version c.args.heading c.args.left (ahead c.args.reader.now.cursor) c.requires.shallow c.head_node-node.ensures.node c.in_ok-symbol.ensures.reads c.in_ok-value.ensures.reads c.in_ok-symbol-2.ensures.reads (term_at c.args.left _ _ c.expression.ensures.version c.in_ok-part.ensures.reads) c.in_ok-symbol-3.ensures.reads)
+    (headed_ready c.args.version c.args.heading c.args.left (ahead c.args.reader.now.cursor) c.requires.shallow c.head_node-node.ensures.node c.in_ok-symbol.ensures.reads c.in_ok-value.ensures.reads c.in_ok-symbol-2.ensures.reads c.in_ok-part.ensures.reads c.in_ok-symbol-3.ensures.reads)
     (keeps_trans _ _ _ c.in_ok-value.ensures.reads.kept c.in_ok-part.ensures.reads.kept) counted c.built.ensures c.add.ensures.ok c.add.ensures.many (λ same. (c.add.ensures.deep.0 same).1) c.add.ensures.no_name
 
 pub headed-returns-clause-placed : goal.headed-returns-clause-placed
 headed-returns-clause-placed t c = if_built _ _ c.args.start.ahead c.add.result c.built.result c.built.ensures c.add.ensures.ok (λ id added.
-    headed_read c.args.heading c.in_ok-part.ensures.reads.kept.trees c.head_node-node.ensures.node added c.in_ok-symbol.ensures.behind c.in_ok-value.ensures.placed c.in_ok-symbol-2.ensures.behind (term_placed_at c.expression.ensures.version c.in_ok-part.ensures.placed) c.in_ok-symbol-3.ensures.behind)
+    headed_read c.args.heading c.in_ok-part.ensures.reads.kept.trees c.head_node-node.ensures.node added c.in_ok-symbol.ensures.behind c.in_ok-value.ensures.placed c.in_ok-symbol-2.ensures.behind c.in_ok-part.ensures.placed c.in_ok-symbol-3.ensures.behind)
 
 pub joined-returns-clause-reads : goal.joined-returns-clause-reads
 joined-returns-clause-reads t c = λ whole counted.
     term_built _ _ _ c.args.start.ahead c.add.result c.built.result
-    (joined_ready c.args.reader.now.version c.args.left (ahead c.args.reader.now.cursor) c.requires.shallow c.in_ok-one.ensures.reads c.in_ok-join.ensures.reads (term_at c.args.left _ _ c.term.ensures.version c.in_ok-two.ensures.reads) c.in_ok-symbol.ensures.reads)
+    (joined_ready c.args.version c.args.left (ahead c.args.reader.now.cursor) c.requires.shallow c.in_ok-one.ensures.reads c.in_ok-join.ensures.reads c.in_ok-two.ensures.reads c.in_ok-symbol.ensures.reads)
     (keeps_trans _ _ _ c.in_ok-one.ensures.reads.kept c.in_ok-two.ensures.reads.kept) counted c.built.ensures c.add.ensures.ok c.add.ensures.many (λ same. (c.add.ensures.deep.0 same).1) c.add.ensures.no_name
 
 pub joined-returns-clause-placed : goal.joined-returns-clause-placed
 joined-returns-clause-placed t c = if_built _ _ c.args.start.ahead c.add.result c.built.result c.built.ensures c.add.ensures.ok (λ id added.
-    joined_read c.in_ok-two.ensures.reads.kept.trees added c.in_ok-one.ensures.placed c.in_ok-join.ensures.behind (term_placed_at c.term.ensures.version c.in_ok-two.ensures.placed) c.in_ok-symbol.ensures.behind)
+    joined_read c.in_ok-two.ensures.reads.kept.trees added c.in_ok-one.ensures.placed c.in_ok-join.ensures.behind c.in_ok-two.ensures.placed c.in_ok-symbol.ensures.behind)
 
 pub sided-returns-clause-reads : goal.sided-returns-clause-reads
 sided-returns-clause-reads t c = λ whole counted.
     term_built _ _ _ c.args.start.ahead c.add.result c.built.result
-    (sided_ready c.args.reader.now.version c.args.left (ahead c.args.reader.now.cursor) c.requires.shallow c.in_ok-part.ensures.reads)
+    (sided_ready c.args.version c.args.left (ahead c.args.reader.now.cursor) c.requires.shallow c.in_ok-part.ensures.reads)
     c.in_ok-part.ensures.reads.kept counted c.built.ensures c.add.ensures.ok c.add.ensures.many (λ same. (c.add.ensures.deep.0 same).1) c.add.ensures.no_name
 
 pub sided-returns-clause-placed : goal.sided-returns-clause-placed
@@ -46,28 +46,28 @@ sided-returns-clause-placed t c = if_built _ _ c.args.start.ahead c.add.result c
 pub switching-returns-clause-reads : goal.switching-returns-clause-reads
 switching-returns-clause-reads t c = λ whole counted.
     term_built _ _ _ c.args.start.ahead c.switching-added.result c.built.result
-    (switching_ready c.args.reader.now.version c.args.left (ahead c.args.reader.now.cursor) c.requires.shallow c.in_ok-symbol.ensures.reads c.in_ok-source.ensures.reads c.in_ok-symbol-2.ensures.reads (body_at c.args.left (ahead c.symbol-2.new.self) c.term.ensures.version c.in_ok-pattern.ensures.reads) c.in_ok-symbol-3.ensures.reads)
+    (switching_ready c.args.version c.args.left (ahead c.args.reader.now.cursor) c.requires.shallow c.in_ok-symbol.ensures.reads c.in_ok-source.ensures.reads c.in_ok-symbol-2.ensures.reads c.in_ok-pattern.ensures.reads c.in_ok-symbol-3.ensures.reads)
     (keeps_trans _ _ _ c.in_ok-source.ensures.reads.kept c.in_ok-pattern.ensures.reads.kept) counted c.built.ensures c.switching-added.ensures.ok c.switching-added.ensures.many (λ same. (c.switching-added.ensures.deep.0 same).1) (λ same. (c.switching-added.ensures.bad_name.0 same).2 c.in_ok-pattern.ensures.reads.names)
 
 pub switching-returns-clause-placed : goal.switching-returns-clause-placed
 switching-returns-clause-placed t c = if_built_on _ _ _ c.args.start.ahead c.switching-added.result c.built.result c.built.ensures c.switching-added.ensures.ok c.switching-added.ensures.placed (λ id added there.
-    switching_read c.in_ok-pattern.ensures.reads.kept.trees added there c.in_ok-symbol.ensures.behind c.in_ok-source.ensures.placed c.in_ok-symbol-2.ensures.behind (body_placed_at c.term.ensures.version c.in_ok-pattern.ensures.placed) c.in_ok-symbol-3.ensures.behind)
+    switching_read c.in_ok-pattern.ensures.reads.kept.trees added there c.in_ok-symbol.ensures.behind c.in_ok-source.ensures.placed c.in_ok-symbol-2.ensures.behind c.in_ok-pattern.ensures.placed c.in_ok-symbol-3.ensures.behind)
 
 pub keeping-returns-clause-reads : goal.keeping-returns-clause-reads
 keeping-returns-clause-reads t c = λ whole counted.
     term_built _ _ _ c.args.start.ahead c.keeping-added.result c.built.result
-    (keeping_ready c.args.reader.now.version c.args.left (ahead c.args.reader.now.cursor) c.requires.shallow c.in_ok-symbol.ensures.reads c.in_ok-source.ensures.reads c.in_ok-symbol-2.ensures.reads (term_at c.args.left _ _ c.term.ensures.version c.in_ok-observer.ensures.reads) c.in_ok-symbol-3.ensures.reads c.in_ok-process.ensures.reads c.in_ok-symbol-4.ensures.reads (body_at c.args.left (ahead c.symbol-4.new.self) (c.term-2.ensures.version ∙ c.term.ensures.version) c.in_ok-pattern.ensures.reads) c.in_ok-symbol-5.ensures.reads (c.in_ok-known.ensures.ok ∙ c.as_str.ensures.text))
+    (keeping_ready c.args.version c.args.left (ahead c.args.reader.now.cursor) c.requires.shallow c.in_ok-symbol.ensures.reads c.in_ok-source.ensures.reads c.in_ok-symbol-2.ensures.reads c.in_ok-observer.ensures.reads c.in_ok-symbol-3.ensures.reads c.in_ok-process.ensures.reads c.in_ok-symbol-4.ensures.reads c.in_ok-pattern.ensures.reads c.in_ok-symbol-5.ensures.reads (c.in_ok-known.ensures.ok ∙ c.as_str.ensures.text))
     (keeps_trans _ _ _ c.in_ok-source.ensures.reads.kept (keeps_trans _ _ _ c.in_ok-observer.ensures.reads.kept c.in_ok-pattern.ensures.reads.kept)) counted c.built.ensures c.keeping-added.ensures.ok c.keeping-added.ensures.many (λ same. (c.keeping-added.ensures.deep.0 same).1) (λ same. (c.keeping-added.ensures.bad_name.0 same).2 (subst IsName (sym c.in_ok-known.ensures.ok) c.as_str.ensures.named, c.in_ok-pattern.ensures.reads.names))
 
 pub keeping-returns-clause-placed : goal.keeping-returns-clause-placed
 keeping-returns-clause-placed t c = if_built_on _ _ _ c.args.start.ahead c.keeping-added.result c.built.result c.built.ensures c.keeping-added.ensures.ok c.keeping-added.ensures.placed (λ id added there.
-    keeping_read c.in_ok-observer.ensures.reads.kept.trees c.in_ok-pattern.ensures.reads.kept.trees added there c.in_ok-symbol.ensures.behind c.in_ok-source.ensures.placed c.in_ok-symbol-2.ensures.behind (term_placed_at c.term.ensures.version c.in_ok-observer.ensures.placed) c.in_ok-symbol-3.ensures.behind
-    c.in_ok-process.ensures.placed c.in_ok-symbol-4.ensures.behind (body_placed_at (c.term-2.ensures.version ∙ c.term.ensures.version) c.in_ok-pattern.ensures.placed) c.in_ok-symbol-5.ensures.behind)
+    keeping_read c.in_ok-observer.ensures.reads.kept.trees c.in_ok-pattern.ensures.reads.kept.trees added there c.in_ok-symbol.ensures.behind c.in_ok-source.ensures.placed c.in_ok-symbol-2.ensures.behind c.in_ok-observer.ensures.placed c.in_ok-symbol-3.ensures.behind
+    c.in_ok-process.ensures.placed c.in_ok-symbol-4.ensures.behind c.in_ok-pattern.ensures.placed c.in_ok-symbol-5.ensures.behind)
 
 pub call-returns-clause-reads : goal.call-returns-clause-reads
 call-returns-clause-reads t c = λ counted.
     term_built _ _ _ c.args.start.ahead c.call.result c.built.result
-    (call_ready c.args.reader.now.version c.args.left (name_bytes c.args.name) (ahead c.args.reader.now.cursor) c.requires.shallow c.in_ok-symbol.ensures.reads c.in_ok-arguments.ensures.reads (c.in_ok-known.ensures.ok ∙ c.as_str.ensures.text))
+    (call_ready c.args.version c.args.left (name_bytes c.args.name) (ahead c.args.reader.now.cursor) c.requires.shallow c.in_ok-symbol.ensures.reads c.in_ok-arguments.ensures.reads (c.in_ok-known.ensures.ok ∙ c.as_str.ensures.text))
     c.in_ok-arguments.ensures.reads.kept counted c.built.ensures c.call.ensures.ok c.call.ensures.many (λ same. (c.call.ensures.deep.0 same).1) (λ same. (c.call.ensures.bad_name.0 same).2 (subst IsName (sym c.in_ok-known.ensures.ok) c.as_str.ensures.named))
 
 pub call-returns-clause-placed : goal.call-returns-clause-placed
@@ -76,7 +76,7 @@ call-returns-clause-placed t c = if_built_on _ _ _ c.args.start.ahead c.call.res
 
 pub body-returns-clause-reads : goal.body-returns-clause-reads
 body-returns-clause-reads t c =
-    body_found c.args.reader.now.version c.args.left (ahead c.args.reader.now.cursor) c.in_ok-pattern.ensures.reads c.in_ok-symbol.ensures.reads c.in_ok-pattern.ensures.names c.in_ok-id.ensures.reads
+    body_found c.args.version c.args.left (ahead c.args.reader.now.cursor) c.in_ok-pattern.ensures.reads c.in_ok-symbol.ensures.reads c.in_ok-pattern.ensures.names c.in_ok-id.ensures.reads
 
 pub body-returns-clause-placed : goal.body-returns-clause-placed
 body-returns-clause-placed t c = parted_read c.in_ok-pattern.ensures.placed c.in_ok-symbol.ensures.behind c.in_ok-id.ensures.placed
@@ -89,36 +89,36 @@ argument-returns-in_ok-value-in-None-clause-placed t c = value_read c.in_ok-valu
 
 pub arguments-returns-in-Some-clause-placed : goal.arguments-returns-in-Some-clause-placed
 arguments-returns-in-Some-clause-placed t c =
-    subst (λ (bs : List Argument). Consumes (ArgumentsPlaced c.args.reader.now.version c.args.reader.now.program bs) (spots_ahead c.args.reader.now.cursor) (spots_ahead c.in-Some.behind)) (sym c.new.ensures.items)
-    (no_arguments_placed_behind c.args.reader.now.version c.args.reader.now.program c.in-Some.ensures.1)
+    subst (λ (bs : List Argument). Consumes (ArgumentsPlaced c.args.version c.args.reader.now.program bs) (spots_ahead c.args.reader.now.cursor) (spots_ahead c.in-Some.behind)) (sym c.new.ensures.items)
+    (no_arguments_placed_behind c.args.version c.args.reader.now.program c.in-Some.ensures.1)
 
 pub arguments-returns-in-None-clause-placed : goal.arguments-returns-in-None-clause-placed
 arguments-returns-in-None-clause-placed t c =
-    each_argument_placed c.args.reader.now.version c.some_arguments.new.reader.program (spots_ahead c.args.reader.now.cursor) (spots_ahead c.some_arguments.new.reader.cursor) c.some_arguments.result c.some_arguments.ensures.some c.some_arguments.ensures.placed
+    each_argument_placed c.args.version c.some_arguments.new.reader.program (spots_ahead c.args.reader.now.cursor) (spots_ahead c.some_arguments.new.reader.cursor) c.some_arguments.result c.some_arguments.ensures.some c.some_arguments.ensures.placed
 
 pub some_arguments-loop-more-init : goal.some_arguments-loop-more-init
 some_arguments-loop-more-init t c =
-    subst (λ (bs : List Argument). ArgumentsTo c.args.reader.now.version c.args.left c.args.reader.now.program c.args.reader.now.cursor.tokens.now c.args.reader.now bs true) (sym c.new-arguments.ensures.items)
-    (no_arguments_to c.args.left c.args.reader.now)
+    subst (λ (bs : List Argument). ReadArguments c.args.version c.args.left c.args.reader.now.program c.args.reader.now.program c.args.reader.now.cursor.tokens.now bs true (ahead c.args.reader.now.cursor) (spots_ahead c.args.reader.now.cursor)) (sym c.new-arguments.ensures.items)
+    (no_arguments_read c.args.version c.args.left c.args.reader.now.program c.args.reader.now.cursor.tokens.now)
 
 pub some_arguments-returns-in_err-argument-clause-reads : goal.some_arguments-returns-in_err-argument-clause-reads
 some_arguments-returns-in_err-argument-clause-reads t c =
     arguments_stopped_as c.args.reader.now c.argument.new.reader c.from_residual.result c.in_err-argument.field-0.0 _ c.from_residual.ensures.1
-    (argument_stopped c.args.reader.now.version c.args.left c.args.reader.now.program c.args.reader.now.cursor.tokens.now c.loop-more.reader c.loop-more.arguments.items c.in_err-argument.field-0.0
+    (argument_stops c.args.version c.args.left c.args.reader.now.program c.loop-more.reader.program c.args.reader.now.cursor.tokens.now (ahead c.loop-more.reader.cursor) (spots_ahead c.loop-more.reader.cursor) c.loop-more.arguments.items c.in_err-argument.field-0.0
     (arguments_go_on c.loop-more-test.true c.loop-more.invariant) c.in_err-argument.ensures.reads)
 
 pub some_arguments-returns-in_err-more-clause-reads : goal.some_arguments-returns-in_err-more-clause-reads
 some_arguments-returns-in_err-more-clause-reads t c =
     arguments_stopped_as c.args.reader.now (record c.argument.new.reader { cursor = c.separator.new.cursor }) c.from_residual-in_err-more.result c.in_err-more.field-0.0 _ c.from_residual-in_err-more.ensures.1
-    (argument_separator_stopped c.args.reader.now.version c.args.left c.args.reader.now.program c.args.reader.now.cursor.tokens.now c.loop-more.reader c.argument.new.reader c.loop-more.arguments.items c.in_ok-argument.argument c.in_err-more.field-0.0
-    (arguments_go_on c.loop-more-test.true c.loop-more.invariant) c.in_ok-argument.ensures.reads c.in_err-more.ensures.reads)
+    (argument_separator_stops c.args.version c.args.left c.args.reader.now.program c.loop-more.reader.program c.args.reader.now.cursor.tokens.now (ahead c.loop-more.reader.cursor) (ahead c.argument.new.reader.cursor) (spots_ahead c.loop-more.reader.cursor) c.loop-more.arguments.items c.in_ok-argument.ensures.reads.value c.in_err-more.field-0.0
+    (arguments_go_on c.loop-more-test.true c.loop-more.invariant) c.in_ok-argument.ensures.reads.is c.in_err-more.ensures.reads)
 
 pub some_arguments-loop-more-preserved : goal.some_arguments-loop-more-preserved
 some_arguments-loop-more-preserved t c =
-    subst (λ (bs : List Argument). ArgumentsTo c.args.reader.now.version c.args.left c.args.reader.now.program c.args.reader.now.cursor.tokens.now (record c.argument.new.reader { cursor = c.separator.new.cursor }) bs c.in_ok-more.more) (sym c.in_ok-push.ensures.items)
-    (next_argument c.args.reader.now.version c.args.left c.args.reader.now.program c.args.reader.now.cursor.tokens.now c.loop-more.reader c.argument.new.reader c.separator.new.cursor c.loop-more.arguments.items c.in_ok-argument.argument c.in_ok-more.more
-    (arguments_go_on c.loop-more-test.true c.loop-more.invariant) c.in_ok-argument.ensures.reads c.in_ok-argument.ensures.placed c.argument.ensures.version c.in_ok-more.ensures.reads c.in_ok-more.ensures.behind)
+    subst (λ (bs : List Argument). ReadArguments c.args.version c.args.left c.args.reader.now.program c.argument.new.reader.program c.args.reader.now.cursor.tokens.now bs c.in_ok-more.more (ahead c.separator.new.cursor) (spots_ahead c.separator.new.cursor)) (sym c.in_ok-push.ensures.items)
+    (next_argument c.args.version c.args.left c.args.reader.now.program c.args.reader.now.cursor.tokens.now c.loop-more.reader c.argument.new.reader c.separator.new.cursor c.loop-more.arguments.items c.in_ok-argument.argument c.in_ok-more.more
+    (arguments_go_on c.loop-more-test.true c.loop-more.invariant) c.in_ok-argument.ensures.reads c.in_ok-argument.ensures.placed c.in_ok-more.ensures.reads c.in_ok-more.ensures.behind)
 
 pub some_arguments-returns-clause-reads : goal.some_arguments-returns-clause-reads
 some_arguments-returns-clause-reads t c =
-    (all_arguments c.args.reader.now.version c.args.left c.args.reader.now.program c.loop-more.reader.program c.args.reader.now.cursor.tokens.now c.loop-more.arguments.items c.loop-more.more c.loop-more.reader.cursor.tokens.now c.loop-more-test.false c.loop-more.invariant.read).found
+    (all_arguments c.args.version c.args.left c.args.reader.now.program c.loop-more.reader.program c.args.reader.now.cursor.tokens.now c.loop-more.arguments.items c.loop-more.more c.loop-more.reader.cursor.tokens.now c.loop-more-test.false c.loop-more.invariant).found

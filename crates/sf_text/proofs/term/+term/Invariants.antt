@@ -1,5 +1,7 @@
 use Rattle.std.proofs.Common.{◌+◌, ◌*◌, length}
-use Rattle.sf_text.proofs.Lists.{ArgumentsTo}
+use Rattle.sf_parse.specs.Answers.{ahead}
+use Rattle.sf_parse.specs.Consuming.{spots_ahead}
+use Rattle.sf_text.proofs.Lists.{ReadArguments}
 use Rattle.sf_text.proofs.term.+term.Given as goal
 
 abbrev pub decreases-term : goal.decreases-term
@@ -42,7 +44,7 @@ abbrev pub decreases-argument : goal.decreases-argument
 decreases-argument l = 8 * l.left + 2
 
 abbrev pub invariant-some_arguments-loop-more : goal.invariant-some_arguments-loop-more
-invariant-some_arguments-loop-more l = ArgumentsTo l.fn.reader.version l.left l.fn.reader.program l.fn.reader.cursor.tokens.now l.reader l.arguments.items l.more
+invariant-some_arguments-loop-more l = ReadArguments l.version l.left l.fn.reader.program l.reader.program l.fn.reader.cursor.tokens.now l.arguments.items l.more (ahead l.reader.cursor) (spots_ahead l.reader.cursor)
 
 abbrev pub decreases-some_arguments-loop-more : goal.decreases-some_arguments-loop-more
 decreases-some_arguments-loop-more l = length l.reader.cursor.tokens.now

@@ -12,5 +12,5 @@ returns-clause-reads c = λ whole counted.
     (keeps_self c.args.reader.now.program) counted c.built.ensures c.add.ensures.ok c.add.ensures.many (λ same. (c.add.ensures.deep.0 same).1) c.add.ensures.no_name
 
 pub returns-clause-placed : goal.returns-clause-placed
-returns-clause-placed c = if_built _ _ c.args.start.ahead c.add.result c.built.result c.built.ensures c.add.ensures.ok (λ id added.
+returns-clause-placed c = λ version. if_built _ _ c.args.start.ahead c.add.result c.built.result c.built.ensures c.add.ensures.ok (λ id added.
     bare_read (spots_ahead c.args.reader.now.cursor) added)
