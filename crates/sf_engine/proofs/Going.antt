@@ -13,8 +13,8 @@ use Rattle.sf_law.specs.Arena.{network_of_plan}
 use Rattle.sf_law.specs.Arena.{plan_main}
 use Rattle.sf_state.specs.declared.state.State.{State}
 use Rattle.sf_state.specs.Standing.{Stands}
-use Rattle.sf_step.specs.declared.meter.Meter.{Meter}
-use Rattle.sf_step.specs.Meters.{readings}
+use Rattle.sf_parts.specs.declared.meter.Meter.{Meter}
+use Rattle.sf_parts.specs.Meters.{readings}
 use Rattle.sf_probe.specs.Readings.{readings_of}
 use Rattle.sf_step.specs.Stepping.{Steps, stepped, faulted_so, too_large, no_memory}
 use Rattle.sf_engine.specs.declared.engine.Engine.{Engine}

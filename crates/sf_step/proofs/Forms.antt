@@ -1,18 +1,17 @@
 -- Each form is its parts, one after another.
-use Rattle.std.proofs.Common.{◌≡◌, ℕ, ◌≤◌, List, [], ◌∷◌, refl, sym, ap, ◌∙◌, subst, arith}
+use Rattle.std.proofs.Common.{◌≡◌, ℕ, List, [], ◌∷◌, refl, sym, ap, ◌∙◌, subst}
 use Rattle.sf_value.specs.Values.{Data}
 use Rattle.sf_expr.specs.Evaluation.{Evaluated, answer, failed as no_answer}
 use Rattle.sf_term.specs.declared.form.Join.{Join}
 use Rattle.sf_term.specs.declared.form.Join.TheVariants.{InSequence, InParallel, FannedOut}
-use Rattle.sf_term.specs.declared.form.Observation.{Observation}
-use Rattle.sf_term.specs.Trees.{Extent, whole, rest, Term, primitive, reference, joined, sided, headed, switching, keeping, staged}
+use Rattle.sf_term.specs.Trees.{Term, joined}
 use Rattle.sf_mean.specs.Lives.{Step, step, Life, Process, closure, Environment, first_input, fed}
-use Rattle.sf_mean.specs.Meaning.{Network, Readings, Outcome, gave, faulted, combined, value_in, Cost, count, height, both_costs, over_first, over_stages, text_cost, entered_cost, Made, make, left_life, right_life, join_value, Gives, gives, Outputs, and_gave, Sample, of_constants, of_form, of_resumed, Form, of_primitive, of_join, of_side, of_loop, of_initialized, of_reference, of_switch, of_keeping, of_recurring, of_stages, Next, goes_on, stops, and_looped, Watched, Takeover, Standing, SwitchTurn, while_waiting, as_body}
+use Rattle.sf_mean.specs.Meaning.{Network, Readings, Outcome, gave, faulted, combined, value_in, Cost, both_costs, text_cost, Made, make, left_life, right_life, join_value, Gives, gives, Outputs, and_gave, Sample, of_constants, of_form, Form, of_join, of_side, of_loop, of_initialized, Next, goes_on, stops, and_looped}
 use Rattle.sf_mean.proofs.Once.{once, onces, once_loops}
 use Rattle.sf_state.specs.declared.state.Wrap.{Wrap}
 use Rattle.sf_state.specs.Standing.{Wraps, wraps_first, wraps_second, wraps_loop, wraps_initialized}
 use Rattle.sf_step.specs.Routing.{left_input, right_input, part_input, wrap_value, kept_after}
-use Rattle.sf_step.specs.Sampling.{Rel}
+use Rattle.sf_parts.specs.Answering.{Rel}
 use Rattle.sf_step.proofs.Parts.{Single, single, Over, counted, Then, then_on, then_stop, Changed, with_change, Alike}
 
 -- ## Joins
@@ -28,17 +27,6 @@ pub right_and : (j : Join) (d : ℕ) (x y : Data) (L : Life) (ys : List Data) �
 right_and InSequence d x y L ys = refl
 right_and InParallel d x y L ys = refl
 right_and FannedOut d x y L ys = refl
-
--- before the first step
-pub left_none : (j : Join) → left_life j [] ≡ []
-left_none InSequence = refl
-left_none InParallel = refl
-left_none FannedOut = refl
-
-pub right_none : (j : Join) → right_life j [] [] ≡ []
-right_none InSequence = refl
-right_none InParallel = refl
-right_none FannedOut = refl
 
 abbrev made_in : Made → Evaluated Made → Made
 made_in m (answer n) = n
@@ -119,58 +107,3 @@ module _ (n : Network) where
   wraps_on d x wraps_second G = wraps_second
   wraps_on d x (wraps_loop O) G = wraps_loop (and_looped O G)
   wraps_on d x wraps_initialized G = wraps_initialized
-
-  -- ## Each outcome costs a term
-
-  stages_count : (x : Extent) (a b : Cost) → (1 ≤ count a) × (1 ≤ height a) → (1 ≤ count (over_stages x (both_costs a b))) × (1 ≤ height (over_stages x (both_costs a b)))
-  stages_count whole a b h = (omega arith, omega arith)
-  stages_count rest a b h = (omega (arith, h.0), omega (arith, h.1))
-
-  first_counts : (L : Life) (c : Cost) → (1 ≤ count c) × (1 ≤ height c) → (1 ≤ count (over_first L c)) × (1 ≤ height (over_first L c))
-  first_counts [] c h = (omega arith, omega arith)
-  first_counts (s ∷ L) c h = h
-
-  pub text_counts : (t : Term) → (1 ≤ count (text_cost t)) × (1 ≤ height (text_cost t))
-  text_counts (primitive p) = (omega arith, omega arith)
-  text_counts (reference r) = (omega arith, omega arith)
-  text_counts (joined j f g) = (omega arith, omega arith)
-  text_counts (sided d t) = (omega arith, omega arith)
-  text_counts (headed h i t) = (omega arith, omega arith)
-  text_counts (switching w t q u) = (omega arith, omega arith)
-  text_counts (keeping w t r k q u) = (omega arith, omega arith)
-  text_counts (staged x f g) = stages_count x (text_cost f) (text_cost g) (text_counts f)
-
-  entered_counts : (t : Term) → (1 ≤ count (entered_cost t)) × (1 ≤ height (entered_cost t))
-  entered_counts (primitive p) = text_counts (primitive p)
-  entered_counts (reference r) = (omega arith, omega arith)
-  entered_counts (joined j f g) = text_counts (joined j f g)
-  entered_counts (sided d t) = text_counts (sided d t)
-  entered_counts (headed h i t) = text_counts (headed h i t)
-  entered_counts (switching w t q u) = text_counts (switching w t q u)
-  entered_counts (keeping w t r k q u) = text_counts (keeping w t r k q u)
-  entered_counts (staged x f g) = text_counts (staged x f g)
-
-  mutual
-    form_counts : {t : Term} {e : Environment} {m : Made} {s : Step} {L : Life} {o : Outcome} {k : Cost} → Form n t e m s L o k → (1 ≤ count k) × (1 ≤ height k)
-    form_counts (of_primitive h) = (omega arith, omega arith)
-    form_counts (of_reference {L = L} {c = c} G) = first_counts L c (counts G)
-    form_counts (of_join O G N) = (omega arith, omega arith)
-    form_counts (of_side G) = (omega arith, omega arith)
-    form_counts (of_loop O G) = (omega arith, omega arith)
-    form_counts (of_initialized G) = (omega arith, omega arith)
-    form_counts (of_switch S T) = turn_counts T
-    form_counts (of_keeping S T) = turn_counts T
-    form_counts (of_recurring G F) = (omega arith, omega arith)
-    form_counts (of_stages {x = x} {c = c} {c' = c'} O G N) = stages_count x c c' (counts G)
-
-    turn_counts : {w : Observation} {W : Watched} {B : Takeover} {s : Step} {L : Life} {st : Standing} {o : Outcome} {k : Cost} → SwitchTurn n w W B s L st o k → (1 ≤ count k) × (1 ≤ height k)
-    turn_counts (while_waiting G C) = (omega arith, omega arith)
-    turn_counts (as_body G) = counts G
-
-    sample_counts : {P : Process} {s : Step} {L : Life} {o : Outcome} {k : Cost} → Sample n P s L o k → (1 ≤ count k) × (1 ≤ height k)
-    sample_counts (of_constants {t = t} h) = entered_counts t
-    sample_counts (of_form h F) = form_counts F
-    sample_counts (of_resumed G) = counts G
-
-    pub counts : {P : Process} {L : Life} {o : Outcome} {k : Cost} → Gives n P L o k → (1 ≤ count k) × (1 ≤ height k)
-    counts (gives O S) = sample_counts S

@@ -20,9 +20,10 @@ use Rattle.sf_state.specs.declared.state.State.{State}
 use Rattle.sf_state.specs.declared.state.Keeping.{Keeping}
 use Rattle.sf_state.specs.declared.env.Env.{Env}
 use Rattle.sf_state.specs.Standing.{IsNames, kept_to, Stands, took_over, WaitsKeeping, keeps_so}
-use Rattle.sf_step.specs.declared.meter.Meter.{Meter}
-use Rattle.sf_step.specs.Meters.{entered_of, height_of}
-use Rattle.sf_step.specs.Sampling.{Rel, Ticks, Within, StopsFor, answers, StateSteps, KeepingSteps}
+use Rattle.sf_parts.specs.declared.meter.Meter.{Meter}
+use Rattle.sf_parts.specs.Meters.{entered_of, height_of}
+use Rattle.sf_parts.specs.Answering.{Rel, Ticks, Within, StopsFor, answers}
+use Rattle.sf_step.specs.Sampling.{StateSteps, KeepingSteps}
 use Rattle.sf_step.proofs.Parts.{Single, single, Then, then_on, then_stop, Alike, over_spent, both_spent, alike_within, over_within, then_within, fails_alike, over_fails, then_fails, rest_fails, spent_within, answered, failed}
 use Rattle.sf_step.proofs.Forms.{single_gives, gave_outputs, form_alike}
 use Rattle.sf_step.proofs.Switches.{no_more_spent, Beside, way_alike, after_event, SeenRel, seen_alike, turn_to, turn_back}

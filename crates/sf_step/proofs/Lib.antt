@@ -1,5 +1,4 @@
 pub mod Parts
-pub mod Arguments
 pub mod Forms
 pub mod Turning
 pub mod Exits

@@ -1,16 +1,13 @@
 -- Parts that are stepped one after another.
-use Rattle.std.proofs.Common.{◌≡◌, ℕ, ◌+◌, ◌≤◌, [], ◌++◌, Result, Ok, Err, refl, sym, ap, ◌∙◌, subst, append_assoc, arith}
-use Rattle.std.proofs.lemmas.List.{append-nil}
-use Rattle.std.specs.Prelude.{IsErr, max}
+use Rattle.std.proofs.Common.{◌≡◌, ℕ, ◌+◌, ◌≤◌, ◌++◌, Result, Ok, Err, sym, ap, ◌∙◌, subst, append_assoc, arith}
+use Rattle.std.specs.Prelude.{IsErr}
 use Rattle.sf_value.specs.Values.{Data}
 use Rattle.sf_value.specs.declared.fault.ValueFault.{ValueFault}
 use Rattle.sf_value.specs.declared.fault.Fault.{Fault}
-use Rattle.sf_value.specs.declared.fault.Fault.TheVariants.{Memory}
-use Rattle.sf_mean.specs.Meaning.{Readings, Outcome, gave, faulted, changed, combined, value_in, Cost, count, height, no_cost, both_costs, over}
-use Rattle.sf_probe.specs.Readings.{readings_of}
-use Rattle.sf_step.specs.declared.meter.Meter.{Meter}
-use Rattle.sf_step.specs.Meters.{entered_of, height_of, readings}
-use Rattle.sf_step.specs.Sampling.{Rel, Ticks, Ticked, ticked, Spent, AtMost, Within, StopsFor, faults, large, memory, Answers, answers, fails, left_or}
+use Rattle.sf_mean.specs.Meaning.{Readings, Outcome, gave, faulted, changed, combined, value_in, Cost, count, height, both_costs, over}
+use Rattle.sf_parts.specs.declared.meter.Meter.{Meter}
+use Rattle.sf_parts.specs.Meters.{entered_of, height_of, readings}
+use Rattle.sf_parts.specs.Answering.{Rel, Ticks, Spent, AtMost, Within, StopsFor, faults, large, memory, Answers, answers, fails, left_or}
 
 -- one outcome at most
 pub data Single (R : Rel) : Type 0 where
@@ -36,22 +33,9 @@ pub record Alike (R S : Rel) : Type 0 where
 
 -- ## Costs
 
--- a meter counts one more node, and records nothing
-pub ticks_so : (m n : Meter) (depth : ℕ) → entered_of n ≡ entered_of m + 1 → max (height_of m) (depth + 1) ≡ height_of n → n.readings ≡ m.readings → Ticked m n depth (Ok (depth + 1))
-unfolding readings
-ticks_so m n depth e h r = ticked (record { entered = e; high = h; below = refl; recorded = ap readings_of r })
-
 -- what a term costs, from what its parts cost
 pub over_spent : {m n n' : Meter} {depth inside : ℕ} {k : Cost} {r : Readings} → Ticks m n depth inside → Spent n n' inside k r → Spent m n' depth (over k) r
 over_spent {r = r} t s = record { entered = let a = t.entered in let b = s.entered in omega arith; high = let a = t.high in let b = s.high in let c = t.below in omega arith; recorded = s.recorded ∙ ap (λ l. l ++ r) t.recorded }
-
--- a term that steps no other
-pub one_spent : {m n : Meter} {depth inside : ℕ} → Ticks m n depth inside → Spent m n depth (over no_cost) []
-one_spent {m = m} t = record { entered = let a = t.entered in omega arith; high = let a = t.high in let c = t.below in omega arith; recorded = t.recorded ∙ sym (append-nil (readings m)) }
-
--- one that records something
-pub probe_spent : {m n n' : Meter} {depth inside : ℕ} {r : Readings} → Ticks m n depth inside → entered_of n' ≡ entered_of n → height_of n' ≡ height_of n → readings n' ≡ readings n ++ r → Spent m n' depth (over no_cost) r
-probe_spent {r = r} t en hn rn = record { entered = let a = t.entered in omega arith; high = let a = t.high in let c = t.below in omega arith; recorded = rn ∙ ap (λ l. l ++ r) t.recorded }
 
 -- two parts
 pub both_spent : {m n n' : Meter} {depth : ℕ} {k l : Cost} {r q : Readings} → Spent m n depth k r → Spent n n' depth l q → Spent m n' depth (both_costs k l) (r ++ q)
@@ -184,7 +168,3 @@ failed (fails h) = h
 pub pass_exit : {A B E : Type 0} {view : B → Data} {after : B → Type 0} {R : Rel} {m n : Meter} {depth : ℕ} {f : Fault} (r : Result A E) (b : B) → IsErr r → StopsFor R f m n depth → Answers view after R (left_or r b f) m n depth
 pass_exit (Ok a) b e h = absurd cc
 pass_exit (Err q) b e h = fails h
-
--- where memory runs out
-pub memory_exit : {B : Type 0} {view : B → Data} {after : B → Type 0} {R : Rel} {m n : Meter} {depth : ℕ} {f : Fault} → f ≡ Memory → Within R m n depth → Answers view after R (Err f) m n depth
-memory_exit {B = B} {view = view} {after = after} {R = R} {m = m} {n = n} {depth = depth} e w = subst (λ (f : Fault). Answers view after R (Err f) m n depth) (sym e) (fails (memory w))

@@ -17,9 +17,10 @@ use Rattle.sf_state.specs.declared.state.State.{State}
 use Rattle.sf_state.specs.declared.state.Switch.{Switch}
 use Rattle.sf_state.specs.declared.env.Env.{Env}
 use Rattle.sf_state.specs.Standing.{IsNames, Stands, Waits, waits_so, recurs_so}
-use Rattle.sf_step.specs.declared.meter.Meter.{Meter}
-use Rattle.sf_step.specs.Meters.{entered_of, height_of}
-use Rattle.sf_step.specs.Sampling.{Rel, Ticks, Within, StopsFor, answers, fails, left_or, StateSteps, SwitchSteps}
+use Rattle.sf_parts.specs.declared.meter.Meter.{Meter}
+use Rattle.sf_parts.specs.Meters.{entered_of, height_of}
+use Rattle.sf_parts.specs.Answering.{Rel, Ticks, Within, StopsFor, answers, fails, left_or}
+use Rattle.sf_step.specs.Sampling.{StateSteps, SwitchSteps}
 use Rattle.sf_step.proofs.Parts.{Over, counted, Then, then_on, then_stop, Alike, over_spent, both_spent, alike_within, over_within, then_within, fails_alike, over_fails, then_fails, rest_fails, spent_within, answered, failed}
 use Rattle.sf_step.proofs.Forms.{single_gives, form_alike}
 use Rattle.sf_step.proofs.Switches.{not_recurring, same_recurring, no_more_spent, Beside, fires_to, FromFires, from_fires, fires_back, way_alike}

@@ -1,9 +1,8 @@
 -- Stages that are stepped one after another.
-use Rattle.std.proofs.Common.{◌≡◌, ℕ, ◌+◌, ◌<◌, suc, List, [], ◌∷◌, ◌++◌, length, get_or, set, take, drop, map, Vec, Result, Ok, Err, refl, sym, ap, ◌∙◌, subst, append_assoc, arith, drop-cons, IsTrue}
-use Rattle.std.specs.Prelude.{nat_le}
+use Rattle.std.proofs.Common.{◌≡◌, ℕ, ◌+◌, ◌<◌, suc, List, [], ◌∷◌, ◌++◌, length, get_or, set, take, drop, Vec, Result, Ok, Err, refl, sym, ap, ◌∙◌, subst, append_assoc, arith, drop-cons}
 use Rattle.std.specs.declared.alloc.Global.{Global}
 use Rattle.std.proofs.lemmas.List.{drop-set-lt, take_more_set}
-use Rattle.std.proofs.Math.Seq.{take-length, drop-length, take-suc}
+use Rattle.std.proofs.Math.Seq.{take-length, drop-length}
 use Rattle.std.proofs.lemmas.List.{append-nil}
 use Rattle.sf_value.specs.Values.{Data}
 use Rattle.sf_value.specs.declared.fault.Fault.{Fault}
@@ -14,21 +13,15 @@ use Rattle.sf_mean.specs.Meaning.{Network, Outcome, gave, faulted, combined, val
 use Rattle.sf_mean.proofs.Once.{onces}
 use Rattle.sf_func.specs.Registries.{AnswersByName}
 use Rattle.sf_law.specs.declared.plan.Plan.{Plan}
-use Rattle.sf_law.specs.declared.node.PlanId.{PlanId}
-use Rattle.sf_law.specs.declared.node.PlanNode.TheVariants.{Pipeline as NPipeline}
-use Rattle.sf_law.specs.Entries.{stages, pipeline}
-use Rattle.sf_law.specs.Arena.{plan_tree, network_of_plan, BuildsPlan, builds_pipeline}
+use Rattle.sf_law.specs.Arena.{network_of_plan}
 use Rattle.sf_state.specs.declared.state.State.{State}
-use Rattle.sf_state.specs.declared.state.State.TheVariants.{Unborn}
-use Rattle.sf_state.specs.Standing.{closed_over as SClosure}
-use Rattle.sf_state.specs.declared.env.Env.{Env}
 use Rattle.sf_state.specs.declared.state.Live.{items_hidden-the_row-State-0}
 use Rattle.sf_state.specs.declared.state.Live.TheVariants.{Pipeline as LPipeline}
-use Rattle.sf_state.specs.Standing.{is_closure, IsNames, Stands, itself, took_over, unborn, recalling, recalls, alive, watching, waits_so, recurs_so, keeping_on, keeps_so, was_frozen, Turned, fired_to, kept_to, ran, went_on, settles, Ready, ready, lives_pipeline, StagesStand, last_stands, stage_stands}
+use Rattle.sf_state.specs.Standing.{Stands, itself, took_over, unborn, recalling, recalls, alive, watching, waits_so, recurs_so, keeping_on, keeps_so, was_frozen, Turned, fired_to, kept_to, ran, went_on, settles, Ready, ready, lives_pipeline, StagesStand, last_stands, stage_stands}
 use Rattle.sf_state.proofs.Copies.{pipeline_lives}
-use Rattle.sf_step.specs.declared.meter.Meter.{Meter}
-use Rattle.sf_step.specs.declared.sample.Opened.TheVariants as opened
-use Rattle.sf_step.specs.Sampling.{Rel, Ticks, StopsFor, Answers, answers, fails, StateSteps, LiveSteps, Opens, opens, AllBegin, none_begin, more_begin}
+use Rattle.sf_parts.specs.declared.meter.Meter.{Meter}
+use Rattle.sf_parts.specs.Answering.{Rel, Ticks, StopsFor, Answers, answers, fails, LiveSteps}
+use Rattle.sf_step.specs.Sampling.{StateSteps}
 use Rattle.sf_step.proofs.Parts.{Over, counted, Then, then_on, then_stop, Alike, over_spent, both_spent, fails_alike, over_fails, then_fails, rest_fails, answered, failed}
 use Rattle.sf_step.proofs.Forms.{single_gives, gave_outputs, form_alike, gives_form}
 
@@ -223,27 +216,3 @@ module _ (φ : AnswersByName) (p : Plan) where
       let done : take i now ≡ now = ap (λ k. take k now) e ∙ take-length now in
       let last = c (Ok ([], y)) n (subst (λ (bs : List State). StagesStep bs d y (Ok ([], y)) n n inside) (sym none) (refl, refl)) in
       subst (λ (bs : List State). StagesStep all d x (Ok (bs, y)) m n inside) (append-nil (take i now) ∙ done) last
-
-  -- ## Before the first sample
-
-  begin_stand : (i : PlanId) (ids : List PlanId) (bs : List State) (e : Environment) → AllBegin φ p e (i ∷ ids) bs → StagesStand φ p bs (stages rest (plan_tree p i) (map (λ j. plan_tree p j) ids)) e []
-  begin_stand i [] bs e (more_begin A none_begin) = last_stands A
-  begin_stand i (j ∷ ids) bs e (more_begin A B) = stage_stands not_begun A (begin_stand j ids _ e B)
-
-  open_pipeline : (ids : List PlanId) (w : Vec State Global) (e : Environment) → IsTrue (nat_le 2 (length ids)) → AllBegin φ p e ids w.items → Opens φ p (pipeline (map (λ j. plan_tree p j) ids)) e (Ok (opened.Live (LPipeline w)))
-  open_pipeline [] w e two B = absurd cc
-  open_pipeline (i ∷ []) w e two B = absurd cc
-  open_pipeline (i ∷ j ∷ ids) w e two B = opens (λ x. ready refl not_begun (pipeline_lives φ p w (begin_stand i (j ∷ ids) w.items e B)))
-
-  pub open_staged : (v : Vec PlanId Global) (t : Term) (w : Vec State Global) (e : Environment) → BuildsPlan p (NPipeline v) t → AllBegin φ p e v.items w.items → Opens φ p t e (Ok (opened.Live (LPipeline w)))
-  open_staged v t w e (builds_pipeline two) B = open_pipeline v.items w e two B
-
-  -- one more stage begins
-  begin_push : (i : PlanId) (ids : List PlanId) (a : State) (bs : List State) (e : Environment) → AllBegin φ p e ids bs → Stands φ p a (closure (plan_tree p i) e) [] → AllBegin φ p e (ids ++ i ∷ []) (bs ++ a ∷ [])
-  begin_push i [] a bs e none_begin A = more_begin A none_begin
-  begin_push i (j ∷ ids) a bs e (more_begin B C) A = more_begin B (begin_push i ids a _ e C A)
-
-  pub begin_next : (ids : List PlanId) (k : ℕ) (names : Env) (bs cs : List State) (e : Environment) (d : PlanId) → AllBegin φ p e (take k ids) bs → k < length ids → IsNames φ p names e → cs ≡ bs ++ Unborn (SClosure (get_or ids k d) names) ∷ [] → AllBegin φ p e (take (k + 1) ids) cs
-  begin_next ids k names bs cs e d B short N same =
-      let more : k + 1 ≡ suc k = omega arith in
-      rw (ap (λ j. take j ids) more ∙ take-suc ids k d short, same) (begin_push _ _ _ _ e B (itself (unborn (is_closure N))))

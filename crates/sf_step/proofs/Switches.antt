@@ -21,9 +21,10 @@ use Rattle.sf_state.specs.declared.state.State.{State}
 use Rattle.sf_state.specs.declared.state.Switch.{Switch}
 use Rattle.sf_state.specs.declared.env.Env.{Env}
 use Rattle.sf_state.specs.Standing.{IsNames, Stands, fired_to, took_over, Waits, waits_so, recurs_so}
-use Rattle.sf_step.specs.declared.meter.Meter.{Meter}
-use Rattle.sf_step.specs.Meters.{entered_of, height_of}
-use Rattle.sf_step.specs.Sampling.{Rel, Ticks, Spent, Within, StopsFor, answers, StateSteps, SwitchSteps}
+use Rattle.sf_parts.specs.declared.meter.Meter.{Meter}
+use Rattle.sf_parts.specs.Meters.{entered_of, height_of}
+use Rattle.sf_parts.specs.Answering.{Rel, Ticks, Spent, Within, StopsFor, answers}
+use Rattle.sf_step.specs.Sampling.{StateSteps, SwitchSteps}
 use Rattle.sf_step.proofs.Parts.{Over, counted, Then, then_on, then_stop, Alike, over_spent, both_spent, alike_within, over_within, then_within, fails_alike, over_fails, then_fails, rest_fails, spent_within, answered, failed}
 use Rattle.sf_step.proofs.Forms.{single_gives, form_alike}
 

@@ -21,9 +21,11 @@ use Rattle.sf_state.specs.declared.state.Keeping.{Keeping}
 use Rattle.sf_state.specs.declared.state.Kept.{Kept}
 use Rattle.sf_state.specs.declared.env.Env.{Env}
 use Rattle.sf_state.specs.Standing.{IsNames, Turned, fired_to, kept_to, ran, went_on, Stands, itself, took_over, StandsItself, watching, keeping_on, was_frozen, kept_state, Waits, WaitsKeeping}
-use Rattle.sf_step.specs.declared.sample.Begun.TheVariants as begun
-use Rattle.sf_step.specs.declared.meter.Meter.{Meter}
-use Rattle.sf_step.specs.Sampling.{Rel, Ticks, StopsFor, Answers, answers, fails, Prepared, switch_prepared, keeping_prepared, CountedSteps, BeginsAs, begins_referred, PartSteps, StateSteps, Waiting, StandsFor, WaitingSteps, left_beside}
+use Rattle.sf_parts.specs.declared.opening.Begun.TheVariants as begun
+use Rattle.sf_parts.specs.declared.meter.Meter.{Meter}
+use Rattle.sf_parts.specs.Answering.{Rel, Ticks, StopsFor, Answers, answers, fails}
+use Rattle.sf_parts.specs.Beginning.{Prepared, switch_prepared, keeping_prepared, BeginsAs, begins_referred}
+use Rattle.sf_step.specs.Sampling.{CountedSteps, PartSteps, StateSteps, Waiting, StandsFor, WaitingSteps, left_beside}
 use Rattle.sf_step.proofs.Parts.{Over, counted, Alike, over_spent, fails_alike, over_fails, answered, failed}
 use Rattle.sf_step.proofs.Forms.{gave_outputs, gives_form}
 

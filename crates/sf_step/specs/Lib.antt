@@ -1,5 +1,3 @@
-pub mod Contexts
-pub mod Meters
 pub mod Routing
 pub mod Sampling
 pub mod Stepping

@@ -11,8 +11,8 @@ use Rattle.sf_mean.specs.Meaning.{Outcome, gave, faulted, Cost, count, height, G
 use Rattle.sf_law.specs.Arena.{network_of_plan}
 use Rattle.sf_state.specs.declared.state.State.{State}
 use Rattle.sf_state.specs.Standing.{Stands}
-use Rattle.sf_step.specs.declared.meter.Meter.{Meter}
-use Rattle.sf_step.specs.Meters.{entered_of, height_of, readings}
+use Rattle.sf_parts.specs.declared.meter.Meter.{Meter}
+use Rattle.sf_parts.specs.Meters.{entered_of, height_of, readings}
 
 -- each outcome of P on L costs what the meter counted, or more
 pub record EachCostsAtLeast (φ : AnswersByName) (p : Plan) (P : Process) (L : Life) (m : Meter) : Type 0 where

@@ -1,11 +1,7 @@
 //! One sample of a network.
 #![tactic(auto)]
 
-mod calling;
-mod context;
-mod meter;
-mod routing;
 mod sample;
 
-pub use meter::Meter;
 pub use sample::step;
+pub use sf_parts::Meter;

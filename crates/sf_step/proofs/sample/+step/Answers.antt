@@ -9,15 +9,17 @@ use Rattle.sf_state.specs.declared.state.Frozen.{Frozen}
 use Rattle.sf_state.specs.declared.state.State.{State}
 use Rattle.sf_state.specs.Standing.{Stands, kept_state}
 use Rattle.sf_mean.specs.Meaning.{switched_value}
-use Rattle.sf_step.specs.Meters.{fault_of}
-use Rattle.sf_step.specs.Sampling.{left_or, StateSteps}
-use Rattle.sf_step.proofs.Parts.{pass_exit, failed, memory_exit}
+use Rattle.sf_parts.specs.Meters.{fault_of}
+use Rattle.sf_parts.specs.Answering.{left_or}
+use Rattle.sf_parts.proofs.Costs.{memory_exit, early_memory}
+use Rattle.sf_step.specs.Sampling.{StateSteps}
+use Rattle.sf_step.proofs.Parts.{pass_exit, failed}
+use Rattle.sf_step.proofs.Stages.{StagesStep, continues_first, continues_next, continues_fails, continues_last, pipeline_steps, pipeline_fails}
+use Rattle.sf_step.proofs.Exits.{ticked_by, tick_fails, first_memory, join_left_fails, join_right_fails, join_steps, join_last, wrap_fails, wrap_steps, late_memory, primitive_counted, live_counted, own_steps, primitive_is, live_is, switch_is, keeping_is, counted_steps, begun_steps, begun_runs, begun_fails}
 use Rattle.sf_step.proofs.Recurring.{run_fails, run_memory, new_fails, new_runs, runs_alone}
 use Rattle.sf_step.proofs.Switches.{source_fails, switch_memory, switch_waits_on, body_fails, body_takes_over}
 use Rattle.sf_step.proofs.Keeping.{runs_alike, kept_fails, kept_memory, observer_fails, observer_memory, keeps_on, kept_body_fails, kept_body_takes_over, some_occurs, none_occurs}
 use Rattle.sf_step.proofs.Turning.{frozen_steps, pass_beside, watching_turns, watching_fails, keeping_turns, keeping_fails}
-use Rattle.sf_step.proofs.Stages.{StagesStep, continues_first, continues_next, continues_fails, continues_last, pipeline_steps, pipeline_fails}
-use Rattle.sf_step.proofs.Exits.{ticked_by, tick_fails, first_memory, join_left_fails, join_right_fails, join_steps, join_last, wrap_fails, wrap_steps, early_memory, late_memory, primitive_counted, live_counted, own_steps, primitive_is, live_is, switch_is, keeping_is, counted_steps, begun_steps, begun_runs, begun_fails}
 use Rattle.sf_step.proofs.sample.+step.Goals as goal
 
 -- ## step_state

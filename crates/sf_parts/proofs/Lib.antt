@@ -1,0 +1,5 @@
+pub mod Costs
+pub mod Primitives
+pub mod Arguments
+pub mod References
+pub mod Begins

@@ -1,0 +1,20 @@
+use Rattle.std.proofs.Common.{ap, subst}
+use Rattle.std.specs.Option.{option_map}
+use Rattle.sf_expr.specs.Arena.{name_at}
+use Rattle.sf_law.specs.Arena.{plan_expressions}
+use Rattle.sf_mean.specs.Lives.{process_of}
+use Rattle.sf_state.specs.Standing.{IsFound}
+use Rattle.sf_parts.proofs.References.{when_ok, passing_base}
+use Rattle.sf_parts.proofs.calling.began.Goals as goal
+
+pub returns-in-Some : goal.returns-in-Some
+returns-in-Some c = when_ok c.share.result (λ process shared φ e N.
+    let p = c.args.plan.now in
+    let found = subst (λ x. IsFound φ p (option_map (λ r. r.now) c.running.result) (process_of x e)) (rw c.expressions-exprs.ensures at c.name_of.ensures) (c.running.ensures φ p e c.expressions-exprs.ensures N) in
+    shared φ p _ (subst (λ r. IsFound φ p (option_map (λ r. r.now) r) (process_of (name_at (plan_expressions p) c.args.name) e)) c.in-Some.is found).1) c.share.ensures
+
+pub returns-in-None : goal.returns-in-None
+returns-in-None c = λ φ e N.
+    let p = c.args.plan.now in
+    let found = subst (λ x. IsFound φ p (option_map (λ r. r.now) c.running.result) (process_of x e)) (rw c.expressions-exprs.ensures at c.name_of.ensures) (c.running.ensures φ p e c.expressions-exprs.ensures N) in
+    passing_base φ p _ _ _ (ap (option_map (λ r. r.now)) c.in-None.is) c.passing.ensures found

@@ -1,0 +1,71 @@
+-- What a part is before its first sample, and when a state is prepared for a sample.
+use Rattle.std.specs.Prelude.{◌≡◌, List, [], ◌∷◌, Result, Ok, Err}
+use Rattle.sf_value.specs.Values.{Data}
+use Rattle.sf_value.specs.declared.fault.ValueFault.{ValueFault}
+use Rattle.sf_value.specs.declared.fault.Fault.{Fault}
+use Rattle.sf_value.specs.declared.fault.Fault.TheVariants.{Value, Memory}
+use Rattle.sf_func.specs.Registries.{AnswersByName}
+use Rattle.sf_expr.specs.declared.exprs.NameId.{NameId}
+use Rattle.sf_expr.specs.declared.exprs.PatternId.{PatternId}
+use Rattle.sf_expr.specs.Evaluation.{Evaluated, answer, failed}
+use Rattle.sf_term.specs.declared.form.Observation.{Observation}
+use Rattle.sf_term.specs.declared.form.Switching.{Switching}
+use Rattle.sf_term.specs.Trees.{Term, Reference, reference}
+use Rattle.sf_mean.specs.Lives.{Step, Life, Process, closure, Environment, first_input}
+use Rattle.sf_mean.specs.Meaning.{faulted, entered_cost, referred, Gives}
+use Rattle.sf_law.specs.declared.plan.Plan.{Plan}
+use Rattle.sf_law.specs.declared.node.PlanId.{PlanId}
+use Rattle.sf_law.specs.Arena.{plan_tree, network_of_plan}
+use Rattle.sf_prim.specs.declared.prim_state.PrimState.{PrimState}
+use Rattle.sf_state.specs.declared.state.State.{State}
+use Rattle.sf_state.specs.declared.state.State.TheVariants.{Primitive as SPrimitive, Live' as Alive', Switch' as Watching', Keeping'}
+use Rattle.sf_state.specs.declared.state.Live.{Live}
+use Rattle.sf_state.specs.declared.state.Switch.{Switch}
+use Rattle.sf_state.specs.declared.state.Keeping.{Keeping}
+use Rattle.sf_state.specs.declared.env.Env.{Env}
+use Rattle.sf_state.specs.Standing.{IsNames, Recalls, Stands, Waits, WaitsKeeping, Ready}
+use Rattle.sf_parts.specs.declared.opening.Opened.{Opened}
+use Rattle.sf_parts.specs.declared.opening.Opened.TheVariants as opened
+use Rattle.sf_parts.specs.declared.opening.Begun.{Begun}
+use Rattle.sf_parts.specs.declared.opening.Begun.TheVariants as begun
+
+-- A state is prepared for the next step of a process after a life, before its first sample too: the process that it was made
+-- of, and not one that it took over from.
+pub data Prepared (φ : AnswersByName) (p : Plan) : State → Process → Life → Type 0 where
+  primitive_prepared : {i : PrimState} {P : Process} {L : Life} → Recalls φ p i P L → Prepared φ p (SPrimitive i) P L
+  live_prepared : {at : _} {names : Env} {l : Live} {t : Term} {e : Environment} {L : Life}
+      → IsNames φ p names e → ((s : Step) → Ready φ p l (closure t e) (first_input s L) L) → Prepared φ p (Alive' names at l) (closure t e) L
+  switch_prepared : {at : _} {names : Env} {w : Switching} {a : State} {q : PatternId} {b : PlanId} {t : Term} {e : Environment} {L : Life}
+      → IsNames φ p names e → Waits φ p (record { form = w; running = a; pattern = q; body = b }) (closure t e) L → Prepared φ p (Watching' names at w a q b) (closure t e) L
+  keeping_prepared : {at : _} {names : Env} {w : Observation} {f : PlanId} {a x o : State} {k : NameId} {q : PatternId} {b : PlanId} {t : Term} {e : Environment} {L : Life}
+      → IsNames φ p names e → WaitsKeeping φ p (record { shown = w; first = f; source = a; before = x; observer = o; name = k; pattern = q; body = b }) (closure t e) L
+      → Prepared φ p (Keeping' names at w f a x o k q b) (closure t e) L
+
+-- What is made of something that is evaluated: it stands for the answer, or is its fault. Want of memory says nothing of it.
+pub data Makes {A B : Type 0} (stands : A → B → Type 0) (w : Evaluated B) : Result A Fault → Type 0 where
+  makes : {a : A} {b : B} → w ≡ answer b → stands a b → Makes stands w (Ok a)
+  makes_fault : {x : ValueFault} → w ≡ failed x → Makes stands w (Err (Value x))
+  makes_nothing : Makes stands w (Err Memory)
+
+-- a part before its first sample, or the fault of its constants
+pub data Opens (φ : AnswersByName) (p : Plan) (t : Term) (e : Environment) : Result Opened Fault → Type 0 where
+  opens_primitive : {i : PrimState} → Recalls φ p i (closure t e) [] → Opens φ p t e (Ok (opened.Primitive i))
+  opens : {l : Live} → ((x : Data) → Ready φ p l (closure t e) x []) → Opens φ p t e (Ok (opened.Live l))
+  opens_watching : {s : Switch} → Waits φ p s (closure t e) [] → Opens φ p t e (Ok (opened.Switch s))
+  opens_keeping : {s : Keeping} → WaitsKeeping φ p s (closure t e) [] → Opens φ p t e (Ok (opened.Keeping s))
+  -- what is referred to stands in the place of the term, which counts at this sample alone
+  opens_running : {a : State} {r : Reference} {P : Process} → t ≡ reference r → referred (network_of_plan φ p) r e ≡ answer P → Stands φ p a P [] → Opens φ p t e (Ok (opened.Running a))
+  opens_with_fault : {x : ValueFault} → ((s : Step) → Gives (network_of_plan φ p) (closure t e) (s ∷ []) (faulted x) (entered_cost t)) → Opens φ p t e (Err (Value x))
+  opens_without_memory : Opens φ p t e (Err Memory)
+
+-- a term that has begun: itself, or what it refers to; or why it hasn't
+pub data BeginsAs (φ : AnswersByName) (p : Plan) (t : Term) (e : Environment) (a : State) : Result Begun Fault → Type 0 where
+  begins_itself : Prepared φ p a (closure t e) [] → BeginsAs φ p t e a (Ok begun.Itself)
+  begins_referred : {r : Reference} {P : Process} → t ≡ reference r → referred (network_of_plan φ p) r e ≡ answer P → Stands φ p a P [] → BeginsAs φ p t e a (Ok begun.Referred)
+  begins_not : {f : Fault} → Opens φ p t e (Err f) → BeginsAs φ p t e a (Err f)
+
+-- States of terms before their first sample.
+pub data AllBegin (φ : AnswersByName) (p : Plan) (e : Environment) : List PlanId → List State → Type 0 where
+  none_begin : AllBegin φ p e [] []
+  more_begin : {i : PlanId} {ids : List PlanId} {a : State} {bs : List State}
+      → Stands φ p a (closure (plan_tree p i) e) [] → AllBegin φ p e ids bs → AllBegin φ p e (i ∷ ids) (a ∷ bs)

@@ -1,0 +1,4 @@
+pub mod Answering
+pub mod Beginning
+pub mod Contexts
+pub mod Meters

@@ -1,0 +1,60 @@
+//! What the parts of a sample share.
+ghost use Rattle.std.specs.Prelude.{◌≡◌};
+ghost use Rattle.sf_expr.specs.Arena.{expression};
+ghost use Rattle.sf_expr.specs.Evaluation.{eval};
+ghost use Rattle.sf_code.specs.Names.{scope_with};
+ghost use Rattle.sf_operator.specs.Answers.{Evaluates};
+ghost use Rattle.sf_law.specs.Arena.{plan_expressions};
+ghost use Rattle.sf_law.specs.Entries.{IsCodedExpression};
+ghost use Rattle.sf_state.specs.Names.{values_around};
+ghost use Rattle.sf_parts.specs.Answering.{fault_from};
+ghost use Rattle.sf_parts.specs.Contexts.{plan_in};
+
+use sf_code::Code;
+use sf_expr::ExprId;
+use sf_func::Holds;
+use sf_law::Plan;
+use sf_operator::EvalFault;
+use sf_prim::constant;
+use sf_state::{Env, NamesIn};
+use sf_value::{Fault, Value};
+use std::alloc::Global;
+
+/// What each part of one sample is stepped with.
+#[derive(Drop)]
+pub struct SampleContext<'a, R> {
+    /// What memory is taken from.
+    pub alloc: Global,
+    /// Where the terms that are stepped stand.
+    pub plan: &'a Plan,
+    /// The functions that are called.
+    pub functions: &'a R,
+    /// Milliseconds since the sample before.
+    pub dt: u64,
+}
+
+/// The value of a constant with these names around it, or the first fault of its operations.
+pub(crate) fn constant_in<R: Holds>(
+    context: &SampleContext<R>,
+    value: ExprId,
+    code: &Option<Code>,
+    names: &Env,
+) -> Result<Value, EvalFault>
+    ensures { let exprs = plan_expressions (plan_in context.now) in IsCodedExpression exprs value code.now →
+        Evaluates result (eval (expression exprs value) (scope_with (values_around exprs names.now) (R.answers context.now.functions.now))) }
+{
+    let expressions = context.plan.expressions();
+    let around = NamesIn { expressions, names };
+    let functions = context.functions;
+    constant(context.alloc, expressions, value, code, functions, &around)
+}
+
+/// The fault of an expression, as that of the sample.
+pub(crate) fn fault_of(fault: EvalFault) -> Fault
+    ensures { result ≡ fault_from fault }
+{
+    match fault {
+        EvalFault::Value(fault) => Fault::Value(fault),
+        EvalFault::Memory => Fault::Memory,
+    }
+}

@@ -1,0 +1,58 @@
+//! The parts that step no others: primitives and probes.
+ghost use Rattle.std.specs.Prelude.{◌≡◌, ℕ};
+ghost use Rattle.sf_mean.specs.Lives.{step};
+ghost use Rattle.sf_parts.specs.Answering.{PrimSteps, LiveSteps, left_or};
+ghost use Rattle.sf_parts.specs.Contexts.{plan_in, dt_in};
+ghost use Rattle.sf_parts.specs.Meters.{entered_of, fault_of as fault_in};
+
+use crate::context::{SampleContext, fault_of};
+use crate::meter::{Meter, Stop};
+use sf_func::Holds;
+use sf_prim::PrimState;
+use sf_state::Live;
+use sf_value::{Fault, Value};
+use std::rc::Rc;
+
+/// Puts the value at the next sample of a primitive, which has been counted, in place of the input. After an error the
+/// primitive keeps nothing that is promised, and the value may be any; the meter has the fault, of its operations or of memory.
+#[inline]
+pub fn step_prim<R: Holds>(
+    context: &SampleContext<R>,
+    prim: &mut PrimState,
+    value: &mut Value,
+    meter: &mut Meter,
+) -> Result<(), Stop>
+    ensures entered { entered_of meter.new ≡ entered_of meter.old }
+    ensures answers { PrimSteps (R.answers context.now.functions.now) (plan_in context.now) prim.old (step (dt_in context.now) value.old)
+        (left_or result (prim.new, value.new) (fault_in meter.new)) meter.old meter.new }
+{
+    match prim.step(context.alloc, context.functions, context.dt, value) {
+        Ok(()) => Ok(()),
+        Err(fault) => Err(meter.stop(fault_of(fault))),
+    }
+}
+
+/// The next sample of a probe, which has been counted: its input stays, and is recorded under its name. It stops for want of
+/// memory alone.
+#[inline(never)]
+pub fn step_probe<R: Holds>(
+    context: &SampleContext<R>,
+    name: &Rc<String>,
+    value: &Value,
+    meter: &mut Meter,
+) -> Result<(), Stop>
+    ensures entered { entered_of meter.new ≡ entered_of meter.old }
+    ensures answers { (inside : ℕ) → LiveSteps (R.answers context.now.functions.now) (plan_in context.now) (Live.Probe name.now) (step (dt_in context.now) value.now)
+        (left_or result (Live.Probe name.now, value.now) (fault_in meter.new)) meter.old meter.new inside }
+{
+    let Ok(shared) = name.clone() else {
+        return Err(meter.stop(Fault::Memory));
+    };
+    let Ok(copy) = value.clone_in(context.alloc) else {
+        return Err(meter.stop(Fault::Memory));
+    };
+    match meter.record(shared, copy) {
+        Ok(()) => Ok(()),
+        Err(_) => Err(meter.stop(Fault::Memory)),
+    }
+}

@@ -1,0 +1,18 @@
+//! What a step is made of: the meter of a sample, the routes that values take through a part, and how a part begins.
+#![tactic(auto)]
+
+mod calling;
+mod context;
+mod leaves;
+mod meter;
+mod opening;
+mod routing;
+
+pub use context::SampleContext;
+pub use leaves::{step_prim, step_probe};
+pub use meter::{Meter, Stop};
+pub use opening::{Begun, begin};
+pub use routing::{
+    beside, copies, feed_back, halves, hold_back, payload_of, put_first, show, take_over,
+    unshare_half, value_and_payload,
+};

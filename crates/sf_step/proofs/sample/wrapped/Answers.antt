@@ -1,8 +1,0 @@
-use Rattle.sf_step.proofs.Exits.{open_exit, open_wrap}
-use Rattle.sf_step.proofs.sample.wrapped.Goals as goal
-
-pub returns-in_err-inner : goal.returns-in_err-inner
-returns-in_err-inner c = λ φ p t e m N h W. open_exit φ p t e _ c.from_residual.ensures.1
-
-pub returns : goal.returns
-returns c = λ φ p. open_wrap φ p c.args.wrap c.args.part c.args.names.now c.in_ok-inner.inner (c.in_ok-inner.ensures φ p)
