@@ -26,3 +26,4 @@ pub mod Bodies
 pub mod Unique
 pub mod ReadAnswers
 pub mod Loops
+pub mod PairSteps

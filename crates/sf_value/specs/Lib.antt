@@ -12,3 +12,4 @@ pub mod KindFalls
 pub mod Scan
 pub mod Gives
 pub mod Refuses
+pub mod Steps

@@ -1,5 +1,5 @@
 //! Values from their spellings.
-ghost use Rattle.std.specs.Prelude.{◌≡◌, ◌<◌, ℕ, IfOk, IfErr, MatchResult, min, codes, map, ◌++◌, ◌∷◌, []};
+ghost use Rattle.std.specs.Prelude.{◌≡◌, ◌<◌, ℕ, IfOk, IfErr, MatchResult, OnOk, min, codes, map, ◌++◌, ◌∷◌, []};
 ghost use Rattle.sf_value.specs.Values.{Data, unit_kind, bool_kind, int_kind, text_kind, pair_kind, event_kind, table_kind, HasKind, HasDifferentKeys};
 ghost use Rattle.sf_value.specs.KindView.{key_kind_of};
 ghost use Rattle.sf_value.specs.View.{key_of, rows_of};
@@ -7,9 +7,11 @@ ghost use Rattle.sf_value.specs.Tables.{AreKeysOf, spellings};
 ghost use Rattle.sf_value.specs.Spelling.{spelling};
 ghost use Rattle.sf_decimal.specs.Decimals.{signed};
 ghost use Rattle.sf_value.specs.Scan.{byte_at, word_at, positive_at, integer_at, value_at, narrow, begins_digit, key_at, new_key_at, row_at, rows_at};
+ghost use Rattle.sf_value.specs.Steps.{value_behind, pair_closed, none_at, event_before, table_before};
 ghost use Rattle.sf_value.specs.Reading.{Reads};
 ghost use Rattle.sf_value.specs.Refuses.{Refuses, IsMemory};
 ghost use Rattle.sf_value.specs.Gives.{GivesRead, GivesCapped, cap};
+ghost use Rattle.sf_value.specs.declared.read.Failure.TheVariants.{Memory};
 
 use crate::text::text_of;
 use crate::ty::{KeyType, Ty, TyForm};
@@ -198,8 +200,21 @@ fn string_of(alloc: Global, bytes: &[u8]) -> Result<(Value, &[u8]), Failure>
     Ok((value, rest))
 }
 
+/// A value of the type behind this byte, and what is after it.
 #[cycle(value_of)]
-#[tactic(auto, unfolding(crate::specs::Scan::value_at))]
+fn value_behind<'a>(
+    alloc: Global,
+    byte: u8,
+    ty: &Ty,
+    bytes: &'a [u8],
+) -> Result<(Value, &'a [u8]), Failure>
+    ensures { GivesRead (λ x. (x.0, x.1.now)) result (value_behind byte ty.now bytes.now) }
+{
+    let rest = byte_of(byte, bytes)?;
+    value_of(alloc, ty, rest)
+}
+
+#[cycle(value_of)]
 fn pair_of<'a>(
     alloc: Global,
     first: &Ty,
@@ -208,11 +223,29 @@ fn pair_of<'a>(
 ) -> Result<(Value, &'a [u8]), Failure>
     ensures { GivesRead (λ x. (x.0, x.1.now)) result (value_at (pair_kind first.now second.now) bytes.now) }
 {
-    let rest = byte_of(b'(', bytes)?;
-    let (x, rest) = value_of(alloc, first, rest)?;
-    let rest = byte_of(b',', rest)?;
-    let (y, rest) = value_of(alloc, second, rest)?;
-    let rest = byte_of(b')', rest)?;
+    let (x, rest) = value_behind(alloc, b'(', first, bytes)?;
+    match value_behind(alloc, b',', second, rest) {
+        Ok((y, rest)) => closed_pair(alloc, x, y, rest),
+        Err(failure) => {
+            drop(x);
+            Err(failure)
+        }
+    }
+}
+
+/// The pair of the values before its closing bracket, and what is after it.
+#[tactic(auto, using(crate::proofs::Failing::fails_then))]
+fn closed_pair(alloc: Global, x: Value, y: Value, bytes: &[u8]) -> Result<(Value, &[u8]), Failure>
+    ensures { GivesRead (λ r. (r.0, r.1.now)) result (pair_closed x y bytes.now) }
+{
+    let rest = match byte_of(b')', bytes) {
+        Ok(rest) => rest,
+        Err(failure) => {
+            drop(x);
+            drop(y);
+            return Err(failure);
+        }
+    };
     let Ok(value) = Value::pair(alloc, x, y) else {
         return Err(Failure::Memory);
     };
@@ -241,6 +274,14 @@ fn some_of(bytes: &[u8]) -> Result<&[u8], Failure>
     byte_of(b' ', rest)
 }
 
+#[tactic(auto, using(crate::proofs::Failing::fails_then))]
+fn no_event_of(bytes: &[u8]) -> Result<(Value, &[u8]), Failure>
+    ensures { GivesRead (λ x. (x.0, x.1.now)) result (none_at bytes.now) }
+{
+    let rest = none_of(bytes)?;
+    Ok((Value::no_event(), rest))
+}
+
 #[cycle(value_of)]
 #[tactic(auto, using(crate::proofs::Failing::fails_then), unfolding(crate::specs::Scan::value_at))]
 fn event_of<'a>(alloc: Global, payload: &Ty, bytes: &'a [u8]) -> Result<(Value, &'a [u8]), Failure>
@@ -248,19 +289,22 @@ fn event_of<'a>(alloc: Global, payload: &Ty, bytes: &'a [u8]) -> Result<(Value, 
 {
     match bytes {
         [] => Err(Failure::Bad(0)),
-        [c, ..] => {
-            if *c == b'n' {
-                let rest = none_of(bytes)?;
-                Ok((Value::no_event(), rest))
-            } else {
-                let rest = some_of(bytes)?;
-                let (x, rest) = value_of(alloc, payload, rest)?;
-                let Ok(value) = Value::event(alloc, x) else {
-                    return Err(Failure::Memory);
-                };
-                Ok((value, rest))
-            }
+        [b'n', ..] => no_event_of(bytes),
+        _ => {
+            let rest = some_of(bytes)?;
+            let (x, rest) = value_of(alloc, payload, rest)?;
+            event_in(alloc, x, rest)
         }
+    }
+}
+
+/// The event with this payload, which ends before these bytes.
+fn event_in(alloc: Global, payload: Value, bytes: &[u8]) -> Result<(Value, &[u8]), Failure>
+    ensures { GivesRead (λ x. (x.0, x.1.now)) result (event_before payload bytes.now) }
+{
+    match Value::event(alloc, payload) {
+        Ok(value) => Ok((value, bytes)),
+        Err(_) => Err(Failure::Memory),
     }
 }
 
@@ -331,11 +375,25 @@ fn table_of<'a>(
 {
     let rest = byte_of(b'{', bytes)?;
     let (table, rest) = rows_in(alloc, keys, values, rest)?;
-    let Ok(shared) = Rc::new(alloc, table) else {
-        return Err(Failure::Memory);
-    };
-    let form = Form::Table(shared);
-    Ok((Value { form }, rest))
+    table_in(alloc, table, rest)
+}
+
+/// The table, which ends before these bytes, as a value.
+fn table_in(alloc: Global, rows: Table, bytes: &[u8]) -> Result<(Value, &[u8]), Failure>
+    requires different { HasDifferentKeys (rows_of rows.rows.items) }
+    requires indexed { AreKeysOf rows.keys.keys rows.rows.items }
+    ensures { GivesRead (λ x. (x.0, x.1.now)) result (table_before (rows_of rows.rows.items) bytes.now) }
+{
+    match Rc::new(alloc, rows) {
+        Ok(shared) => {
+            let form = Form::Table(shared);
+            Ok((Value { form }, bytes))
+        }
+        Err(failed) => {
+            drop(failed);
+            Err(Failure::Memory)
+        }
+    }
 }
 
 /// The rows of a table up to its closing brace, and what is after it.
@@ -362,9 +420,7 @@ fn rows_in<'a>(
     }
     loop {
         let (key, value, rest) = row_in(alloc, keys, values, &mut table.keys, left)?;
-        let Ok(()) = table.rows.push((key, value)) else {
-            return Err(Failure::Memory);
-        };
+        put_row(&mut table.rows, key, value)?;
         match rest {
             [] => return Err(Failure::Bad(0)),
             [c, behind @ ..] => {
@@ -376,6 +432,19 @@ fn rows_in<'a>(
                 }
                 left = behind;
             }
+        }
+    }
+}
+
+fn put_row(rows: &mut Vec<(Key, Value)>, key: Key, value: Value) -> Result<(), Failure>
+    ensures ok { OnOk result (rows.new.items ≡ rows.old.items ++ (key, value) ∷ []) }
+    ensures err { IfErr result (λ e. e ≡ Memory) }
+{
+    match rows.push((key, value)) {
+        Ok(()) => Ok(()),
+        Err(failed) => {
+            drop(failed);
+            Err(Failure::Memory)
         }
     }
 }
@@ -394,9 +463,13 @@ fn row_in<'a>(
     ensures seen { IfOk result (λ x. map key_of seen.new.keys ≡ map key_of seen.old.keys ++ key_of x.0 ∷ []) }
 {
     let (key, rest) = new_key_in(alloc, keys, seen, bytes)?;
-    let rest = byte_of(b':', rest)?;
-    let (value, rest) = value_of(alloc, values, rest)?;
-    Ok((key, value, rest))
+    match value_behind(alloc, b':', values, rest) {
+        Ok((value, rest)) => Ok((key, value, rest)),
+        Err(failure) => {
+            drop(key);
+            Err(failure)
+        }
+    }
 }
 
 /// The value of a type whose spelling the bytes are, to the last byte.

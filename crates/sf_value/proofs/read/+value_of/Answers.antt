@@ -1,8 +1,9 @@
-use Rattle.std.proofs.Common.{[], refl, rules}
+use Rattle.std.proofs.Common.{[], refl, sym, subst, rules}
 use Rattle.sf_value.specs.Scan.{rows_at, value_at}
-use Rattle.sf_value.specs.Gives.{Fails}
+use Rattle.sf_value.specs.Gives.{Fails, GivesRead}
 use Rattle.sf_value.specs.KindView.{key_kind_of}
 use Rattle.sf_value.proofs.Failing.{fails_then, goes_then, fails_so}
+use Rattle.sf_value.proofs.PairSteps.{first_fails, second_fails, bracket_left}
 use Rattle.sf_value.proofs.Loops.{kept_none, kept_some, fails, ends, closes, breaks, shorter, different, goes_on}
 use Rattle.sf_value.proofs.read.+value_of.Goals.{rows_in-in_default, rows_in-in-len1-up+else-c-eq125}
 use Rattle.sf_value.proofs.read.+value_of.Goals as goal
@@ -22,10 +23,10 @@ pub rows_in-returns-in-empty-clause-rows : goal.rows_in-returns-in-empty-clause-
 rows_in-returns-in-empty-clause-rows t c = ([], ends (key_kind_of c.args.keys) c.args.values.now c.args.bytes.now _ _ c.loop-table.left.now c.loop-table.invariant (c.in_ok-key.key, c.in_ok-key.value) c.in_ok-key.rest.now c.in_ok-key.ensures.row c.in-empty.len_below, refl)
 
 pub rows_in-returns-then-c-eq125-2-clause-rows : goal.rows_in-returns-then-c-eq125-2-clause-rows
-rows_in-returns-then-c-eq125-2-clause-rows t c = rw c.in-Ok.ensures.items (closes (key_kind_of c.args.keys) c.args.values.now c.args.bytes.now _ _ c.loop-table.left.now c.loop-table.invariant (c.in_ok-key.key, c.in_ok-key.value) c.in_ok-key.rest.now c.in_ok-key.ensures.row c.in-len1-up-rest.len_at_least c.if-c-eq125-2.true)
+rows_in-returns-then-c-eq125-2-clause-rows t c = rw c.in_ok-put_row.ensures.ok (closes (key_kind_of c.args.keys) c.args.values.now c.args.bytes.now _ _ c.loop-table.left.now c.loop-table.invariant (c.in_ok-key.key, c.in_ok-key.value) c.in_ok-key.rest.now c.in_ok-key.ensures.row c.in-len1-up-rest.len_at_least c.if-c-eq125-2.true)
 
 pub rows_in-returns-then-c-eq125-2-clause-different : goal.rows_in-returns-then-c-eq125-2-clause-different
-rows_in-returns-then-c-eq125-2-clause-different t c = rw c.in-Ok.ensures.items (different (key_kind_of c.args.keys) c.args.values.now c.args.bytes.now _ _ c.loop-table.left.now c.loop-table.invariant (c.in_ok-key.key, c.in_ok-key.value) c.in_ok-key.rest.now c.in_ok-key.ensures.row)
+rows_in-returns-then-c-eq125-2-clause-different t c = rw c.in_ok-put_row.ensures.ok (different (key_kind_of c.args.keys) c.args.values.now c.args.bytes.now _ _ c.loop-table.left.now c.loop-table.invariant (c.in_ok-key.key, c.in_ok-key.value) c.in_ok-key.rest.now c.in_ok-key.ensures.row)
 
 pub rows_in-returns-then-c-ne44-clause-rows : goal.rows_in-returns-then-c-ne44-clause-rows
 rows_in-returns-then-c-ne44-clause-rows t c = (c.in_ok-key.rest.now, breaks (key_kind_of c.args.keys) c.args.values.now c.args.bytes.now _ _ c.loop-table.left.now c.loop-table.invariant (c.in_ok-key.key, c.in_ok-key.value) c.in_ok-key.rest.now c.in_ok-key.ensures.row c.in-len1-up-rest.len_at_least c.if-c-eq125-2.false c.if-c-ne44.true, refl)
@@ -34,27 +35,7 @@ pub rows_in-loop-table-smaller : goal.rows_in-loop-table-smaller
 rows_in-loop-table-smaller t c = shorter (key_kind_of c.args.keys) c.args.values.now c.args.bytes.now _ _ c.loop-table.left.now c.loop-table.invariant (c.in_ok-key.key, c.in_ok-key.value) c.in_ok-key.rest.now c.in_ok-key.ensures.row c.in-len1-up-rest.len_at_least
 
 pub rows_in-loop-table-preserved : goal.rows_in-loop-table-preserved
-rows_in-loop-table-preserved t c = rw c.in-Ok.ensures.items (goes_on (key_kind_of c.args.keys) c.args.values.now c.args.bytes.now _ _ c.loop-table.left.now c.loop-table.invariant (c.in_ok-key.key, c.in_ok-key.value) c.in_ok-key.rest.now c.in_ok-key.ensures.row c.in-len1-up-rest.len_at_least c.if-c-eq125-2.false c.if-c-ne44.false c.row_in.new.seen.keys c.in_ok-key.ensures.seen)
-
-pub pair_of-returns-in_err-rest : goal.pair_of-returns-in_err-rest
-unfolding value_at
-pair_of-returns-in_err-rest t c = fails_so _ _ _ _ c.from_residual.ensures.1 (fails_then _ _ _ c.in_err-rest.ensures)
-
-pub pair_of-returns-in_err-x : goal.pair_of-returns-in_err-x
-unfolding value_at
-pair_of-returns-in_err-x t c = fails_so _ _ _ _ c.from_residual-in_err-x.ensures.1 (goes_then _ _ _ _ c.in_ok-rest.ensures (fails_then _ _ _ c.in_err-x.ensures))
-
-pub pair_of-returns-in_err-rest-2 : goal.pair_of-returns-in_err-rest-2
-unfolding value_at
-pair_of-returns-in_err-rest-2 t c = fails_so _ _ _ _ c.from_residual-in_err-rest-2.ensures.1 (goes_then _ _ _ _ c.in_ok-rest.ensures (goes_then _ _ _ _ c.in_ok-x.ensures (fails_then _ _ _ c.in_err-rest-2.ensures)))
-
-pub pair_of-returns-in_err-y : goal.pair_of-returns-in_err-y
-unfolding value_at
-pair_of-returns-in_err-y t c = fails_so _ _ _ _ c.from_residual-in_err-y.ensures.1 (goes_then _ _ _ _ c.in_ok-rest.ensures (goes_then _ _ _ _ c.in_ok-x.ensures (goes_then _ _ _ _ c.in_ok-rest-2.ensures (fails_then _ _ _ c.in_err-y.ensures))))
-
-pub pair_of-returns-in_err-rest-3 : goal.pair_of-returns-in_err-rest-3
-unfolding value_at
-pair_of-returns-in_err-rest-3 t c = fails_so _ _ _ _ c.from_residual-in_err-rest-3.ensures.1 (goes_then _ _ _ _ c.in_ok-rest.ensures (goes_then _ _ _ _ c.in_ok-x.ensures (goes_then _ _ _ _ c.in_ok-rest-2.ensures (goes_then _ _ _ _ c.in_ok-y.ensures (fails_then _ _ _ c.in_err-rest-3.ensures)))))
+rows_in-loop-table-preserved t c = rw c.in_ok-put_row.ensures.ok (goes_on (key_kind_of c.args.keys) c.args.values.now c.args.bytes.now _ _ c.loop-table.left.now c.loop-table.invariant (c.in_ok-key.key, c.in_ok-key.value) c.in_ok-key.rest.now c.in_ok-key.ensures.row c.in-len1-up-rest.len_at_least c.if-c-eq125-2.false c.if-c-ne44.false c.row_in.new.seen.keys c.in_ok-key.ensures.seen)
 
 pub table_of-returns-in_err-rest : goal.table_of-returns-in_err-rest
 unfolding value_at
@@ -67,8 +48,13 @@ table_of-returns-in_err-table t c = fails_so _ _ _ _ c.from_residual-in_err-tabl
 pub row_in-returns-in_err-key-clause-row : goal.row_in-returns-in_err-key-clause-row
 row_in-returns-in_err-key-clause-row t c = fails_so _ _ _ _ c.from_residual.ensures.1 (fails_then _ _ _ c.in_err-key.ensures.key)
 
-pub row_in-returns-in_err-rest-clause-row : goal.row_in-returns-in_err-rest-clause-row
-row_in-returns-in_err-rest-clause-row t c = fails_so _ _ _ _ c.from_residual-in_err-rest.ensures.1 (goes_then _ _ _ _ c.in_ok-key.ensures.key (fails_then _ _ _ c.in_err-rest.ensures))
+pub pair_of-returns-in_err-x : goal.pair_of-returns-in_err-x
+pair_of-returns-in_err-x t c = fails_so _ _ _ _ c.from_residual.ensures.1 (first_fails c.args.first.now c.args.second.now c.args.bytes.now _ c.in_err-x.ensures)
 
-pub row_in-returns-in_err-value-clause-row : goal.row_in-returns-in_err-value-clause-row
-row_in-returns-in_err-value-clause-row t c = fails_so _ _ _ _ c.from_residual-in_err-value.ensures.1 (goes_then _ _ _ _ c.in_ok-key.ensures.key (goes_then _ _ _ _ c.in_ok-rest.ensures (fails_then _ _ _ c.in_err-value.ensures)))
+pub pair_of-returns-in-Err : goal.pair_of-returns-in-Err
+pair_of-returns-in-Err t c = second_fails c.args.first.now c.args.second.now c.args.bytes.now c.in_ok-x.x c.in_ok-x.rest.now c.in_ok-x.ensures c.in-Err.failure c.in-Err.ensures
+
+pub pair_of-returns-in-Ok : goal.pair_of-returns-in-Ok
+pair_of-returns-in-Ok t c =
+    let left = bracket_left c.args.first.now c.args.second.now c.args.bytes.now c.in_ok-x.x c.in_ok-x.rest.now c.in_ok-x.ensures c.in-Ok.y c.in-Ok.rest.now c.in-Ok.ensures in
+    subst (λ o. GivesRead (λ x. (x.0, x.1.now)) c.closed_pair.result o) (sym left) c.closed_pair.ensures
