@@ -1,5 +1,6 @@
 //! The last reading of each name.
-ghost use Rattle.std.specs.Prelude.{◌≡◌, ◌≤◌, ◌++◌, ℕ, List, [], ◌∷◌, OnOk, OnErr, length, take, slice_get};
+ghost use Rattle.std.specs.Prelude.{◌≡◌, ◌≤◌, ◌++◌, ℕ, List, [], ◌∷◌, None, OnOk, OnErr, length, take, slice_get};
+ghost use Rattle.std.specs.HashMap.{get_by_text};
 ghost use Rattle.std.specs.Option.{option_map, option_copied};
 ghost use Rattle.sf_value.specs.Values.{Name, Data};
 ghost use Rattle.sf_probe.specs.Readings.{readings_of};
@@ -9,6 +10,7 @@ use crate::reading::Readings;
 use indexmap::IndexMap;
 use sf_value::Value;
 use std::alloc::{AllocError, Global};
+use std::mem;
 
 /// The last reading of each name among those that were noted.
 ///
@@ -72,11 +74,31 @@ impl Latest {
     {
         let copy = value.clone_in(self.alloc)?;
         if let Some(kept) = self.values.get_mut(name) {
-            *kept = copy;
+            drop(mem::replace(kept, copy));
             return Ok(());
         }
-        let key = String::from_str(self.alloc, name)?;
-        self.values.insert(key, copy)?;
-        Ok(())
+        self.put_new(name, copy)
+    }
+
+    // Notes the first reading of a name. For want of memory nothing changes.
+    fn put_new(&mut self, name: &str, value: Value) -> Result<(), AllocError>
+        requires { get_by_text self.old.values name.now ≡ None }
+        ensures ok { OnOk result ((noted : List (Name × Data)) → HasNoted self.old noted → HasNoted self.new (noted ++ (name.now, value) ∷ [])) }
+        ensures err { OnErr result ((noted : List (Name × Data)) → HasNoted self.old noted → HasNoted self.new noted) }
+    {
+        let key = match String::from_str(self.alloc, name) {
+            Ok(key) => key,
+            Err(failed) => {
+                drop(value);
+                return Err(failed);
+            }
+        };
+        match self.values.insert(key, value) {
+            Ok(replaced) => {
+                drop(replaced);
+                Ok(())
+            }
+            Err(failed) => Err(AllocError::from(failed)),
+        }
     }
 }
