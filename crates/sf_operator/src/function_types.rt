@@ -1,7 +1,7 @@
 //! The types of forms with a function.
 ghost use Rattle.std.specs.Prelude.{Some};
 ghost use Rattle.sf_operator.specs.declared.operator.Folding.TheVariants.{Fold, Merge};
-ghost use Rattle.sf_operator.specs.Kinds.{payload_of, mapped_argument, mapped_kind, called_kind, folded_argument, folded_kind};
+ghost use Rattle.sf_operator.specs.Kinds.{only, payload_of, mapped_argument, mapped_kind, called_kind, folded_argument, folded_kind};
 ghost use Rattle.sf_operator.specs.Breaches.{AnswersKind};
 
 use crate::kinds::{columns, event_type, pair_type, payload, same, type_of_keys};
@@ -15,6 +15,14 @@ fn payload_type(alloc: Global, events: &Ty, at: Spot) -> Result<Ty, Refusal>
     ensures { AnswersKind (payload_of events.now) at result }
 {
     Ok(payload(events, at)?.clone_in(alloc)?)
+}
+
+/// A type, where two types are the same. Refused at `at` with `Mismatch` where they are not, and with `Memory`.
+fn if_same(alloc: Global, left: &Ty, right: &Ty, each: &Ty, at: Spot) -> Result<Ty, Refusal>
+    ensures { AnswersKind (only left.now right.now (Some each.now)) at result }
+{
+    same(left, right, at)?;
+    Ok(each.clone_in(alloc)?)
 }
 
 /// The type of what the function of a form on a value of a type takes. Refused at `at` with `Mismatch` where the form
@@ -60,8 +68,7 @@ pub fn mapped_type(
 pub fn called_type(alloc: Global, from: &Ty, to: &Ty, part: &Ty, at: Spot) -> Result<Ty, Refusal>
     ensures { AnswersKind (called_kind from.now to.now part.now) at result }
 {
-    same(part, from, at)?;
-    Ok(to.clone_in(alloc)?)
+    if_same(alloc, part, from, to, at)
 }
 
 /// The type of a value beside a key and a value of a table. Refused at `at` with `Mismatch` where the first type is none
@@ -120,14 +127,8 @@ pub fn folded_type(
     ensures { AnswersKind (folded_kind folding first.now second.now made.now) at result }
 {
     match folding {
-        Folding::Match => {
-            same(second, made, at)?;
-            Ok(made.clone_in(alloc)?)
-        }
+        Folding::Match => if_same(alloc, second, made, made, at),
         Folding::Merge => merged_type(alloc, first, second, made, at),
-        Folding::Fold => {
-            same(second, made, at)?;
-            Ok(second.clone_in(alloc)?)
-        }
+        Folding::Fold => if_same(alloc, second, made, second, at),
     }
 }

@@ -1,9 +1,10 @@
 //! What operators make of values.
 ghost use Rattle.std.specs.Prelude.{◌≡◌, Result, pos};
+ghost use Rattle.sf_value.specs.Values.{event};
 ghost use Rattle.sf_value.specs.View.{rows_of};
-ghost use Rattle.sf_operator.specs.Outcomes.{nonsense as the_nonsense, tested};
+ghost use Rattle.sf_operator.specs.Outcomes.{answer, nonsense as the_nonsense, tested};
 ghost use Rattle.sf_operator.specs.Operations.{unary_value, decided, operated, row_count, same_data, of_equality, of_comparison};
-ghost use Rattle.sf_operator.specs.Answers.{Computes, Evaluates};
+ghost use Rattle.sf_operator.specs.Answers.{Evaluates};
 
 use crate::arithmetic::{calculate, narrow};
 use crate::fault::EvalFault;
@@ -21,6 +22,22 @@ fn nonsense() -> Value
     Value::int(0)
 }
 
+/// A copy of a value, which shares what it is made of.
+#[inline]
+fn copied(alloc: Global, value: &Value) -> Result<Value, EvalFault>
+    ensures { Evaluates result (answer value.now) }
+{
+    Ok(value.clone_in(alloc)?)
+}
+
+/// The event of a copy of a value.
+#[inline]
+fn event_of(alloc: Global, value: &Value) -> Result<Value, EvalFault>
+    ensures { Evaluates result (answer (event value.now)) }
+{
+    Ok(Value::event(alloc, value.clone_in(alloc)?)?)
+}
+
 /// What an operator makes of a value, or its fault.
 pub fn operate_on(alloc: Global, operator: Unary, value: &Value) -> Result<Value, EvalFault>
     ensures { Evaluates result (unary_value operator value.now) }
@@ -30,13 +47,13 @@ pub fn operate_on(alloc: Global, operator: Unary, value: &Value) -> Result<Value
             Some(truth) => Ok(Value::bool(!truth)),
             None => Ok(nonsense()),
         },
-        Unary::Event => Ok(Value::event(alloc, value.clone_in(alloc)?)?),
+        Unary::Event => event_of(alloc, value),
         Unary::First => match halves_in(value) {
-            Some((first, _)) => Ok(first.clone_in(alloc)?),
+            Some((first, _)) => copied(alloc, first),
             None => Ok(nonsense()),
         },
         Unary::Second => match halves_in(value) {
-            Some((_, second)) => Ok(second.clone_in(alloc)?),
+            Some((_, second)) => copied(alloc, second),
             None => Ok(nonsense()),
         },
         Unary::IsEvent => match payload_in(value) {
@@ -44,7 +61,7 @@ pub fn operate_on(alloc: Global, operator: Unary, value: &Value) -> Result<Value
             None => Ok(nonsense()),
         },
         Unary::Size => match rows_in(value) {
-            Some(rows) => Ok(Value::int(size(rows)?)),
+            Some(rows) => size(rows),
             None => Ok(nonsense()),
         },
     }
@@ -52,10 +69,10 @@ pub fn operate_on(alloc: Global, operator: Unary, value: &Value) -> Result<Value
 
 /// How many rows there are.
 #[tactic(auto, using(crate::proofs::Counting::rows_counted))]
-fn size(rows: &[(Key, Value)]) -> Result<i64, ValueFault>
-    ensures { Computes result (tested (pos (row_count (rows_of rows.now)))) }
+fn size(rows: &[(Key, Value)]) -> Result<Value, EvalFault>
+    ensures { Evaluates result (tested (pos (row_count (rows_of rows.now)))) }
 {
-    narrow(rows.len() as i128)
+    Ok(Value::int(narrow(rows.len() as i128)?))
 }
 
 /// What the first operand decides alone: false decides `and`, true `or`.
@@ -85,12 +102,12 @@ pub fn operate(
             Some(order) => Ok(Value::bool(compare(operator, order))),
             None => Ok(nonsense()),
         },
-        Operator::Logic(_) => Ok(right.clone_in(alloc)?),
+        Operator::Logic(_) => copied(alloc, right),
         Operator::Tag => tag(alloc, left, right),
         Operator::Attach => attach(alloc, left, right),
         Operator::FromEvent => from_event(alloc, left, right),
         Operator::Gate => match is_true(right) {
-            Some(true) => Ok(left.clone_in(alloc)?),
+            Some(true) => copied(alloc, left),
             Some(false) => Ok(Value::no_event()),
             None => Ok(nonsense()),
         },
@@ -140,7 +157,7 @@ fn tag(alloc: Global, event: &Value, value: &Value) -> Result<Value, EvalFault>
     ensures { Evaluates result (operated Operator.Tag event.now value.now) }
 {
     match payload_in(event) {
-        Some(Some(_)) => Ok(Value::event(alloc, value.clone_in(alloc)?)?),
+        Some(Some(_)) => event_of(alloc, value),
         Some(None) => Ok(Value::no_event()),
         None => Ok(nonsense()),
     }
@@ -165,8 +182,8 @@ fn from_event(alloc: Global, event: &Value, default: &Value) -> Result<Value, Ev
     ensures { Evaluates result (operated Operator.FromEvent event.now default.now) }
 {
     match payload_in(event) {
-        Some(Some(payload)) => Ok(payload.clone_in(alloc)?),
-        Some(None) => Ok(default.clone_in(alloc)?),
+        Some(Some(payload)) => copied(alloc, payload),
+        Some(None) => copied(alloc, default),
         None => Ok(nonsense()),
     }
 }
@@ -177,14 +194,14 @@ fn merge(alloc: Global, operator: Merge, left: &Value, right: &Value) -> Result<
 {
     match payload_in(left) {
         Some(None) => match payload_in(right) {
-            Some(_) => Ok(right.clone_in(alloc)?),
+            Some(_) => copied(alloc, right),
             None => Ok(nonsense()),
         },
         Some(Some(_)) => match payload_in(right) {
-            Some(None) => Ok(left.clone_in(alloc)?),
+            Some(None) => copied(alloc, left),
             Some(Some(_)) => match operator {
-                Merge::Left => Ok(left.clone_in(alloc)?),
-                Merge::Right => Ok(right.clone_in(alloc)?),
+                Merge::Left => copied(alloc, left),
+                Merge::Right => copied(alloc, right),
                 Merge::Exclusive => Err(EvalFault::Value(ValueFault::Clash)),
             },
             None => Ok(nonsense()),
@@ -200,7 +217,7 @@ fn get(alloc: Global, table: &Value, key: &Value) -> Result<Value, EvalFault>
     match rows_in(table) {
         Some(_) => match key_in(key)? {
             Some(key) => match table.get(&key) {
-                Some(found) => Ok(Value::event(alloc, found.clone_in(alloc)?)?),
+                Some(found) => event_of(alloc, found),
                 None => Ok(Value::no_event()),
             },
             None => Ok(nonsense()),
