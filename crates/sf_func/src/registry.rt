@@ -1,6 +1,6 @@
 //! Functions by name.
 ghost use Rattle.std.specs.Prelude.{◌≡◌, ◌≢◌, Option, OnOk, IfOk, IfErr, [], ◌∷◌, ◌++◌};
-ghost use Rattle.sf_func.specs.Signatures.{signatures_in};
+ghost use Rattle.sf_func.specs.Signatures.{named_types, signatures_in};
 ghost use Rattle.std.specs.Option.{option_map, option_and_then};
 ghost use Rattle.sf_value.specs.Values.{Name, Data};
 ghost use Rattle.sf_func.specs.Meaning.{Applied};
@@ -110,6 +110,21 @@ impl Entry {
         &self.to
     }
 
+    // Its types, with a name.
+    fn signature(&self, alloc: Global, name: &str) -> Result<Signature, AllocError>
+        ensures { IfOk result (λ s. named_types s ≡ (name.now, types_of self.now)) }
+    {
+        let name = String::from_str(alloc, name)?;
+        let from = self.from.clone_in(alloc)?;
+        match self.to.clone_in(alloc) {
+            Ok(to) => Ok(Signature { name, from, to }),
+            Err(failed) => {
+                drop(from);
+                Err(failed)
+            }
+        }
+    }
+
     // The function, without its types.
     fn into_function(self) -> Box<dyn Function>
         ensures { result ≡ self.function }
@@ -150,11 +165,7 @@ impl Registry {
     {
         let mut entries = Vec::new(alloc);
         for (name, entry) in &self.entries {
-            entries.push(Signature {
-                name: String::from_str(alloc, name.as_str())?,
-                from: entry.from.clone_in(alloc)?,
-                to: entry.to.clone_in(alloc)?,
-            })?;
+            entries.push(entry.signature(alloc, name.as_str())?)?;
         }
         Ok(Signatures { entries })
     }
