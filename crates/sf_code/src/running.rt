@@ -1,5 +1,5 @@
 //! What code is worth.
-ghost use Rattle.std.specs.Prelude.{◌≡◌, ◌∷◌, IfOk, Some};
+ghost use Rattle.std.specs.Prelude.{◌≡◌, ◌∷◌, IfOk, Option, cond};
 ghost use Rattle.sf_code.specs.Codes as trees;
 ghost use Rattle.sf_code.specs.Running.{run as worth_of};
 ghost use Rattle.sf_code.specs.CodeView.{code_of};
@@ -7,15 +7,17 @@ ghost use Rattle.sf_code.specs.FrameView.{frames_of};
 ghost use Rattle.sf_operator.specs.Answers.{Evaluates, EvaluatesAs};
 ghost use Rattle.sf_operator.specs.declared.operator.Folding.TheVariants as foldings;
 ghost use Rattle.sf_operator.specs.declared.operator.Operator.TheVariants as operators;
-ghost use Rattle.sf_value.specs.Values.{number as number_of, pair as pair_data};
+ghost use Rattle.sf_value.specs.Values.{Data, number as number_of, pair as pair_data, event as event_data, no_event};
 ghost use Rattle.sf_operator.specs.declared.operator.Unary.TheVariants as unaries;
 ghost use Rattle.std.specs.Ordering.{int_cmp};
-ghost use Rattle.sf_operator.specs.Operations.{truth_in, of_comparison};
+ghost use Rattle.sf_operator.specs.Operations.{truth_in, of_comparison, operated as operated_value, unary_value};
 ghost use Rattle.sf_code.specs.FrameView.{found_value};
+ghost use Rattle.sf_expr.specs.Evaluation.{granted};
+ghost use Rattle.sf_func.specs.Meaning.{Applied};
 ghost use Rattle.sf_code.specs.Numbers.{AnswersNumber, AnswersTruth};
 ghost use Rattle.sf_value.specs.View.{key_of, rows_of};
-ghost use Rattle.sf_operator.specs.Outcomes.{answer as worth_as};
-ghost use Rattle.sf_operator.specs.FunctionForms.{mapped_value, mapped_payload, folded_value, folded_rows, value_of_key as data_of_key};
+ghost use Rattle.sf_operator.specs.Outcomes.{Evaluated, answer as worth_as, ◌>>=◌ as followed, known};
+ghost use Rattle.sf_operator.specs.FunctionForms.{mapped_value, folded_value, folded_rows, value_of_key as data_of_key};
 ghost use Rattle.sf_operator.specs.declared.operator.Mapping.TheVariants as mappings;
 
 use crate::code::Code;
@@ -41,12 +43,13 @@ pub(crate) fn run<F: Holds>(
     ensures { Evaluates result (worth_of (code_of code.now) (frames_of frames.now) (F.answers functions.now)) }
 {
     match code {
-        Code::Constant(value) => Ok(value.clone_in(alloc)?),
-        Code::Place(place) => Ok(frames.at(place).value(alloc)?),
+        Code::Constant(value) => copied(alloc, value),
+        Code::Place(place) => found(alloc, frames.at(place)),
         Code::Pair(first, second) => { pair(alloc, first, second, frames, functions) }
         Code::Applied(operator, part) => applied(alloc, *operator, part, frames, functions),
         Code::Operation(left, Operator::Arithmetic(operator), right) => {
-            computed(alloc, left, *operator, right, frames, functions)
+            let number = arithmetic(alloc, left, *operator, right, frames, functions);
+            computed(number)
         }
         Code::Operation(left, operator, right) => {
             operation(alloc, left, *operator, right, frames, functions)
@@ -64,6 +67,30 @@ pub(crate) fn run<F: Holds>(
     }
 }
 
+/// A copy of a value, which takes no memory.
+#[inline(always)]
+fn copied(alloc: Global, value: &Value) -> Result<Value, EvalFault>
+    ensures { Evaluates result (worth_as value.now) }
+{
+    Ok(value.clone_in(alloc)?)
+}
+
+/// What was found.
+#[inline(always)]
+fn found(alloc: Global, found: Found) -> Result<Value, EvalFault>
+    ensures { Evaluates result (worth_as (found_value found.entry)) }
+{
+    Ok(found.value(alloc)?)
+}
+
+/// A number as a value, or the fault in its place.
+#[inline(always)]
+fn computed(number: Result<i64, EvalFault>) -> Result<Value, EvalFault>
+    ensures { (worth : Evaluated Data) → EvaluatesAs (λ n. number_of n) number worth → Evaluates result worth }
+{
+    Ok(Value::int(number?))
+}
+
 /// What a pair of two codes is worth, or the first fault.
 #[cycle(run)]
 #[inline(never)]
@@ -77,8 +104,14 @@ fn pair<F: Holds>(
     ensures { Evaluates result (worth_of (trees.paired (code_of first.now) (code_of second.now)) (frames_of frames.now) (F.answers functions.now)) }
 {
     let first = half(alloc, first, frames, functions)?;
-    let second = half(alloc, second, frames, functions)?;
-    Ok(Value::of_halves(first, second))
+    paired(first, half(alloc, second, frames, functions))
+}
+
+/// The pair of two halves, or the fault in place of the second.
+fn paired(first: Rc<Value>, second: Result<Rc<Value>, EvalFault>) -> Result<Value, EvalFault>
+    ensures { (worth : Evaluated Data) → EvaluatesAs (λ half. half.value) second worth → Evaluates result (followed worth (λ b. worth_as (pair_data first.value b))) }
+{
+    Ok(Value::of_halves(first, second?))
 }
 
 /// What an operator makes of one code, or the first fault.
@@ -94,7 +127,9 @@ fn applied<F: Holds>(
     ensures { Evaluates result (worth_of (trees.applied operator (code_of part.now)) (frames_of frames.now) (F.answers functions.now)) }
 {
     let part = run(alloc, part, frames, functions)?;
-    operate_on(alloc, operator, &part)
+    let made = operate_on(alloc, operator, &part);
+    drop(part);
+    made
 }
 
 /// What an operator makes of two codes, or the first fault: the second is run where the first decides nothing.
@@ -112,29 +147,37 @@ fn operation<F: Holds>(
 {
     let left = run(alloc, left, frames, functions)?;
     match decide(operator, &left) {
-        Some(decided) => Ok(decided),
+        Some(decided) => {
+            drop(left);
+            Ok(decided)
+        }
         None => {
-            let right = run(alloc, right, frames, functions)?;
-            operate(alloc, operator, &left, &right)
+            let right = run(alloc, right, frames, functions);
+            operated(alloc, operator, left, right)
         }
     }
 }
 
-/// What arithmetic makes of two codes, or the first fault.
-#[cycle(run)]
+/// What an operator makes of two values, which are let go of, or the fault in place of the second.
 #[inline(always)]
-fn computed<F: Holds>(
+fn operated(
     alloc: Global,
-    left: &Code,
-    operator: Arithmetic,
-    right: &Code,
-    frames: &Frames,
-    functions: &F,
+    operator: Operator,
+    left: Value,
+    right: Result<Value, EvalFault>,
 ) -> Result<Value, EvalFault>
-    ensures { Evaluates result (worth_of (trees.operation (code_of left.now) (operators.Arithmetic operator) (code_of right.now)) (frames_of frames.now) (F.answers functions.now)) }
+    ensures { (worth : Evaluated Data) → Evaluates right worth → Evaluates result (followed worth (operated_value operator left)) }
 {
-    let number = arithmetic(alloc, left, operator, right, frames, functions)?;
-    Ok(Value::int(number))
+    let made = match right {
+        Ok(right) => {
+            let made = operate(alloc, operator, &left, &right);
+            drop(right);
+            made
+        }
+        Err(fault) => Err(fault),
+    };
+    drop(left);
+    made
 }
 
 /// The number that arithmetic makes of two codes, or the first fault: the number 0 of what is no number.
@@ -193,29 +236,28 @@ fn number_run<F: Holds>(
 {
     match code {
         Code::Operation(left, Operator::Arithmetic(operator), right) => {
-            counted(alloc, left, *operator, right, frames, functions)
+            let number = arithmetic(alloc, left, *operator, right, frames, functions);
+            counted(number)
         }
-        _ => {
-            let value = run(alloc, code, frames, functions)?;
-            Ok(number_in(&value))
-        }
+        _ => numeric(run(alloc, code, frames, functions)),
     }
 }
 
-/// What arithmetic makes of two codes, which is always a number, or the first fault.
-#[cycle(run)]
-fn counted<F: Holds>(
-    alloc: Global,
-    left: &Code,
-    operator: Arithmetic,
-    right: &Code,
-    frames: &Frames,
-    functions: &F,
-) -> Result<Option<i64>, EvalFault>
-    ensures { AnswersNumber result (worth_of (trees.operation (code_of left.now) (operators.Arithmetic operator) (code_of right.now)) (frames_of frames.now) (F.answers functions.now)) }
+/// The number that a value is, which is let go of, none where it is another value, or the fault in its place.
+fn numeric(value: Result<Value, EvalFault>) -> Result<Option<i64>, EvalFault>
+    ensures { (worth : Evaluated Data) → Evaluates value worth → AnswersNumber result worth }
 {
-    let number = arithmetic(alloc, left, operator, right, frames, functions)?;
-    Ok(Some(number))
+    let value = value?;
+    let number = number_in(&value);
+    drop(value);
+    Ok(number)
+}
+
+/// A number that is always there, or the fault in its place.
+fn counted(number: Result<i64, EvalFault>) -> Result<Option<i64>, EvalFault>
+    ensures { (worth : Evaluated Data) → EvaluatesAs (λ n. number_of n) number worth → AnswersNumber result worth }
+{
+    Ok(Some(number?))
 }
 
 /// The truth that code is worth, none where it is worth another value, or the first fault.
@@ -231,18 +273,25 @@ fn truth<F: Holds>(
     match code {
         Code::Constant(value) => Ok(is_true(value)),
         Code::Place(place) => Ok(truth_found(frames.at(place))),
-        Code::Applied(Unary::Not, part) => negated(alloc, part, frames, functions),
+        Code::Applied(Unary::Not, part) => negated(truth(alloc, part, frames, functions)),
         Code::Operation(left, Operator::Comparison(operator), right) => {
             compared(alloc, left, *operator, right, frames, functions)
         }
         Code::Operation(left, Operator::Logic(operator), right) => {
             combined(alloc, left, *operator, right, frames, functions)
         }
-        _ => {
-            let value = run(alloc, code, frames, functions)?;
-            Ok(is_true(&value))
-        }
+        _ => truthful(run(alloc, code, frames, functions)),
     }
+}
+
+/// The truth that a value is, which is let go of, none where it is another value, or the fault in its place.
+fn truthful(value: Result<Value, EvalFault>) -> Result<Option<bool>, EvalFault>
+    ensures { (worth : Evaluated Data) → Evaluates value worth → AnswersTruth result worth }
+{
+    let value = value?;
+    let truth = is_true(&value);
+    drop(value);
+    Ok(truth)
 }
 
 /// The truth that was found, if it is one.
@@ -256,17 +305,11 @@ fn truth_found(found: Found) -> Option<bool>
     }
 }
 
-/// The other truth than that of code, none where it is worth another value, or the first fault.
-#[cycle(run)]
-fn negated<F: Holds>(
-    alloc: Global,
-    part: &Code,
-    frames: &Frames,
-    functions: &F,
-) -> Result<Option<bool>, EvalFault>
-    ensures { AnswersTruth result (worth_of (trees.applied unaries.Not (code_of part.now)) (frames_of frames.now) (F.answers functions.now)) }
+/// The other truth than one, none where there is none, or the fault in its place.
+fn negated(truth: Result<Option<bool>, EvalFault>) -> Result<Option<bool>, EvalFault>
+    ensures { (worth : Evaluated Data) → AnswersTruth truth worth → AnswersTruth result (followed worth (unary_value unaries.Not)) }
 {
-    match truth(alloc, part, frames, functions)? {
+    match truth? {
         Some(truth) => Ok(Some(!truth)),
         None => Ok(None),
     }
@@ -286,15 +329,29 @@ fn compared<F: Holds>(
 {
     let left = run(alloc, left, frames, functions)?;
     match number_in(&left) {
-        Some(left) => match number(alloc, right, frames, functions)? {
-            Some(right) => Ok(Some(in_order(operator, left, right))),
-            None => Ok(None),
-        },
-        None => {
-            let right = run(alloc, right, frames, functions)?;
-            let ordered = operate(alloc, Operator::Comparison(operator), &left, &right)?;
-            Ok(is_true(&ordered))
+        Some(number_left) => {
+            drop(left);
+            let right = number(alloc, right, frames, functions);
+            ordered(operator, number_left, right)
         }
+        None => {
+            let right = run(alloc, right, frames, functions);
+            truthful(operated(alloc, Operator::Comparison(operator), left, right))
+        }
+    }
+}
+
+/// Whether two numbers stand in order as an operator says, none where the second is none, or the fault in its place.
+fn ordered(
+    operator: Comparison,
+    left: i64,
+    right: Result<Option<i64>, EvalFault>,
+) -> Result<Option<bool>, EvalFault>
+    ensures { (worth : Evaluated Data) → AnswersNumber right worth → AnswersTruth result (followed worth (operated_value (operators.Comparison operator) (number_of left))) }
+{
+    match right? {
+        Some(right) => Ok(Some(in_order(operator, left, right))),
+        None => Ok(None),
     }
 }
 
@@ -398,11 +455,13 @@ fn mapped<F: Holds>(
     ensures { Evaluates result (worth_of (trees.mapped (code_of part.now) mapping (code_of body.now)) (frames_of frames.now) (F.answers functions.now)) }
 {
     let part = run(alloc, part, frames, functions)?;
-    match mapping {
+    let made = match mapping {
         Mapping::Let => answer(alloc, body, &part, frames, functions),
         Mapping::Filter => filter(alloc, &part, body, frames, functions),
         Mapping::Map => map(alloc, &part, body, frames, functions),
-    }
+    };
+    drop(part);
+    made
 }
 
 /// The event, where a function is true of its payload, or the fault of the function.
@@ -417,12 +476,29 @@ fn filter<F: Holds>(
     ensures { Evaluates result (mapped_value mappings.Filter event.now (λ x. worth_of (code_of body.now) (x ∷ frames_of frames.now) (F.answers functions.now))) }
 {
     match payload_in(event) {
-        Some(Some(payload)) => match accepted(alloc, body, payload, frames, functions)? {
-            Some(true) => Ok(event.clone_in(alloc)?),
-            Some(false) => Ok(Value::no_event()),
-            None => Ok(Value::int(0)),
-        },
+        Some(Some(payload)) => {
+            kept(
+                alloc,
+                event,
+                accepted(alloc, body, payload, frames, functions),
+            )
+        }
         Some(None) => Ok(Value::no_event()),
+        None => Ok(Value::int(0)),
+    }
+}
+
+/// An event where it is accepted, or the fault in place of whether it is.
+fn kept(
+    alloc: Global,
+    event: &Value,
+    accepted: Result<Option<bool>, EvalFault>,
+) -> Result<Value, EvalFault>
+    ensures { (worth : Evaluated Data) → AnswersTruth accepted worth → Evaluates result (followed worth (λ b. known (truth_in b) (λ c. worth_as (cond c event.now no_event)))) }
+{
+    match accepted? {
+        Some(true) => copied(alloc, event),
+        Some(false) => Ok(Value::no_event()),
         None => Ok(Value::int(0)),
     }
 }
@@ -439,25 +515,17 @@ fn map<F: Holds>(
     ensures { Evaluates result (mapped_value mappings.Map event.now (λ x. worth_of (code_of body.now) (x ∷ frames_of frames.now) (F.answers functions.now))) }
 {
     match payload_in(event) {
-        Some(Some(payload)) => occurring(alloc, body, payload, frames, functions),
+        Some(Some(payload)) => occurring(alloc, answer(alloc, body, payload, frames, functions)),
         Some(None) => Ok(Value::no_event()),
         None => Ok(Value::int(0)),
     }
 }
 
-/// The event of what the code of a function is worth over a value, or the first fault.
-#[cycle(run)]
-fn occurring<F: Holds>(
-    alloc: Global,
-    body: &Code,
-    value: &Value,
-    frames: &Frames,
-    functions: &F,
-) -> Result<Value, EvalFault>
-    ensures { Evaluates result (mapped_payload (Some value.now) (λ x. worth_of (code_of body.now) (x ∷ frames_of frames.now) (F.answers functions.now))) }
+/// The event of a payload, or the fault in its place.
+fn occurring(alloc: Global, payload: Result<Value, EvalFault>) -> Result<Value, EvalFault>
+    ensures { (worth : Evaluated Data) → Evaluates payload worth → Evaluates result (followed worth (λ x. worth_as (event_data x))) }
 {
-    let made = answer(alloc, body, value, frames, functions)?;
-    Ok(Value::event(alloc, made)?)
+    Ok(Value::event(alloc, payload?)?)
 }
 
 /// What a form makes of two codes and a function, or the first fault.
@@ -495,11 +563,13 @@ fn matched<F: Holds>(
     ensures { Evaluates result (worth_of (trees.folded (code_of first.now) foldings.Match (code_of second.now) (code_of body.now)) (frames_of frames.now) (F.answers functions.now)) }
 {
     let first = run(alloc, first, frames, functions)?;
-    match payload_in(&first) {
+    let made = match payload_in(&first) {
         Some(Some(payload)) => answer(alloc, body, payload, frames, functions),
         Some(None) => run(alloc, second, frames, functions),
         None => Ok(Value::int(0)),
-    }
+    };
+    drop(first);
+    made
 }
 
 /// Two events made one, where both occur by a function of both payloads, or the first fault.
@@ -516,8 +586,18 @@ fn merged<F: Holds>(
     ensures { Evaluates result (worth_of (trees.folded (code_of first.now) foldings.Merge (code_of second.now) (code_of body.now)) (frames_of frames.now) (F.answers functions.now)) }
 {
     let first = run(alloc, first, frames, functions)?;
-    let second = run(alloc, second, frames, functions)?;
-    merge(alloc, &first, &second, body, frames, functions)
+    match run(alloc, second, frames, functions) {
+        Ok(second) => {
+            let made = merge(alloc, &first, &second, body, frames, functions);
+            drop(first);
+            drop(second);
+            made
+        }
+        Err(fault) => {
+            drop(first);
+            Err(fault)
+        }
+    }
 }
 
 /// The one of two events that occurs, or, where both do, that of what a function makes of both payloads, or its fault.
@@ -536,13 +616,15 @@ fn merge<F: Holds>(
         Some(Some(left)) => match payload_in(second) {
             Some(Some(right)) => {
                 let both = pair_of(left, right)?;
-                occurring(alloc, body, &both, frames, functions)
+                let made = answer(alloc, body, &both, frames, functions);
+                drop(both);
+                occurring(alloc, made)
             }
-            Some(None) => Ok(first.clone_in(alloc)?),
+            Some(None) => copied(alloc, first),
             None => Ok(Value::int(0)),
         },
         Some(None) => match payload_in(second) {
-            Some(_) => Ok(second.clone_in(alloc)?),
+            Some(_) => copied(alloc, second),
             None => Ok(Value::int(0)),
         },
         None => Ok(Value::int(0)),
@@ -570,11 +652,18 @@ fn fold<F: Holds>(
     ensures { Evaluates result (worth_of (trees.folded (code_of first.now) foldings.Fold (code_of second.now) (code_of body.now)) (frames_of frames.now) (F.answers functions.now)) }
 {
     let table = run(alloc, first, frames, functions)?;
-    let start = run(alloc, second, frames, functions)?;
-    match rows_in(&table) {
-        Some(rows) => fold_rows(alloc, rows, start, body, frames, functions),
-        None => Ok(Value::int(0)),
-    }
+    let made = match run(alloc, second, frames, functions) {
+        Ok(start) => match rows_in(&table) {
+            Some(rows) => fold_rows(alloc, rows, start, body, frames, functions),
+            None => {
+                drop(start);
+                Ok(Value::int(0))
+            }
+        },
+        Err(fault) => Err(fault),
+    };
+    drop(table);
+    made
 }
 
 /// What a function makes of a value and rows, one after the other, or the first fault.
@@ -593,8 +682,9 @@ fn fold_rows<F: Holds>(
     let mut rest = rows;
     while let [(key, value), after @ ..] = rest {
         let argument = with_row(alloc, so_far, key, value)?;
-        so_far = answer(alloc, body, &argument, frames, functions)?;
+        let made = answer(alloc, body, &argument, frames, functions);
         drop(argument);
+        so_far = made?;
         rest = after;
     }
     Ok(so_far)
@@ -621,7 +711,16 @@ fn called<F: Holds>(
     ensures { Evaluates result (worth_of (trees.called (function.now) (code_of part.now)) (frames_of frames.now) (F.answers functions.now)) }
 {
     let value = run(alloc, part, frames, functions)?;
-    match functions.call(alloc, function, &value) {
+    let answer = functions.call(alloc, function, &value);
+    drop(value);
+    answered(answer)
+}
+
+/// What a function answered, or its refusal as a fault.
+fn answered(answer: Result<Value, FunctionFault>) -> Result<Value, EvalFault>
+    ensures { (given : Option Data) → Applied given answer → Evaluates result (granted given) }
+{
+    match answer {
         Ok(answer) => Ok(answer),
         Err(FunctionFault::Refused) => Err(EvalFault::Value(ValueFault::Function)),
         Err(FunctionFault::Memory) => Err(EvalFault::Memory),
@@ -638,16 +737,29 @@ fn half<F: Holds>(
 ) -> Result<Rc<Value>, EvalFault>
     ensures { EvaluatesAs (λ half. half.value) result (worth_of (code_of code.now) (frames_of frames.now) (F.answers functions.now)) }
 {
-    let value = match code {
-        Code::Place(place) => match frames.at(place) {
-            Found::Half(shared) => return Ok(shared.clone()?),
-            found => found.value(alloc)?,
-        },
+    match code {
+        Code::Place(place) => found_half(alloc, frames.at(place)),
         Code::Operation(left, Operator::Arithmetic(operator), right) => {
-            let number = arithmetic(alloc, left, *operator, right, frames, functions)?;
-            Value::int(number)
+            let number = arithmetic(alloc, left, *operator, right, frames, functions);
+            half_of(alloc, computed(number))
         }
-        _ => run(alloc, code, frames, functions)?,
-    };
-    Ok(Rc::new(alloc, value)?)
+        _ => half_of(alloc, run(alloc, code, frames, functions)),
+    }
+}
+
+/// What was found, as a half of a pair: a half stays shared.
+fn found_half(alloc: Global, found: Found) -> Result<Rc<Value>, EvalFault>
+    ensures { EvaluatesAs (λ half. half.value) result (worth_as (found_value found.entry)) }
+{
+    match found {
+        Found::Half(shared) => Ok(shared.clone()?),
+        found => Ok(Rc::new(alloc, found.value(alloc)?)?),
+    }
+}
+
+/// A value as a half of a pair, or the fault in its place.
+fn half_of(alloc: Global, value: Result<Value, EvalFault>) -> Result<Rc<Value>, EvalFault>
+    ensures { (worth : Evaluated Data) → Evaluates value worth → EvaluatesAs (λ half. half.value) result worth }
+{
+    Ok(Rc::new(alloc, value?)?)
 }

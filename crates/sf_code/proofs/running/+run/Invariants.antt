@@ -54,9 +54,6 @@ decreases-filter g l = 8 * code_size (code_of l.body.now) + 5
 abbrev pub decreases-map : goal.decreases-map
 decreases-map g l = 8 * code_size (code_of l.body.now) + 5
 
-abbrev pub decreases-occurring : goal.decreases-occurring
-decreases-occurring g l = 8 * code_size (code_of l.body.now) + 4
-
 abbrev pub decreases-folded : goal.decreases-folded
 decreases-folded g l = 8 * (code_size (code_of l.first.now) + (code_size (code_of l.second.now) + code_size (code_of l.body.now))) + 7
 
@@ -69,23 +66,14 @@ invariant-fold_rows-loop-rest g l = record {
 abbrev pub decreases-fold_rows-loop-rest : goal.decreases-fold_rows-loop-rest
 decreases-fold_rows-loop-rest g l = length l.rest
 
-abbrev pub decreases-computed : goal.decreases-computed
-decreases-computed g l = 8 * (code_size (code_of l.left.now) + code_size (code_of l.right.now)) + 6
-
 abbrev pub decreases-arithmetic : goal.decreases-arithmetic
 decreases-arithmetic g l = 8 * (code_size (code_of l.left.now) + code_size (code_of l.right.now)) + 4
 
 abbrev pub decreases-number : goal.decreases-number
 decreases-number g l = 8 * code_size (code_of l.code.now) + 2
 
-abbrev pub decreases-counted : goal.decreases-counted
-decreases-counted g l = 8 * (code_size (code_of l.left.now) + code_size (code_of l.right.now)) + 6
-
 abbrev pub decreases-truth : goal.decreases-truth
 decreases-truth g l = 8 * code_size (code_of l.code.now) + 2
-
-abbrev pub decreases-negated : goal.decreases-negated
-decreases-negated g l = 8 * code_size (code_of l.part.now) + 4
 
 abbrev pub decreases-compared : goal.decreases-compared
 decreases-compared g l = 8 * (code_size (code_of l.left.now) + code_size (code_of l.right.now)) + 6
