@@ -425,22 +425,6 @@ fn answer<F: Holds>(
     run(alloc, body, &inner, &*functions)
 }
 
-/// Whether the code of a function is true of a value, with the frames around it, none where it is worth no truth, or the
-/// first fault.
-#[cycle(run)]
-fn accepted<F: Holds>(
-    alloc: Global,
-    body: &Code,
-    value: &Value,
-    frames: &Frames,
-    functions: &F,
-) -> Result<Option<bool>, EvalFault>
-    ensures { AnswersTruth result (worth_of (code_of body.now) (value.now ∷ frames_of frames.now) (F.answers functions.now)) }
-{
-    let inner = (&*frames).within(&*value);
-    truth(alloc, body, &inner, &*functions)
-}
-
 /// What a form makes of one code and a function, or the first fault.
 #[cycle(run)]
 #[inline(never)]
@@ -477,11 +461,8 @@ fn filter<F: Holds>(
 {
     match payload_in(event) {
         Some(Some(payload)) => {
-            kept(
-                alloc,
-                event,
-                accepted(alloc, body, payload, frames, functions),
-            )
+            let inner = (&*frames).within(&**payload);
+            kept(alloc, &*event, truth(alloc, body, &inner, &*functions))
         }
         Some(None) => Ok(Value::no_event()),
         None => Ok(Value::int(0)),
@@ -694,8 +675,27 @@ fn fold_rows<F: Holds>(
 fn with_row(alloc: Global, so_far: Value, key: &Key, value: &Value) -> Result<Value, AllocError>
     ensures { IfOk result (λ v. v ≡ pair_data so_far (pair_data (data_of_key (key_of key.now)) value.now)) }
 {
-    let row = Value::pair(alloc, value_of_key(key)?, value.clone_in(alloc)?)?;
-    Value::pair(alloc, so_far, row)
+    match row(alloc, key, value) {
+        Ok(row) => Value::pair(alloc, so_far, row),
+        Err(error) => {
+            drop(so_far);
+            Err(error)
+        }
+    }
+}
+
+/// A row of a table, as the pair of its key and its value.
+fn row(alloc: Global, key: &Key, value: &Value) -> Result<Value, AllocError>
+    ensures { IfOk result (λ v. v ≡ pair_data (data_of_key (key_of key.now)) value.now) }
+{
+    let key = value_of_key(key)?;
+    match value.clone_in(alloc) {
+        Ok(value) => Value::pair(alloc, key, value),
+        Err(error) => {
+            drop(key);
+            Err(error)
+        }
+    }
 }
 
 /// What a stored function answers to what code is worth, or the first fault.

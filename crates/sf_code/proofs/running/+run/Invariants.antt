@@ -81,8 +81,5 @@ decreases-compared g l = 8 * (code_size (code_of l.left.now) + code_size (code_o
 abbrev pub decreases-combined : goal.decreases-combined
 decreases-combined g l = 8 * (code_size (code_of l.left.now) + code_size (code_of l.right.now)) + 6
 
-abbrev pub decreases-accepted : goal.decreases-accepted
-decreases-accepted g l = 8 * code_size (code_of l.body.now) + 4
-
 abbrev pub decreases-number_run : goal.decreases-number_run
 decreases-number_run g l = 8 * code_size (code_of l.code.now) + 1
