@@ -108,6 +108,7 @@ fn pair<F: Holds>(
 }
 
 /// The pair of two halves, or the fault in place of the second.
+#[inline(always)]
 fn paired(first: Rc<Value>, second: Result<Rc<Value>, EvalFault>) -> Result<Value, EvalFault>
     ensures { (worth : Evaluated Data) → EvaluatesAs (λ half. half.value) second worth → Evaluates result (followed worth (λ b. worth_as (pair_data first.value b))) }
 {
@@ -244,6 +245,7 @@ fn number_run<F: Holds>(
 }
 
 /// The number that a value is, which is let go of, none where it is another value, or the fault in its place.
+#[inline(always)]
 fn numeric(value: Result<Value, EvalFault>) -> Result<Option<i64>, EvalFault>
     ensures { (worth : Evaluated Data) → Evaluates value worth → AnswersNumber result worth }
 {
@@ -254,6 +256,7 @@ fn numeric(value: Result<Value, EvalFault>) -> Result<Option<i64>, EvalFault>
 }
 
 /// A number that is always there, or the fault in its place.
+#[inline(always)]
 fn counted(number: Result<i64, EvalFault>) -> Result<Option<i64>, EvalFault>
     ensures { (worth : Evaluated Data) → EvaluatesAs (λ n. number_of n) number worth → AnswersNumber result worth }
 {
@@ -285,6 +288,7 @@ fn truth<F: Holds>(
 }
 
 /// The truth that a value is, which is let go of, none where it is another value, or the fault in its place.
+#[inline(always)]
 fn truthful(value: Result<Value, EvalFault>) -> Result<Option<bool>, EvalFault>
     ensures { (worth : Evaluated Data) → Evaluates value worth → AnswersTruth result worth }
 {
@@ -306,6 +310,7 @@ fn truth_found(found: Found) -> Option<bool>
 }
 
 /// The other truth than one, none where there is none, or the fault in its place.
+#[inline(always)]
 fn negated(truth: Result<Option<bool>, EvalFault>) -> Result<Option<bool>, EvalFault>
     ensures { (worth : Evaluated Data) → AnswersTruth truth worth → AnswersTruth result (followed worth (unary_value unaries.Not)) }
 {
@@ -342,6 +347,7 @@ fn compared<F: Holds>(
 }
 
 /// Whether two numbers stand in order as an operator says, none where the second is none, or the fault in its place.
+#[inline(always)]
 fn ordered(
     operator: Comparison,
     left: i64,
@@ -470,6 +476,7 @@ fn filter<F: Holds>(
 }
 
 /// An event where it is accepted, or the fault in place of whether it is.
+#[inline(always)]
 fn kept(
     alloc: Global,
     event: &Value,
@@ -503,6 +510,7 @@ fn map<F: Holds>(
 }
 
 /// The event of a payload, or the fault in its place.
+#[inline(always)]
 fn occurring(alloc: Global, payload: Result<Value, EvalFault>) -> Result<Value, EvalFault>
     ensures { (worth : Evaluated Data) → Evaluates payload worth → Evaluates result (followed worth (λ x. worth_as (event_data x))) }
 {
@@ -717,6 +725,7 @@ fn called<F: Holds>(
 }
 
 /// What a function answered, or its refusal as a fault.
+#[inline(always)]
 fn answered(answer: Result<Value, FunctionFault>) -> Result<Value, EvalFault>
     ensures { (given : Option Data) → Applied given answer → Evaluates result (granted given) }
 {
@@ -748,6 +757,7 @@ fn half<F: Holds>(
 }
 
 /// What was found, as a half of a pair: a half stays shared.
+#[inline(always)]
 fn found_half(alloc: Global, found: Found) -> Result<Rc<Value>, EvalFault>
     ensures { EvaluatesAs (λ half. half.value) result (worth_as (found_value found.entry)) }
 {
@@ -758,6 +768,7 @@ fn found_half(alloc: Global, found: Found) -> Result<Rc<Value>, EvalFault>
 }
 
 /// A value as a half of a pair, or the fault in its place.
+#[inline(always)]
 fn half_of(alloc: Global, value: Result<Value, EvalFault>) -> Result<Rc<Value>, EvalFault>
     ensures { (worth : Evaluated Data) → Evaluates value worth → EvaluatesAs (λ half. half.value) result worth }
 {
