@@ -108,9 +108,7 @@ impl<N: Copy> Arena<N> {
         ensures { IfOk result (λ copy. entries_of copy ≡ entries_of self.now) }
     {
         let mut entries = Vec::new(alloc);
-        for entry in &self.entries {
-            entries.push(*entry)?;
-        }
+        entries.extend_from_slice(&self.entries)?;
         Ok(Arena { entries })
     }
 }

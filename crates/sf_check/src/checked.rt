@@ -17,7 +17,6 @@ use sf_term::{Program, Template, TermId};
 use sf_value::Ty;
 
 /// An accepted network.
-#[derive(Drop)]
 pub struct Checked {
     pub(crate) program: Program,
     pub(crate) functions: Signatures,
@@ -26,6 +25,20 @@ pub struct Checked {
     ghost accepted: { ∥ Accepted (signatures_in functions) (templates_of program) ∥₁ },
     ghost named: { names_of_set names ≡ program_names program },
     ghost main_found: { position (bytes_eq (codes "main")) (program_names program) ≡ Some main },
+}
+
+impl Drop for Checked {
+    fn drop(self) {
+        let Checked {
+            program,
+            functions,
+            names,
+            main: _,
+        } = self;
+        drop(program);
+        drop(functions);
+        drop(names);
+    }
 }
 
 impl Checked {

@@ -74,7 +74,6 @@ pub enum EngineError {
 /// come to can be kept under names, and returned to.
 ///
 /// It keeps the allocator that it was made with.
-#[derive(Drop)]
 pub struct Engine<F: Holds> {
     alloc: Global,
     plan: Plan,
@@ -86,6 +85,28 @@ pub struct Engine<F: Holds> {
     stopped: Option<Fault>,
     saves: IndexMap<String, Save>,
     ghost within: { time ≤ 4000000000000000 },
+}
+
+impl<F: Holds + Drop> Drop for Engine<F> {
+    fn drop(self) {
+        let Engine {
+            alloc: _,
+            plan,
+            functions,
+            input,
+            state,
+            time: _,
+            last,
+            stopped: _,
+            saves,
+        } = self;
+        drop(plan);
+        drop(functions);
+        drop(input);
+        drop(state);
+        drop(last);
+        drop(saves);
+    }
 }
 
 const LONGEST_STEP: u64 = 3_600_000;

@@ -10,9 +10,15 @@ use std::alloc::{AllocError, Global};
 use std::marker::Model;
 
 /// A literal that stands beside an arena: a text, or no event.
-#[derive(Drop)]
 pub struct Constant {
     form: ConstantForm,
+}
+
+impl Drop for Constant {
+    fn drop(self) {
+        let Constant { form } = self;
+        drop(form);
+    }
 }
 
 /// What a constant is.

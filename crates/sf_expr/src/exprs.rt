@@ -68,7 +68,6 @@ pub enum ExprNode {
 
 /// Expressions, of at most 100,000 nodes, of which at most 64 stand one inside another, with their names,
 /// constants and patterns, and functions of them.
-#[derive(Drop)]
 pub struct Exprs {
     arena: Arena<ExprNode>,
     names: Vec<StoredName>,
@@ -83,6 +82,27 @@ pub struct Exprs {
     ghost closed: { AreFunctions (length (entries_of arena)) functions.items },
     ghost nothing: { unnamed ≡ placed_unnamed },
     ghost none: { absent ≡ none_of_unit },
+}
+
+impl Drop for Exprs {
+    fn drop(self) {
+        let Exprs {
+            arena,
+            names,
+            constants,
+            patterns,
+            functions,
+            unnamed,
+            absent,
+        } = self;
+        drop(arena);
+        drop(names);
+        drop(constants);
+        drop(patterns);
+        drop(functions);
+        drop(unnamed);
+        drop(absent);
+    }
 }
 
 impl Exprs {

@@ -9,10 +9,17 @@ use std::alloc::{AllocError, Global};
 use std::marker::Model;
 
 /// A pattern, with the places of its names.
-#[derive(Drop)]
 #[cycle(pat)]
 pub struct Pat {
     form: PatForm,
+}
+
+impl Drop for Pat {
+    #[cycle(pat)]
+    fn drop(self) {
+        let Pat { form } = self;
+        drop(form);
+    }
 }
 
 /// What a pattern is made of.

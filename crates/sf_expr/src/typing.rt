@@ -29,9 +29,15 @@ use std::alloc::{AllocError, Global};
 
 /// The names around an expression, the innermost last: those that stand for values with their types, and others, which
 /// stand for none.
-#[derive(Drop)]
 pub struct TypeScope<'a> {
     names: SmallVec<Option<TypedName<'a>>, 4>,
+}
+
+impl<'a> Drop for TypeScope<'a> {
+    fn drop(self) {
+        let TypeScope { names } = self;
+        drop(names);
+    }
 }
 
 impl<'a> TypeScope<'a> {

@@ -1,5 +1,5 @@
 -- The types of functions without the functions.
-use Rattle.std.specs.Prelude.{List, map, string_bytes}
+use Rattle.std.specs.Prelude.{map, string_bytes}
 use Rattle.sf_value.specs.Values.{Name}
 use Rattle.sf_func.specs.Registries.{FunctionTypes, TypesByName, types_shown}
 use Rattle.sf_func.specs.declared.signatures.Signature.{Signature}

@@ -14,17 +14,31 @@ use std::alloc::{AllocError, Global};
 use thiserror::Error;
 
 /// A function with its types.
-#[derive(Drop)]
 pub struct Entry {
     from: Ty,
     to: Ty,
     function: Box<dyn Function>,
 }
 
+impl Drop for Entry {
+    fn drop(self) {
+        let Entry { from, to, function } = self;
+        drop(from);
+        drop(to);
+        drop(function);
+    }
+}
+
 /// Functions by name, at most 256, in the order in which they were added.
-#[derive(Drop)]
 pub struct Registry {
     entries: IndexMap<String, Entry>,
+}
+
+impl Drop for Registry {
+    fn drop(self) {
+        let Registry { entries } = self;
+        drop(entries);
+    }
 }
 
 /// Why a function is not added, in the order in which the causes are looked at.
@@ -129,7 +143,10 @@ impl Entry {
     fn into_function(self) -> Box<dyn Function>
         ensures { result ≡ self.function }
     {
-        self.function
+        let Entry { from, to, function } = self;
+        drop(from);
+        drop(to);
+        function
     }
 
     /// What it answers to an argument. The error is its refusal, or `Memory`.

@@ -6,11 +6,19 @@ ghost use Rattle.sf_func.specs.Signatures.{signature_types, signatures_in};
 use sf_value::Ty;
 
 /// The types of a function, with its name.
-#[derive(Drop)]
 pub struct Signature {
     pub(crate) name: String,
     pub(crate) from: Ty,
     pub(crate) to: Ty,
+}
+
+impl Drop for Signature {
+    fn drop(self) {
+        let Signature { name, from, to } = self;
+        drop(name);
+        drop(from);
+        drop(to);
+    }
 }
 
 impl Signature {
@@ -30,9 +38,15 @@ impl Signature {
 }
 
 /// The types of functions by name, without the functions.
-#[derive(Drop)]
 pub struct Signatures {
     pub(crate) entries: Vec<Signature>,
+}
+
+impl Drop for Signatures {
+    fn drop(self) {
+        let Signatures { entries } = self;
+        drop(entries);
+    }
 }
 
 impl Signatures {

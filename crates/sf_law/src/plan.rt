@@ -18,7 +18,6 @@ use sf_value::Ty;
 use std::alloc::{AllocError, Global};
 
 /// The network that is run: its terms with their expressions and functions, its templates, and the term that is run.
-#[derive(Drop)]
 pub struct Plan {
     expressions: Exprs,
     nodes: Vec<PlanNode>,
@@ -32,6 +31,26 @@ pub struct Plan {
     ghost numbered: { NumbersFirst numbers templates.items },
     ghost same: { identity ≡ primitive_node (bare_node identity_form) },
     ghost nothing: { absent ≡ no_header },
+}
+
+impl Drop for Plan {
+    fn drop(self) {
+        let Plan {
+            expressions,
+            nodes,
+            templates,
+            numbers,
+            main: _,
+            identity,
+            absent,
+        } = self;
+        drop(expressions);
+        drop(nodes);
+        drop(templates);
+        drop(numbers);
+        drop(identity);
+        drop(absent);
+    }
 }
 
 impl Plan {

@@ -60,13 +60,28 @@ impl PlanParameter {
 }
 
 /// A template of a plan: its name, its parameters, the types of its header and the term of its body.
-#[derive(Drop)]
 pub struct PlanTemplate {
     name: String,
     parameters: Vec<PlanParameter>,
     input: Ty,
     output: Ty,
     body: PlanId,
+}
+
+impl Drop for PlanTemplate {
+    fn drop(self) {
+        let PlanTemplate {
+            name,
+            parameters,
+            input,
+            output,
+            body: _,
+        } = self;
+        drop(name);
+        drop(parameters);
+        drop(input);
+        drop(output);
+    }
 }
 
 impl Model for PlanTemplate {

@@ -18,7 +18,6 @@ const MOST_HEIGHT: u64 = 1600;
 pub struct Stop;
 
 /// Counts the nodes that one sample enters, and keeps what its probes record and its fault.
-#[derive(Drop)]
 pub struct Meter {
     entered: u64,
     height: u64,
@@ -26,6 +25,18 @@ pub struct Meter {
     readings: Readings,
     ghost few: { entered ≤ 1000000 },
     ghost low: { height ≤ 1600 },
+}
+
+impl Drop for Meter {
+    fn drop(self) {
+        let Meter {
+            entered: _,
+            height: _,
+            fault: _,
+            readings,
+        } = self;
+        drop(readings);
+    }
 }
 
 impl Meter {

@@ -26,7 +26,6 @@ use std::mem;
 use std::rc::Rc;
 
 /// A primitive that has lived through some samples.
-#[derive(Drop)]
 pub enum PrimState {
     /// `identity`.
     Identity,
@@ -56,6 +55,27 @@ pub enum PrimState {
     Now(Value),
     /// `hold e`, with the last payload, or the value of `e` where there was none.
     Hold(Value),
+}
+
+impl Drop for PrimState {
+    fn drop(self) {
+        match self {
+            PrimState::Identity => {}
+            PrimState::Never => {}
+            PrimState::Constant(value) => drop(value),
+            PrimState::Previous(value) => drop(value),
+            PrimState::Arrow(code) => drop(code),
+            PrimState::Accumulated(accumulator) => drop(accumulator),
+            PrimState::Clock(_) => {}
+            PrimState::Area(_) => {}
+            PrimState::Timed(timer) => drop(timer),
+            PrimState::Edge(_) => {}
+            PrimState::NotYet(_) => {}
+            PrimState::Count(_) => {}
+            PrimState::Now(value) => drop(value),
+            PrimState::Hold(value) => drop(value),
+        }
+    }
 }
 
 impl PrimState {

@@ -15,10 +15,16 @@ use std::mem;
 /// The last reading of each name among those that were noted.
 ///
 /// It keeps the allocator that it was made with.
-#[derive(Drop)]
 pub struct Latest {
     alloc: Global,
     values: IndexMap<String, Value>,
+}
+
+impl Drop for Latest {
+    fn drop(self) {
+        let Latest { alloc: _, values } = self;
+        drop(values);
+    }
 }
 
 impl Latest {

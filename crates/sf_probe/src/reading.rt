@@ -16,9 +16,15 @@ pub struct Reading {
 }
 
 /// Readings in order.
-#[derive(Drop)]
 pub struct Readings {
     items: Vec<Reading>,
+}
+
+impl Drop for Readings {
+    fn drop(self) {
+        let Readings { items } = self;
+        drop(items);
+    }
 }
 
 impl Reading {

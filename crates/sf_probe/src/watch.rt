@@ -5,10 +5,16 @@ ghost use Rattle.std.specs.Str.{bytes_eq};
 ghost use Rattle.sf_probe.specs.Watching.{watched, Wants};
 
 /// All probes, or those of some names.
-#[derive(Drop)]
 pub struct Watch {
     // none: all of them
     names: Option<Vec<String>>,
+}
+
+impl Drop for Watch {
+    fn drop(self) {
+        let Watch { names } = self;
+        drop(names);
+    }
 }
 
 impl Watch {

@@ -19,7 +19,6 @@ use std::alloc::{AllocError, Global};
 use std::rc::Rc;
 
 /// What names stand for, the innermost first.
-#[derive(Drop)]
 #[cycle(state)]
 pub enum Env {
     /// No names.
@@ -28,6 +27,17 @@ pub enum Env {
     Bound(Rc<Binding>),
     /// That of a process, and those around it. They may be shared.
     Running(Rc<Running>),
+}
+
+impl Drop for Env {
+    #[cycle(state)]
+    fn drop(self) {
+        match self {
+            Env::Empty => {}
+            Env::Bound(binding) => drop(binding),
+            Env::Running(running) => drop(running),
+        }
+    }
 }
 
 /// The names of a pattern that is bound to a value.

@@ -9,11 +9,18 @@ use std::mem;
 use std::rc::Rc;
 
 /// The value that a `loopPre` feeds its part with next, beside the input.
-#[derive(Drop)]
 pub struct Feedback {
     next: Rc<Value>,
     // a node for the next input, which takes the place of a new one
     room: Option<Rc<Value>>,
+}
+
+impl Drop for Feedback {
+    fn drop(self) {
+        let Feedback { next, room } = self;
+        drop(next);
+        drop(room);
+    }
 }
 
 impl Model for Feedback {

@@ -23,7 +23,6 @@ use std::mem;
 use std::rc::Rc;
 
 /// A part of a network, before its first sample or after it. It is whole in itself.
-#[derive(Drop)]
 #[cycle(state)]
 pub enum State {
     /// It hasn't been stepped.
@@ -40,8 +39,30 @@ pub enum State {
     Frozen(Rc<Frozen>),
 }
 
+impl Drop for State {
+    #[cycle(state)]
+    fn drop(self) {
+        match self {
+            State::Unborn(process) => drop(process),
+            State::Primitive(prim) => drop(prim),
+            State::Live(names, node) => {
+                drop(names);
+                drop(node);
+            }
+            State::Switch(names, node) => {
+                drop(names);
+                drop(node);
+            }
+            State::Keeping(names, node) => {
+                drop(names);
+                drop(node);
+            }
+            State::Frozen(node) => drop(node),
+        }
+    }
+}
+
 /// A switch that waits for an event: what runs until then, and the body that runs from then on inside a pattern.
-#[derive(Drop)]
 #[cycle(state)]
 pub struct Switch {
     /// Where its events stand, and whose value shows at one.
@@ -54,8 +75,20 @@ pub struct Switch {
     pub body: PlanId,
 }
 
+impl Drop for Switch {
+    #[cycle(state)]
+    fn drop(self) {
+        let Switch {
+            form: _,
+            running,
+            pattern: _,
+            body: _,
+        } = self;
+        drop(running);
+    }
+}
+
 /// A switch that waits for an event, and then hands its body what ran until then, frozen.
-#[derive(Drop)]
 #[cycle(state)]
 pub struct Keeping {
     /// Whose value shows at the event.
@@ -74,6 +107,25 @@ pub struct Keeping {
     pub pattern: PatternId,
     /// The body.
     pub body: PlanId,
+}
+
+impl Drop for Keeping {
+    #[cycle(state)]
+    fn drop(self) {
+        let Keeping {
+            shown: _,
+            first: _,
+            source,
+            before,
+            observer,
+            name: _,
+            pattern: _,
+            body: _,
+        } = self;
+        drop(source);
+        drop(before);
+        drop(observer);
+    }
 }
 
 /// A part that was frozen after some samples.
@@ -103,7 +155,6 @@ pub enum Kept {
 }
 
 /// A part that has lived and is no primitive, by its form.
-#[derive(Drop)]
 #[cycle(state)]
 pub enum Live {
     /// A probe, with its name, which what it records shares.
@@ -116,8 +167,25 @@ pub enum Live {
     Wrap(Wrap, State),
 }
 
+impl Drop for Live {
+    #[cycle(state)]
+    fn drop(self) {
+        match self {
+            Live::Probe(name) => drop(name),
+            Live::Join(_, left, right) => {
+                drop(left);
+                drop(right);
+            }
+            Live::Pipeline(stages) => drop(stages),
+            Live::Wrap(wrap, part) => {
+                drop(wrap);
+                drop(part);
+            }
+        }
+    }
+}
+
 /// A form with one part, with what it keeps.
-#[derive(Drop)]
 pub enum Wrap {
     /// `first`.
     First,
@@ -129,14 +197,32 @@ pub enum Wrap {
     Initialized(Option<Value>),
 }
 
+impl Drop for Wrap {
+    fn drop(self) {
+        match self {
+            Wrap::First => {}
+            Wrap::Second => {}
+            Wrap::Loop(feedback) => drop(feedback),
+            Wrap::Initialized(first) => drop(first),
+        }
+    }
+}
+
 /// What can be run: a term with the names around it.
-#[derive(Drop)]
 #[cycle(state)]
 pub struct Process {
     /// The term.
     pub term: PlanId,
     /// What the names around it stand for.
     pub names: Env,
+}
+
+impl Drop for Process {
+    #[cycle(state)]
+    fn drop(self) {
+        let Process { term: _, names } = self;
+        drop(names);
+    }
 }
 
 impl State {

@@ -39,9 +39,7 @@ impl StoredArguments {
         ensures { IfOk result (λ copy. copy ≡ self.now) }
     {
         let mut items = Vec::new(alloc);
-        for item in &self.items {
-            items.push(*item)?;
-        }
+        items.extend_from_slice(&self.items)?;
         Ok(StoredArguments::new(items))
     }
 }

@@ -31,7 +31,6 @@ use std::alloc::{AllocError, Global};
 
 /// Terms, with their expressions and functions, and templates: at most 100,000 terms and 100,000 expressions, of which
 /// at most 64 stand one inside another.
-#[derive(Drop)]
 pub struct Program {
     expressions: Exprs,
     terms: Arena<Node>,
@@ -39,6 +38,21 @@ pub struct Program {
     templates: Vec<Template>,
     ghost arena: { AreTerms (record { expressions = expressions; arguments = arguments.items }) (entries_of terms) },
     ghost bodies: { bodies_end templates.items ≤ length (entries_of terms) },
+}
+
+impl Drop for Program {
+    fn drop(self) {
+        let Program {
+            expressions,
+            terms,
+            arguments,
+            templates,
+        } = self;
+        drop(expressions);
+        drop(terms);
+        drop(arguments);
+        drop(templates);
+    }
 }
 
 impl Program {

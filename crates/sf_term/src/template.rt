@@ -9,11 +9,22 @@ use std::alloc::{AllocError, Global};
 use std::marker::Model;
 
 /// A parameter of a template: its name, and what it stands for.
-#[derive(Drop)]
 pub struct Parameter {
     name: String,
     spot: Spot,
     form: ParameterForm,
+}
+
+impl Drop for Parameter {
+    fn drop(self) {
+        let Parameter {
+            name,
+            spot: _,
+            form,
+        } = self;
+        drop(name);
+        drop(form);
+    }
 }
 
 /// What a parameter stands for.
@@ -107,7 +118,6 @@ fn clone_parameters(alloc: Global, parameters: &[Parameter]) -> Result<Vec<Param
 }
 
 /// A template: its name, its parameters, the types of its header and the term of its body.
-#[derive(Drop)]
 pub struct Template {
     name: String,
     spot: Spot,
@@ -115,6 +125,23 @@ pub struct Template {
     input: Ty,
     output: Ty,
     body: TermId,
+}
+
+impl Drop for Template {
+    fn drop(self) {
+        let Template {
+            name,
+            spot: _,
+            parameters,
+            input,
+            output,
+            body: _,
+        } = self;
+        drop(name);
+        drop(parameters);
+        drop(input);
+        drop(output);
+    }
 }
 
 impl Model for Template {

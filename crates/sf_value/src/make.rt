@@ -98,15 +98,6 @@ impl Value {
         &self.form
     }
 
-    /// What the value is made of, taken out of it.
-    pub fn into_form(self) -> Form
-        ensures data { data_of result ≡ self }
-        ensures proper { IsProper self }
-        ensures indexed { IsIndexed result }
-    {
-        self.form
-    }
-
     /// A copy of the value, which shares what it is made of. It takes no memory, however large the value is.
     pub fn clone_in(&self, _alloc: Global) -> Result<Value, AllocError>
         ensures { IfOk result (λ v. v ≡ self.now) }

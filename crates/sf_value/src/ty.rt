@@ -40,10 +40,18 @@ pub enum KeyType {
 /// A type of values, made of at most 256 types.
 ///
 /// What it is made of is shared: a copy of a type copies no content.
-#[derive(Drop)]
 #[cycle(ty)]
 pub struct Ty {
     pub(crate) form: TyForm,
+}
+
+// Written out, so that the crates above let go of a type by one call.
+impl Drop for Ty {
+    #[cycle(ty)]
+    fn drop(self) {
+        let Ty { form } = self;
+        drop(form);
+    }
 }
 
 /// What a type is made of.
@@ -192,7 +200,8 @@ impl Ty {
         ensures kind { kind_of result ≡ self }
         ensures small { nodes self ≤ 256 }
     {
-        self.form
+        let Ty { form } = self;
+        form
     }
 
     /// The types of the two parts, where it is a type of pairs.

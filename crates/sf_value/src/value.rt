@@ -6,10 +6,33 @@ use std::rc::Rc;
 /// A value, whose numbers are within signed 64 bits and whose tables have different keys.
 ///
 /// What a text, a pair, an event or a table holds is shared: a copy of a value copies no content.
-#[derive(Drop)]
 #[cycle(value)]
 pub struct Value {
     pub(crate) form: Form,
+}
+
+impl Value {
+    ghost use Rattle.std.specs.Prelude.{◌≡◌};
+    ghost use Rattle.sf_value.specs.View.{data_of, IsProper, IsIndexed};
+
+    /// What the value is made of, taken out of it.
+    pub fn into_form(self) -> Form
+        ensures data { data_of result ≡ self }
+        ensures proper { IsProper self }
+        ensures indexed { IsIndexed result }
+    {
+        let Value { form } = self;
+        form
+    }
+}
+
+// Written out, so that the crates above let go of a value by one call.
+impl Drop for Value {
+    #[cycle(value)]
+    fn drop(self) {
+        let Value { form } = self;
+        drop(form);
+    }
 }
 
 /// What a value is made of.
@@ -44,12 +67,21 @@ pub struct Table {
 }
 
 /// A key of a table.
-#[derive(PartialEq, Eq, Hash, Drop)]
+#[derive(PartialEq, Eq, Hash)]
 pub enum Key {
     /// A whole number.
     Int(i64),
     /// A text.
     Text(Rc<String>),
+}
+
+impl Drop for Key {
+    fn drop(self) {
+        match self {
+            Key::Int(_) => {}
+            Key::Text(text) => drop(text),
+        }
+    }
 }
 
 impl Model for Value {

@@ -24,5 +24,5 @@ returns-clause-err c =
     let p = c.args.program.now in
     let fs = signatures_in c.args.functions.now in
     let under = c.in_ok-context.ensures.context ∙ ap (λ (qs : List PlacedParameter). context_of fs (parameters_of qs) (templates_of p)) c.parameters.ensures in
-    header_refused fs p c.args.template.now c.body.result c.spot.result _ _ _ _ c.body.ensures (c.spot.ensures ∙ ap (term_spot_at p) (c.body-else-same_type.ensures ∙ sym c.body.ensures)) c.input-input.ensures c.output-2.ensures
+    header_refused fs p c.args.template.now c.body.result c.spot.result _ _ _ _ c.body.ensures (c.spot.ensures ∙ ap (term_spot_at p) (c.body-else-same_type.ensures ∙ sym c.body.ensures)) c.input-input.ensures c.output.ensures
     (answers_under _ p _ _ _ _ (Ok _) c.in_ok-context.ensures.program under c.in_ok-output.ensures) (λ e. true≢false (sym (c.if-same_type.ensures.1 e))) c.broken.ensures

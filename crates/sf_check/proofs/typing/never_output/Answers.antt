@@ -15,4 +15,4 @@ returns-in-NoEvent c =
 pub returns-in-Text : goal.returns-in-Text
 returns-in-Text c =
     never_answers (expressions_of c.args.context.now.program.now) (context_in c.args.context.now) c.args.constant _ _ _ _
-    (c.unit.ensures ∙ ap absent_payload (ap constant_of (sym c.in-Text.is) ∙ c.form.ensures.form ∙ c.constant_at-constant.ensures ∙ ap (λ x. literal_at x c.args.constant) c.expressions.ensures)) c.event_type-in-Text-2.ensures
+    (c.unit.ensures ∙ ap absent_payload (ap constant_of (sym c.in-Text.is) ∙ c.form.ensures.form ∙ c.constant_at-constant.ensures ∙ ap (λ x. literal_at x c.args.constant) c.expressions.ensures)) c.event_type-in-Text.ensures
