@@ -58,6 +58,7 @@ pub enum PrimState {
 }
 
 impl Drop for PrimState {
+    #[inline(always)]
     fn drop(self) {
         match self {
             PrimState::Identity => {}

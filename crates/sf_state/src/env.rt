@@ -31,6 +31,7 @@ pub enum Env {
 
 impl Drop for Env {
     #[cycle(state)]
+    #[inline(always)]
     fn drop(self) {
         match self {
             Env::Empty => {}

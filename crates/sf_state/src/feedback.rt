@@ -16,6 +16,7 @@ pub struct Feedback {
 }
 
 impl Drop for Feedback {
+    #[inline]
     fn drop(self) {
         let Feedback { next, room } = self;
         drop(next);

@@ -41,6 +41,7 @@ pub enum State {
 
 impl Drop for State {
     #[cycle(state)]
+    #[inline]
     fn drop(self) {
         match self {
             State::Unborn(process) => drop(process),
@@ -219,6 +220,7 @@ pub struct Process {
 
 impl Drop for Process {
     #[cycle(state)]
+    #[inline]
     fn drop(self) {
         let Process { term: _, names } = self;
         drop(names);

@@ -29,6 +29,7 @@ impl Value {
 // Written out, so that the crates above let go of a value by one call.
 impl Drop for Value {
     #[cycle(value)]
+    #[inline(always)]
     fn drop(self) {
         let Value { form } = self;
         drop(form);
@@ -76,6 +77,7 @@ pub enum Key {
 }
 
 impl Drop for Key {
+    #[inline(always)]
     fn drop(self) {
         match self {
             Key::Int(_) => {}
