@@ -6,6 +6,7 @@ ghost use Rattle.sf_code.specs.PlaceView.{path_of, place_of};
 ghost use Rattle.sf_code.specs.FrameView.{frames_of, found_value};
 
 use crate::place::{Half, Path, Place};
+use sf_operator::number_in;
 use sf_value::{Form, Value};
 use std::alloc::{AllocError, Global};
 use std::rc::Rc;
@@ -139,15 +140,5 @@ fn part_within<'a>(whole: Found<'a>, path: &Path) -> Found<'a>
     match path {
         Path::Whole => whole,
         Path::Half(half, path) => part_within(whole.half(*half), path),
-    }
-}
-
-/// The number that a value is, if it is one.
-pub(crate) fn number_in(value: &Value) -> Option<i64>
-    ensures { result ≡ a_number_in value.now }
-{
-    match value.form() {
-        Form::Int(number) => Some(*number),
-        _ => None,
     }
 }

@@ -21,11 +21,11 @@ ghost use Rattle.sf_operator.specs.FunctionForms.{mapped_value, folded_value, fo
 ghost use Rattle.sf_operator.specs.declared.operator.Mapping.TheVariants as mappings;
 
 use crate::code::Code;
-use crate::frames::{Found, Frames, number_in};
+use crate::frames::{Found, Frames};
 use sf_func::{FunctionFault, Holds};
 use sf_operator::{
-    Arithmetic, Comparison, EvalFault, Folding, Logic, Mapping, Operator, Unary, calculate, decide,
-    is_true, operate, operate_on, payload_in, rows_in, value_of_key,
+    Arithmetic, Comparison, EvalFault, Folding, Logic, Mapping, Operator, Unary, calculate, copied,
+    decide, is_true, number_in, operate, operate_on, payload_in, rows_in, value_of_key,
 };
 use sf_value::{Key, Value, ValueFault};
 use std::alloc::{AllocError, Global};
@@ -65,14 +65,6 @@ pub(crate) fn run<F: Holds>(
         }
         Code::Called(function, part) => { called(alloc, function, part, frames, functions) }
     }
-}
-
-/// A copy of a value, which takes no memory.
-#[inline(always)]
-fn copied(alloc: Global, value: &Value) -> Result<Value, EvalFault>
-    ensures { Evaluates result (worth_as value.now) }
-{
-    Ok(value.clone_in(alloc)?)
 }
 
 /// What was found.

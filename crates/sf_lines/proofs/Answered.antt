@@ -7,9 +7,9 @@ use Rattle.std.specs.Str.Parse.{digits_value}
 use Rattle.std.proofs.lemmas.Bool.{eqb-true, eqb-false}
 use Rattle.sf_value.specs.Values.{Kind, Data}
 use Rattle.sf_decimal.specs.Decimals.{natural, digits_at, after_digits}
-use Rattle.sf_value.specs.Reading.{Refusal, Reads}
-use Rattle.sf_value.specs.Scan.{value_at}
-use Rattle.sf_value.proofs.Settled.{answer, reads}
+use Rattle.sf_spelling.specs.Reading.{Refusal, Reads}
+use Rattle.sf_spelling.specs.Scan.{value_at}
+use Rattle.sf_spelling.proofs.Settled.{answer, reads}
 use Rattle.sf_lines.specs.declared.refusal.LineRefusal.{LineRefusal}
 use Rattle.sf_lines.specs.declared.refusal.LineRefusal.TheVariants.{BadLine, NotStarted}
 use Rattle.sf_lines.specs.Asking.{LineForm, blank, sampled, repeated, saving, returning, HasForm, empty, comment, with_value, unchanged, with_save, with_back, Asked, nothing, advance, save, back, step_refusal, value_refusal, asked_at, Says, formless, silent, untimely, unread, read, again, keeps, returns}

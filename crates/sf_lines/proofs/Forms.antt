@@ -3,9 +3,9 @@ use Rattle.std.proofs.Common.{◌≡◌, ◌≢◌, ℕ, ◌<◌, ◌≤◌, Boo
 use Rattle.std.proofs.lemmas.List.{append_cancel_left}
 use Rattle.sf_value.specs.Values.{Kind, Data}
 use Rattle.sf_decimal.specs.Decimals.{natural}
-use Rattle.sf_value.specs.Reading.{Refusal, Reads}
+use Rattle.sf_spelling.specs.Reading.{Refusal, Reads}
 use Rattle.sf_decimal.proofs.Digits.{Behind, natural-cut, natural-head}
-use Rattle.sf_value.proofs.Unique.{one_reading}
+use Rattle.sf_spelling.proofs.Unique.{one_reading}
 use Rattle.sf_lines.specs.declared.refusal.LineRefusal.{LineRefusal}
 use Rattle.sf_lines.specs.declared.refusal.LineRefusal.TheVariants.{BadLine, NotStarted}
 use Rattle.sf_lines.specs.Asking.{LineForm, blank, sampled, repeated, saving, returning, HasForm, empty, comment, with_value, unchanged, with_save, with_back, Asked, nothing, advance, save, back, step_refusal, time_refusal, value_refusal, asked_at, Says, formless, silent, untimely, unread, read, again, keeps, returns}

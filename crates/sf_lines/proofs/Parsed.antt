@@ -8,10 +8,10 @@ use Rattle.std.proofs.lemmas.Bool.{false≢true}
 use Rattle.std.proofs.lemmas.Bool.Decides.{nat_tests}
 use Rattle.sf_value.specs.Values.{Kind, Data}
 use Rattle.sf_decimal.specs.Decimals.{natural, BeginsNoDigit, digits_at, after_digits}
-use Rattle.sf_value.specs.Reading.{Refusal, bad_value, out_of_range, duplicate_key, Reads}
-use Rattle.sf_value.specs.Refuses.{Refuses}
-use Rattle.sf_value.specs.declared.read.ReadRefusal.{ReadRefusal}
-use Rattle.sf_value.specs.declared.read.ReadRefusal.TheVariants as read
+use Rattle.sf_spelling.specs.Reading.{Refusal, bad_value, out_of_range, duplicate_key, Reads}
+use Rattle.sf_spelling.specs.Refuses.{Refuses}
+use Rattle.sf_spelling.specs.declared.read.ReadRefusal.{ReadRefusal}
+use Rattle.sf_spelling.specs.declared.read.ReadRefusal.TheVariants as read
 use Rattle.sf_decimal.proofs.Numbers.{natural_small}
 use Rattle.sf_decimal.proofs.Digits.{digit_low, digit_from, numeral_at, natural-cut, natural-head}
 use Rattle.sf_decimal.proofs.Runs.{take_whole}

@@ -3,7 +3,7 @@ use Rattle.std.specs.Prelude.{◌≡◌, ◌≢◌, ℕ, zero, suc, ◌<◌, ◌
 use Rattle.sf_value.specs.Values.{Kind, Data, Name}
 use Rattle.sf_decimal.specs.Decimals.{natural}
 use Rattle.sf_lex.specs.Words.{is_word}
-use Rattle.sf_value.specs.Reading.{Refusal, bad_value, out_of_range, duplicate_key, Reads}
+use Rattle.sf_spelling.specs.Reading.{Refusal, bad_value, out_of_range, duplicate_key, Reads}
 use Rattle.sf_lines.specs.declared.refusal.LineRefusal.{LineRefusal}
 use Rattle.sf_lines.specs.declared.refusal.LineRefusal.TheVariants.{BadLine, NotStarted, Started, BadStep, BadValue, OutOfRange, DuplicateKey}
 

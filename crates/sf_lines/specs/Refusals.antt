@@ -1,6 +1,6 @@
 -- The refusal of a line whose value is not read.
-use Rattle.sf_value.specs.declared.read.ReadRefusal.{ReadRefusal}
-use Rattle.sf_value.specs.declared.read.ReadRefusal.TheVariants as read
+use Rattle.sf_spelling.specs.declared.read.ReadRefusal.{ReadRefusal}
+use Rattle.sf_spelling.specs.declared.read.ReadRefusal.TheVariants as read
 use Rattle.sf_lines.specs.declared.refusal.LineRefusal.{LineRefusal}
 use Rattle.sf_lines.specs.declared.refusal.LineRefusal.TheVariants.{BadValue, OutOfRange, DuplicateKey, Memory}
 

@@ -3,7 +3,7 @@ use Rattle.std.specs.Prelude.{ℕ, List, ◌++◌, codes}
 use Rattle.sf_value.specs.declared.fault.Fault.{Fault}
 use Rattle.sf_value.specs.Values.{Name, Data}
 use Rattle.sf_decimal.specs.Decimals.{natural}
-use Rattle.sf_value.specs.Spelling.{spelling}
+use Rattle.sf_spelling.specs.Spelling.{spelling}
 use Rattle.sf_lines.specs.declared.refusal.LineRefusal.{LineRefusal}
 use Rattle.sf_lines.specs.Names.{fault_name, refusal_name}
 

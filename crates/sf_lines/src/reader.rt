@@ -1,7 +1,7 @@
 //! Input lines.
 ghost use Rattle.std.specs.Prelude.{◌≡◌, ◌≢◌, IfOk, IfErr, IsTrue, ◌↔◌, MatchOption, Ok, Err};
 ghost use Rattle.sf_value.specs.Values.{Data};
-ghost use Rattle.sf_value.specs.Reading.{Refusal, Reads};
+ghost use Rattle.sf_spelling.specs.Reading.{Refusal, Reads};
 ghost use Rattle.sf_lines.specs.declared.refusal.LineRefusal.TheVariants.{Memory};
 ghost use Rattle.sf_lines.specs.Asking.{LineForm, blank, HasForm, step_refusal, value_refusal, asked_at, Says, HasTimelyValue};
 ghost use Rattle.sf_lines.specs.Commands.{asked_of};
@@ -10,7 +10,8 @@ ghost use Rattle.sf_lines.specs.Parsing.{NumberThen, BeginsNoNumber, StepThen, B
 use crate::refusal::LineRefusal;
 use crate::word::word_of;
 use sf_decimal::digits_at;
-use sf_value::{Ty, Value, read_value};
+use sf_spelling::read_value;
+use sf_value::{Ty, Value};
 use std::alloc::Global;
 
 /// What an input line asks for.

@@ -2,7 +2,7 @@
 ghost use Rattle.std.specs.Prelude.{◌≡◌};
 ghost use Rattle.sf_lines.specs.Refusals.{refusal_from};
 
-use sf_value::ReadRefusal;
+use sf_spelling::ReadRefusal;
 use thiserror::Error;
 
 /// Why an input line is refused.

@@ -6,7 +6,8 @@ ghost use Rattle.sf_lines.specs.Written.{sample_line, reading_line, fault_line, 
 use crate::refusal::LineRefusal;
 use crate::short::ShortLine;
 use sf_decimal::{Numeral, write_natural};
-use sf_value::{Fault, Value, ValueFault, write_value};
+use sf_spelling::write_value;
+use sf_value::{Fault, Value, ValueFault};
 use std::alloc::AllocError;
 
 /// Appends the line of a sample, `> T VALUE`, at a time in milliseconds. An error leaves what was there.

@@ -21,4 +21,4 @@ pub use operator::{
     Arithmetic, Comparison, Equality, Folding, Logic, Mapping, Merge, Operator, Unary,
 };
 pub use parts::{is_true, number_in, payload_in, rows_in, value_of_key};
-pub use values::{decide, operate, operate_on};
+pub use values::{copied, decide, operate, operate_on};

@@ -1,6 +1,4 @@
 pub mod Values
-pub mod Spelling
-pub mod Reading
 pub mod Codes
 pub mod View
 pub mod Tables
@@ -9,7 +7,3 @@ pub mod Falls
 pub mod KindCodes
 pub mod KindView
 pub mod KindFalls
-pub mod Scan
-pub mod Gives
-pub mod Refuses
-pub mod Steps

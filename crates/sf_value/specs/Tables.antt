@@ -2,7 +2,6 @@
 use Rattle.std.specs.Prelude.{◌≡◌, ◌⊎◌, ℕ, List, ◌∷◌, ◌++◌, map, length, ⊤}
 use Rattle.sf_value.specs.Values.{KeyData, Data, Rows, no_rows, row, IsOneOf, HasDifferentKeys}
 use Rattle.sf_value.specs.View.{key_of, rows_of}
-use Rattle.sf_value.specs.Spelling.{key_spelling}
 use Rattle.sf_value.specs.declared.value.Key.{Key}
 use Rattle.sf_value.specs.declared.table.TableRefusal.{TableRefusal}
 use Rattle.sf_value.specs.declared.table.TableRefusal.TheVariants.{DuplicateKey, Memory}
@@ -31,7 +30,3 @@ StandsUnder k x (row l y rs) = ((k ≡ l) × (x ≡ y)) ⊎ StandsUnder k x rs
 -- the keys are those of the rows, in order
 abbrev pub AreKeysOf : List Key → List (Key × Data) → Type 0
 AreKeysOf ks es = map key_of ks ≡ map (λ e. key_of e.0) es
-
--- the spellings of keys
-abbrev pub spellings : List Key → List (List ℕ)
-spellings ks = map (λ k. key_spelling (key_of k)) ks

@@ -47,6 +47,19 @@ impl Value {
         ensures refused { IfErr result (λ e. RefusesRows rows.items e) }
     {
         let keys = keys_in(alloc, &rows)?;
+        Ok(Value::of_rows(alloc, rows, keys)?)
+    }
+
+    /// A table of rows, in order, whose keys stand in an index in the same order.
+    pub fn of_rows(
+        alloc: Global,
+        rows: Vec<(Key, Value)>,
+        keys: IndexSet<Key>,
+    ) -> Result<Value, AllocError>
+        requires different { HasDifferentKeys (rows_of rows.items) }
+        requires indexed { AreKeysOf keys.keys rows.items }
+        ensures { IfOk result (λ v. v ≡ table (rows_of rows.items)) }
+    {
         let table = Rc::new(alloc, Table { rows, keys })?;
         Ok(Value {
             form: Form::Table(table),

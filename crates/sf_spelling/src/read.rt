@@ -1,0 +1,475 @@
+//! Values from their spellings.
+ghost use Rattle.std.specs.Prelude.{◌≡◌, ◌<◌, ℕ, IfOk, IfErr, MatchResult, OnOk, min, codes, map, ◌++◌, ◌∷◌, []};
+ghost use Rattle.sf_value.specs.Values.{Data, unit_kind, bool_kind, int_kind, text_kind, pair_kind, event_kind, table_kind, HasKind, HasDifferentKeys};
+ghost use Rattle.sf_value.specs.KindView.{key_kind_of};
+ghost use Rattle.sf_value.specs.View.{key_of, rows_of};
+ghost use Rattle.sf_value.specs.Tables.{AreKeysOf};
+ghost use Rattle.sf_spelling.specs.Spelling.{spelling};
+ghost use Rattle.sf_decimal.specs.Decimals.{signed};
+ghost use Rattle.sf_spelling.specs.Scan.{byte_at, word_at, positive_at, integer_at, value_at, narrow, begins_digit, key_at, new_key_at, row_at, rows_at};
+ghost use Rattle.sf_spelling.specs.Steps.{value_behind, pair_closed, none_at, event_before, table_before, spellings};
+ghost use Rattle.sf_spelling.specs.Reading.{Reads};
+ghost use Rattle.sf_spelling.specs.Refuses.{Refuses, IsMemory};
+ghost use Rattle.sf_spelling.specs.Gives.{GivesRead, GivesCapped, cap};
+ghost use Rattle.sf_spelling.specs.declared.read.Failure.TheVariants.{Memory};
+
+use crate::text::text_of;
+use indexmap::IndexSet;
+use sf_decimal::{digits_at, signed};
+use sf_value::{Key, KeyType, Ty, TyForm, Value};
+use std::alloc::Global;
+use std::rc::Rc;
+use thiserror::Error;
+
+/// Why bytes are no spelling of a value of a type, with the place in bytes from 0.
+#[derive(Clone, Copy, Debug, PartialEq, Eq, Error)]
+pub enum ReadRefusal {
+    /// The longest front of the bytes that is a front of a spelling of the type, its numbers of any size and its keys repeated, ends here.
+    #[error("bad value at byte {0}")]
+    BadValue(usize),
+    /// A number outside signed 64 bits begins here.
+    #[error("number out of range at byte {0}")]
+    OutOfRange(usize),
+    /// A key that stood in its table before begins here.
+    #[error("duplicate key at byte {0}")]
+    DuplicateKey(usize),
+    /// Memory ran out.
+    #[error("out of memory")]
+    Memory,
+}
+
+/// Why no value is read, with the number of bytes from the place on.
+#[derive(Drop)]
+pub(crate) enum Failure {
+    Bad(usize),
+    Wide(usize),
+    Again(usize),
+    Memory,
+}
+
+/// The rows of a table, with their keys in an index.
+#[derive(Drop)]
+struct Rows {
+    rows: Vec<(Key, Value)>,
+    keys: IndexSet<Key>,
+}
+
+/// What is after this byte.
+pub(crate) fn byte_of(byte: u8, bytes: &[u8]) -> Result<&[u8], Failure>
+    ensures { GivesRead (λ rest. rest.now) result (byte_at byte bytes.now) }
+{
+    match bytes {
+        [] => Err(Failure::Bad(0)),
+        [c, rest @ ..] => {
+            if *c == byte {
+                Ok(rest)
+            } else {
+                Err(Failure::Bad(bytes.len()))
+            }
+        }
+    }
+}
+
+/// What is after this word.
+#[tactic(auto, using(crate::proofs::Failing::fails_then))]
+fn word_of<'a>(word: &[u8], bytes: &'a [u8]) -> Result<&'a [u8], Failure>
+    ensures { GivesRead (λ rest. rest.now) result (word_at word.now bytes.now) }
+{
+    match word {
+        [] => Ok(bytes),
+        [first, others @ ..] => {
+            let rest = byte_of(*first, bytes)?;
+            word_of(others, rest)
+        }
+    }
+}
+
+/// A number that doesn't begin with 0, up to the cap.
+fn positive_of(bytes: &[u8]) -> Result<(u64, &[u8]), Failure>
+    ensures { GivesCapped result (positive_at bytes.now) (λ r. r.now) }
+{
+    match bytes {
+        [] => Err(Failure::Bad(0)),
+        [c, ..] => {
+            if b'0' < *c && c.is_ascii_digit() {
+                let run = digits_at(bytes);
+                Ok((run.number, run.rest))
+            } else {
+                Err(Failure::Bad(bytes.len()))
+            }
+        }
+    }
+}
+
+/// A whole number at the front, and what is after it.
+fn integer_of(bytes: &[u8]) -> Result<(i64, &[u8]), Failure>
+    ensures { GivesRead (λ x. (x.0, x.1.now)) result (integer_at bytes.now) }
+{
+    match bytes {
+        [] => Err(Failure::Bad(0)),
+        [c, rest @ ..] => {
+            if *c == b'-' {
+                let (n, after) = positive_of(rest)?;
+                narrow(n, true, bytes, after)
+            } else if *c == b'0' {
+                Ok((0, rest))
+            } else {
+                let (n, after) = positive_of(bytes)?;
+                narrow(n, false, bytes, after)
+            }
+        }
+    }
+}
+
+/// The number with this sign that begins the bytes, where it is within signed 64 bits.
+fn narrow<'a>(
+    n: u64,
+    is_negative: bool,
+    bytes: &[u8],
+    after: &'a [u8],
+) -> Result<(i64, &'a [u8]), Failure>
+    ensures { (m : ℕ) → n ≡ min m cap →
+        GivesRead (λ x. (x.0, x.1.now)) result (narrow bytes.now (signed is_negative m) after.now) }
+{
+    match signed(n, is_negative) {
+        Some(number) => Ok((number, after)),
+        None => Err(Failure::Wide(bytes.len())),
+    }
+}
+
+/// A value of the type at the front, and what is after it.
+#[cycle(value_of)]
+fn value_of<'a>(alloc: Global, ty: &Ty, bytes: &'a [u8]) -> Result<(Value, &'a [u8]), Failure>
+    ensures { GivesRead (λ x. (x.0, x.1.now)) result (value_at ty.now bytes.now) }
+{
+    match ty.form() {
+        TyForm::Unit => unit_of(bytes),
+        TyForm::Bool => bool_of(bytes),
+        TyForm::Int => int_of(bytes),
+        TyForm::Text => string_of(alloc, bytes),
+        TyForm::Pair(first, second) => pair_of(alloc, first, second, bytes),
+        TyForm::Event(payload) => event_of(alloc, payload, bytes),
+        TyForm::Table(keys, values) => table_of(alloc, *keys, values, bytes),
+    }
+}
+
+#[tactic(auto, using(crate::proofs::Failing::fails_then), unfolding(crate::specs::Scan::value_at))]
+fn unit_of(bytes: &[u8]) -> Result<(Value, &[u8]), Failure>
+    ensures { GivesRead (λ x. (x.0, x.1.now)) result (value_at unit_kind bytes.now) }
+{
+    let rest = byte_of(b'(', bytes)?;
+    let rest = byte_of(b')', rest)?;
+    Ok((Value::unit(), rest))
+}
+
+#[tactic(auto, using(crate::proofs::Failing::fails_then), unfolding(crate::specs::Scan::value_at))]
+fn bool_of(bytes: &[u8]) -> Result<(Value, &[u8]), Failure>
+    ensures { GivesRead (λ x. (x.0, x.1.now)) result (value_at bool_kind bytes.now) }
+{
+    match bytes {
+        [] => Err(Failure::Bad(0)),
+        [c, ..] => {
+            if *c == b't' {
+                let rest = word_of(b"true", bytes)?;
+                Ok((Value::bool(true), rest))
+            } else {
+                let rest = word_of(b"false", bytes)?;
+                Ok((Value::bool(false), rest))
+            }
+        }
+    }
+}
+
+#[tactic(auto, using(crate::proofs::Failing::fails_then), unfolding(crate::specs::Scan::value_at))]
+fn int_of(bytes: &[u8]) -> Result<(Value, &[u8]), Failure>
+    ensures { GivesRead (λ x. (x.0, x.1.now)) result (value_at int_kind bytes.now) }
+{
+    let (n, rest) = integer_of(bytes)?;
+    Ok((Value::int(n), rest))
+}
+
+#[tactic(auto, using(crate::proofs::Failing::fails_then), unfolding(crate::specs::Scan::value_at))]
+fn string_of(alloc: Global, bytes: &[u8]) -> Result<(Value, &[u8]), Failure>
+    ensures { GivesRead (λ x. (x.0, x.1.now)) result (value_at text_kind bytes.now) }
+{
+    let (text, rest) = text_of(alloc, bytes)?;
+    let Ok(value) = Value::text(alloc, text) else {
+        return Err(Failure::Memory);
+    };
+    Ok((value, rest))
+}
+
+/// A value of the type behind this byte, and what is after it.
+#[cycle(value_of)]
+#[inline]
+fn value_behind<'a>(
+    alloc: Global,
+    byte: u8,
+    ty: &Ty,
+    bytes: &'a [u8],
+) -> Result<(Value, &'a [u8]), Failure>
+    ensures { GivesRead (λ x. (x.0, x.1.now)) result (value_behind byte ty.now bytes.now) }
+{
+    let rest = byte_of(byte, bytes)?;
+    value_of(alloc, ty, rest)
+}
+
+#[cycle(value_of)]
+fn pair_of<'a>(
+    alloc: Global,
+    first: &Ty,
+    second: &Ty,
+    bytes: &'a [u8],
+) -> Result<(Value, &'a [u8]), Failure>
+    ensures { GivesRead (λ x. (x.0, x.1.now)) result (value_at (pair_kind first.now second.now) bytes.now) }
+{
+    let (x, rest) = value_behind(alloc, b'(', first, bytes)?;
+    match value_behind(alloc, b',', second, rest) {
+        Ok((y, rest)) => closed_pair(alloc, x, y, rest),
+        Err(failure) => {
+            drop(x);
+            Err(failure)
+        }
+    }
+}
+
+/// The pair of the values before its closing bracket, and what is after it.
+#[tactic(auto, using(crate::proofs::Failing::fails_then))]
+fn closed_pair(alloc: Global, x: Value, y: Value, bytes: &[u8]) -> Result<(Value, &[u8]), Failure>
+    ensures { GivesRead (λ r. (r.0, r.1.now)) result (pair_closed x y bytes.now) }
+{
+    let rest = match byte_of(b')', bytes) {
+        Ok(rest) => rest,
+        Err(failure) => {
+            drop(x);
+            drop(y);
+            return Err(failure);
+        }
+    };
+    let Ok(value) = Value::pair(alloc, x, y) else {
+        return Err(Failure::Memory);
+    };
+    Ok((value, rest))
+}
+
+/// No event at the front, and what is after it.
+#[tactic(auto, using(crate::proofs::Failing::fails_then))]
+fn no_event_of(bytes: &[u8]) -> Result<(Value, &[u8]), Failure>
+    ensures { GivesRead (λ x. (x.0, x.1.now)) result (none_at bytes.now) }
+{
+    let rest = word_of(b"none", bytes)?;
+    Ok((Value::no_event(), rest))
+}
+
+#[cycle(value_of)]
+#[tactic(auto, using(crate::proofs::Failing::fails_then), unfolding(crate::specs::Scan::value_at))]
+fn event_of<'a>(alloc: Global, payload: &Ty, bytes: &'a [u8]) -> Result<(Value, &'a [u8]), Failure>
+    ensures { GivesRead (λ x. (x.0, x.1.now)) result (value_at (event_kind payload.now) bytes.now) }
+{
+    match bytes {
+        [] => Err(Failure::Bad(0)),
+        [b'n', ..] => no_event_of(bytes),
+        _ => {
+            let rest = word_of(b"event ", bytes)?;
+            let (x, rest) = value_of(alloc, payload, rest)?;
+            event_in(alloc, x, rest)
+        }
+    }
+}
+
+/// The event with this payload, which ends before these bytes.
+fn event_in(alloc: Global, payload: Value, bytes: &[u8]) -> Result<(Value, &[u8]), Failure>
+    ensures { GivesRead (λ x. (x.0, x.1.now)) result (event_before payload bytes.now) }
+{
+    match Value::event(alloc, payload) {
+        Ok(value) => Ok((value, bytes)),
+        Err(_) => Err(Failure::Memory),
+    }
+}
+
+/// A key of a type at the front, which no digit follows where it is a number, and what is after it.
+#[tactic(auto, using(crate::proofs::Failing::fails_then))]
+fn key_in(alloc: Global, keys: KeyType, bytes: &[u8]) -> Result<(Key, &[u8]), Failure>
+    ensures { GivesRead (λ x. (key_of x.0, x.1.now)) result (key_at (key_kind_of keys) bytes.now) }
+{
+    match keys {
+        KeyType::Int => {
+            let (n, rest) = integer_of(bytes)?;
+            if goes_on(rest) {
+                return Err(Failure::Bad(rest.len()));
+            }
+            Ok((Key::Int(n), rest))
+        }
+        KeyType::Text => {
+            let (text, rest) = text_of(alloc, bytes)?;
+            let Ok(shared) = Rc::new(alloc, text) else {
+                return Err(Failure::Memory);
+            };
+            Ok((Key::Text(shared), rest))
+        }
+    }
+}
+
+fn goes_on(bytes: &[u8]) -> bool
+    ensures { result ≡ begins_digit bytes.now }
+{
+    match bytes {
+        [] => false,
+        [c, ..] => c.is_ascii_digit(),
+    }
+}
+
+/// A key at the front, which is none of those seen, and what is after it. It is then seen.
+fn new_key_in<'a>(
+    alloc: Global,
+    keys: KeyType,
+    seen: &mut IndexSet<Key>,
+    bytes: &'a [u8],
+) -> Result<(Key, &'a [u8]), Failure>
+    ensures key { GivesRead (λ x. (key_of x.0, x.1.now)) result (new_key_at (key_kind_of keys) (spellings seen.old.keys) bytes.now) }
+    ensures seen { IfOk result (λ x. map key_of seen.new.keys ≡ map key_of seen.old.keys ++ key_of x.0 ∷ []) }
+{
+    let (key, rest) = key_in(alloc, keys, bytes)?;
+    let Ok(copy) = key.clone_in(alloc) else {
+        return Err(Failure::Memory);
+    };
+    match seen.insert(copy) {
+        Err(_) => return Err(Failure::Memory),
+        Ok(false) => return Err(Failure::Again(bytes.len())),
+        Ok(true) => {}
+    }
+    Ok((key, rest))
+}
+
+/// A table of a type at the front, and what is after it. Keys are looked up in its index.
+#[cycle(value_of)]
+#[tactic(auto, unfolding(crate::specs::Scan::value_at))]
+fn table_of<'a>(
+    alloc: Global,
+    keys: KeyType,
+    values: &Ty,
+    bytes: &'a [u8],
+) -> Result<(Value, &'a [u8]), Failure>
+    ensures { GivesRead (λ x. (x.0, x.1.now)) result (value_at (table_kind (key_kind_of keys) values.now) bytes.now) }
+{
+    let rest = byte_of(b'{', bytes)?;
+    let (table, rest) = rows_in(alloc, keys, values, rest)?;
+    table_in(alloc, table, rest)
+}
+
+/// The table, which ends before these bytes, as a value.
+fn table_in(alloc: Global, table: Rows, bytes: &[u8]) -> Result<(Value, &[u8]), Failure>
+    requires different { HasDifferentKeys (rows_of table.rows.items) }
+    requires indexed { AreKeysOf table.keys.keys table.rows.items }
+    ensures { GivesRead (λ x. (x.0, x.1.now)) result (table_before (rows_of table.rows.items) bytes.now) }
+{
+    let Rows { rows, keys } = table;
+    match Value::of_rows(alloc, rows, keys) {
+        Ok(value) => Ok((value, bytes)),
+        Err(_) => Err(Failure::Memory),
+    }
+}
+
+/// The rows of a table up to its closing brace, and what is after it.
+#[cycle(value_of)]
+fn rows_in<'a>(
+    alloc: Global,
+    keys: KeyType,
+    values: &Ty,
+    bytes: &'a [u8],
+) -> Result<(Rows, &'a [u8]), Failure>
+    ensures rows { GivesRead (λ x. (rows_of x.0.rows.items, x.1.now)) result (rows_at (key_kind_of keys) (value_at values.now) bytes.now) }
+    ensures different { IfOk result (λ x. HasDifferentKeys (rows_of x.0.rows.items)) }
+    ensures indexed { IfOk result (λ x. AreKeysOf x.0.keys.keys x.0.rows.items) }
+{
+    let mut table = Rows {
+        rows: Vec::new(alloc),
+        keys: IndexSet::new(alloc),
+    };
+    let mut left = bytes;
+    if let [c, rest @ ..] = bytes {
+        if *c == b'}' {
+            return Ok((table, rest));
+        }
+    }
+    loop {
+        let (key, value, rest) = row_in(alloc, keys, values, &mut table.keys, left)?;
+        put_row(&mut table.rows, key, value)?;
+        match rest {
+            [] => return Err(Failure::Bad(0)),
+            [c, behind @ ..] => {
+                if *c == b'}' {
+                    return Ok((table, behind));
+                }
+                if *c != b',' {
+                    return Err(Failure::Bad(rest.len()));
+                }
+                left = behind;
+            }
+        }
+    }
+}
+
+/// Puts a row behind the others.
+fn put_row(rows: &mut Vec<(Key, Value)>, key: Key, value: Value) -> Result<(), Failure>
+    ensures ok { OnOk result (rows.new.items ≡ rows.old.items ++ (key, value) ∷ []) }
+    ensures err { IfErr result (λ e. e ≡ Memory) }
+{
+    match rows.push((key, value)) {
+        Ok(()) => Ok(()),
+        Err(failed) => {
+            drop(failed);
+            Err(Failure::Memory)
+        }
+    }
+}
+
+/// A row at the front, whose key is none of those seen, and what is after it. Its key is then seen.
+#[cycle(value_of)]
+fn row_in<'a>(
+    alloc: Global,
+    keys: KeyType,
+    values: &Ty,
+    seen: &mut IndexSet<Key>,
+    bytes: &'a [u8],
+) -> Result<(Key, Value, &'a [u8]), Failure>
+    ensures row { GivesRead (λ x. ((key_of x.0, x.1), x.2.now)) result
+        (row_at (key_kind_of keys) (value_at values.now) (spellings seen.old.keys) bytes.now) }
+    ensures seen { IfOk result (λ x. map key_of seen.new.keys ≡ map key_of seen.old.keys ++ key_of x.0 ∷ []) }
+{
+    let (key, rest) = new_key_in(alloc, keys, seen, bytes)?;
+    match value_behind(alloc, b':', values, rest) {
+        Ok((value, rest)) => Ok((key, value, rest)),
+        Err(failure) => {
+            drop(key);
+            Err(failure)
+        }
+    }
+}
+
+/// The value of a type whose spelling the bytes are, to the last byte.
+///
+/// Of all places where the bytes may be refused, the least is answered. `Memory` is answered only where memory runs out.
+pub fn read_value(alloc: Global, ty: &Ty, bytes: &[u8]) -> Result<Value, ReadRefusal>
+    // What is read has the type and is spelled so.
+    ensures found { IfOk result (λ v. Reads ty.now bytes.now (Ok v)) }
+    // The refusal has the least place.
+    ensures refused { IfErr result (λ e. Refuses ty.now bytes.now e) }
+    // What is spelled so is read, unless memory runs out.
+    ensures only { (v : Data) → HasKind v ty.now → bytes.now ≡ spelling v →
+        MatchResult result (λ w. w ≡ v) IsMemory }
+{
+    match value_of(alloc, ty, bytes) {
+        Ok((value, rest)) => {
+            if rest.len() == 0 {
+                Ok(value)
+            } else {
+                Err(ReadRefusal::BadValue(bytes.len() - rest.len()))
+            }
+        }
+        Err(Failure::Bad(left)) => Err(ReadRefusal::BadValue(bytes.len() - left)),
+        Err(Failure::Wide(left)) => Err(ReadRefusal::OutOfRange(bytes.len() - left)),
+        Err(Failure::Again(left)) => Err(ReadRefusal::DuplicateKey(bytes.len() - left)),
+        Err(Failure::Memory) => Err(ReadRefusal::Memory),
+    }
+}

@@ -1,5 +1,0 @@
-use Rattle.sf_value.proofs.Unique.{one_reading}
-use Rattle.sf_value.proofs.laws.one_reading.Goals as goal
-
-pub returns : goal.returns
-returns c = one_reading

@@ -1,7 +1,0 @@
-use Rattle.sf_value.proofs.Settled.{answer, reads}
-use Rattle.std.proofs.Common.{length}
-use Rattle.sf_value.specs.Scan.{value_at}
-use Rattle.sf_value.proofs.laws.some_reading.Goals as goal
-
-pub returns : goal.returns
-returns c = λ t bytes. (answer (length bytes) (value_at t bytes), reads t bytes)
