@@ -27,7 +27,6 @@ use std::alloc::{AllocError, Global};
 /// What a term is typed under: the program that it stands in, whose templates have headers, and their names in order, the
 /// names around the term, those that stand for values with their types, the processes that the others stand for, the
 /// innermost last, and the types of stored functions.
-#[derive(Drop)]
 pub(crate) struct TypingContext<'a> {
     pub(crate) program: &'a Program,
     pub(crate) templates: &'a IndexSet<String>,
@@ -36,6 +35,20 @@ pub(crate) struct TypingContext<'a> {
     pub(crate) functions: &'a Signatures,
     ghost listed: { names_of_set templates.now ≡ program_names program.now },
     ghost kept: { others_in (names_of names) ≡ names_among (processes_from processes.items) },
+}
+
+impl<'a> Drop for TypingContext<'a> {
+    fn drop(self) {
+        let TypingContext {
+            program: _,
+            templates: _,
+            names,
+            processes,
+            functions: _,
+        } = self;
+        drop(names);
+        drop(processes);
+    }
 }
 
 impl<'a> TypingContext<'a> {

@@ -475,9 +475,8 @@ fn body_output(
     ensures { AnswersBody (program_in context.now) (context_in context.now) spot pattern body input.now wanted.now payload.now result }
 {
     let inner = (&*context).within(alloc, pattern, payload, spot)?;
-    let given = output_of(alloc, &inner, body, input);
-    drop(inner);
-    wanted_output(given?, wanted, spot)
+    let given = output_of(alloc, &inner, body, input)?;
+    wanted_output(given, wanted, spot)
 }
 
 /// The type of the outputs of a part whose first value another takes the place of, on inputs of a type.
@@ -623,9 +622,7 @@ fn kept_output(
     ensures { AnswersBody (program_in context.now) (keeping_inside (program_in context.now) name input.now wanted.now (context_in context.now)) spot pattern body input.now wanted.now payload.now result }
 {
     let inner = (&*context).keeping(alloc, name, input, wanted)?;
-    let output = body_output(alloc, &inner, pattern, payload, body, input, wanted, spot);
-    drop(inner);
-    output
+    body_output(alloc, &inner, pattern, payload, body, input, wanted, spot)
 }
 
 /// The type of the outputs of the process of a name on inputs of a type.
@@ -777,9 +774,7 @@ fn check_template(
     let context = TypingContext::of_body(alloc, program, names, functions, template.parameters())?;
     let input = template.input();
     prove!(input.nodes() <= 256);
-    let output = output_of(alloc, &context, template.body(), input);
-    drop(context);
-    let output = output?;
+    let output = output_of(alloc, &context, template.body(), input)?;
     if same_type(&output, template.output()) {
         Ok(())
     } else {

@@ -120,9 +120,7 @@ fn applied<F: Holds>(
     ensures { Evaluates result (worth_of (trees.applied operator (code_of part.now)) (frames_of frames.now) (F.answers functions.now)) }
 {
     let part = run(alloc, part, frames, functions)?;
-    let made = operate_on(alloc, operator, &part);
-    drop(part);
-    made
+    operate_on(alloc, operator, &part)
 }
 
 /// What an operator makes of two codes, or the first fault: the second is run where the first decides nothing.
@@ -140,10 +138,7 @@ fn operation<F: Holds>(
 {
     let left = run(alloc, left, frames, functions)?;
     match decide(operator, &left) {
-        Some(decided) => {
-            drop(left);
-            Ok(decided)
-        }
+        Some(decided) => Ok(decided),
         None => {
             let right = run(alloc, right, frames, functions);
             operated(alloc, operator, left, right)
@@ -161,16 +156,7 @@ fn operated(
 ) -> Result<Value, EvalFault>
     ensures { (worth : Evaluated Data) → Evaluates right worth → Evaluates result (followed worth (operated_value operator left)) }
 {
-    let made = match right {
-        Ok(right) => {
-            let made = operate(alloc, operator, &left, &right);
-            drop(right);
-            made
-        }
-        Err(fault) => Err(fault),
-    };
-    drop(left);
-    made
+    operate(alloc, operator, &left, &right?)
 }
 
 /// The number that arithmetic makes of two codes, or the first fault: the number 0 of what is no number.
@@ -241,10 +227,7 @@ fn number_run<F: Holds>(
 fn numeric(value: Result<Value, EvalFault>) -> Result<Option<i64>, EvalFault>
     ensures { (worth : Evaluated Data) → Evaluates value worth → AnswersNumber result worth }
 {
-    let value = value?;
-    let number = number_in(&value);
-    drop(value);
-    Ok(number)
+    Ok(number_in(&value?))
 }
 
 /// A number that is always there, or the fault in its place.
@@ -284,10 +267,7 @@ fn truth<F: Holds>(
 fn truthful(value: Result<Value, EvalFault>) -> Result<Option<bool>, EvalFault>
     ensures { (worth : Evaluated Data) → Evaluates value worth → AnswersTruth result worth }
 {
-    let value = value?;
-    let truth = is_true(&value);
-    drop(value);
-    Ok(truth)
+    Ok(is_true(&value?))
 }
 
 /// The truth that was found, if it is one.
@@ -327,7 +307,6 @@ fn compared<F: Holds>(
     let left = run(alloc, left, frames, functions)?;
     match number_in(&left) {
         Some(number_left) => {
-            drop(left);
             let right = number(alloc, right, frames, functions);
             ordered(operator, number_left, right)
         }
@@ -437,13 +416,11 @@ fn mapped<F: Holds>(
     ensures { Evaluates result (worth_of (trees.mapped (code_of part.now) mapping (code_of body.now)) (frames_of frames.now) (F.answers functions.now)) }
 {
     let part = run(alloc, part, frames, functions)?;
-    let made = match mapping {
+    match mapping {
         Mapping::Let => answer(alloc, body, &part, frames, functions),
         Mapping::Filter => filter(alloc, &part, body, frames, functions),
         Mapping::Map => map(alloc, &part, body, frames, functions),
-    };
-    drop(part);
-    made
+    }
 }
 
 /// The event, where a function is true of its payload, or the fault of the function.
@@ -544,13 +521,11 @@ fn matched<F: Holds>(
     ensures { Evaluates result (worth_of (trees.folded (code_of first.now) foldings.Match (code_of second.now) (code_of body.now)) (frames_of frames.now) (F.answers functions.now)) }
 {
     let first = run(alloc, first, frames, functions)?;
-    let made = match payload_in(&first) {
+    match payload_in(&first) {
         Some(Some(payload)) => answer(alloc, body, payload, frames, functions),
         Some(None) => run(alloc, second, frames, functions),
         None => Ok(Value::int(0)),
-    };
-    drop(first);
-    made
+    }
 }
 
 /// Two events made one, where both occur by a function of both payloads, or the first fault.
@@ -567,18 +542,8 @@ fn merged<F: Holds>(
     ensures { Evaluates result (worth_of (trees.folded (code_of first.now) foldings.Merge (code_of second.now) (code_of body.now)) (frames_of frames.now) (F.answers functions.now)) }
 {
     let first = run(alloc, first, frames, functions)?;
-    match run(alloc, second, frames, functions) {
-        Ok(second) => {
-            let made = merge(alloc, &first, &second, body, frames, functions);
-            drop(first);
-            drop(second);
-            made
-        }
-        Err(fault) => {
-            drop(first);
-            Err(fault)
-        }
-    }
+    let second = run(alloc, second, frames, functions)?;
+    merge(alloc, &first, &second, body, frames, functions)
 }
 
 /// The one of two events that occurs, or, where both do, that of what a function makes of both payloads, or its fault.
@@ -598,7 +563,6 @@ fn merge<F: Holds>(
             Some(Some(right)) => {
                 let both = pair_of(left, right)?;
                 let made = answer(alloc, body, &both, frames, functions);
-                drop(both);
                 occurring(alloc, made)
             }
             Some(None) => copied(alloc, first),
@@ -633,18 +597,11 @@ fn fold<F: Holds>(
     ensures { Evaluates result (worth_of (trees.folded (code_of first.now) foldings.Fold (code_of second.now) (code_of body.now)) (frames_of frames.now) (F.answers functions.now)) }
 {
     let table = run(alloc, first, frames, functions)?;
-    let made = match run(alloc, second, frames, functions) {
-        Ok(start) => match rows_in(&table) {
-            Some(rows) => fold_rows(alloc, rows, start, body, frames, functions),
-            None => {
-                drop(start);
-                Ok(Value::int(0))
-            }
-        },
-        Err(fault) => Err(fault),
-    };
-    drop(table);
-    made
+    let start = run(alloc, second, frames, functions)?;
+    match rows_in(&table) {
+        Some(rows) => fold_rows(alloc, rows, start, body, frames, functions),
+        None => Ok(Value::int(0)),
+    }
 }
 
 /// What a function makes of a value and rows, one after the other, or the first fault.
@@ -663,9 +620,7 @@ fn fold_rows<F: Holds>(
     let mut rest = rows;
     while let [(key, value), after @ ..] = rest {
         let argument = with_row(alloc, so_far, key, value)?;
-        let made = answer(alloc, body, &argument, frames, functions);
-        drop(argument);
-        so_far = made?;
+        so_far = answer(alloc, body, &argument, frames, functions)?;
         rest = after;
     }
     Ok(so_far)
@@ -675,13 +630,8 @@ fn fold_rows<F: Holds>(
 fn with_row(alloc: Global, so_far: Value, key: &Key, value: &Value) -> Result<Value, AllocError>
     ensures { IfOk result (λ v. v ≡ pair_data so_far (pair_data (data_of_key (key_of key.now)) value.now)) }
 {
-    match row(alloc, key, value) {
-        Ok(row) => Value::pair(alloc, so_far, row),
-        Err(error) => {
-            drop(so_far);
-            Err(error)
-        }
-    }
+    let row = row(alloc, key, value)?;
+    Value::pair(alloc, so_far, row)
 }
 
 /// A row of a table, as the pair of its key and its value.
@@ -689,13 +639,8 @@ fn row(alloc: Global, key: &Key, value: &Value) -> Result<Value, AllocError>
     ensures { IfOk result (λ v. v ≡ pair_data (data_of_key (key_of key.now)) value.now) }
 {
     let key = value_of_key(key)?;
-    match value.clone_in(alloc) {
-        Ok(value) => Value::pair(alloc, key, value),
-        Err(error) => {
-            drop(key);
-            Err(error)
-        }
-    }
+    let value = value.clone_in(alloc)?;
+    Value::pair(alloc, key, value)
 }
 
 /// What a stored function answers to what code is worth, or the first fault.
@@ -711,9 +656,7 @@ fn called<F: Holds>(
     ensures { Evaluates result (worth_of (trees.called (function.now) (code_of part.now)) (frames_of frames.now) (F.answers functions.now)) }
 {
     let value = run(alloc, part, frames, functions)?;
-    let answer = functions.call(alloc, function, &value);
-    drop(value);
-    answered(answer)
+    answered(functions.call(alloc, function, &value))
 }
 
 /// What a function answered, or its refusal as a fault.
@@ -730,6 +673,7 @@ fn answered(answer: Result<Value, FunctionFault>) -> Result<Value, EvalFault>
 
 /// What code is worth, as a half of a pair: a half of a frame's value is shared, and arithmetic makes its number there.
 #[cycle(run)]
+#[inline(always)]
 fn half<F: Holds>(
     alloc: Global,
     code: &Code,

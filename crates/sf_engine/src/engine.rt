@@ -144,7 +144,6 @@ impl<F: Holds> Engine<F> {
         let Ok(plan) = planned(alloc, &checked, mode) else {
             return Err((checked, functions));
         };
-        drop(checked);
         let state = State::unborn(plan.main());
         Ok(Engine {
             alloc,

@@ -130,13 +130,8 @@ impl Entry {
     {
         let name = String::from_str(alloc, name)?;
         let from = self.from.clone_in(alloc)?;
-        match self.to.clone_in(alloc) {
-            Ok(to) => Ok(Signature { name, from, to }),
-            Err(failed) => {
-                drop(from);
-                Err(failed)
-            }
-        }
+        let to = self.to.clone_in(alloc)?;
+        Ok(Signature { name, from, to })
     }
 
     // The function, without its types.

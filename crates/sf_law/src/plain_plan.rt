@@ -42,10 +42,7 @@ fn empty_plan(alloc: Global, program: &Program) -> Result<Plan, AllocError>
     ensures copied { IfOk result (λ plan. AllZip (CopiesTemplate (plan_expressions plan)) (program_headers program.now) (plan_headers plan)) }
 {
     let mut expressions = program.expressions().clone_in(alloc)?;
-    let Ok(templates) = plan_templates(alloc, &mut expressions, program.templates()) else {
-        drop(expressions);
-        return Err(AllocError);
-    };
+    let templates = plan_templates(alloc, &mut expressions, program.templates())?;
     Plan::new(alloc, expressions, templates)
 }
 

@@ -10,7 +10,7 @@ use sf_value::ValueFault;
 
 /// What an operator makes of two numbers: `Overflow` where it is outside signed 64 bits, and `DivideByZero` where a
 /// divisor is zero.
-#[inline]
+#[inline(always)]
 pub fn calculate(operator: Arithmetic, left: i64, right: i64) -> Result<i64, ValueFault>
     ensures { Computes result (of_numbers operator left right) }
 {
@@ -35,6 +35,7 @@ pub fn narrow(n: i128) -> Result<i64, ValueFault>
 }
 
 /// The quotient of two numbers within signed 64 bits, rounded towards minus infinity.
+#[inline(never)]
 fn quotient(left: i128, right: i128) -> i128
     requires left_narrow { FitsSigned w64 left }
     requires right_narrow { FitsSigned w64 right }
@@ -49,6 +50,7 @@ fn quotient(left: i128, right: i128) -> i128
 }
 
 /// What the divisor leaves, beside that quotient.
+#[inline(never)]
 fn remainder(left: i128, right: i128) -> i128
     requires left_narrow { FitsSigned w64 left }
     requires right_narrow { FitsSigned w64 right }

@@ -27,7 +27,6 @@ use sf_state::{Env, Keeping, Live, NamesIn, Process, State, Switch, Wrap};
 use sf_term::{Heading, Join, Observation, Switching};
 use sf_value::Fault;
 use std::alloc::{AllocError, Global};
-use std::mem;
 use std::rc::Rc;
 
 /// What a part that begins has become.
@@ -55,7 +54,7 @@ pub fn begin<R: Holds>(
     match open(context, term, &names) {
         Ok(opened) => {
             let (next, begun) = prepared(context.alloc, opened, names)?;
-            drop(mem::replace(state, next));
+            *state = next;
             Ok(begun)
         }
         Err(fault) => Err(fault),

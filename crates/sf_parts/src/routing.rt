@@ -83,7 +83,7 @@ pub fn show(shown: Observation, value: &mut Value, new: Value)
     ensures { value.new ≡ switched_value shown value.old new }
 {
     match shown {
-        Observation::Immediate => drop(mem::replace(value, new)),
+        Observation::Immediate => *value = new,
         Observation::Delayed => drop(new),
     }
 }
@@ -173,7 +173,7 @@ pub fn take_over(state: &mut State, over: Option<State>)
     ensures { state.new ≡ unwrap_or over state.old }
 {
     if let Some(body) = over {
-        drop(mem::replace(state, body));
+        *state = body;
     }
 }
 

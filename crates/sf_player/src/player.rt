@@ -46,10 +46,7 @@ impl<F: Holds + Drop> Player<F> {
         ensures { IfOk result (λ p. (n : Network) (m : Template) → Runs engine n m [] []
             → Played probes n m [] [] p × (p.out.items ≡ [])) }
     {
-        let Ok(cutter) = Cutter::new(alloc) else {
-            drop(engine);
-            return Err(AllocError);
-        };
+        let cutter = Cutter::new(alloc)?;
         Ok(Player {
             alloc,
             cutter,

@@ -81,10 +81,7 @@ fn play_accepted<F: Holds + Drop, R: Read, W: Write>(
         Mode::Optimised
     };
     match Engine::new(alloc, checked, functions, mode) {
-        Err(given) => {
-            drop(given);
-            PlayEnd::Network(Refusal::Memory)
-        }
+        Err(_) => PlayEnd::Network(Refusal::Memory),
         Ok(engine) => match Player::new(alloc, engine, options.probes) {
             Ok(player) => run(player, reader, writer),
             Err(_) => refuse_lines(writer),

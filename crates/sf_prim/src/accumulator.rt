@@ -16,7 +16,6 @@ use sf_operator::EvalFault;
 use sf_term::Accumulation;
 use sf_value::Value;
 use std::alloc::{AllocError, Global};
-use std::mem;
 use std::rc::Rc;
 
 /// An accumulation that has lived through some samples.
@@ -92,9 +91,9 @@ pub(crate) fn accumulate<R: Holds>(
         let before = Rc::new(alloc, accumulator.value.clone_in(alloc)?)?;
         let both = Value::of_halves(before, argument);
         let next = apply(alloc, &accumulator.code, &both, functions)?;
-        drop(mem::replace(&mut accumulator.value, next));
+        accumulator.value = next;
     }
     let shown = shown(alloc, form, comes, &accumulator.value)?;
-    drop(mem::replace(value, shown));
+    *value = shown;
     Ok(())
 }

@@ -206,7 +206,7 @@ impl PrimState {
             PrimState::Count(count) => count_event(alloc, count, value),
             PrimState::Now(first) => {
                 let given = mem::replace(first, Value::int(0));
-                drop(mem::replace(self, PrimState::Never));
+                *self = PrimState::Never;
                 announce(alloc, given, value)
             }
             PrimState::Hold(last) => hold(alloc, last, value),

@@ -10,7 +10,6 @@ use crate::reading::Readings;
 use indexmap::IndexMap;
 use sf_value::Value;
 use std::alloc::{AllocError, Global};
-use std::mem;
 
 /// The last reading of each name among those that were noted.
 ///
@@ -80,7 +79,7 @@ impl Latest {
     {
         let copy = value.clone_in(self.alloc)?;
         if let Some(kept) = self.values.get_mut(name) {
-            drop(mem::replace(kept, copy));
+            *kept = copy;
             return Ok(());
         }
         self.put_new(name, copy)
@@ -92,19 +91,8 @@ impl Latest {
         ensures ok { OnOk result ((noted : List (Name × Data)) → HasNoted self.old noted → HasNoted self.new (noted ++ (name.now, value) ∷ [])) }
         ensures err { OnErr result ((noted : List (Name × Data)) → HasNoted self.old noted → HasNoted self.new noted) }
     {
-        let key = match String::from_str(self.alloc, name) {
-            Ok(key) => key,
-            Err(failed) => {
-                drop(value);
-                return Err(failed);
-            }
-        };
-        match self.values.insert(key, value) {
-            Ok(replaced) => {
-                drop(replaced);
-                Ok(())
-            }
-            Err(failed) => Err(AllocError::from(failed)),
-        }
+        let key = String::from_str(self.alloc, name)?;
+        self.values.insert(key, value)?;
+        Ok(())
     }
 }

@@ -224,13 +224,8 @@ fn pair_of<'a>(
     ensures { GivesRead (λ x. (x.0, x.1.now)) result (value_at (pair_kind first.now second.now) bytes.now) }
 {
     let (x, rest) = value_behind(alloc, b'(', first, bytes)?;
-    match value_behind(alloc, b',', second, rest) {
-        Ok((y, rest)) => closed_pair(alloc, x, y, rest),
-        Err(failure) => {
-            drop(x);
-            Err(failure)
-        }
-    }
+    let (y, rest) = value_behind(alloc, b',', second, rest)?;
+    closed_pair(alloc, x, y, rest)
 }
 
 /// The pair of the values before its closing bracket, and what is after it.
@@ -238,14 +233,7 @@ fn pair_of<'a>(
 fn closed_pair(alloc: Global, x: Value, y: Value, bytes: &[u8]) -> Result<(Value, &[u8]), Failure>
     ensures { GivesRead (λ r. (r.0, r.1.now)) result (pair_closed x y bytes.now) }
 {
-    let rest = match byte_of(b')', bytes) {
-        Ok(rest) => rest,
-        Err(failure) => {
-            drop(x);
-            drop(y);
-            return Err(failure);
-        }
-    };
+    let rest = byte_of(b')', bytes)?;
     let Ok(value) = Value::pair(alloc, x, y) else {
         return Err(Failure::Memory);
     };
@@ -415,13 +403,10 @@ fn put_row(rows: &mut Vec<(Key, Value)>, key: Key, value: Value) -> Result<(), F
     ensures ok { OnOk result (rows.new.items ≡ rows.old.items ++ (key, value) ∷ []) }
     ensures err { IfErr result (λ e. e ≡ Memory) }
 {
-    match rows.push((key, value)) {
-        Ok(()) => Ok(()),
-        Err(failed) => {
-            drop(failed);
-            Err(Failure::Memory)
-        }
-    }
+    let Ok(()) = rows.push((key, value)) else {
+        return Err(Failure::Memory);
+    };
+    Ok(())
 }
 
 /// A row at the front, whose key is none of those seen, and what is after it. Its key is then seen.
@@ -438,13 +423,8 @@ fn row_in<'a>(
     ensures seen { IfOk result (λ x. map key_of seen.new.keys ≡ map key_of seen.old.keys ++ key_of x.0 ∷ []) }
 {
     let (key, rest) = new_key_in(alloc, keys, seen, bytes)?;
-    match value_behind(alloc, b':', values, rest) {
-        Ok((value, rest)) => Ok((key, value, rest)),
-        Err(failure) => {
-            drop(key);
-            Err(failure)
-        }
-    }
+    let (value, rest) = value_behind(alloc, b':', values, rest)?;
+    Ok((key, value, rest))
 }
 
 /// The value of a type whose spelling the bytes are, to the last byte.

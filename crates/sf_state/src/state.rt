@@ -19,7 +19,6 @@ use sf_prim::PrimState;
 use sf_term::{Join, Observation, Switching};
 use sf_value::Value;
 use std::alloc::{AllocError, Global};
-use std::mem;
 use std::rc::Rc;
 
 /// A part of a network, before its first sample or after it. It is whole in itself.
@@ -315,13 +314,13 @@ impl State {
             if let State::Live(around, own) = self {
                 if let Some(live) = Rc::get_mut(own) {
                     let shared = names.share()?;
-                    drop(mem::replace(around, shared));
+                    *around = shared;
                     return live.renew(alloc, node);
                 }
             }
         }
         let shared = other.share(alloc)?;
-        drop(mem::replace(self, shared));
+        *self = shared;
         Ok(())
     }
 }
@@ -383,14 +382,14 @@ impl Live {
             Live::Wrap(wrap, part) => {
                 if let Live::Wrap(kept, inner) = self {
                     let copy = wrap.clone_in(alloc)?;
-                    drop(mem::replace(kept, copy));
+                    *kept = copy;
                     return inner.renew(alloc, part);
                 }
             }
             _ => {}
         }
         let copy = other.clone_in(alloc)?;
-        drop(mem::replace(self, copy));
+        *self = copy;
         Ok(())
     }
 }

@@ -127,7 +127,7 @@ fn step_other<R: Holds>(
             let Ok(awake) = frozen.wake(context.alloc) else {
                 return Err(meter.stop(Fault::Memory));
             };
-            drop(mem::replace(state, awake));
+            *state = awake;
             step_state(&later, state, depth, value, meter)
         }
         // these are stepped in place, above

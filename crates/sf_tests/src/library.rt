@@ -11,14 +11,10 @@ use std::test::Fail;
 /// The network of a copy of a program.
 fn copied(alloc: Global, functions: &Registry) -> Result<Checked, Fail> {
     let program = read_network(alloc, DELAY)?;
-    let copy = program.clone_in(alloc);
-    drop(program);
-    match check(alloc, copy?, functions) {
+    let copy = program.clone_in(alloc)?;
+    match check(alloc, copy, functions) {
         Ok(checked) => Ok(checked),
-        Err(refused) => {
-            drop(refused);
-            Err(Fail::new("refused"))
-        }
+        Err(_) => Err(Fail::new("refused")),
     }
 }
 
@@ -40,9 +36,7 @@ fn sampled<F: Holds + Drop>(
     functions: F,
 ) -> Result<(Option<EngineError>, Told, Told, Told), Fail> {
     let mut engine = running(alloc, checked, functions)?;
-    let told = samples(&mut engine);
-    drop(engine);
-    told
+    samples(&mut engine)
 }
 
 #[test]

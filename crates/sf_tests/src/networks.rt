@@ -22,10 +22,7 @@ pub(crate) fn checked(
     let program = read_network(alloc, network)?;
     match check(alloc, program, functions) {
         Ok(checked) => Ok(checked),
-        Err(refused) => {
-            drop(refused);
-            Err(Fail::new("refused"))
-        }
+        Err(_) => Err(Fail::new("refused")),
     }
 }
 
@@ -37,10 +34,7 @@ pub(crate) fn running<F: Holds + Drop>(
 ) -> Result<Engine<F>, Fail> {
     match Engine::new(alloc, checked, functions, Mode::Plain) {
         Ok(engine) => Ok(engine),
-        Err(given) => {
-            drop(given);
-            Err(Fail::new("no memory"))
-        }
+        Err(_) => Err(Fail::new("no memory")),
     }
 }
 

@@ -28,9 +28,7 @@ fn read<F: Holds + Drop>(
     functions: F,
 ) -> Result<(Latest, Readings), Fail> {
     let mut engine = running(alloc, checked, functions)?;
-    let read = readings(alloc, &mut engine);
-    drop(engine);
-    read
+    readings(alloc, &mut engine)
 }
 
 fn is_last(latest: &Latest, name: &str, number: i64) -> bool {

@@ -12,8 +12,8 @@ use std::test::Fail;
 
 /// What an engine gives 5 behind a save at 10, what it gives 7 behind it after a return, and again 5 behind it.
 fn returns<F: Holds>(engine: &mut Engine<F>) -> Result<(Told, Told, Told), Fail> {
-    drop(engine.start(Value::int(1))?);
-    drop(engine.step(10, Some(Value::int(2)))?);
+    engine.start(Value::int(1))?;
+    engine.step(10, Some(Value::int(2)))?;
     engine.save("a")?;
     let first = told(&engine.step(5, Some(Value::int(3)))?);
     engine.back("a")?;
@@ -30,9 +30,7 @@ fn returned<F: Holds + Drop>(
     functions: F,
 ) -> Result<(Told, Told, Told), Fail> {
     let mut engine = running(alloc, checked, functions)?;
-    let told = returns(&mut engine);
-    drop(engine);
-    told
+    returns(&mut engine)
 }
 
 #[test]
@@ -64,9 +62,7 @@ fn embedded<F: Holds + Drop>(
     functions: F,
 ) -> Result<Embedded, Fail> {
     let mut engine = running(alloc, checked, functions)?;
-    let run = embeds(alloc, &mut engine);
-    drop(engine);
-    run
+    embeds(alloc, &mut engine)
 }
 
 #[test]
@@ -120,9 +116,7 @@ fn reacted<F: Holds + Drop, A: Actuator>(
 ) -> Result<(Option<EngineError>, bool, bool, bool), Fail> {
     let engine = running(alloc, checked, functions)?;
     let mut react = React::new(engine, actuator);
-    let told = reacts(&mut react);
-    drop(react);
-    told
+    reacts(&mut react)
 }
 
 #[test]

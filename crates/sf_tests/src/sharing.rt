@@ -78,13 +78,13 @@ fn gives_again(
     plan: &Plan,
     functions: &Registry,
 ) -> Result<Again, Fail> {
-    drop(given(alloc, state, plan, functions)?);
+    given(alloc, state, plan, functions)?;
     let source = source_owners(state);
     let mut shared = state.share(alloc)?;
     let before = owners(&shared);
     let running = given(alloc, state, plan, functions);
     if running.is_ok() {
-        drop(given(alloc, state, plan, functions));
+        let _ = given(alloc, state, plan, functions);
     }
     let after = owners(&shared);
     let resumed = given(alloc, &mut shared, plan, functions);
@@ -100,17 +100,13 @@ fn network_gives_again(alloc: Global, network: &[u8]) -> Result<Again, Fail> {
     let functions = Registry::new(alloc);
     let plan = planned(alloc, network, &functions)?;
     let mut state = State::unborn(plan.main());
-    let again = gives_again(alloc, &mut state, &plan, &functions);
-    drop(plan);
-    again
+    gives_again(alloc, &mut state, &plan, &functions)
 }
 
 /// The plan of a network.
 fn planned(alloc: Global, network: &[u8], functions: &Registry) -> Result<Plan, Fail> {
     let checked = checked(alloc, network, functions)?;
-    let plan = plain(alloc, &checked);
-    drop(checked);
-    Ok(plan?)
+    Ok(plain(alloc, &checked)?)
 }
 
 /// Whether a state that is renewed before each of three samples goes on as the running one.
@@ -176,9 +172,7 @@ fn a_renewed_state_goes_on_by_itself(rt: HostRuntime) -> Result<(), Fail> {
     let plan = planned(alloc, DELAYS, &functions)?;
     let mut running = State::unborn(plan.main());
     let mut renewed = State::unborn(plan.main());
-    let goes_on = renewed_goes_on(alloc, &mut renewed, &mut running, &plan, &functions);
-    drop((plan, running, renewed));
-    assert!(rt; goes_on?);
+    assert!(rt; renewed_goes_on(alloc, &mut renewed, &mut running, &plan, &functions)?);
     Ok(())
 }
 

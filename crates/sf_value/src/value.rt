@@ -32,7 +32,11 @@ impl Drop for Value {
     #[inline(always)]
     fn drop(self) {
         let Value { form } = self;
-        drop(form);
+        match form {
+            // what holds nothing needs no call
+            Form::Unit | Form::Bool(_) | Form::Int(_) | Form::NoEvent => {}
+            form => drop(form),
+        }
     }
 }
 

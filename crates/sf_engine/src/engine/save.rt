@@ -6,7 +6,6 @@ use sf_func::Holds;
 use sf_state::State;
 use sf_value::Value;
 use std::alloc::{AllocError, Global};
-use std::mem;
 
 const MOST_SAVES: usize = 64;
 
@@ -93,7 +92,7 @@ impl<F: Holds> Engine<F> {
         let Ok(copy) = save.share(self.alloc) else {
             return Err(EngineError::Memory);
         };
-        drop(mem::replace(&mut self.state, copy.state));
+        self.state = copy.state;
         self.time = copy.time;
         self.last = Some(copy.last);
         Ok(())
@@ -118,7 +117,7 @@ impl<F: Holds> Engine<F> {
             time: self.time,
             state: self.state.share(self.alloc)?,
         };
-        drop(self.saves.insert(key, save)?);
+        self.saves.insert(key, save)?;
         Ok(())
     }
 }

@@ -218,7 +218,7 @@ pub kept_output-returns : goal.kept_output-returns
 kept_output-returns t c =
     let p = c.args.context.now.program.now in
     let inner = c.in_ok-inner.ensures in
-    body_under _ p _ _ _ _ _ _ _ _ _ inner.program inner.context c.body_output-output.ensures
+    body_under _ p _ _ _ _ _ _ _ _ _ inner.program inner.context c.body_output.ensures
 
 pub output_of-returns-in-Named-Process-default-default : goal.output_of-returns-in-Named-Process-default-default
 output_of-returns-in-Named-Process-default-default t c = c.process_output.ensures

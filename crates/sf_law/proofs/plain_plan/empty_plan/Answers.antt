@@ -21,7 +21,7 @@ for_that P f b h (Ok a) is = subst P (sym is) h
 for_that P f b h (Err e) is = is
 
 pub new-requires : goal.new-requires
-new-requires c = templates_bound c.plan_templates.new.expressions c.templates.result.now c.in-Ok.templates.items c.in-Ok.ensures.copied
+new-requires c = templates_bound c.plan_templates.new.expressions c.templates.result.now c.in_ok-templates.templates.items c.in_ok-templates.ensures.copied
 
 pub returns-clause-kept : goal.returns-clause-kept
 returns-clause-kept c =
@@ -29,12 +29,12 @@ returns-clause-kept c =
     let y = c.in_ok-expressions.expressions in
     let z = c.plan_templates.new.expressions in
     let copy = subst (λ w. IsCopy w y) c.expressions.ensures c.in_ok-expressions.ensures in
-    for_that (Keeps x) _ z (keeps_trans x y z (unchanged_keeps x y copy) c.in-Ok.ensures.kept) c.new.result c.new.ensures.expressions
+    for_that (Keeps x) _ z (keeps_trans x y z (unchanged_keeps x y copy) c.in_ok-templates.ensures.kept) c.new.result c.new.ensures.expressions
 
 pub returns-clause-copied : goal.returns-clause-copied
 returns-clause-copied c =
     let z = c.plan_templates.new.expressions in
     let hs = program_headers c.args.program.now in
-    let ms = c.in-Ok.templates.items in
-    let made = subst (λ hs. AllZip (CopiesTemplate z) hs ms) c.templates.ensures.templates c.in-Ok.ensures.copied in
+    let ms = c.in_ok-templates.templates.items in
+    let made = subst (λ hs. AllZip (CopiesTemplate z) hs ms) c.templates.ensures.templates c.in_ok-templates.ensures.copied in
     for_those (λ (x : Exprs) (ms : List PlanHeader). AllZip (CopiesTemplate x) hs ms) _ _ z ms made c.new.result c.new.ensures.expressions c.new.ensures.templates

@@ -23,7 +23,7 @@ returns-in-Ok-new-clause-told g c = λ net text.
     let fresh = c.in-Ok-new.ensures n m c.in-Ok.ensures.runs in
     plays text c.requires.fits (main_found c.args.checked c.requires.fits) (c.run.ensures.told c.args.options.probes n m fresh.0)
 
-pub returns-in-Err-new-clause-told : goal.returns-in-Err-new-clause-told
-returns-in-Err-new-clause-told g c = λ net text.
+pub returns-clause-told : goal.returns-clause-told
+returns-clause-told g c = λ net text.
     plays text c.requires.fits (main_found c.args.checked c.requires.fits)
     (c.refuse_lines.ensures.told c.args.options.probes (network_of (g.F.Holds.answers c.args.functions) (program_of c.args.checked)) (checked_main c.args.checked) _)

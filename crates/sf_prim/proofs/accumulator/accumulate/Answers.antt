@@ -10,4 +10,4 @@ mapped_comes f (Some x) = refl
 
 pub returns-clause-shows : goal.returns-clause-shows
 returns-clause-shows g c =
-    rw c.replace-2.ensures.after (c.in_ok-shown.ensures (coming c.args.accumulator.now.form c.args.value.now) (ap is_some (sym c.in_ok-came.ensures) ∙ mapped_comes _ c.in_ok-came.came ∙ sym c.is_some-comes.ensures))
+    c.in_ok-shown.ensures (coming c.args.accumulator.now.form c.args.value.now) (ap is_some (sym c.in_ok-came.ensures) ∙ mapped_comes _ c.in_ok-came.came ∙ sym c.is_some-comes.ensures)

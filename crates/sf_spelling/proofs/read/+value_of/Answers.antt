@@ -51,10 +51,10 @@ row_in-returns-in_err-key-clause-row t c = fails_so _ _ _ _ c.from_residual.ensu
 pub pair_of-returns-in_err-x : goal.pair_of-returns-in_err-x
 pair_of-returns-in_err-x t c = fails_so _ _ _ _ c.from_residual.ensures.1 (first_fails c.args.first.now c.args.second.now c.args.bytes.now _ c.in_err-x.ensures)
 
-pub pair_of-returns-in-Err : goal.pair_of-returns-in-Err
-pair_of-returns-in-Err t c = second_fails c.args.first.now c.args.second.now c.args.bytes.now c.in_ok-x.x c.in_ok-x.rest.now c.in_ok-x.ensures c.in-Err.failure c.in-Err.ensures
+pub pair_of-returns-in_err-y : goal.pair_of-returns-in_err-y
+pair_of-returns-in_err-y t c = fails_so _ _ _ _ c.from_residual-in_err-y.ensures.1 (second_fails c.args.first.now c.args.second.now c.args.bytes.now c.in_ok-x.x c.in_ok-x.rest.now c.in_ok-x.ensures _ c.in_err-y.ensures)
 
-pub pair_of-returns-in-Ok : goal.pair_of-returns-in-Ok
-pair_of-returns-in-Ok t c =
-    let left = bracket_left c.args.first.now c.args.second.now c.args.bytes.now c.in_ok-x.x c.in_ok-x.rest.now c.in_ok-x.ensures c.in-Ok.y c.in-Ok.rest.now c.in-Ok.ensures in
+pub pair_of-returns : goal.pair_of-returns
+pair_of-returns t c =
+    let left = bracket_left c.args.first.now c.args.second.now c.args.bytes.now c.in_ok-x.x c.in_ok-x.rest.now c.in_ok-x.ensures c.in_ok-y.y c.in_ok-y.rest.now c.in_ok-y.ensures in
     subst (λ o. GivesRead (λ x. (x.0, x.1.now)) c.closed_pair.result o) (sym left) c.closed_pair.ensures

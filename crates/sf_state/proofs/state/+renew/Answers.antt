@@ -3,8 +3,8 @@ use Rattle.sf_state.proofs.state.+renew.Goals as goal
 
 pub State::renew-returns-in-Some : goal.State::renew-returns-in-Some
 State::renew-returns-in-Some t c =
-    rw c.replace.ensures.after (where_ok c.renew.result (λ h φ p P L A.
-    alive_follows φ p c.in-Live.names c.in_ok-shared.shared c.in-Live.node.value c.renew.new.self (c.in_ok-shared.ensures φ p) (h φ p) P L (rw c.in-Live.is at A)) (rw c.deref.ensures at c.renew.ensures))
+    where_ok c.renew.result (λ h φ p P L A.
+    alive_follows φ p c.in-Live.names c.in_ok-shared.shared c.in-Live.node.value c.renew.new.self (c.in_ok-shared.ensures φ p) (h φ p) P L (rw c.in-Live.is at A)) (rw c.deref.ensures at c.renew.ensures)
 
 pub Live::renew-returns-in-Join-self : goal.Live::renew-returns-in-Join-self
 Live::renew-returns-in-Join-self t c =
@@ -13,5 +13,5 @@ Live::renew-returns-in-Join-self t c =
 
 pub Live::renew-returns-in-Wrap-self : goal.Live::renew-returns-in-Wrap-self
 Live::renew-returns-in-Wrap-self t c =
-    rw c.replace.ensures.after (where_ok c.renew-in-Wrap-self.result (λ h φ p P x L R.
-    wrap_follows φ p c.in-Wrap.wrap c.in_ok-copy-in-Wrap.copy c.in-Wrap.part c.renew-in-Wrap-self.new.self c.in_ok-copy-in-Wrap.ensures (h φ p) P x L (rw c.in-Wrap.is at R)) c.renew-in-Wrap-self.ensures)
+    where_ok c.renew-in-Wrap-self.result (λ h φ p P x L R.
+    wrap_follows φ p c.in-Wrap.wrap c.in_ok-copy-in-Wrap.copy c.in-Wrap.part c.renew-in-Wrap-self.new.self c.in_ok-copy-in-Wrap.ensures (h φ p) P x L (rw c.in-Wrap.is at R)) c.renew-in-Wrap-self.ensures

@@ -417,7 +417,7 @@ step_other-returns-in-Ok g t c = λ P L A.
     (subst (λ (f : Frozen). (P : Process) (L : Life) → Stands (g.R.Holds.answers c.args.context.now.functions.now) c.args.context.now.plan.now (kept_state f.names f.node) P L → Stands (g.R.Holds.answers c.args.context.now.functions.now) c.args.context.now.plan.now c.in-Ok.awake P L)
     c.deref-in-Frozen.ensures (c.in-Ok.ensures.stands (g.R.Holds.answers c.args.context.now.functions.now) c.args.context.now.plan.now))
     (subst (λ (f : Frozen). StateSteps (g.R.Holds.answers c.args.context.now.functions.now) c.args.context.now.plan.now c.in-Ok.awake (step f.wait c.args.value.now) r c.args.meter.now c.step_state-in-Frozen.new.meter c.args.depth)
-    c.deref.ensures (rw c.replace.ensures.after at c.step_state-in-Frozen.ensures)) P L (rw c.in-Frozen.is at A)
+    c.deref.ensures c.step_state-in-Frozen.ensures) P L (rw c.in-Frozen.is at A)
 
 pub step_keeping-returns-in_default : goal.step_keeping-returns-in_default
 step_keeping-returns-in_default g t c = λ m depth t T e L N W. early_memory (g.R.Holds.answers c.args.context.now.functions.now) c.args.context.now.plan.now t c.stop.ensures.entered c.stop.ensures.height c.stop.ensures.fault

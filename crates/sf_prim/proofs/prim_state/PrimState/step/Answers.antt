@@ -34,7 +34,7 @@ pub returns-in-Count : goal.returns-in-Count
 returns-in-Count g c = λ q scope L same k. count_goes_on q scope _ _ L _ _ _ _ c.count_event.ensures.told c.count_event.ensures.kept (rw c.in-Count.is at k)
 
 pub returns-in-Now : goal.returns-in-Now
-returns-in-Now g c = λ q scope L same k. rw c.replace-in-Now.ensures.after (now_goes_on q scope _ L _ _ _ (rw c.replace-given.ensures.value at c.announce.ensures) (rw c.in-Now.is at k))
+returns-in-Now g c = λ q scope L same k. now_goes_on q scope _ L _ _ _ (rw c.replace-given.ensures.value at c.announce.ensures) (rw c.in-Now.is at k)
 
 pub returns-in-Hold : goal.returns-in-Hold
 returns-in-Hold g c = λ q scope L same k. hold_goes_on q scope _ _ L _ _ _ _ c.hold.ensures.told c.hold.ensures.kept (rw c.in-Hold.is at k)

@@ -1,4 +1,4 @@
-use Rattle.std.proofs.Common.{◌≡◌, ◌++◌, List, [], ◌∷◌, Some, None, sym, ap, ◌∙◌, subst, is_some, rules}
+use Rattle.std.proofs.Common.{◌≡◌, ◌++◌, List, [], ◌∷◌, Some, None, sym, ap, subst, is_some, rules}
 use Rattle.std.specs.Prelude.{OnOk, OnErr}
 use Rattle.std.proofs.lemmas.Map.Text.{hash_map_updates_text}
 use Rattle.std.specs.HashMap.{get_by_text}
@@ -9,11 +9,11 @@ use Rattle.sf_probe.proofs.latest.Latest.put.Goals as goal
 
 pub returns-in-Some-clause-ok : goal.returns-in-Some-clause-ok
 returns-in-Some-clause-ok c = λ noted h.
-    let put = c.replace.new.dest in
+    let put = c.in_ok-copy.copy in
     let new = c.get_mut.follows.lender put in
     let written = c.get_mut.follows.holds put in
     let there = ap is_some (sym c.in-Some.ensures.value) in
-    subst (λ (v : Data). HasNoted (record { alloc = c.args.self.now.alloc; values = new }) (noted ++ (c.args.name.now, v) ∷ [])) (c.replace.ensures.after ∙ c.in_ok-copy.ensures)
+    subst (λ (v : Data). HasNoted (record { alloc = c.args.self.now.alloc; values = new }) (noted ++ (c.args.name.now, v) ∷ [])) c.in_ok-copy.ensures
     (one_more c.args.self.now (record { alloc = c.args.self.now.alloc; values = new }) c.args.name.now put
     (hash_map_updates_text c.args.name.now c.args.self.now.values new (Some put) (written.3 (search rules)))
     (named_there c.args.self.now c.args.name.now new.entries there written.1) noted h)

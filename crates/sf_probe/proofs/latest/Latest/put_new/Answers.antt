@@ -9,13 +9,13 @@ use Rattle.sf_probe.specs.Latest.{latest_value}
 use Rattle.sf_probe.proofs.Noting.{one_more, named_new}
 use Rattle.sf_probe.proofs.latest.Latest.put_new.Goals as goal
 
-pub returns-in-Ok-insert-clause-ok : goal.returns-in-Ok-insert-clause-ok
-returns-in-Ok-insert-clause-ok c = λ noted h.
+pub returns-clause-ok : goal.returns-clause-ok
+returns-clause-ok c = λ noted h.
     let old = c.args.self.now in
     let new = record old { values = c.insert.new.self } in
-    let key = c.in-Ok.key in
+    let key = c.in_ok-key.key in
     let value = c.args.value in
-    let none_named = subst (λ (n : Name). get_by_text old.values n ≡ None) (sym c.in-Ok.ensures.ok) c.requires in
+    let none_named = subst (λ (n : Name). get_by_text old.values n ≡ None) (sym c.in_ok-key.ensures.ok) c.requires in
     one_more old new c.args.name.now value
-    (subst (λ (n : Name). (q : Name) → latest_value q new ≡ cond (bytes_eq n q) (Some value) (latest_value q old)) c.in-Ok.ensures.ok (hash_map_updates_text (string_bytes key) old.values new.values (Some value) c.in-Ok-insert.ensures.updates))
-    (named_new old c.args.name.now new.values.entries key value c.in-Ok.ensures.ok c.requires (c.in-Ok-insert.ensures.entries ∙ insert_entry-new string_eq old.values key value none_named)) noted h
+    (subst (λ (n : Name). (q : Name) → latest_value q new ≡ cond (bytes_eq n q) (Some value) (latest_value q old)) c.in_ok-key.ensures.ok (hash_map_updates_text (string_bytes key) old.values new.values (Some value) c.in_ok-insert.ensures.updates))
+    (named_new old c.args.name.now new.values.entries key value c.in_ok-key.ensures.ok c.requires (c.in_ok-insert.ensures.entries ∙ insert_entry-new string_eq old.values key value none_named)) noted h
