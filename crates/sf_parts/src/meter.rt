@@ -79,7 +79,11 @@ impl Meter {
     /// What the probes of the sample recorded, in order. It leaves no readings.
     #[tactic(auto, unfolding(crate::specs::Meters::readings))]
     pub fn take_readings(&mut self, alloc: Global) -> Readings
-        ensures { readings_of result ≡ recorded_in self.old }
+        ensures taken { readings_of result ≡ recorded_in self.old }
+        ensures none { recorded_in self.new ≡ [] }
+        ensures entered { entered_of self.new ≡ entered_of self.old }
+        ensures height { height_of self.new ≡ height_of self.old }
+        ensures fault { fault_of self.new ≡ fault_of self.old }
     {
         mem::replace(&mut self.readings, Readings::new(alloc))
     }
