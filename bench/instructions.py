@@ -1,11 +1,13 @@
-"""Counts the instructions a node and the allocations a sample of `sfplay` on some networks, by valgrind, beside the most that is wanted.
+"""Counts the instructions and the allocations a sample of `sfplay` on some networks, by valgrind, as they are written and as they are
+rewritten, each beside the most that is wanted.
 
     python3 bench/instructions.py [--exe PATH]
 
 Each network is played on 1,000 and on 3,000 lines, so that the difference is free of what the start costs, and it doesn't
-depend on how busy the machine is. The instructions of a node are those of a sample less those of the network `identity`,
-which are the cost of a line in and out, by the nodes that a sample enters. A running total is shown by the whole sample.
-What may be frozen at a sample is held as it was before, so each of its nodes is copied: 200 instructions more.
+depend on how busy the machine is. As a network is written, what is wanted is said of a node, whose instructions are those of a
+sample less those of the network `identity`, which are the cost of a line in and out, by the nodes that a sample enters. A running
+total is shown by the whole sample, and so is all that is rewritten. What may be frozen at a sample is held as it was before, so
+each of its nodes is copied: 200 instructions more. The instructions of a run without lines come last.
 Without valgrind nothing is counted, and the status is 0.
 """
 
@@ -22,6 +24,10 @@ from run import input_lines
 
 HERE = os.path.dirname(os.path.abspath(__file__))
 FEW, MANY = 1000, 3000
+# 50 times `identity` may take so many instructions more than once, where they are rewritten.
+MORE_FOR_IDENTITIES = 20
+# A run of a rewritten network may take so many times the instructions of one as it is written, where no lines are played.
+MOST_FOR_START = 1.10
 
 
 def chain(term, count):
@@ -31,16 +37,26 @@ def chain(term, count):
     return f"({chain(term, count // 2)} >>> {chain(term, count - count // 2)})"
 
 
+def left_spine(term, count):
+    return "(" * (count - 1) + term + f" >>> {term})" * (count - 1)
+
+
+def right_spine(term, count):
+    return f"({term} >>> " * (count - 1) + term + ")" * (count - 1)
+
+
 # What some of them call.
 TEMPLATE = "template passed(n: Int): Int ~> Int = identity;"
-# Each with its type, its term, the nodes that a sample enters, and the most instructions a node (of the last one, a sample)
-# and allocations a sample.
-PAIRED = "arr x => (x, x)"
+# Each with its type, its term, and as it is written the nodes that a sample enters, the most instructions a node (of the last
+# one, a sample) and allocations a sample.
+PAIRED, ADDED = "arr x => (x, x)", "arr x => (x + 1)"
 NETWORKS = {
     "identity": ("Int ~> Int", "identity", 1, None, None),
     "50 identity": ("Int ~> Int", chain("identity", 50), 99, 60, 0),
     "50 iPre 0": ("Int ~> Int", chain("iPre 0", 50), 99, 60, 0),
-    "50 arr x => (x + 1)": ("Int ~> Int", chain("arr x => (x + 1)", 50), 99, 120, 0),
+    "50 arr": ("Int ~> Int", chain(ADDED, 50), 99, 120, 0),
+    "50 arr, left spine": ("Int ~> Int", left_spine(ADDED, 50), 99, 120, 0),
+    "50 arr, right spine": ("Int ~> Int", right_spine(ADDED, 50), 99, 120, 0),
     "50 swaps of a pair": ("Int ~> (Int, Int)", f"({PAIRED} >>> {chain('arr (x, y) => (y, x)', 50)})", 101, 250, 2),
     "50 first iPre 0": ("Int ~> (Int, Int)", f"({PAIRED} >>> {chain('first iPre 0', 50)})", 151, 90, 3),
     "50 fired switches": ("Int ~> Int", chain("switch((identity &&& now ()), _ => identity)", 50), 99, 60, 0),
@@ -50,6 +66,16 @@ NETWORKS = {
     "50 iPre 0 to freeze": ("Int ~> Int", f"kSwitch({chain('iPre 0', 50)}, never Int, k, _ => identity)", 101, 260, 2),
     "running total": ("Int ~> Int", TIMED["total"], None, 2000, 4),
 }
+# Where they are rewritten, the most instructions and allocations a sample.
+REWRITTEN = {
+    "50 arr": (4500, 0),
+    "50 arr, left spine": (4500, 0),
+    "50 arr, right spine": (4500, 0),
+    "50 swaps of a pair": (8000, 2),
+}
+# Which are started without lines.
+STARTED = ("identity", "50 arr", "running total")
+ROW = "{:<20} {:>12} {:>7} {:>5} {:>12} {:>5} {:>14} {:>5} {:>12} {:>5}".format
 
 
 def counted(tool, pattern, words, lines):
@@ -74,6 +100,21 @@ def a_sample(count, words):
     return (many - few) / (MANY - FEW)
 
 
+def shown(most):
+    return "" if most is None else most
+
+
+def row_of(name, plain, rewritten, line):
+    """What a sample of a network takes in both modes, each as its instructions and allocations, beside what one of `identity` takes."""
+    _, _, nodes, most, most_allocated = NETWORKS[name]
+    most_rewritten, most_allocated_rewritten = REWRITTEN.get(name, (None, None))
+    if name == "50 identity":
+        most_rewritten, most_allocated_rewritten = round(line[1][0]) + MORE_FOR_IDENTITIES, 0
+    node = f"{(plain[0] - line[0][0]) / (nodes - 1):.0f}" if nodes and nodes > 1 else ""
+    written = (f"{plain[0]:.0f}", node, shown(most), f"{plain[1]:.1f}", shown(most_allocated))
+    return ROW(name, *written, f"{rewritten[0]:.0f}", shown(most_rewritten), f"{rewritten[1]:.1f}", shown(most_allocated_rewritten))
+
+
 def main():
     parser = argparse.ArgumentParser()
     parser.add_argument("--exe", default=os.path.join(HERE, "..", "crates", "sfplay", "out", "sfplay"))
@@ -81,20 +122,26 @@ def main():
     if not shutil.which("valgrind"):
         print("instructions: skipped, since valgrind is not installed")
         return
-    row = "{:<20} {:>21} {:>19} {:>12} {:>21} {:>12}".format
-    print(row("network", "instructions a sample", "instructions a node", "wanted most", "allocations a sample", "wanted most"))
-    line = 0
+    print(f"{'a sample':20} {'as it is written':^45} {'rewritten':^39}".rstrip())
+    print(ROW("network", "instructions", "a node", "most", "allocations", "most", "instructions", "most", "allocations", "most"))
+    line, starts = None, {}
     with tempfile.TemporaryDirectory() as place:
-        for name, (types, term, nodes, most, most_allocated) in NETWORKS.items():
-            path = os.path.join(place, "network")
+        path = os.path.join(place, "network")
+        words = [os.path.abspath(options.exe), path]
+        for name, (types, term, *_) in NETWORKS.items():
             with open(path, "w") as file:
                 file.write(f"network 1;\n{TEMPLATE}\ntemplate main(): {types} = {term};\n")
-            words = [os.path.abspath(options.exe), path, "--plain"]
-            sample = a_sample(instructions, words)
-            allocated = a_sample(allocations, words)
-            line = line or sample
-            node = "" if nodes in (None, 1) else f"{(sample - line) / (nodes - 1):.0f}"
-            print(row(name, f"{sample:.0f}", node, most or "", f"{allocated:.1f}", "" if most_allocated is None else most_allocated))
+            modes = [[*words, "--plain"], words]
+            counts = [[a_sample(count, mode) for count in (instructions, allocations)] for mode in modes]
+            line = line or counts
+            print(row_of(name, *counts, line))
+            if name in STARTED:
+                starts[name] = [instructions(mode, "") for mode in modes]
+    row = "{:<20} {:>16} {:>10} {:>6} {:>12}".format
+    print()
+    print(row("started", "as it is written", "rewritten", "ratio", "wanted most"))
+    for name, (plain, rewritten) in starts.items():
+        print(row(name, plain, rewritten, f"{rewritten / plain:.2f}", f"{MOST_FOR_START:.2f}"))
 
 
 if __name__ == "__main__":

@@ -2,9 +2,9 @@
 
     python3 bench/run.py [--exe PATH] [--lines N] [--rounds N]
 
-The networks are `iPre 7` and a running total by feedback. Printed are the time and the peak memory of both programs, the
-ratio of the times (the best of the rounds counts), and the processor time that `sfplay` spends on the first and on the
-last tenth of the lines. The baseline is built with `rustc -O`.
+The networks are `iPre 7` and a running total by feedback. No law rewrites them, so they run as they would with --plain. Printed
+are the time and the peak memory of both programs, the ratio of the times (the best of the rounds counts), and the processor time
+that `sfplay` spends on the first and on the last tenth of the lines. The baseline is built with `rustc -O`.
 """
 
 import argparse

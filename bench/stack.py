@@ -3,8 +3,9 @@
     python3 bench/stack.py [--exe PATH]
 
 No text is so deep: a process is frozen at its first sample inside more and more of one form, and the next, frozen likewise, runs it.
-For each form the least limit of the stack under which the network still gives what it should is printed, beside the bytes a node; an
-ordinary Linux process has 8,192 KiB. `crates/sfplay/out` holds the program of each of the two compilers once `rt ci` has run.
+For each form the least limit of the stack under which the network still gives what it should is printed: as it is written, beside
+the bytes a node, and as it is rewritten, where fewer nodes may stand one inside another. An ordinary Linux process has 8,192 KiB.
+`crates/sfplay/out` holds the program of each of the two compilers once `rt ci` has run.
 """
 
 import argparse
@@ -53,18 +54,18 @@ def network(before, after, nodes, depth, is_held=False):
         high += fit * nodes + 1
 
 
-def goes(exe, path, limit):
-    words = ["sh", "-c", f'ulimit -s {limit} && exec "$0" "$1"', exe, path]
+def goes(words, limit):
+    words = ["sh", "-c", f'ulimit -s {limit} && exec "$0" "$@"', *words]
     done = subprocess.run(words, input=b"0 5\n1 6\n", stdout=subprocess.PIPE, stderr=subprocess.DEVNULL)
     return done.returncode == 0 and done.stdout == b"> 0 5\n> 1 6\n"
 
 
-def least(exe, path):
+def least(words):
     """The least limit of the stack in KiB, to 8 KiB."""
     low, high = 0, 65536
     while high - low > 8:
         middle = (low + high) // 2
-        low, high = (low, middle) if goes(exe, path, middle) else (middle, high)
+        low, high = (low, middle) if goes(words, middle) else (middle, high)
     return high
 
 
@@ -74,15 +75,15 @@ def main():
     exe = os.path.abspath(parser.parse_args().exe)
     if not os.path.exists(exe):
         sys.exit(f"stack: {exe} is not there: build it with ./sfplay")
-    print(f"{'one inside another':20} {'nodes':>6} {'stack, KiB':>11} {'a node, bytes':>14}")
+    print(f"{'one inside another':20} {'nodes':>6} {'stack, KiB':>11} {'a node, bytes':>14} {'rewritten, KiB':>15}")
     with tempfile.TemporaryDirectory() as place:
         path = os.path.join(place, "network")
         for name, form in [*FORMS.items(), (HELD, FORMS[">>>, right"])]:
             text, high = network(*form, is_held=name == HELD)
             with open(path, "w") as file:
                 file.write(text)
-            needs = least(exe, path)
-            print(f"{name:20} {high:6} {needs:11,} {needs * 1024 // high:14,}")
+            plain, rewritten = least([exe, path, "--plain"]), least([exe, path])
+            print(f"{name:20} {high:6} {plain:11,} {plain * 1024 // high:14,} {rewritten:15,}")
 
 
 if __name__ == "__main__":

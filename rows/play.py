@@ -2,7 +2,8 @@
 
     python3 rows/play.py --exe PATH [--only NAME] [--timeout SECONDS]
 
-All are expected to pass, and each form of the language that forms.json lists has to stand in the network of one that runs.
+A row with `"plain": true` is played with --plain alone: a sample that is too large as it is written may have a value where it is
+rewritten. All are expected to pass, and each form of the language that forms.json lists has to stand in the network of one that runs.
 The last line is `N passed, M failed`.
 """
 
@@ -36,6 +37,13 @@ def example(name):
     last = output.splitlines()[-1]
     status = 4 if last.startswith("! line ") else 3 if last.startswith("! ") else 0
     return {"name": f"example {name}", "network": network, "arguments": [], "input": lines, "output": output, "errors": "", "status": status}
+
+
+def rows_and_examples():
+    """The rows of rows.json, and behind them the examples."""
+    with open(os.path.join(HERE, "rows.json"), encoding="utf-8") as file:
+        rows = json.load(file)
+    return rows + [example(name[: -len(".net")]) for name in sorted(os.listdir(EXAMPLES)) if name.endswith(".net")]
 
 
 def play_live(words, row, timeout):
@@ -98,13 +106,10 @@ def main():
     parser.add_argument("--only")
     parser.add_argument("--timeout", type=float, default=120)
     options = parser.parse_args()
-    with open(os.path.join(HERE, "rows.json"), encoding="utf-8") as file:
-        rows = json.load(file)
-    rows += [example(name[: -len(".net")]) for name in sorted(os.listdir(EXAMPLES)) if name.endswith(".net")]
     passed = failed = 0
     networks = []
     with tempfile.TemporaryDirectory() as place:
-        for row in rows:
+        for row in rows_and_examples():
             if options.only and row["name"] != options.only:
                 continue
             network = os.path.join(place, "absent" if row["network"] is None else "network")
@@ -113,7 +118,8 @@ def main():
                     file.write(text_of(row["network"]))
             if row["status"] in (0, 3):
                 networks.append(text_of(row["network"]))
-            for mode in ([], ["--plain"]):
+            modes = [["--plain"]] if row.get("plain") else [[], ["--plain"]]
+            for mode in modes:
                 words = [os.path.abspath(options.exe), network, *row["arguments"], *mode]
                 try:
                     found = faults(row, *play(words, row, options.timeout))

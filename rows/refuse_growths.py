@@ -1,6 +1,8 @@
-"""Plays nine networks, a delay of numbers, a loop over pairs, one of texts, events and tables with functions inside, one that calls
-stored functions, one that switches, one that freezes a process and runs it twice, one whose state is saved and returned to, one of
-templates that are given values and processes, and one with a probe in what is begun anew, on a few lines with each growth of memory refused in turn.
+"""Plays networks on a few lines with each growth of memory refused in turn, each with and without --plain.
+
+There are a delay of numbers, a loop over pairs, one of texts, events and tables with functions inside, one that calls stored
+functions, one that switches, one that freezes a process and runs it twice, one whose state is saved and returned to, one of templates
+that are given values and processes, and one with a probe in what is begun anew; and then networks that laws rewrite.
 
     python3 rows/refuse_growths.py --exe PATH
 
@@ -51,6 +53,30 @@ RUNS = [
      samples(["1", "2", "3"], ["1", "180", "220"])),
     ("Int ~> Int = kSwitch((iPre 7 >>> probe before), arr (x, _) => gate(event x, (x > 1)), k, c => ((fresh k &&& run k) >>> arr (u, v) => ((u + v) * c)))",
      [("0 1", "? before 7\n> 0 7"), ("16 2", "? before 1\n? before 7\n? before 1\n> 16 16"), ("16 3", "? before 2\n? before 2\n> 32 8")], "--probes"),
+    # functions that are neighbours, of which two share their input
+    ("Int ~> (Int, Int) = ((arr x => (x + 1) >>> arr x => (x * 2)) >>> (arr x => (x - 3) &&& arr x => (x + 3)))",
+     samples(["1", "2", "3"], ["(1,7)", "(3,9)", "(5,11)"])),
+    # what passes its inputs on, and a pipeline that is frozen
+    ("Int ~> Int = kSwitch(((iPre 7 >>> identity) >>> (iPre 8 >>> iPre 9)), arr (x, _) => gate(event (), (x > 1)), k,"
+     " _ => ((run k &&& run k) >>> arr (u, v) => (u * v)))",
+     samples(["1", "2", "3", "4"], ["9", "64", "49", "1"])),
+    # parts on one side, and functions there
+    ("(Int, Int) ~> (Int, Int) = ((first iPre 7 >>> first iPre 8) >>> (second arr x => (x + 1) >>> (arr x => (x * 2) *** arr x => (x * 3))))",
+     samples(["(1,2)", "(3,4)", "(5,6)"], ["(16,9)", "(14,15)", "(2,21)"])),
+    # parts on two sides that change places
+    ("(Int, Int) ~> (Int, Int) = ((identity *** iPre 7) >>> (iPre 8 *** identity))",
+     samples(["(1,2)", "(3,4)", "(5,6)"], ["(8,7)", "(1,2)", "(3,4)"])),
+    # parts of loops that stand before and behind what is fed back
+    ("Int ~> (Int, Int) = (loopPre(0, (first iPre 7 >>> arr (x, s) => ((x + s), (x + s)))) &&&"
+     " loopPre(0, (arr (x, s) => ((x + s), (x + s)) >>> first iPre 7)))",
+     samples(["1", "2", "3"], ["(7,7)", "(8,1)", "(10,3)"])),
+    # a constant behind what has no effect
+    ("Int ~> (Int, Text) = (iPre 3 &&& ((iPre 7 >>> iPre 8) >>> constant \"five\"))",
+     samples(["1", "2", "3"], ['(3,"five")', '(1,"five")', '(2,"five")'])),
+    # laws in the term of a template, in an argument and in the body of a switch
+    ("Int ~> Int = switch((identity &&& arr x => gate(event x, (x > 1))), c => twice(sf (iPre 7 >>> (identity >>> arr y => (y + c)))));"
+     "\ntemplate twice(f: Int ~> Int): Int ~> Int = ((run f >>> identity) >>> (run f >>> arr x => (x * 2)))",
+     samples(["1", "2", "3"], ["1", "18", "22"])),
 ]
 
 
@@ -74,6 +100,7 @@ def play(exe, place, shim, network, script, *arguments):
         file.write(f"network 2;\ntemplate main(): {network};\n")
     lines = "".join(f"{line}\n" for line, _ in script).encode("ascii")
     wanted = allowed(script)
+    played = " ".join([network, *arguments])
     passed = failed = number = 0
     ends = set()
     while 0 not in ends and number < 1000:
@@ -86,13 +113,13 @@ def play(exe, place, shim, network, script, *arguments):
         passed, failed = passed + well, failed + (not well)
         ends.add(done.returncode)
         if not well:
-            print(f"{network}: growth {number} refused: {answer!r}")
+            print(f"{played}: growth {number} refused: {answer!r}")
     due = [(0, "a run with no growth refused"), (5, "a network refused for memory"), (3, "a sample without memory")]
     due += [(4, "a save or a return without memory")] if not all(text for _, text in script) else []
     for status, what in due:
         if status not in ends:
             failed += 1
-            print(f"{network}: never met: {what}")
+            print(f"{played}: never met: {what}")
     return passed, failed
 
 
@@ -103,7 +130,8 @@ def main():
     with tempfile.TemporaryDirectory() as place:
         shim = os.path.join(place, "refused_growth.so")
         subprocess.run(["cc", "-O1", "-shared", "-fPIC", "-o", shim, os.path.join(HERE, "refused_growth.c"), "-ldl"], check=True)
-        counts = [play(os.path.abspath(options.exe), place, shim, *run) for run in RUNS]
+        exe = os.path.abspath(options.exe)
+        counts = [play(exe, place, shim, *run, *mode) for run in RUNS for mode in ([], ["--plain"])]
     passed, failed = (sum(part) for part in zip(*counts))
     print(f"{passed} passed, {failed} failed")
     return 1 if failed else 0

@@ -1,4 +1,5 @@
-"""Plays networks that are rewired all the time on 100,000 samples and on 1,000,000, and looks whether memory stays flat.
+"""Plays networks that are rewired all the time on 100,000 samples and on 1,000,000, each with and without --plain, and looks whether
+memory stays flat.
 
     python3 rows/soak.py --exe PATH
 
@@ -17,6 +18,9 @@ import threading
 RUNS = [
     ("begins anew at every third sample", "(Int, Event Int) ~> Int = rSwitch(identity, c => (integral >>> arr x => (x + c)))",
      ["(1,event 10)", "(2,none)", "(3,none)"], lambda number: (10, 11, 13)[number % 3]),
+    ("begins anew as a pipeline whose last stage is two functions made into one",
+     "(Int, Event Int) ~> Int = rSwitch(identity, c => ((integral >>> iPre 0) >>> (arr x => (x + c) >>> arr x => (x * 2))))",
+     ["(1,event 10)", "(2,none)", "(3,none)"], lambda number: (20, 20, 22)[number % 3]),
     ("is frozen and goes on at every second sample",
      "(Unit, Event Unit) ~> Int = rSwitch(constant -1, _ => kSwitch(localTime, arr (_, t) => if (t > 0) then event () else none Unit, k,"
      " _ => ((run k &&& run k) >>> arr (a, b) => (a + b))))",
@@ -27,7 +31,7 @@ RUNS = [
 ]
 
 
-def play(exe, network, inputs, wanted, samples):
+def play(words, inputs, wanted, samples):
     """Whether the output is what is wanted, and the most memory that the run held, in KiB."""
     from_writer, to_program = os.pipe()
     from_program, to_reader = os.pipe()
@@ -36,7 +40,7 @@ def play(exe, network, inputs, wanted, samples):
         os.dup2(from_writer, 0)
         os.dup2(to_reader, 1)
         os.closerange(3, 256)
-        os.execv(exe, [exe, network])
+        os.execv(words[0], words)
     os.close(from_writer)
     os.close(to_reader)
 
@@ -57,6 +61,19 @@ def play(exe, network, inputs, wanted, samples):
     return good and written == samples and status == 0, used.ru_maxrss
 
 
+def faults(words, inputs, wanted):
+    """What three looks found: at the outputs of both runs and at what they held."""
+    found, held = [], []
+    for samples in (100_000, 1_000_000):
+        good, most = play(words, inputs, wanted, samples)
+        held.append(most)
+        if not good:
+            found.append(f"another output in {samples:,} samples")
+    if held[1] * 100 > held[0] * 105:
+        found.append(f"{held[0]:,} KiB held in 100,000 samples and {held[1]:,} KiB in 1,000,000")
+    return found
+
+
 def main():
     parser = argparse.ArgumentParser()
     parser.add_argument("--exe", required=True)
@@ -68,20 +85,11 @@ def main():
         for name, text, inputs, wanted in RUNS:
             with open(network, "w") as file:
                 file.write(f"network 1;\ntemplate main(): {text};\n")
-            held = []
-            for samples in (100_000, 1_000_000):
-                good, most = play(exe, network, inputs, wanted, samples)
-                held.append(most)
-                if good:
-                    passed += 1
-                else:
-                    failed += 1
-                    print(f"what {name}: another output in {samples:,} samples")
-            if held[1] * 100 <= held[0] * 105:
-                passed += 1
-            else:
-                failed += 1
-                print(f"what {name} held {held[0]:,} KiB in 100,000 samples and {held[1]:,} KiB in 1,000,000")
+            for mode in ([], ["--plain"]):
+                found = faults([exe, network, *mode], inputs, wanted)
+                passed, failed = passed + 3 - len(found), failed + len(found)
+                for fault in found:
+                    print(f"what {name} {' '.join(mode)}: {fault}")
     print(f"{passed} passed, {failed} failed")
     return 1 if failed else 0
 

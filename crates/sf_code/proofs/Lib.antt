@@ -3,3 +3,4 @@ pub mod Named
 pub mod Worth
 pub mod Rows
 pub mod Sized
+pub mod Operands

@@ -9,3 +9,4 @@ pub mod CodeView
 pub mod Worth
 pub mod FrameView
 pub mod Numbers
+pub mod Arithmetic

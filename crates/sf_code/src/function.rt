@@ -1,11 +1,13 @@
 //! The code of expressions and functions.
-ghost use Rattle.std.specs.Prelude.{◌≡◌, [], IfOk, IfSome, is_some};
+ghost use Rattle.std.specs.Prelude.{◌≡◌, [], ◌∷◌, IfOk, IfSome, is_some};
 ghost use Rattle.sf_func.specs.Registries.{AnswersByName};
 ghost use Rattle.sf_expr.specs.Arena.{expression, function_at};
 ghost use Rattle.sf_expr.specs.Expressions.{Expression, Function};
 ghost use Rattle.sf_expr.specs.Evaluation.{Scope, functions_in, eval, apply as applied};
-ghost use Rattle.sf_operator.specs.Answers.{Evaluates};
+ghost use Rattle.sf_operator.specs.Answers.{Evaluates, EvaluatesAs};
+ghost use Rattle.sf_code.specs.CodeView.{code_of};
 ghost use Rattle.sf_code.specs.Compiling.{is_closed, is_closed_function};
+ghost use Rattle.sf_code.specs.Running.{run as worth_of};
 ghost use Rattle.sf_code.specs.Names.{scope_with};
 ghost use Rattle.sf_code.specs.Worth.{IsCodeOf, IsCodeOfFunction, IsCodeOfIn, IsCodeOfFunctionIn};
 
@@ -15,12 +17,14 @@ use crate::compiler::compile;
 use crate::frames::Frames;
 use crate::names::Names;
 use crate::place::Patterns;
+use crate::rearranging::{paired_halves, rearranged};
 use crate::running::run;
 use sf_expr::{ExprId, Exprs, FunctionId};
 use sf_func::Holds;
 use sf_operator::EvalFault;
 use sf_value::Value;
 use std::alloc::{AllocError, Global};
+use std::mem;
 
 /// The code of an expression in every scope, if it has no names from around it.
 pub fn expression_code(alloc: Global, exprs: &Exprs, id: ExprId) -> Result<Option<Code>, AllocError>
@@ -86,6 +90,41 @@ pub fn apply<F: Holds>(
     functions: &F,
 ) -> Result<Value, EvalFault>
     ensures { (s : Scope) → functions_in s ≡ F.answers functions.now → (g : Function) → IsCodeOfFunctionIn s g code.now → Evaluates result (applied g value.now s) }
+{
+    let outside = Frames::new();
+    let frames = outside.within(value);
+    run(alloc, code, &frames, functions)
+}
+
+/// Puts what a function's code is worth over a value in its place, or answers the first fault, after which the value may be
+/// any. A pair of the value's halves is made without a copy.
+#[inline(always)]
+pub fn apply_in_place<F: Holds>(
+    alloc: Global,
+    code: &Code,
+    functions: &F,
+    value: &mut Value,
+) -> Result<(), EvalFault>
+    ensures { EvaluatesAs (λ u. value.new) result (worth_of (code_of code.now) (value.old ∷ []) (F.answers functions.now)) }
+{
+    if let Some((first, second)) = paired_halves(code) {
+        let input = mem::replace(value, Value::int(0));
+        *value = rearranged(alloc, input, first, second)?;
+        return Ok(());
+    }
+    *value = run_over(alloc, code, value, functions)?;
+    Ok(())
+}
+
+// What a function's code is worth over a value, or the first fault.
+#[inline(always)]
+fn run_over<F: Holds>(
+    alloc: Global,
+    code: &Code,
+    value: &Value,
+    functions: &F,
+) -> Result<Value, EvalFault>
+    ensures { Evaluates result (worth_of (code_of code.now) (value.now ∷ []) (F.answers functions.now)) }
 {
     let outside = Frames::new();
     let frames = outside.within(value);

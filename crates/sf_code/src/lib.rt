@@ -8,6 +8,7 @@
 //! `match` the chosen branch alone is run, and the second operand of `and` and `or` only where the first does not decide.
 #![tactic(auto)]
 
+mod arithmetic;
 mod closing;
 mod code;
 mod compiler;
@@ -16,11 +17,15 @@ mod function;
 mod laws;
 mod names;
 mod place;
+mod rearranging;
 mod running;
 
+pub use arithmetic::{Calculation, is_arithmetic};
 pub use code::Code;
 pub use function::{
-    apply, evaluate, expression_code, expression_code_in, function_code, function_code_in,
+    apply, apply_in_place, evaluate, expression_code, expression_code_in, function_code,
+    function_code_in,
 };
 pub use laws::compiled_expression;
 pub use names::{Names, NoNames};
+pub use rearranging::halves;

@@ -6,11 +6,8 @@ use Rattle.sf_value.specs.declared.fault.Fault.{Fault}
 use Rattle.sf_func.specs.Registries.{AnswersByName}
 use Rattle.sf_law.specs.declared.plan.Plan.{Plan}
 use Rattle.sf_term.specs.Trees.{Template}
-use Rattle.sf_law.specs.Arena.{plan_tree}
 use Rattle.sf_mean.specs.Lives.{Step, step, input_of, Life, time, closure, empty}
 use Rattle.sf_mean.specs.Meaning.{Network, gave, faulted, Gives}
-use Rattle.sf_law.specs.Arena.{network_of_plan}
-use Rattle.sf_law.specs.Arena.{plan_main}
 use Rattle.sf_state.specs.declared.state.State.{State}
 use Rattle.sf_state.specs.Standing.{Stands}
 use Rattle.sf_parts.specs.declared.meter.Meter.{Meter}
@@ -22,6 +19,7 @@ use Rattle.sf_engine.specs.declared.engine.Sample.{Sample}
 use Rattle.sf_engine.specs.declared.engine.EngineError.{EngineError}
 use Rattle.sf_engine.specs.declared.engine.EngineError.TheVariants.{Fault as Faulted}
 use Rattle.sf_engine.specs.Histories.{newest_input, last_input, after_start, after_step, BeginsAtZero, IsHistory, CanWait, Saves}
+use Rattle.sf_engine.specs.Planned.{main_of_plan, IsRunFor}
 use Rattle.sf_engine.specs.Running.{AreSavesOf, Runs, IsStopped, time_of, input_kind, last_of, MayStart, MayStep}
 use Rattle.sf_engine.specs.Sampling.{Sampled, gave_value, had_fault, was_large, had_no_memory, answer_of}
 
@@ -32,16 +30,15 @@ time-step d x (r ∷ L) h = refl
 -- an engine goes on at a history, with what it keeps
 pub runs_on : {F : Type 0} {h : _} {o e : Engine F h} {n : Network} {m : Template} {L K : Life} {S T : Saves} → Runs o n m L S
     → e.stopped ≡ o.stopped → e.plan ≡ o.plan → e.functions ≡ o.functions → e.input ≡ o.input
-    → Stands (h.answers o.functions) o.plan e.state (closure m.body empty) K → e.time ≡ time K → e.last ≡ newest_input K → IsHistory m.input K
+    → Stands (h.answers o.functions) o.plan e.state (main_of_plan o.plan) K → e.time ≡ time K → e.last ≡ newest_input K → IsHistory m.input K
     → AreSavesOf (h.answers o.functions) o.plan m e.saves.entries T → Runs e n m K T
-runs_on {h = h} {o = o} {e = e} {m = m} {K = K} {T = T} R stopped plan functions input stands at last H kept = record {
+runs_on {h = h} {o = o} {e = e} {n = n} {m = m} {K = K} {T = T} R stopped plan functions input stands at last H kept = record {
   goes_on = stopped ∙ R.goes_on;
-  network = ap (λ p. network_of_plan (h.answers e.functions) p) plan ∙ ap (λ f. network_of_plan (h.answers f) o.plan) functions ∙ R.network;
-  main = ap (λ p. plan_tree p (plan_main p)) plan ∙ R.main;
+  plan = subst (λ f. IsRunFor (h.answers f) e.plan n m) (sym functions) (subst (λ p. IsRunFor (h.answers o.functions) p n m) (sym plan) R.plan);
   input = input ∙ R.input;
   state =
-      subst (λ f. Stands (h.answers f) e.plan e.state (closure m.body empty) K) (sym functions)
-      (subst (λ p. Stands (h.answers o.functions) p e.state (closure m.body empty) K) (sym plan) stands);
+      subst (λ f. Stands (h.answers f) e.plan e.state (main_of_plan e.plan) K) (sym functions)
+      (subst (λ p. Stands (h.answers o.functions) p e.state (main_of_plan p) K) (sym plan) stands);
   time = at;
   last = last;
   history = H;
@@ -53,7 +50,7 @@ runs_on {h = h} {o = o} {e = e} {m = m} {K = K} {T = T} R stopped plan functions
 -- an engine goes on to the end of a longer history
 pub goes_to : {F : Type 0} {h : _} {o e : Engine F h} {n : Network} {m : Template} {L : Life} {S : Saves} {d : ℕ} {x : Data} → Runs o n m L S → IsHistory m.input (step d x ∷ L)
     → e.plan ≡ o.plan → e.functions ≡ o.functions → e.input ≡ o.input → e.stopped ≡ o.stopped → e.saves ≡ o.saves → e.time ≡ o.time + d → e.last ≡ Some x
-    → Stands (h.answers o.functions) o.plan e.state (closure m.body empty) (step d x ∷ L)
+    → Stands (h.answers o.functions) o.plan e.state (main_of_plan o.plan) (step d x ∷ L)
     → Runs e n m (step d x ∷ L) S
 goes_to {h = h} {o = o} {m = m} {L = L} {S = S} {d = d} {x = x} R H plan functions input stopped saves later last stands =
     runs_on R stopped plan functions input stands
@@ -64,23 +61,23 @@ goes_to {h = h} {o = o} {m = m} {L = L} {S = S} {d = d} {x = x} R H plan functio
 
 -- a value and readings are the sample's
 pub sampled_value : {F : Type 0} {h : _} {φ : AnswersByName} {p : Plan} {n : Network} {m : Template} {L : Life} {S : Saves} {y : Data} {s : State} {t : Meter} {e : Engine F h} {z : Sample}
-    → network_of_plan φ p ≡ n → Steps φ p (closure m.body empty) L (Ok y) s t
-    → (Stands φ p s (closure m.body empty) L → Runs e n m L S)
+    → IsRunFor φ p n m → Steps φ p (main_of_plan p) L (Ok y) s t
+    → (Stands φ p s (main_of_plan p) L → Runs e n m L S)
     → z.time ≡ e.time → z.value ≡ y → readings_of z.readings ≡ readings t → Sampled n m L S (Ok z) e
 sampled_value {n = n} {m = m} {L = L} {y = y} {t = t} {z = z} q (stepped {k = k} G entered high stands) f at value read =
+    let c = q.no_more L (gave y (readings t)) k G in
     gave_value
-    (subst (λ r. Gives n (closure m.body empty) L (gave z.value r) k) (sym read)
-    (subst (λ v. Gives n (closure m.body empty) L (gave v (readings t)) k) (sym value) (subst (λ n. Gives n (closure m.body empty) L (gave y (readings t)) k) q G)))
+    (subst (λ r. Gives n (closure m.body empty) L (gave z.value r) c.0) (sym read)
+    (subst (λ v. Gives n (closure m.body empty) L (gave v (readings t)) c.0) (sym value) c.1))
     (at ∙ (f stands).time)
     (f stands)
 
 -- a fault stops the engine
 pub sampled_fault : {F : Type 0} {h : _} {φ : AnswersByName} {p : Plan} {n : Network} {m : Template} {L : Life} {S : Saves} {f : Fault} {s : State} {t : Meter} {e : Engine F h}
-    → network_of_plan φ p ≡ n → Steps φ p (closure m.body empty) L (Err f) s t → IsStopped e f → Sampled n m L S (Err f) e
-sampled_fault {m = m} {L = L} q (faulted_so {x = x} {k = k} G entered high) stopped =
-    had_fault (subst (λ n. Gives n (closure m.body empty) L (faulted x) k) q G) stopped
-sampled_fault {m = m} {L = L} q (too_large none within) stopped =
-    was_large (λ o k G few low. none o k (subst (λ n. Gives n (closure m.body empty) L o k) (sym q) G) few low) stopped
+    → IsRunFor φ p n m → Steps φ p (main_of_plan p) L (Err f) s t → IsStopped e f → Sampled n m L S (Err f) e
+sampled_fault {L = L} q (faulted_so {x = x} {k = k} G entered high) stopped = had_fault (q.no_more L (faulted x) k G).1 stopped
+sampled_fault {L = L} q (too_large none within) stopped =
+    was_large (λ o k G few low. let d = q.gives L o k G in none o d.0 d.1 (omega (arith, d.2, few)) (omega (arith, d.3, low))) stopped
 sampled_fault q (no_memory within) stopped = had_no_memory stopped
 
 -- an engine that hasn't started has no history
@@ -97,15 +94,14 @@ IsHistory-none k = record {
 }
 
 -- an engine before its start
-pub goes_first : {F : Type 0} {h : _} {e : Engine F h} {n : Network} {m : Template} → e.stopped ≡ None → network_of_plan (h.answers e.functions) e.plan ≡ n → plan_tree e.plan (plan_main e.plan) ≡ m.body → e.input ≡ m.input
-    → Stands (h.answers e.functions) e.plan e.state (closure (plan_tree e.plan (plan_main e.plan)) empty) [] → e.time ≡ 0 → e.last ≡ None → e.saves.entries ≡ []
+pub goes_first : {F : Type 0} {h : _} {e : Engine F h} {n : Network} {m : Template} → e.stopped ≡ None → IsRunFor (h.answers e.functions) e.plan n m → e.input ≡ m.input
+    → Stands (h.answers e.functions) e.plan e.state (main_of_plan e.plan) [] → e.time ≡ 0 → e.last ≡ None → e.saves.entries ≡ []
     → Runs e n m [] []
-goes_first {h = h} {e = e} {m = m} going network main input S at last saves = record {
+goes_first {h = h} {e = e} {m = m} going plan input S at last saves = record {
   goes_on = going;
-  network = network;
-  main = main;
+  plan = plan;
   input = input;
-  state = subst (λ t. Stands (h.answers e.functions) e.plan e.state (closure t empty) []) main S;
+  state = S;
   time = at;
   last = last;
   history = IsHistory-none m.input;

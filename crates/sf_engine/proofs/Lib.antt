@@ -3,3 +3,4 @@ pub mod Going
 pub mod Keeping
 pub mod Following
 pub mod Boxed
+pub mod Planned

@@ -1,3 +1,4 @@
+pub mod Planned
 pub mod Histories
 pub mod Running
 pub mod Sampling

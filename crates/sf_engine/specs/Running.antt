@@ -6,13 +6,11 @@ use Rattle.sf_value.specs.Values.{Kind, Data, HasKind}
 use Rattle.sf_value.specs.declared.fault.Fault.{Fault}
 use Rattle.sf_func.specs.Registries.{AnswersByName}
 use Rattle.sf_term.specs.Trees.{Template}
-use Rattle.sf_law.specs.Arena.{plan_tree}
 use Rattle.sf_law.specs.declared.plan.Plan.{Plan}
-use Rattle.sf_mean.specs.Lives.{Life, closure, empty, time}
+use Rattle.sf_mean.specs.Lives.{Life, time}
 use Rattle.sf_mean.specs.Meaning.{Network}
-use Rattle.sf_law.specs.Arena.{network_of_plan}
-use Rattle.sf_law.specs.Arena.{plan_main}
 use Rattle.sf_state.specs.Standing.{Stands}
+use Rattle.sf_engine.specs.Planned.{main_of_plan, IsRunFor}
 use Rattle.sf_engine.specs.declared.engine.save.Save.{Save}
 use Rattle.sf_engine.specs.declared.engine.Engine.{Engine}
 use Rattle.sf_engine.specs.declared.engine.EngineError.{EngineError}
@@ -21,7 +19,7 @@ use Rattle.sf_engine.specs.Histories.{newest_input, IsHistory, CanWait, Saves}
 
 -- What is kept of an engine stands for a history that has begun.
 pub record IsSaveOf (φ : AnswersByName) (p : Plan) (m : Template) (s : Save) (K : Life) : Type 0 where
-  pub state : Stands φ p s.state (closure m.body empty) K
+  pub state : Stands φ p s.state (main_of_plan p) K
   pub time : s.time ≡ time K
   pub last : newest_input K ≡ Some s.last
   pub history : IsHistory m.input K
@@ -33,13 +31,13 @@ AreSavesOf φ p m vs S = AllZip (λ v s. (string_bytes v.0 ≡ s.0) × IsSaveOf 
 -- Engines over functions that are held by name.
 module _ {F : Type 0} {h : _} where
   -- An engine stands for a history of a network whose `main` is a template, and whose stored functions are those that it
-  -- holds; and what it keeps stands for histories, under their names. It is not stopped.
+  -- holds; and what it keeps stands for histories, under their names. It is not stopped. Its state stands for the history in its
+  -- plan, which means what the network means.
   pub record Runs (e : Engine F h) (n : Network) (m : Template) (L : Life) (S : Saves) : Type 0 where
     pub goes_on : e.stopped ≡ None
-    pub network : network_of_plan (h.answers e.functions) e.plan ≡ n
-    pub main : plan_tree e.plan (plan_main e.plan) ≡ m.body
+    pub plan : IsRunFor (h.answers e.functions) e.plan n m
     pub input : e.input ≡ m.input
-    pub state : Stands (h.answers e.functions) e.plan e.state (closure m.body empty) L
+    pub state : Stands (h.answers e.functions) e.plan e.state (main_of_plan e.plan) L
     pub time : e.time ≡ time L
     pub last : e.last ≡ newest_input L
     pub history : IsHistory m.input L

@@ -1,6 +1,9 @@
 //! Engines.
 ghost use Rattle.std.specs.Prelude.{◌≡◌, ◌≤◌, IfOk, None, Some};
-ghost use Rattle.sf_law.specs.Plans.{IsPlainPlan};
+ghost use Rattle.sf_func.specs.Registries.{AnswersByName};
+ghost use Rattle.sf_mean.specs.Networks.{network_of};
+ghost use Rattle.sf_check.specs.Accepting.{program_of, checked_main};
+ghost use Rattle.sf_engine.specs.Planned.{IsRunFor};
 
 mod embed;
 mod save;
@@ -11,6 +14,7 @@ use save::Save;
 use sf_check::Checked;
 use sf_func::Holds;
 use sf_law::{Plan, plain};
+use sf_optimise::optimise;
 use sf_probe::Readings;
 use sf_state::State;
 use sf_step::{Meter, step};
@@ -23,7 +27,7 @@ use thiserror::Error;
 pub enum Mode {
     /// As it was written.
     Plain,
-    /// Rewritten to do less work. For now this is `Plain`.
+    /// Rewritten by laws that keep what it gives, to do less work.
     Optimised,
 }
 
@@ -328,9 +332,10 @@ fn stop(stopped: &mut Option<Fault>, fault: Fault) -> Fault
 
 /// The plan of a network in a mode.
 fn planned(alloc: Global, checked: &Checked, mode: Mode) -> Result<Plan, AllocError>
-    ensures { IfOk result (λ p. IsPlainPlan checked.now p) }
+    ensures { IfOk result (λ p. (φ : AnswersByName) → IsRunFor φ p (network_of φ (program_of checked.now)) (checked_main checked.now)) }
 {
     match mode {
-        Mode::Plain | Mode::Optimised => plain(alloc, checked),
+        Mode::Plain => plain(alloc, checked),
+        Mode::Optimised => optimise(alloc, checked),
     }
 }

@@ -117,7 +117,7 @@ module _ (p : Program) where
   closed_node (ast.Switching w a q b) vs h = refl
   closed_node (ast.Keeping w a o j s q b) vs h = refl
 
-  named_tree : (a : TermId) (w : Start) (k : NameId) → named_process (term_node_at p a) ≡ Some (w, k) → (term p a ≡ reference (started w (name_at (program_expressions p) k))) × HoldsName (program_expressions p) k
+  pub named_tree : (a : TermId) (w : Start) (k : NameId) → named_process (term_node_at p a) ≡ Some (w, k) → (term p a ≡ reference (started w (name_at (program_expressions p) k))) × HoldsName (program_expressions p) k
   unfolding term_node_at term_entry_of
   named_tree a w k h =
       let n = named_node (term_node_at p a) w k (parts_held p a) h in
@@ -127,16 +127,16 @@ module _ (p : Program) where
   closed_tree a vs h = subst (λ t. closed_before t vs ≡ process_argument t vs) (sym (node_builds p a (term_node_at p a) refl)) (closed_node (term_node_at p a) vs h)
 
 module _ (p : Program) (q : Plan) (kept : Keeps (program_expressions p) (plan_expressions q)) where
-  value_same : (e : ExprId) → HoldsExpression p e → expression (plan_expressions q) e ≡ expression_under p e
+  pub value_same : (e : ExprId) → HoldsExpression p e → expression (plan_expressions q) e ≡ expression_under p e
   value_same e h = kept.trees e (holds_in p e h) ∙ expression_in p e
 
-  function_same : (f : FunctionId) → ProgramHoldsFunction p f → function_at (plan_expressions q) f ≡ function_in p f
+  pub function_same : (f : FunctionId) → ProgramHoldsFunction p f → function_at (plan_expressions q) f ≡ function_in p f
   function_same f h = kept.meanings f (function_holds_in p f h) ∙ function_at_in p f
 
-  pattern_same : (i : PatternId) → HoldsPatternIn p i → placed_at (plan_expressions q) i ≡ pattern_under p i
+  pub pattern_same : (i : PatternId) → HoldsPatternIn p i → placed_at (plan_expressions q) i ≡ pattern_under p i
   pattern_same i h = kept.placed i (pattern_holds_in p i h) ∙ pattern_under_in p i
 
-  same_primitive : (a : Primitive) (b : PlanPrimitive) → CopiesPrimitive a b → HoldsTermParts p (ast.Primitive a) → primitive (primitive_over (plan_expressions q) b) ≡ term_of p (ast.Primitive a)
+  pub same_primitive : (a : Primitive) (b : PlanPrimitive) → CopiesPrimitive a b → HoldsTermParts p (ast.Primitive a) → primitive (primitive_over (plan_expressions q) b) ≡ term_of p (ast.Primitive a)
   same_primitive _ _ copies_bare h = refl
   same_primitive _ _ (copies_never {n}) h = ap (λ l. primitive (never (absent_payload l))) (kept.constants n h)
   same_primitive _ _ (copies_with_value {k} {e}) h = ap (λ v. primitive (with_value k v)) (value_same e h)
@@ -159,7 +159,7 @@ module _ (p : Program) (q : Plan) (kept : Keeps (program_expressions p) (plan_ex
       one _ _ (copies_closed {a} is) b h more = ap₂ (λ t us. closed_before t us) (shows a b) more ∙ closed_tree p a (arguments_of p vs) is
 
   -- the same node stands for the same term
-  same_term : (n : Node) (m : PlanNode) (u : Term) (i : ℕ) → CopiesNode p n m → TermPartsBelow p n i → HoldsTermParts p n → ShowsBelow p q i → BuildsPlan q m u → u ≡ term_of p n
+  pub same_term : (n : Node) (m : PlanNode) (u : Term) (i : ℕ) → CopiesNode p n m → TermPartsBelow p n i → HoldsTermParts p n → ShowsBelow p q i → BuildsPlan q m u → u ≡ term_of p n
   same_term _ _ _ i (copies_primitive {q = a} {r = b} c) below held shows (builds_primitive k) = same_primitive a b c held
   same_term _ _ _ i (copies_process {w} {k}) below held shows builds_started = ap (λ x. reference (started w x)) (kept.names k held)
   same_term _ _ _ i (copies_probe is) below held shows builds_probe = ap (λ x. primitive (probe x)) is
@@ -197,7 +197,7 @@ pub shows_all : (p : Program) (q : Plan) (i : ℕ) → term_count p ≤ i → no
 shows_all p q i all count shows t = ⊎_elim (λ h. shows t h) (λ h. tree_past q (plan_id t) (omega (arith, count)) ∙ sym (term_past p t (omega (arith, all)))) (cases_lt t.0 i)
 
 -- the parameters are the same
-same_parameters : (q : Plan) (xs : List PlacedParameter) (ys : List ParameterHeader) → AllZip (CopiesParameter (plan_expressions q)) xs ys → map (plan_binding q) ys ≡ parameters_of xs
+pub same_parameters : (q : Plan) (xs : List PlacedParameter) (ys : List ParameterHeader) → AllZip (CopiesParameter (plan_expressions q)) xs ys → map (plan_binding q) ys ≡ parameters_of xs
 same_parameters q [] [] z = refl
 same_parameters q [] (y ∷ ys) z = absurd z
 same_parameters q (x ∷ xs) [] z = absurd z

@@ -3,4 +3,5 @@ pub mod Kept
 pub mod Copied
 pub mod Among
 pub mod Called
+pub mod Rebodied
 mod Numbers

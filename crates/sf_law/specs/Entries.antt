@@ -10,10 +10,12 @@ use Rattle.sf_term.specs.declared.form.Bare.TheVariants.{Identity}
 use Rattle.sf_code.specs.declared.code.Code.{Code}
 use Rattle.sf_code.specs.Worth.{IsCodeOf, IsCodeOfFunction}
 use Rattle.sf_term.specs.Entries.{identity_term, absent_payload, term_among}
-use Rattle.sf_term.specs.Trees.{Extent, whole, rest, Primitive, Term, primitive, reference, started, call, probe, Arguments, no_arguments, value_argument, process_argument, closed_argument, joined, sided, headed, switching, keeping, staged, bare, never, with_value, timed, arrow, accumulated}
+use Rattle.sf_term.specs.Trees.{Chain, lone, chained, on_side, on_both, fanned, fused, Extent, whole, rest, Primitive, Term, primitive, reference, started, call, probe, Arguments, no_arguments, value_argument, process_argument, closed_argument, joined, sided, headed, switching, keeping, staged, bare, never, with_value, timed, arrow, accumulated}
 use Rattle.sf_law.specs.declared.node.PlanId.{PlanId}
 use Rattle.sf_law.specs.declared.node.PlanArgument.{PlanArgument}
 use Rattle.sf_law.specs.declared.node.PlanArgument.TheVariants as arguments
+use Rattle.sf_law.specs.declared.node.PlanChain.{PlanChain}
+use Rattle.sf_law.specs.declared.node.PlanChain.TheVariants as chains
 use Rattle.sf_law.specs.declared.node.PlanNode.{PlanNode}
 use Rattle.sf_law.specs.declared.node.PlanNode.TheVariants as nodes
 use Rattle.sf_law.specs.declared.node.PlanPrimitive.{PlanPrimitive}
@@ -30,6 +32,22 @@ abbrev pub pipeline : List Term → Term
 pipeline [] = identity_term
 pipeline (f ∷ fs) = stages whole f fs
 
+-- functions made into one, over these functions
+abbrev pub chain_over : Exprs → PlanChain → Chain
+chain_over x (chains.Lone f c) = lone (function_at x f)
+chain_over x (chains.Chained' a f b g) = chained (chain_over x f) (chain_over x g)
+chain_over x (chains.OnSide' d a f) = on_side d (chain_over x f)
+chain_over x (chains.OnBoth' a f b g) = on_both (chain_over x f) (chain_over x g)
+chain_over x (chains.Fanned' a f b g) = fanned (chain_over x f) (chain_over x g)
+
+-- the code that its functions have is theirs
+abbrev pub IsCodedChain : Exprs → PlanChain → Type 0
+IsCodedChain x (chains.Lone f c) = IfSome c (λ i. IsCodeOfFunction (function_at x f) i.value)
+IsCodedChain x (chains.Chained' a f b g) = IsCodedChain x f × IsCodedChain x g
+IsCodedChain x (chains.OnSide' d a f) = IsCodedChain x f
+IsCodedChain x (chains.OnBoth' a f b g) = IsCodedChain x f × IsCodedChain x g
+IsCodedChain x (chains.Fanned' a f b g) = IsCodedChain x f × IsCodedChain x g
+
 -- the primitive that a primitive of a plan is, over these expressions and functions
 abbrev pub primitive_over : Exprs → PlanPrimitive → Primitive
 primitive_over x (primitives.Bare k) = bare k
@@ -37,6 +55,7 @@ primitive_over x (primitives.Never n) = never (absent_payload (literal_at x n))
 primitive_over x (primitives.WithValue k e c) = with_value k (expression x e)
 primitive_over x (primitives.Timed k q e c) = timed k q (expression x e)
 primitive_over x (primitives.Arrow f c) = arrow (function_at x f)
+primitive_over x (primitives.Fused r) = fused (chain_over x r.value)
 primitive_over x (primitives.Accumulated k e d f c) = accumulated k (expression x e) (function_at x f)
 
 -- the code that a primitive has is that of its expression or its function
@@ -46,6 +65,7 @@ IsCodedPrimitive x (primitives.Never n) = ⊤
 IsCodedPrimitive x (primitives.WithValue k e c) = IfSome c (λ i. IsCodeOf (expression x e) i)
 IsCodedPrimitive x (primitives.Timed k q e c) = IfSome c (λ i. IsCodeOf (expression x e) i)
 IsCodedPrimitive x (primitives.Arrow f c) = IfSome c (λ i. IsCodeOfFunction (function_at x f) i.value)
+IsCodedPrimitive x (primitives.Fused r) = IsCodedChain x r.value
 IsCodedPrimitive x (primitives.Accumulated k e d f c) = IfSome d (λ i. IsCodeOf (expression x e) i) × IfSome c (λ i. IsCodeOfFunction (function_at x f) i.value)
 
 -- the code that an expression has, if there is any, is that of the expression

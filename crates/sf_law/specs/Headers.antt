@@ -1,5 +1,5 @@
 -- Templates as they stand in an arena of plans.
-use Rattle.std.specs.Prelude.{◌≡◌, ℕ, List, [], length, bytes_eq, unwrap_or, String}
+use Rattle.std.specs.Prelude.{◌≡◌, ℕ, List, [], length, slice_index_or, bytes_eq, unwrap_or, String}
 use Rattle.indexmap.specs.IndexMap.{IndexMap, get_by_text}
 use Rattle.std.specs.List.{position_or_len}
 use Rattle.sf_value.specs.Values.{Name, Kind, unit_kind}
@@ -21,6 +21,10 @@ pub record PlanHeader : Type 0 where
   pub input : Kind
   pub output : Kind
   pub body : PlanId
+
+-- a template with the body that stands at the number of its own; with the id of a number, where none stands there
+abbrev pub rebodied : List PlanId → ℕ → PlanHeader → PlanHeader
+rebodied ids n h = record { name = h.name; parameters = h.parameters; input = h.input; output = h.output; body = slice_index_or ids h.body.0 (record { 0 = n }) }
 
 -- the number of the first template of a name; how many there are, where none has it
 abbrev pub place_named : Name → List PlanHeader → ℕ

@@ -21,12 +21,14 @@ use Rattle.sf_code.specs.Running.{run}
 use Rattle.sf_code.specs.Worth.{IsCodeOf, IsCodeOfFunction}
 use Rattle.sf_law.specs.declared.node.PlanArgument.{PlanArgument}
 use Rattle.sf_law.specs.declared.node.PlanArgument.TheVariants as arguments
+use Rattle.sf_law.specs.declared.node.PlanChain.{PlanChain}
+use Rattle.sf_law.specs.declared.node.PlanChain.TheVariants as chains
 use Rattle.sf_law.specs.declared.node.PlanNode.{PlanNode}
 use Rattle.sf_law.specs.declared.node.PlanNode.TheVariants as nodes
 use Rattle.sf_law.specs.declared.node.PlanPrimitive.{PlanPrimitive}
 use Rattle.sf_law.specs.declared.node.PlanPrimitive.TheVariants as primitives
 use Rattle.sf_law.specs.Headers.{ParameterHeader, PlanHeader}
-use Rattle.sf_law.specs.Entries.{IsCodedPrimitive, IsCodedArgument, IsCoded, BindsNames}
+use Rattle.sf_law.specs.Entries.{IsCodedChain, IsCodedPrimitive, IsCodedArgument, IsCoded, BindsNames}
 
 -- an evaluation as a result, and back
 abbrev result_in : Evaluated Data → Result Data ValueFault
@@ -73,12 +75,20 @@ code-prop e o = MatchOption-prop o ⊤ (λ c. IsCodeOf e c) Unit-prop (λ c. IsC
 function-prop : (g : Function) (o : Option (Rc Code Global)) → IsProp (IfSome o (λ c. IsCodeOfFunction g c.value))
 function-prop g o = MatchOption-prop o ⊤ (λ c. IsCodeOfFunction g c.value) Unit-prop (λ c. IsCodeOfFunction-prop g c.value)
 
+IsCodedChain-prop : (x : Exprs) (c : PlanChain) → IsProp (IsCodedChain x c)
+IsCodedChain-prop x (chains.Lone f c) = function-prop (function_at x f) c
+IsCodedChain-prop x (chains.Chained' a f b g) = λ k l i. (IsCodedChain-prop x f k.0 l.0 i, IsCodedChain-prop x g k.1 l.1 i)
+IsCodedChain-prop x (chains.OnSide' d a f) = IsCodedChain-prop x f
+IsCodedChain-prop x (chains.OnBoth' a f b g) = λ k l i. (IsCodedChain-prop x f k.0 l.0 i, IsCodedChain-prop x g k.1 l.1 i)
+IsCodedChain-prop x (chains.Fanned' a f b g) = λ k l i. (IsCodedChain-prop x f k.0 l.0 i, IsCodedChain-prop x g k.1 l.1 i)
+
 IsCodedPrimitive-prop : (x : Exprs) (q : PlanPrimitive) → IsProp (IsCodedPrimitive x q)
 IsCodedPrimitive-prop x (primitives.Bare k) = Unit-prop
 IsCodedPrimitive-prop x (primitives.Never n) = Unit-prop
 IsCodedPrimitive-prop x (primitives.WithValue k e c) = code-prop (expression x e) c
 IsCodedPrimitive-prop x (primitives.Timed k q e c) = code-prop (expression x e) c
 IsCodedPrimitive-prop x (primitives.Arrow f c) = function-prop (function_at x f) c
+IsCodedPrimitive-prop x (primitives.Fused r) = IsCodedChain-prop x r.value
 IsCodedPrimitive-prop x (primitives.Accumulated k e d f c) = λ a b i. (code-prop (expression x e) d a.0 b.0 i, function-prop (function_at x f) c a.1 b.1 i)
 
 IsCodedArgument-prop : (x : Exprs) (v : PlanArgument) → IsProp (IsCodedArgument x v)

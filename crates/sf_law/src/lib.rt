@@ -6,7 +6,7 @@ mod plain_plan;
 mod plan;
 mod template;
 
-pub use node::{PlanArgument, PlanId, PlanNode, PlanPrimitive, TemplateId};
-pub use plain_plan::plain;
+pub use node::{PlanArgument, PlanChain, PlanId, PlanNode, PlanPrimitive, TemplateId};
+pub use plain_plan::{empty_plan, plain, plan_named, plan_primitive, started};
 pub use plan::Plan;
 pub use template::{PlanParameter, PlanTemplate};

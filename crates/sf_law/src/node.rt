@@ -25,6 +25,44 @@ pub enum PlanArgument {
     Closed(PlanId),
 }
 
+/// Functions that are made into one, each with the code that is run for it, where that has no names from around it. Whatever
+/// lives by them shares their code.
+#[cycle(chain)]
+pub enum PlanChain {
+    /// A function.
+    Lone(FunctionId, Option<Rc<Code>>),
+    /// One after the other.
+    Chained(Rc<PlanChain>, Rc<PlanChain>),
+    /// One on a part of a pair.
+    OnSide(Side, Rc<PlanChain>),
+    /// Each on its part of a pair.
+    OnBoth(Rc<PlanChain>, Rc<PlanChain>),
+    /// Both on the input.
+    Fanned(Rc<PlanChain>, Rc<PlanChain>),
+}
+
+impl Drop for PlanChain {
+    #[cycle(chain)]
+    fn drop(self) {
+        match self {
+            PlanChain::Lone(_, code) => drop(code),
+            PlanChain::Chained(first, second) => {
+                drop(first);
+                drop(second);
+            }
+            PlanChain::OnSide(_, part) => drop(part),
+            PlanChain::OnBoth(first, second) => {
+                drop(first);
+                drop(second);
+            }
+            PlanChain::Fanned(first, second) => {
+                drop(first);
+                drop(second);
+            }
+        }
+    }
+}
+
 /// A primitive of a plan, with the code that is run for its expression or its function, where that has no names from
 /// around it.
 #[derive(Drop)]
@@ -39,6 +77,8 @@ pub enum PlanPrimitive {
     Timed(Timing, i64, ExprId, Option<Code>),
     /// `arr`, with its function. Whatever lives by it shares the code.
     Arrow(FunctionId, Option<Rc<Code>>),
+    /// `arr`, with functions that are made into one.
+    Fused(Rc<PlanChain>),
     /// One with an expression and a function. Whatever lives by it shares the code of the function.
     Accumulated(Accumulation, ExprId, Option<Code>, FunctionId, Option<Rc<Code>>),
 }

@@ -35,8 +35,8 @@ pub fn plain(alloc: Global, checked: &Checked) -> Result<Plan, AllocError>
     Ok(plan.with_main(plan_id(checked.main())))
 }
 
-// A plan with the expressions and the templates of a program, and no term yet.
-fn empty_plan(alloc: Global, program: &Program) -> Result<Plan, AllocError>
+/// A plan with the expressions and the templates of a program, and no term yet.
+pub fn empty_plan(alloc: Global, program: &Program) -> Result<Plan, AllocError>
     ensures empty { IfOk result (λ plan. node_count plan ≡ 0) }
     ensures kept { IfOk result (λ plan. Keeps (program_expressions program.now) (plan_expressions plan)) }
     ensures copied { IfOk result (λ plan. AllZip (CopiesTemplate (plan_expressions plan)) (program_headers program.now) (plan_headers plan)) }
@@ -185,8 +185,8 @@ fn plan_node(
     }
 }
 
-// A form that is a name alone.
-fn plan_named(
+/// A form that is a name alone.
+pub fn plan_named(
     alloc: Global,
     program: &Program,
     form: Naming,
@@ -263,8 +263,8 @@ fn plan_argument(
     }
 }
 
-// Where the process begins that a node is, and its name, where it is a named one.
-fn started(node: Node) -> Option<(Start, NameId)>
+/// Where the process begins that a node is, and its name, where it is a named one.
+pub fn started(node: Node) -> Option<(Start, NameId)>
     ensures { result ≡ named_process node }
 {
     match node {
@@ -273,8 +273,8 @@ fn started(node: Node) -> Option<(Start, NameId)>
     }
 }
 
-// A primitive with its code.
-fn plan_primitive(
+/// A primitive with its code.
+pub fn plan_primitive(
     alloc: Global,
     exprs: &Exprs,
     primitive: Primitive,

@@ -4,13 +4,14 @@ ghost use Rattle.sf_term.specs.declared.form.Bare.TheVariants.{Identity as ident
 ghost use Rattle.sf_law.specs.declared.node.PlanPrimitive.TheVariants.{Bare as bare_node};
 ghost use Rattle.sf_law.specs.declared.node.PlanNode.TheVariants.{Primitive as primitive_node};
 ghost use Rattle.sf_term.specs.Trees.{primitive, bare};
-ghost use Rattle.sf_law.specs.Headers.{place_named, NumbersFirst, no_header};
+ghost use Rattle.std.specs.Prelude.{map};
+ghost use Rattle.sf_law.specs.Headers.{place_named, rebodied, NumbersFirst, no_header};
 ghost use Rattle.sf_law.specs.Entries.{ArePlanNodes, BindsNames, IsCoded, is_whole, calls_first, parts_end};
 ghost use Rattle.sf_law.specs.Unique.{IsCoded-prop, BindsNames-prop};
 ghost use Rattle.std.proofs.Props.{props};
 
 use crate::node::{PlanId, PlanNode, PlanPrimitive, TemplateId};
-use crate::template::{PlanTemplate, first_templates};
+use crate::template::{PlanTemplate, first_templates, put_bodies};
 use indexmap::IndexMap;
 use sf_expr::Exprs;
 use sf_term::Bare;
@@ -82,7 +83,7 @@ impl Plan {
     }
 
     /// Puts a term behind the others. A refused call changes nothing.
-    pub(crate) fn add(&mut self, node: PlanNode) -> Result<PlanId, AllocError>
+    pub fn add(&mut self, node: PlanNode) -> Result<PlanId, AllocError>
         requires held { parts_end node ≤ node_count self.old }
         requires whole { IsTrue (is_whole node) }
         requires coded { IsCoded (plan_expressions self.old) node }
@@ -99,7 +100,7 @@ impl Plan {
     }
 
     /// The first template of a name; an id that the plan does not hold where none has it.
-    pub(crate) fn template_named(&self, name: &str) -> TemplateId
+    pub fn template_named(&self, name: &str) -> TemplateId
         ensures { template_number result ≡ place_named name.now (plan_headers self.now) }
     {
         match self.numbers.get(name) {
@@ -110,7 +111,7 @@ impl Plan {
 
     /// The plan with another term that is run.
     #[tactic(auto, unfolding(crate::specs::Arena::plan_tree))]
-    pub(crate) fn with_main(self, main: PlanId) -> Plan
+    pub fn with_main(self, main: PlanId) -> Plan
         ensures main { plan_main result ≡ main }
         ensures trees { (a : PlanIdOf) → plan_tree result a ≡ plan_tree self a }
         ensures templates { plan_headers result ≡ plan_headers self }
@@ -118,6 +119,22 @@ impl Plan {
     {
         let mut plan = self;
         plan.main = main;
+        plan
+    }
+
+    /// The plan with other bodies of its templates: in place of each id the one that stands at its number; where none stands
+    /// there, one that passes its inputs on.
+    #[tactic(auto, unfolding(crate::specs::Arena::plan_tree))]
+    pub fn with_bodies(self, bodies: &[PlanId]) -> Plan
+        ensures templates { plan_headers result ≡ map (rebodied bodies.now (node_count self)) (plan_headers self) }
+        ensures trees { (a : PlanIdOf) → plan_tree result a ≡ plan_tree self a }
+        ensures nodes { node_count result ≡ node_count self }
+        ensures main { plan_main result ≡ plan_main self }
+        ensures expressions { plan_expressions result ≡ plan_expressions self }
+    {
+        let passing = PlanId(self.nodes.len());
+        let mut plan = self;
+        put_bodies(&mut plan.templates, bodies, passing);
         plan
     }
 

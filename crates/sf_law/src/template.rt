@@ -1,7 +1,7 @@
 //! Templates of plans.
-ghost use Rattle.std.specs.Prelude.{◌≡◌, string_bytes, IfOk};
+ghost use Rattle.std.specs.Prelude.{◌≡◌, map, string_bytes, IfOk};
 ghost use Rattle.sf_term.specs.ParameterView.{kind_of_form};
-ghost use Rattle.sf_law.specs.Headers.{NumbersFirst, no_header};
+ghost use Rattle.sf_law.specs.Headers.{NumbersFirst, no_header, rebodied};
 
 use crate::node::PlanId;
 use indexmap::IndexMap;
@@ -131,6 +131,17 @@ impl PlanTemplate {
         )
     }
 
+    // Puts the body in place of its own that stands at the number of that, or one that passes its inputs on.
+    fn put_body(&mut self, bodies: &[PlanId], passing: PlanId)
+        ensures { self.new ≡ rebodied bodies.now passing.0 self.old }
+    {
+        let body = match bodies.get(self.body.0) {
+            Some(body) => *body,
+            None => passing,
+        };
+        self.body = body;
+    }
+
     /// Its name.
     pub(crate) fn name(&self) -> &str
         ensures { result.now ≡ self.now.name }
@@ -150,6 +161,15 @@ impl PlanTemplate {
         ensures { result ≡ self.now.body }
     {
         self.body
+    }
+}
+
+/// Puts other bodies in place of those of templates.
+pub(crate) fn put_bodies(templates: &mut Vec<PlanTemplate>, bodies: &[PlanId], passing: PlanId)
+    ensures { templates.new.items ≡ map (rebodied bodies.now passing.0) templates.old.items }
+{
+    for number in 0..templates.len() {
+        templates[number].put_body(bodies, passing);
     }
 }
 

@@ -1,2 +1,3 @@
 pub mod Widths
 pub mod Primitives
+pub mod Linked

@@ -15,14 +15,17 @@ use Rattle.sf_operator.specs.declared.fault.EvalFault.TheVariants.{Value, Memory
 use Rattle.sf_term.specs.declared.form.Bare.TheVariants.{Identity as BIdentity, LocalTime, Integral, Edge as BEdge, NotYet as BNotYet, Count as BCount, Pre}
 use Rattle.sf_term.specs.declared.form.WithValue.TheVariants.{Constant as VConstant, InitialPre, InitializedPre, Now as VNow, Hold as VHold}
 use Rattle.sf_term.specs.declared.form.Timing.TheVariants.{After}
-use Rattle.sf_term.specs.Trees.{Primitive, bare, never, with_value, timed, arrow, accumulated}
+use Rattle.sf_term.specs.Trees.{Chain, Primitive, bare, never, with_value, timed, arrow, accumulated, fused}
 use Rattle.sf_mean.specs.Lives.{Step, Life, time}
 use Rattle.sf_mean.specs.Formulas.{coming, next_value, accumulation, displayed, before, at_first, level, area, is_low, occurrences, last_payload, has_passed, formula}
 use Rattle.sf_prim.specs.declared.time.Area.{Area as Sum}
 use Rattle.sf_prim.specs.declared.time.Timer.{Timer}
 use Rattle.sf_prim.specs.declared.accumulator.Accumulator.{Accumulator}
+use Rattle.std.specs.Prelude.{Vec}
+use Rattle.sf_prim.specs.declared.chain.Link.{Link}
+use Rattle.sf_prim.specs.Links.{AreLinksOf}
 use Rattle.sf_prim.specs.declared.prim_state.PrimState.{PrimState}
-use Rattle.sf_prim.specs.declared.prim_state.PrimState.TheVariants.{Identity, Never, Constant, Previous, Arrow, Accumulated, Clock, Area, Timed, Edge, NotYet, Count, Now, Hold}
+use Rattle.sf_prim.specs.declared.prim_state.PrimState.TheVariants.{Identity, Never, Constant, Previous, Arrow, Fused, Accumulated, Clock, Area, Timed, Edge, NotYet, Count, Now, Hold}
 
 -- the time at a sample, by that at the one before, if there was one
 abbrev pub time_after : Option ℤ → ℕ → ℤ
@@ -78,6 +81,8 @@ pub data Remembers : PrimState → Primitive → Scope → Life → Type 0 where
   keeps_pre : {scope : Scope} {w : Data} {L : Life} → w ≡ before (number (pos 0)) L → Remembers (Previous w) (bare Pre) scope L
   keeps_function : {c : Rc Code Global} {f : Function} {scope : Scope} {L : Life}
       → IsCodeOfFunctionIn scope f c.value → Remembers (Arrow c) (arrow f) scope L
+  keeps_chain : {c : Rc (Vec Link Global) Global} {f : Chain} {scope : Scope} {L : Life}
+      → AreLinksOf scope f c.value.items → Remembers (Fused c) (fused f) scope L
   keeps_accumulation : {a : Box Accumulator Global} {e : Expression} {f : Function} {v : Data} {scope : Scope} {L : Life}
       → eval e scope ≡ answer v → IsCodeOfFunctionIn scope f a.value.code.value → accumulation a.value.form f scope v L ≡ answer a.value.value
       → Remembers (Accumulated a) (accumulated a.value.form e f) scope L

@@ -1,2 +1,3 @@
 pub mod Gifts
+pub mod Links
 pub mod Keeping

@@ -12,9 +12,10 @@ ghost use Rattle.sf_operator.specs.declared.fault.EvalFault.TheVariants.{Memory}
 ghost use Rattle.sf_prim.specs.Gifts.{gift};
 
 use crate::accumulator::{Accumulator, accumulate};
+use crate::chain::{Link, links_of, run_links};
 use crate::events::{announce, count_event, hold, pass_later, rise};
 use crate::time::{Area, Timer, integrate, run_down, tell_time};
-use sf_code::{Code, Names, apply, evaluate, expression_code_in, function_code_in};
+use sf_code::{Code, Names, apply_in_place, evaluate, expression_code_in, function_code_in};
 use sf_expr::{ExprId, Exprs, FunctionId};
 use sf_func::Holds;
 use sf_law::PlanPrimitive;
@@ -37,6 +38,8 @@ pub enum PrimState {
     Previous(Value),
     /// `arr f`, with the code of `f`, which it shares with its plan.
     Arrow(Rc<Code>),
+    /// `arr` of functions that are made into one, which copies share.
+    Fused(Rc<Vec<Link>>),
     /// A primitive with a value and a function.
     Accumulated(Box<Accumulator>),
     /// `localTime`, with the milliseconds at the sample before, if there was one.
@@ -66,6 +69,7 @@ impl Drop for PrimState {
             PrimState::Constant(value) => drop(value),
             PrimState::Previous(value) => drop(value),
             PrimState::Arrow(code) => drop(code),
+            PrimState::Fused(links) => drop(links),
             PrimState::Accumulated(accumulator) => drop(accumulator),
             PrimState::Clock(_) => {}
             PrimState::Area(_) => {}
@@ -114,6 +118,10 @@ impl PrimState {
             PlanPrimitive::Arrow(function, code) => {
                 let shared = shared_code(alloc, exprs, *function, code, names)?;
                 Ok(PrimState::Arrow(shared))
+            }
+            PlanPrimitive::Fused(chain) => {
+                let links = links_of(alloc, exprs, chain, names)?;
+                Ok(PrimState::Fused(Rc::new(alloc, links)?))
             }
             PlanPrimitive::Accumulated(form, value, start, function, code) => {
                 let value = constant(alloc, exprs, *value, start, functions, names)?;
@@ -194,6 +202,7 @@ impl PrimState {
                 Ok(())
             }
             PrimState::Arrow(code) => replace(alloc, code, functions, value),
+            PrimState::Fused(links) => run_links(alloc, links, functions, value),
             PrimState::Accumulated(accumulator) => accumulate(alloc, accumulator, functions, value),
             PrimState::Clock(clock) => tell_time(clock, dt, value),
             PrimState::Area(area) => integrate(area, dt, value),
@@ -227,6 +236,10 @@ impl PrimState {
             PrimState::Arrow(code) => {
                 let shared = code.clone()?;
                 Ok(PrimState::Arrow(shared))
+            }
+            PrimState::Fused(links) => {
+                let same = links.clone()?;
+                Ok(PrimState::Fused(same))
             }
             PrimState::Accumulated(accumulator) => {
                 let kept = accumulator.clone_in(alloc)?;
@@ -270,8 +283,7 @@ fn replace<R: Holds>(
     ensures { (s : Scope) → functions_in s ≡ R.answers functions.now → (f : Function) → IsCodeOfFunctionIn s f code.now →
         Evaluates (gift result value.new) (applied f value.old s) }
 {
-    *value = apply(alloc, code, value, functions)?;
-    Ok(())
+    apply_in_place(alloc, code, functions, value)
 }
 
 /// The value of a constant with these names around it: by its code, or by code that is made of it with their values. The
@@ -296,8 +308,8 @@ pub fn constant<R: Holds, N: Names>(
     }
 }
 
-// The code of a function with these names around it: that of its plan, which is shared, or one that is made with their values.
-fn shared_code<N: Names>(
+/// The code of a function with these names around it: that of its plan, which is shared, or one that is made with their values.
+pub(crate) fn shared_code<N: Names>(
     alloc: Global,
     exprs: &Exprs,
     function: FunctionId,

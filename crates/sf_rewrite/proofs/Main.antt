@@ -54,6 +54,7 @@ mutual
     alike_named : {w : Start} {k : Name} {vs us : Arguments} → AlikeArguments d vs us → AlikeArguments d (process_argument (reference (started w k)) vs) (process_argument (reference (started w k)) us)
     alike_closed : {t u : Term} {vs us : Arguments} → is_started t ≡ false → Alike d t u → AlikeArguments d vs us → AlikeArguments d (process_argument t vs) (closed_argument u us)
     alike_opened : {t u : Term} {vs us : Arguments} → is_started u ≡ false → Alike d t u → AlikeArguments d vs us → AlikeArguments d (closed_argument t vs) (process_argument u us)
+    alike_terms : {t u : Term} {vs us : Arguments} → is_started t ≡ false → is_started u ≡ false → Alike d t u → AlikeArguments d vs us → AlikeArguments d (process_argument t vs) (process_argument u us)
 
 mutual
   pub data AlikeProcess (d : Bool) : Process → Process → Type 0 where
@@ -158,6 +159,9 @@ module _ {d : Bool} {φ ψ : AnswersByName} (same : ψ ≡ φ) {e e' : Environme
   alike_argued (q ∷ qs) (alike_named {w = w} {k = k} A) C = alike_argued qs A (alike_running (alike_started w k E) C)
   alike_argued (q ∷ qs) (alike_closed {t = t} {u = u} h T A) C = alike_argued qs A (alike_running (subst (λ P. AlikeProcess d P (closure u e')) (sym (closed_by t e h)) (alike_closure T E)) C)
   alike_argued (q ∷ qs) (alike_opened {t = t} {u = u} h T A) C = alike_argued qs A (alike_running (subst (λ P. AlikeProcess d (closure t e) P) (sym (closed_by u e' h)) (alike_closure T E)) C)
+  alike_argued (q ∷ qs) (alike_terms {t = t} {u = u} h k T A) C =
+      let right : AlikeProcess d (closure t e) (argument_process u e') = subst (λ P. AlikeProcess d (closure t e) P) (sym (closed_by u e' k)) (alike_closure T E) in
+      alike_argued qs A (alike_running (subst (λ P. AlikeProcess d P (argument_process u e')) (sym (closed_by t e h)) right) C)
 
   alike_called : (g : Name) {ss ts : Templates} {vs us : Arguments} → AlikeAll d ss ts → AlikeArguments d vs us → AlikeReferred d (process_called φ (template_named g ss) vs e) (process_called ψ (template_named g ts) us e')
   alike_called g none_alike A = referred_alike (alike_passing d)
@@ -267,6 +271,7 @@ mutual
   arguments_texts {d} (alike_named A) = below_both _ _ _ _ (below_same d one_term) (arguments_texts A)
   arguments_texts (alike_closed h T A) = below_both _ _ _ _ (alike_texts T) (arguments_texts A)
   arguments_texts (alike_opened h T A) = below_both _ _ _ _ (alike_texts T) (arguments_texts A)
+  arguments_texts (alike_terms h k T A) = below_both _ _ _ _ (alike_texts T) (arguments_texts A)
 
 module _ (d : Bool) (n n' : Network) (all : AlikeAll d n.templates n'.templates) (same : n'.functions ≡ n.functions) (one : OneLeaf (Leaf n)) (one' : OneLeaf (Leaf n')) where
   -- what a form that no law looks into gives: a step of the network, and for each form like it a step there

@@ -16,7 +16,7 @@ use Rattle.sf_term.specs.declared.form.Start.TheVariants.{Run, Fresh}
 use Rattle.sf_rewrite.specs.Quiet.{is_quiet_expression, is_quiet}
 use Rattle.sf_rewrite.specs.Laws.{identity, constant, arr, loop_pre, Laws, unchanged, in_turn, in_join, in_stages, in_side, as_pipeline, within_pipeline, associate_right, associate_left, identity_before, identity_after, arr_as_chain, arr_composed, arr_on_side, arr_in_parallel, arr_fanned_out, sides_composed, exchanged, constant_after, left_tightened, right_tightened}
 use Rattle.sf_rewrite.specs.Plans.{Plans, plans, of_primitive, of_started, of_call, PlansArguments, of_no_arguments, of_value_argument, of_named_argument, of_closed_argument, is_started, of_join, of_side, of_heading, of_switch, of_keeping}
-use Rattle.sf_rewrite.specs.Normal.{is_arr, is_stage, may_meet, are_written, IsPlan, plan_primitive, plan_started, plan_call, ArePlans, plan_no_arguments, plan_value_argument, plan_named_argument, plan_closed_argument, plan_join, plan_side, plan_heading, plan_switch, plan_keeping, plan_pipeline, IsRest, last_stage, more_stages, is_written}
+use Rattle.sf_rewrite.specs.Normal.{is_arr, is_stage, may_meet, are_written, IsPlan, plan_primitive, plan_started, plan_call, ArePlans, plan_no_arguments, plan_value_argument, plan_term_argument, plan_closed_argument, plan_join, plan_side, plan_heading, plan_switch, plan_keeping, plan_pipeline, IsRest, last_stage, more_stages, is_written}
 use Rattle.sf_rewrite.proofs.Parts.{no_truth}
 use Rattle.sf_rewrite.proofs.Quiet.{both_true}
 
@@ -302,7 +302,7 @@ closing h o a = record { arguments = closed_argument o.term a.arguments; plans =
 -- a term before other arguments
 with_argument : (t : Term) {vs : Arguments} → Optimised t → OptimisedArguments vs → OptimisedArguments (process_argument t vs)
 with_argument (primitive p) o a = closing refl o a
-with_argument (reference (started w k)) o a = record { arguments = process_argument (reference (started w k)) a.arguments; plans = of_named_argument a.plans; are = plan_named_argument a.are }
+with_argument (reference (started w k)) o a = record { arguments = process_argument (reference (started w k)) a.arguments; plans = of_named_argument a.plans; are = plan_term_argument plan_started a.are }
 with_argument (reference (call g us)) o a = closing refl o a
 with_argument (joined j f g) o a = closing refl o a
 with_argument (sided d t) o a = closing refl o a

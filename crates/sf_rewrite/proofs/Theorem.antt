@@ -8,12 +8,12 @@ use Rattle.sf_mean.proofs.Once.{once_sample}
 use Rattle.sf_rewrite.specs.Quiet.{is_quiet}
 use Rattle.sf_rewrite.specs.Laws.{unchanged}
 use Rattle.sf_rewrite.specs.Plans.{Plans, plans, PlansParts, PlansProcess, of_closure, of_frozen, PlansNames, of_nothing, of_value, of_process, PlansAll, no_templates, one_more, PlansNetwork}
-use Rattle.sf_rewrite.specs.Plans.{of_primitive, of_started, of_call, PlansArguments, of_no_arguments, of_value_argument, of_named_argument, of_closed_argument, of_join, of_side, of_heading, of_switch, of_keeping}
+use Rattle.sf_rewrite.specs.Plans.{of_primitive, of_started, of_call, PlansArguments, of_no_arguments, of_value_argument, of_named_argument, of_closed_argument, of_term_argument, of_join, of_side, of_heading, of_switch, of_keeping}
 use Rattle.sf_rewrite.proofs.Parts.{OneLeaf}
 use Rattle.sf_rewrite.proofs.Quiet.{last_step, quiet_steps}
 use Rattle.sf_rewrite.proofs.Lowered.{lowered}
 use Rattle.sf_rewrite.proofs.Opening.{Leaf, closed_part}
-use Rattle.sf_rewrite.proofs.Main.{to_plan, from_plan, Alike, alike, Formed, same_primitive, same_started, same_call, AlikeArguments, alike_none, alike_value, alike_named, alike_closed, alike_opened, same_join, same_side, same_heading, same_switch, same_keeping, AlikeProcess, alike_closure, alike_resumed, AlikeNames, alike_empty, alike_known, alike_running, AlikeAll, none_alike, more_alike, keeps}
+use Rattle.sf_rewrite.proofs.Main.{to_plan, from_plan, Alike, alike, Formed, same_primitive, same_started, same_call, AlikeArguments, alike_none, alike_value, alike_named, alike_closed, alike_opened, alike_terms, same_join, same_side, same_heading, same_switch, same_keeping, AlikeProcess, alike_closure, alike_resumed, AlikeNames, alike_empty, alike_known, alike_running, AlikeAll, none_alike, more_alike, keeps}
 
 mutual
   onto : {t u : Term} → Plans t u → Alike true t u
@@ -34,6 +34,7 @@ mutual
   onto_arguments (of_value_argument A) = alike_value (onto_arguments A)
   onto_arguments (of_named_argument A) = alike_named (onto_arguments A)
   onto_arguments (of_closed_argument h P A) = alike_closed h (onto P) (onto_arguments A)
+  onto_arguments (of_term_argument h k P A) = alike_terms h k (onto P) (onto_arguments A)
 
 mutual
   from : {t u : Term} → Plans t u → Alike false u t
@@ -54,6 +55,7 @@ mutual
   from_arguments (of_value_argument A) = alike_value (from_arguments A)
   from_arguments (of_named_argument A) = alike_named (from_arguments A)
   from_arguments (of_closed_argument h P A) = alike_opened h (from P) (from_arguments A)
+  from_arguments (of_term_argument h k P A) = alike_terms k h (from P) (from_arguments A)
 
 mutual
   onto_process : {P P' : Process} → PlansProcess P P' → AlikeProcess true P P'

@@ -15,7 +15,7 @@ use Rattle.sf_mean.specs.Contexts.{Context, Bindings, Signature, signature_of, c
 use Rattle.sf_mean.specs.Typing.{ChainTakes, lone_takes, chained_takes, on_first_takes, on_second_takes, on_both_takes, fanned_takes, bare_takes, value_takes, arrow_takes, fused_takes, Takes, takes, primitive_takes, call_takes, ArgumentsFit, value_fits, process_fits, closed_fits, sequence_takes, parallel_takes, fan_takes, first_takes, second_takes, loop_takes, initialized_takes, switch_takes, keeping_takes, recurring_takes, stages_take}
 use Rattle.sf_mean.proofs.Inferred.{input_fits, output_fits}
 use Rattle.sf_rewrite.specs.Laws.{arr, Laws, unchanged, in_turn, in_join, in_stages, in_side, in_heading, in_switch, as_pipeline, within_pipeline, associate_right, associate_left, identity_before, identity_after, arr_as_chain, chain_as_arr, arr_composed, arr_on_side, arr_in_parallel, arr_fanned_out, sides_composed, exchanged, constant_after, left_tightened, right_tightened}
-use Rattle.sf_rewrite.specs.Plans.{Plans, plans, PlansParts, of_primitive, of_started, of_call, PlansArguments, of_no_arguments, of_value_argument, of_named_argument, of_closed_argument, of_join, of_side, of_heading, of_switch, of_keeping, PlansTemplate, PlansAll, no_templates, one_more}
+use Rattle.sf_rewrite.specs.Plans.{Plans, plans, PlansParts, of_primitive, of_started, of_call, PlansArguments, of_no_arguments, of_value_argument, of_named_argument, of_closed_argument, of_term_argument, of_join, of_side, of_heading, of_switch, of_keeping, PlansTemplate, PlansAll, no_templates, one_more}
 
 abbrev Keeps : Context → Term → Term → Type 0
 Keeps Γ t u = (a b : Kind) → Takes Γ t a b → Takes Γ u a b
@@ -96,6 +96,7 @@ mutual
   arguments_take (of_value_argument A) (value_fits E F) = value_fits E (arguments_take A F)
   arguments_take (of_named_argument A) (process_fits T F) = process_fits T (arguments_take A F)
   arguments_take (of_closed_argument h P A) (process_fits {a = a} {b = b} T F) = closed_fits (plan_takes P a b T) (arguments_take A F)
+  arguments_take (of_term_argument h k P A) (process_fits {a = a} {b = b} T F) = process_fits (plan_takes P a b T) (arguments_take A F)
 
 -- ## The contexts that plans are typed under
 

@@ -1,4 +1,4 @@
--- What a plan looks like when no law about pipelines is left to apply.
+-- The form of a plan: no `>>>` is left, no stage of a pipeline is a pipeline or the identity, and no two neighbours are `arr`.
 use Rattle.std.specs.Prelude.{Bool, true, false, ◌&&◌, IsTrue}
 use Rattle.sf_value.specs.Values.{Name}
 use Rattle.sf_expr.specs.Expressions.{Pattern, Expression}
@@ -79,11 +79,11 @@ mutual
     plan_keeping : {w : Observation} {t q u : Term} {k : Name} {p : Pattern} → IsPlan t → IsPlan q → IsPlan u → IsPlan (keeping w t q k p u)
     plan_pipeline : {f r : Term} → IsPlan f → IsTrue (is_stage f) → IsRest f r → IsPlan (staged whole f r)
 
-  -- the terms of arguments: those that are closed, and named processes
+  -- the terms of arguments
   pub data ArePlans : Arguments → Type 0 where
     plan_no_arguments : ArePlans no_arguments
     plan_value_argument : {i : Expression} {vs : Arguments} → ArePlans vs → ArePlans (value_argument i vs)
-    plan_named_argument : {w : Start} {k : Name} {vs : Arguments} → ArePlans vs → ArePlans (process_argument (reference (started w k)) vs)
+    plan_term_argument : {t : Term} {vs : Arguments} → IsPlan t → ArePlans vs → ArePlans (process_argument t vs)
     plan_closed_argument : {t : Term} {vs : Arguments} → IsPlan t → ArePlans vs → ArePlans (closed_argument t vs)
 
   -- the rest of a pipeline after a stage: no two neighbours are `arr`

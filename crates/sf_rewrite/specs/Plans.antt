@@ -40,13 +40,14 @@ mutual
     of_switch : {w : Switching} {t t' u u' : Term} {p : Pattern} → Plans t t' → Plans u u' → PlansParts (switching w t p u) (switching w t' p u')
     of_keeping : {w : Observation} {t t' q q' u u' : Term} {k : Name} {p : Pattern} → Plans t t' → Plans q q' → Plans u u' → PlansParts (keeping w t q k p u) (keeping w t' q' k p u')
 
-  -- Arguments with plans of their terms, which stay closed in the environment of the call, though laws may leave a named process
-  -- of them; a named process stays as it is.
+  -- Arguments with plans of their terms, which stay closed in the environment of the call: where laws leave a named process of
+  -- a term, it is written as a closed one. A named process stays as it is.
   pub data PlansArguments : Arguments → Arguments → Type 0 where
     of_no_arguments : PlansArguments no_arguments no_arguments
     of_value_argument : {i : Expression} {vs vs' : Arguments} → PlansArguments vs vs' → PlansArguments (value_argument i vs) (value_argument i vs')
     of_named_argument : {w : Start} {k : Name} {vs vs' : Arguments} → PlansArguments vs vs' → PlansArguments (process_argument (reference (started w k)) vs) (process_argument (reference (started w k)) vs')
     of_closed_argument : {t t' : Term} {vs vs' : Arguments} → is_started t ≡ false → Plans t t' → PlansArguments vs vs' → PlansArguments (process_argument t vs) (closed_argument t' vs')
+    of_term_argument : {t t' : Term} {vs vs' : Arguments} → is_started t ≡ false → is_started t' ≡ false → Plans t t' → PlansArguments vs vs' → PlansArguments (process_argument t vs) (process_argument t' vs')
 
 mutual
   -- A process with plans of its terms; what was frozen has lived the same.

@@ -11,6 +11,8 @@ mod library;
 #[cfg(test)]
 mod networks;
 #[cfg(test)]
+mod optimised;
+#[cfg(test)]
 mod playing;
 #[cfg(test)]
 mod probing;

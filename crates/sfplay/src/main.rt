@@ -47,7 +47,7 @@ Networks may call the functions `abs` and `sign` of a number, and `max` and
 const NET: &str = "The file that has the network's text";
 
 const PLAIN: &str =
-    "Runs the network as it is written; without it, it may be rewritten to do less work";
+    "Runs the network as it is written; without it, laws are applied that make it do less work";
 
 const PROBES: &str = "Writes what probes record, before the value of each sample";
 

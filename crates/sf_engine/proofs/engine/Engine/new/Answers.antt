@@ -5,4 +5,4 @@ use Rattle.sf_engine.proofs.engine.Engine.new.Goals as goal
 pub returns-clause-runs : goal.returns-clause-runs
 returns-clause-runs g c =
     let φ = g.F.Holds.answers c.args.functions in
-    goes_first refl (c.in-Ok-planned.ensures.network φ) c.in-Ok-planned.ensures.main (c.in-Ok.ensures.same ∙ c.input.ensures) (rw c.main.ensures at c.unborn-state.ensures φ c.in-Ok-planned.plan) refl refl c.new.ensures.empty
+    goes_first refl (c.in-Ok-planned.ensures φ) (c.in-Ok.ensures.same ∙ c.input.ensures) (rw c.main.ensures at c.unborn-state.ensures φ c.in-Ok-planned.plan) refl refl c.new.ensures.empty

@@ -1,6 +1,8 @@
 use Rattle.std.proofs.Common.{w64}
 use Rattle.std.proofs.lemmas.Int.{to_z-of_z}
 use Rattle.sf_prim.specs.Keeping.{begins, keeps_no_event, keeps_function}
+use Rattle.sf_law.specs.Entries.{chain_over}
+use Rattle.sf_prim.proofs.Linked.{fused_begins}
 use Rattle.sf_prim.proofs.Primitives.{begins_exit, timed_exit, timed_as, memory_exit, accumulated_made, accumulated_fails}
 use Rattle.sf_prim.proofs.prim_state.PrimState.born.Goals as goal
 
@@ -45,3 +47,14 @@ returns-in_ok-new-in-Accumulated g c = λ h.
     let code = c.in_ok-shared-in-Accumulated.ensures (rw c.in-Accumulated.is at h).1 (g.R.Holds.answers c.args.functions.now) in
     let worth = c.in_ok-value-in-Accumulated.ensures (rw c.in-Accumulated.is at h).0 in
     rw c.in-Accumulated.is (begins (accumulated_made _ _ _ c.in_ok-new-in-Accumulated.field-0 _ c.in_ok-new-in-Accumulated.ensures.ok code worth))
+
+pub returns-in_err-links-in-Fused : goal.returns-in_err-links-in-Fused
+returns-in_err-links-in-Fused g c = λ h. memory_exit _ _ _ c.from_residual-in_err-links-in-Fused.ensures.1
+
+pub returns-in_err-new-in-Fused : goal.returns-in_err-new-in-Fused
+returns-in_err-new-in-Fused g c = λ h. memory_exit _ _ _ c.from_residual-in_err-new-in-Fused.ensures.1
+
+pub returns-in_ok-new-in-Fused : goal.returns-in_ok-new-in-Fused
+returns-in_ok-new-in-Fused g c = λ h.
+    let made = (rw c.deref.ensures at c.in_ok-links-in-Fused.ensures) (rw c.in-Fused.is at h) (g.R.Holds.answers c.args.functions.now) in
+    rw c.in-Fused.is (begins (fused_begins (chain_over c.args.exprs.now c.in-Fused.chain.value) c.in_ok-new-in-Fused.field-0 c.in_ok-links-in-Fused.links c.in_ok-new-in-Fused.ensures.ok made))

@@ -1,4 +1,5 @@
 use Rattle.std.proofs.Common.{ap, ◌∙◌}
+use Rattle.sf_prim.proofs.Linked.{fused_follows}
 use Rattle.sf_prim.proofs.Primitives.{arrow_follows, accumulated_follows, timer_follows}
 use Rattle.sf_prim.proofs.prim_state.PrimState.clone_in.Goals as goal
 
@@ -16,3 +17,6 @@ returns-in_ok-copy-in-Timed c = λ q scope L k.
     let is = c.in_ok-copy-in-Timed.ensures.ok in
     let kept = rw c.deref-in-Timed.ensures at c.in_ok-kept-in-Timed.ensures in
     timer_follows c.in-Timed.timer c.in_ok-copy-in-Timed.copy (ap (λ t. t.due) is ∙ kept.due) (ap (λ t. t.begun) is ∙ kept.begun) (ap (λ t. t.left) is ∙ kept.left) q scope L (rw c.in-Timed.is at k)
+
+pub returns-in_ok-same-in-Fused : goal.returns-in_ok-same-in-Fused
+returns-in_ok-same-in-Fused c = λ q scope L k. fused_follows c.in-Fused.links _ c.in_ok-same-in-Fused.ensures.cases q scope L (rw c.in-Fused.is at k)

@@ -1,3 +1,4 @@
+use Rattle.sf_prim.proofs.Linked.{fused_goes_on}
 use Rattle.sf_prim.proofs.Primitives.{identity_goes_on, never_goes_on, constant_goes_on, previous_goes_on, arrow_goes_on, accumulated_goes_on, clock_goes_on, area_goes_on, timer_goes_on, edge_goes_on, not_yet_goes_on, count_goes_on, now_goes_on, hold_goes_on}
 use Rattle.sf_prim.proofs.prim_state.PrimState.step.Goals as goal
 
@@ -46,3 +47,6 @@ pub returns-in-Accumulated : goal.returns-in-Accumulated
 returns-in-Accumulated g c =
     let at_first = c.deref_mut.ensures.value in
     rw c.in-Accumulated.is (accumulated_goes_on (g.R.Holds.answers c.args.functions.now) _ _ c.in-Accumulated.accumulator _ _ _ (rw at_first at c.accumulate.ensures.goes_on) (rw at_first at c.accumulate.ensures.shows) (rw at_first at c.accumulate.ensures.same))
+
+pub returns-in-Fused : goal.returns-in-Fused
+returns-in-Fused g c = rw c.in-Fused.is (fused_goes_on (g.R.Holds.answers c.args.functions.now) c.in-Fused.links _ c.args.value.now c.run_links.new.value c.run_links.result (rw (c.deref-in-Fused-2.ensures.value, c.deref-in-Fused.ensures) at c.run_links.ensures))

@@ -1,0 +1,41 @@
+-- Templates of a plan with other bodies.
+use Rattle.std.proofs.Common.{◌≡◌, ℕ, ◌+◌, List, [], ◌∷◌, map, not, cond, nat_eq, bytes_eq, unwrap_or, IsTrue, String, refl, sym, ◌∙◌, ap, subst}
+use Rattle.indexmap.specs.IndexMap.{IndexMap, get_by_text}
+use Rattle.std.proofs.lemmas.List.{length-map}
+use Rattle.sf_value.specs.Values.{Name}
+use Rattle.sf_expr.specs.declared.exprs.Exprs.{Exprs}
+use Rattle.sf_expr.specs.Arena.{name_at}
+use Rattle.sf_law.specs.declared.node.PlanId.{PlanId}
+use Rattle.sf_law.specs.declared.node.PlanNode.{PlanNode}
+use Rattle.sf_law.specs.declared.node.PlanNode.TheVariants as nodes
+use Rattle.sf_law.specs.Headers.{PlanHeader, rebodied, place_named, NumbersFirst}
+use Rattle.sf_law.specs.Entries.{calls_first, node_among, ArePlanNodes}
+
+module _ (ids : List PlanId) (n : ℕ) where
+  -- a name stands where it stood
+  place_kept : (x : Name) (hs : List PlanHeader) → place_named x (map (rebodied ids n) hs) ≡ place_named x hs
+  place_kept x [] = refl
+  place_kept x (h ∷ hs) = ap (λ k. cond (not (bytes_eq x h.name)) (1 + k) 0) (place_kept x hs)
+
+  pub numbers_kept : {Y S : Type 0} (numbers : IndexMap (String Y) ℕ S) (hs : List PlanHeader) → NumbersFirst numbers hs → NumbersFirst numbers (map (rebodied ids n) hs)
+  numbers_kept numbers hs h x = ap (unwrap_or (get_by_text numbers x)) (length-map hs (rebodied ids n)) ∙ h x ∙ sym (place_kept x hs)
+
+  calls_kept : (x : Exprs) (hs : List PlanHeader) (m : PlanNode) → calls_first x (map (rebodied ids n) hs) m ≡ calls_first x hs m
+  calls_kept x hs (nodes.Primitive q) = refl
+  calls_kept x hs (nodes.Started w k) = refl
+  calls_kept x hs (nodes.Probe r) = refl
+  calls_kept x hs (nodes.Call k g v) = ap (nat_eq g.0) (place_kept (name_at x k) hs)
+  calls_kept x hs (nodes.Joined j a b) = refl
+  calls_kept x hs (nodes.Sided d a) = refl
+  calls_kept x hs (nodes.Headed h e c a) = refl
+  calls_kept x hs (nodes.Switching w a q b) = refl
+  calls_kept x hs (nodes.Keeping w a o k q b) = refl
+  calls_kept x hs (nodes.Pipeline v) = refl
+
+  pub arena_kept : (x : Exprs) (hs : List PlanHeader) (ns : List PlanNode) → ArePlanNodes x hs ns → ArePlanNodes x (map (rebodied ids n) hs) ns
+  arena_kept x hs ns a = record {
+    in_order = a.in_order;
+    wholes = a.wholes;
+    coded = a.coded;
+    called = λ i. subst IsTrue (sym (calls_kept x hs (node_among ns i))) (a.called i);
+  }

@@ -1,0 +1,20 @@
+use Rattle.std.proofs.Common.{List, All, sym, subst}
+use Rattle.std.proofs.lemmas.List.Elements.{All-map}
+use Rattle.sf_law.specs.Headers.{PlanHeader, rebodied, NumbersFirst}
+use Rattle.sf_law.specs.Entries.{ArePlanNodes, BindsNames}
+use Rattle.sf_law.proofs.Rebodied.{arena_kept, numbers_kept}
+use Rattle.sf_law.proofs.plan.Plan.with_bodies.Goals as goal
+
+pub invariant_of-plan : goal.invariant_of-plan
+invariant_of-plan c =
+    let p = c.args.self in
+    let ids = c.args.bodies.now in
+    let n = c.len.result in
+    let same = sym c.put_bodies.ensures in
+    record {
+      arena = subst (λ (hs : List PlanHeader). ArePlanNodes p.expressions hs p.nodes.items) same (arena_kept ids n p.expressions p.templates.items p.nodes.items p.arena);
+      bound = subst (λ (hs : List PlanHeader). All (BindsNames p.expressions) hs) same (All-map (BindsNames p.expressions) (rebodied ids n) p.templates.items p.bound);
+      numbered = subst (λ (hs : List PlanHeader). NumbersFirst p.numbers hs) same (numbers_kept ids n p.numbers p.templates.items p.numbered);
+      same = p.same;
+      nothing = p.nothing;
+    }

@@ -1,0 +1,10 @@
+pub mod Quieted
+pub mod Chains
+pub mod Forms
+pub mod Rows
+pub mod Made
+pub mod Boundary
+pub mod Joined
+pub mod Looped
+pub mod Rewritten
+pub mod Whole

@@ -1,0 +1,247 @@
+//! Functions that are made into one, as they are run: links one after another, each on the value in its place.
+ghost use Rattle.std.specs.Prelude.{◌≡◌, IfOk, OnOk};
+ghost use Rattle.sf_func.specs.Registries.{AnswersByName};
+ghost use Rattle.sf_expr.specs.Expressions.{Function};
+ghost use Rattle.sf_expr.specs.Evaluation.{Scope, apply};
+ghost use Rattle.sf_code.specs.Names.{scope_with};
+ghost use Rattle.sf_code.specs.Worth.{IsCodeOfFunctionIn};
+ghost use Rattle.sf_operator.specs.Answers.{EvaluatesAs};
+ghost use Rattle.sf_value.specs.Values.{pair};
+ghost use Rattle.sf_law.specs.Entries.{chain_over, IsCodedChain};
+ghost use Rattle.sf_mean.specs.Formulas.{apply_chain};
+ghost use Rattle.sf_term.specs.Trees.{on_side};
+ghost use Rattle.sf_prim.specs.Links.{on_part, link_worth, links_worth, held, IsLinkOf, AreLinksOf, AddsLinks};
+
+use crate::prim_state::shared_code;
+use sf_code::{Calculation, Code, Names, apply_in_place, halves, is_arithmetic};
+use sf_expr::Exprs;
+use sf_func::Holds;
+use sf_law::PlanChain;
+use sf_operator::{EvalFault, number_in};
+use sf_term::Side;
+use sf_value::Value;
+use std::alloc::{AllocError, Global};
+use std::mem;
+use std::rc::Rc;
+
+/// A step of functions that are made into one.
+#[derive(Drop)]
+pub enum Link {
+    /// A function.
+    Function(Rc<Code>),
+    /// A function that makes a number of a number by arithmetic alone.
+    Number(Calculation),
+    /// Links on one part of a pair, which stays where it is.
+    OnSide(Side, Vec<Link>),
+    /// The pair of a value with itself.
+    Fork,
+}
+
+/// The links of functions with these names around them.
+#[cycle(links)]
+pub(crate) fn links_of<N: Names>(
+    alloc: Global,
+    exprs: &Exprs,
+    chain: &PlanChain,
+    names: &N,
+) -> Result<Vec<Link>, AllocError>
+    ensures { IsCodedChain exprs.now chain.now →
+        IfOk result (λ links. (φ : AnswersByName) → AreLinksOf (scope_with (N.values names.now) φ) (chain_over exprs.now chain.now) links.items) }
+{
+    let mut links = Vec::new(alloc);
+    add_links(alloc, exprs, chain, names, &mut links)?;
+    Ok(links)
+}
+
+// The links of functions behind others.
+#[cycle(links)]
+fn add_links<N: Names>(
+    alloc: Global,
+    exprs: &Exprs,
+    chain: &PlanChain,
+    names: &N,
+    links: &mut Vec<Link>,
+) -> Result<(), AllocError>
+    ensures { IsCodedChain exprs.now chain.now →
+        OnOk result ((φ : AnswersByName) → AddsLinks (scope_with (N.values names.now) φ) (apply_chain (chain_over exprs.now chain.now)) links.old.items links.new.items) }
+{
+    match chain {
+        PlanChain::Lone(function, code) => {
+            let shared = shared_code(alloc, exprs, *function, code, names)?;
+            links.push(function_link(shared))?;
+            Ok(())
+        }
+        PlanChain::Chained(first, second) => {
+            add_links(alloc, exprs, first, names, links)?;
+            add_links(alloc, exprs, second, names, links)
+        }
+        PlanChain::OnSide(side, part) => add_on_side(alloc, exprs, *side, part, names, links),
+        PlanChain::OnBoth(first, second) => {
+            add_on_side(alloc, exprs, Side::First, first, names, links)?;
+            add_on_side(alloc, exprs, Side::Second, second, names, links)
+        }
+        PlanChain::Fanned(first, second) => {
+            links.push(Link::Fork)?;
+            add_on_side(alloc, exprs, Side::First, first, names, links)?;
+            add_on_side(alloc, exprs, Side::Second, second, names, links)
+        }
+    }
+}
+
+// The links of functions on one part of a pair, behind others.
+#[cycle(links)]
+fn add_on_side<N: Names>(
+    alloc: Global,
+    exprs: &Exprs,
+    side: Side,
+    part: &PlanChain,
+    names: &N,
+    links: &mut Vec<Link>,
+) -> Result<(), AllocError>
+    ensures { IsCodedChain exprs.now part.now →
+        OnOk result ((φ : AnswersByName) → AddsLinks (scope_with (N.values names.now) φ) (apply_chain (on_side side (chain_over exprs.now part.now))) links.old.items links.new.items) }
+{
+    let inner = links_of(alloc, exprs, part, names)?;
+    links.push(Link::OnSide(side, inner))?;
+    Ok(())
+}
+
+// A function as a link.
+fn function_link(code: Rc<Code>) -> Link
+    ensures { (s : Scope) (f : Function) → IsCodeOfFunctionIn s f code.value → IsLinkOf s (apply f) result }
+{
+    if is_arithmetic(&code) {
+        return Link::Number(Calculation { code });
+    }
+    Link::Function(code)
+}
+
+/// What links make of the input, one after another, in its place. The error is the first fault of their operations, or
+/// `Memory`; after it the value may be any.
+#[cycle(run)]
+#[inline(never)]
+pub(crate) fn run_links<R: Holds>(
+    alloc: Global,
+    links: &[Link],
+    functions: &R,
+    value: &mut Value,
+) -> Result<(), EvalFault>
+    ensures { EvaluatesAs (λ u. value.new) result (links_worth links.now (R.answers functions.now) value.old) }
+{
+    let mut number = number_in(value);
+    for link in links {
+        number = run_link(alloc, link, functions, number, value)?;
+    }
+    settle(number, value);
+    Ok(())
+}
+
+// Puts a number in the place of a value, if there is one.
+#[inline(always)]
+fn settle(number: Option<i64>, value: &mut Value)
+    ensures { value.new ≡ held number value.old }
+{
+    if let Some(number) = number {
+        *value = Value::int(number);
+    }
+}
+
+// What a link makes of a number, where there is one, or else of the value in its place. Where that is a number it is handed
+// on: from one function that makes it by arithmetic to the next it takes no place.
+#[cycle(run)]
+#[inline(always)]
+fn run_link<R: Holds>(
+    alloc: Global,
+    link: &Link,
+    functions: &R,
+    number: Option<i64>,
+    value: &mut Value,
+) -> Result<Option<i64>, EvalFault>
+    ensures { EvaluatesAs (λ n. held n value.new) result (link_worth link.now (R.answers functions.now) (held number value.old)) }
+{
+    if let Link::Number(calculation) = link {
+        if let Some(number) = number {
+            return Ok(Some(calculation.calculate(number)?));
+        }
+    }
+    settle(number, value);
+    run_in_place(alloc, link, functions, value)?;
+    Ok(number_in(value))
+}
+
+// What a link makes of the value, in its place.
+#[cycle(run)]
+#[inline(always)]
+fn run_in_place<R: Holds>(
+    alloc: Global,
+    link: &Link,
+    functions: &R,
+    value: &mut Value,
+) -> Result<(), EvalFault>
+    ensures { EvaluatesAs (λ u. value.new) result (link_worth link.now (R.answers functions.now) value.old) }
+{
+    match link {
+        Link::Function(code) => apply_in_place(alloc, code, functions, value),
+        Link::Number(calculation) => apply_in_place(alloc, &calculation.code, functions, value),
+        Link::OnSide(side, links) => run_on_side(alloc, *side, links, functions, value),
+        Link::Fork => Ok(fork(alloc, value)?),
+    }
+}
+
+// The pair of the value with itself, in its place.
+#[inline(never)]
+fn fork(alloc: Global, value: &mut Value) -> Result<(), AllocError>
+    ensures { OnOk result (value.new ≡ pair value.old value.old) }
+{
+    let first = Rc::new(alloc, mem::replace(value, Value::int(0)))?;
+    let second = first.clone()?;
+    *value = Value::of_halves(first, second);
+    Ok(())
+}
+
+// What links on one part make of a pair, in its place.
+#[cycle(run)]
+#[inline(never)]
+fn run_on_side<R: Holds>(
+    alloc: Global,
+    side: Side,
+    links: &[Link],
+    functions: &R,
+    value: &mut Value,
+) -> Result<(), EvalFault>
+    ensures { EvaluatesAs (λ u. value.new) result (on_part side (links_worth links.now) (R.answers functions.now) value.old) }
+{
+    let (first, second) = halves(alloc, mem::replace(value, Value::int(0)))?;
+    match side {
+        Side::First => {
+            let made = run_on_part(alloc, links, functions, first)?;
+            *value = Value::of_halves(made, second);
+        }
+        Side::Second => {
+            let made = run_on_part(alloc, links, functions, second)?;
+            *value = Value::of_halves(first, made);
+        }
+    }
+    Ok(())
+}
+
+// What links make of a part, in its place where it has no other owner.
+#[cycle(run)]
+#[inline(always)]
+fn run_on_part<R: Holds>(
+    alloc: Global,
+    links: &[Link],
+    functions: &R,
+    part: Rc<Value>,
+) -> Result<Rc<Value>, EvalFault>
+    ensures { EvaluatesAs (λ made. made.value) result (links_worth links.now (R.answers functions.now) part.value) }
+{
+    let mut part = part;
+    if let Some(own) = Rc::get_mut(&mut part) {
+        run_links(alloc, links, functions, own)?;
+        return Ok(part);
+    }
+    let mut made = part.clone_in(alloc)?;
+    run_links(alloc, links, functions, &mut made)?;
+    Ok(Rc::new(alloc, made)?)
+}
