@@ -2,8 +2,9 @@
 
     python3 rows/play.py --exe PATH [--only NAME] [--timeout SECONDS]
 
-A row with `"plain": true` is played with --plain alone: a sample that is too large as it is written may have a value where it is
-rewritten. All are expected to pass, and each form of the language that forms.json lists has to stand in the network of one that runs.
+A row with `"plain": true` is played with --plain alone, and one with `"plain": false` without it: a sample that is too large as it is
+written may have a value where it is rewritten. All are expected to pass, and each form of the language that forms.json lists has to
+stand in the network of one that runs.
 The last line is `N passed, M failed`.
 """
 
@@ -18,6 +19,8 @@ import threading
 
 HERE = os.path.dirname(os.path.abspath(__file__))
 EXAMPLES = os.path.join(HERE, "..", "examples")
+# The words for the modes in which a row is played, by its key "plain".
+MODES = {None: ([], ["--plain"]), True: (["--plain"],), False: ([],)}
 # A text or a comment, which has no forms, or a word or a symbol.
 TOKEN = re.compile(rb'"[^"\n]*"|#.*|[A-Za-z]\w*|-?\d+|-->|[!=<>]=|~>|=>|>>>|\*{3}|&&&|\S')
 
@@ -118,8 +121,7 @@ def main():
                     file.write(text_of(row["network"]))
             if row["status"] in (0, 3):
                 networks.append(text_of(row["network"]))
-            modes = [["--plain"]] if row.get("plain") else [[], ["--plain"]]
-            for mode in modes:
+            for mode in MODES[row.get("plain")]:
                 words = [os.path.abspath(options.exe), network, *row["arguments"], *mode]
                 try:
                     found = faults(row, *play(words, row, options.timeout))
