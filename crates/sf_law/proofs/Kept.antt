@@ -16,9 +16,14 @@ use Rattle.sf_law.specs.declared.node.PlanNode.TheVariants as nodes
 use Rattle.sf_law.specs.declared.plan.Plan.{Plan}
 use Rattle.sf_law.specs.declared.node.TemplateId.{TemplateId}
 use Rattle.sf_law.specs.Headers.{PlanHeader, place_named, no_header}
-use Rattle.sf_law.specs.Entries.{IsCoded, plan_over, parts_end, is_whole, calls_first, identity_node, node_among, plan_terms, plan_term}
-use Rattle.sf_law.specs.Arena.{node_count, plan_node_at, plan_tree, BuildsPlan, plan_expressions, plan_headers, plan_template, header_at, IsCalled, builds_primitive, builds_started, builds_probe, builds_call, builds_joined, builds_sided, builds_headed, builds_switching, builds_keeping, builds_pipeline, KeepsPlan, AddsNode}
+use Rattle.sf_law.specs.Entries.{IsCoded, is_within, plan_over, parts_end, is_whole, calls_first, identity_node, node_among, plan_terms, plan_term}
+use Rattle.sf_law.specs.Arena.{node_count, plan_anew, plan_node_at, plan_tree, BuildsPlan, plan_expressions, plan_headers, plan_template, header_at, IsCalled, builds_primitive, builds_started, builds_probe, builds_call, builds_joined, builds_sided, builds_headed, builds_switching, builds_keeping, builds_pipeline, KeepsPlan, AddsNode}
 use Rattle.sf_law.proofs.Placed.{term-built}
+
+-- processes begin anew in a node only where they may in the plan
+pub within_held : (p : Plan) (a : PlanId) → IsTrue (is_within (plan_anew p) (plan_node_at p a))
+unfolding plan_node_at
+within_held p a = p.within a.0
 
 -- what is called by a name is the first template of that name, among these
 first_called : (p : Plan) (x : Name) (hs : List PlanHeader) → plan_template p (slice_index_or hs (place_named x hs) no_header) ≡ unwrap_or (template_named x (map (plan_template p) hs)) (plan_template p no_header)

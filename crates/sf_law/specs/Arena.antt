@@ -1,5 +1,5 @@
 -- Plans, seen by their trees.
-use Rattle.std.specs.Prelude.{◌≡◌, ℕ, ◌+◌, ◌<◌, ◌≤◌, List, length, map, nat_le, IsTrue, Option, IfSome, unwrap_or, slice_index_or, All, Vec, String, string_bytes}
+use Rattle.std.specs.Prelude.{◌≡◌, Bool, ℕ, ◌+◌, ◌<◌, ◌≤◌, List, length, map, nat_le, IsTrue, Option, IfSome, unwrap_or, slice_index_or, All, Vec, String, string_bytes}
 use Rattle.sf_value.specs.Values.{Name}
 use Rattle.std.specs.declared.rc.Rc.{Rc}
 use Rattle.std.specs.declared.alloc.Global.{Global}
@@ -39,6 +39,10 @@ plan_number id = id.0
 -- the expressions and functions of a plan
 abbrev pub plan_expressions : Plan → Exprs
 plan_expressions p = p.expressions
+
+-- whether a process may begin anew in a plan
+abbrev pub plan_anew : Plan → Bool
+plan_anew p = p.anew
 
 -- the expression at an id; the number 0 where the plan holds none
 abbrev pub plan_expression_at : Plan → ExprId → Expression

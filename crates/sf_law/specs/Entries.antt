@@ -1,4 +1,5 @@
 -- The nodes of an arena of plans.
+use Rattle.std.specs.List.{list_all}
 use Rattle.std.specs.Prelude.{◌≡◌, ℕ, suc, ◌≤◌, max, Bool, true, nat_le, nat_eq, IsTrue, ⊤, Option, IfSome, List, [], ◌∷◌, length, map, slice_index_or, All, string_bytes}
 use Rattle.sf_expr.specs.declared.exprs.ExprId.{ExprId}
 use Rattle.sf_expr.specs.declared.exprs.Exprs.{Exprs}
@@ -7,6 +8,8 @@ use Rattle.sf_expr.specs.Patterns.{pattern_of}
 use Rattle.sf_expr.specs.Arena.{expression, function_at, name_at, literal_at, placed_at}
 use Rattle.sf_arena.specs.Folded.{trees, tree_at}
 use Rattle.sf_term.specs.declared.form.Bare.TheVariants.{Identity}
+use Rattle.sf_term.specs.declared.form.Start.{Start}
+use Rattle.sf_term.specs.declared.form.Start.TheVariants.{Run, Fresh}
 use Rattle.sf_code.specs.declared.code.Code.{Code}
 use Rattle.sf_code.specs.Worth.{IsCodeOf, IsCodeOfFunction}
 use Rattle.sf_term.specs.Entries.{identity_term, absent_payload, term_among}
@@ -175,6 +178,30 @@ calls_first x hs (nodes.Switching w a q b) = true
 calls_first x hs (nodes.Keeping w a o k q b) = true
 calls_first x hs (nodes.Pipeline v) = true
 
+-- where a process begins; anew only where that is allowed
+abbrev pub start_within : Bool → Start → Bool
+start_within b Run = true
+start_within b Fresh = b
+
+-- the same of an argument
+abbrev pub argument_within : Bool → PlanArgument → Bool
+argument_within b (arguments.Value e c) = true
+argument_within b (arguments.Started w k) = start_within b w
+argument_within b (arguments.Closed a) = true
+
+-- the same of a node
+abbrev pub is_within : Bool → PlanNode → Bool
+is_within b (nodes.Primitive q) = true
+is_within b (nodes.Started w k) = start_within b w
+is_within b (nodes.Probe r) = true
+is_within b (nodes.Call k g v) = list_all (argument_within b) v.items
+is_within b (nodes.Joined j a c) = true
+is_within b (nodes.Sided d a) = true
+is_within b (nodes.Headed h e c a) = true
+is_within b (nodes.Switching w a q c) = true
+is_within b (nodes.Keeping w a o k q c) = true
+is_within b (nodes.Pipeline v) = true
+
 -- the identity
 abbrev pub identity_node : PlanNode
 identity_node = nodes.Primitive (primitives.Bare Identity)
@@ -182,6 +209,10 @@ identity_node = nodes.Primitive (primitives.Bare Identity)
 -- the node at a place; the identity past the end
 abbrev pub node_among : List PlanNode → ℕ → PlanNode
 node_among ns i = slice_index_or ns i identity_node
+
+-- processes begin anew only where that is allowed
+abbrev pub AreWithin : Bool → List PlanNode → Type 0
+AreWithin b ns = (i : ℕ) → IsTrue (is_within b (node_among ns i))
 
 -- the terms of nodes
 abbrev pub plan_terms : Exprs → List PlanNode → List Term

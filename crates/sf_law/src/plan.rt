@@ -1,12 +1,12 @@
 //! Plans.
-ghost use Rattle.std.specs.Prelude.{◌≡◌, ◌≤◌, All, IsTrue, IfOk, OnErr};
+ghost use Rattle.std.specs.Prelude.{◌≡◌, ◌≤◌, true, false, cond, All, IsTrue, IfOk, OnErr};
 ghost use Rattle.sf_term.specs.declared.form.Bare.TheVariants.{Identity as identity_form};
 ghost use Rattle.sf_law.specs.declared.node.PlanPrimitive.TheVariants.{Bare as bare_node};
 ghost use Rattle.sf_law.specs.declared.node.PlanNode.TheVariants.{Primitive as primitive_node};
 ghost use Rattle.sf_term.specs.Trees.{primitive, bare};
 ghost use Rattle.std.specs.Prelude.{map};
 ghost use Rattle.sf_law.specs.Headers.{place_named, rebodied, NumbersFirst, no_header};
-ghost use Rattle.sf_law.specs.Entries.{ArePlanNodes, BindsNames, IsCoded, is_whole, calls_first, parts_end};
+ghost use Rattle.sf_law.specs.Entries.{ArePlanNodes, AreWithin, BindsNames, IsCoded, is_whole, is_within, calls_first, parts_end};
 ghost use Rattle.sf_law.specs.Unique.{IsCoded-prop, BindsNames-prop};
 ghost use Rattle.std.proofs.Props.{props};
 
@@ -25,9 +25,11 @@ pub struct Plan {
     templates: Vec<PlanTemplate>,
     numbers: IndexMap<String, usize>,
     main: PlanId,
+    anew: bool,
     identity: PlanNode,
     absent: PlanTemplate,
     ghost arena: { ArePlanNodes expressions templates.items nodes.items } by { Prim.hlevel (props, IsCoded-prop) },
+    ghost within: { AreWithin anew nodes.items },
     ghost bound: { All (BindsNames expressions) templates.items } by { Prim.hlevel (props, BindsNames-prop) },
     ghost numbered: { NumbersFirst numbers templates.items },
     ghost same: { identity ≡ primitive_node (bare_node identity_form) },
@@ -42,6 +44,7 @@ impl Drop for Plan {
             templates,
             numbers,
             main: _,
+            anew: _,
             identity,
             absent,
         } = self;
@@ -56,7 +59,7 @@ impl Drop for Plan {
 
 impl Plan {
     ghost use Rattle.sf_law.specs.declared.node.PlanId.{PlanId as PlanIdOf};
-    ghost use Rattle.sf_law.specs.Arena.{plan_expressions, node_count, plan_node_at, plan_tree, plan_headers, plan_main};
+    ghost use Rattle.sf_law.specs.Arena.{plan_expressions, plan_anew, node_count, plan_node_at, plan_tree, plan_headers, plan_main};
     ghost use Rattle.sf_law.specs.Arena.{plan_number, template_number, header_at, BuildsPlan, KeepsPlan, AddsNode};
 
     /// A plan over these expressions, with these templates and no term yet.
@@ -77,6 +80,7 @@ impl Plan {
             templates,
             numbers,
             main: PlanId(0),
+            anew: false,
             identity: PlanNode::Primitive(PlanPrimitive::Bare(Bare::Identity)),
             absent: PlanTemplate::absent(alloc),
         })
@@ -95,8 +99,16 @@ impl Plan {
         ensures main { plan_main self.new ≡ plan_main self.old }
     {
         let id = PlanId(self.nodes.len());
+        self.anew = self.anew_with(&node);
         self.nodes.push(node)?;
         Ok(id)
+    }
+
+    // Whether a process may begin anew in the plan or in this node.
+    fn anew_with(&self, node: &PlanNode) -> bool
+        ensures { result ≡ cond (is_within false node.now) (plan_anew self.now) true }
+    {
+        if node.goes_on() { self.anew } else { true }
     }
 
     /// The first template of a name; an id that the plan does not hold where none has it.
@@ -139,12 +151,13 @@ impl Plan {
     }
 
     /// The node at an id, with the ids of its parts; the identity at an id that the plan does not hold.
-    #[tactic(auto, using(crate::proofs::Kept::builds, crate::proofs::Kept::parts_below, crate::proofs::Kept::parts_held), unfolding(crate::specs::Arena::plan_node_at))]
+    #[tactic(auto, using(crate::proofs::Kept::builds, crate::proofs::Kept::parts_below, crate::proofs::Kept::parts_held, crate::proofs::Kept::within_held), unfolding(crate::specs::Arena::plan_node_at))]
     pub fn node(&self, id: PlanId) -> &PlanNode
         ensures value { result.now ≡ plan_node_at self.now id }
         ensures builds { BuildsPlan self.now result.now (plan_tree self.now id) }
         ensures below { parts_end result.now ≤ plan_number id }
         ensures held { parts_end result.now ≤ node_count self.now }
+        ensures within { IsTrue (is_within (plan_anew self.now) result.now) }
     {
         match self.nodes.get(id.0) {
             Some(node) => node,
@@ -175,6 +188,13 @@ impl Plan {
         ensures { result.now ≡ plan_expressions self.now }
     {
         &self.expressions
+    }
+
+    /// Whether a process may begin anew in it: where none does, what processes began as need not be kept.
+    pub fn begins_anew(&self) -> bool
+        ensures { result ≡ plan_anew self.now }
+    {
+        self.anew
     }
 
     /// The term that is run.

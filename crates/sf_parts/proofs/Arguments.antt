@@ -1,5 +1,5 @@
 -- The arguments of a call, bound one after another.
-use Rattle.std.proofs.Common.{◌≡◌, List, [], ◌∷◌, map, length, Result, Ok, Err, refl, sym, ap, ◌∙◌, subst, arith, ◌⊎◌, inl, inr}
+use Rattle.std.proofs.Common.{◌≡◌, Bool, true, false, ◌&&◌, IsTrue, List, [], ◌∷◌, map, length, Result, Ok, Err, refl, sym, ap, ◌∙◌, subst, arith, ◌⊎◌, inl, inr}
 use Rattle.std.specs.Prelude.{Option, Some, IsErrAnd}
 use Rattle.sf_value.specs.Values.{Name, Data}
 use Rattle.sf_value.specs.declared.fault.ValueFault.{ValueFault}
@@ -51,6 +51,11 @@ after_fault (failed y) f g x h = let same : y ≡ x = cc in ap failed same
 pub made_failure : {A B : Type 0} (stands : A → B → Type 0) (w : Evaluated B) (r : Result A Fault) (f : Fault) → IsErrAnd r (λ e. e ≡ f) → Makes stands w (Err f) → Makes stands w r
 made_failure stands w (Ok a) f h m = absurd h
 made_failure stands w (Err e) f h m = subst (λ (e : Fault). Makes stands w (Err e)) (sym h) m
+
+-- what holds of two holds of each
+pub both_true : (a b : Bool) → IsTrue (a && b) → IsTrue a × IsTrue b
+both_true true b h = (refl, h)
+both_true false b h = absurd cc
 
 module _ (φ : AnswersByName) (p : Plan) where
   -- ## One argument

@@ -105,22 +105,22 @@ module _ (φ : AnswersByName) (p : Plan) where
       → (e : Environment) → IsNames φ p names e → Opens φ p t e (Err (fault_from f))
   open_prim_fails q t names f (builds_primitive C) h e N = prim_opens_with_fault _ e f (subst (λ (s : Scope). Begins s (primitive_over (plan_expressions p) q) (Err f)) (scope_is φ p names e N) (h C))
 
-  pub open_join : (j : Join) (a b : PlanId) (names one two : Env)
-      → ((e : Environment) → IsNames φ p names e → IsNames φ p one e) → ((e : Environment) → IsNames φ p names e → IsNames φ p two e) → (e : Environment) → IsNames φ p names e → Opens φ p (joined j (plan_tree p a) (plan_tree p b)) e (Ok (opened.Live (LJoin j (Unborn (SClosure a one)) (Unborn (SClosure b two)))))
-  open_join j a b names one two h g e N =
+  pub open_join : (j : Join) (a b : PlanId) (names one two : Env) (l : Rc Live Global) → l.value ≡ LJoin j (Unborn (SClosure a one)) (Unborn (SClosure b two))
+      → ((e : Environment) → IsNames φ p names e → IsNames φ p one e) → ((e : Environment) → IsNames φ p names e → IsNames φ p two e) → (e : Environment) → IsNames φ p names e → Opens φ p (joined j (plan_tree p a) (plan_tree p b)) e (Ok (opened.Live l))
+  open_join j a b names one two l same h g e N =
       let A = subst (λ (K : Life). Stands φ p (Unborn (SClosure a one)) (closure (plan_tree p a) e) K) (sym (left_none j)) (itself (unborn (is_closure (h e N)))) in
       let B = subst (λ (K : Life). Stands φ p (Unborn (SClosure b two)) (closure (plan_tree p b) e) K) (sym (right_none j)) (itself (unborn (is_closure (g e N)))) in
       let O = subst (λ (K : Life). Outputs net (closure (plan_tree p a) e) K []) (sym (left_none j)) not_begun in
-      opens (λ x. ready refl not_begun (lives_join O A B))
+      opens same (λ x. ready refl not_begun (lives_join O A B))
 
   -- a node of two parts opens as they do
-  pub open_joined : (j : Join) (a b : PlanId) (t : Term) (names : Env) (l : Live) → BuildsPlan p (NJoined j a b) t → ((e : Environment) → IsNames φ p names e → Opens φ p (joined j (plan_tree p a) (plan_tree p b)) e (Ok (opened.Live l)))
+  pub open_joined : (j : Join) (a b : PlanId) (t : Term) (names : Env) (l : Rc Live Global) → BuildsPlan p (NJoined j a b) t → ((e : Environment) → IsNames φ p names e → Opens φ p (joined j (plan_tree p a) (plan_tree p b)) e (Ok (opened.Live l)))
       → (e : Environment) → IsNames φ p names e → Opens φ p t e (Ok (opened.Live l))
   open_joined j a b t names l builds_joined h = h
 
-  pub open_wrap : (w : Wrap) (a : PlanId) (names inner : Env) → ((e : Environment) → IsNames φ p names e → IsNames φ p inner e)
-      → (t : Term) (e : Environment) (m : Made) → IsNames φ p names e → ((x : Data) → make net t e x ≡ answer m) → Wraps net w t e m [] (plan_tree p a) [] → Opens φ p t e (Ok (opened.Live (LWrap w (Unborn (SClosure a inner)))))
-  open_wrap w a names inner g t e m N h W = opens (λ x. ready (h x) not_begun (lives_wrap W (itself (unborn (is_closure (g e N))))))
+  pub open_wrap : (w : Wrap) (a : PlanId) (names inner : Env) (l : Rc Live Global) → l.value ≡ LWrap w (Unborn (SClosure a inner)) → ((e : Environment) → IsNames φ p names e → IsNames φ p inner e)
+      → (t : Term) (e : Environment) (m : Made) → IsNames φ p names e → ((x : Data) → make net t e x ≡ answer m) → Wraps net w t e m [] (plan_tree p a) [] → Opens φ p t e (Ok (opened.Live l))
+  open_wrap w a names inner l same g t e m N h W = opens same (λ x. ready (h x) not_begun (lives_wrap W (itself (unborn (is_closure (g e N))))))
 
   pub open_sided : (d : Side) (a : PlanId) (t : Term) (names : Env) (w : Wrap) (r : Result Opened Fault) → BuildsPlan p (NSided d a) t
       → ((n : Network) (t : Term) (e : Environment) (m : Made) → Wraps n w (sided d t) e m [] t [])
@@ -149,17 +149,17 @@ module _ (φ : AnswersByName) (p : Plan) where
   open_headed_fails i j c a names EMemory g e C N = opens_without_memory
 
   -- a switch waits at first, and its first term isn't born
-  pub open_switch : (w : Switching) (a b : PlanId) (q : PatternId) (names around : Env) → ((e : Environment) → IsNames φ p names e → IsNames φ p around e)
-      → (e : Environment) → IsNames φ p names e → Opens φ p (switching w (plan_tree p a) (pattern_of (placed_at (plan_expressions p) q)) (plan_tree p b)) e (Ok (opened.Switch (record { form = w; running = Unborn (SClosure a around); pattern = q; body = b })))
-  open_switch (Basic w) a b q names around g e N = opens_watching (waits_so refl at_start not_begun (itself (unborn (is_closure (g e N)))))
-  open_switch (Recurring w) a b q names around g e N = opens_watching (recurs_so refl not_begun (itself (unborn (is_closure (g e N)))))
+  pub open_switch : (w : Switching) (a b : PlanId) (q : PatternId) (names around : Env) (l : Rc Switch Global) → l.value ≡ (record { form = w; running = Unborn (SClosure a around); pattern = q; body = b }) → ((e : Environment) → IsNames φ p names e → IsNames φ p around e)
+      → (e : Environment) → IsNames φ p names e → Opens φ p (switching w (plan_tree p a) (pattern_of (placed_at (plan_expressions p) q)) (plan_tree p b)) e (Ok (opened.Switch l))
+  open_switch (Basic w) a b q names around l same g e N = opens_watching same (waits_so refl at_start not_begun (itself (unborn (is_closure (g e N)))))
+  open_switch (Recurring w) a b q names around l same g e N = opens_watching same (recurs_so refl not_begun (itself (unborn (is_closure (g e N)))))
 
   -- and so does one that keeps its source, whose observer isn't born either
-  pub open_keeping : (w : Observation) (a b c : PlanId) (k : NameId) (q : PatternId) (names one two : Env) (x : State)
+  pub open_keeping : (w : Observation) (a b c : PlanId) (k : NameId) (q : PatternId) (names one two : Env) (x : State) (l : Rc Keeping Global) → l.value ≡ (record { shown = w; first = a; source = Unborn (SClosure a one); before = x; observer = Unborn (SClosure b two); name = k; pattern = q; body = c })
       → ((e : Environment) → IsNames φ p names e → IsNames φ p one e) → ((e : Environment) → IsNames φ p names e → IsNames φ p two e)
-      → (e : Environment) → IsNames φ p names e → Opens φ p (keeping w (plan_tree p a) (plan_tree p b) (name_at (plan_expressions p) k) (pattern_of (placed_at (plan_expressions p) q)) (plan_tree p c)) e (Ok (opened.Keeping (record { shown = w; first = a; source = Unborn (SClosure a one); before = x; observer = Unborn (SClosure b two); name = k; pattern = q; body = c })))
-  open_keeping w a b c k q names one two x f g e N =
-      opens_keeping (keeps_so at_start not_begun not_begun (itself (unborn (is_closure (f e N)))) (itself (unborn (is_closure (g e N)))))
+      → (e : Environment) → IsNames φ p names e → Opens φ p (keeping w (plan_tree p a) (plan_tree p b) (name_at (plan_expressions p) k) (pattern_of (placed_at (plan_expressions p) q)) (plan_tree p c)) e (Ok (opened.Keeping l))
+  open_keeping w a b c k q names one two x l same f g e N =
+      opens_keeping same (keeps_so at_start not_begun not_begun (itself (unborn (is_closure (f e N)))) (itself (unborn (is_closure (g e N)))))
 
   -- nodes of switches open as their terms do
   pub open_builds_switch : (w : Switching) (a b : PlanId) (q : PatternId) (t : Term) (names : Env) (r : Result Opened Fault) → BuildsPlan p (NSwitching w a q b) t
@@ -178,10 +178,10 @@ module _ (φ : AnswersByName) (p : Plan) where
   open_started w k t names a builds_started f e N = opens_running refl refl (f e N)
 
   -- a probe keeps nothing
-  pub open_probe : (r r' : Rc (String Global) Global) (t : Term) (names : Env) → BuildsPlan p (NProbe r) t → r'.value ≡ r.value → (e : Environment) → IsNames φ p names e → Opens φ p t e (Ok (opened.Live (LProbe r')))
-  open_probe r r' t names builds_probe same e N =
+  pub open_probe : (r r' : Rc (String Global) Global) (t : Term) (names : Env) (l : Rc Live Global) → l.value ≡ LProbe r' → BuildsPlan p (NProbe r) t → r'.value ≡ r.value → (e : Environment) → IsNames φ p names e → Opens φ p t e (Ok (opened.Live l))
+  open_probe r r' t names l there builds_probe same e N =
       let name : string_bytes r'.value ≡ string_bytes r.value = ap (λ (s : String Global). string_bytes s) same in
-      subst (λ n. Opens φ p (primitive (probe n)) e (Ok (opened.Live (LProbe r')))) name (opens (λ x. ready refl not_begun lives_probe))
+      subst (λ n. Opens φ p (primitive (probe n)) e (Ok (opened.Live l))) name (opens there (λ x. ready refl not_begun lives_probe))
 
   -- a call opens as its template, whose arguments have their code
   pub coded_arguments : {k : NameId} {g : TemplateId} {v : Vec PlanArgument Global} {t : Term} → BuildsPlan p (NCall k g v) t → All (IsCodedArgument (plan_expressions p)) v.items
@@ -209,25 +209,25 @@ module _ (φ : AnswersByName) (p : Plan) where
       by : {t : Term} → Opens φ p t e (Ok (opened.Primitive i)) → BeginsAs φ p t e (SPrimitive i) (Ok begun.Itself)
       by (opens_primitive R) = begins_itself (primitive_prepared R)
 
-  pub begin_live : {at : _} {t : Term} (l kept : Live) (names : Env) → kept ≡ l → ((e : Environment) → IsNames φ p names e → Opens φ p t e (Ok (opened.Live l))) → (e : Environment) → IsNames φ p names e → BeginsAs φ p t e (Alive' names at kept) (Ok begun.Itself)
-  begin_live {at} {t} l kept names same h e N = subst (λ (l : Live). BeginsAs φ p t e (Alive' names at l) (Ok begun.Itself)) (sym same) (by (h e N))
+  pub begin_live : {at : _} {t : Term} (l : Rc Live Global) (names : Env) → ((e : Environment) → IsNames φ p names e → Opens φ p t e (Ok (opened.Live l))) → (e : Environment) → IsNames φ p names e → BeginsAs φ p t e (Alive' names at l.value) (Ok begun.Itself)
+  begin_live {at} {t} l names h e N = by (h e N)
     where
-      by : {t : Term} → Opens φ p t e (Ok (opened.Live l)) → BeginsAs φ p t e (Alive' names at l) (Ok begun.Itself)
-      by (opens R) = begins_itself (live_prepared N (λ s. R _))
+      by : {t : Term} → Opens φ p t e (Ok (opened.Live l)) → BeginsAs φ p t e (Alive' names at l.value) (Ok begun.Itself)
+      by {t} (opens same R) = subst (λ (v : Live). BeginsAs φ p t e (Alive' names at v) (Ok begun.Itself)) (sym same) (begins_itself (live_prepared N (λ s. R _)))
 
-  pub begin_switch : {at : _} {t : Term} (k kept : Switch) (names : Env) → kept ≡ k → ((e : Environment) → IsNames φ p names e → Opens φ p t e (Ok (opened.Switch k))) → (e : Environment) → IsNames φ p names e
-      → BeginsAs φ p t e (Watching' names at kept.form kept.running kept.pattern kept.body) (Ok begun.Itself)
-  begin_switch {at} {t} k kept names same h e N = subst (λ (k : Switch). BeginsAs φ p t e (Watching' names at k.form k.running k.pattern k.body) (Ok begun.Itself)) (sym same) (by (h e N))
+  pub begin_switch : {at : _} {t : Term} (k : Rc Switch Global) (names : Env) → ((e : Environment) → IsNames φ p names e → Opens φ p t e (Ok (opened.Switch k))) → (e : Environment) → IsNames φ p names e
+      → BeginsAs φ p t e (Watching' names at k.value.form k.value.running k.value.pattern k.value.body) (Ok begun.Itself)
+  begin_switch {at} {t} k names h e N = by (h e N)
     where
-      by : {t : Term} → Opens φ p t e (Ok (opened.Switch k)) → BeginsAs φ p t e (Watching' names at k.form k.running k.pattern k.body) (Ok begun.Itself)
-      by (opens_watching W) = begins_itself (switch_prepared N W)
+      by : {t : Term} → Opens φ p t e (Ok (opened.Switch k)) → BeginsAs φ p t e (Watching' names at k.value.form k.value.running k.value.pattern k.value.body) (Ok begun.Itself)
+      by {t} (opens_watching same W) = subst (λ (k : Switch). BeginsAs φ p t e (Watching' names at k.form k.running k.pattern k.body) (Ok begun.Itself)) (sym same) (begins_itself (switch_prepared N W))
 
-  pub begin_keeping : {at : _} {t : Term} (k kept : Keeping) (names : Env) → kept ≡ k → ((e : Environment) → IsNames φ p names e → Opens φ p t e (Ok (opened.Keeping k))) → (e : Environment) → IsNames φ p names e
-      → BeginsAs φ p t e (Keeping' names at kept.shown kept.first kept.source kept.before kept.observer kept.name kept.pattern kept.body) (Ok begun.Itself)
-  begin_keeping {at} {t} k kept names same h e N = subst (λ (k : Keeping). BeginsAs φ p t e (Keeping' names at k.shown k.first k.source k.before k.observer k.name k.pattern k.body) (Ok begun.Itself)) (sym same) (by (h e N))
+  pub begin_keeping : {at : _} {t : Term} (k : Rc Keeping Global) (names : Env) → ((e : Environment) → IsNames φ p names e → Opens φ p t e (Ok (opened.Keeping k))) → (e : Environment) → IsNames φ p names e
+      → BeginsAs φ p t e (Keeping' names at k.value.shown k.value.first k.value.source k.value.before k.value.observer k.value.name k.value.pattern k.value.body) (Ok begun.Itself)
+  begin_keeping {at} {t} k names h e N = by (h e N)
     where
-      by : {t : Term} → Opens φ p t e (Ok (opened.Keeping k)) → BeginsAs φ p t e (Keeping' names at k.shown k.first k.source k.before k.observer k.name k.pattern k.body) (Ok begun.Itself)
-      by (opens_keeping W) = begins_itself (keeping_prepared N W)
+      by : {t : Term} → Opens φ p t e (Ok (opened.Keeping k)) → BeginsAs φ p t e (Keeping' names at k.value.shown k.value.first k.value.source k.value.before k.value.observer k.value.name k.value.pattern k.value.body) (Ok begun.Itself)
+      by {t} (opens_keeping same W) = subst (λ (k : Keeping). BeginsAs φ p t e (Keeping' names at k.shown k.first k.source k.before k.observer k.name k.pattern k.body) (Ok begun.Itself)) (sym same) (begins_itself (keeping_prepared N W))
 
   pub begin_referred : {t : Term} (a : State) (names : Env) → ((e : Environment) → IsNames φ p names e → Opens φ p t e (Ok (opened.Running a))) → (e : Environment) → IsNames φ p names e → BeginsAs φ p t e a (Ok begun.Referred)
   begin_referred a names h e N = by (h e N)
@@ -248,13 +248,13 @@ module _ (φ : AnswersByName) (p : Plan) where
   begin_stand i [] bs e (more_begin A none_begin) = last_stands A
   begin_stand i (j ∷ ids) bs e (more_begin A B) = stage_stands not_begun A (begin_stand j ids _ e B)
 
-  open_pipeline : (ids : List PlanId) (w : Vec State Global) (e : Environment) → IsTrue (nat_le 2 (length ids)) → AllBegin φ p e ids w.items → Opens φ p (pipeline (map (λ j. plan_tree p j) ids)) e (Ok (opened.Live (LPipeline w)))
-  open_pipeline [] w e two B = absurd cc
-  open_pipeline (i ∷ []) w e two B = absurd cc
-  open_pipeline (i ∷ j ∷ ids) w e two B = opens (λ x. ready refl not_begun (pipeline_lives φ p w (begin_stand i (j ∷ ids) w.items e B)))
+  open_pipeline : (ids : List PlanId) (w : Vec State Global) (l : Rc Live Global) → l.value ≡ LPipeline w → (e : Environment) → IsTrue (nat_le 2 (length ids)) → AllBegin φ p e ids w.items → Opens φ p (pipeline (map (λ j. plan_tree p j) ids)) e (Ok (opened.Live l))
+  open_pipeline [] w l same e two B = absurd cc
+  open_pipeline (i ∷ []) w l same e two B = absurd cc
+  open_pipeline (i ∷ j ∷ ids) w l same e two B = opens same (λ x. ready refl not_begun (pipeline_lives φ p w (begin_stand i (j ∷ ids) w.items e B)))
 
-  pub open_staged : (v : Vec PlanId Global) (t : Term) (w : Vec State Global) (e : Environment) → BuildsPlan p (NPipeline v) t → AllBegin φ p e v.items w.items → Opens φ p t e (Ok (opened.Live (LPipeline w)))
-  open_staged v t w e (builds_pipeline two) B = open_pipeline v.items w e two B
+  pub open_staged : (v : Vec PlanId Global) (t : Term) (w : Vec State Global) (l : Rc Live Global) → l.value ≡ LPipeline w → (e : Environment) → BuildsPlan p (NPipeline v) t → AllBegin φ p e v.items w.items → Opens φ p t e (Ok (opened.Live l))
+  open_staged v t w l same e (builds_pipeline two) B = open_pipeline v.items w l same e two B
 
   -- one more stage begins
   begin_push : (i : PlanId) (ids : List PlanId) (a : State) (bs : List State) (e : Environment) → AllBegin φ p e ids bs → Stands φ p a (closure (plan_tree p i) e) [] → AllBegin φ p e (ids ++ i ∷ []) (bs ++ a ∷ [])

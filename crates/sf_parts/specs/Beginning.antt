@@ -1,5 +1,7 @@
 -- What a part is before its first sample, and when a state is prepared for a sample.
 use Rattle.std.specs.Prelude.{◌≡◌, List, [], ◌∷◌, Result, Ok, Err}
+use Rattle.std.specs.declared.rc.Rc.{Rc}
+use Rattle.std.specs.declared.alloc.Global.{Global}
 use Rattle.sf_value.specs.Values.{Data}
 use Rattle.sf_value.specs.declared.fault.ValueFault.{ValueFault}
 use Rattle.sf_value.specs.declared.fault.Fault.{Fault}
@@ -50,9 +52,9 @@ pub data Makes {A B : Type 0} (stands : A → B → Type 0) (w : Evaluated B) : 
 -- a part before its first sample, or the fault of its constants
 pub data Opens (φ : AnswersByName) (p : Plan) (t : Term) (e : Environment) : Result Opened Fault → Type 0 where
   opens_primitive : {i : PrimState} → Recalls φ p i (closure t e) [] → Opens φ p t e (Ok (opened.Primitive i))
-  opens : {l : Live} → ((x : Data) → Ready φ p l (closure t e) x []) → Opens φ p t e (Ok (opened.Live l))
-  opens_watching : {s : Switch} → Waits φ p s (closure t e) [] → Opens φ p t e (Ok (opened.Switch s))
-  opens_keeping : {s : Keeping} → WaitsKeeping φ p s (closure t e) [] → Opens φ p t e (Ok (opened.Keeping s))
+  opens : {r : Rc Live Global} {l : Live} → r.value ≡ l → ((x : Data) → Ready φ p l (closure t e) x []) → Opens φ p t e (Ok (opened.Live r))
+  opens_watching : {r : Rc Switch Global} {s : Switch} → r.value ≡ s → Waits φ p s (closure t e) [] → Opens φ p t e (Ok (opened.Switch r))
+  opens_keeping : {r : Rc Keeping Global} {s : Keeping} → r.value ≡ s → WaitsKeeping φ p s (closure t e) [] → Opens φ p t e (Ok (opened.Keeping r))
   -- what is referred to stands in the place of the term, which counts at this sample alone
   opens_running : {a : State} {r : Reference} {P : Process} → t ≡ reference r → referred (network_of_plan φ p) r e ≡ answer P → Stands φ p a P [] → Opens φ p t e (Ok (opened.Running a))
   opens_with_fault : {x : ValueFault} → ((s : Step) → Gives (network_of_plan φ p) (closure t e) (s ∷ []) (faulted x) (entered_cost t)) → Opens φ p t e (Err (Value x))

@@ -1,11 +1,12 @@
 //! What stands in the place of a reference: the process of a name, or a template under the arguments of a call.
-ghost use Rattle.std.specs.Prelude.{[], ◌∷◌, Some, All, IfOk};
+ghost use Rattle.std.specs.Prelude.{[], ◌∷◌, Some, All, IsTrue, IfOk};
+ghost use Rattle.std.specs.List.{list_all};
 ghost use Rattle.sf_func.specs.Registries.{AnswersByName};
 ghost use Rattle.sf_expr.specs.Arena.{name_at};
-ghost use Rattle.sf_law.specs.Arena.{plan_expressions, plan_binding, plan_template, plan_arguments};
+ghost use Rattle.sf_law.specs.Arena.{plan_expressions, plan_anew, plan_binding, plan_template, plan_arguments};
 ghost use Rattle.sf_law.specs.declared.node.PlanArgument.TheVariants as arguments;
-ghost use Rattle.sf_law.specs.Entries.{BindsName, BindsNames, IsCodedArgument};
-ghost use Rattle.sf_mean.specs.Lives.{Environment, base, process_of, process_started};
+ghost use Rattle.sf_law.specs.Entries.{BindsName, BindsNames, IsCodedArgument, start_within, argument_within};
+ghost use Rattle.sf_mean.specs.Lives.{Environment, Process as ProcessOf, base, process_of, process_started};
 ghost use Rattle.sf_mean.specs.Meaning.{argued, process_called};
 ghost use Rattle.sf_state.specs.Standing.{IsNames, IsProcess, Stands};
 ghost use Rattle.sf_parts.specs.Beginning.{Makes};
@@ -31,6 +32,7 @@ pub(crate) fn started(
     start: Start,
     name: NameId,
 ) -> Result<State, AllocError>
+    requires { IsTrue (start_within (plan_anew plan.now) start) }
     ensures { IfOk result (λ process. (φ : AnswersByName) (e : Environment) → IsNames φ plan.now names.now e →
         Stands φ plan.now process (process_started start (name_at (plan_expressions plan.now) name) e) []) }
 {
@@ -46,18 +48,33 @@ pub(crate) fn started(
     }
 }
 
-// What the process of a name began as, shared; what passes its inputs on where the name stands for none.
+// What the process of a name began as, shared, where a process may begin anew; what passes its inputs on where the name stands
+// for none.
 fn began(plan: &Plan, names: &Env, name: NameId) -> Result<Process, AllocError>
-    ensures { IfOk result (λ process. (φ : AnswersByName) (e : Environment) → IsNames φ plan.now names.now e →
+    ensures { IfOk result (λ process. (φ : AnswersByName) (e : Environment) → IsNames φ plan.now names.now e → IsTrue (plan_anew plan.now) →
         IsProcess φ plan.now process (base (process_of (name_at (plan_expressions plan.now) name) e))) }
 {
     let exprs = plan.expressions();
     match names.running(exprs, exprs.name_of(name)) {
-        Some(running) => running.base.share(),
+        Some(running) => kept(plan, &running.base),
         None => Ok(Process {
             term: plan.passing(),
             names: Env::Empty,
         }),
+    }
+}
+
+// The same process, shared, where a process may begin anew; else anything.
+fn kept(plan: &Plan, process: &Process) -> Result<Process, AllocError>
+    ensures { IfOk result (λ same. (φ : AnswersByName) (P : ProcessOf) → IsTrue (plan_anew plan.now) → IsProcess φ plan.now process.now P → IsProcess φ plan.now same P) }
+{
+    if plan.begins_anew() {
+        process.share()
+    } else {
+        Ok(Process {
+            term: plan.passing(),
+            names: Env::Empty,
+        })
     }
 }
 
@@ -73,6 +90,7 @@ pub(crate) fn called<R: Holds>(
 ) -> Result<State, Fault>
     requires bound { BindsNames (plan_expressions (plan_in context.now)) template.now }
     requires coded { All (IsCodedArgument (plan_expressions (plan_in context.now))) arguments.now }
+    requires within { IsTrue (list_all (argument_within (plan_anew (plan_in context.now))) arguments.now) }
     ensures { (e : Environment) → IsNames (R.answers context.now.functions.now) (plan_in context.now) names.now e →
         Makes (λ a P. Stands (R.answers context.now.functions.now) (plan_in context.now) a P [])
         (process_called (R.answers context.now.functions.now) (Some (plan_template (plan_in context.now) template.now)) (plan_arguments (plan_in context.now) arguments.now) e) result }
@@ -97,6 +115,7 @@ fn bind<R: Holds>(
 ) -> Result<Env, Fault>
     requires bound { BindsName (plan_expressions (plan_in context.now)) parameter.now }
     requires coded { IsCodedArgument (plan_expressions (plan_in context.now)) argument.now }
+    requires within { IsTrue (argument_within (plan_anew (plan_in context.now)) argument.now) }
     ensures { (e d : Environment) → IsNames (R.answers context.now.functions.now) (plan_in context.now) names.now e → IsNames (R.answers context.now.functions.now) (plan_in context.now) bound.now d →
         Makes (IsNames (R.answers context.now.functions.now) (plan_in context.now))
         (argued (R.answers context.now.functions.now) (plan_binding (plan_in context.now) parameter.now ∷ []) (plan_arguments (plan_in context.now) (argument.now ∷ [])) e d) result }
@@ -145,6 +164,7 @@ fn bind_started<R: Holds>(
     names: &Env,
     bound: &Env,
 ) -> Result<Env, Fault>
+    requires { IsTrue (start_within (plan_anew (plan_in context.now)) start) }
     ensures { (e d : Environment) → IsNames (R.answers context.now.functions.now) (plan_in context.now) names.now e → IsNames (R.answers context.now.functions.now) (plan_in context.now) bound.now d →
         Makes (IsNames (R.answers context.now.functions.now) (plan_in context.now))
         (argued (R.answers context.now.functions.now) (plan_binding (plan_in context.now) parameter.now ∷ []) (plan_arguments (plan_in context.now) (arguments.Started start name ∷ [])) e d) result }
@@ -171,7 +191,7 @@ fn bind_closed<R: Holds>(
         term,
         names: around,
     };
-    let base = process.share()?;
+    let base = kept(context.plan, &process)?;
     let process = State::Unborn(process);
     Ok(bound.with_process(context.alloc, parameter.name(), process, base)?)
 }

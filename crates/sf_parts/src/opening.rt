@@ -53,7 +53,7 @@ pub fn begin<R: Holds>(
 {
     match open(context, term, &names) {
         Ok(opened) => {
-            let (next, begun) = prepared(context.alloc, opened, names)?;
+            let (next, begun) = prepared(opened, names);
             *state = next;
             Ok(begun)
         }
@@ -62,25 +62,16 @@ pub fn begin<R: Holds>(
 }
 
 // A part that is opened, as a state that is prepared for its first sample, with the names around it.
-fn prepared(alloc: Global, opened: Opened, names: Env) -> Result<(State, Begun), AllocError>
-    ensures { IfOk result (λ x. (φ : AnswersByName) (p : PlanOf) (u : Term) → ((e : Environment) → IsNames φ p names e → Opens φ p u e (Ok opened)) →
-        (e : Environment) → IsNames φ p names e → BeginsAs φ p u e x.0 (Ok x.1)) }
+fn prepared(opened: Opened, names: Env) -> (State, Begun)
+    ensures { (φ : AnswersByName) (p : PlanOf) (u : Term) → ((e : Environment) → IsNames φ p names e → Opens φ p u e (Ok opened)) →
+        (e : Environment) → IsNames φ p names e → BeginsAs φ p u e result.0 (Ok result.1) }
 {
     match opened {
-        Opened::Primitive(prim) => Ok((State::Primitive(prim), Begun::Itself)),
-        Opened::Live(live) => {
-            let node = Rc::new(alloc, live)?;
-            Ok((State::Live(names, node), Begun::Itself))
-        }
-        Opened::Switch(switch) => {
-            let watching = Rc::new(alloc, switch)?;
-            Ok((State::Switch(names, watching), Begun::Itself))
-        }
-        Opened::Keeping(keeping) => {
-            let kept = Rc::new(alloc, keeping)?;
-            Ok((State::Keeping(names, kept), Begun::Itself))
-        }
-        Opened::Running(process) => Ok((process, Begun::Referred)),
+        Opened::Primitive(prim) => (State::Primitive(prim), Begun::Itself),
+        Opened::Live(node) => (State::Live(names, node), Begun::Itself),
+        Opened::Switch(watching) => (State::Switch(names, watching), Begun::Itself),
+        Opened::Keeping(kept) => (State::Keeping(names, kept), Begun::Itself),
+        Opened::Running(process) => (process, Begun::Referred),
     }
 }
 
@@ -90,11 +81,11 @@ pub(crate) enum Opened {
     /// A primitive.
     Primitive(PrimState),
     /// Another one that goes on as it is.
-    Live(Live),
+    Live(Rc<Live>),
     /// A switch.
-    Switch(Switch),
+    Switch(Rc<Switch>),
     /// A switch that keeps its source.
-    Keeping(Keeping),
+    Keeping(Rc<Keeping>),
     /// What is referred to, which stands in the place of its name or call.
     Running(State),
 }
@@ -117,23 +108,33 @@ fn open<R: Holds>(context: &SampleContext<R>, term: PlanId, names: &Env) -> Resu
             }
         }
         PlanNode::Joined(join, left, right) => {
-            let both = joined(*join, *left, *right, names)?;
+            let both = joined(context.alloc, *join, *left, *right, names)?;
             Ok(Opened::Live(both))
         }
-        PlanNode::Sided(side, part) => wrapped(on_side(*side), *part, names),
+        PlanNode::Sided(side, part) => wrapped(context.alloc, on_side(*side), *part, names),
         PlanNode::Headed(heading, value, code, part) => {
             headed(context, *heading, *value, code, *part, names)
         }
         PlanNode::Switching(form, first, pattern, body) => {
-            let switch = switching(*form, *first, *pattern, *body, names)?;
+            let switch = switching(context.alloc, *form, *first, *pattern, *body, names)?;
             Ok(Opened::Switch(switch))
         }
         PlanNode::Pipeline(stages) => {
             let begun = begin_all(context.alloc, stages, names)?;
-            Ok(Opened::Live(Live::Pipeline(begun)))
+            let node = Rc::new(context.alloc, Live::Pipeline(begun))?;
+            Ok(Opened::Live(node))
         }
         PlanNode::Keeping(shown, source, observer, name, pattern, body) => {
-            let kept = keeping(*shown, *source, *observer, *name, *pattern, *body, names)?;
+            let kept = keeping(
+                context.alloc,
+                *shown,
+                *source,
+                *observer,
+                *name,
+                *pattern,
+                *body,
+                names,
+            )?;
             Ok(Opened::Keeping(kept))
         }
         PlanNode::Started(start, name) => {
@@ -142,7 +143,8 @@ fn open<R: Holds>(context: &SampleContext<R>, term: PlanId, names: &Env) -> Resu
         }
         PlanNode::Probe(name) => {
             let same = name.clone()?;
-            Ok(Opened::Live(Live::Probe(same)))
+            let node = Rc::new(context.alloc, Live::Probe(same))?;
+            Ok(Opened::Live(node))
         }
         PlanNode::Call(_, template, arguments) => {
             let body = called(context, context.plan.template(*template), arguments, names)?;
@@ -152,7 +154,14 @@ fn open<R: Holds>(context: &SampleContext<R>, term: PlanId, names: &Env) -> Resu
 }
 
 // Two parts joined, before their first sample, with the names around them.
-fn joined(join: Join, left: PlanId, right: PlanId, names: &Env) -> Result<Live, AllocError>
+#[inline(never)]
+fn joined(
+    alloc: Global,
+    join: Join,
+    left: PlanId,
+    right: PlanId,
+    names: &Env,
+) -> Result<Rc<Live>, AllocError>
     ensures { IfOk result (λ live. (φ : AnswersByName) (p : PlanOf) (e : Environment) → IsNames φ p names.now e →
         Opens φ p (joined_term join (plan_tree p left) (plan_tree p right)) e (Ok (Opened.Live live))) }
 {
@@ -166,7 +175,8 @@ fn joined(join: Join, left: PlanId, right: PlanId, names: &Env) -> Result<Live, 
         term: right,
         names: two,
     });
-    Ok(Live::Join(join, first, second))
+    let node = Rc::new(alloc, Live::Join(join, first, second))?;
+    Ok(node)
 }
 
 // A part with a value at its head, before its first sample, with the names around it.
@@ -185,25 +195,27 @@ fn headed<R: Holds>(
     match constant_in(context, value, code, names) {
         Ok(head) => {
             let wrap = with_head(context.alloc, heading, head)?;
-            wrapped(wrap, part, names)
+            wrapped(context.alloc, wrap, part, names)
         }
         Err(fault) => Err(fault_of(fault)),
     }
 }
 
 // A switch before its first sample, with the names around it.
+#[inline(never)]
 fn switching(
+    alloc: Global,
     form: Switching,
     first: PlanId,
     pattern: PatternId,
     body: PlanId,
     names: &Env,
-) -> Result<Switch, AllocError>
+) -> Result<Rc<Switch>, AllocError>
     ensures { IfOk result (λ switch. (φ : AnswersByName) (p : PlanOf) (e : Environment) → IsNames φ p names.now e →
         Opens φ p (switching_term form (plan_tree p first) (pattern_of (placed_at (plan_expressions p) pattern)) (plan_tree p body)) e (Ok (Opened.Switch switch))) }
 {
     let shared = names.share()?;
-    Ok(Switch {
+    let switch = Switch {
         form,
         running: State::Unborn(Process {
             term: first,
@@ -211,11 +223,15 @@ fn switching(
         }),
         pattern,
         body,
-    })
+    };
+    let node = Rc::new(alloc, switch)?;
+    Ok(node)
 }
 
 // A switch that keeps its source, likewise.
+#[inline(never)]
 fn keeping(
+    alloc: Global,
     shown: Observation,
     source: PlanId,
     observer: PlanId,
@@ -223,14 +239,14 @@ fn keeping(
     pattern: PatternId,
     body: PlanId,
     names: &Env,
-) -> Result<Keeping, AllocError>
+) -> Result<Rc<Keeping>, AllocError>
     ensures { IfOk result (λ kept. (φ : AnswersByName) (p : PlanOf) (e : Environment) → IsNames φ p names.now e →
         Opens φ p (keeping_term shown (plan_tree p source) (plan_tree p observer) (name_at (plan_expressions p) name) (pattern_of (placed_at (plan_expressions p) pattern)) (plan_tree p body))
         e (Ok (Opened.Keeping kept))) }
 {
     let one = names.share()?;
     let two = names.share()?;
-    Ok(Keeping {
+    let keeping = Keeping {
         shown,
         first: source,
         source: State::Unborn(Process {
@@ -245,7 +261,9 @@ fn keeping(
         name,
         pattern,
         body,
-    })
+    };
+    let node = Rc::new(alloc, keeping)?;
+    Ok(node)
 }
 
 // Stages before their first sample, with the names around them.
@@ -264,7 +282,8 @@ fn begin_all(alloc: Global, stages: &[PlanId], names: &Env) -> Result<Vec<State>
 }
 
 // A form with one part, before its first sample.
-fn wrapped(wrap: Wrap, part: PlanId, names: &Env) -> Result<Opened, Fault>
+#[inline(never)]
+fn wrapped(alloc: Global, wrap: Wrap, part: PlanId, names: &Env) -> Result<Opened, Fault>
     ensures { (φ : AnswersByName) (p : PlanOf) (t : Term) (e : Environment) (m : Made) → IsNames φ p names.now e →
         ((x : Data) → make (network_of_plan φ p) t e x ≡ answer m) → Wraps (network_of_plan φ p) wrap t e m [] (plan_tree p part) [] →
         Opens φ p t e result }
@@ -274,5 +293,6 @@ fn wrapped(wrap: Wrap, part: PlanId, names: &Env) -> Result<Opened, Fault>
         term: part,
         names: inner,
     });
-    Ok(Opened::Live(Live::Wrap(wrap, part)))
+    let node = Rc::new(alloc, Live::Wrap(wrap, part))?;
+    Ok(Opened::Live(node))
 }

@@ -1,6 +1,6 @@
 -- The names around a part are those of its environment.
 use Rattle.std.proofs.Common.{◌≡◌, Bool, true, false, cond, [], Option, Some, None, refl, ap, sym, ◌∙◌, subst}
-use Rattle.std.specs.Prelude.{bytes_eq}
+use Rattle.std.specs.Prelude.{bytes_eq, IsTrue}
 use Rattle.std.specs.declared.alloc.Global.{Global}
 use Rattle.std.specs.declared.rc.Rc.{Rc}
 use Rattle.sf_value.specs.declared.value.Value.{Value}
@@ -16,7 +16,7 @@ use Rattle.sf_expr.specs.Arena.{name_at, placed_at}
 use Rattle.sf_code.specs.Names.{ValuesByName, value_named, scope_with}
 use Rattle.sf_mean.specs.Lives.{Process, Environment, empty, known, running, base, bind, passing, process_of, scope_around}
 use Rattle.sf_law.specs.declared.plan.Plan.{Plan}
-use Rattle.sf_law.specs.Arena.{plan_expressions}
+use Rattle.sf_law.specs.Arena.{plan_expressions, plan_anew}
 use Rattle.sf_state.specs.declared.state.State.{State}
 use Rattle.sf_state.specs.declared.env.Env.{Env}
 use Rattle.sf_state.specs.declared.env.Env.TheVariants.{Bound', Running'}
@@ -117,7 +117,7 @@ module _ (φ : AnswersByName) (p : Plan) where
   names_bound_inside {at} b c same e N = subst (λ (c : Binding). IsNames φ p (Bound' at c.pattern c.value c.around) (bind (pattern_of (placed_at (plan_expressions p) b.pattern)) b.value.value e)) (sym same) (is_bound N)
 
   -- the same of a process under its name
-  pub names_running_inside : {at : _} (b c : Running) → c ≡ b → (e : Environment) (P : Process) → IsNames φ p b.around e → Stands φ p b.process P [] → IsProcess φ p b.base (base P) → IsNames φ p (Running' at c.name c.process c.base.term c.base.names c.around) (running (name_at (plan_expressions p) b.name) P e)
+  pub names_running_inside : {at : _} (b c : Running) → c ≡ b → (e : Environment) (P : Process) → IsNames φ p b.around e → Stands φ p b.process P [] → (IsTrue (plan_anew p) → IsProcess φ p b.base (base P)) → IsNames φ p (Running' at c.name c.process c.base.term c.base.names c.around) (running (name_at (plan_expressions p) b.name) P e)
   names_running_inside {at} b c same e P N A B = subst (λ (c : Running). IsNames φ p (Running' at c.name c.process c.base.term c.base.names c.around) (running (name_at (plan_expressions p) b.name) P e)) (sym same) (is_running A B N)
 
 -- what is found under a name among names of a plan with these expressions

@@ -1,5 +1,5 @@
 -- What states stand for.
-use Rattle.std.specs.Prelude.{◌≡◌, ℕ, Bool, true, false, List, [], ◌∷◌, Option, Some, None, String, string_bytes}
+use Rattle.std.specs.Prelude.{◌≡◌, ℕ, Bool, true, false, IsTrue, List, [], ◌∷◌, Option, Some, None, String, string_bytes}
 use Rattle.std.specs.declared.alloc.Global.{Global}
 use Rattle.std.specs.declared.rc.Rc.{Rc}
 use Rattle.sf_value.specs.declared.value.Value.{Value}
@@ -23,7 +23,7 @@ use Rattle.sf_mean.specs.Formulas.{at_first, side_of}
 use Rattle.sf_mean.specs.Meaning.{Network, Made, value_made, referred, make, left_life, right_life, itself as watched_itself, observed, waits, fired, body_of, body_with, whenever, last_event, since_event, what_runs, Outputs, Loops, Since}
 use Rattle.sf_law.specs.declared.node.PlanId.{PlanId}
 use Rattle.sf_law.specs.declared.plan.Plan.{Plan}
-use Rattle.sf_law.specs.Arena.{plan_tree, plan_expressions, network_of_plan}
+use Rattle.sf_law.specs.Arena.{plan_tree, plan_expressions, plan_anew, network_of_plan}
 use Rattle.sf_prim.specs.declared.prim_state.PrimState.{PrimState}
 use Rattle.sf_prim.specs.Keeping.{Remembers}
 use Rattle.sf_state.specs.declared.state.State.{State}
@@ -104,9 +104,9 @@ mutual
     is_empty : IsNames φ p SEmpty empty
     is_bound : {at : _} {q : PatternId} {v : Rc Value Global} {names : Env} {e : Environment}
         → IsNames φ p names e → IsNames φ p (Bound' at q v names) (bind (pattern_of (placed_at (plan_expressions p) q)) v.value e)
-    -- a process that has lived no step, beside what it began as
+    -- a process that has lived no step, beside what it began as, where processes may begin anew
     is_running : {at : _} {k : NameId} {a : State} {b : PlanId} {inner names : Env} {P : Process} {e : Environment}
-        → Stands φ p a P [] → IsProcess φ p (closed_over b inner) (base P) → IsNames φ p names e → IsNames φ p (Running' at k a b inner names) (running (name_at (plan_expressions p) k) P e)
+        → Stands φ p a P [] → (IsTrue (plan_anew p) → IsProcess φ p (closed_over b inner) (base P)) → IsNames φ p names e → IsNames φ p (Running' at k a b inner names) (running (name_at (plan_expressions p) k) P e)
 
   -- what can be run
   pub data IsProcess (φ : AnswersByName) (p : Plan) : SProcess → Process → Type 0 where
@@ -201,9 +201,10 @@ mutual
         → Outputs (network_of_plan φ p) (closure f e) L ys → Stands φ p a (closure f e) L → StagesStand φ p bs g e (relay L ys)
         → StagesStand φ p (a ∷ bs) (staged rest f g) e L
 
--- the process that was found under a name, beside what it began as; where none was, inputs pass
+-- the process that was found under a name, beside what it began as, where processes may begin anew; where none was, inputs
+-- pass
 abbrev pub IsFound : AnswersByName → Plan → Option Running → Process → Type 0
-IsFound φ p (Some r) P = Stands φ p r.process P [] × IsProcess φ p r.base (base P)
+IsFound φ p (Some r) P = Stands φ p r.process P [] × (IsTrue (plan_anew p) → IsProcess φ p r.base (base P))
 IsFound φ p None P = P ≡ passing
 
 -- Each state stands for all that the one at its place stands for.

@@ -1,13 +1,16 @@
 //! What names stand for.
-ghost use Rattle.std.specs.Prelude.{◌≡◌, [], bytes_eq, option_map, IfOk};
+ghost use Rattle.std.specs.Prelude.{◌≡◌, ◌<◌, [], bytes_eq, option_map, IsTrue, IfOk};
 ghost use Rattle.std.specs.Map.{lookup};
 ghost use Rattle.sf_func.specs.Registries.{AnswersByName};
 ghost use Rattle.sf_expr.specs.Arena.{placed_at, name_at};
 ghost use Rattle.sf_expr.specs.Patterns.{pattern_of};
 ghost use Rattle.sf_mean.specs.Lives.{Environment, Process as ProcessOf, bind, running, base as base_of, process_of};
 ghost use Rattle.sf_law.specs.declared.plan.Plan.{Plan};
-ghost use Rattle.sf_law.specs.Arena.{plan_expressions};
+ghost use Rattle.sf_law.specs.Arena.{plan_expressions, plan_anew};
 ghost use Rattle.sf_code.specs.Names.{ValuesByName, value_named};
+ghost use Rattle.sf_state.specs.declared.env.Env.{size-Env};
+ghost use Rattle.sf_state.specs.declared.env.Binding.{size-Binding};
+ghost use Rattle.sf_state.specs.declared.env.Running.{size-Running};
 ghost use Rattle.sf_state.specs.Names.{found_or, values_inside, values_around};
 ghost use Rattle.sf_state.specs.Standing.{IsNames, IsProcess, Stands, IsFound};
 
@@ -29,15 +32,90 @@ pub enum Env {
     Running(Rc<Running>),
 }
 
+// Names may hold a long chain of processes, each with the names around it: they are let go in a loop.
 impl Drop for Env {
     #[cycle(state)]
     #[inline(always)]
     fn drop(self) {
         match self {
             Env::Empty => {}
-            Env::Bound(binding) => drop(binding),
-            Env::Running(running) => drop(running),
+            names => names.let_go(),
         }
+    }
+}
+
+impl Env {
+    // Lets the names go.
+    #[cycle(state)]
+    #[cold]
+    #[inline(never)]
+    fn let_go(mut self) {
+        loop {
+            match self {
+                Env::Empty => return,
+                Env::Bound(binding) => match Rc::into_inner(binding) {
+                    Some(own) => self = own.left(),
+                    None => return,
+                },
+                Env::Running(running) => match Rc::into_inner(running) {
+                    Some(own) => self = own.left(),
+                    None => return,
+                },
+            }
+        }
+    }
+
+    // Whether nothing else has them, where there are any.
+    fn is_last(&self) -> bool {
+        match self {
+            Env::Empty => false,
+            Env::Bound(binding) => Rc::strong_count(binding) == 1,
+            Env::Running(running) => Rc::strong_count(running) == 1,
+        }
+    }
+}
+
+impl Binding {
+    // The names around it, once the rest is let go.
+    fn left(self) -> Env
+        ensures { size-Env result < size-Binding self }
+    {
+        let Binding {
+            pattern: _,
+            value,
+            around,
+        } = self;
+        drop(value);
+        around
+    }
+}
+
+impl Running {
+    // Some of the names that it has, once the rest is let go: those that nothing else has, where there are any.
+    #[cycle(state)]
+    fn left(self) -> Env
+        ensures { size-Env result < size-Running self }
+    {
+        let Running {
+            name: _,
+            process,
+            base,
+            around,
+        } = self;
+        let names = process.left();
+        let first = base.left();
+        if names.is_last() {
+            drop(first);
+            drop(around);
+            return names;
+        }
+        drop(names);
+        if first.is_last() {
+            drop(around);
+            return first;
+        }
+        drop(first);
+        around
     }
 }
 
@@ -61,7 +139,8 @@ pub struct Running {
     pub name: NameId,
     /// The process, of which no step has been lived.
     pub process: State,
-    /// What it began as: itself, or where it was frozen what it was before it lived.
+    /// What it began as: itself, or where it was frozen what it was before it lived. In a plan in which no process begins
+    /// anew nothing asks for it, and it may be anything.
     pub base: Process,
     /// The names around it.
     pub around: Env,
@@ -83,6 +162,13 @@ impl Env {
                 Ok(Env::Running(same))
             }
         }
+    }
+
+    // The same names where they are asked for, else none. The error is too many owners of one name.
+    pub(crate) fn share_where(&self, asked: bool) -> Result<Env, AllocError>
+        ensures { IfOk result (λ names. IsTrue asked → (φ : AnswersByName) (p : Plan) (e : Environment) → IsNames φ p self.now e → IsNames φ p names e) }
+    {
+        if asked { self.share() } else { Ok(Env::Empty) }
     }
 
     /// These names, and inside them those of a pattern that is bound to a value. The error is a want of memory, or too
@@ -108,8 +194,8 @@ impl Env {
         Ok(Env::Bound(binding))
     }
 
-    /// These names, and inside them that of a process of which no step has been lived, beside what it began as. The error
-    /// is a want of memory, or too many owners.
+    /// These names, and inside them that of a process of which no step has been lived, beside what it began as, where a
+    /// process may begin anew. The error is a want of memory, or too many owners.
     pub fn with_process(
         &self,
         alloc: Global,
@@ -117,7 +203,7 @@ impl Env {
         process: State,
         base: Process,
     ) -> Result<Env, AllocError>
-        ensures { IfOk result (λ names. (φ : AnswersByName) (p : Plan) (e : Environment) (P : ProcessOf) → IsNames φ p self.now e → Stands φ p process P [] → IsProcess φ p base (base_of P) →
+        ensures { IfOk result (λ names. (φ : AnswersByName) (p : Plan) (e : Environment) (P : ProcessOf) → IsNames φ p self.now e → Stands φ p process P [] → (IsTrue (plan_anew p) → IsProcess φ p base (base_of P)) →
             IsNames φ p names (running (name_at (plan_expressions p) name) P e)) }
     {
         let around = self.share()?;

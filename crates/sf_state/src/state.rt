@@ -5,7 +5,7 @@ ghost use Rattle.sf_func.specs.Registries.{AnswersByName};
 ghost use Rattle.sf_law.specs.declared.plan.Plan.{Plan};
 ghost use Rattle.sf_expr.specs.Arena.{placed_at, name_at};
 ghost use Rattle.sf_expr.specs.Patterns.{pattern_of};
-ghost use Rattle.sf_law.specs.Arena.{plan_expressions, plan_tree};
+ghost use Rattle.sf_law.specs.Arena.{plan_expressions, plan_anew, plan_tree};
 ghost use Rattle.sf_mean.specs.Lives.{base, bind, closure, resumed, empty, running, frozen as frozen_process, Environment, Step, Life, Process as ProcessOf};
 ghost use Rattle.sf_mean.specs.Meaning.{body_of};
 ghost use Rattle.sf_state.specs.declared.env.Env.{Env as EnvOf};
@@ -58,6 +58,50 @@ impl Drop for State {
                 drop(node);
             }
             State::Frozen(node) => drop(node),
+        }
+    }
+}
+
+impl State {
+    ghost use Rattle.std.specs.Prelude.{◌≤◌};
+    ghost use Rattle.sf_state.specs.declared.env.Env.{size-Env};
+    ghost use Rattle.sf_state.specs.declared.state.State.{size-State};
+
+    // The names around the part, once the rest is let go.
+    #[cycle(state)]
+    pub(crate) fn left(self) -> Env
+        ensures { size-Env result ≤ size-State self }
+    {
+        match self {
+            State::Unborn(process) => process.left(),
+            State::Primitive(prim) => {
+                drop(prim);
+                Env::Empty
+            }
+            State::Live(names, node) => {
+                drop(node);
+                names
+            }
+            State::Switch(names, node) => {
+                drop(node);
+                names
+            }
+            State::Keeping(names, node) => {
+                drop(node);
+                names
+            }
+            State::Frozen(node) => match Rc::into_inner(node) {
+                Some(frozen) => {
+                    let Frozen {
+                        wait: _,
+                        names,
+                        node,
+                    } = frozen;
+                    drop(node);
+                    names
+                }
+                None => Env::Empty,
+            },
         }
     }
 }
@@ -443,20 +487,21 @@ impl Keeping {
 
     /// Its body before the first sample, inside its pattern for the payload of an event, and around that the name of what
     /// ran before the event, frozen to go on `wait` milliseconds later, which began as its first term, where these names are
-    /// around the switch. The error is a want of memory, or too many owners.
+    /// around the switch; that it did is kept where a process may begin anew. The error is a want of memory, or too many owners.
     pub fn begin(
         &self,
         alloc: Global,
         names: &Env,
         wait: u64,
+        anew: bool,
         payload: Rc<Value>,
     ) -> Result<State, AllocError>
-        ensures { IfOk result (λ begun. (φ : AnswersByName) (p : Plan) (e : Environment) (P : ProcessOf) (L : Life) → IsNames φ p names.now e → Stands φ p self.now.before P L →
+        ensures { IfOk result (λ begun. (φ : AnswersByName) (p : Plan) → anew ≡ plan_anew p → (e : Environment) (P : ProcessOf) (L : Life) → IsNames φ p names.now e → Stands φ p self.now.before P L →
             base P ≡ closure (plan_tree p self.now.first) e → Stands φ p begun (closure (plan_tree p self.now.body)
             (bind (pattern_of (placed_at (plan_expressions p) self.now.pattern)) payload.value (running (name_at (plan_expressions p) self.now.name) (frozen_process P L wait) e))) []) }
     {
         let frozen = self.before.freeze(alloc, wait)?;
-        let outer = names.share()?;
+        let outer = names.share_where(anew)?;
         let base = Process {
             term: self.first,
             names: outer,
@@ -595,6 +640,18 @@ impl Wrap {
 }
 
 impl Process {
+    ghost use Rattle.std.specs.Prelude.{◌<◌};
+    ghost use Rattle.sf_state.specs.declared.env.Env.{size-Env};
+    ghost use Rattle.sf_state.specs.declared.state.Process.{size-Process};
+
+    // The names around it.
+    pub(crate) fn left(self) -> Env
+        ensures { size-Env result < size-Process self }
+    {
+        let Process { term: _, names } = self;
+        names
+    }
+
     /// The same process, which shares its names. The error is too many owners of one name.
     pub fn share(&self) -> Result<Process, AllocError>
         ensures { IfOk result (λ same. (φ : AnswersByName) (p : Plan) (P : ProcessOf) → IsProcess φ p self.now P → IsProcess φ p same P) }

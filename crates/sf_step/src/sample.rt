@@ -344,7 +344,9 @@ fn step_keeping<R: Holds>(
     match payload_of(seen) {
         None => Ok(None),
         Some(payload) => {
-            let Ok(successor) = keeping.begin(context.alloc, names, context.dt, payload) else {
+            let anew = context.plan.begins_anew();
+            let Ok(successor) = keeping.begin(context.alloc, names, context.dt, anew, payload)
+            else {
                 return Err(meter.stop(Fault::Memory));
             };
             let (successor, output) = step_begun(context, successor, inside, output, meter)?;

@@ -20,4 +20,4 @@ returns g c =
     let φ = g.R.Holds.answers c.args.context.now.functions.now in
     let p = c.args.context.now.plan.now in
     (closed_bound φ p c.args.parameter.now c.args.names.now c.args.bound.now c.args.term c.in_ok-with_process.field-0 (λ e d N M.
-    rw c.name.ensures at (c.in_ok-with_process.ensures φ p d (closure (plan_tree p c.args.term) e) M (itself (unborn (is_closure (c.in_ok-around.ensures φ p e N)))) (c.in_ok-base.ensures φ p _ (is_closure (c.in_ok-around.ensures φ p e N))))))
+    rw c.name.ensures at (c.in_ok-with_process.ensures φ p d (closure (plan_tree p c.args.term) e) M (itself (unborn (is_closure (c.in_ok-around.ensures φ p e N)))) (λ asked. c.in_ok-base.ensures φ _ asked (is_closure (c.in_ok-around.ensures φ p e N))))))

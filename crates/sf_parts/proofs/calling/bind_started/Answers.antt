@@ -25,4 +25,4 @@ returns g c =
     (started_bound φ p c.args.parameter.now c.args.names.now c.args.bound.now c.args.start c.args.name c.in_ok-with_process.field-0 (λ e d N M.
     let k = name_at (plan_expressions p) c.args.name in
     rw c.name.ensures at (c.in_ok-with_process.ensures φ p d (process_started c.args.start k e) M (c.in_ok-process.ensures φ e N)
-    (subst (λ P. IsProcess φ p c.in_ok-base.base P) (sym (started_base c.args.start k e)) (c.in_ok-base.ensures φ e N)))))
+    (λ asked. subst (λ P. IsProcess φ p c.in_ok-base.base P) (sym (started_base c.args.start k e)) (c.in_ok-base.ensures φ e N asked)))))

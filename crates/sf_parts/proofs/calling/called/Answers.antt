@@ -1,8 +1,8 @@
 use Rattle.std.proofs.Common.{◌≡◌, ap, ◌∙◌, inl, inr}
 use Rattle.std.proofs.lemmas.List.Elements.{All-head, All-tail}
-use Rattle.sf_law.specs.Entries.{BindsName, IsCodedArgument}
+use Rattle.sf_law.specs.Entries.{BindsName, IsCodedArgument, argument_within}
 use Rattle.sf_state.specs.Standing.{is_empty}
-use Rattle.sf_parts.proofs.Arguments.{none_bound, next_bound, called_so, called_fails, made_failure}
+use Rattle.sf_parts.proofs.Arguments.{both_true, none_bound, next_bound, called_so, called_fails, made_failure}
 use Rattle.sf_parts.proofs.calling.called.Goals as goal
 
 pub loop-parameter-init : goal.loop-parameter-init
@@ -15,6 +15,7 @@ loop-parameter-init g c =
     record {
       named = rw parameters c.requires.bound;
       coded = rw arguments c.requires.coded;
+      within = rw arguments c.requires.within;
       binds = λ e N. none_bound (g.R.Holds.answers c.args.context.now.functions.now) c.args.context.now.plan.now c.args.template.now.parameters c.args.arguments.now e _ _ _ parameters arguments is_empty;
     }
 
@@ -25,6 +26,7 @@ bind-requires g c =
     record {
       bound = All-head (BindsName x) c.in-Some.parameter.now c.next.new.self.a.rest.now (rw steps.0 at c.loop-parameter.invariant.named);
       coded = All-head (IsCodedArgument x) c.in-Some.argument.now c.next.new.self.b.rest.now (rw steps.1 at c.loop-parameter.invariant.coded);
+      within = (both_true (argument_within c.args.context.now.plan.now.anew c.in-Some.argument.now) _ (rw steps.1 at c.loop-parameter.invariant.within)).0;
     }
 
 pub loop-parameter-preserved : goal.loop-parameter-preserved
@@ -34,6 +36,7 @@ loop-parameter-preserved g c =
     record {
       named = All-tail (BindsName x) c.in-Some.parameter.now c.next.new.self.a.rest.now (rw steps.0 at c.loop-parameter.invariant.named);
       coded = All-tail (IsCodedArgument x) c.in-Some.argument.now c.next.new.self.b.rest.now (rw steps.1 at c.loop-parameter.invariant.coded);
+      within = (both_true (argument_within c.args.context.now.plan.now.anew c.in-Some.argument.now) _ (rw steps.1 at c.loop-parameter.invariant.within)).1;
       binds = λ e N. next_bound (g.R.Holds.answers c.args.context.now.functions.now) c.args.context.now.plan.now c.args.template.now.parameters c.args.arguments.now e _ _ _ _ c.loop-parameter.bound
           c.in-Some.parameter.now c.in-Some.argument.now steps.0 steps.1 (c.loop-parameter.invariant.binds e N) c.args.names.now c.in_ok-bound.bound N c.in_ok-bound.ensures;
     }

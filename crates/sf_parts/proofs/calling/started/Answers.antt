@@ -8,7 +8,7 @@ use Rattle.sf_parts.proofs.References.{when_ok, passing_process}
 use Rattle.sf_parts.proofs.calling.started.Goals as goal
 
 pub returns-in_ok-began-in-Fresh : goal.returns-in_ok-began-in-Fresh
-returns-in_ok-began-in-Fresh c = λ φ e N. rw c.in-Fresh.is (itself (unborn (c.in_ok-began-in-Fresh.ensures φ e N)))
+returns-in_ok-began-in-Fresh c = λ φ e N. rw c.in-Fresh.is (itself (unborn (c.in_ok-began-in-Fresh.ensures φ e N (rw c.in-Fresh.is at c.requires))))
 
 pub returns-in-Some : goal.returns-in-Some
 returns-in-Some c = when_ok c.share.result (λ process shared φ e N.

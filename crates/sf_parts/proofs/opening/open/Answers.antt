@@ -39,11 +39,11 @@ returns-in_ok-switch-in-Switching g c =
 pub returns-in_err-begun-in-Pipeline : goal.returns-in_err-begun-in-Pipeline
 returns-in_err-begun-in-Pipeline g c = λ e N. open_exit (g.R.Holds.answers c.args.context.now.functions.now) c.args.context.now.plan.now _ e _ c.from_residual-in_err-begun-in-Pipeline.ensures.1
 
-pub returns-in_ok-begun-in-Pipeline : goal.returns-in_ok-begun-in-Pipeline
-returns-in_ok-begun-in-Pipeline g c = λ e N.
+pub returns-in_ok-node-in-Pipeline : goal.returns-in_ok-node-in-Pipeline
+returns-in_ok-node-in-Pipeline g c = λ e N.
     let v = c.in-Pipeline.stages in
     let w = c.in_ok-begun-in-Pipeline.begun in
-    open_staged (g.R.Holds.answers c.args.context.now.functions.now) c.args.context.now.plan.now v _ w e (rw c.in-Pipeline.is at c.node.ensures.builds) (subst (λ ids. AllBegin (g.R.Holds.answers c.args.context.now.functions.now) c.args.context.now.plan.now e ids w.items) c.deref.ensures.value (c.in_ok-begun-in-Pipeline.ensures (g.R.Holds.answers c.args.context.now.functions.now) c.args.context.now.plan.now e N))
+    open_staged (g.R.Holds.answers c.args.context.now.functions.now) c.args.context.now.plan.now v _ w c.in_ok-node-in-Pipeline.node c.in_ok-node-in-Pipeline.ensures.ok e (rw c.in-Pipeline.is at c.node.ensures.builds) (subst (λ ids. AllBegin (g.R.Holds.answers c.args.context.now.functions.now) c.args.context.now.plan.now e ids w.items) c.deref.ensures.value (c.in_ok-begun-in-Pipeline.ensures (g.R.Holds.answers c.args.context.now.functions.now) c.args.context.now.plan.now e N))
 
 pub returns-in_err-kept-in-Keeping : goal.returns-in_err-kept-in-Keeping
 returns-in_err-kept-in-Keeping g c = λ e N. open_exit (g.R.Holds.answers c.args.context.now.functions.now) c.args.context.now.plan.now _ e _ c.from_residual-in_err-kept-in-Keeping.ensures.1
@@ -63,14 +63,15 @@ returns-in_ok-process-in-Started g c =
 pub returns-in_err-same-in-Probe : goal.returns-in_err-same-in-Probe
 returns-in_err-same-in-Probe g c = λ e N. open_exit (g.R.Holds.answers c.args.context.now.functions.now) c.args.context.now.plan.now _ e _ c.from_residual-in_err-same-in-Probe.ensures.1
 
-pub returns-in_ok-same-in-Probe : goal.returns-in_ok-same-in-Probe
-returns-in_ok-same-in-Probe g c =
-    open_probe (g.R.Holds.answers c.args.context.now.functions.now) c.args.context.now.plan.now c.in-Probe.name c.in_ok-same-in-Probe.same _ c.args.names.now (rw c.in-Probe.is at c.node.ensures.builds) c.in_ok-same-in-Probe.ensures.cases
+pub returns-in_ok-node-in-Probe : goal.returns-in_ok-node-in-Probe
+returns-in_ok-node-in-Probe g c =
+    open_probe (g.R.Holds.answers c.args.context.now.functions.now) c.args.context.now.plan.now c.in-Probe.name c.in_ok-same-in-Probe.same _ c.args.names.now c.in_ok-node-in-Probe.node c.in_ok-node-in-Probe.ensures.ok (rw c.in-Probe.is at c.node.ensures.builds) c.in_ok-same-in-Probe.ensures.cases
 
 pub called-requires : goal.called-requires
 called-requires g c = record {
   bound = c.template.ensures.bound;
   coded = rw c.deref-in-Call.ensures.value (coded_arguments (g.R.Holds.answers c.args.context.now.functions.now) c.args.context.now.plan.now (rw c.in-Call.is at c.node.ensures.builds));
+  within = rw c.deref-in-Call.ensures.value (rw c.in-Call.is at c.node.ensures.within);
 }
 
 pub returns-in_ok-body-in-Call : goal.returns-in_ok-body-in-Call
@@ -91,3 +92,9 @@ returns-in_err-body-in-Call g c = λ e N.
     open_failure φ p _ e _ c.in_err-body-in-Call.field-0.0 c.from_residual-in_err-body-in-Call.ensures.1
     (open_call_fails φ p c.in-Call.field-0 c.in-Call.template v _ c.args.names.now c.in_err-body-in-Call.field-0.0 (rw c.in-Call.is at c.node.ensures.builds) (λ e N.
     subst (λ h. StandsCalled φ p h v.items e r) c.template.ensures.value (subst (λ us. StandsCalled φ p c.template.result.now us e r) c.deref-in-Call.ensures.value (c.in_err-body-in-Call.ensures e N))) e N)
+
+pub returns-in_err-node-in-Pipeline : goal.returns-in_err-node-in-Pipeline
+returns-in_err-node-in-Pipeline g c = λ e N. open_exit (g.R.Holds.answers c.args.context.now.functions.now) c.args.context.now.plan.now _ e _ c.from_residual-in_err-node-in-Pipeline.ensures.1
+
+pub returns-in_err-node-in-Probe : goal.returns-in_err-node-in-Probe
+returns-in_err-node-in-Probe g c = λ e N. open_exit (g.R.Holds.answers c.args.context.now.functions.now) c.args.context.now.plan.now _ e _ c.from_residual-in_err-node-in-Probe.ensures.1

@@ -1,12 +1,13 @@
-use Rattle.std.proofs.Common.{refl, sym, subst}
+use Rattle.std.proofs.Common.{false, refl, sym, subst}
 use Rattle.sf_law.specs.Headers.{NumbersFirst}
-use Rattle.sf_law.specs.Entries.{ArePlanNodes}
+use Rattle.sf_law.specs.Entries.{ArePlanNodes, AreWithin}
 use Rattle.sf_law.proofs.Placed.{arena_empty}
 use Rattle.sf_law.proofs.plan.Plan.new.Goals as goal
 
 pub invariant_of-result : goal.invariant_of-result
 invariant_of-result c = record {
   arena = subst (λ ns. ArePlanNodes c.args.expressions c.args.templates.items ns) (sym c.new.ensures.items) (arena_empty c.args.expressions c.args.templates.items);
+  within = subst (λ ns. AreWithin false ns) (sym c.new.ensures.items) (λ i. refl);
   bound = c.requires;
   numbered = subst (λ hs. NumbersFirst c.in_ok-numbers.numbers hs) c.deref.ensures.value c.in_ok-numbers.ensures;
   same = refl;

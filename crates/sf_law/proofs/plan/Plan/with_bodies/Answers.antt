@@ -13,6 +13,7 @@ invariant_of-plan c =
     let same = sym c.put_bodies.ensures in
     record {
       arena = subst (λ (hs : List PlanHeader). ArePlanNodes p.expressions hs p.nodes.items) same (arena_kept ids n p.expressions p.templates.items p.nodes.items p.arena);
+      within = p.within;
       bound = subst (λ (hs : List PlanHeader). All (BindsNames p.expressions) hs) same (All-map (BindsNames p.expressions) (rebodied ids n) p.templates.items p.bound);
       numbered = subst (λ (hs : List PlanHeader). NumbersFirst p.numbers hs) same (numbers_kept ids n p.numbers p.templates.items p.numbered);
       same = p.same;
