@@ -1,4 +1,4 @@
-"""Times `sfplay` on two networks with 1,000,000 lines beside the same jobs by hand in plain Rust.
+"""Times `sfplay` on two networks with 1,000,000 lines beside the same jobs by hand in Rust, as bench/baseline.rs has them.
 
     python3 bench/run.py [--exe PATH] [--lines N] [--rounds N]
 

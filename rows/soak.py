@@ -1,42 +1,112 @@
 """Plays networks that are rewired all the time on 100,000 samples and on 1,000,000, each with and without --plain, and looks whether
-memory stays flat.
+memory stays flat, and whether what they let go of is let go of at the end, at a return to a save and on a small stack.
 
     python3 rows/soak.py --exe PATH
 
-What is written is compared line by line with what the network's meaning gives. The most memory that the longer run held may be at
-most 5 in a hundred above that of the shorter one. The last line is `N passed, M failed`.
+What is written is compared line by line with what the network's meaning gives. Where memory is to stay flat, the most that the
+longer run held may be at most 5 in a hundred above that of the shorter one. A network that makes chains of processes is played
+once more with a save at its first sample and a return to it behind its last, on the ordinary stack and on an eighth of it. The last
+line is `N passed, M failed`.
 """
 
 import argparse
 import itertools
 import os
+import resource
 import sys
 import tempfile
 import threading
+from dataclasses import dataclass
+from typing import Callable
 
-# Each with its inputs, over and over again, and what it gives to the sample of a number from 0 on; a sample is 1 millisecond long.
+
+@dataclass
+class Run:
+    """A network with its inputs, over and over again, and what it gives to the sample of a number from 0 on; a sample is 1 millisecond
+    long. A network that makes chains hands itself processes at its events; one that keeps them grows by its meaning."""
+
+    name: str
+    network: str
+    inputs: list
+    wanted: Callable
+    makes_chains: bool = False
+    grows: bool = False
+
+
+# An event at each sample but the first.
+EVENT = "(constant event () >>> notYet)"
+GAME = "(Int, Event Unit) ~> Int"
+
 RUNS = [
-    ("begins anew at every third sample", "(Int, Event Int) ~> Int = rSwitch(identity, c => (integral >>> arr x => (x + c)))",
-     ["(1,event 10)", "(2,none)", "(3,none)"], lambda number: (10, 11, 13)[number % 3]),
-    ("begins anew as a pipeline whose last stage is two functions made into one",
-     "(Int, Event Int) ~> Int = rSwitch(identity, c => ((integral >>> iPre 0) >>> (arr x => (x + c) >>> arr x => (x * 2))))",
-     ["(1,event 10)", "(2,none)", "(3,none)"], lambda number: (20, 20, 22)[number % 3]),
-    ("is frozen and goes on at every second sample",
-     "(Unit, Event Unit) ~> Int = rSwitch(constant -1, _ => kSwitch(localTime, arr (_, t) => if (t > 0) then event () else none Unit, k,"
-     " _ => ((run k &&& run k) >>> arr (a, b) => (a + b))))",
-     ["((),event ())", "((),none)"], lambda number: (0, 2)[number % 2]),
-    ("calls itself at every sample but the first",
-     "Unit ~> Int = up(0);\ntemplate up(n: Int): Unit ~> Int = switch((constant n &&& (constant event () >>> notYet)), _ => up((n + 1)))",
-     ["()"], lambda number: number),
+    Run(
+        "begins anew at every third sample",
+        "(Int, Event Int) ~> Int = rSwitch(identity, c => (integral >>> arr x => (x + c)))",
+        ["(1,event 10)", "(2,none)", "(3,none)"],
+        lambda number: (10, 11, 13)[number % 3],
+    ),
+    Run(
+        "begins anew as a pipeline whose last stage is two functions made into one",
+        "(Int, Event Int) ~> Int = rSwitch(identity, c => ((integral >>> iPre 0) >>> (arr x => (x + c) >>> arr x => (x * 2))))",
+        ["(1,event 10)", "(2,none)", "(3,none)"],
+        lambda number: (20, 20, 22)[number % 3],
+    ),
+    Run(
+        "is frozen and goes on at every second sample",
+        "(Unit, Event Unit) ~> Int = rSwitch(constant -1, _ => kSwitch(localTime, arr (_, t) => if (t > 0) then event () else none Unit, k,"
+        " _ => ((run k &&& run k) >>> arr (a, b) => (a + b))))",
+        ["((),event ())", "((),none)"],
+        lambda number: (0, 2)[number % 2],
+    ),
+    Run(
+        "calls itself at every sample but the first",
+        f"Unit ~> Int = up(0);\ntemplate up(n: Int): Unit ~> Int = switch((constant n &&& {EVENT}), _ => up((n + 1)))",
+        ["()"],
+        lambda number: number,
+    ),
+    Run(
+        "hands itself what it froze at every sample but the first",
+        f"Int ~> Int = go(sf integral);\ntemplate go(f: Int ~> Int): Int ~> Int = kSwitch(run f, {EVENT}, k, _ => go(sf run k))",
+        ["1"],
+        lambda number: number,
+        makes_chains=True,
+    ),
+    Run(
+        "is a game whose menu opens and closes at every sample but the first",
+        f"{GAME} = playing(sf (arr (speed, _) => speed >>> integral));\n"
+        f"template playing(game: {GAME}): {GAME} = kSwitch(run game, (arr ((_, press), _) => press >>> notYet), g, _ => paused(sf run g));\n"
+        f"template paused(game: {GAME}): {GAME} = switch((constant -1 &&& (arr (_, press) => press >>> notYet)), _ => playing(sf run game))",
+        ["(1,event ())"],
+        lambda number: -1 if number % 2 else number // 2,
+        makes_chains=True,
+    ),
+    Run(
+        "hands itself on, with what it was given, and runs it never",
+        f"Int ~> Int = go(sf integral);\ntemplate go(f: Int ~> Int): Int ~> Int = switch((identity &&& {EVENT}), _ => go(sf (identity >>> run f)))",
+        ["1"],
+        lambda number: 1,
+        makes_chains=True,
+        grows=True,
+    ),
 ]
 
 
-def play(words, inputs, wanted, samples):
+def script(run, samples, returns):
+    """The lines of some samples, with a save behind the first and a return to it behind the last, and one sample more, if it returns."""
+    for number, value in zip(range(samples), itertools.cycle(run.inputs)):
+        yield f"{1 if number else 0} {value}\n"
+        if returns and number == 0:
+            yield "save first\n"
+    if returns:
+        yield f"back first\n1 {run.inputs[1 % len(run.inputs)]}\n"
+
+
+def play(words, run, samples, returns, stack):
     """Whether the output is what is wanted, and the most memory that the run held, in KiB."""
     from_writer, to_program = os.pipe()
     from_program, to_reader = os.pipe()
     child = os.fork()
     if child == 0:
+        resource.setrlimit(resource.RLIMIT_STACK, (stack, stack))
         os.dup2(from_writer, 0)
         os.dup2(to_reader, 1)
         os.closerange(3, 256)
@@ -46,32 +116,37 @@ def play(words, inputs, wanted, samples):
 
     def write():
         with open(to_program, "w") as lines:
-            for number, value in zip(range(samples), itertools.cycle(inputs)):
-                lines.write(f"{1 if number else 0} {value}\n")
+            lines.writelines(script(run, samples, returns))
 
     writer = threading.Thread(target=write, daemon=True)
     writer.start()
+    numbers = [*range(samples), *([1] if returns else [])]
     with open(from_program) as lines:
         written = 0
         good = True
-        for number, line in enumerate(lines):
-            good = good and line == f"> {number} {wanted(number)}\n"
+        for number, line in zip(numbers, lines):
+            good = good and line == f"> {number} {run.wanted(number)}\n"
             written += 1
+        good = good and not lines.read()
     _, status, used = os.wait4(child, 0)
-    return good and written == samples and status == 0, used.ru_maxrss
+    return good and written == len(numbers) and status == 0, used.ru_maxrss
 
 
-def faults(words, inputs, wanted):
-    """What three looks found: at the outputs of both runs and at what they held."""
-    found, held = [], []
+def looks(words, run):
+    """What each look at the runs of a network found: nothing where it is as it should be."""
+    ordinary = 8 << 20
+    held = []
     for samples in (100_000, 1_000_000):
-        good, most = play(words, inputs, wanted, samples)
+        good, most = play(words, run, samples, False, ordinary)
         held.append(most)
-        if not good:
-            found.append(f"another output in {samples:,} samples")
-    if held[1] * 100 > held[0] * 105:
-        found.append(f"{held[0]:,} KiB held in 100,000 samples and {held[1]:,} KiB in 1,000,000")
-    return found
+        yield None if good else f"another output in {samples:,} samples"
+    if not run.grows:
+        is_flat = held[1] * 100 <= held[0] * 105
+        yield None if is_flat else f"{held[0]:,} KiB held in 100,000 samples and {held[1]:,} KiB in 1,000,000"
+    if run.makes_chains:
+        for stack in (ordinary, ordinary // 8):
+            good, _ = play(words, run, 1_000_000, True, stack)
+            yield None if good else f"another output in 1,000,000 samples and a return, on a stack of {stack >> 10:,} KiB"
 
 
 def main():
@@ -82,14 +157,14 @@ def main():
     passed = failed = 0
     with tempfile.TemporaryDirectory() as place:
         network = os.path.join(place, "network")
-        for name, text, inputs, wanted in RUNS:
+        for run in RUNS:
             with open(network, "w") as file:
-                file.write(f"network 1;\ntemplate main(): {text};\n")
+                file.write(f"network 1;\ntemplate main(): {run.network};\n")
             for mode in ([], ["--plain"]):
-                found = faults([exe, network, *mode], inputs, wanted)
-                passed, failed = passed + 3 - len(found), failed + len(found)
-                for fault in found:
-                    print(f"what {name} {' '.join(mode)}: {fault}")
+                found = list(looks([exe, network, *mode], run))
+                passed, failed = passed + found.count(None), failed + len(found) - found.count(None)
+                for fault in filter(None, found):
+                    print(f"what {run.name} {' '.join(mode)}: {fault}")
     print(f"{passed} passed, {failed} failed")
     return 1 if failed else 0
 
