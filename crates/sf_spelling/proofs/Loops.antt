@@ -1,14 +1,13 @@
 -- Reading the rows of a table one after another.
-use Rattle.std.proofs.Common.{◌≡◌, ◌≤◌, ◌<◌, zero, suc, Bool, true, false, cond, List, [], ◌∷◌, ◌++◌, length, map, Result, Ok, Err, refl, sym, ap, subst, ◌∙◌, arith, ℕ, ◌-◌, take, drop, get_or}
+use Rattle.std.proofs.Common.{◌≡◌, ◌≤◌, ◌<◌, zero, suc, Bool, true, false, cond, List, [], ◌∷◌, ◌++◌, length, map, Ok, Err, refl, sym, ap, subst, ◌∙◌, arith, ℕ, ◌-◌, take, drop, get_or}
 use Rattle.std.specs.Prelude.{◌==◌, ◌||◌, not}
 use Rattle.std.specs.List.{list_any}
 use Rattle.std.specs.Str.{bytes_eq}
-use Rattle.std.proofs.lemmas.Bool.{false≢true}
 use Rattle.std.proofs.lemmas.List.{map-append}
 use Rattle.std.proofs.lemmas.Slice.Eq.{bytes_eq-Decides}
-use Rattle.sf_value.specs.Values.{KeyKind, int_keys, text_keys, Kind, KeyData, Data, Rows, no_rows, IsOneOf, HasDifferentKeys}
+use Rattle.sf_value.specs.Values.{KeyKind, int_keys, text_keys, Kind, KeyData, Data, Rows, no_rows}
 use Rattle.sf_value.specs.View.{key_of, rows_of}
-use Rattle.sf_value.specs.Tables.{AreKeysOf}
+use Rattle.sf_value.specs.Keys.{equal_keys}
 use Rattle.sf_spelling.specs.Steps.{spellings}
 use Rattle.sf_spelling.specs.Spelling.{key_spelling}
 use Rattle.sf_spelling.specs.Scan.{Stop, bad, fault, Scanned, ◌>>=◌, byte_at, key_at, new_key_at, row_at, put_row, more_at, rows_at, value_at}
@@ -18,31 +17,32 @@ use Rattle.sf_value.specs.declared.value.Key.{Key}
 use Rattle.sf_spelling.specs.declared.read.Failure.{Failure}
 use Rattle.sf_spelling.specs.declared.read.Failure.TheVariants.{Bad, Wide, Again, Memory}
 use Rattle.sf_spelling.proofs.Unmixed.{one_key}
-use Rattle.sf_spelling.proofs.Keys.{seen_no}
-use Rattle.sf_value.proofs.Indexes.{Entry, push_new, compare, key_law}
+use Rattle.sf_value.proofs.Under.{equal_keys-Decides}
 use Rattle.sf_spelling.proofs.EachKind.{reader}
 use Rattle.sf_spelling.proofs.Tables.{row_left}
 use Rattle.sf_decimal.proofs.Runs.{take_whole}
 use Rattle.std.proofs.lemmas.Bool.Decides.{nat_tests}
 
-spellings_are : (ks : List Key) → spellings ks ≡ map key_spelling (map key_of ks)
-spellings_are [] = refl
-spellings_are (k ∷ ks) = ap (λ s. key_spelling (key_of k) ∷ s) (spellings_are ks)
+abbrev Entry : Type 0
+Entry = Key × Data
+
+abbrev pub keys : List Entry → List KeyData
+keys es = map (λ (e : Entry). key_of e.0) es
 
 bool_same : (a b : Bool) → (a ≡ true → b ≡ true) → (b ≡ true → a ≡ true) → a ≡ b
 bool_same true b f g = sym (f refl)
 bool_same false true f g = g refl
 bool_same false false f g = refl
 
--- the code finds a key where its spelling is one of those seen
-pub seen_is : (copy : Key) (k : KeyData) (ks : List Key) → key_of copy ≡ k → list_any (compare copy) ks ≡ list_any (bytes_eq (key_spelling k)) (spellings ks)
-seen_is copy k [] e = refl
-seen_is copy k (x ∷ ks) e = ap (λ b. b || list_any (compare copy) ks) one ∙ ap (λ b. bytes_eq (key_spelling k) (key_spelling (key_of x)) || b) (seen_is copy k ks e)
+-- a key is one of those seen where its spelling is
+pub seen_is : (k : KeyData) (ks : List KeyData) → list_any (equal_keys k) ks ≡ list_any (bytes_eq (key_spelling k)) (spellings ks)
+seen_is k [] = refl
+seen_is k (x ∷ ks) = ap (λ b. b || list_any (equal_keys k) ks) one ∙ ap (λ b. bytes_eq (key_spelling k) (key_spelling x) || b) (seen_is k ks)
   where
-    one : compare copy x ≡ bytes_eq (key_spelling k) (key_spelling (key_of x))
-    one = bool_same (compare copy x) (bytes_eq (key_spelling k) (key_spelling (key_of x)))
-        (λ h. (bytes_eq-Decides (key_spelling k) (key_spelling (key_of x))).1 (ap key_spelling (sym e ∙ (key_law copy x).0 h)))
-        (λ h. (key_law copy x).1 (e ∙ one_key k (key_of x) ((bytes_eq-Decides (key_spelling k) (key_spelling (key_of x))).0 h)))
+    one : equal_keys k x ≡ bytes_eq (key_spelling k) (key_spelling x)
+    one = bool_same (equal_keys k x) (bytes_eq (key_spelling k) (key_spelling x))
+        (λ h. (bytes_eq-Decides (key_spelling k) (key_spelling x)).1 (ap key_spelling ((equal_keys-Decides k x).0 h)))
+        (λ h. (equal_keys-Decides k x).1 (one_key k x ((bytes_eq-Decides (key_spelling k) (key_spelling x)).0 h)))
 
 -- the same spellings are seen
 abbrev pub SameSeen : List (List ℕ) → List (List ℕ) → Type 0
@@ -79,18 +79,17 @@ module _ (t : KeyKind) (inner : List ℕ → Scanned Data) where
   not_new true e = refl
   not_new false e = cc
 
-  module _ (s : List ℕ) (l : KeyData) (rest : List ℕ) (copy : Key) (ks : List Key) (added : Bool)
-      (read : key_at t s ≡ Ok (l, rest)) (same : key_of copy ≡ l) (is : added ≡ not (list_any (compare copy) ks)) where
-    looked : (b : Bool) → list_any (compare copy) ks ≡ b → new_key_at t (spellings ks) s ≡ cond b (Err (fault again s)) (Ok (l, rest))
-    looked b e = ap (λ (o : Scanned KeyData). o >>= unseen (spellings ks) s) read ∙ ap (λ c. cond c (Err (fault again s)) (Ok (l, rest))) (sym (seen_is copy l ks same) ∙ e)
+  module _ (s : List ℕ) (l : KeyData) (rest : List ℕ) (ks : List KeyData) (added : Bool) (read : key_at t s ≡ Ok (l, rest)) (is : added ≡ not (list_any (equal_keys l) ks)) where
+    looked : (b : Bool) → list_any (equal_keys l) ks ≡ b → new_key_at t (spellings ks) s ≡ cond b (Err (fault again s)) (Ok (l, rest))
+    looked b e = ap (λ (o : Scanned KeyData). o >>= unseen (spellings ks) s) read ∙ ap (λ c. cond c (Err (fault again s)) (Ok (l, rest))) (sym (seen_is l ks) ∙ e)
 
     -- a key that the index has
     pub key_again : added ≡ false → new_key_at t (spellings ks) s ≡ Err (fault again s)
-    key_again e = looked true (not_new (list_any (compare copy) ks) (sym is ∙ e))
+    key_again e = looked true (not_new (list_any (equal_keys l) ks) (sym is ∙ e))
 
     -- a key that it doesn't have
     pub key_new : added ≡ true → new_key_at t (spellings ks) s ≡ Ok (l, rest)
-    key_new e = looked false (not_seen (list_any (compare copy) ks) (sym is ∙ e))
+    key_new e = looked false (not_seen (list_any (equal_keys l) ks) (sym is ∙ e))
 
   row_same : (a b : List (List ℕ)) (s : List ℕ) → SameSeen a b → row_at t inner a s ≡ row_at t inner b s
   row_same a b s h = ap (λ (o : Scanned KeyData). o >>= value_for) (key_same (key_at t s))
@@ -98,26 +97,6 @@ module _ (t : KeyKind) (inner : List ℕ → Scanned Data) where
       key_same : (o : Scanned KeyData) → (o >>= unseen a s) ≡ (o >>= unseen b s)
       key_same (Ok l) = ap (λ c. cond c (Err (fault again s)) (Ok l)) (h (key_spelling l.0))
       key_same (Err e) = refl
-
-  -- a key that is read is none of those seen
-  row_new : (seen : List (List ℕ)) (s : List ℕ) (l : KeyData) (x : Data) (rest : List ℕ) → row_at t inner seen s ≡ Ok ((l, x), rest) → list_any (bytes_eq (key_spelling l)) seen ≡ false
-  row_new seen s l x rest e = of (key_at t s) e
-    where
-      value_then : (p : KeyData) (o : Scanned Data) → (o >>= paired p) ≡ Ok ((l, x), rest) → p ≡ l
-      value_then p (Ok y) h = let is : ((p, y.0), y.1) ≡ ((l, x), rest) = cc in ap (λ (q : (KeyData × Data) × List ℕ). q.0.0) is
-      value_then p (Err f) h = absurd cc
-
-      colon_then : (p : KeyData) (o : Result (List ℕ) Stop) → (o >>= (λ e. inner e >>= paired p)) ≡ Ok ((l, x), rest) → p ≡ l
-      colon_then p (Ok y) h = value_then p (inner y) h
-      colon_then p (Err f) h = absurd cc
-
-      key_then : (p : KeyData × List ℕ) (b : Bool) → list_any (bytes_eq (key_spelling p.0)) seen ≡ b → (cond b (Err (fault again s)) (Ok p) >>= value_for) ≡ Ok ((l, x), rest) → list_any (bytes_eq (key_spelling l)) seen ≡ false
-      key_then p true g h = absurd cc
-      key_then p false g h = ap (λ k. list_any (bytes_eq (key_spelling k)) seen) (sym (colon_then p.0 (byte_at 58 p.1) h)) ∙ g
-
-      of : (o : Scanned KeyData) → ((o >>= unseen seen s) >>= value_for) ≡ Ok ((l, x), rest) → list_any (bytes_eq (key_spelling l)) seen ≡ false
-      of (Ok p) h = key_then p (list_any (bytes_eq (key_spelling p.0)) seen) refl h
-      of (Err f) h = absurd cc
 
   -- rows before what is read
   abbrev pub behind_rows : List Entry → Scanned Rows → Scanned Rows
@@ -141,7 +120,7 @@ module _ (t : KeyKind) (inner : List ℕ → Scanned Data) where
   row_then n seen s = row_at t inner seen s >>= (λ r. put_row r.0 (more_at n t inner (key_spelling r.0.0 ∷ seen) r.1))
 
   -- reading goes on with a row behind these rows, which have these keys
-  pub record Follows (bytes : List ℕ) (es : List Entry) (ks : List Key) (left : List ℕ) : Type 0 where
+  pub record Follows (bytes : List ℕ) (es : List Entry) (ks : List KeyData) (left : List ℕ) : Type 0 where
     pub room : ℕ
     pub seen : List (List ℕ)
     pub enough : length left ≤ room
@@ -160,7 +139,7 @@ module _ (t : KeyKind) (inner : List ℕ → Scanned Data) where
   pub follows_some : (c : ℕ) (s : List ℕ) → (c == 125) ≡ false → Follows (c ∷ s) [] [] (c ∷ s)
   follows_some c s h = record { room = length (c ∷ s); seen = []; enough = omega arith; same = λ s. refl; is = rw h refl }
 
-  module _ (bytes left : List ℕ) (es : List Entry) (ks : List Key) (f : Follows bytes es ks left) where
+  module _ (bytes left : List ℕ) (es : List Entry) (ks : List KeyData) (f : Follows bytes es ks left) where
     -- a row that fails
     pub row_fails : (e : Failure) → Fails e (row_at t inner (spellings ks) left) → Fails e (rows_at t inner bytes)
     row_fails e h = each e (subst (λ o. Fails e o) (sym (row_same f.seen (spellings ks) left f.same)) h)
@@ -214,7 +193,7 @@ module _ (t : KeyKind) (inner : List ℕ → Scanned Data) where
             ∙ behind_err (es ++ e ∷ []) (bad (c ∷ more))
 
         -- a comma does
-        pub row_follows : (c == 125) ≡ false → (c == 44) ≡ true → (new : List Key) → map key_of new ≡ map key_of ks ++ key_of e.0 ∷ [] → Follows bytes (es ++ e ∷ []) new more
+        pub row_follows : (c == 125) ≡ false → (c == 44) ≡ true → (new : List KeyData) → new ≡ ks ++ key_of e.0 ∷ [] → Follows bytes (es ++ e ∷ []) new more
         row_follows h k new g = let m = behind_mark in record {
           room = m.0;
           seen = seen_then;
@@ -225,21 +204,15 @@ module _ (t : KeyKind) (inner : List ℕ → Scanned Data) where
         }
           where
             spelled : spellings new ≡ spellings ks ++ key_spelling (key_of e.0) ∷ []
-            spelled = spellings_are new ∙ ap (map key_spelling) g ∙ map-append key_spelling (map key_of ks) (key_of e.0 ∷ []) ∙ ap (λ s. s ++ key_spelling (key_of e.0) ∷ []) (sym (spellings_are ks))
+            spelled = ap (map key_spelling) g ∙ map-append key_spelling ks (key_of e.0 ∷ [])
 
-      -- the rows with one more have different keys, which are those of the index
-      pub row_indexed : AreKeysOf ks es → (new : List Key) → map key_of new ≡ map key_of ks ++ key_of e.0 ∷ [] → AreKeysOf new (es ++ e ∷ [])
+      -- the keys of the rows with one more are those of the index
+      pub row_indexed : ks ≡ keys es → (new : List KeyData) → new ≡ ks ++ key_of e.0 ∷ [] → new ≡ keys (es ++ e ∷ [])
       row_indexed h new g = g ∙ ap (λ s. s ++ key_of e.0 ∷ []) h ∙ sym (map-append (λ (e : Entry). key_of e.0) es (e ∷ []))
 
-      pub row_different : AreKeysOf ks es → HasDifferentKeys (rows_of es) → HasDifferentKeys (rows_of (es ++ e ∷ []))
-      row_different h d = push_new [] es e d (λ m. m) (λ m. false≢true (sym absent ∙ seen_no (key_of e.0) (map key_of ks) (subst (IsOneOf (key_of e.0)) (sym h) m)))
-        where
-          absent : list_any (bytes_eq (key_spelling (key_of e.0))) (map key_spelling (map key_of ks)) ≡ false
-          absent = ap (list_any (bytes_eq (key_spelling (key_of e.0)))) (sym (spellings_are ks)) ∙ row_new (spellings ks) left (key_of e.0) e.1 rest one
-
 -- what is left behind a row is no more than was there
-pub row_less : (t : KeyKind) (u : Kind) (ks : List Key) (left : List ℕ) (r : KeyData × Data) (rest : List ℕ) → row_at t (value_at u) (spellings ks) left ≡ Ok (r, rest) → length rest ≤ length left
-row_less t u ks left r rest e = row_left t u (value_at u) (reader u) (map key_of ks) left r rest (ap (λ s. row_at t (value_at u) s left) (sym (spellings_are ks)) ∙ e)
+pub row_less : (t : KeyKind) (u : Kind) (ks : List KeyData) (left : List ℕ) (r : KeyData × Data) (rest : List ℕ) → row_at t (value_at u) (spellings ks) left ≡ Ok (r, rest) → length rest ≤ length left
+row_less t u ks left r rest e = row_left t u (value_at u) (reader u) ks left r rest e
 
 first_of_list : (s : List ℕ) → 1 ≤ length s → s ≡ get_or s 0 0 ∷ take (length s - 1) (drop 1 s)
 first_of_list [] h = absurd (omega arith)
@@ -252,12 +225,12 @@ is_no : (c d : ℕ) → (c ≡ d → ⊥) → (c == d) ≡ false
 is_no c d e = grind (arith, nat_tests)
 
 -- what the loop keeps
-abbrev pub Kept : KeyKind → Kind → List ℕ → List Entry → List Key → List ℕ → Type 0
-Kept t u bytes es ks left = Follows t (value_at u) bytes es ks left × AreKeysOf ks es × HasDifferentKeys (rows_of es)
+abbrev pub Kept : KeyKind → Kind → List ℕ → List Entry → List KeyData → List ℕ → Type 0
+Kept t u bytes es ks left = Follows t (value_at u) bytes es ks left × (ks ≡ keys es)
 
-module _ (t : KeyKind) (u : Kind) (bytes : List ℕ) (es : List Entry) (ks : List Key) (none : es ≡ []) (empty : ks ≡ []) where
+module _ (t : KeyKind) (u : Kind) (bytes : List ℕ) (es : List Entry) (ks : List KeyData) (none : es ≡ []) (empty : ks ≡ []) where
   first : Follows t (value_at u) bytes [] [] bytes → Kept t u bytes es ks bytes
-  first f = rw (none, empty) (f, refl, tt)
+  first f = rw (none, empty) (f, refl)
 
   pub kept_none : length bytes < 1 → Kept t u bytes es ks bytes
   kept_none h = first (follows_none t (value_at u) bytes h)
@@ -265,7 +238,7 @@ module _ (t : KeyKind) (u : Kind) (bytes : List ℕ) (es : List Entry) (ks : Lis
   pub kept_some : 1 ≤ length bytes → (get_or bytes 0 0 ≡ 125 → ⊥) → Kept t u bytes es ks bytes
   kept_some h k = first (subst (λ s. Follows t (value_at u) s [] [] s) (sym (first_of_list bytes h)) (follows_some t (value_at u) (get_or bytes 0 0) _ (is_no _ _ k)))
 
-module _ (t : KeyKind) (u : Kind) (bytes : List ℕ) (es : List Entry) (ks : List Key) (left : List ℕ) (kept : Kept t u bytes es ks left) where
+module _ (t : KeyKind) (u : Kind) (bytes : List ℕ) (es : List Entry) (ks : List KeyData) (left : List ℕ) (kept : Kept t u bytes es ks left) where
   pub fails : (e : Failure) → Fails e (row_at t (value_at u) (spellings ks) left) → Fails e (rows_at t (value_at u) bytes)
   fails e h = row_fails t (value_at u) bytes left es ks kept.0 e h
 
@@ -293,13 +266,9 @@ module _ (t : KeyKind) (u : Kind) (bytes : List ℕ) (es : List Entry) (ks : Lis
       pub breaks : (get_or rest 0 0 ≡ 125 → ⊥) → (get_or rest 0 0 ≡ 44 → ⊥) → rows_at t (value_at u) bytes ≡ Err (bad rest)
       breaks h k = row_breaks t (value_at u) bytes left es ks kept.0 e rest one _ _ (first_of_list rest some) less (is_no _ _ h) (is_no _ _ k) ∙ ap (λ r. Err (bad r)) (sym (first_of_list rest some))
 
-    pub different : HasDifferentKeys (rows_of (es ++ e ∷ []))
-    different = row_different t (value_at u) bytes left es ks kept.0 e rest one kept.1 kept.2
-
-    pub goes_on : (some : 1 ≤ length rest) → (get_or rest 0 0 ≡ 125 → ⊥) → get_or rest 0 0 ≡ 44 → (new : List Key) → map key_of new ≡ map key_of ks ++ key_of e.0 ∷ []
+    pub goes_on : (some : 1 ≤ length rest) → (get_or rest 0 0 ≡ 125 → ⊥) → get_or rest 0 0 ≡ 44 → (new : List KeyData) → new ≡ ks ++ key_of e.0 ∷ []
         → Kept t u bytes (es ++ e ∷ []) new (take (length rest - 1) (drop 1 rest))
     goes_on some h k new g = (
       row_follows t (value_at u) bytes left es ks kept.0 e rest one _ _ (first_of_list rest some) (less some) (is_no _ _ h) (is_yes _ _ k) new g,
       row_indexed t (value_at u) bytes left es ks kept.0 e rest one kept.1 new g,
-      different,
     )

@@ -1,8 +1,6 @@
 -- What the private readers of values read in a step or two.
 use Rattle.std.specs.Prelude.{ℕ, List, map, Ok, codes}
-use Rattle.sf_value.specs.Values.{Kind, Data, pair, no_event, event, Rows, table}
-use Rattle.sf_value.specs.View.{key_of}
-use Rattle.sf_value.specs.declared.value.Key.{Key}
+use Rattle.sf_value.specs.Values.{KeyData, Kind, Data, pair, no_event, event, Rows, table}
 use Rattle.sf_spelling.specs.Spelling.{key_spelling}
 use Rattle.sf_spelling.specs.Scan.{Scanned, ◌>>=◌, byte_at, word_at, value_at}
 
@@ -27,5 +25,5 @@ abbrev pub table_before : Rows → List ℕ → Scanned Data
 table_before rs s = Ok (table rs, s)
 
 -- the spellings of keys
-abbrev pub spellings : List Key → List (List ℕ)
-spellings ks = map (λ k. key_spelling (key_of k)) ks
+abbrev pub spellings : List KeyData → List (List ℕ)
+spellings ks = map key_spelling ks

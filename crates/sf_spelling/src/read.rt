@@ -1,9 +1,8 @@
 //! Values from their spellings.
 ghost use Rattle.std.specs.Prelude.{◌≡◌, ◌<◌, ℕ, IfOk, IfErr, MatchResult, OnOk, min, codes, map, ◌++◌, ◌∷◌, []};
-ghost use Rattle.sf_value.specs.Values.{Data, unit_kind, bool_kind, int_kind, text_kind, pair_kind, event_kind, table_kind, HasKind, HasDifferentKeys};
+ghost use Rattle.sf_value.specs.Values.{Data, unit_kind, bool_kind, int_kind, text_kind, pair_kind, event_kind, table_kind, HasKind};
 ghost use Rattle.sf_value.specs.KindView.{key_kind_of};
 ghost use Rattle.sf_value.specs.View.{key_of, rows_of};
-ghost use Rattle.sf_value.specs.Tables.{AreKeysOf};
 ghost use Rattle.sf_spelling.specs.Spelling.{spelling};
 ghost use Rattle.sf_decimal.specs.Decimals.{signed};
 ghost use Rattle.sf_spelling.specs.Scan.{byte_at, word_at, positive_at, integer_at, value_at, narrow, begins_digit, key_at, new_key_at, row_at, rows_at};
@@ -14,9 +13,8 @@ ghost use Rattle.sf_spelling.specs.Gives.{GivesRead, GivesCapped, cap};
 ghost use Rattle.sf_spelling.specs.declared.read.Failure.TheVariants.{Memory};
 
 use crate::text::text_of;
-use indexmap::IndexSet;
 use sf_decimal::{digits_at, signed};
-use sf_value::{Key, KeyType, Ty, TyForm, Value};
+use sf_value::{Index, Key, KeyType, Ty, TyForm, Value};
 use std::alloc::Global;
 use std::rc::Rc;
 use thiserror::Error;
@@ -51,7 +49,7 @@ pub(crate) enum Failure {
 #[derive(Drop)]
 struct Rows {
     rows: Vec<(Key, Value)>,
-    keys: IndexSet<Key>,
+    keys: Index,
 }
 
 /// What is after this byte.
@@ -311,17 +309,14 @@ fn goes_on(bytes: &[u8]) -> bool
 fn new_key_in<'a>(
     alloc: Global,
     keys: KeyType,
-    seen: &mut IndexSet<Key>,
+    seen: &mut Index,
     bytes: &'a [u8],
 ) -> Result<(Key, &'a [u8]), Failure>
-    ensures key { GivesRead (λ x. (key_of x.0, x.1.now)) result (new_key_at (key_kind_of keys) (spellings seen.old.keys) bytes.now) }
-    ensures seen { IfOk result (λ x. map key_of seen.new.keys ≡ map key_of seen.old.keys ++ key_of x.0 ∷ []) }
+    ensures key { GivesRead (λ x. (key_of x.0, x.1.now)) result (new_key_at (key_kind_of keys) (spellings seen.old) bytes.now) }
+    ensures seen { IfOk result (λ x. seen.new ≡ seen.old ++ key_of x.0 ∷ []) }
 {
     let (key, rest) = key_in(alloc, keys, bytes)?;
-    let Ok(copy) = key.clone_in(alloc) else {
-        return Err(Failure::Memory);
-    };
-    match seen.insert(copy) {
+    match seen.insert(&key) {
         Err(_) => return Err(Failure::Memory),
         Ok(false) => return Err(Failure::Again(bytes.len())),
         Ok(true) => {}
@@ -347,8 +342,7 @@ fn table_of<'a>(
 
 /// The table, which ends before these bytes, as a value.
 fn table_in(alloc: Global, table: Rows, bytes: &[u8]) -> Result<(Value, &[u8]), Failure>
-    requires different { HasDifferentKeys (rows_of table.rows.items) }
-    requires indexed { AreKeysOf table.keys.keys table.rows.items }
+    requires { table.keys ≡ map (λ e. key_of e.0) table.rows.items }
     ensures { GivesRead (λ x. (x.0, x.1.now)) result (table_before (rows_of table.rows.items) bytes.now) }
 {
     let Rows { rows, keys } = table;
@@ -367,12 +361,11 @@ fn rows_in<'a>(
     bytes: &'a [u8],
 ) -> Result<(Rows, &'a [u8]), Failure>
     ensures rows { GivesRead (λ x. (rows_of x.0.rows.items, x.1.now)) result (rows_at (key_kind_of keys) (value_at values.now) bytes.now) }
-    ensures different { IfOk result (λ x. HasDifferentKeys (rows_of x.0.rows.items)) }
-    ensures indexed { IfOk result (λ x. AreKeysOf x.0.keys.keys x.0.rows.items) }
+    ensures indexed { IfOk result (λ x. x.0.keys ≡ map (λ e. key_of e.0) x.0.rows.items) }
 {
     let mut table = Rows {
         rows: Vec::new(alloc),
-        keys: IndexSet::new(alloc),
+        keys: Index::new(alloc),
     };
     let mut left = bytes;
     if let [c, rest @ ..] = bytes {
@@ -415,12 +408,12 @@ fn row_in<'a>(
     alloc: Global,
     keys: KeyType,
     values: &Ty,
-    seen: &mut IndexSet<Key>,
+    seen: &mut Index,
     bytes: &'a [u8],
 ) -> Result<(Key, Value, &'a [u8]), Failure>
     ensures row { GivesRead (λ x. ((key_of x.0, x.1), x.2.now)) result
-        (row_at (key_kind_of keys) (value_at values.now) (spellings seen.old.keys) bytes.now) }
-    ensures seen { IfOk result (λ x. map key_of seen.new.keys ≡ map key_of seen.old.keys ++ key_of x.0 ∷ []) }
+        (row_at (key_kind_of keys) (value_at values.now) (spellings seen.old) bytes.now) }
+    ensures seen { IfOk result (λ x. seen.new ≡ seen.old ++ key_of x.0 ∷ []) }
 {
     let (key, rest) = new_key_in(alloc, keys, seen, bytes)?;
     let (value, rest) = value_behind(alloc, b':', values, rest)?;

@@ -1,5 +1,7 @@
 pub mod Values
 pub mod Codes
+pub mod Keys
+pub mod Indexes
 pub mod View
 pub mod Tables
 pub mod Lookups

@@ -1,6 +1,6 @@
 -- The rows of tables in code.
-use Rattle.std.specs.Prelude.{◌≡◌, ◌⊎◌, ℕ, List, ◌∷◌, ◌++◌, map, length, ⊤}
-use Rattle.sf_value.specs.Values.{KeyData, Data, Rows, no_rows, row, IsOneOf, HasDifferentKeys}
+use Rattle.std.specs.Prelude.{◌≡◌, ℕ, List, ◌∷◌, ◌++◌, map, length, ⊤}
+use Rattle.sf_value.specs.Values.{Data, IsOneOf, HasDifferentKeys}
 use Rattle.sf_value.specs.View.{key_of, rows_of}
 use Rattle.sf_value.specs.declared.value.Key.{Key}
 use Rattle.sf_value.specs.declared.table.TableRefusal.{TableRefusal}
@@ -21,12 +21,3 @@ pub record IsFirstRepeatedKey (es : List (Key × Data)) (i : ℕ) : Type 0 where
 abbrev pub RefusesRows : List (Key × Data) → TableRefusal → Type 0
 RefusesRows es (DuplicateKey i) = IsFirstRepeatedKey es i
 RefusesRows es Memory = ⊤
-
--- the value stands under the key
-abbrev pub StandsUnder : KeyData → Data → Rows → Type 0
-StandsUnder k x no_rows = ⊥
-StandsUnder k x (row l y rs) = ((k ≡ l) × (x ≡ y)) ⊎ StandsUnder k x rs
-
--- the keys are those of the rows, in order
-abbrev pub AreKeysOf : List Key → List (Key × Data) → Type 0
-AreKeysOf ks es = map key_of ks ≡ map (λ e. key_of e.0) es

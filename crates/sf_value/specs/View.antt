@@ -1,16 +1,11 @@
 -- The data that a `Value` stands for.
 use Rattle.std.specs.Prelude.{◌≡◌, List, [], ◌∷◌, map, IsTrue, ⊤, string_bytes}
 use Rattle.std.specs.Str.{IsUtf8}
-use Rattle.sf_value.specs.Values.{KeyData, number_key, text_key, Data, unit, truth, number, text, pair, no_event, event, table, Rows, no_rows, row, is_narrow, HasDifferentKeys}
+use Rattle.sf_value.specs.Values.{Data, unit, truth, number, text, pair, no_event, event, table, Rows, no_rows, row, is_narrow, HasDifferentKeys}
+pub use Rattle.sf_value.specs.Keys.{key_of}
 use Rattle.sf_value.specs.declared.value.Key.{Key}
-use Rattle.sf_value.specs.declared.value.Key.TheVariants.{Int as IntKey, Text as TextKey}
 use Rattle.sf_value.specs.declared.value.Form.{Form}
 use Rattle.sf_value.specs.declared.value.Form.TheVariants.{Unit, Bool, Int, Text, Pair, NoEvent, Event, Table}
-
--- what a key means
-abbrev pub key_of : Key → KeyData
-key_of (IntKey z) = number_key z
-key_of (TextKey s) = text_key (string_bytes s.value)
 
 -- the rows of a list
 abbrev pub rows_of : List (Key × Data) → Rows
@@ -37,5 +32,5 @@ IsProper d = ⊤
 
 -- the index of a table has the keys of its rows, in order
 abbrev pub IsIndexed : Form → Type 0
-IsIndexed (Table t) = map key_of t.value.keys.keys ≡ map (λ e. key_of e.0) t.value.rows.items
+IsIndexed (Table t) = t.value.keys ≡ map (λ e. key_of e.0) t.value.rows.items
 IsIndexed f = ⊤

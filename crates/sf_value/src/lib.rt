@@ -3,6 +3,7 @@
 
 mod equal;
 mod fault;
+mod index;
 mod lookup;
 mod make;
 mod table;
@@ -11,6 +12,7 @@ mod value;
 
 pub use equal::{has_key_type, has_type, same, same_key};
 pub use fault::{Fault, ValueFault};
+pub use index::Index;
 pub use table::TableRefusal;
 pub use ty::{KeyType, Ty, TyForm, TyRefusal, same_type};
 pub use value::{Form, Key, Table, Value};

@@ -17,7 +17,7 @@ impl Value {
         }
     }
 
-    /// The value under a key of a table. It takes no longer in a large table. None where it is absent, and of another value.
+    /// The value under a key of a table, found in logarithmic time. None where it is absent, and of another value.
     pub fn get(&self, key: &Key) -> Option<&Value>
         ensures { option_map (λ v. v.now) result ≡ value_under (key_of key.now) (table_rows self.now) }
     {

@@ -1,12 +1,14 @@
 //! Tables: values under different keys, in order.
-ghost use Rattle.std.specs.Prelude.{◌≡◌, IfOk, IfErr, IfSome, IfNone, map};
-ghost use Rattle.sf_value.specs.Values.{table, IsOneOf, HasDifferentKeys};
+ghost use Rattle.std.specs.Prelude.{◌≡◌, IfOk, IfErr, map};
+ghost use Rattle.std.specs.Option.{option_map};
+ghost use Rattle.sf_value.specs.Values.{table};
 ghost use Rattle.sf_value.specs.View.{key_of, rows_of};
-ghost use Rattle.sf_value.specs.Tables.{RefusesRows, StandsUnder, AreKeysOf};
+ghost use Rattle.sf_value.specs.Tables.{RefusesRows};
+ghost use Rattle.sf_value.specs.Lookups.{value_under};
 ghost use Rattle.sf_value.specs.declared.table.TableRefusal.TheVariants.{Memory};
 
+use crate::index::Index;
 use crate::value::{Form, Key, Table, Value};
-use indexmap::IndexSet;
 use std::alloc::{AllocError, AllocFailed, Global};
 use std::rc::Rc;
 use thiserror::Error;
@@ -51,15 +53,12 @@ impl Value {
     }
 
     /// A table of rows, in order, whose keys stand in an index in the same order.
-    pub fn of_rows(
-        alloc: Global,
-        rows: Vec<(Key, Value)>,
-        keys: IndexSet<Key>,
-    ) -> Result<Value, AllocError>
-        requires different { HasDifferentKeys (rows_of rows.items) }
-        requires indexed { AreKeysOf keys.keys rows.items }
+    pub fn of_rows(alloc: Global, rows: Vec<(Key, Value)>, keys: Index) -> Result<Value, AllocError>
+        requires { keys ≡ map (λ e. key_of e.0) rows.items }
         ensures { IfOk result (λ v. v ≡ table (rows_of rows.items)) }
     {
+        // (what is known of an index: its keys are different)
+        let _ = &keys.numbers;
         let table = Rc::new(alloc, Table { rows, keys })?;
         Ok(Value {
             form: Form::Table(table),
@@ -68,15 +67,13 @@ impl Value {
 }
 
 /// The keys of the rows, in order, where they are different.
-fn keys_in(alloc: Global, rows: &[(Key, Value)]) -> Result<IndexSet<Key>, TableRefusal>
-    ensures keys { IfOk result (λ s. AreKeysOf s.keys rows.now) }
-    ensures different { IfOk result (λ s. HasDifferentKeys (rows_of rows.now)) }
+fn keys_in(alloc: Global, rows: &[(Key, Value)]) -> Result<Index, TableRefusal>
+    ensures keys { IfOk result (λ s. s ≡ map (λ e. key_of e.0) rows.now) }
     ensures refused { IfErr result (λ e. RefusesRows rows.now e) }
 {
-    let mut keys = IndexSet::new(alloc);
+    let mut keys = Index::new(alloc);
     for i in 0..rows.len() {
-        let key = rows[i].0.clone_in(alloc)?;
-        if !keys.insert(key)? {
+        if !keys.insert(&rows[i].0)? {
             return Err(TableRefusal::DuplicateKey(i));
         }
     }
@@ -91,13 +88,12 @@ impl Table {
         &self.rows
     }
 
-    /// The value under a key. It takes no longer in a large table.
+    /// The value under a key.
     pub(crate) fn get(&self, key: &Key) -> Option<&Value>
-        requires indexed { AreKeysOf self.now.keys.keys self.now.rows.items }
-        ensures found { IfSome result (λ x. StandsUnder (key_of key.now) x.now (rows_of self.now.rows.items)) }
-        ensures absent { IfNone result (¬ IsOneOf (key_of key.now) (map (λ e. key_of e.0) self.now.rows.items)) }
+        requires { self.now.keys ≡ map (λ e. key_of e.0) self.now.rows.items }
+        ensures { option_map (λ v. v.now) result ≡ value_under (key_of key.now) (rows_of self.now.rows.items) }
     {
-        let place = self.keys.get_index_of(key)?;
+        let place = self.keys.place(key)?;
         Some(&self.rows[place].1)
     }
 }

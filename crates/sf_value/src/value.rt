@@ -1,5 +1,5 @@
 //! Values.
-use indexmap::IndexSet;
+use crate::index::Index;
 use std::marker::Model;
 use std::rc::Rc;
 
@@ -68,11 +68,10 @@ pub enum Form {
 pub struct Table {
     pub(crate) rows: Vec<(Key, Value)>,
     // the keys of the rows, in order
-    pub(crate) keys: IndexSet<Key>,
+    pub(crate) keys: Index,
 }
 
 /// A key of a table.
-#[derive(PartialEq, Eq, Hash)]
 pub enum Key {
     /// A whole number.
     Int(i64),

@@ -1,17 +1,23 @@
-use Rattle.std.proofs.Common.{sym, subst}
-use Rattle.sf_value.specs.Values.{IsOneOf}
-use Rattle.sf_value.specs.View.{key_of, rows_of}
-use Rattle.sf_value.specs.Tables.{StandsUnder}
-use Rattle.sf_value.proofs.Indexes.{compare, key_law, none_one, found_at, if_none}
+use Rattle.std.proofs.Common.{◌≡◌, ◌∙◌, ap, sym, length, Some, rules}
+use Rattle.std.specs.Option.{option_map}
+use Rattle.sf_value.specs.View.{key_of}
+use Rattle.sf_value.specs.Keys.{key_index}
+use Rattle.sf_value.proofs.Indexes.{some_place}
+use Rattle.sf_value.proofs.Under.{none_under, value_at_place, length_of_keys}
 use Rattle.sf_value.proofs.value.Table.get.Goals as goal
 
-pub returns-in_err-place-clause-absent : goal.returns-in_err-place-clause-absent
-returns-in_err-place-clause-absent c =
-    if_none c.from_residual.result _
-    (λ m. none_one (compare c.args.key.now) (key_of c.args.key.now) (key_law c.args.key.now) c.args.self.now.keys.keys (sym c.in_err-place.ensures.found)
-    (subst (λ ks. IsOneOf (key_of c.args.key.now) ks) (sym c.requires.indexed) m))
+pub returns-in_err-place : goal.returns-in_err-place
+returns-in_err-place c =
+    ap (option_map (λ v. v.now)) c.from_residual.ensures ∙ sym (none_under (key_of c.args.key.now) c.args.self.now.rows.items (ap (key_index (key_of c.args.key.now)) (sym c.requires) ∙ sym c.in_err-place.ensures))
 
-pub returns-clause-found : goal.returns-clause-found
-returns-clause-found c =
-    let found = found_at (compare c.args.key.now) (key_of c.args.key.now) (key_law c.args.key.now) c.args.self.now.keys.keys c.args.self.now.rows.items c.in_ok-place.place c.args.key.now c.index.result.now c.requires.indexed (sym c.in_ok-place.ensures.index) in
-    subst (λ e. StandsUnder (key_of c.args.key.now) e.1 (rows_of c.args.self.now.rows.items)) (sym c.index.ensures) found
+pub index-requires : goal.index-requires
+index-requires c =
+    let some : key_index (key_of c.args.key.now) c.args.self.now.keys ≡ Some c.in_ok-place.place = sym c.in_ok-place.ensures in
+    let below = some_place (key_of c.args.key.now) c.args.self.now.keys c.in_ok-place.place some in
+    let len : length c.args.self.now.keys ≡ length c.args.self.now.rows.items = ap length c.requires ∙ length_of_keys c.args.self.now.rows.items in
+    search rules
+
+pub returns : goal.returns
+returns c =
+    let some : key_index (key_of c.args.key.now) c.args.self.now.keys ≡ Some c.in_ok-place.place = sym c.in_ok-place.ensures in
+    ap (λ e. Some e.1) c.index.ensures ∙ sym (value_at_place (key_of c.args.key.now) c.args.self.now.rows.items c.in_ok-place.place _ (ap (key_index (key_of c.args.key.now)) (sym c.requires) ∙ some))
