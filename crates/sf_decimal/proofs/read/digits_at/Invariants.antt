@@ -1,9 +1,9 @@
-use Rattle.std.proofs.Common.{length}
-use Rattle.sf_decimal.proofs.Runs.{Keeps}
+use Rattle.std.proofs.Common.{◌-◌}
+use Rattle.sf_decimal.proofs.Runs.{ReadsShort}
 use Rattle.sf_decimal.proofs.read.digits_at.Given as goal
 
-abbrev pub invariant-loop-rest : goal.invariant-loop-rest
-invariant-loop-rest l = Keeps l.bytes l.number l.rest
+abbrev pub invariant-loop-len : goal.invariant-loop-len
+invariant-loop-len l = ReadsShort l.bytes l.number l.len l.end
 
-abbrev pub decreases-loop-rest : goal.decreases-loop-rest
-decreases-loop-rest l = length l.rest
+abbrev pub decreases-loop-len : goal.decreases-loop-len
+decreases-loop-len l = l.end - l.len
