@@ -7,13 +7,13 @@ use Rattle.sf_lines.specs.declared.cutter.Cutter.{Cutter}
 use Rattle.sf_lines.specs.declared.cutter.State.{State}
 use Rattle.sf_lines.specs.declared.cutter.State.TheVariants.{Unfinished, Complete, Refused}
 use Rattle.sf_lines.specs.declared.cutter.Cut.{Cut}
-use Rattle.sf_lines.specs.declared.cutter.Cut.TheVariants.{Line, Part}
+use Rattle.sf_lines.specs.declared.cutter.Cut.TheVariants.{Whole, Line, Part}
 use Rattle.sf_lines.specs.declared.refusal.LineRefusal.{LineRefusal}
 use Rattle.sf_lines.specs.declared.refusal.LineRefusal.TheVariants.{BadLine, LineTooLong, TooManyLines, NotStarted, Started, BadStep, BadValue, OutOfRange, DuplicateKey, NoSave, TooManySaves, Memory}
 use Rattle.std.specs.List.{onto_first}
 use Rattle.sf_lines.specs.Lines.{NoFeed, Splits, lines_of}
 use Rattle.sf_lines.specs.Limits.{limit_refusal, RefusesNext}
-use Rattle.sf_lines.specs.Cutting.{pending, line_of, lines_taken, refused_at, unfinished_at, complete_at, Grows, Completes, Passes, IsTooMany, CutRefused, CutsPiece, Ends}
+use Rattle.sf_lines.specs.Cutting.{pending, line_of, lines_taken, refused_at, unfinished_at, complete_at, Grows, Completes, FindsWhole, Passes, IsTooMany, CutRefused, CutsPiece, Ends}
 use Rattle.sf_lines.specs.Standing.{CutterStands, TakesPiece, TakesBytes, Finishes, FinishesBytes, CompletesLine}
 use Rattle.sf_lines.proofs.Splitting.{lines_of-splits, Splits-grow, Splits-line, first_long, lines_of-unfinished}
 
@@ -99,6 +99,17 @@ stands_completes old new stream lines piece used s k = record {
   accepts = ap refused_at k.state;
 }
 
+-- a whole line of the piece is the next one
+pub stands_whole : (old new : Cutter) (stream : List ℕ) (lines : List (List ℕ)) (piece line : List ℕ) → CutterStands old stream lines → FindsWhole old piece line new → CutterStands new (stream ++ take (length line + 1) piece) (lines ++ line ∷ [])
+stands_whole old new stream lines piece line s k = record {
+  splits = rw (k.taken, k.still) (subst (λ x. Splits (stream ++ (line ++ 10 ∷ [])) (lines ++ (x ++ line) ∷ []) []) k.none (Splits-line stream lines (pending old) line s.splits k.no_feed));
+  counted = simp length-append (omega (arith, s.counted, k.count));
+  few = simp length-append (omega (arith, s.counted, k.count, new.few));
+  short = All-push (λ line. length line ≤ 65536) lines line s.short k.short;
+  unfinished = λ some. absurd (some k.still);
+  accepts = ap refused_at k.state;
+}
+
 pub stands_grows : (old new : Cutter) (stream : List ℕ) (lines : List (List ℕ)) (piece : List ℕ) → CutterStands old stream lines → Grows old piece new → CutterStands new (stream ++ piece) lines
 stands_grows old new stream lines piece s k = record {
   splits = rw k.grown (Splits-grow stream lines (pending old) piece s.splits k.no_feed);
@@ -161,6 +172,7 @@ refuses_next old stream lines piece TooManySaves s k = absurd k
 refuses_next old stream lines piece Memory s k = absurd k
 
 pub takes_cut : (old new : Cutter) (stream : List ℕ) (lines : List (List ℕ)) (piece : List ℕ) (cut : Cut) → CutterStands old stream lines → CutsPiece old piece (Ok cut) new → TakesPiece stream lines piece (Ok cut) new
+takes_cut old new stream lines piece (Whole line) s k = stands_whole old new stream lines piece line.now s k
 takes_cut old new stream lines piece (Line used) s k = stands_completes old new stream lines piece used s k
 takes_cut old new stream lines piece Part s k = stands_grows old new stream lines piece s k
 
@@ -178,6 +190,7 @@ completes_size old new piece used k =
     )
 
 pub takes_bytes : (old new : Cutter) (piece : List ℕ) (cut : Cut) → CutsPiece old piece (Ok cut) new → TakesBytes old piece (Ok cut) new
+takes_bytes old new piece (Whole line) k = (k.within, record { none = k.none; still = k.still; short = k.short; counted = k.count })
 takes_bytes old new piece (Line used) k = completes_size old new piece used k
 takes_bytes old new piece Part k = record {
   none = no_line_at new k.state;
@@ -196,6 +209,7 @@ lines_of-end stream lines rest s =
     ap lines_of (sym (append-nil stream)) ∙ lines_of-splits stream lines rest [] s ∙ ap (λ x. lines ++ lines_of x) (append-nil rest)
 
 pub finishes_end : (old new : Cutter) (stream : List ℕ) (lines : List (List ℕ)) (cut : Cut) → CutterStands old stream lines → Ends old cut new → Finishes stream lines (Ok cut) new
+finishes_end old new stream lines (Whole line) s k = absurd k
 finishes_end old new stream lines (Line used) s k =
     let closes = k.1 in (
       lines_of-end stream lines (pending old) s.splits ∙ ap (λ x. lines ++ x) (one_line (pending old) s.splits.unfinished closes.some ∙ ap (λ x. x ∷ []) (sym closes.line)),
@@ -221,6 +235,7 @@ finishes_end old new stream lines Part s k = (
 )
 
 pub finishes_bytes : (old new : Cutter) (cut : Cut) → Ends old cut new → FinishesBytes old (Ok cut) new
+finishes_bytes old new (Whole line) k = absurd k
 finishes_bytes old new (Line used) k =
     let closes = k.1 in (
       k.0,

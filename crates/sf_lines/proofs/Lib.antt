@@ -1,3 +1,4 @@
+pub mod Feeds
 pub mod Splitting
 pub mod CutterSteps
 pub mod Forms

@@ -4,7 +4,7 @@ use Rattle.sf_lines.specs.declared.cutter.Cutter.{Cutter}
 use Rattle.sf_lines.specs.declared.cutter.State.{State}
 use Rattle.sf_lines.specs.declared.cutter.State.TheVariants.{Unfinished, Complete, Refused}
 use Rattle.sf_lines.specs.declared.cutter.Cut.{Cut}
-use Rattle.sf_lines.specs.declared.cutter.Cut.TheVariants.{Line, Part}
+use Rattle.sf_lines.specs.declared.cutter.Cut.TheVariants.{Whole, Line, Part}
 use Rattle.sf_lines.specs.declared.refusal.LineRefusal.{LineRefusal}
 use Rattle.sf_lines.specs.declared.refusal.LineRefusal.TheVariants.{BadLine, LineTooLong, TooManyLines, NotStarted, Started, BadStep, BadValue, OutOfRange, DuplicateKey, NoSave, TooManySaves, Memory}
 use Rattle.sf_lines.specs.Lines.{NoFeed}
@@ -31,6 +31,12 @@ pending c = unfinished_at c.state c.held.items
 -- the complete line, or nothing
 abbrev pub line_of : Cutter → List ℕ
 line_of c = complete_at c.state c.held.items
+
+-- the line that was completed: in the piece, or held
+abbrev pub line_cut : Cutter → Cut → List ℕ
+line_cut c (Whole line) = line.now
+line_cut c (Line used) = line_of c
+line_cut c Part = []
 
 -- how many lines were completed
 abbrev pub lines_taken : Cutter → ℕ
@@ -66,6 +72,17 @@ pub record Completes (old : Cutter) (piece : List ℕ) (used : ℕ) (new : Cutte
   pub count : lines_taken new ≡ lines_taken old + 1
   pub state : new.state ≡ Complete
 
+-- the piece begins with a whole line, and nothing is held
+pub record FindsWhole (old : Cutter) (piece line : List ℕ) (new : Cutter) : Type 0 where
+  pub none : pending old ≡ []
+  pub taken : take (length line + 1) piece ≡ line ++ (10 ∷ [])
+  pub within : length line < length piece
+  pub no_feed : NoFeed line
+  pub short : length line ≤ 65536
+  pub still : pending new ≡ []
+  pub count : lines_taken new ≡ lines_taken old + 1
+  pub state : new.state ≡ Unfinished
+
 -- with so many bytes of the piece the unfinished line passes 65,536 bytes
 pub record Passes (old : Cutter) (piece : List ℕ) : Type 0 where
   pub some : ℕ
@@ -92,6 +109,7 @@ CutRefused old piece TooManySaves = ⊥
 CutRefused old piece Memory = ⊥
 
 abbrev pub CutsPiece : Cutter → List ℕ → Result Cut LineRefusal → Cutter → Type 0
+CutsPiece old piece (Ok (Whole line)) new = FindsWhole old piece line.now new
 CutsPiece old piece (Ok (Line used)) new = Completes old piece used new
 CutsPiece old piece (Ok Part) new = Grows old piece new
 CutsPiece old piece (Err r) new = CutRefused old piece r
@@ -110,5 +128,6 @@ pub record Rests (old : Cutter) (new : Cutter) : Type 0 where
   pub state : new.state ≡ Unfinished
 
 abbrev pub Ends : Cutter → Cut → Cutter → Type 0
+Ends old (Whole line) new = ⊥
 Ends old (Line used) new = (used ≡ 0) × Closes old new
 Ends old Part new = Rests old new

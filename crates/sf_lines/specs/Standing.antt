@@ -2,7 +2,7 @@
 use Rattle.std.specs.Prelude.{◌≡◌, ◌≢◌, ℕ, ◌+◌, ◌≤◌, ◌<◌, List, [], ◌∷◌, ◌++◌, length, take, All, None, Result, Ok, Err}
 use Rattle.sf_lines.specs.declared.cutter.Cutter.{Cutter}
 use Rattle.sf_lines.specs.declared.cutter.Cut.{Cut}
-use Rattle.sf_lines.specs.declared.cutter.Cut.TheVariants.{Line, Part}
+use Rattle.sf_lines.specs.declared.cutter.Cut.TheVariants.{Whole, Line, Part}
 use Rattle.sf_lines.specs.declared.refusal.LineRefusal.{LineRefusal}
 use Rattle.sf_lines.specs.Lines.{Splits, lines_of}
 use Rattle.sf_lines.specs.Limits.{limit_refusal, RefusesNext}
@@ -20,12 +20,14 @@ pub record CutterStands (c : Cutter) (stream : List ℕ) (lines : List (List ℕ
 
 -- what a piece gives behind a stream of these lines
 abbrev pub TakesPiece : List ℕ → List (List ℕ) → List ℕ → Result Cut LineRefusal → Cutter → Type 0
+TakesPiece stream lines piece (Ok (Whole line)) new = CutterStands new (stream ++ take (length line.now + 1) piece) (lines ++ line.now ∷ [])
 TakesPiece stream lines piece (Ok (Line used)) new = CutterStands new (stream ++ take used piece) (lines ++ line_of new ∷ [])
 TakesPiece stream lines piece (Ok Part) new = CutterStands new (stream ++ piece) lines
 TakesPiece stream lines piece (Err r) new = RefusesNext (stream ++ piece) lines r
 
 -- what the end gives behind a stream of these lines: unfinished bytes are then a line, as if a line feed followed
 abbrev pub Finishes : List ℕ → List (List ℕ) → Result Cut LineRefusal → Cutter → Type 0
+Finishes stream lines (Ok (Whole line)) new = ⊥
 Finishes stream lines (Ok (Line used)) new = (lines_of stream ≡ lines ++ line_of new ∷ []) × CutterStands new (stream ++ 10 ∷ []) (lines ++ line_of new ∷ [])
 Finishes stream lines (Ok Part) new = (lines_of stream ≡ lines) × CutterStands new stream lines
 Finishes stream lines (Err r) new = ⊥
@@ -36,6 +38,13 @@ pub record CompletesLine (old : Cutter) (used : ℕ) (new : Cutter) : Type 0 whe
   pub fresh : pending new ≡ []
   pub counted : lines_taken new ≡ lines_taken old + 1
 
+-- a line is complete that is not held
+pub record PassesLine (old : Cutter) (line : List ℕ) (new : Cutter) : Type 0 where
+  pub none : pending old ≡ []
+  pub still : pending new ≡ []
+  pub short : length line ≤ 65536
+  pub counted : lines_taken new ≡ lines_taken old + 1
+
 -- no line is complete, and so many bytes came to the unfinished one
 pub record GrowsBy (old : Cutter) (size : ℕ) (new : Cutter) : Type 0 where
   pub none : line_of new ≡ []
@@ -44,12 +53,14 @@ pub record GrowsBy (old : Cutter) (size : ℕ) (new : Cutter) : Type 0 where
 
 -- how far a piece brings a cutter
 abbrev pub TakesBytes : Cutter → List ℕ → Result Cut LineRefusal → Cutter → Type 0
+TakesBytes old piece (Ok (Whole line)) new = (length line.now < length piece) × PassesLine old line.now new
 TakesBytes old piece (Ok (Line used)) new = (0 < used) × (used ≤ length piece) × CompletesLine old used new
 TakesBytes old piece (Ok Part) new = GrowsBy old (length piece) new
 TakesBytes old piece (Err r) new = line_of new ≡ []
 
 -- how far the end brings it
 abbrev pub FinishesBytes : Cutter → Result Cut LineRefusal → Cutter → Type 0
+FinishesBytes old (Ok (Whole line)) new = ⊥
 FinishesBytes old (Ok (Line used)) new = (used ≡ 0) × CompletesLine old 1 new
 FinishesBytes old (Ok Part) new = (pending old ≡ []) × GrowsBy old 0 new
 FinishesBytes old (Err r) new = line_of new ≡ []

@@ -4,12 +4,15 @@ ghost use Rattle.sf_lines.specs.Lines.{NoFeed, FirstFeed};
 ghost use Rattle.sf_lines.specs.declared.cutter.State.TheVariants.{Unfinished};
 
 use crate::refusal::LineRefusal;
+use memchr::memchr;
 use std::alloc::{AllocError, Global};
 
 /// What came of a piece of the stream.
 #[derive(Clone, Copy, Debug, PartialEq, Eq)]
-pub enum Cut {
-    /// A line is complete, behind this many bytes of the piece.
+pub enum Cut<'a> {
+    /// The piece begins with this line, whose line feed follows. The cutter holds nothing of it.
+    Whole(&'a [u8]),
+    /// The line that the cutter holds is complete, behind this many bytes of the piece.
     Line(usize),
     /// The piece is used up.
     Part,
@@ -39,7 +42,7 @@ pub struct Cutter {
 }
 
 impl Cutter {
-    ghost use Rattle.sf_lines.specs.Cutting.{line_of, stopped_by, IsStoppedBy, IsBegun, CutsPiece, Ends};
+    ghost use Rattle.sf_lines.specs.Cutting.{line_of, line_cut, stopped_by, IsStoppedBy, IsBegun, CutsPiece, Ends};
     ghost use Rattle.sf_lines.specs.Standing.{CutterStands, TakesPiece, TakesBytes, Finishes, FinishesBytes};
 
     /// A cutter at the beginning of a stream, with room for a line.
@@ -56,9 +59,10 @@ impl Cutter {
 
     /// Takes the bytes of a piece up to and with its first line feed, or all where it has none. It takes no memory.
     ///
+    /// A line that stands whole in the piece is handed out as it stands there. Of any other line the bytes are held.
     /// `TooManyLines` comes at the first byte of line 1,000,001, and else `LineTooLong` at the 65,537th byte of a
     /// line. After a refusal each later call answers it again.
-    pub fn take(&mut self, piece: &[u8]) -> Result<Cut, LineRefusal>
+    pub fn take<'a>(&mut self, piece: &'a [u8]) -> Result<Cut<'a>, LineRefusal>
         // Whatever stream the cutter stands for, the bytes follow it.
         ensures cuts { (stream : List ℕ) (lines : List (List ℕ)) →
             CutterStands self.old stream lines → TakesPiece stream lines piece.now result self.new }
@@ -81,7 +85,7 @@ impl Cutter {
     /// Completes an unfinished line at the end of the stream: `Line(0)` where bytes of one are held, else `Part`.
     ///
     /// It takes no memory. A later `take` begins the next line. After a refusal each later call answers it again.
-    pub fn finish(&mut self) -> Result<Cut, LineRefusal>
+    pub fn finish(&mut self) -> Result<Cut<'static>, LineRefusal>
         ensures ends { (stream : List ℕ) (lines : List (List ℕ)) →
             CutterStands self.old stream lines → Finishes stream lines result self.new }
         ensures sizes { FinishesBytes self.old result self.new }
@@ -94,8 +98,19 @@ impl Cutter {
         Ok(self.end())
     }
 
-    /// The complete line without its line feed; nothing where none is complete.
-    pub fn line(&self) -> &[u8]
+    /// The line that a call of `take` or `finish` completed by this answer, without its line feed; nothing where it
+    /// completed none.
+    pub fn line<'a>(&'a self, cut: Cut<'a>) -> &'a [u8]
+        ensures { result.now ≡ line_cut self.now cut.entry }
+    {
+        match cut {
+            Cut::Whole(line) => line,
+            Cut::Line(_) => self.held_line(),
+            Cut::Part => &[],
+        }
+    }
+
+    fn held_line(&self) -> &[u8]
         ensures { result.now ≡ line_of self.now }
     {
         match self.state {
@@ -104,7 +119,7 @@ impl Cutter {
         }
     }
 
-    fn cut(&mut self, piece: &[u8]) -> Result<Cut, LineRefusal>
+    fn cut<'a>(&mut self, piece: &'a [u8]) -> Result<Cut<'a>, LineRefusal>
         requires { stopped_by self.old ≡ None }
         ensures { CutsPiece self.old piece.now result self.new }
     {
@@ -119,6 +134,10 @@ impl Cutter {
             Some(at) => {
                 if self.room() < at {
                     return Err(LineRefusal::LineTooLong);
+                }
+                if self.held.is_empty() {
+                    self.count += 1;
+                    return Ok(Cut::Whole(&piece[..at]));
                 }
                 self.hold(&piece[..at]);
                 self.count += 1;
@@ -135,7 +154,7 @@ impl Cutter {
         }
     }
 
-    fn end(&mut self) -> Cut
+    fn end(&mut self) -> Cut<'static>
         requires { stopped_by self.old ≡ None }
         ensures { Ends self.old result self.new }
     {
@@ -179,5 +198,5 @@ impl Cutter {
 fn feed_in(piece: &[u8]) -> Option<usize>
     ensures { MatchOption result (NoFeed piece.now) (FirstFeed piece.now) }
 {
-    piece.iter().position(|b| *b == b'\n')
+    memchr(b'\n', piece)
 }

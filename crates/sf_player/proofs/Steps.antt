@@ -9,7 +9,7 @@ use Rattle.sf_engine.specs.Running.{Runs}
 use Rattle.sf_lines.specs.Lines.{lines_of}
 use Rattle.sf_lines.specs.Limits.{limit_refusal, RefusesNext}
 use Rattle.sf_lines.specs.Cutting.{pending, line_of}
-use Rattle.sf_lines.specs.Standing.{CutterStands, CompletesLine, GrowsBy}
+use Rattle.sf_lines.specs.Standing.{CutterStands, CompletesLine, PassesLine, GrowsBy}
 use Rattle.sf_lines.specs.Written.{refusal_line}
 use Rattle.sf_lines.specs.declared.cutter.Cutter.{Cutter}
 use Rattle.sf_lines.specs.declared.refusal.LineRefusal.{LineRefusal}
@@ -53,6 +53,14 @@ line_within {c = c} P done =
     let counted = P.stands.counted in
     let more = done.counted in
     limit_refusal-none P.now.taken (line_of c) (let few = lines_taken-few c in omega arith) (line_of-short c)
+
+-- and so is one that stands whole in its piece
+pub whole_within : {F : Type 0} {H : _} {probes : Bool} {n : Network} {m : Template} {read written : List ℕ} {p : Player F H} {c : Cutter} (line : List ℕ) → (P : Played probes n m read written p) → PassesLine p.cutter line c → limit_refusal P.now.taken line ≡ None
+whole_within {c = c} line P done =
+    let taken = LeadsTo-taken P.reaches in
+    let counted = P.stands.counted in
+    let more = done.counted in
+    limit_refusal-none P.now.taken line (let few = lines_taken-few c in omega arith) done.short
 
 -- a line that goes on
 pub plays_line : {F : Type 0} {H : _} {probes : Bool} {n : Network} {m : Template} {read written line : List ℕ} {p mid new : Player F H} (bytes : List ℕ) (P : Played probes n m read written p) → CutterStands mid.cutter (read ++ bytes) (P.lines ++ line ∷ []) → PlaysOn n m P.now line mid new → mid.out.items ≡ p.out.items → Played probes n m (read ++ bytes) written new
@@ -127,6 +135,14 @@ line_further {mid = mid} {used = used} piece done within same =
     let short = line_of-short mid in
     let none : length (pending mid) ≡ 0 = ap length done.fresh in
     rw same (rw (length-take-le used piece within) (omega arith))
+
+pub whole_further : {old mid new : Cutter} (piece line : List ℕ) → PassesLine old line mid → length line < length piece → new ≡ mid → weight old + length (take (length line + 1) piece) ≤ weight new
+whole_further {old = old} {mid = mid} piece line done within same =
+    let counted = done.counted in
+    let short = done.short in
+    let before : length (pending old) ≡ 0 = ap length done.none in
+    let none : length (pending mid) ≡ 0 = ap length done.still in
+    rw same (rw (length-take-le (length line + 1) piece (omega arith)) (omega arith))
 
 -- how far bytes of an unfinished line bring it
 pub part_further : {old new : Cutter} (piece : List ℕ) → GrowsBy old (length piece) new → weight old + length piece ≤ weight new

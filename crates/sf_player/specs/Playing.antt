@@ -13,10 +13,11 @@ use Rattle.sf_engine.specs.Running.{Runs}
 use Rattle.sf_engine.specs.Sampling.{IsTooLarge}
 use Rattle.sf_lines.specs.Lines.{lines_of}
 use Rattle.sf_lines.specs.Limits.{limit_refusal}
-use Rattle.sf_lines.specs.Cutting.{pending, line_of, lines_taken}
+use Rattle.sf_lines.specs.Cutting.{pending, line_cut, lines_taken}
 use Rattle.sf_lines.specs.Standing.{CutterStands}
 use Rattle.sf_lines.specs.Asking.{Asked, HasTimelyValue}
 use Rattle.sf_lines.specs.Written.{fault_line, refusal_line}
+use Rattle.sf_lines.specs.declared.cutter.Cut.{Cut}
 use Rattle.sf_lines.specs.declared.cutter.Cutter.{Cutter}
 use Rattle.sf_lines.specs.declared.refusal.LineRefusal.{LineRefusal}
 use Rattle.sf_lines.specs.declared.refusal.LineRefusal.TheVariants.{NoSave as NoSaveRefusal, TooManySaves as TooManySavesRefusal, Memory as MemoryRefusal}
@@ -147,13 +148,13 @@ module _ {F : Type 0} {H : _} where
     pub written : List ℕ
     pub played : Played probes n m read written p
 
-  -- A player is at a moment, and its cutter has a line within the limits.
-  pub record AwaitsLine (p : Player F H) : Type 0 where
+  -- A player is at a moment, and its cutter completed a line within the limits.
+  pub record AwaitsLine (p : Player F H) (cut : Cut) : Type 0 where
     pub n : Network
     pub m : Template
     pub now : Moment
     pub at : IsAt n m p now
-    pub within : limit_refusal now.taken (line_of p.cutter) ≡ None
+    pub within : limit_refusal now.taken (line_cut p.cutter cut) ≡ None
 
   -- Nothing is gathered any more, and all else is as it was.
   pub record IsCleared (old new : Player F H) : Type 0 where

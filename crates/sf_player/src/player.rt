@@ -32,7 +32,7 @@ impl<F: Holds + Drop> Player<F> {
     ghost use Rattle.sf_engine.specs.Running.{Runs};
     ghost use Rattle.sf_engine.specs.Sampling.{Sampled};
     ghost use Rattle.sf_lines.specs.Asking.{Asked};
-    ghost use Rattle.sf_lines.specs.Cutting.{line_of};
+    ghost use Rattle.sf_lines.specs.Cutting.{line_cut};
     ghost use Rattle.sf_player.specs.Scripts.{Moment, life_after, IsSample, Asks};
     ghost use Rattle.sf_player.specs.Counting.{inner_of, failures_of, MayCountWrites};
     ghost use Rattle.sf_player.specs.Playing.{SavesLastAtMost, IsAt, AwaitsLine, PlaysLine, Played, IsPlaying, PlaysPart, Feeds, EndsInput, WritesOut};
@@ -81,9 +81,9 @@ impl<F: Holds + Drop> Player<F> {
             → Played probes n m read written self.old → EndsInput probes n m read written result self.new }
     {
         match self.cutter.finish() {
-            Ok(Cut::Line(_)) => self.play_line(),
+            Ok(Cut::Line(used)) => self.play_line(Cut::Line(used)),
             Ok(Cut::Part) => None,
-            Err(_) => unreachable!(),
+            Ok(Cut::Whole(_)) | Err(_) => unreachable!(),
         }
     }
 
@@ -97,7 +97,11 @@ impl<F: Holds + Drop> Player<F> {
             → PlaysPart probes n m read written self.old piece.now result self.new }
     {
         match self.cutter.take(piece) {
-            Ok(Cut::Line(used)) => match self.play_line() {
+            Ok(Cut::Whole(line)) => match self.play_line(Cut::Whole(line)) {
+                None => Ok(line.len() + 1),
+                Some(stop) => Err(stop),
+            },
+            Ok(Cut::Line(used)) => match self.play_line(Cut::Line(used)) {
                 None => Ok(used),
                 Some(stop) => Err(stop),
             },
@@ -106,15 +110,16 @@ impl<F: Holds + Drop> Player<F> {
         }
     }
 
-    /// Plays the cutter's complete line.
+    /// Plays the line that the cutter completed.
     #[inline(always)]
-    fn play_line(&mut self) -> Option<Stop>
-        requires { AwaitsLine self.old }
+    fn play_line(&mut self, cut: Cut<'_>) -> Option<Stop>
+        requires { AwaitsLine self.old cut }
         ensures { (n : Network) (m : Template) (now : Moment) → IsAt n m self.old now
-            → PlaysLine n m now (line_of self.old.cutter) self.old result self.new }
+            → PlaysLine n m now (line_cut self.old.cutter cut.entry) self.old result self.new }
     {
         let started = self.engine.is_started();
-        match read_line(self.alloc, self.cutter.line(), started, self.engine.input()) {
+        let line = self.cutter.line(cut);
+        match read_line(self.alloc, line, started, self.engine.input()) {
             Ok(Command::Nothing) => {
                 self.taken += 1;
                 None

@@ -1,5 +1,5 @@
 use Rattle.std.proofs.Common.{◌≡◌, ◌≤◌, ◌*◌, None, refl, sym, ap, ◌∙◌, arith, subst}
-use Rattle.sf_lines.specs.Cutting.{line_of}
+use Rattle.sf_lines.specs.Cutting.{line_cut}
 use Rattle.sf_lines.specs.Limits.{limit_refusal}
 use Rattle.sf_lines.specs.Asking.{start, advance}
 use Rattle.sf_player.proofs.Asked.{has_begun-is, asks, advance_asked, save_asked, back_asked, begun}
@@ -34,37 +34,37 @@ next_sample-sampled-requires g c =
 
 pub returns-in-Ok-Nothing : goal.returns-in-Ok-Nothing
 returns-in-Ok-Nothing g c = λ n m now at.
-    let within : limit_refusal now.taken (line_of c.args.self.now.cutter) ≡ None = ap (λ k. limit_refusal k (line_of c.args.self.now.cutter)) (sym at.taken ∙ c.requires.at.taken) ∙ c.requires.within in
+    let within : limit_refusal now.taken (line_cut c.args.self.now.cutter c.args.cut) ≡ None = ap (λ k. limit_refusal k (line_cut c.args.self.now.cutter c.args.cut)) (sym at.taken ∙ c.requires.at.taken) ∙ c.requires.within in
     let started = has_begun-is _ _ (c.is_started-started.ensures.history n m now.lived now.saved at.runs) in
     let says = rw c.line.ensures at (rw c.in-Ok-Nothing.field-0-is at c.in-Ok-Nothing.ensures.ok) in
-    nothing_said (asks (line_of c.args.self.now.cutter) _ _ within started (c.input.ensures n m now.lived now.saved at.runs) says) at refl refl refl refl refl
+    nothing_said (asks (line_cut c.args.self.now.cutter c.args.cut) _ _ within started (c.input.ensures n m now.lived now.saved at.runs) says) at refl refl refl refl refl
 
 pub returns-in-Ok-Start : goal.returns-in-Ok-Start
 returns-in-Ok-Start g c = λ n m now at.
-    let within : limit_refusal now.taken (line_of c.args.self.now.cutter) ≡ None = ap (λ k. limit_refusal k (line_of c.args.self.now.cutter)) (sym at.taken ∙ c.requires.at.taken) ∙ c.requires.within in
+    let within : limit_refusal now.taken (line_cut c.args.self.now.cutter c.args.cut) ≡ None = ap (λ k. limit_refusal k (line_cut c.args.self.now.cutter c.args.cut)) (sym at.taken ∙ c.requires.at.taken) ∙ c.requires.within in
     let started = has_begun-is _ _ (c.is_started-started.ensures.history n m now.lived now.saved at.runs) in
     let says = rw c.line.ensures at (rw c.in-Ok-Start.field-0-is at c.in-Ok-Start.ensures.ok) in
     let sampled = starts_at at.runs started says (c.first_sample-sampled.ensures n m now.saved) in
-    same_answers n m now (line_of c.args.self.now.cutter) _ c.args.self.now c.say.result c.say.new.self refl refl
-    (c.say.ensures n m now (line_of c.args.self.now.cutter) (start c.in-Ok-Start.value) (asks (line_of c.args.self.now.cutter) _ _ within started (c.input.ensures n m now.lived now.saved at.runs) says) tt sampled refl (omega arith) at.slow_saves at.taken at.probes)
+    same_answers n m now (line_cut c.args.self.now.cutter c.args.cut) _ c.args.self.now c.say.result c.say.new.self refl refl
+    (c.say.ensures n m now (line_cut c.args.self.now.cutter c.args.cut) (start c.in-Ok-Start.value) (asks (line_cut c.args.self.now.cutter c.args.cut) _ _ within started (c.input.ensures n m now.lived now.saved at.runs) says) tt sampled refl (omega arith) at.slow_saves at.taken at.probes)
 
 pub returns-in-Ok-Step : goal.returns-in-Ok-Step
 returns-in-Ok-Step g c = λ n m now at.
-    let within : limit_refusal now.taken (line_of c.args.self.now.cutter) ≡ None = ap (λ k. limit_refusal k (line_of c.args.self.now.cutter)) (sym at.taken ∙ c.requires.at.taken) ∙ c.requires.within in
+    let within : limit_refusal now.taken (line_cut c.args.self.now.cutter c.args.cut) ≡ None = ap (λ k. limit_refusal k (line_cut c.args.self.now.cutter c.args.cut)) (sym at.taken ∙ c.requires.at.taken) ∙ c.requires.within in
     let started = has_begun-is _ _ (c.is_started-started.ensures.history n m now.lived now.saved at.runs) in
     let says = rw c.line.ensures at (rw c.in-Ok-Step.field-0-is at c.in-Ok-Step.ensures.ok) in
     let same = c.time.ensures n m now.lived now.saved at.runs in
     let asked = advance_asked says refl in
     let slow = slow_step c.time.result c.in-Ok-Step.dt now.taken asked.short (subst (λ t. t ≤ 3600000 * now.taken) (sym same) at.slow) in
-    same_answers n m now (line_of c.args.self.now.cutter) _ c.args.self.now c.say-in-Ok-Step.result c.say-in-Ok-Step.new.self refl refl
-    (c.say-in-Ok-Step.ensures n m now (line_of c.args.self.now.cutter) (advance c.in-Ok-Step.dt c.in-Ok-Step.input) (asks (line_of c.args.self.now.cutter) _ _ within started (c.input.ensures n m now.lived now.saved at.runs) says) tt (c.next_sample-sampled.ensures n m now.lived now.saved at.runs) (time_at now.lived started same says) slow at.slow_saves at.taken at.probes)
+    same_answers n m now (line_cut c.args.self.now.cutter c.args.cut) _ c.args.self.now c.say-in-Ok-Step.result c.say-in-Ok-Step.new.self refl refl
+    (c.say-in-Ok-Step.ensures n m now (line_cut c.args.self.now.cutter c.args.cut) (advance c.in-Ok-Step.dt c.in-Ok-Step.input) (asks (line_cut c.args.self.now.cutter c.args.cut) _ _ within started (c.input.ensures n m now.lived now.saved at.runs) says) tt (c.next_sample-sampled.ensures n m now.lived now.saved at.runs) (time_at now.lived started same says) slow at.slow_saves at.taken at.probes)
 
 pub returns-in-Err : goal.returns-in-Err
 returns-in-Err g c = λ n m now at.
-    let within : limit_refusal now.taken (line_of c.args.self.now.cutter) ≡ None = ap (λ k. limit_refusal k (line_of c.args.self.now.cutter)) (sym at.taken ∙ c.requires.at.taken) ∙ c.requires.within in
+    let within : limit_refusal now.taken (line_cut c.args.self.now.cutter c.args.cut) ≡ None = ap (λ k. limit_refusal k (line_cut c.args.self.now.cutter c.args.cut)) (sym at.taken ∙ c.requires.at.taken) ∙ c.requires.within in
     let started = has_begun-is _ _ (c.is_started-started.ensures.history n m now.lived now.saved at.runs) in
     record {
-      halts = rw c.refuse-in-Err.ensures (refusal_said (line_of c.args.self.now.cutter) _ _ c.args.self.now c.in-Err.refusal (c.input.ensures n m now.lived now.saved at.runs) at.taken within started (rw c.line.ensures at c.in-Err.ensures.refused) (rw c.line.ensures at c.in-Err.ensures.memory));
+      halts = rw c.refuse-in-Err.ensures (refusal_said (line_cut c.args.self.now.cutter c.args.cut) _ _ c.args.self.now c.in-Err.refusal (c.input.ensures n m now.lived now.saved at.runs) at.taken within started (rw c.line.ensures at c.in-Err.ensures.refused) (rw c.line.ensures at c.in-Err.ensures.memory));
       said = refl;
     }
 
@@ -77,21 +77,21 @@ refusal_of-requires g c =
 
 pub returns-in-Ok : goal.returns-in-Ok
 returns-in-Ok g c = λ n m now at.
-    let within : limit_refusal now.taken (line_of c.args.self.now.cutter) ≡ None = ap (λ k. limit_refusal k (line_of c.args.self.now.cutter)) (sym at.taken ∙ c.requires.at.taken) ∙ c.requires.within in
+    let within : limit_refusal now.taken (line_cut c.args.self.now.cutter c.args.cut) ≡ None = ap (λ k. limit_refusal k (line_cut c.args.self.now.cutter c.args.cut)) (sym at.taken ∙ c.requires.at.taken) ∙ c.requires.within in
     let started = has_begun-is _ _ (c.is_started-started.ensures.history n m now.lived now.saved at.runs) in
     let says = rw c.line.ensures at (rw c.in-Ok-Save.field-0-is at c.in-Ok-Save.ensures.ok) in
-    save_goes_on (line_of c.args.self.now.cutter) c.save.result (asks (line_of c.args.self.now.cutter) _ _ within started (c.input.ensures n m now.lived now.saved at.runs) says) at
+    save_goes_on (line_cut c.args.self.now.cutter c.args.cut) c.save.result (asks (line_cut c.args.self.now.cutter c.args.cut) _ _ within started (c.input.ensures n m now.lived now.saved at.runs) says) at
     (c.save.ensures.running n m now.lived now.saved at.runs) c.in-Ok.is (record { engine = refl; cutter = refl; count = refl; out = refl; probes = refl })
 
 pub returns-in-Err-save : goal.returns-in-Err-save
 returns-in-Err-save g c = λ n m now at.
-    let within : limit_refusal now.taken (line_of c.args.self.now.cutter) ≡ None = ap (λ k. limit_refusal k (line_of c.args.self.now.cutter)) (sym at.taken ∙ c.requires.at.taken) ∙ c.requires.within in
+    let within : limit_refusal now.taken (line_cut c.args.self.now.cutter c.args.cut) ≡ None = ap (λ k. limit_refusal k (line_cut c.args.self.now.cutter c.args.cut)) (sym at.taken ∙ c.requires.at.taken) ∙ c.requires.within in
     let started = has_begun-is _ _ (c.is_started-started.ensures.history n m now.lived now.saved at.runs) in
     let says = rw c.line.ensures at (rw c.in-Ok-Save.field-0-is at c.in-Ok-Save.ensures.ok) in
-    let asked = asks (line_of c.args.self.now.cutter) _ _ within started (c.input.ensures n m now.lived now.saved at.runs) says in
+    let asked = asks (line_cut c.args.self.now.cutter c.args.cut) _ _ within started (c.input.ensures n m now.lived now.saved at.runs) says in
     let some = begun _ now.lived started (save_asked says refl) in
     record {
-      halts = rw c.refuse.ensures (stops_at c.refusal_of.result c.args.self.now (save_halts (line_of c.args.self.now.cutter) c.save.result asked some (c.save.ensures.running n m now.lived now.saved at.runs) c.in-Err-save.is c.refusal_of.ensures) at.taken);
+      halts = rw c.refuse.ensures (stops_at c.refusal_of.result c.args.self.now (save_halts (line_cut c.args.self.now.cutter c.args.cut) c.save.result asked some (c.save.ensures.running n m now.lived now.saved at.runs) c.in-Err-save.is c.refusal_of.ensures) at.taken);
       said = refl;
     }
 
@@ -104,20 +104,20 @@ refusal_of-requires-in-Err-back g c =
 
 pub returns-in-Ok-back : goal.returns-in-Ok-back
 returns-in-Ok-back g c = λ n m now at.
-    let within : limit_refusal now.taken (line_of c.args.self.now.cutter) ≡ None = ap (λ k. limit_refusal k (line_of c.args.self.now.cutter)) (sym at.taken ∙ c.requires.at.taken) ∙ c.requires.within in
+    let within : limit_refusal now.taken (line_cut c.args.self.now.cutter c.args.cut) ≡ None = ap (λ k. limit_refusal k (line_cut c.args.self.now.cutter c.args.cut)) (sym at.taken ∙ c.requires.at.taken) ∙ c.requires.within in
     let started = has_begun-is _ _ (c.is_started-started.ensures.history n m now.lived now.saved at.runs) in
     let says = rw c.line.ensures at (rw c.in-Ok-Back.field-0-is at c.in-Ok-Back.ensures.ok) in
-    back_goes_on (line_of c.args.self.now.cutter) c.back.result (asks (line_of c.args.self.now.cutter) _ _ within started (c.input.ensures n m now.lived now.saved at.runs) says) at
+    back_goes_on (line_cut c.args.self.now.cutter c.args.cut) c.back.result (asks (line_cut c.args.self.now.cutter c.args.cut) _ _ within started (c.input.ensures n m now.lived now.saved at.runs) says) at
     (c.back.ensures.running n m now.lived now.saved at.runs) c.in-Ok-back.is (record { engine = refl; cutter = refl; count = refl; out = refl; probes = refl })
 
 pub returns-in-Err-back : goal.returns-in-Err-back
 returns-in-Err-back g c = λ n m now at.
-    let within : limit_refusal now.taken (line_of c.args.self.now.cutter) ≡ None = ap (λ k. limit_refusal k (line_of c.args.self.now.cutter)) (sym at.taken ∙ c.requires.at.taken) ∙ c.requires.within in
+    let within : limit_refusal now.taken (line_cut c.args.self.now.cutter c.args.cut) ≡ None = ap (λ k. limit_refusal k (line_cut c.args.self.now.cutter c.args.cut)) (sym at.taken ∙ c.requires.at.taken) ∙ c.requires.within in
     let started = has_begun-is _ _ (c.is_started-started.ensures.history n m now.lived now.saved at.runs) in
     let says = rw c.line.ensures at (rw c.in-Ok-Back.field-0-is at c.in-Ok-Back.ensures.ok) in
-    let asked = asks (line_of c.args.self.now.cutter) _ _ within started (c.input.ensures n m now.lived now.saved at.runs) says in
+    let asked = asks (line_cut c.args.self.now.cutter c.args.cut) _ _ within started (c.input.ensures n m now.lived now.saved at.runs) says in
     let some = begun _ now.lived started (back_asked says refl) in
     record {
-      halts = rw c.refuse-in-Err-back.ensures (stops_at c.refusal_of-in-Err-back.result c.args.self.now (back_halts (line_of c.args.self.now.cutter) c.back.result asked some (c.back.ensures.running n m now.lived now.saved at.runs) c.in-Err-back.is c.refusal_of-in-Err-back.ensures) at.taken);
+      halts = rw c.refuse-in-Err-back.ensures (stops_at c.refusal_of-in-Err-back.result c.args.self.now (back_halts (line_cut c.args.self.now.cutter c.args.cut) c.back.result asked some (c.back.ensures.running n m now.lived now.saved at.runs) c.in-Err-back.is c.refusal_of-in-Err-back.ensures) at.taken);
       said = refl;
     }
