@@ -1,3 +1,4 @@
+pub mod Shorts
 pub mod Feeds
 pub mod Splitting
 pub mod CutterSteps

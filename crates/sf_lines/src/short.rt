@@ -1,23 +1,25 @@
 //! Lines that take no memory.
-ghost use Rattle.std.specs.Prelude.{◌≡◌, ◌+◌, ◌<◌, ◌≤◌, length, List, [], ◌∷◌, ◌++◌};
+ghost use Rattle.std.specs.Prelude.{◌≡◌, ◌+◌, ◌<◌, ◌≤◌, length, List, [], ◌∷◌, ◌++◌, drop};
+ghost use Rattle.sf_decimal.specs.Decimals.{natural, integer};
 
+use itoa::write_digits;
 use std::marker::Model;
 
-/// A line of at most 64 bytes, its line feed among them.
+/// A line of at most 64 bytes, its line feed among them. It is written from its end to its start.
 #[derive(Drop)]
 pub struct ShortLine {
     bytes: [u8; 64],
-    size: usize,
+    start: usize,
 }
 
 impl Model for ShortLine {
-    ghost use Rattle.std.specs.Prelude.{◌≤◌, ℕ, List, take};
+    ghost use Rattle.std.specs.Prelude.{◌≤◌, ℕ, List, drop};
 
     ghost Value = { List ℕ };
 
-    ghost view = { λ a. take a.size a.bytes };
+    ghost view = { λ a. drop a.start a.bytes };
 
-    ghost invariant = { λ a. a.size ≤ 64 };
+    ghost invariant = { λ a. a.start ≤ 64 };
 }
 
 impl ShortLine {
@@ -25,7 +27,7 @@ impl ShortLine {
     pub fn as_bytes(&self) -> &[u8]
         ensures { result.now ≡ self.now }
     {
-        &self.bytes[..self.size]
+        &self.bytes[self.start..]
     }
 
     pub(crate) fn new() -> ShortLine
@@ -33,25 +35,51 @@ impl ShortLine {
     {
         ShortLine {
             bytes: [0; 64],
-            size: 0,
+            start: 64,
         }
     }
 
+    /// Puts a text before what is written.
     pub(crate) fn put(&mut self, text: &[u8])
         requires { length self.old + length text.now ≤ 64 }
-        ensures text { self.new ≡ self.old ++ text.now }
+        ensures text { self.new ≡ text.now ++ self.old }
         ensures size { length self.new ≡ length self.old + length text.now }
     {
-        for byte in text {
-            self.push(*byte);
+        let mut left = text.len();
+        while left > 0 {
+            left -= 1;
+            self.push(text[left]);
         }
     }
 
-    fn push(&mut self, byte: u8)
-        requires { length self.old < 64 }
-        ensures { self.new ≡ self.old ++ byte ∷ [] }
+    /// Puts the digits of a number before what is written.
+    pub(crate) fn put_natural(&mut self, n: u64)
+        requires { length self.old + 20 ≤ 64 }
+        ensures text { self.new ≡ natural n ++ self.old }
+        ensures size { length self.new ≤ length self.old + 20 }
     {
-        self.bytes[self.size] = byte;
-        self.size += 1;
+        self.start = write_digits(n, &mut self.bytes, self.start);
+    }
+
+    /// Puts the digits of a number, behind a minus where it is negative, before what is written.
+    pub(crate) fn put_integer(&mut self, n: i64)
+        requires { length self.old + 21 ≤ 64 }
+        ensures text { self.new ≡ integer n ++ self.old }
+        ensures size { length self.new ≤ length self.old + 21 }
+    {
+        self.put_natural(n.unsigned_abs());
+        if n < 0 {
+            self.push(b'-');
+        }
+    }
+
+    /// Puts a byte before what is written.
+    pub(crate) fn push(&mut self, byte: u8)
+        requires { length self.old < 64 }
+        ensures text { self.new ≡ byte ∷ self.old }
+        ensures size { length self.new ≡ length self.old + 1 }
+    {
+        self.start -= 1;
+        self.bytes[self.start] = byte;
     }
 }

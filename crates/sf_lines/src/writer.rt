@@ -1,17 +1,44 @@
 //! Output lines.
 ghost use Rattle.std.specs.Prelude.{◌≡◌, ◌++◌, ◌≤◌, length, OnOk, OnErr, take, vec_len};
+ghost use Rattle.sf_value.specs.Values.{number};
 ghost use Rattle.sf_lines.specs.Names.{fault_name, refusal_name, value_fault_name};
 ghost use Rattle.sf_lines.specs.Written.{sample_line, reading_line, fault_line, refusal_line};
 
 use crate::refusal::LineRefusal;
 use crate::short::ShortLine;
-use sf_decimal::{Numeral, write_natural};
 use sf_spelling::write_value;
-use sf_value::{Fault, Value, ValueFault};
+use sf_value::{Fault, Form, Value, ValueFault};
 use std::alloc::AllocError;
 
 /// Appends the line of a sample, `> T VALUE`, at a time in milliseconds. An error leaves what was there.
 pub fn write_sample(time: u64, value: &Value, out: &mut Vec<u8>) -> Result<(), AllocError>
+    ensures ok { OnOk result (out.new.items ≡ out.old.items ++ sample_line time value.now) }
+    ensures err { OnErr result (out.new.items ≡ out.old.items) }
+{
+    match value.form() {
+        Form::Int(n) => write_number(time, *n, out),
+        _ => write_other(time, value, out),
+    }
+}
+
+// The line of a sample that is a number.
+fn write_number(time: u64, n: i64, out: &mut Vec<u8>) -> Result<(), AllocError>
+    ensures ok { OnOk result (out.new.items ≡ out.old.items ++ sample_line time (number n)) }
+    ensures err { OnErr result (out.new.items ≡ out.old.items) }
+{
+    let mut line = ShortLine::new();
+    line.push(b'\n');
+    line.put_integer(n);
+    line.push(b' ');
+    line.put_natural(time);
+    line.push(b' ');
+    line.push(b'>');
+    out.extend_from_slice(line.as_bytes())
+}
+
+// The line of a sample, in parts.
+#[inline(never)]
+fn write_other(time: u64, value: &Value, out: &mut Vec<u8>) -> Result<(), AllocError>
     ensures ok { OnOk result (out.new.items ≡ out.old.items ++ sample_line time value.now) }
     ensures err { OnErr result (out.new.items ≡ out.old.items) }
 {
@@ -35,11 +62,11 @@ pub fn write_fault(time: u64, fault: Fault) -> ShortLine
     ensures { result ≡ fault_line time fault }
 {
     let mut line = ShortLine::new();
-    line.put(b"! ");
-    line.put(Numeral::new().natural(time));
-    line.put(b" ");
-    line.put(name_of_fault(fault));
     line.put(b"\n");
+    line.put(name_of_fault(fault));
+    line.put(b" ");
+    line.put_natural(time);
+    line.put(b"! ");
     line
 }
 
@@ -48,11 +75,11 @@ pub fn write_refusal(line: u64, refusal: LineRefusal) -> ShortLine
     ensures { result ≡ refusal_line line refusal }
 {
     let mut text = ShortLine::new();
-    text.put(b"! line ");
-    text.put(Numeral::new().natural(line));
-    text.put(b" ");
-    text.put(name_of_refusal(refusal));
     text.put(b"\n");
+    text.put(name_of_refusal(refusal));
+    text.put(b" ");
+    text.put_natural(line);
+    text.put(b"! line ");
     text
 }
 
@@ -77,9 +104,12 @@ fn append_sample(time: u64, value: &Value, out: &mut Vec<u8>) -> Result<(), Allo
     ensures ok { OnOk result (out.new.items ≡ out.old.items ++ sample_line time value.now) }
     ensures err { OnErr result (take (vec_len out.old) out.new.items ≡ out.old.items) }
 {
-    out.extend_from_slice(b"> ")?;
-    write_natural(time, out)?;
-    out.extend_from_slice(b" ")?;
+    let mut front = ShortLine::new();
+    front.push(b' ');
+    front.put_natural(time);
+    front.push(b' ');
+    front.push(b'>');
+    out.extend_from_slice(front.as_bytes())?;
     write_value(value, out)?;
     out.extend_from_slice(b"\n")
 }

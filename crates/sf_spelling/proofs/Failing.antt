@@ -1,13 +1,22 @@
 -- Steps that fail, and the code's readers of numbers.
-use Rattle.std.proofs.Common.{◌≡◌, ℕ, suc, ◌-◌, ◌≤◌, ◌<◌, List, [], ◌∷◌, length, take, drop, get_or, Result, Ok, Err, true, sym, ap, subst, ◌∙◌, arith}
+use Rattle.std.proofs.Common.{◌≡◌, ℕ, suc, ◌-◌, ◌≤◌, ◌<◌, List, [], ◌∷◌, ◌++◌, ◌==◌, length, take, drop, get_or, Result, Ok, Err, true, refl, sym, ap, subst, ◌∙◌, arith}
 use Rattle.std.specs.Prelude.{IsErrAnd}
+use Rattle.std.proofs.lemmas.Bool.Decides.{nat_tests}
 use Rattle.sf_spelling.specs.declared.read.Failure.{Failure}
 use Rattle.sf_spelling.specs.declared.read.Failure.TheVariants.{Bad, Wide, Again, Memory}
-use Rattle.sf_spelling.specs.Scan.{Stop, ◌>>=◌, positive_at, integer_at, narrow}
+use Rattle.sf_spelling.specs.Scan.{Stop, ◌>>=◌, word_at, positive_at, integer_at, narrow}
 use Rattle.sf_decimal.specs.Decimals.{signed}
 use Rattle.sf_spelling.specs.Gives.{Fails, GivesRead}
 use Rattle.sf_decimal.proofs.Runs.{take_whole}
 use Rattle.sf_spelling.proofs.Integers.{PositiveSound, positive_sound}
+
+-- behind a word is what follows it
+pub word_front : (word rest : List ℕ) → word_at word (word ++ rest) ≡ Ok rest
+word_front [] rest = refl
+word_front (c ∷ cs) rest = rw (same_byte c) (word_front cs rest)
+  where
+    same_byte : (c : ℕ) → (c == c) ≡ true
+    same_byte c = grind (arith, nat_tests)
 
 -- what fails at the first step fails
 pub fails_then : {X Y : Type 0} (e : Failure) (r : Result X Stop) (f : X → Result Y Stop) → Fails e r → Fails e (r >>= f)

@@ -69,15 +69,26 @@ pub(crate) fn byte_of(byte: u8, bytes: &[u8]) -> Result<&[u8], Failure>
 }
 
 /// What is after this word.
-#[tactic(auto, using(crate::proofs::Failing::fails_then))]
+#[inline]
 fn word_of<'a>(word: &[u8], bytes: &'a [u8]) -> Result<&'a [u8], Failure>
+    ensures { GivesRead (λ rest. rest.now) result (word_at word.now bytes.now) }
+{
+    match bytes.strip_prefix(word) {
+        Some(rest) => Ok(rest),
+        None => word_by_bytes(word, bytes),
+    }
+}
+
+/// The same byte by byte, which says where another byte stands.
+#[tactic(auto, using(crate::proofs::Failing::fails_then))]
+fn word_by_bytes<'a>(word: &[u8], bytes: &'a [u8]) -> Result<&'a [u8], Failure>
     ensures { GivesRead (λ rest. rest.now) result (word_at word.now bytes.now) }
 {
     match word {
         [] => Ok(bytes),
         [first, others @ ..] => {
             let rest = byte_of(*first, bytes)?;
-            word_of(others, rest)
+            word_by_bytes(others, rest)
         }
     }
 }
@@ -420,6 +431,17 @@ fn row_in<'a>(
     Ok((key, value, rest))
 }
 
+/// A value of the type at the front, and what is after it. A number takes no call into the cycle of values with parts.
+#[inline]
+fn front_of<'a>(alloc: Global, ty: &Ty, bytes: &'a [u8]) -> Result<(Value, &'a [u8]), Failure>
+    ensures { GivesRead (λ x. (x.0, x.1.now)) result (value_at ty.now bytes.now) }
+{
+    match ty.form() {
+        TyForm::Int => int_of(bytes),
+        _ => value_of(alloc, ty, bytes),
+    }
+}
+
 /// The value of a type whose spelling the bytes are, to the last byte.
 ///
 /// Of all places where the bytes may be refused, the least is answered. `Memory` is answered only where memory runs out.
@@ -432,7 +454,7 @@ pub fn read_value(alloc: Global, ty: &Ty, bytes: &[u8]) -> Result<Value, ReadRef
     ensures only { (v : Data) → HasKind v ty.now → bytes.now ≡ spelling v →
         MatchResult result (λ w. w ≡ v) IsMemory }
 {
-    match value_of(alloc, ty, bytes) {
+    match front_of(alloc, ty, bytes) {
         Ok((value, rest)) => {
             if rest.len() == 0 {
                 Ok(value)

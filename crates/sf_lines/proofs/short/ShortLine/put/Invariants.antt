@@ -1,5 +1,8 @@
-use Rattle.std.proofs.Common.{◌≡◌, ◌++◌, take}
+use Rattle.std.proofs.Common.{◌≡◌, ◌≤◌, ◌++◌, drop, length}
 use Rattle.sf_lines.proofs.short.ShortLine.put.Given as goal
 
-abbrev pub invariant-loop-byte : goal.invariant-loop-byte
-invariant-loop-byte l = l.self ≡ l.fn.self ++ take l.byte-index l.text
+abbrev pub invariant-loop-left : goal.invariant-loop-left
+invariant-loop-left l = record { within : l.left ≤ length l.text; written : l.self ≡ drop l.left l.text ++ l.fn.self }
+
+abbrev pub decreases-loop-left : goal.decreases-loop-left
+decreases-loop-left l = l.left
