@@ -1,3 +1,5 @@
+pub mod Groups
+pub mod SymbolGroups
 pub mod Answered
 pub mod Before
 pub mod Cuts

@@ -1,9 +1,11 @@
 -- What holds of each keyword and each symbol, and the longest symbol.
-use Rattle.std.proofs.Common.{◌≡◌, ℕ, ◌≤◌, List, [], ◌∷◌, ◌++◌, length, take, Bool, true, false, not, ◌&&◌, ◌||◌, cond, find, Option, Some, nat_le, refl, sym, ◌∙◌, ap, subst, arith, ◌⊎◌, inl, inr}
+use Rattle.std.proofs.Common.{◌≡◌, ℕ, ◌<◌, ◌≤◌, List, [], ◌∷◌, ◌++◌, length, take, get_or, Bool, true, false, not, ◌&&◌, ◌||◌, cond, find, Option, Some, nat_le, refl, sym, ◌∙◌, ap, subst, arith, ◌⊎◌, inl, inr}
+use Rattle.std.specs.Prelude.{nat_eq}
 use Rattle.std.specs.List.{list_all}
 use Rattle.std.specs.Str.{bytes_eq}
-use Rattle.std.proofs.lemmas.Bool.{and_parts, or_cases, leb-true}
-use Rattle.std.proofs.lemmas.List.{take_at}
+use Rattle.std.proofs.lemmas.Bool.{and_parts, or_cases}
+use Rattle.std.proofs.lemmas.Bool.Decides.{nat_tests}
+use Rattle.std.proofs.lemmas.List.{take_at, get_or-take}
 use Rattle.std.proofs.lemmas.Slice.Eq.{bytes_eq-Decides}
 use Rattle.sf_lex.specs.declared.word.Keyword.{Keyword}
 use Rattle.sf_lex.specs.declared.word.TheConstants.{KEYWORDS}
@@ -76,10 +78,13 @@ pub symbol_begins : (s : Symbol) → begins_well (symbol_bytes s) ≡ true
 unfolding symbol_of
 symbol_begins s = found_has (λ t. begins_well (symbol_bytes t)) (begins_with (symbol_bytes s)) SYMBOLS s refl (symbol_again s)
 
-abbrev no_longer : Symbol → Symbol → Bool
-no_longer s t = nat_le (length (symbol_bytes t)) (length (symbol_bytes s))
+abbrev first_byte : Symbol → ℕ
+first_byte s = get_or (symbol_bytes s) 0 0
 
--- no symbol stands before a longer one
+abbrev no_longer : Symbol → Symbol → Bool
+no_longer s t = not (nat_eq (first_byte s) (first_byte t)) || nat_le (length (symbol_bytes t)) (length (symbol_bytes s))
+
+-- no symbol stands before a longer one of the same first byte
 abbrev descends : List Symbol → Bool
 descends [] = true
 descends (s ∷ rest) = list_all (no_longer s) rest && descends rest
@@ -90,24 +95,46 @@ pub record Longer (found : Option Symbol) (s : Symbol) : Type 0 where
   pub is : found ≡ Some other
   pub longer : length (symbol_bytes s) ≤ length (symbol_bytes other)
 
-find_longest : (p q : Symbol → Bool) (xs : List Symbol) (s : Symbol) → descends xs ≡ true → find q xs ≡ Some s → p s ≡ true → Longer (find p xs) s
-find_longest p q [] s d e h = cc
-find_longest p q (x ∷ xs) s d e h =
+-- what passes begins with one byte
+abbrev AllBegin : (Symbol → Bool) → ℕ → Type 0
+AllBegin p b = (s : Symbol) → p s ≡ true → first_byte s ≡ b
+
+no_longer_is : (a b m n : ℕ) → a ≡ b → (not (nat_eq a b) || nat_le m n) ≡ true → m ≤ n
+no_longer_is a b m n same h = grind (arith, nat_tests)
+
+find_longest : (p q : Symbol → Bool) (b : ℕ) (xs : List Symbol) (s : Symbol) → AllBegin p b → descends xs ≡ true → find q xs ≡ Some s → p s ≡ true → Longer (find p xs) s
+find_longest p q b [] s begin d e h = cc
+find_longest p q b (x ∷ xs) s begin d e h =
     (elim (q x) as (λ t. cond t (Some x) (find q xs) ≡ Some s → Longer (cond (p x) (Some x) (find p xs)) s) [
       | true ↦ λ f. (let same : x ≡ s = cc in let passes : p x ≡ true = ap p same ∙ h in
           rw passes (record { other = x; is = refl; longer = subst (λ (t : Symbol). length (symbol_bytes t) ≤ length (symbol_bytes x)) same (omega arith) }))
-      | false ↦ λ f. (elim (p x) as (λ t. Longer (cond t (Some x) (find p xs)) s) [
-        | true ↦ record { other = x; is = refl; longer = leb-true _ _ (found_has (no_longer x) q xs s (and_parts _ _ d).0 f) }
-        | false ↦ find_longest p q xs s (and_parts _ _ d).1 f h
-      ])
+      | false ↦ λ f. (elim (p x) as (λ t. p x ≡ t → Longer (cond t (Some x) (find p xs)) s) [
+        | true ↦ λ passes. record {
+          other = x;
+          is = refl;
+          longer = no_longer_is (first_byte x) (first_byte s) _ _ (begin x passes ∙ sym (begin s h)) (found_has (no_longer x) q xs s (and_parts _ _ d).0 f);
+        }
+        | false ↦ λ passes. find_longest p q b xs s begin (and_parts _ _ d).1 f h
+      ]) refl
     ]) e
 
 pub begins_with_own : (s : Symbol) (rest : List ℕ) → begins_with (symbol_bytes s ++ rest) s ≡ true
 begins_with_own s rest = (bytes_eq-Decides (symbol_bytes s) (take (length (symbol_bytes s)) (symbol_bytes s ++ rest))).1 (sym (take_at (symbol_bytes s) rest (length (symbol_bytes s)) refl))
 
+begins_some : (bytes : List ℕ) → begins_well bytes ≡ true → 0 < length bytes
+begins_some [] h = cc
+begins_some (b ∷ bytes) h = omega arith
+
+begins_so : (bytes : List ℕ) (s : Symbol) → begins_with bytes s ≡ true → first_byte s ≡ get_or bytes 0 0
+begins_so bytes s h =
+    ap (λ t. get_or t 0 0) ((bytes_eq-Decides (symbol_bytes s) (take (length (symbol_bytes s)) bytes)).0 h)
+    ∙ get_or-take (length (symbol_bytes s)) bytes 0 0 (begins_some (symbol_bytes s) (symbol_begins s))
+
 pub symbol_longest : (s : Symbol) (rest : List ℕ) → Longer (symbol_of (symbol_bytes s ++ rest)) s
 unfolding symbol_of
-symbol_longest s rest = find_longest (begins_with (symbol_bytes s ++ rest)) (begins_with (symbol_bytes s)) SYMBOLS s refl (symbol_again s) (begins_with_own s rest)
+symbol_longest s rest =
+    let bytes = symbol_bytes s ++ rest in
+    find_longest (begins_with bytes) (begins_with (symbol_bytes s)) (get_or bytes 0 0) SYMBOLS s (begins_so bytes) refl (symbol_again s) (begins_with_own s rest)
 
 pub symbol_stands : (bytes : List ℕ) (s : Symbol) → symbol_of bytes ≡ Some s → symbol_bytes s ≡ take (length (symbol_bytes s)) bytes
 unfolding symbol_of
