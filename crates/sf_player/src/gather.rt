@@ -1,5 +1,5 @@
 //! The lines of samples.
-ghost use Rattle.std.specs.Prelude.{◌≡◌, ◌++◌, OnOk, OnErr, take, vec_len};
+ghost use Rattle.std.specs.Prelude.{◌≡◌, ◌++◌, true, OnOk, OnErr, take, vec_len};
 ghost use Rattle.sf_probe.specs.Readings.{readings_of};
 ghost use Rattle.sf_player.specs.Scripts.{readings_said, sample_lines};
 
@@ -14,8 +14,11 @@ pub(crate) fn gather(probes: bool, sample: &Sample, out: &mut Vec<u8>) -> Result
     ensures ok { OnOk result (out.new.items ≡ out.old.items ++ sample_lines probes sample.now.time sample.now.value (readings_of sample.now.readings)) }
     ensures err { OnErr result (out.new.items ≡ out.old.items) }
 {
+    if !probes {
+        return write_sample(sample.time, &sample.value, out);
+    }
     let start = out.len();
-    let written = append_lines(probes, sample, out);
+    let written = append_lines(sample, out);
     if written.is_err() {
         out.truncate(start);
     }
@@ -23,22 +26,19 @@ pub(crate) fn gather(probes: bool, sample: &Sample, out: &mut Vec<u8>) -> Result
 }
 
 // An error leaves a part of the lines behind what was there.
-fn append_lines(probes: bool, sample: &Sample, out: &mut Vec<u8>) -> Result<(), AllocError>
-    ensures ok { OnOk result (out.new.items ≡ out.old.items ++ sample_lines probes sample.now.time sample.now.value (readings_of sample.now.readings)) }
+fn append_lines(sample: &Sample, out: &mut Vec<u8>) -> Result<(), AllocError>
+    ensures ok { OnOk result (out.new.items ≡ out.old.items ++ sample_lines true sample.now.time sample.now.value (readings_of sample.now.readings)) }
     ensures err { OnErr result (take (vec_len out.old) out.new.items ≡ out.old.items) }
 {
-    append_readings(probes, &sample.readings, out)?;
+    append_readings(&sample.readings, out)?;
     write_sample(sample.time, &sample.value, out)
 }
 
 // An error leaves a part of the lines behind what was there.
-fn append_readings(probes: bool, readings: &Readings, out: &mut Vec<u8>) -> Result<(), AllocError>
-    ensures ok { OnOk result (out.new.items ≡ out.old.items ++ readings_said probes (readings_of readings.now)) }
+fn append_readings(readings: &Readings, out: &mut Vec<u8>) -> Result<(), AllocError>
+    ensures ok { OnOk result (out.new.items ≡ out.old.items ++ readings_said true (readings_of readings.now)) }
     ensures err { OnErr result (take (vec_len out.old) out.new.items ≡ out.old.items) }
 {
-    if !probes {
-        return Ok(());
-    }
     for reading in readings.as_slice() {
         write_reading(reading.name(), reading.value(), out)?;
     }
