@@ -1,9 +1,9 @@
 -- What stands around terms: names with their types, and the processes that others stand for.
-use Rattle.std.proofs.Common.{◌≡◌, ℕ, ◌+◌, ◌<◌, length, get_or, drop, All, Bool, true, false, cond, List, [], ◌∷◌, Option, Some, None, refl, ap, ◌∙◌, subst, sym}
-use Rattle.std.specs.Prelude.{bytes_eq}
-use Rattle.std.proofs.lemmas.List.{drop_more}
+use Rattle.std.proofs.Common.{◌≡◌, ℕ, ◌+◌, ◌<◌, length, get_or, drop, All, Bool, true, false, cond, List, [], ◌∷◌, ◌++◌, Option, Some, None, Result, Ok, Err, IfOk, OnOk, IfErr, Bor, refl, ap, ◌∙◌, subst, sym}
+use Rattle.std.specs.Prelude.{⊤, bytes_eq}
+use Rattle.std.proofs.lemmas.List.{drop_more, map-append}
 use Rattle.std.proofs.lemmas.List.Elements.{All-cons}
-use Rattle.std.proofs.lemmas.Option.{same_Some, none-some}
+use Rattle.std.proofs.lemmas.Option.{same_Some}
 use Rattle.sf_value.specs.Values.{Name, Kind}
 use Rattle.sf_refusal.specs.declared.spot.Spot.{Spot}
 use Rattle.sf_refusal.specs.declared.rule.Rule.TheVariants.{UnknownName, Mismatch}
@@ -13,87 +13,122 @@ use Rattle.sf_refusal.proofs.Explained.{breaks_at}
 use Rattle.sf_operator.specs.Kinds.{found_then}
 use Rattle.sf_func.specs.Registries.{TypesByName}
 use Rattle.sf_expr.specs.Expressions.{Pattern}
-use Rattle.sf_expr.specs.Typing.{Names, only_functions, typed_name, untyped_name, named_in, with_types, AddsNames, adds_nothing, adds_name, adds_both, Binds}
-use Rattle.sf_expr.proofs.Bound.{binds_with}
+use Rattle.sf_expr.specs.Patterns.{PlacedPattern, pattern_of}
+use Rattle.sf_expr.specs.declared.frame.Frame.{Frame}
+use Rattle.sf_expr.specs.declared.meaning.Meaning.{Meaning}
+use Rattle.sf_expr.specs.declared.meaning.Meaning.TheVariants.{Value, Process}
+use Rattle.sf_expr.specs.Meanings.{Meant, of_value, of_process, meant, Entries, found_in, names_from}
+use Rattle.sf_expr.specs.Scopes.{entries_in}
+use Rattle.sf_expr.specs.Refusals.{PatternRefused}
+use Rattle.sf_expr.specs.Typing.{Names, only_functions, typed_name, untyped_name, with_types, AddsNames, adds_nothing, adds_name, adds_both, Binds}
+use Rattle.sf_expr.proofs.Bound.{binds_with, bound_within}
 use Rattle.sf_term.specs.Parameters.{PlacedParameter, binding_of, parameters_of}
 use Rattle.sf_term.specs.Trees.{Templates}
-use Rattle.sf_mean.specs.Contexts.{NameKind, value, process, types_of_process, process_named, Bindings, parameters_inside, context_with, values_in, bindings_inside, inside_pattern}
+use Rattle.sf_mean.specs.Contexts.{NameKind, value, process, types_of_process, process_named, Bindings, parameters_inside, context_with, values_in, bindings_inside, inside_pattern, inside_process}
 use Rattle.sf_mean.specs.Typing.{ParameterFits}
-use Rattle.sf_check.specs.Processes.{Processes, process_among, names_among, others_in}
-use Rattle.sf_check.specs.Contexts.{bindings_of}
-use Rattle.sf_check.specs.Breaking.{kind_named, ProcessRefused}
+use Rattle.sf_check.specs.Standing.{kind_meant, bindings_from, inside_names}
+use Rattle.sf_check.specs.Breaking.{kind_named, ProcessRefused, BindsInside}
 
 -- expressions are typed under the names and the functions that a context has
-pub names_seen_through : (fs : TypesByName) (R : Names) (ps : Processes) → values_in fs (bindings_of R ps) ≡ with_types fs R
-names_seen_through fs (only_functions gs) ps = refl
-names_seen_through fs (typed_name x t R) ps = ap (typed_name x t) (names_seen_through fs R ps)
-names_seen_through fs (untyped_name x R) (p ∷ ps) = ap (untyped_name x) (names_seen_through fs R ps)
-names_seen_through fs (untyped_name x R) [] = ap (untyped_name x) (names_seen_through fs R [])
+pub names_seen_through : (fs : TypesByName) (es : Entries) → values_in fs (bindings_from es) ≡ with_types fs (names_from es)
+names_seen_through fs [] = refl
+names_seen_through fs (e ∷ es) = each e.1 (names_seen_through fs es)
+  where
+    each : (m : Meant) → values_in fs (bindings_from es) ≡ with_types fs (names_from es) → values_in fs (bindings_from ((e.0, m) ∷ es)) ≡ with_types fs (names_from ((e.0, m) ∷ es))
+    each (of_value t) rest = ap (typed_name e.0 t) rest
+    each (of_process a b) rest = ap (untyped_name e.0) rest
+
+-- names inside others
+pub names_inside : (fs : TypesByName) (ts : Templates) (names : Frame) (es gs : Entries) → gs ≡ entries_in names ++ es → context_with fs (bindings_from gs) ts ≡ inside_names names (context_with fs (bindings_from es) ts)
+names_inside fs ts names es gs more = ap (λ bs. context_with fs bs ts) (ap bindings_from more ∙ map-append (λ (e : Name × Meant). (e.0, kind_meant e.1)) (entries_in names) es)
+
+pub process_inside : (fs : TypesByName) (ts : Templates) (es : Entries) (names : Frame) (a b : Kind) {x y : Name} {none : Entries} → y ≡ x → none ≡ [] → entries_in names ≡ (y, of_process a b) ∷ none → inside_names names (context_with fs (bindings_from es) ts) ≡ inside_process x a b (context_with fs (bindings_from es) ts)
+process_inside fs ts es names a b {x} {y} {none} same end is =
+    ap (λ ns. context_with fs (bindings_from ns ++ bindings_from es) ts) (is ∙ ap (λ ns. (y, of_process a b) ∷ ns) end ∙ ap (λ (z : Name). (z, of_process a b) ∷ []) same)
+
+-- ## Patterns
+
+-- names with types before others
+abbrev pub values_over : Names → Entries → Entries
+values_over (only_functions fs) es = es
+values_over (typed_name x t R) es = (x, of_value t) ∷ values_over R es
+values_over (untyped_name x R) es = values_over R es
 
 -- names that a pattern adds are those that it has inside
-pub bindings_added : (ps : Processes) {p : Pattern} {t : Kind} {R S : Names} → AddsNames p t R S → bindings_of S ps ≡ bindings_inside p t (bindings_of R ps)
-bindings_added ps adds_nothing = refl
-bindings_added ps adds_name = refl
-bindings_added ps (adds_both {q = q} {u = u} A B) = bindings_added ps B ∙ ap (bindings_inside q u) (bindings_added ps A)
-
-pub context_inside : (fs : TypesByName) (ts : Templates) {ps qs : Processes} {p : Pattern} {t : Kind} {R S : Names} → qs ≡ ps → Binds p t R S → context_with fs (bindings_of S qs) ts ≡ inside_pattern p t (context_with fs (bindings_of R ps) ts)
-context_inside fs ts {ps} {S = S} same B = ap (λ ps. context_with fs (bindings_of S ps) ts) same ∙ ap (λ bs. context_with fs bs ts) (bindings_added ps B.adds)
-
-pub binds_seen_through : (fs : TypesByName) (ps : Processes) {p : Pattern} {t : Kind} {R S : Names} → Binds p t R S → Binds p t (values_in fs (bindings_of R ps)) (values_in fs (bindings_inside p t (bindings_of R ps)))
-binds_seen_through fs ps {p} {t} {R} {S} B =
-    let T = with_types fs R in
-    let inner : with_types fs S ≡ values_in fs (bindings_inside p t (bindings_of R ps)) = sym (names_seen_through fs S ps) ∙ ap (values_in fs) (bindings_added ps B.adds) in
-    subst (λ T. Binds p t T (values_in fs (bindings_inside p t (bindings_of R ps)))) (sym (names_seen_through fs R ps)) (subst (Binds p t T) inner (binds_with fs B))
+bindings_added : (es : Entries) {p : Pattern} {t : Kind} {R S : Names} → AddsNames p t R S → bindings_from (values_over S es) ≡ bindings_inside p t (bindings_from (values_over R es))
+bindings_added es adds_nothing = refl
+bindings_added es adds_name = refl
+bindings_added es (adds_both {q = q} {u = u} A B) = bindings_added es B ∙ ap (bindings_inside q u) (bindings_added es A)
 
 -- a pattern's names stand for values
-others_inside : {p : Pattern} {t : Kind} {R S : Names} → AddsNames p t R S → others_in S ≡ others_in R
-others_inside adds_nothing = refl
-others_inside adds_name = refl
-others_inside (adds_both A B) = others_inside B ∙ others_inside A
+abbrev pub OnlyTyped : Names → Type 0
+OnlyTyped (only_functions fs) = ⊤
+OnlyTyped (typed_name x t R) = OnlyTyped R
+OnlyTyped (untyped_name x R) = ⊥
 
--- so the names that stand for processes are the same inside a pattern
-pub kept_inside : {p : Pattern} {t : Kind} {R S : Names} {ps qs : Processes} → Binds p t R S → qs ≡ ps → others_in R ≡ names_among ps → others_in S ≡ names_among qs
-kept_inside B same kept = others_inside B.adds ∙ kept ∙ ap names_among (sym same)
+only_typed : {p : Pattern} {t : Kind} {R S : Names} → AddsNames p t R S → OnlyTyped R → OnlyTyped S
+only_typed adds_nothing h = h
+only_typed adds_name h = h
+only_typed (adds_both A B) h = only_typed B (only_typed A h)
 
--- what a name stands for, by its type among names and by the first process that was given the name
-abbrev pub Stands : Option (Option Kind) → Option (Kind × Kind) → Option NameKind → Type 0
-Stands None q o = o ≡ None
-Stands (Some (Some t)) q o = o ≡ Some (value t)
-Stands (Some None) q o = (k : Kind × Kind) × (q ≡ Some k) × (o ≡ Some (process k.0 k.1))
-
-pub stands : (x : Name) (R : Names) (ps : Processes) → others_in R ≡ names_among ps → Stands (named_in x R) (process_among x ps) (kind_named x (bindings_of R ps))
-stands x (only_functions fs) ps same = refl
-stands x (typed_name y t R) ps same = each (bytes_eq x y) (stands x R ps same)
+typed_over : (vs es : Entries) → OnlyTyped (names_from vs) → vs ++ es ≡ values_over (names_from vs) es
+typed_over [] es h = refl
+typed_over (v ∷ vs) es h = each v.1 h (typed_over vs es)
   where
-    each : (b : Bool) → Stands (named_in x R) (process_among x ps) (kind_named x (bindings_of R ps)) → Stands (cond b (Some (Some t)) (named_in x R)) (process_among x ps) (cond b (Some (value t)) (kind_named x (bindings_of R ps)))
+    each : (m : Meant) → OnlyTyped (names_from ((v.0, m) ∷ vs)) → (OnlyTyped (names_from vs) → vs ++ es ≡ values_over (names_from vs) es) → (v.0, m) ∷ (vs ++ es) ≡ values_over (names_from ((v.0, m) ∷ vs)) es
+    each (of_value t) h rest = ap (λ ns. (v.0, of_value t) ∷ ns) (rest h)
+    each (of_process a b) h rest = absurd h
+
+module _ (fs : TypesByName) (ts : Templates) (es : Entries) {q : PlacedPattern} {p : PlacedPattern} (placed : q ≡ p) (t : Kind) where
+  names_bound : (vs : Entries) → Binds (pattern_of q) t (only_functions []) (names_from vs) → bindings_from vs ++ bindings_from es ≡ bindings_inside (pattern_of p) t (bindings_from es)
+  names_bound vs B =
+      sym (map-append (λ (e : Name × Meant). (e.0, kind_meant e.1)) vs es) ∙ ap bindings_from (typed_over vs es (only_typed B.adds tt)) ∙ bindings_added es B.adds ∙ ap (λ p. bindings_inside (pattern_of p) t (bindings_from es)) placed
+
+  pub pattern_inside : {E : Type 0} (r : Result Frame E) → IfOk r (λ names. Binds (pattern_of q) t (only_functions []) (names_from (entries_in names))) → IfOk r (λ names. inside_names names (context_with fs (bindings_from es) ts) ≡ inside_pattern (pattern_of p) t (context_with fs (bindings_from es) ts))
+  pattern_inside (Ok names) B = ap (λ bs. context_with fs bs ts) (names_bound (entries_in names) B)
+  pattern_inside (Err e) B = tt
+
+  pub pattern_bound : {E : Type 0} (r : Result Frame E) → IfOk r (λ names. Binds (pattern_of q) t (only_functions []) (names_from (entries_in names))) → OnOk r (BindsInside (pattern_of p) t (context_with fs (bindings_from es) ts))
+  pattern_bound (Ok names) B =
+      let vs = entries_in names in
+      let inner : with_types fs (names_from (vs ++ es)) ≡ values_in fs (bindings_inside (pattern_of p) t (bindings_from es)) =
+      sym (names_seen_through fs (vs ++ es)) ∙ ap (values_in fs) (map-append (λ (e : Name × Meant). (e.0, kind_meant e.1)) vs es ∙ names_bound vs B) in
+      let under : Binds (pattern_of q) t (with_types fs (names_from es)) (with_types fs (names_from (vs ++ es))) = binds_with fs (bound_within vs es (vs ++ es) refl B) in
+      subst (λ p. Binds (pattern_of p) t (values_in fs (bindings_from es)) (values_in fs (bindings_inside (pattern_of p) t (bindings_from es)))) placed
+      (subst (λ S. Binds (pattern_of q) t (values_in fs (bindings_from es)) S) (inner ∙ ap (λ p. values_in fs (bindings_inside (pattern_of p) t (bindings_from es))) (sym placed))
+      (subst (λ R. Binds (pattern_of q) t R (with_types fs (names_from (vs ++ es)))) (sym (names_seen_through fs es)) under))
+  pattern_bound (Err e) B = tt
+
+pub pattern_wrong : {q p : PlacedPattern} (placed : q ≡ p) (t : Kind) (at : Spot) {A : Type 0} (r : Result A Refusal) → IfErr r (OrMemory (PatternRefused q t at)) → IfErr r (OrMemory (PatternRefused p t at))
+pattern_wrong placed t at (Ok names) h = tt
+pattern_wrong placed t at (Err e) h = subst (λ p. OrMemory (PatternRefused p t at) e) placed h
+
+-- ## What names stand for
+
+abbrev pub kind_found : Option Meant → Option NameKind
+kind_found None = None
+kind_found (Some m) = Some (kind_meant m)
+
+named_among : (x : Name) (es : Entries) → kind_named x (bindings_from es) ≡ kind_found (found_in x es)
+named_among x [] = refl
+named_among x (e ∷ es) = each (bytes_eq x e.0) (named_among x es)
+  where
+    each : (b : Bool) → kind_named x (bindings_from es) ≡ kind_found (found_in x es) → cond b (Some (kind_meant e.1)) (kind_named x (bindings_from es)) ≡ kind_found (cond b (Some e.1) (found_in x es))
     each true rest = refl
     each false rest = rest
-stands x (untyped_name y R) [] same = absurd cc
-stands x (untyped_name y R) (p ∷ ps) same =
-    let first : y ≡ p.0 = cc in
-    let rest : others_in R ≡ names_among ps = cc in
-    subst (λ z. Stands (cond (bytes_eq x y) (Some None) (named_in x R)) (cond (bytes_eq x z) (Some p.1) (process_among x ps)) (cond (bytes_eq x y) (Some (process p.1.0 p.1.1)) (kind_named x (bindings_of R ps)))) first (each (bytes_eq x y) (stands x R ps rest))
-  where
-    each : (b : Bool) → Stands (named_in x R) (process_among x ps) (kind_named x (bindings_of R ps)) → Stands (cond b (Some None) (named_in x R)) (cond b (Some p.1) (process_among x ps)) (cond b (Some (process p.1.0 p.1.1)) (kind_named x (bindings_of R ps)))
-    each true rest = (p.1, refl, refl)
-    each false rest = rest
 
-module _ (R : Names) (ps : Processes) (kept : others_in R ≡ names_among ps) {x y : Name} (same : y ≡ x) where
-  stands_as : {n : Option (Option Kind)} → named_in y R ≡ n → Stands n (process_among y ps) (kind_named x (bindings_of R ps))
-  stands_as {n} h = subst (λ x. Stands n (process_among y ps) (kind_named x (bindings_of R ps))) same (subst (λ n. Stands n (process_among y ps) (kind_named y (bindings_of R ps))) h (stands y R ps kept))
+module _ (es : Entries) {x y : Name} (same : y ≡ x) where
+  stands_as : {o : Option Meant} → found_in y es ≡ o → kind_named x (bindings_from es) ≡ kind_found o
+  stands_as found = named_among x es ∙ ap (λ z. kind_found (found_in z es)) (sym same) ∙ ap kind_found found
 
-  pub unbound_refused : {at : Spot} {e : Refusal} → named_in y R ≡ None → e ≡ broken UnknownName at → OrMemory (ProcessRefused (kind_named x (bindings_of R ps)) at) e
-  unbound_refused {at} h is = breaks_at UnknownName is refl (subst (λ o. ProcessRefused o at (breach_of UnknownName at)) (sym (stands_as h)) refl)
+  pub process_found : {m : Meaning} {a b : Bor Kind} → m ≡ Process a b → found_in y es ≡ Some (meant m) → kind_named x (bindings_from es) ≡ Some (process a.now b.now)
+  process_found is found = stands_as found ∙ ap (λ m. Some (kind_meant (meant m))) is
 
-  pub value_refused : {t : Kind} {at : Spot} {e : Refusal} → named_in y R ≡ Some (Some t) → e ≡ broken Mismatch at → OrMemory (ProcessRefused (kind_named x (bindings_of R ps)) at) e
-  value_refused {at = at} h is = breaks_at Mismatch is refl (subst (λ o. ProcessRefused o at (breach_of Mismatch at)) (sym (stands_as h)) refl)
+  pub value_refused : {m : Meaning} {t : Bor Kind} {at : Spot} {e : Refusal} → m ≡ Value t → found_in y es ≡ Some (meant m) → e ≡ broken Mismatch at → OrMemory (ProcessRefused (kind_named x (bindings_from es)) at) e
+  value_refused {at = at} is found because = breaks_at Mismatch because refl (subst (λ o. ProcessRefused o at (breach_of Mismatch at)) (sym (stands_as found ∙ ap (λ m. Some (kind_meant (meant m))) is)) refl)
 
-  module _ (other : named_in y R ≡ Some None) where
-    pub process_found : {a b : Kind} → process_among y ps ≡ Some (a, b) → kind_named x (bindings_of R ps) ≡ Some (process a b)
-    process_found e = let k = stands_as other in k.2 ∙ ap (λ (k : Kind × Kind). Some (process k.0 k.1)) (same_Some _ _ (sym k.1 ∙ e))
-
-    pub process_there : process_among y ps ≡ None → ⊥
-    process_there e = let k = stands_as other in none-some k.0 (sym e ∙ k.1)
+  pub unbound_refused : {at : Spot} {e : Refusal} → found_in y es ≡ None → e ≡ broken UnknownName at → OrMemory (ProcessRefused (kind_named x (bindings_from es)) at) e
+  unbound_refused {at} found because = breaks_at UnknownName because refl (subst (λ o. ProcessRefused o at (breach_of UnknownName at)) (sym (stands_as found)) refl)
 
 -- the types of the process of a name are those that it stands for
 found_process : (x : Name) (bs : Bindings) → process_named x bs ≡ found_then (kind_named x bs) types_of_process

@@ -1,7 +1,7 @@
 pub mod Accepting
 pub mod Calling
 pub mod Names
-pub mod Processes
+pub mod Standing
 pub mod Contexts
 pub mod Breaking
 pub mod Answering

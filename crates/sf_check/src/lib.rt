@@ -6,8 +6,9 @@ mod checked;
 mod checker;
 mod context;
 mod laws;
-mod named_process;
 mod names;
+mod parameters;
+mod process_types;
 mod typing;
 
 pub use checked::Checked;

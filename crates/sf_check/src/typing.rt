@@ -9,7 +9,9 @@ ghost use Rattle.sf_expr.specs.Typing.{Fits};
 ghost use Rattle.sf_term.specs.Arena.{term_number, term_node_at, term_spot_at, expressions_of, arguments_under, ArgumentBelow, template_in, templates_of};
 ghost use Rattle.sf_term.specs.ParameterView.{kind_of_form};
 ghost use Rattle.sf_term.specs.declared.form.Start.{Start};
-ghost use Rattle.sf_mean.specs.Contexts.{value, names_of_values};
+ghost use Rattle.sf_expr.specs.Scopes.{entries_in};
+ghost use Rattle.sf_mean.specs.Contexts.{value, names_of_values, context_with};
+ghost use Rattle.sf_check.specs.Standing.{bindings_from, inside_names};
 ghost use Rattle.sf_operator.specs.Breaches.{AnswersKind};
 ghost use Rattle.sf_operator.specs.Kinds.{same_kind};
 ghost use Rattle.sf_mean.specs.Typing.{value_kind, takes_time as a_time, timed_kind, accumulated_argument, accumulated_kind, IsTyped};
@@ -19,10 +21,11 @@ ghost use Rattle.sf_check.specs.Names.{names_of_set, program_names};
 ghost use Rattle.sf_check.specs.Breaking.{IsNoPairWith, IsNoEventBeside, TemplateBreaks, AreTyped, IsFirstBreak, keeping_inside};
 
 use crate::context::TypingContext;
+use crate::parameters::parameter_names;
 use indexmap::IndexSet;
 use sf_expr::{
-    ConstantForm, ConstantId, ExprId, FunctionId, NameId, PatternId, function_type, pair_type,
-    type_of,
+    ConstantForm, ConstantId, ExprId, Frame, FunctionId, NameId, PatternId, function_type,
+    pair_type, type_of,
 };
 use sf_func::Signatures;
 use sf_operator::{event_type, pair_type as pair_of, payload, same};
@@ -474,9 +477,25 @@ fn body_output(
     requires { Fits input.now }
     ensures { AnswersBody (program_in context.now) (context_in context.now) spot pattern body input.now wanted.now payload.now result }
 {
-    let inner = (&*context).within(alloc, pattern, payload, spot)?;
-    let given = output_of(alloc, &inner, body, input)?;
+    let names = (&*context).pattern_names(alloc, pattern, &*payload, spot)?;
+    let given = output_within(alloc, context, &names, body, input)?;
     wanted_output(given, wanted, spot)
+}
+
+/// The type of the outputs of a body inside names, on inputs of a type.
+#[cycle(output)]
+fn output_within(
+    alloc: Global,
+    context: &TypingContext,
+    names: &Frame,
+    body: TermId,
+    input: &Ty,
+) -> Result<Ty, Refusal>
+    requires { Fits input.now }
+    ensures { AnswersTerm (program_in context.now) (inside_names names.now (context_in context.now)) body input.now result }
+{
+    let inner = (&*context).within(alloc, &*names)?;
+    output_of(alloc, &inner, body, input)
 }
 
 /// The type of the outputs of a part whose first value another takes the place of, on inputs of a type.
@@ -621,7 +640,30 @@ fn kept_output(
     requires { Fits input.now }
     ensures { AnswersBody (program_in context.now) (keeping_inside (program_in context.now) name input.now wanted.now (context_in context.now)) spot pattern body input.now wanted.now payload.now result }
 {
-    let inner = (&*context).keeping(alloc, name, input, wanted)?;
+    let names = (&*context).process_name(alloc, name, &*input, &*wanted)?;
+    body_within(
+        alloc, context, &names, pattern, payload, body, input, wanted, spot,
+    )
+}
+
+/// The type of the outputs of a body inside names, on inputs of a type, which gives what is wanted of it inside the pattern
+/// for payloads of a type.
+#[cycle(output)]
+fn body_within(
+    alloc: Global,
+    context: &TypingContext,
+    names: &Frame,
+    pattern: PatternId,
+    payload: &Ty,
+    body: TermId,
+    input: &Ty,
+    wanted: &Ty,
+    spot: Spot,
+) -> Result<Ty, Refusal>
+    requires { Fits input.now }
+    ensures { AnswersBody (program_in context.now) (inside_names names.now (context_in context.now)) spot pattern body input.now wanted.now payload.now result }
+{
+    let inner = (&*context).within(alloc, &*names)?;
     body_output(alloc, &inner, pattern, payload, body, input, wanted, spot)
 }
 
@@ -758,6 +800,25 @@ fn output_of(
     }
 }
 
+/// The type of the outputs of the body of a template inside the names of its parameters, on inputs of a type. The names of
+/// templates are those of all, in order.
+fn template_output(
+    alloc: Global,
+    program: &Program,
+    templates: &IndexSet<String>,
+    functions: &Signatures,
+    names: &Frame,
+    body: TermId,
+    input: &Ty,
+) -> Result<Ty, Refusal>
+    requires listed { names_of_set templates.now ≡ program_names program.now }
+    requires fits { Fits input.now }
+    ensures { AnswersTerm program.now (context_with (signatures_in functions.now) (bindings_from (entries_in names.now)) (templates_of program.now)) body input.now result }
+{
+    let context = TypingContext::of_body(alloc, program, templates, functions, &*names)?;
+    output_of(alloc, &context, body, input)
+}
+
 /// Whether a template's term takes its header's input to its header's output, inside its parameters. The names are those of
 /// all templates, in order.
 fn check_template(
@@ -771,14 +832,15 @@ fn check_template(
     ensures ok { OnOk result (IsTyped (signatures_in functions.now) (templates_of program.now) (template_in program.now template.now)) }
     ensures err { IfErr result (OrMemory (TemplateBreaks (signatures_in functions.now) program.now template.now)) }
 {
-    let context = TypingContext::of_body(alloc, program, names, functions, template.parameters())?;
+    let parameters = parameter_names(alloc, template.parameters())?;
     let input = template.input();
     prove!(input.nodes() <= 256);
-    let output = output_of(alloc, &context, template.body(), input)?;
+    let body = template.body();
+    let output = template_output(alloc, program, names, functions, &parameters, body, input)?;
     if same_type(&output, template.output()) {
         Ok(())
     } else {
-        Err(Refusal::broken(Rule::Mismatch, program.spot(template.body())))
+        Err(Refusal::broken(Rule::Mismatch, program.spot(body)))
     }
 }
 

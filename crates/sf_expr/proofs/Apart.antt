@@ -1,5 +1,5 @@
 -- Names that are all different.
-use Rattle.std.proofs.Common.{◌≡◌, ◌≢◌, ℕ, zero, suc, ◌+◌, List, [], ◌∷◌, ◌++◌, length, Some, Bool, true, false, ◌||◌, IsTrue, Contains, ◌↔◌, refl, sym, ◌∙◌, ap, subst, arith, append_assoc}
+use Rattle.std.proofs.Common.{◌≡◌, ◌≢◌, ℕ, zero, suc, ◌+◌, List, [], ◌∷◌, ◌++◌, length, Some, Bool, true, false, not, ◌||◌, IsTrue, Contains, ◌↔◌, refl, sym, ◌∙◌, ap, subst, arith, append_assoc}
 use Rattle.std.specs.Prelude.{slice_get, bytes_eq}
 use Rattle.std.specs.List.{list_any}
 use Rattle.std.specs.Bool.{Decides}
@@ -16,7 +16,7 @@ use Rattle.sf_refusal.proofs.Explained.{or_memory}
 use Rattle.sf_expr.specs.Expressions.{names_in}
 use Rattle.sf_expr.specs.Patterns.{PlacedPattern, placed_unnamed, placed_name, placed_both, pattern_of, spots_in}
 use Rattle.sf_expr.specs.Typing.{AllDifferent}
-use Rattle.sf_expr.specs.Scopes.{names_seen}
+use Rattle.sf_expr.specs.Meanings.{names_seen}
 use Rattle.sf_expr.specs.Refusals.{IsRepeated, RepeatRefused}
 
 contains_more : (y : Name) (xs : List Name) (n : Name) → Contains xs n → Contains (y ∷ xs) n
@@ -33,21 +33,34 @@ repeated_apart [] n after h c = omega (arith, c.1)
 repeated_apart (y ∷ ys) n after h (zero, q, e) = h.0 (length ys) n (omega (arith, length-append ys (n ∷ after))) (e ∙ sym (get_or-append_seam ys n after n))
 repeated_apart (y ∷ ys) n after h (suc k, q, e) = repeated_apart ys n after h.1 (k, omega arith, e)
 
-seen_here : (y : Bor (List ℕ)) (ys : List (Bor (List ℕ))) (n : List ℕ) (b : Bool) → Decides b (y.now ≡ n) → (IsTrue (list_any (λ (y : Bor (List ℕ)). bytes_eq y.now n) ys) ↔ Contains (names_seen ys) n) → IsTrue (b || list_any (λ (y : Bor (List ℕ)). bytes_eq y.now n) ys) ↔ Contains (y.now ∷ names_seen ys) n
-seen_here y ys n true d more = (λ t. (0, omega arith, d.0 refl), λ c. refl)
-seen_here y ys n false d more = (λ t. contains_more y.now (names_seen ys) n (more.0 t), λ c. more.1 (tail (λ e. let q = d.1 e in cc) c))
+seen_here : (y : Bor (List ℕ)) (ys : List (Bor (List ℕ))) (n : List ℕ) (b : Bool) → Decides b (n ≡ y.now) → (IsTrue (list_any (λ (y : Bor (List ℕ)). bytes_eq n y.now) ys) ↔ Contains (names_seen ys) n) → IsTrue (b || list_any (λ (y : Bor (List ℕ)). bytes_eq n y.now) ys) ↔ Contains (y.now ∷ names_seen ys) n
+seen_here y ys n true d more = (λ t. (0, omega arith, sym (d.0 refl)), λ c. refl)
+seen_here y ys n false d more = (λ t. contains_more y.now (names_seen ys) n (more.0 t), λ c. more.1 (tail (λ e. let q = d.1 (sym e) in cc) c))
   where
     tail : (y.now ≡ n → ⊥) → Contains (y.now ∷ names_seen ys) n → Contains (names_seen ys) n
     tail h (zero, q, e) = absurd (h e)
     tail h (suc k, q, e) = (k, omega arith, e)
 
 -- a name that was seen
-pub seen_contains : (seen : List (Bor (List ℕ))) (n : List ℕ) (b : Bool) → b ≡ list_any (λ (y : Bor (List ℕ)). bytes_eq y.now n) seen → IsTrue b ↔ Contains (names_seen seen) n
-seen_contains seen n b e = subst (λ (b : Bool). IsTrue b ↔ Contains (names_seen seen) n) (sym e) (among seen)
-  where
-    among : (seen : List (Bor (List ℕ))) → IsTrue (list_any (λ (y : Bor (List ℕ)). bytes_eq y.now n) seen) ↔ Contains (names_seen seen) n
-    among [] = (λ t. absurd cc, λ c. absurd (omega (arith, c.1)))
-    among (y ∷ ys) = seen_here y ys n (bytes_eq y.now n) (bytes_eq-Decides y.now n) (among ys)
+seen_contains : (seen : List (Bor (List ℕ))) (n : List ℕ) → IsTrue (list_any (λ (y : Bor (List ℕ)). bytes_eq n y.now) seen) ↔ Contains (names_seen seen) n
+seen_contains [] n = (λ t. absurd cc, λ c. absurd (omega (arith, c.1)))
+seen_contains (y ∷ ys) n = seen_here y ys n (bytes_eq n y.now) (bytes_eq-Decides n y.now) (seen_contains ys n)
+
+-- a name is put behind those that were seen where it is none of them
+module _ (seen : List (Bor (List ℕ))) (n : List ℕ) (new : Bool) (is : new ≡ not (list_any (λ (y : Bor (List ℕ)). bytes_eq n y.now) seen)) where
+  pub note_stood : new ≡ false → Contains (names_seen seen) n
+  note_stood e = (seen_contains seen n).0 (each _ (sym is ∙ e))
+    where
+      each : (b : Bool) → not b ≡ false → IsTrue b
+      each true h = refl
+      each false h = absurd cc
+
+  pub note_new : new ≡ true → Contains (names_seen seen) n → ⊥
+  note_new e h = each _ (sym is ∙ e) ((seen_contains seen n).1 h)
+    where
+      each : (b : Bool) → not b ≡ true → IsTrue b → ⊥
+      each true h k = absurd cc
+      each false h k = absurd cc
 
 -- as many names as places
 pub spots-length : (p : PlacedPattern) → length (spots_in p) ≡ length (names_in (pattern_of p))

@@ -1,5 +1,5 @@
 -- Scopes, and names to which one is put behind the others.
-use Rattle.std.proofs.Common.{◌≡◌, cond, [], ◌∷◌, ◌++◌, Option, Some, None, ◌∙◌, ap, sym, subst, fold, Result, Ok, Err, OnOk, IfErr, refl}
+use Rattle.std.proofs.Common.{◌≡◌, cond, [], ◌∷◌, ◌++◌, Option, Some, None, ◌∙◌, ap, sym, subst, Result, Ok, Err, OnOk, IfErr, refl}
 use Rattle.sf_value.specs.Values.{Kind, pair_kind, IsNoPair}
 use Rattle.sf_refusal.specs.declared.spot.Spot.{Spot}
 use Rattle.sf_refusal.specs.declared.refusal.Refusal.{Refusal}
@@ -10,24 +10,35 @@ use Rattle.sf_expr.specs.Refusals.{BindRefused}
 use Rattle.sf_expr.specs.Patterns.{PlacedPattern, placed_both, pattern_of}
 use Rattle.sf_func.specs.Registries.{TypesByName}
 use Rattle.sf_expr.specs.Typing.{Names, only_functions, typed_name, untyped_name, type_of_name, functions_of, with_types, AddsNames, adds_nothing, adds_name, adds_both, Binds}
-use Rattle.std.proofs.lemmas.List.Sums.{fold-append}
 use Rattle.std.specs.Prelude.{bytes_eq}
 use Rattle.sf_value.specs.Values.{Name}
-use Rattle.sf_expr.specs.Scopes.{names_of, with_name}
-use Rattle.sf_expr.specs.declared.typed_name.TypedName.{TypedName}
-use Rattle.sf_expr.specs.declared.typing.TypeScope as types
+use Rattle.sf_expr.specs.Meanings.{Meant, of_value, of_process, Entries, entry_before, names_from}
 
-pub names_empty : (s : types.TypeScope) → s.names.items ≡ [] → names_of s ≡ only_functions []
-unfolding names_of
-names_empty s e = ap (λ ns. fold with_name (only_functions []) ns) e
+-- names in the place of the functions behind others
+abbrev pub over : Names → Names → Names
+over Q (only_functions fs) = Q
+over Q (typed_name x t R) = typed_name x t (over Q R)
+over Q (untyped_name x R) = untyped_name x (over Q R)
 
-pub names_same : (s t : types.TypeScope) → s.names.items ≡ t.names.items → names_of s ≡ names_of t
-unfolding names_of
-names_same s t e = ap (λ ns. fold with_name (only_functions []) ns) e
+pub names_over : (es fs : Entries) → names_from (es ++ fs) ≡ over (names_from fs) (names_from es)
+names_over [] fs = refl
+names_over (e ∷ es) fs = each e.1 (names_over es fs)
+  where
+    each : (m : Meant) → names_from (es ++ fs) ≡ over (names_from fs) (names_from es) → entry_before e.0 m (names_from (es ++ fs)) ≡ over (names_from fs) (entry_before e.0 m (names_from es))
+    each (of_value t) rest = ap (typed_name e.0 t) rest
+    each (of_process a b) rest = ap (untyped_name e.0) rest
 
-pub names_pushed : (old new : types.TypeScope) (n : Option TypedName) → new.names.items ≡ old.names.items ++ n ∷ [] → names_of new ≡ with_name (names_of old) n
-unfolding names_of
-names_pushed old new n e = ap (λ ns. fold with_name (only_functions []) ns) e ∙ fold-append with_name (only_functions []) old.names.items (n ∷ [])
+adds_over : (Q : Names) {p : Pattern} {t : Kind} {R S : Names} → AddsNames p t R S → AddsNames p t (over Q R) (over Q S)
+adds_over Q adds_nothing = adds_nothing
+adds_over Q adds_name = adds_name
+adds_over Q (adds_both a b) = adds_both (adds_over Q a) (adds_over Q b)
+
+-- a pattern whose names are put around names is bound there
+pub bound_within : (es fs gs : Entries) {p : Pattern} {t : Kind} → gs ≡ es ++ fs → Binds p t (only_functions []) (names_from es) → Binds p t (names_from fs) (names_from gs)
+bound_within es fs gs {p} {t} more b = record {
+  adds = subst (λ (S : Names). AddsNames p t (names_from fs) S) (sym (ap names_from more ∙ names_over es fs)) (adds_over (names_from fs) b.adds);
+  apart = b.apart;
+}
 
 -- the functions are those that were given
 pub functions_with : (fs : TypesByName) (R : Names) → functions_of (with_types fs R) ≡ fs

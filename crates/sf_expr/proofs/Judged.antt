@@ -20,7 +20,8 @@ use Rattle.sf_refusal.specs.declared.spot.Spot.{Spot}
 use Rattle.sf_refusal.specs.declared.rule.Rule.TheVariants.{TypeTooLarge}
 use Rattle.sf_refusal.specs.declared.refusal.Breach.{Breach}
 use Rattle.sf_refusal.specs.declared.refusal.Refusal.{Refusal}
-use Rattle.sf_refusal.specs.Refusals.{breach_of, OrMemory}
+use Rattle.sf_refusal.specs.declared.refusal.Refusal.TheVariants.{Memory}
+use Rattle.sf_refusal.specs.Refusals.{breach_of, OrMemory, no_memory}
 use Rattle.sf_refusal.proofs.Explained.{or_memory}
 use Rattle.sf_expr.specs.Expressions.{Pattern, names_in, Literal, unit_literal, truth_literal, int_literal, Expression, variable, literal, paired, applied, operation, conditional, mapped, folded, called, function}
 use Rattle.sf_expr.specs.Patterns.{PlacedPattern, pattern_of}
@@ -441,6 +442,10 @@ module _ (x : Exprs) (R : Names) (p : PlacedPattern) (i : ExprId) (t : Kind) (at
   pub part_body_judged : (S : Names) (r : Result Kind Refusal) → Binds (pattern_of p) t R S → Fits t → Judges x S i r → JudgesPart x R p i t at r
   part_body_judged S (Ok u) n f h = function_takes f n h
   part_body_judged S (Err r) n f h = or_memory (λ b k. by_body n k) h
+
+pub memory_judged : (x : Exprs) (R : Names) (i : ExprId) (answer : Result Kind Refusal) → IsErrAnd answer (λ e. e ≡ Memory) → Judges x R i answer
+memory_judged x R i (Ok t) e = absurd e
+memory_judged x R i (Err r) e = subst (λ (r : Refusal). OrMemory (Refused x R i) r) (sym e) no_memory
 
 pub judged_types_part : (x : Exprs) (R : Names) (p : PlacedPattern) (i : ExprId) (a : Kind) (at : Spot) (r : Result Kind Refusal) → JudgesPart x R p i a at r → TypesFunction R (function (pattern_of p) (expression x i)) a r
 judged_types_part x R p i a at (Ok t) h = h

@@ -1,5 +1,6 @@
 pub mod Literals
 pub mod Sound
+pub mod Scoped
 pub mod Bound
 pub mod Entered
 pub mod Typed

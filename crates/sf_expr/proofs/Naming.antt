@@ -10,7 +10,6 @@ use Rattle.sf_refusal.specs.declared.refusal.Refusal.{Refusal}
 use Rattle.sf_refusal.specs.declared.refusal.Refusal.TheVariants.{Memory}
 use Rattle.sf_refusal.specs.Refusals.{breach_of, broken, OrMemory, because, no_memory}
 use Rattle.sf_expr.specs.Typing.{Names, only_functions, typed_name, untyped_name, type_of_name, named_in, with_types}
-use Rattle.sf_expr.specs.Scopes.{name_before}
 use Rattle.sf_expr.specs.Refusals.{NameRefused, AnswersName}
 
 -- the type in what a name stands for
@@ -36,11 +35,6 @@ pub named_with : (fs : TypesByName) (x : Name) (R : Names) → named_in x (with_
 named_with fs x (only_functions gs) = refl
 named_with fs x (typed_name y t R) = ap (λ (o : Option (Option Kind)). cond (bytes_eq x y) (Some (Some t)) o) (named_with fs x R)
 named_with fs x (untyped_name y R) = ap (λ (o : Option (Option Kind)). cond (bytes_eq x y) (Some None) o) (named_with fs x R)
-
--- a name before others stands for what it was put there for, and hides none that differs
-pub named_before : (x y : Name) (o : Option Kind) (R : Names) → named_in x (name_before y o R) ≡ cond (bytes_eq x y) (Some o) (named_in x R)
-named_before x y (Some t) R = refl
-named_before x y None R = refl
 
 -- what is refused has no type
 pub name_refused : (o : Option (Option Kind)) (at : Spot) (b : Breach) {t : Kind} → NameRefused o at b → type_meant o ≡ Some t → ⊥

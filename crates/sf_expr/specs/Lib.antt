@@ -8,6 +8,7 @@ pub mod LiteralCodes
 pub mod Constants
 pub mod Typing
 pub mod Soundness
+pub mod Meanings
 pub mod Scopes
 pub mod Entries
 pub mod Arena

@@ -1,36 +1,28 @@
--- The names that a scope has, with their types.
+-- The names that a scope has, with what they stand for.
 use Rattle.std.specs.Borrow.{Bor}
-use Rattle.std.specs.Prelude.{ℕ, map, List, [], fold, Option, Some, None}
-use Rattle.sf_value.specs.Values.{Name, Kind}
-use Rattle.sf_expr.specs.declared.typed_name.TypedName.{TypedName}
-use Rattle.sf_expr.specs.declared.typing.TypeScope as types
-use Rattle.sf_expr.specs.Typing.{Names, only_functions, typed_name, untyped_name}
+use Rattle.std.specs.Prelude.{List, [], ◌++◌, fold, Option, Some, None}
+use Rattle.sf_expr.specs.declared.frame.Frame as framed
+use Rattle.sf_expr.specs.declared.scope.TypeScope as scoped
+use Rattle.sf_expr.specs.Typing.{Names}
+use Rattle.sf_expr.specs.Meanings.{Entries, entries_from, names_from}
 
--- the type of a name, if it stands for a value
-abbrev pub type_in : Option (Bor Kind) → Option Kind
-type_in None = None
-type_in (Some t) = Some t.now
+-- the names of a frame, the innermost first
+unfoldable pub entries_in : framed.Frame → Entries
+entries_in f = entries_from f.names.items
 
-abbrev pub kind_seen : TypedName → Option Kind
-kind_seen n = type_in n.ty
+-- the names with those of one more frame
+abbrev pub with_frame : Entries → Option (Bor framed.Frame) → Entries
+with_frame es None = es
+with_frame es (Some f) = entries_in f.now ++ es
 
--- the names with one of a type before them, or one that stands for no value
-abbrev pub name_before : Name → Option Kind → Names → Names
-name_before x None R = untyped_name x R
-name_before x (Some t) R = typed_name x t R
+-- the names of frames, of which the innermost stands last, the innermost first
+abbrev pub entries_along : List (Option (Bor framed.Frame)) → Entries
+entries_along fs = fold with_frame [] fs
 
--- the names with one more
-abbrev pub with_name : Names → Option TypedName → Names
-with_name R None = R
-with_name R (Some n) = name_before n.name.now (kind_seen n) R
+-- the names of a scope, the innermost first
+unfoldable pub entries_around : scoped.TypeScope → Entries
+entries_around s = entries_along s.frames.items
 
--- the names with their types, of which the innermost stands last, the innermost first, without functions
-abbrev pub names_from : List (Option TypedName) → Names
-names_from ns = fold with_name (only_functions []) ns
-
-unfoldable pub names_of : types.TypeScope → Names
-names_of s = names_from s.names.items
-
--- the names that were seen, in order
-abbrev pub names_seen : List (Bor (List ℕ)) → List Name
-names_seen seen = map (λ (n : Bor (List ℕ)). n.now) seen
+-- those with types
+abbrev pub names_of : scoped.TypeScope → Names
+names_of s = names_from (entries_around s)

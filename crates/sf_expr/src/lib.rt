@@ -3,19 +3,24 @@
 
 mod constant;
 mod exprs;
+mod frame;
 mod laws;
+mod meaning;
 mod pat;
+mod scope;
 mod stored;
-mod typed_name;
 mod typing;
 
 pub use constant::{Constant, ConstantForm};
 pub use exprs::{ConstantId, ExprId, ExprNode, Exprs, FunctionId, NameId, PatternId};
+pub use frame::Frame;
 pub use laws::{found_type, one_refusal, some_type, typed_expression};
+pub use meaning::Meaning;
 pub use pat::{Pat, PatForm};
+pub use scope::TypeScope;
 pub use sf_arena::ArenaRefusal;
 pub use sf_operator::{
     Arithmetic, Comparison, Equality, Folding, Logic, Mapping, Merge, Operator, Unary,
 };
 pub use sf_refusal::{Refusal, Rule, Spot};
-pub use typing::{TypeScope, function_type, pair_type, type_of};
+pub use typing::{function_type, pair_type, type_of};

@@ -1,22 +1,22 @@
 //! The types of expressions.
-ghost use Rattle.std.specs.Prelude.{◌≡◌, ◌++◌, [], ◌↔◌, IsTrue, Some, None, OnOk, IfOk, IfSome, IfNone, IfErr, Contains};
-ghost use Rattle.sf_expr.specs.Typing.{Fits, AddsNames, Binds, AllDifferent, only_functions, typed_name, untyped_name, named_in, with_types, literal_kind};
-ghost use Rattle.sf_expr.specs.Expressions.{names_in};
+ghost use Rattle.std.specs.Prelude.{◌≡◌, ◌++◌, IsTrue, Some, None};
+ghost use Rattle.sf_expr.specs.Typing.{named_in, with_types, literal_kind};
 ghost use Rattle.sf_expr.specs.Inference.{is_valued};
 ghost use Rattle.sf_expr.specs.Arena.{expression, function_at, node_at, id_number, PartsBelow};
 ghost use Rattle.sf_expr.specs.declared.exprs.ExprNode.TheVariants.{Conditional, Mapped, Folded};
-ghost use Rattle.sf_expr.specs.Patterns.{pattern_of};
-ghost use Rattle.sf_expr.specs.Scopes.{names_of, names_seen, type_in, kind_seen};
-ghost use Rattle.sf_expr.specs.Refusals.{Types, TypesFunction, Judges, JudgesFunction, AnswersPair, AnswersCall, AnswersName, BindRefused, RepeatRefused, PatternRefused, JudgesPart};
+ghost use Rattle.sf_expr.specs.Meanings.{names_from};
+ghost use Rattle.sf_expr.specs.Scopes.{names_of, entries_in, entries_around};
+ghost use Rattle.sf_expr.specs.Refusals.{Types, TypesFunction, Judges, JudgesFunction, AnswersPair, AnswersCall, AnswersName, JudgesPart};
 ghost use Rattle.sf_operator.specs.Breaches.{AnswersKind};
-ghost use Rattle.sf_refusal.specs.Refusals.{OrMemory};
 ghost use Rattle.sf_func.specs.Registries.{types_named};
 ghost use Rattle.sf_func.specs.Signatures.{signatures_in};
 
 use crate::constant::{Constant, ConstantForm};
 use crate::exprs::{ExprId, ExprNode, Exprs, FunctionId, PatternId};
-use crate::pat::{Pat, PatForm};
-use crate::typed_name::TypedName;
+use crate::frame::Frame;
+use crate::meaning::Meaning;
+use crate::pat::Pat;
+use crate::scope::TypeScope;
 use sf_func::Signatures;
 use sf_operator::{
     Folding, Mapping, binary_type, called_type, conditional_type, event_type, folded_argument_type,
@@ -24,176 +24,7 @@ use sf_operator::{
 };
 use sf_refusal::{Refusal, Rule, Spot};
 use sf_value::Ty;
-use smallvec::SmallVec;
-use std::alloc::{AllocError, Global};
-
-/// The names around an expression, the innermost last: those that stand for values with their types, and others, which
-/// stand for none.
-pub struct TypeScope<'a> {
-    names: SmallVec<Option<TypedName<'a>>, 4>,
-}
-
-impl<'a> Drop for TypeScope<'a> {
-    fn drop(self) {
-        let TypeScope { names } = self;
-        drop(names);
-    }
-}
-
-impl<'a> TypeScope<'a> {
-    /// No name.
-    #[tactic(auto, using(crate::proofs::Bound::names_empty))]
-    pub fn new(alloc: Global) -> TypeScope<'a>
-        ensures { names_of result ≡ only_functions [] }
-    {
-        TypeScope {
-            names: SmallVec::new(alloc),
-        }
-    }
-
-    /// The same names, for as long as they are looked at here.
-    #[tactic(auto, using(crate::proofs::Bound::names_same))]
-    fn shorter<'b>(&'b self, alloc: Global) -> Result<TypeScope<'b>, AllocError>
-        ensures { IfOk result (λ copy. names_of copy ≡ names_of self.now) }
-    {
-        Ok(TypeScope {
-            names: SmallVec::from_slice(alloc, self.names.as_slice())?,
-        })
-    }
-
-    /// A name with its type, the innermost of that name; none where it is not there.
-    #[tactic(auto, using(crate::proofs::Naming::named_before))]
-    fn find(&self, name: &str) -> Option<TypedName<'a>>
-        ensures found { IfSome result (λ n. named_in name.now (names_of self.now) ≡ Some (kind_seen n)) }
-        ensures absent { IfNone result (named_in name.now (names_of self.now) ≡ None) }
-    {
-        let mut rest = self.names.as_slice();
-        while let [before @ .., last] = rest {
-            if let Some(typed) = last
-                && name == typed.name
-            {
-                return Some(*typed);
-            }
-            rest = before;
-        }
-        None
-    }
-
-    /// What a name stands for, the innermost of that name: a value of a type, or no value; none where it is not there.
-    pub fn stands_for(&self, name: &str) -> Option<Option<&'a Ty>>
-        ensures found { IfSome result (λ t. named_in name.now (names_of self.now) ≡ Some (type_in t)) }
-        ensures absent { IfNone result (named_in name.now (names_of self.now) ≡ None) }
-    {
-        Some(self.find(name)?.ty)
-    }
-
-    /// Puts a name behind the names that are there that stands for a value of a type.
-    pub fn add_value(&mut self, name: &'a str, ty: &'a Ty) -> Result<(), AllocError>
-        requires { Fits ty.now }
-        ensures { OnOk result (names_of self.new ≡ typed_name name.now ty.now (names_of self.old)) }
-    {
-        let ty = Some(ty);
-        self.names.push(Some(TypedName { name, ty }))?;
-        Ok(())
-    }
-
-    /// Puts a name behind the names that are there that stands for no value.
-    pub fn add_other(&mut self, name: &'a str) -> Result<(), AllocError>
-        ensures { OnOk result (names_of self.new ≡ untyped_name name.now (names_of self.old)) }
-    {
-        self.names.push(Some(TypedName { name, ty: None }))?;
-        Ok(())
-    }
-
-    /// The names with one behind them that stands for no value.
-    pub fn with_other<'b>(
-        &'b self,
-        alloc: Global,
-        name: &'b str,
-    ) -> Result<TypeScope<'b>, AllocError>
-        ensures { IfOk result (λ names. names_of names ≡ untyped_name name.now (names_of self.now)) }
-    {
-        let mut scope = self.shorter(alloc)?;
-        scope.names.push(Some(TypedName { name, ty: None }))?;
-        Ok(scope)
-    }
-
-    /// Puts the names of a pattern behind the names that are there, with the types of the parts of a type. Refused with
-    /// `Mismatch` at `at` where the pattern does not fit the type, and with `Memory`; only some of the names may be
-    /// there then.
-    fn bind(&mut self, pattern: &'a Pat, ty: &'a Ty, at: Spot) -> Result<(), Refusal>
-        ensures ok { OnOk result (AddsNames (pattern_of pattern.now) ty.now (names_of self.old) (names_of self.new)) }
-        ensures err { IfErr result (OrMemory (BindRefused (pattern_of pattern.now) ty.now at)) }
-        ensures fits { Fits ty.now }
-    {
-        match (pattern.form(), ty.parts()) {
-            (PatForm::Unnamed, _) => Ok(()),
-            (PatForm::Name(name, _), _) => {
-                let name = name.as_str();
-                let ty = Some(ty);
-                self.names.push(Some(TypedName { name, ty }))?;
-                Ok(())
-            }
-            (PatForm::Both(first, second), Some((left, right))) => {
-                self.bind(first, left, at)?;
-                self.bind(second, right, at)
-            }
-            (PatForm::Both(_, _), None) => Err(Refusal::broken(Rule::Mismatch, at)),
-        }
-    }
-
-    /// The names with those of a pattern behind them, for the parts of a type. Refused with `DuplicateName` where two of
-    /// the pattern's names are the same, with the place of the later one, then with `Mismatch` at `at` where it does not
-    /// fit the type, and with `Memory`.
-    pub fn within<'b>(
-        &'b self,
-        alloc: Global,
-        pattern: &'b Pat,
-        ty: &'b Ty,
-        at: Spot,
-    ) -> Result<TypeScope<'b>, Refusal>
-        ensures bound { IfOk result (λ names. Binds (pattern_of pattern.now) ty.now (names_of self.now) (names_of names)) }
-        ensures fits { OnOk result (Fits ty.now) }
-        ensures err { IfErr result (OrMemory (PatternRefused pattern.now ty.now at)) }
-    {
-        see(pattern, &mut SmallVec::new(alloc))?;
-        let mut names = self.shorter(alloc)?;
-        names.bind(pattern, ty, at)?;
-        Ok(names)
-    }
-}
-
-/// Whether a name was seen.
-fn was_seen(seen: &[&str], name: &str) -> bool
-    ensures { IsTrue result ↔ Contains (names_seen seen.now) name.now }
-{
-    seen.contains(&name)
-}
-
-/// Puts the names of a pattern behind those that were seen. Refused with `DuplicateName` at the first name that was seen
-/// before, and with `Memory`; only some of the names may be there then.
-fn see<'a>(pattern: &'a Pat, seen: &mut SmallVec<&'a str, 4>) -> Result<(), Refusal>
-    requires { AllDifferent (names_seen seen.old.items) }
-    ensures seen { OnOk result (names_seen seen.new.items ≡ names_seen seen.old.items ++ names_in (pattern_of pattern.now)) }
-    ensures apart { OnOk result (AllDifferent (names_seen seen.new.items)) }
-    ensures err { IfErr result (OrMemory (RepeatRefused (names_seen seen.old.items) pattern.now)) }
-{
-    match pattern.form() {
-        PatForm::Unnamed => {}
-        PatForm::Name(name, spot) => {
-            let name = name.as_str();
-            if was_seen(seen.as_slice(), name) {
-                return Err(Refusal::broken(Rule::DuplicateName, *spot));
-            }
-            seen.push(name)?;
-        }
-        PatForm::Both(first, second) => {
-            see(first, seen)?;
-            see(second, seen)?;
-        }
-    }
-    Ok(())
-}
+use std::alloc::Global;
 
 /// The type of pairs of two types; refused with `TypeTooLarge` at `at` where it would be made of more than 256 types.
 #[tactic(auto, using(crate::proofs::Judged::answers_pair))]
@@ -237,11 +68,9 @@ fn call_type(
 fn name_type(alloc: Global, names: &TypeScope, name: &str, at: Spot) -> Result<Ty, Refusal>
     ensures { AnswersName (named_in name.now (names_of names.now)) at result }
 {
-    match names.find(name) {
-        Some(typed) => match typed.ty {
-            Some(ty) => Ok(ty.clone_in(alloc)?),
-            None => Err(Refusal::broken(Rule::Mismatch, at)),
-        },
+    match names.stands_for(name) {
+        Some(Meaning::Value(ty)) => Ok(ty.clone_in(alloc)?),
+        Some(Meaning::Process(_, _)) => Err(Refusal::broken(Rule::Mismatch, at)),
         None => Err(Refusal::broken(Rule::UnknownName, at)),
     }
 }
@@ -388,8 +217,24 @@ fn judge_part(
 ) -> Result<Ty, Refusal>
     ensures { JudgesPart exprs.now (with_types (signatures_in functions.now) (names_of around.now)) pattern.now body from.now at result }
 {
-    let names = (&*around).within(alloc, &*pattern, &*from, at)?;
-    judge(alloc, &*exprs, body, &names, &*functions)
+    let frame = Frame::of_pattern(alloc, pattern, from, at)?;
+    judge_within(alloc, exprs, body, &frame, around, functions)
+}
+
+/// The type of an expression where a frame puts names behind those around it, or the first refusal.
+#[cycle(judge)]
+fn judge_within(
+    alloc: Global,
+    exprs: &Exprs,
+    body: ExprId,
+    frame: &Frame,
+    around: &TypeScope,
+    functions: &Signatures,
+) -> Result<Ty, Refusal>
+    ensures { Judges exprs.now (with_types (signatures_in functions.now) (names_from (entries_in frame.now ++ entries_around around.now))) body result }
+{
+    let names = (&*around).within(alloc, &*frame)?;
+    judge(alloc, exprs, body, &names, functions)
 }
 
 /// The type of an expression, where names and functions have these types, or why it has none.

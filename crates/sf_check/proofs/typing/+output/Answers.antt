@@ -8,6 +8,7 @@ use Rattle.sf_refusal.specs.declared.rule.Rule.TheVariants.{Mismatch}
 use Rattle.sf_refusal.specs.Refusals.{broken, no_memory}
 use Rattle.sf_check.specs.Breaking.{keeping_inside, initialized_part, sequence_left, fan_left, fan_right, parallel_input, side_input, switch_source, keeping_source}
 use Rattle.sf_term.specs.Arena.{term_number, expressions_of, term_spot_at, arguments_under, ArgumentBelow}
+use Rattle.sf_check.specs.Standing.{inside_names}
 use Rattle.sf_check.specs.Contexts.{context_in}
 use Rattle.sf_check.proofs.Terms.{part_refused, err_answers, memory_answers, named_there, sided_there, pair_differs, mismatch_refused, primitive_answers, probe_answers, sequence_answers, fan_answers, left_reached, right_reached, first_reached, second_reached, parallel_answers, first_answers, second_answers, start_answers, initialized_answers, fed_refused, loop_reached, loop_answers, answers_under, body_under, err_body, pattern_stops, within_stops, body_answered, switch_answers, source_answers, source_wants, input_answers, first_term_reached, input_wants, watched_answers, observer_reached, observer_answers, keeping_answers}
 use Rattle.sf_term.specs.ParameterView.{kind_of_form}
@@ -126,24 +127,32 @@ initialized_output-returns t c =
 
 -- ## Bodies
 
-pub body_output-returns-in_err-inner : goal.body_output-returns-in_err-inner
-body_output-returns-in_err-inner t c =
-    err_body _ _ _ _ _ _ _ _ _ _ c.from_residual.ensures.1 (pattern_stops c.args.context.now.program.now _ _ _ _ _ c.args.wanted.now _ _ c.in_err-inner.ensures.refused)
+pub body_output-returns-in_err-names : goal.body_output-returns-in_err-names
+body_output-returns-in_err-names t c =
+    err_body _ _ _ _ _ _ _ _ _ _ c.from_residual.ensures.1 (pattern_stops c.args.context.now.program.now _ _ _ _ _ c.args.wanted.now _ _ c.in_err-names.ensures.refused)
 
 pub body_output-returns-in_err-given : goal.body_output-returns-in_err-given
 body_output-returns-in_err-given t c =
     let p = c.args.context.now.program.now in
-    let inner = c.in_ok-inner.ensures in
+    let names = c.in_ok-names.ensures in
     err_body _ _ _ _ _ _ _ _ _ _ c.from_residual-in_err-given.ensures.1
-    (within_stops p _ _ _ _ _ c.args.wanted.now _ inner.bound _ (answers_under _ p _ _ _ _ (Err _) inner.program inner.context c.in_err-given.ensures))
+    (within_stops p _ _ _ _ _ c.args.wanted.now _ names.bound _ (answers_under _ p _ _ _ _ (Err _) refl names.inside c.in_err-given.ensures))
 
 pub body_output-returns : goal.body_output-returns
 body_output-returns t c =
     let p = c.args.context.now.program.now in
-    let inner = c.in_ok-inner.ensures in
-    let body = answers_under _ p _ _ _ _ (Ok _) inner.program inner.context c.in_ok-given.ensures in
+    let names = c.in_ok-names.ensures in
+    let body = answers_under _ p _ _ _ _ (Ok _) refl names.inside c.in_ok-given.ensures in
     let wanted = c.wanted_output.ensures in
-    body_answered p _ c.args.spot _ _ _ _ _ inner.bound _ body _ wanted.same wanted.ok wanted.err
+    body_answered p _ c.args.spot _ _ _ _ _ names.bound _ body _ wanted.same wanted.ok wanted.err
+
+pub output_within-returns-in_err-inner : goal.output_within-returns-in_err-inner
+output_within-returns-in_err-inner t c = memory_answers _ _ c.args.body _ _ c.from_residual.ensures.1
+
+pub output_within-returns : goal.output_within-returns
+output_within-returns t c =
+    let inner = c.in_ok-inner.ensures in
+    answers_under _ _ _ _ _ _ c.output_of.result inner.program inner.context c.output_of.ensures
 
 -- ## Switches
 
@@ -209,16 +218,23 @@ keeping_output-returns t c =
     keeping_answers c.args.context.now.program.now _ c.args.term _ _ c.spot-spot.ensures _ _ _ _ _ _ _ c.requires.there _ c.in_ok-value.ensures _ c.in_ok-watched.ensures _ c.in_ok-seen.ensures _ _
     c.in_ok-payload.ensures.ok c.requires.fits c.kept_output.ensures
 
-pub kept_output-returns-in_err-inner : goal.kept_output-returns-in_err-inner
-kept_output-returns-in_err-inner t c =
+pub kept_output-returns-in_err-names : goal.kept_output-returns-in_err-names
+kept_output-returns-in_err-names t c =
     let p = c.args.context.now.program.now in
     err_body p (keeping_inside p c.args.name c.args.input.now c.args.wanted.now (context_in c.args.context.now)) c.args.spot c.args.pattern c.args.body c.args.input.now c.args.wanted.now c.args.payload.now _ _ c.from_residual.ensures.1 no_memory
 
 pub kept_output-returns : goal.kept_output-returns
-kept_output-returns t c =
+kept_output-returns t c = body_under _ c.args.context.now.program.now _ _ _ _ _ _ _ _ _ refl c.in_ok-names.ensures c.body_within.ensures
+
+pub body_within-returns-in_err-inner : goal.body_within-returns-in_err-inner
+body_within-returns-in_err-inner t c =
     let p = c.args.context.now.program.now in
+    err_body p (inside_names c.args.names.now (context_in c.args.context.now)) c.args.spot c.args.pattern c.args.body c.args.input.now c.args.wanted.now c.args.payload.now _ _ c.from_residual.ensures.1 no_memory
+
+pub body_within-returns : goal.body_within-returns
+body_within-returns t c =
     let inner = c.in_ok-inner.ensures in
-    body_under _ p _ _ _ _ _ _ _ _ _ inner.program inner.context c.body_output.ensures
+    body_under _ c.args.context.now.program.now _ _ _ _ _ _ _ _ _ inner.program inner.context c.body_output.ensures
 
 pub output_of-returns-in-Named-Process-default-default : goal.output_of-returns-in-Named-Process-default-default
 output_of-returns-in-Named-Process-default-default t c = c.process_output.ensures

@@ -9,54 +9,60 @@ use Rattle.sf_check.proofs.typing.+output.Given as goal
 
 -- a term, then its form, and then the kind of the form
 abbrev pub decreases-output_of : goal.decreases-output_of
-decreases-output_of l = 4 * term_number l.term + 3
+decreases-output_of l = 6 * term_number l.term + 3
 
 abbrev pub decreases-joined_output : goal.decreases-joined_output
-decreases-joined_output l = 4 * term_number l.term + 2
+decreases-joined_output l = 6 * term_number l.term + 2
 
 abbrev pub decreases-sided_output : goal.decreases-sided_output
-decreases-sided_output l = 4 * term_number l.term + 2
+decreases-sided_output l = 6 * term_number l.term + 2
 
 abbrev pub decreases-looped_output : goal.decreases-looped_output
-decreases-looped_output l = 4 * term_number l.term + 2
+decreases-looped_output l = 6 * term_number l.term + 2
 
 abbrev pub decreases-initialized_output : goal.decreases-initialized_output
-decreases-initialized_output l = 4 * term_number l.term + 2
+decreases-initialized_output l = 6 * term_number l.term + 2
 
 abbrev pub decreases-switching_output : goal.decreases-switching_output
-decreases-switching_output l = 4 * term_number l.term + 2
+decreases-switching_output l = 6 * term_number l.term + 2
 
 abbrev pub decreases-keeping_output : goal.decreases-keeping_output
-decreases-keeping_output l = 4 * term_number l.term + 2
+decreases-keeping_output l = 6 * term_number l.term + 2
 
 abbrev pub decreases-sequence_output : goal.decreases-sequence_output
-decreases-sequence_output l = 4 * term_number l.term + 1
+decreases-sequence_output l = 6 * term_number l.term + 1
 
 abbrev pub decreases-parallel_output : goal.decreases-parallel_output
-decreases-parallel_output l = 4 * term_number l.term + 1
+decreases-parallel_output l = 6 * term_number l.term + 1
 
 abbrev pub decreases-fan_output : goal.decreases-fan_output
-decreases-fan_output l = 4 * term_number l.term + 1
+decreases-fan_output l = 6 * term_number l.term + 1
 
 abbrev pub decreases-basic_output : goal.decreases-basic_output
-decreases-basic_output l = 4 * term_number l.term + 1
+decreases-basic_output l = 6 * term_number l.term + 1
 
 abbrev pub decreases-recurring_output : goal.decreases-recurring_output
-decreases-recurring_output l = 4 * term_number l.term + 1
+decreases-recurring_output l = 6 * term_number l.term + 1
 
 -- what a body is typed by stands between the form and the body
 abbrev pub decreases-body_output : goal.decreases-body_output
-decreases-body_output l = 4 * term_number l.body + 4
+decreases-body_output l = 6 * term_number l.body + 5
+
+abbrev pub decreases-output_within : goal.decreases-output_within
+decreases-output_within l = 6 * term_number l.body + 4
+
+abbrev pub decreases-body_within : goal.decreases-body_within
+decreases-body_within l = 6 * term_number l.body + 6
 
 abbrev pub decreases-kept_output : goal.decreases-kept_output
-decreases-kept_output l = 4 * term_number l.body + 5
+decreases-kept_output l = 6 * term_number l.body + 7
 
 abbrev pub decreases-call_output : goal.decreases-call_output
-decreases-call_output l = 4 * term_number l.term + 2
+decreases-call_output l = 6 * term_number l.term + 2
 
 -- an argument stands between its call and its term
 abbrev pub decreases-argument_fits : goal.decreases-argument_fits
-decreases-argument_fits l = 4 * term_number l.term
+decreases-argument_fits l = 6 * term_number l.term
 
 -- which arguments are left
 abbrev pub invariant-call_output-loop-argument : goal.invariant-call_output-loop-argument

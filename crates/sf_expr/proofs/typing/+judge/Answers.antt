@@ -1,13 +1,14 @@
-use Rattle.std.proofs.Common.{◌≡◌, Option, ◌∙◌, sym, ap, subst}
+use Rattle.std.proofs.Common.{◌≡◌, Option, ◌∙◌, sym, ap, subst, refl}
 use Rattle.sf_value.specs.Values.{Name, Kind}
 use Rattle.sf_expr.specs.Arena.{expression, name_at}
 use Rattle.sf_expr.specs.Typing.{HasType, named_in, with_types}
-use Rattle.sf_expr.specs.Scopes.{names_of}
-use Rattle.sf_expr.proofs.Judged.{unit_typed, truth_typed, constant_judged, first_judged, second_judged, left_judged, right_judged, int_typed, name_judged, pair_judged, operation_judged, part_judged, applied_judged, condition_judged, then_judged, else_judged, conditional_judged, mapped_first_judged, mapped_argument_judged, mapped_part_judged, mapped_judged, folded_first_judged, folded_second_judged, folded_argument_judged, folded_part_judged, folded_judged, pattern_judged, part_body_judged, called_part_judged, called_judged}
+use Rattle.sf_expr.specs.Meanings.{Entries, names_from}
+use Rattle.sf_expr.specs.Scopes.{names_of, entries_in, entries_around}
+use Rattle.sf_expr.proofs.Judged.{unit_typed, truth_typed, constant_judged, first_judged, second_judged, left_judged, right_judged, int_typed, name_judged, pair_judged, operation_judged, part_judged, applied_judged, condition_judged, then_judged, else_judged, conditional_judged, mapped_first_judged, mapped_argument_judged, mapped_part_judged, mapped_judged, folded_first_judged, folded_second_judged, folded_argument_judged, folded_part_judged, folded_judged, pattern_judged, part_body_judged, called_part_judged, called_judged, memory_judged}
 use Rattle.sf_func.specs.Registries.{FunctionTypes, types_named}
 use Rattle.sf_func.specs.Signatures.{signatures_in}
-use Rattle.sf_expr.specs.Refusals.{AnswersCall, AnswersName}
-use Rattle.sf_expr.proofs.Bound.{functions_with, binds_with}
+use Rattle.sf_expr.specs.Refusals.{AnswersCall, AnswersName, Judges}
+use Rattle.sf_expr.proofs.Bound.{functions_with, binds_with, bound_within}
 use Rattle.sf_expr.proofs.Naming.{named_with}
 use Rattle.sf_expr.proofs.typing.+judge.Goals as goal
 
@@ -125,13 +126,22 @@ pub judge_folded-returns : goal.judge_folded-returns
 judge_folded-returns t c =
     folded_judged c.args.exprs.now _ c.args.id c.args.first c.args.second c.args.body c.args.folding c.args.pattern c.requires.node c.in_ok-first.ensures c.in_ok-second.ensures _ c.spot-at.ensures c.placed-pattern.ensures c.in_ok-argument.ensures _ c.in_ok-made.ensures c.folded_type.ensures
 
-pub judge_part-returns-in_err-names : goal.judge_part-returns-in_err-names
-judge_part-returns-in_err-names t c =
-    pattern_judged c.args.exprs.now _ c.args.pattern.now c.args.body c.args.from.now c.args.at _ c.in_err-names.field-0.0 c.from_residual.ensures.1 c.in_err-names.ensures.err
+pub judge_part-returns-in_err-frame : goal.judge_part-returns-in_err-frame
+judge_part-returns-in_err-frame t c =
+    pattern_judged c.args.exprs.now _ c.args.pattern.now c.args.body c.args.from.now c.args.at _ c.in_err-frame.field-0.0 c.from_residual.ensures.1 c.in_err-frame.ensures.err
 
 pub judge_part-returns : goal.judge_part-returns
 judge_part-returns t c =
-    part_body_judged c.args.exprs.now _ c.args.pattern.now c.args.body c.args.from.now c.args.at _ _ (binds_with _ c.in_ok-names.ensures.bound) c.in_ok-names.ensures.fits c.judge.ensures
+    let bound = bound_within (entries_in c.in_ok-frame.frame) (entries_around c.args.around.now) _ refl c.in_ok-frame.ensures.bound in
+    part_body_judged c.args.exprs.now _ c.args.pattern.now c.args.body c.args.from.now c.args.at _ _ (binds_with _ bound) c.in_ok-frame.ensures.fits c.judge_within.ensures
+
+pub judge_within-returns-in_err-names : goal.judge_within-returns-in_err-names
+judge_within-returns-in_err-names t c = memory_judged c.args.exprs.now _ c.args.body _ c.from_residual.ensures.1
+
+pub judge_within-returns : goal.judge_within-returns
+judge_within-returns t c =
+    let fs = signatures_in c.args.functions.now in
+    subst (λ (es : Entries). Judges c.args.exprs.now (with_types fs (names_from es)) c.args.body c.judge.result) c.in_ok-names.ensures c.judge.ensures
 
 pub judge-returns-in_err-part-in-Called : goal.judge-returns-in_err-part-in-Called
 judge-returns-in_err-part-in-Called t c =

@@ -1,13 +1,10 @@
-use Rattle.std.proofs.Common.{arith}
-use Rattle.sf_check.proofs.Contexts.{one_inside, one_fits}
+use Rattle.std.proofs.Common.{ap}
+use Rattle.sf_func.specs.Signatures.{signatures_in}
+use Rattle.sf_expr.specs.Meanings.{Entries}
+use Rattle.sf_term.specs.Arena.{templates_of}
+use Rattle.sf_mean.specs.Contexts.{context_with}
+use Rattle.sf_check.specs.Standing.{bindings_from}
 use Rattle.sf_check.proofs.context.TypingContext.of_body.Goals as goal
 
-pub loop-parameter-preserved : goal.loop-parameter-preserved
-loop-parameter-preserved c =
-    let so = c.loop-parameter.invariant in
-    let added = c.in_ok-add_parameter.ensures in
-    record {
-      bound = one_inside c.args.parameters.now c.loop-parameter.parameter-index c.parameter-item.result (omega arith) c.parameter-item.is added.bound so.bound;
-      kept = added.kept so.kept;
-      fit = λ rest. so.fit (one_fits c.args.parameters.now c.loop-parameter.parameter-index c.parameter-item.result (omega arith) c.parameter-item.is added.fits rest);
-    }
+pub returns-clause-context : goal.returns-clause-context
+returns-clause-context c = ap (λ (es : Entries). context_with (signatures_in c.args.functions.now) (bindings_from es) (templates_of c.args.program.now)) c.in_ok-names.ensures

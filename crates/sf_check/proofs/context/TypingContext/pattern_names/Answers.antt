@@ -1,0 +1,20 @@
+use Rattle.std.proofs.Common.{◌∙◌, ap}
+use Rattle.sf_func.specs.Signatures.{signatures_in}
+use Rattle.sf_expr.specs.Arena.{placed_at}
+use Rattle.sf_expr.specs.Scopes.{entries_around}
+use Rattle.sf_term.specs.Arena.{templates_of}
+use Rattle.sf_check.specs.Contexts.{program_in}
+use Rattle.sf_check.proofs.Contexts.{pattern_inside, pattern_bound, pattern_wrong}
+use Rattle.sf_check.proofs.context.TypingContext.pattern_names.Goals as goal
+
+pub returns-clause-inside : goal.returns-clause-inside
+returns-clause-inside c =
+    pattern_inside (signatures_in c.args.self.now.functions.now) (templates_of (program_in c.args.self.now)) (entries_around c.args.self.now.names) (c.placed-pattern.ensures ∙ ap (λ x. placed_at x c.args.pattern) c.expressions.ensures) c.args.ty.now c.of_pattern.result c.of_pattern.ensures.bound
+
+pub returns-clause-bound : goal.returns-clause-bound
+returns-clause-bound c =
+    pattern_bound (signatures_in c.args.self.now.functions.now) (templates_of (program_in c.args.self.now)) (entries_around c.args.self.now.names) (c.placed-pattern.ensures ∙ ap (λ x. placed_at x c.args.pattern) c.expressions.ensures) c.args.ty.now c.of_pattern.result c.of_pattern.ensures.bound
+
+pub returns-clause-refused : goal.returns-clause-refused
+returns-clause-refused c =
+    pattern_wrong (c.placed-pattern.ensures ∙ ap (λ x. placed_at x c.args.pattern) c.expressions.ensures) c.args.ty.now c.args.at c.of_pattern.result c.of_pattern.ensures.err
