@@ -30,9 +30,9 @@ pub fn some_outcome()
     ensures { (n : Network) (P : Process) (s : Step) (L : Life) (ys : List Data) → HasNoCalls P → HasLived n P → Outputs n P L ys → (o : Outcome) × ((c : Cost) × Gives n P (s ∷ L) o c) }
 {}
 
-/// A process that was frozen after a life, and again after another one, goes on as itself after both.
+/// A process that was frozen after a life, and again after another one, goes on exactly as itself after both.
 pub fn restart()
-    ensures { (n : Network) (P : Process) (h g L : Life) (d e : ℕ) (s : Step) (o : Outcome) (c : Cost) → Gives n (resumed (resumed P h d) g e) (s ∷ L) o c → Gives n P (after h d (after g e (s ∷ L))) o c }
+    ensures { (n : Network) (P : Process) (h g L : Life) (d e : ℕ) (s : Step) (o : Outcome) (c : Cost) → Gives n (resumed (resumed P h d) g e) (s ∷ L) o c ↔ Gives n P (after h d (after g e (s ∷ L))) o c }
 {}
 
 /// Under each context, a term takes inputs of a type to outputs of the type that `term_output` finds for it, and of no
