@@ -31,7 +31,7 @@ def faults(row, counts, status):
     found = []
     if status != row["status"]:
         found.append(f"status {status}, wanted {row['status']}")
-    samples = sum(line.startswith("> ") for line in row["output"].splitlines())
+    samples = sum(line.startswith(b"> ") for line in text_of(row["output"]).splitlines())
     if len(counts) != samples:
         found.append(f"{len(counts)} samples counted, wanted {samples}")
     for number, (plain, rewritten) in enumerate(counts):

@@ -26,9 +26,14 @@ TOKEN = re.compile(rb'"[^"\n]*"|#.*|[A-Za-z]\w*|-?\d+|-->|[!=<>]=|~>|=>|>>>|\*{3
 
 
 def text_of(given):
-    """A text, or bytes in hexadecimal digits, or pairs of one of these three and how often it stands."""
+    """A text, or bytes in hexadecimal digits, or a text for each number of a range, up or down, with the number at each `%` of it; or
+    pairs of one of these four and how often it stands."""
     if isinstance(given, str):
         return given.encode("utf-8")
+    if isinstance(given, dict) and "each" in given:
+        first, last = given["from"], given["to"]
+        numbers = range(first, last + 1) if first <= last else range(first, last - 1, -1)
+        return b"".join(given["each"].replace("%", str(number)).encode("utf-8") for number in numbers)
     if isinstance(given, dict):
         return bytes.fromhex(given["bytes"])
     return b"".join(text_of(text) * times for text, times in given)
@@ -55,7 +60,7 @@ def play_live(words, row, timeout):
     late = threading.Timer(timeout, player.kill)
     late.start()
     output = b""
-    for line, _ in zip(text_of(row["input"]).splitlines(True), row["output"].splitlines(True)):
+    for line, _ in zip(text_of(row["input"]).splitlines(True), text_of(row["output"]).splitlines(True)):
         player.stdin.write(line)
         player.stdin.flush()
         output += player.stdout.readline()
@@ -84,8 +89,8 @@ def faults(row, output, errors, status):
     found = []
     if status != row["status"]:
         found.append(f"status {status}, wanted {row['status']}")
-    if row["output"] is not None and output != row["output"].encode("utf-8"):
-        found.append(f"output {output[-300:]!r}, wanted {row['output'][-300:]!r}")
+    if row["output"] is not None and output != text_of(row["output"]):
+        found.append(f"output {output[-300:]!r}, wanted {text_of(row['output'])[-300:]!r}")
     if row["errors"] is None and not errors:
         found.append("nothing on standard error")
     if isinstance(row["errors"], list):
