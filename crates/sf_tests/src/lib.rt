@@ -9,6 +9,8 @@ mod calling;
 #[cfg(test)]
 mod library;
 #[cfg(test)]
+mod metering;
+#[cfg(test)]
 mod networks;
 #[cfg(test)]
 mod optimised;
