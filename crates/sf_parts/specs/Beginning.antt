@@ -1,5 +1,5 @@
 -- What a part is before its first sample, and when a state is prepared for a sample.
-use Rattle.std.specs.Prelude.{◌≡◌, List, [], ◌∷◌, Result, Ok, Err}
+use Rattle.std.specs.Prelude.{◌≡◌, Bool, true, false, List, [], ◌∷◌, Result, Ok, Err}
 use Rattle.std.specs.declared.rc.Rc.{Rc}
 use Rattle.std.specs.declared.alloc.Global.{Global}
 use Rattle.sf_value.specs.Values.{Data}
@@ -20,7 +20,7 @@ use Rattle.sf_law.specs.declared.node.PlanId.{PlanId}
 use Rattle.sf_law.specs.Arena.{plan_tree, network_of_plan}
 use Rattle.sf_prim.specs.declared.prim_state.PrimState.{PrimState}
 use Rattle.sf_state.specs.declared.state.State.{State}
-use Rattle.sf_state.specs.declared.state.State.TheVariants.{Primitive as SPrimitive, Live' as Alive', Switch' as Watching', Keeping'}
+use Rattle.sf_state.specs.declared.state.State.TheVariants.{Unborn', Primitive as SPrimitive, Live' as Alive', Switch' as Watching', Keeping', Frozen'}
 use Rattle.sf_state.specs.declared.state.Live.{Live}
 use Rattle.sf_state.specs.declared.state.Switch.{Switch}
 use Rattle.sf_state.specs.declared.state.Keeping.{Keeping}
@@ -42,6 +42,24 @@ pub data Prepared (φ : AnswersByName) (p : Plan) : State → Process → Life �
   keeping_prepared : {at : _} {names : Env} {w : Observation} {f : PlanId} {a x o : State} {k : NameId} {q : PatternId} {b : PlanId} {t : Term} {e : Environment} {L : Life}
       → IsNames φ p names e → WaitsKeeping φ p (record { shown = w; first = f; source = a; before = x; observer = o; name = k; pattern = q; body = b }) (closure t e) L
       → Prepared φ p (Keeping' names at w f a x o k q b) (closure t e) L
+
+-- whether a state has begun and is awake: a sample counts it, and then steps it
+abbrev pub is_awake : State → Bool
+is_awake (Unborn' t names) = false
+is_awake (SPrimitive i) = true
+is_awake (Alive' names at l) = true
+is_awake (Watching' names at w a q b) = true
+is_awake (Keeping' names at w t a x o k q b) = true
+is_awake (Frozen' at d names k) = false
+
+-- whether a sample steps it where it stands: a primitive, or a live part
+abbrev pub is_in_place : State → Bool
+is_in_place (Unborn' t names) = false
+is_in_place (SPrimitive i) = true
+is_in_place (Alive' names at l) = true
+is_in_place (Watching' names at w a q b) = false
+is_in_place (Keeping' names at w t a x o k q b) = false
+is_in_place (Frozen' at d names k) = false
 
 -- What is made of something that is evaluated: it stands for the answer, or is its fault. Want of memory says nothing of it.
 pub data Makes {A B : Type 0} (stands : A → B → Type 0) (w : Evaluated B) : Result A Fault → Type 0 where

@@ -1,5 +1,5 @@
 //! How a part begins: what its term is before its first sample.
-ghost use Rattle.std.specs.Prelude.{◌≡◌, [], IfOk, Ok};
+ghost use Rattle.std.specs.Prelude.{◌≡◌, [], IfOk, Ok, IsTrue};
 ghost use Rattle.sf_value.specs.Values.{Data};
 ghost use Rattle.sf_func.specs.Registries.{AnswersByName};
 ghost use Rattle.sf_expr.specs.Arena.{placed_at, name_at};
@@ -12,7 +12,7 @@ ghost use Rattle.sf_law.specs.declared.plan.Plan.{Plan as PlanOf};
 ghost use Rattle.sf_mean.specs.Lives.{Environment};
 ghost use Rattle.sf_mean.specs.Meaning.{Made, make};
 ghost use Rattle.sf_state.specs.Standing.{IsNames, Wraps};
-ghost use Rattle.sf_parts.specs.Beginning.{Opens, BeginsAs, AllBegin};
+ghost use Rattle.sf_parts.specs.Beginning.{Opens, BeginsAs, AllBegin, is_awake};
 ghost use Rattle.sf_parts.specs.Contexts.{plan_in};
 
 use crate::calling::{called, started};
@@ -48,8 +48,9 @@ pub fn begin<R: Holds>(
     term: PlanId,
     names: Env,
 ) -> Result<Begun, Fault>
-    ensures { (e : Environment) → IsNames (R.answers context.now.functions.now) (plan_in context.now) names e →
+    ensures begins { (e : Environment) → IsNames (R.answers context.now.functions.now) (plan_in context.now) names e →
         BeginsAs (R.answers context.now.functions.now) (plan_in context.now) (plan_tree (plan_in context.now) term) e state.new result }
+    ensures awake { IfOk result (λ b. b ≡ Begun.Itself → IsTrue (is_awake state.new)) }
 {
     match open(context, term, &names) {
         Ok(opened) => {
@@ -63,8 +64,9 @@ pub fn begin<R: Holds>(
 
 // A part that is opened, as a state that is prepared for its first sample, with the names around it.
 fn prepared(opened: Opened, names: Env) -> (State, Begun)
-    ensures { (φ : AnswersByName) (p : PlanOf) (u : Term) → ((e : Environment) → IsNames φ p names e → Opens φ p u e (Ok opened)) →
+    ensures begins { (φ : AnswersByName) (p : PlanOf) (u : Term) → ((e : Environment) → IsNames φ p names e → Opens φ p u e (Ok opened)) →
         (e : Environment) → IsNames φ p names e → BeginsAs φ p u e result.0 (Ok result.1) }
+    ensures awake { result.1 ≡ Begun.Itself → IsTrue (is_awake result.0) }
 {
     match opened {
         Opened::Primitive(prim) => (State::Primitive(prim), Begun::Itself),

@@ -1,5 +1,6 @@
 //! One sample.
-ghost use Rattle.std.specs.Prelude.{◌≡◌, ◌≤◌, ◌∷◌, None};
+ghost use Rattle.std.specs.Prelude.{◌≡◌, ◌≤◌, ◌∷◌, None, IsTrue, IsFalse};
+ghost use Rattle.sf_parts.specs.Beginning.{is_awake, is_in_place};
 ghost use Rattle.sf_mean.specs.Lives.{step, Life, Process as ProcessOf};
 ghost use Rattle.sf_state.specs.Standing.{Stands};
 ghost use Rattle.sf_parts.specs.Answering.{LiveSteps, kept, left_or};
@@ -95,6 +96,7 @@ fn step_other<R: Holds>(
     value: &mut Value,
     meter: &mut Meter,
 ) -> Result<(), Stop>
+    requires { IsFalse (is_in_place state.old) }
     ensures { StateSteps (R.answers context.now.functions.now) (plan_in context.now) state.old (step (dt_in context.now) value.old)
         (left_or result (state.new, value.new) (fault_in meter.new)) meter.old meter.new depth }
 {
@@ -131,7 +133,7 @@ fn step_other<R: Holds>(
             step_state(&later, state, depth, value, meter)
         }
         // these are stepped in place, above
-        State::Primitive(_) | State::Live(_, _) => Err(meter.stop(Fault::Memory)),
+        State::Primitive(_) | State::Live(_, _) => unreachable!(),
     }
 }
 
@@ -145,6 +147,7 @@ fn step_counted<R: Holds>(
     value: &mut Value,
     meter: &mut Meter,
 ) -> Result<(), Stop>
+    requires { IsTrue (is_awake state.old) }
     ensures { CountedSteps (R.answers context.now.functions.now) (plan_in context.now) state.old (step (dt_in context.now) value.old)
         (left_or result (state.new, value.new) (fault_in meter.new)) meter.old meter.new inside }
 {
@@ -161,8 +164,7 @@ fn step_counted<R: Holds>(
             take_over(state, kept);
             Ok(())
         }
-        // these aren't prepared
-        State::Unborn(_) | State::Frozen(_) => Err(meter.stop(Fault::Memory)),
+        State::Unborn(_) | State::Frozen(_) => unreachable!(),
     }
 }
 

@@ -107,9 +107,6 @@ step_observing-returns-in-None g t c = λ m depth t T e L N W. early_memory (g.R
 
 -- ## step_other
 
-pub step_other-returns-in-Primitive : goal.step_other-returns-in-Primitive
-step_other-returns-in-Primitive g t c = first_memory (g.R.Holds.answers c.args.context.now.functions.now) c.args.context.now.plan.now c.stop-in-Primitive.ensures.entered c.stop-in-Primitive.ensures.height c.stop-in-Primitive.ensures.fault
-
 pub step_other-returns-in_err-inside-in-Switch : goal.step_other-returns-in_err-inside-in-Switch
 step_other-returns-in_err-inside-in-Switch g t c = λ P L A. pass_exit _ _ c.from_residual.ensures.0 (tick_fails (g.R.Holds.answers c.args.context.now.functions.now) c.args.context.now.plan.now P _ c.in_err-inside-in-Switch.ensures.ticked)
 
@@ -129,15 +126,15 @@ step_other-returns-in_err-inside-in-Unborn g t c = λ P L A. pass_exit _ _ c.fro
 
 pub step_other-returns-in-Ok-Itself : goal.step_other-returns-in-Ok-Itself
 step_other-returns-in-Ok-Itself g t c = λ P L A.
-    begun_steps (g.R.Holds.answers c.args.context.now.functions.now) c.args.context.now.plan.now c.in-Unborn.process.term c.in-Unborn.process.names c.args.context.now.dt c.args.value.now (ticked_by c.in_ok-inside-in-Unborn.ensures.ticked) c.begin.new.state _ (rw (c.replace-names.ensures.value, c.in-Ok-Itself.field-0-is) at c.in-Ok-Itself.ensures) c.step_counted-in-Ok-Itself.ensures P L (rw c.in-Unborn.is at A)
+    begun_steps (g.R.Holds.answers c.args.context.now.functions.now) c.args.context.now.plan.now c.in-Unborn.process.term c.in-Unborn.process.names c.args.context.now.dt c.args.value.now (ticked_by c.in_ok-inside-in-Unborn.ensures.ticked) c.begin.new.state _ (rw (c.replace-names.ensures.value, c.in-Ok-Itself.field-0-is) at c.in-Ok-Itself.ensures.begins) c.step_counted-in-Ok-Itself.ensures P L (rw c.in-Unborn.is at A)
 
 pub step_other-returns-in-Ok-Referred : goal.step_other-returns-in-Ok-Referred
 step_other-returns-in-Ok-Referred g t c = λ P L A.
-    begun_runs (g.R.Holds.answers c.args.context.now.functions.now) c.args.context.now.plan.now c.in-Unborn.process.term c.in-Unborn.process.names c.args.context.now.dt c.args.value.now (ticked_by c.in_ok-inside-in-Unborn.ensures.ticked) c.begin.new.state _ (rw (c.replace-names.ensures.value, c.in-Ok-Referred.field-0-is) at c.in-Ok-Referred.ensures) c.step_state.ensures P L (rw c.in-Unborn.is at A)
+    begun_runs (g.R.Holds.answers c.args.context.now.functions.now) c.args.context.now.plan.now c.in-Unborn.process.term c.in-Unborn.process.names c.args.context.now.dt c.args.value.now (ticked_by c.in_ok-inside-in-Unborn.ensures.ticked) c.begin.new.state _ (rw (c.replace-names.ensures.value, c.in-Ok-Referred.field-0-is) at c.in-Ok-Referred.ensures.begins) c.step_state.ensures P L (rw c.in-Unborn.is at A)
 
 pub step_other-returns-in-Err : goal.step_other-returns-in-Err
 step_other-returns-in-Err g t c = λ P L A.
-    begun_fails (g.R.Holds.answers c.args.context.now.functions.now) c.args.context.now.plan.now c.in-Unborn.process.term c.in-Unborn.process.names c.args.context.now.dt c.args.value.now (ticked_by c.in_ok-inside-in-Unborn.ensures.ticked) c.stop.ensures.entered c.stop.ensures.height c.begin.new.state c.in-Err.fault _ c.stop.ensures.fault (rw c.replace-names.ensures.value at c.in-Err.ensures) P L (rw c.in-Unborn.is at A)
+    begun_fails (g.R.Holds.answers c.args.context.now.functions.now) c.args.context.now.plan.now c.in-Unborn.process.term c.in-Unborn.process.names c.args.context.now.dt c.args.value.now (ticked_by c.in_ok-inside-in-Unborn.ensures.ticked) c.stop.ensures.entered c.stop.ensures.height c.begin.new.state c.in-Err.fault _ c.stop.ensures.fault (rw c.replace-names.ensures.value at c.in-Err.ensures.begins) P L (rw c.in-Unborn.is at A)
 
 -- ## step_switch
 
