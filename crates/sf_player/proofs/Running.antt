@@ -1,5 +1,5 @@
 -- How a run goes on and ends.
-use Rattle.std.proofs.Common.{◌≡◌, ◌≢◌, ℕ, ◌+◌, ◌≤◌, Bool, List, [], ◌++◌, length, Option, Some, None, sym, ap, ◌∙◌, subst, append_assoc}
+use Rattle.std.proofs.Common.{◌≡◌, ◌≢◌, ℕ, ◌+◌, ◌≤◌, Bool, List, [], ◌++◌, length, Option, Some, None, refl, sym, ap, ◌∙◌, subst, append_assoc}
 use Rattle.std.proofs.lemmas.List.{append-nil}
 use Rattle.std.specs.Io.KnownBytes.{Keeps, Consumes, Appends, IsAtEnd}
 use Rattle.sf_term.specs.Trees.{Template}
@@ -10,7 +10,7 @@ use Rattle.sf_lines.specs.Written.{refusal_line}
 use Rattle.sf_lines.specs.declared.refusal.LineRefusal.TheVariants.{Memory as MemoryRefusal}
 use Rattle.sf_lines.proofs.Splitting.{lines_of-splits}
 use Rattle.sf_player.specs.Scripts.{at_start, LeadsTo}
-use Rattle.sf_player.specs.Telling.{RunGives, without_memory_for_lines, CanBeGiven, so_far, in_all, by_its_end, by_a_read_fault, by_a_write_fault, Told}
+use Rattle.sf_player.specs.Telling.{RunGives, CanBeGiven, so_far, in_all, by_its_end, by_a_read_fault, by_a_write_fault, before_any_line, by_a_write_fault_before_any_line, Told}
 use Rattle.sf_player.specs.Stops.{stop_end, stop_line}
 use Rattle.sf_player.specs.declared.stop.Stop.TheVariants.{Faulted, Refused}
 use Rattle.sf_player.specs.Counting.{WritesFront, CountsReads}
@@ -168,7 +168,7 @@ told_no_memory probes n m input held holds wrote = record {
   said = refusal_line 1 MemoryRefusal;
   consumed = Consumes-none input;
   written = wrote;
-  tells = λ left h. by_its_end without_memory_for_lines;
+  tells = λ left h. before_any_line refl refl;
 }
 
 pub told_no_memory_front : (probes : Bool) (n : Network) (m : Template) (input held holds : Option (List ℕ)) → WritesFront held holds (refusal_line 1 MemoryRefusal) → Told probes n m input input held holds WriteFault
@@ -177,7 +177,7 @@ told_no_memory_front probes n m input held holds w = record {
   said = w.0;
   consumed = Consumes-none input;
   written = w.2;
-  tells = λ left h. by_a_write_fault w.1 (subst (λ (x : List ℕ). CanBeGiven probes n m (lines_of left) x) w.3 (in_all without_memory_for_lines));
+  tells = λ left h. by_a_write_fault_before_any_line w.1 refl (sym w.3);
 }
 
 -- writing ends a run by a line or by a write fault

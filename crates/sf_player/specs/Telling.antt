@@ -1,5 +1,5 @@
 -- What was written when a run ended.
-use Rattle.std.specs.Prelude.{◌≡◌, ◌≢◌, ℕ, ◌+◌, Bool, List, ◌∷◌, ◌++◌, Option, Some, None}
+use Rattle.std.specs.Prelude.{◌≡◌, ◌≢◌, ℕ, ◌+◌, Bool, List, [], ◌∷◌, ◌++◌, Option, Some, None}
 use Rattle.std.specs.Io.KnownBytes.{Keeps, Consumes, Appends}
 use Rattle.sf_value.specs.declared.fault.Fault.TheVariants.{Large, Memory as NoMemory}
 use Rattle.sf_refusal.specs.declared.refusal.Refusal.{Refusal}
@@ -34,8 +34,7 @@ CopiesLife (back name) S = saved_under name S ≢ None
 -- whether what probes record is said, and the network with its `main`
 module _ (probes : Bool) (n : Network) (m : Template) where
   -- All that is written for lines, and how the run ends: their script; or, where memory ran out for a sample, for the value
-  -- of a line or for a copy of a life, or a sample was too large, what the lines before give and then the line that says so;
-  -- or, where there was no memory to begin with, only the line that says so.
+  -- of a line or for a copy of a life, or a sample was too large, what the lines before give and then the line that says so.
   pub data RunGives (lines : List (List ℕ)) : List ℕ → PlayEnd → Type 0 where
     with_the_input : {text : List ℕ} → Script n m (at_start probes) lines text input_ended → RunGives lines text Done
     at_a_fault : {text : List ℕ} → Script n m (at_start probes) lines text sample_faulted → RunGives lines text Fault
@@ -54,7 +53,6 @@ module _ (probes : Bool) (n : Network) (m : Template) where
     without_memory_for_a_copy : {front : List (List ℕ)} {line said : List ℕ} {between : Moment} {a : Asked} (others : List (List ℕ))
         → LeadsTo n m (at_start probes) front said between → lines ≡ front ++ line ∷ others → Asks n m between line a → CopiesLife a between.saved
         → RunGives lines (said ++ refusal_line (between.taken + 1) MemoryRefusal) BadLine
-    without_memory_for_lines : RunGives lines (refusal_line 1 MemoryRefusal) BadLine
 
   -- What can have been given to the writer: what a front of the lines gives, or all that is written.
   pub data CanBeGiven (lines : List (List ℕ)) : List ℕ → Type 0 where
@@ -63,12 +61,15 @@ module _ (probes : Bool) (n : Network) (m : Template) where
     in_all : {said : List ℕ} {e : PlayEnd} → RunGives lines said e → CanBeGiven lines said
 
   -- What was said of an input of which so much was read and so much is left. After a read fault it is what the complete
-  -- lines give; after a write fault it is the front of what was to be written.
+  -- lines give; after a write fault it is the front of what was to be written. Where there was no memory to begin with, before
+  -- anything was read, it is only the line that says so.
   pub data Tells (read left said : List ℕ) : PlayEnd → Type 0 where
     by_its_end : {e : PlayEnd} → RunGives (lines_of (read ++ left)) said e → Tells read left said e
     by_a_read_fault : {complete : List (List ℕ)} {unfinished : List ℕ} {later : Moment}
         → Splits read complete unfinished → LeadsTo n m (at_start probes) complete said later → Tells read left said ReadFault
     by_a_write_fault : (more : List ℕ) → CanBeGiven (lines_of (read ++ left)) (said ++ more) → Tells read left said WriteFault
+    before_any_line : read ≡ [] → said ≡ refusal_line 1 MemoryRefusal → Tells read left said BadLine
+    by_a_write_fault_before_any_line : (more : List ℕ) → read ≡ [] → said ++ more ≡ refusal_line 1 MemoryRefusal → Tells read left said WriteFault
 
   -- What a run read and wrote, where the reader and the writer tell their bytes.
   pub record Told (before after held holds : Option (List ℕ)) (e : PlayEnd) : Type 0 where
