@@ -8,6 +8,7 @@
 //! `match` the chosen branch alone is run, and the second operand of `and` and `or` only where the first does not decide.
 #![tactic(auto)]
 
+mod argument;
 mod arithmetic;
 mod closing;
 mod code;

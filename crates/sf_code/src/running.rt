@@ -15,17 +15,18 @@ ghost use Rattle.sf_code.specs.FrameView.{found_value};
 ghost use Rattle.sf_expr.specs.Evaluation.{granted};
 ghost use Rattle.sf_func.specs.Meaning.{Applied};
 ghost use Rattle.sf_code.specs.Numbers.{AnswersNumber, AnswersTruth};
-ghost use Rattle.sf_value.specs.View.{key_of, rows_of};
+ghost use Rattle.sf_value.specs.View.{rows_of};
 ghost use Rattle.sf_operator.specs.Outcomes.{Evaluated, answer as worth_as, ◌>>=◌ as followed, known};
-ghost use Rattle.sf_operator.specs.FunctionForms.{mapped_value, folded_value, folded_rows, value_of_key as data_of_key};
+ghost use Rattle.sf_operator.specs.FunctionForms.{mapped_value, folded_value, folded_rows};
 ghost use Rattle.sf_operator.specs.declared.operator.Mapping.TheVariants as mappings;
 
+use crate::argument::next_argument;
 use crate::code::Code;
 use crate::frames::{Found, Frames};
 use sf_func::{FunctionFault, Holds};
 use sf_operator::{
     Arithmetic, Comparison, EvalFault, Folding, Logic, Mapping, Operator, Unary, calculate, copied,
-    decide, is_true, number_in, operate, operate_on, payload_in, rows_in, value_of_key,
+    decide, is_true, number_in, operate, operate_on, payload_in, rows_in,
 };
 use sf_value::{Key, Value, ValueFault};
 use std::alloc::{AllocError, Global};
@@ -617,30 +618,14 @@ fn fold_rows<F: Holds>(
     ensures { Evaluates result (folded_rows (rows_of rows.now) start (λ x. worth_of (code_of body.now) (x ∷ frames_of frames.now) (F.answers functions.now))) }
 {
     let mut so_far = start;
+    let mut argument = Value::unit();
     let mut rest = rows;
     while let [(key, value), after @ ..] = rest {
-        let argument = with_row(alloc, so_far, key, value)?;
+        argument = next_argument(alloc, argument, so_far, key, value)?;
         so_far = answer(alloc, body, &argument, frames, functions)?;
         rest = after;
     }
     Ok(so_far)
-}
-
-/// A value with a row of a table, as the argument of a fold's function.
-fn with_row(alloc: Global, so_far: Value, key: &Key, value: &Value) -> Result<Value, AllocError>
-    ensures { IfOk result (λ v. v ≡ pair_data so_far (pair_data (data_of_key (key_of key.now)) value.now)) }
-{
-    let row = row(alloc, key, value)?;
-    Value::pair(alloc, so_far, row)
-}
-
-/// A row of a table, as the pair of its key and its value.
-fn row(alloc: Global, key: &Key, value: &Value) -> Result<Value, AllocError>
-    ensures { IfOk result (λ v. v ≡ pair_data (data_of_key (key_of key.now)) value.now) }
-{
-    let key = value_of_key(key)?;
-    let value = value.clone_in(alloc)?;
-    Value::pair(alloc, key, value)
 }
 
 /// What a stored function answers to what code is worth, or the first fault.
