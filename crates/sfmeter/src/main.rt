@@ -109,16 +109,20 @@ fn play<W: Write>(alloc: Global, meters: Meters, lines: &[u8], out: &mut W) -> R
     let mut rest = lines;
     while !rest.is_empty() {
         match cutter.take(rest)? {
+            Cut::Whole(line) => {
+                write_counts(&mut meters, line, out)?;
+                rest = &rest[line.len() + 1..];
+            }
             Cut::Line(used) => {
-                write_counts(&mut meters, cutter.line(), out)?;
+                write_counts(&mut meters, cutter.line(Cut::Line(used)), out)?;
                 rest = &rest[used..];
             }
             Cut::Part => rest = &[],
         }
     }
     match cutter.finish()? {
-        Cut::Line(_) => write_counts(&mut meters, cutter.line(), out),
         Cut::Part => Ok(()),
+        cut => write_counts(&mut meters, cutter.line(cut), out),
     }
 }
 
