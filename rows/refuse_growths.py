@@ -7,7 +7,8 @@ that are given values and processes, and one with a probe in what is begun anew;
     python3 rows/refuse_growths.py --exe PATH
 
 What is written has to be the script of the lines before, then `! T Memory` or `! line N Memory`; or nothing, with the
-network refused for memory or the words or the file not read. Each ends with the first number that refuses nothing.
+network refused for memory or the words or the file not read. Where a later growth is refused, the run has come as far or further. Each
+ends with the first number that refuses nothing.
 The last line is `N passed, M failed`.
 """
 
@@ -81,16 +82,17 @@ RUNS = [
 
 
 def allowed(script):
-    """Each status with the output and the words on standard error that it may come with."""
-    found = {(5, b"", b"sfplay: Memory\n"), (6, b"", b"sfplay: read fault\n")}
+    """Each status with the output and the words on standard error that it may come with, and how far the run has come there: a line's
+    sample is behind the line itself."""
+    found = {(5, b"", b"sfplay: Memory\n"): 0, (6, b"", b"sfplay: read fault\n"): 0}
     before = b""
     for number, (_, text) in enumerate(script, 1):
-        found.add((4, before + b"! line %d Memory\n" % number, b""))
+        found[4, before + b"! line %d Memory\n" % number, b""] = 2 * number - 1
         if text:
             time = text.splitlines()[-1].split()[1]
-            found.add((3, before + b"! %s Memory\n" % time.encode("ascii"), b""))
+            found[3, before + b"! %s Memory\n" % time.encode("ascii"), b""] = 2 * number
             before += text.encode("ascii") + b"\n"
-    return found | {(0, before, b"")}
+    return {**found, (0, before, b""): 2 * len(script) + 1}
 
 
 def play(exe, place, shim, network, script, *arguments):
@@ -101,7 +103,7 @@ def play(exe, place, shim, network, script, *arguments):
     lines = "".join(f"{line}\n" for line, _ in script).encode("ascii")
     wanted = allowed(script)
     played = " ".join([network, *arguments])
-    passed = failed = number = 0
+    passed = failed = number = furthest = 0
     ends = set()
     while 0 not in ends and number < 1000:
         number += 1
@@ -109,7 +111,9 @@ def play(exe, place, shim, network, script, *arguments):
         done = subprocess.run([exe, path, *arguments], input=lines, capture_output=True, env=settings, timeout=60)
         answer = (done.returncode, done.stdout, done.stderr)
         # (before the network is read, the words themselves may find no memory: status 2 and nothing written)
-        well = answer in wanted or (done.returncode == 2 and not done.stdout)
+        come = 0 if done.returncode == 2 and not done.stdout else wanted.get(answer, -1)
+        well = come >= furthest
+        furthest = max(furthest, come)
         passed, failed = passed + well, failed + (not well)
         ends.add(done.returncode)
         if not well:
