@@ -48,7 +48,7 @@ pub returns-in-None-play_line-clause-advances : goal.returns-in-None-play_line-c
 returns-in-None-play_line-clause-advances g c = λ probes n m read written P.
     let sizes = rw c.in-Ok-Line.field-0-is at c.in-Ok-Line.ensures.sizes in
     let stands = rw c.in-Ok-Line.field-0-is at (c.in-Ok-Line.ensures.cuts read P.lines P.stands) in
-    let goes = c.in-None.ensures n m P.now (record { runs = P.at.runs; slow = P.at.slow; slow_saves = P.at.slow_saves; taken = P.at.taken; probes = P.at.probes }) in
+    let goes = c.in-None-play_line.ensures n m P.now (record { runs = P.at.runs; slow = P.at.slow; slow_saves = P.at.slow_saves; taken = P.at.taken; probes = P.at.probes }) in
     record {
       played = plays_line (take c.in-Ok-Line.used c.args.piece.now) P stands goes refl;
       further = line_further c.args.piece.now sizes.2 sizes.1 goes.cutter;
@@ -57,7 +57,7 @@ returns-in-None-play_line-clause-advances g c = λ probes n m read written P.
 pub returns-in-Some-play_line-clause-advances : goal.returns-in-Some-play_line-clause-advances
 returns-in-Some-play_line-clause-advances g c = λ probes n m read written P.
     let stands = rw c.in-Ok-Line.field-0-is at (c.in-Ok-Line.ensures.cuts read P.lines P.stands) in
-    let ends = c.in-Some.ensures n m P.now (record { runs = P.at.runs; slow = P.at.slow; slow_saves = P.at.slow_saves; taken = P.at.taken; probes = P.at.probes }) in
+    let ends = c.in-Some-play_line.ensures n m P.now (record { runs = P.at.runs; slow = P.at.slow; slow_saves = P.at.slow_saves; taken = P.at.taken; probes = P.at.probes }) in
     line_halts c.args.piece.now c.in-Ok-Line.used P stands ends refl
 
 pub returns-in-Ok-Part-clause-advances : goal.returns-in-Ok-Part-clause-advances

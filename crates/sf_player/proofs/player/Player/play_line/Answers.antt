@@ -36,14 +36,14 @@ pub returns-in-Ok-Nothing : goal.returns-in-Ok-Nothing
 returns-in-Ok-Nothing g c = λ n m now at.
     let within : limit_refusal now.taken (line_cut c.args.self.now.cutter c.args.cut) ≡ None = ap (λ k. limit_refusal k (line_cut c.args.self.now.cutter c.args.cut)) (sym at.taken ∙ c.requires.at.taken) ∙ c.requires.within in
     let started = has_begun-is _ _ (c.is_started-started.ensures.history n m now.lived now.saved at.runs) in
-    let says = rw c.line.ensures at (rw c.in-Ok-Nothing.field-0-is at c.in-Ok-Nothing.ensures.ok) in
+    let says = rw c.line-line.ensures at (rw c.in-Ok-Nothing.field-0-is at c.in-Ok-Nothing.ensures.ok) in
     nothing_said (asks (line_cut c.args.self.now.cutter c.args.cut) _ _ within started (c.input.ensures n m now.lived now.saved at.runs) says) at refl refl refl refl refl
 
 pub returns-in-Ok-Start : goal.returns-in-Ok-Start
 returns-in-Ok-Start g c = λ n m now at.
     let within : limit_refusal now.taken (line_cut c.args.self.now.cutter c.args.cut) ≡ None = ap (λ k. limit_refusal k (line_cut c.args.self.now.cutter c.args.cut)) (sym at.taken ∙ c.requires.at.taken) ∙ c.requires.within in
     let started = has_begun-is _ _ (c.is_started-started.ensures.history n m now.lived now.saved at.runs) in
-    let says = rw c.line.ensures at (rw c.in-Ok-Start.field-0-is at c.in-Ok-Start.ensures.ok) in
+    let says = rw c.line-line.ensures at (rw c.in-Ok-Start.field-0-is at c.in-Ok-Start.ensures.ok) in
     let sampled = starts_at at.runs started says (c.first_sample-sampled.ensures n m now.saved) in
     same_answers n m now (line_cut c.args.self.now.cutter c.args.cut) _ c.args.self.now c.say.result c.say.new.self refl refl
     (c.say.ensures n m now (line_cut c.args.self.now.cutter c.args.cut) (start c.in-Ok-Start.value) (asks (line_cut c.args.self.now.cutter c.args.cut) _ _ within started (c.input.ensures n m now.lived now.saved at.runs) says) tt sampled refl (omega arith) at.slow_saves at.taken at.probes)
@@ -52,7 +52,7 @@ pub returns-in-Ok-Step : goal.returns-in-Ok-Step
 returns-in-Ok-Step g c = λ n m now at.
     let within : limit_refusal now.taken (line_cut c.args.self.now.cutter c.args.cut) ≡ None = ap (λ k. limit_refusal k (line_cut c.args.self.now.cutter c.args.cut)) (sym at.taken ∙ c.requires.at.taken) ∙ c.requires.within in
     let started = has_begun-is _ _ (c.is_started-started.ensures.history n m now.lived now.saved at.runs) in
-    let says = rw c.line.ensures at (rw c.in-Ok-Step.field-0-is at c.in-Ok-Step.ensures.ok) in
+    let says = rw c.line-line.ensures at (rw c.in-Ok-Step.field-0-is at c.in-Ok-Step.ensures.ok) in
     let same = c.time.ensures n m now.lived now.saved at.runs in
     let asked = advance_asked says refl in
     let slow = slow_step c.time.result c.in-Ok-Step.dt now.taken asked.short (subst (λ t. t ≤ 3600000 * now.taken) (sym same) at.slow) in
@@ -64,7 +64,7 @@ returns-in-Err g c = λ n m now at.
     let within : limit_refusal now.taken (line_cut c.args.self.now.cutter c.args.cut) ≡ None = ap (λ k. limit_refusal k (line_cut c.args.self.now.cutter c.args.cut)) (sym at.taken ∙ c.requires.at.taken) ∙ c.requires.within in
     let started = has_begun-is _ _ (c.is_started-started.ensures.history n m now.lived now.saved at.runs) in
     record {
-      halts = rw c.refuse-in-Err.ensures (refusal_said (line_cut c.args.self.now.cutter c.args.cut) _ _ c.args.self.now c.in-Err.refusal (c.input.ensures n m now.lived now.saved at.runs) at.taken within started (rw c.line.ensures at c.in-Err.ensures.refused) (rw c.line.ensures at c.in-Err.ensures.memory));
+      halts = rw c.refuse-in-Err.ensures (refusal_said (line_cut c.args.self.now.cutter c.args.cut) _ _ c.args.self.now c.in-Err.refusal (c.input.ensures n m now.lived now.saved at.runs) at.taken within started (rw c.line-line.ensures at c.in-Err.ensures.refused) (rw c.line-line.ensures at c.in-Err.ensures.memory));
       said = refl;
     }
 
@@ -79,7 +79,7 @@ pub returns-in-Ok : goal.returns-in-Ok
 returns-in-Ok g c = λ n m now at.
     let within : limit_refusal now.taken (line_cut c.args.self.now.cutter c.args.cut) ≡ None = ap (λ k. limit_refusal k (line_cut c.args.self.now.cutter c.args.cut)) (sym at.taken ∙ c.requires.at.taken) ∙ c.requires.within in
     let started = has_begun-is _ _ (c.is_started-started.ensures.history n m now.lived now.saved at.runs) in
-    let says = rw c.line.ensures at (rw c.in-Ok-Save.field-0-is at c.in-Ok-Save.ensures.ok) in
+    let says = rw c.line-line.ensures at (rw c.in-Ok-Save.field-0-is at c.in-Ok-Save.ensures.ok) in
     save_goes_on (line_cut c.args.self.now.cutter c.args.cut) c.save.result (asks (line_cut c.args.self.now.cutter c.args.cut) _ _ within started (c.input.ensures n m now.lived now.saved at.runs) says) at
     (c.save.ensures.running n m now.lived now.saved at.runs) c.in-Ok.is (record { engine = refl; cutter = refl; count = refl; out = refl; probes = refl })
 
@@ -87,7 +87,7 @@ pub returns-in-Err-save : goal.returns-in-Err-save
 returns-in-Err-save g c = λ n m now at.
     let within : limit_refusal now.taken (line_cut c.args.self.now.cutter c.args.cut) ≡ None = ap (λ k. limit_refusal k (line_cut c.args.self.now.cutter c.args.cut)) (sym at.taken ∙ c.requires.at.taken) ∙ c.requires.within in
     let started = has_begun-is _ _ (c.is_started-started.ensures.history n m now.lived now.saved at.runs) in
-    let says = rw c.line.ensures at (rw c.in-Ok-Save.field-0-is at c.in-Ok-Save.ensures.ok) in
+    let says = rw c.line-line.ensures at (rw c.in-Ok-Save.field-0-is at c.in-Ok-Save.ensures.ok) in
     let asked = asks (line_cut c.args.self.now.cutter c.args.cut) _ _ within started (c.input.ensures n m now.lived now.saved at.runs) says in
     let some = begun _ now.lived started (save_asked says refl) in
     record {
@@ -106,7 +106,7 @@ pub returns-in-Ok-back : goal.returns-in-Ok-back
 returns-in-Ok-back g c = λ n m now at.
     let within : limit_refusal now.taken (line_cut c.args.self.now.cutter c.args.cut) ≡ None = ap (λ k. limit_refusal k (line_cut c.args.self.now.cutter c.args.cut)) (sym at.taken ∙ c.requires.at.taken) ∙ c.requires.within in
     let started = has_begun-is _ _ (c.is_started-started.ensures.history n m now.lived now.saved at.runs) in
-    let says = rw c.line.ensures at (rw c.in-Ok-Back.field-0-is at c.in-Ok-Back.ensures.ok) in
+    let says = rw c.line-line.ensures at (rw c.in-Ok-Back.field-0-is at c.in-Ok-Back.ensures.ok) in
     back_goes_on (line_cut c.args.self.now.cutter c.args.cut) c.back.result (asks (line_cut c.args.self.now.cutter c.args.cut) _ _ within started (c.input.ensures n m now.lived now.saved at.runs) says) at
     (c.back.ensures.running n m now.lived now.saved at.runs) c.in-Ok-back.is (record { engine = refl; cutter = refl; count = refl; out = refl; probes = refl })
 
@@ -114,7 +114,7 @@ pub returns-in-Err-back : goal.returns-in-Err-back
 returns-in-Err-back g c = λ n m now at.
     let within : limit_refusal now.taken (line_cut c.args.self.now.cutter c.args.cut) ≡ None = ap (λ k. limit_refusal k (line_cut c.args.self.now.cutter c.args.cut)) (sym at.taken ∙ c.requires.at.taken) ∙ c.requires.within in
     let started = has_begun-is _ _ (c.is_started-started.ensures.history n m now.lived now.saved at.runs) in
-    let says = rw c.line.ensures at (rw c.in-Ok-Back.field-0-is at c.in-Ok-Back.ensures.ok) in
+    let says = rw c.line-line.ensures at (rw c.in-Ok-Back.field-0-is at c.in-Ok-Back.ensures.ok) in
     let asked = asks (line_cut c.args.self.now.cutter c.args.cut) _ _ within started (c.input.ensures n m now.lived now.saved at.runs) says in
     let some = begun _ now.lived started (back_asked says refl) in
     record {
