@@ -10,6 +10,7 @@ line is `N passed, M failed`.
 """
 
 import argparse
+import contextlib
 import itertools
 import os
 import resource
@@ -33,6 +34,8 @@ class Run:
     grows: bool = False
 
 
+# The most samples in a million lines, of which one saves, one returns and one has a sample more.
+MOST_RETURNED = 999_997
 # An event at each sample but the first.
 EVENT = "(constant event () >>> notYet)"
 GAME = "(Int, Event Unit) ~> Int"
@@ -100,8 +103,14 @@ def script(run, samples, returns):
         yield f"back first\n1 {run.inputs[1 % len(run.inputs)]}\n"
 
 
+def held_by(child):
+    """The most memory that a process has held, in KiB; nothing where it has ended."""
+    with open(f"/proc/{child}/status") as status:
+        return next((int(line.split()[1]) for line in status if line.startswith("VmHWM:")), 0)
+
+
 def play(words, run, samples, returns, stack):
-    """Whether the output is what is wanted, and the most memory that the run held, in KiB."""
+    """Whether the output is what is wanted, and the most memory that the run held before its input ended, in KiB."""
     from_writer, to_program = os.pipe()
     from_program, to_reader = os.pipe()
     child = os.fork()
@@ -113,10 +122,12 @@ def play(words, run, samples, returns, stack):
         os.execv(words[0], words)
     os.close(from_writer)
     os.close(to_reader)
+    given = open(to_program, "w")
 
     def write():
-        with open(to_program, "w") as lines:
-            lines.writelines(script(run, samples, returns))
+        with contextlib.suppress(BrokenPipeError):
+            given.writelines(script(run, samples, returns))
+            given.flush()
 
     writer = threading.Thread(target=write, daemon=True)
     writer.start()
@@ -127,9 +138,13 @@ def play(words, run, samples, returns, stack):
         for number, line in zip(numbers, lines):
             good = good and line == f"> {number} {run.wanted(number)}\n"
             written += 1
+        most = held_by(child)
+        writer.join()
+        with contextlib.suppress(BrokenPipeError):
+            given.close()
         good = good and not lines.read()
-    _, status, used = os.wait4(child, 0)
-    return good and written == len(numbers) and status == 0, used.ru_maxrss
+    _, status = os.waitpid(child, 0)
+    return good and written == len(numbers) and status == 0, most
 
 
 def looks(words, run):
@@ -145,8 +160,8 @@ def looks(words, run):
         yield None if is_flat else f"{held[0]:,} KiB held in 100,000 samples and {held[1]:,} KiB in 1,000,000"
     if run.makes_chains:
         for stack in (ordinary, ordinary // 8):
-            good, _ = play(words, run, 1_000_000, True, stack)
-            yield None if good else f"another output in 1,000,000 samples and a return, on a stack of {stack >> 10:,} KiB"
+            good, _ = play(words, run, MOST_RETURNED, True, stack)
+            yield None if good else f"another output in {MOST_RETURNED:,} samples and a return, on a stack of {stack >> 10:,} KiB"
 
 
 def main():

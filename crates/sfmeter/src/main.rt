@@ -8,7 +8,7 @@
 mod meters;
 mod stop;
 
-ghost use Rattle.std.specs.Prelude.{◌≡◌, IfOk};
+ghost use Rattle.std.specs.Prelude.{◌≡◌, ◌≢◌, ◌<◌, ◌≤◌, length, IfOk};
 ghost use Rattle.sf_value.specs.Values.{int_kind, pair_kind};
 ghost use Rattle.sf_func.specs.Registries.{KeepsTypes};
 
@@ -106,24 +106,48 @@ fn measure<W: Write>(alloc: Global, net: &[u8], lines: &[u8], out: &mut W) -> Re
 fn play<W: Write>(alloc: Global, meters: Meters, lines: &[u8], out: &mut W) -> Result<(), Stop> {
     let mut meters = meters;
     let mut cutter = Cutter::new(alloc)?;
-    let mut rest = lines;
-    while !rest.is_empty() {
-        match cutter.take(rest)? {
-            Cut::Whole(line) => {
-                write_counts(&mut meters, line, out)?;
-                rest = &rest[line.len() + 1..];
-            }
-            Cut::Line(used) => {
-                write_counts(&mut meters, cutter.line(Cut::Line(used)), out)?;
-                rest = &rest[used..];
-            }
-            Cut::Part => rest = &[],
-        }
+    let mut at = 0;
+    while at < lines.len() {
+        at += advance(&mut meters, &mut cutter, &lines[at..], out)?;
     }
     match cutter.finish()? {
         Cut::Part => Ok(()),
-        cut => write_counts(&mut meters, cutter.line(cut), out),
+        cut => play_line(&mut meters, &cutter, cut, out),
     }
+}
+
+/// Plays a line of the piece, if it completes one, or else its bytes. How many bytes were played.
+fn advance<W: Write>(
+    meters: &mut Meters,
+    cutter: &mut Cutter,
+    piece: &[u8],
+    out: &mut W,
+) -> Result<usize, Stop>
+    ensures within { IfOk result (λ used. used ≤ length piece.now) }
+    ensures some { IfOk result (λ used. length piece.now ≢ 0 → 0 < used) }
+{
+    match cutter.take(piece)? {
+        Cut::Whole(line) => {
+            write_counts(meters, line, out)?;
+            Ok(line.len() + 1)
+        }
+        Cut::Line(used) => {
+            play_line(meters, cutter, Cut::Line(used), out)?;
+            Ok(used)
+        }
+        Cut::Part => Ok(piece.len()),
+    }
+}
+
+/// Plays the line that a cutter completed, and writes the counts of its sample, if it is one.
+fn play_line<W: Write>(
+    meters: &mut Meters,
+    cutter: &Cutter,
+    cut: Cut<'_>,
+    out: &mut W,
+) -> Result<(), Stop> {
+    let line = (&*cutter).line(cut);
+    write_counts(meters, line, out)
 }
 
 /// Plays a line, and writes the counts of its sample, if it is one.
