@@ -3,10 +3,9 @@ memory stays flat, and whether what they let go of is let go of at the end, at a
 
     python3 rows/soak.py --exe PATH
 
-What is written is compared line by line with what the network's meaning gives. Where memory is to stay flat, the most that the
-longer run held may be at most 5 in a hundred above that of the shorter one. A network that makes chains of processes is played
-once more with a save at its first sample and a return to it behind its last, on the ordinary stack and on an eighth of it. The last
-line is `N passed, M failed`.
+What is written is compared line by line with what the network's meaning gives. Where memory is to stay flat, the longer run may have
+held at most 256 KiB more than the shorter one. A network that makes chains of processes is played once more with a save at its first
+sample and a return to it behind its last, on the ordinary stack and on an eighth of it. The last line is `N passed, M failed`.
 """
 
 import argparse
@@ -34,6 +33,8 @@ class Run:
     grows: bool = False
 
 
+# How many KiB more a run may hold that is ten times as long: a third of a byte for each further sample.
+MOST_GROWN = 256
 # The most samples in a million lines, of which one saves, one returns and one has a sample more.
 MOST_RETURNED = 999_997
 # An event at each sample but the first.
@@ -156,7 +157,7 @@ def looks(words, run):
         held.append(most)
         yield None if good else f"another output in {samples:,} samples"
     if not run.grows:
-        is_flat = held[1] * 100 <= held[0] * 105
+        is_flat = held[1] <= held[0] + MOST_GROWN
         yield None if is_flat else f"{held[0]:,} KiB held in 100,000 samples and {held[1]:,} KiB in 1,000,000"
     if run.makes_chains:
         for stack in (ordinary, ordinary // 8):
