@@ -113,12 +113,12 @@ def row(name, peers, exe, place, options):
     source, best = source_of(name, options.lines, place), {}
     for _ in range(options.rounds):
         for player, words in players.items():
-            seconds = seconds_of(words, source, os.path.join(place, player))
+            seconds = seconds_of(words, source, os.path.join(place, f"{player}.out"))
             best[player] = min(seconds, best.get(player, seconds))
-    with open(os.path.join(place, "sfplay"), "rb") as file:
+    with open(os.path.join(place, "sfplay.out"), "rb") as file:
         wanted = file.read()
     for player in players:
-        with open(os.path.join(place, player), "rb") as file:
+        with open(os.path.join(place, f"{player}.out"), "rb") as file:
             if file.read() != wanted:
                 sys.exit(f"{name}: {player} writes something else")
     ratios = [f"{best[peer] / best['sfplay']:.2f}" if peer in best else "" for peer in peers]

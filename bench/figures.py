@@ -3,10 +3,10 @@
     python3 bench/figures.py          writes them, from the sources and from bench/figures.json
     python3 bench/figures.py gate     runs ./test before, and keeps the processor time of each crate's checks in bench/figures.json
     python3 bench/figures.py first    the same of the first ./sfplay, in a checkout where nothing is built
-    python3 bench/figures.py speed    runs bench/instructions.py, keys.py, large.py, names.py, run.py, compare.py and stack.py, and writes what they print too
+    python3 bench/figures.py speed    runs bench/instructions.py, keys.py, large.py, run.py, compare.py and stack.py, and writes what they print too
 
 Words after `gate` and `first` are the command that is run in place of ./test or ./sfplay (what it doesn't check keeps its figures);
-words after `speed` go to all seven scripts. The time of a check is read from /proc, five times in a second, so up to a fifth of a second
+words after `speed` go to all six scripts. The time of a check is read from /proc, five times in a second, so up to a fifth of a second
 of each is lost. A run that fails changes nothing.
 """
 
@@ -195,7 +195,7 @@ def write(name, mark, text):
 def speed(words):
     """What the scripts of the speed print."""
     said = ""
-    for script in ("instructions.py", "keys.py", "large.py", "names.py", "run.py", "compare.py", "stack.py"):
+    for script in ("instructions.py", "keys.py", "large.py", "run.py", "compare.py", "stack.py"):
         done = subprocess.run([sys.executable, os.path.join(TOP, "bench", script), *words], stdout=subprocess.PIPE, text=True)
         if done.returncode:
             sys.exit(f"figures: {script} ended with status {done.returncode}")
