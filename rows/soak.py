@@ -4,7 +4,7 @@ memory stays flat, and whether what they let go of is let go of at the end, at a
     python3 rows/soak.py --exe PATH
 
 What is written is compared line by line with what the network's meaning gives. Where memory is to stay flat, the longer run may have
-held at most 256 KiB more than the shorter one. A network that makes chains of processes is played once more with a save at its first
+held at most 512 KiB more than the shorter one. A network that makes chains of processes is played once more with a save at its first
 sample and a return to it behind its last, on the ordinary stack and on an eighth of it. The last line is `N passed, M failed`.
 """
 
@@ -33,8 +33,9 @@ class Run:
     grows: bool = False
 
 
-# How many KiB more a run may hold that is ten times as long: a third of a byte for each further sample.
-MOST_GROWN = 256
+# How many KiB more a run may hold that is ten times as long. Runs of one length differ by some 260 from each other, whatever the length;
+# what grows by a byte a sample would hold 879 more.
+MOST_GROWN = 512
 # The most samples in a million lines, of which one saves, one returns and one has a sample more.
 MOST_RETURNED = 999_997
 # An event at each sample but the first.
