@@ -19,17 +19,17 @@ use Rattle.sf_code.specs.Running.{run}
 use Rattle.sf_code.specs.Compiling.{inner_path, path_in, place_or, place_in, name_code, compiled, is_closed, scope_under}
 
 -- the part of a value that halves lead to, or else another value
-abbrev part_or : Option (List Half) → Data → Data → Data
+abbrev pub part_or : Option (List Half) → Data → Data → Data
 part_or (Some hs) d else = part_at hs d
 part_or None d else = else
 
-part_inner : (o q : Option (List Half)) (d else : Data) → part_or o (second_of d) (part_or q (first_of d) else) ≡ part_or (inner_path o q) d else
+pub part_inner : (o q : Option (List Half)) (d else : Data) → part_or o (second_of d) (part_or q (first_of d) else) ≡ part_or (inner_path o q) d else
 part_inner (Some hs) q d else = refl
 part_inner None (Some hs) d else = refl
 part_inner None None d else = refl
 
 -- a name in a pattern has the part of the value that its path leads to
-value_bound : (x : Name) (p : Pattern) (d : Data) (s : Scope) → value_of x (bound_in p d s) ≡ part_or (path_in x p) d (value_of x s)
+pub value_bound : (x : Name) (p : Pattern) (d : Data) (s : Scope) → value_of x (bound_in p d s) ≡ part_or (path_in x p) d (value_of x s)
 value_bound x unnamed d s = refl
 value_bound x (named y) d s = by_test (bytes_eq x y)
   where
@@ -65,7 +65,7 @@ name_worth : (o : Option Place) (vs : List Data) (f : AnswersByName) (else : Dat
 name_worth (Some p) vs f else = refl
 name_worth None vs f else = refl
 
-functions_bound : (p : Pattern) (d : Data) (s : Scope) → functions_in (bound_in p d s) ≡ functions_in s
+pub functions_bound : (p : Pattern) (d : Data) (s : Scope) → functions_in (bound_in p d s) ≡ functions_in s
 functions_bound unnamed d s = refl
 functions_bound (named x) d s = refl
 functions_bound (both p q) d s = functions_bound q (second_of d) (bound_in p (first_of d) s) ∙ functions_bound p (first_of d) s
@@ -83,7 +83,7 @@ module _ (s : Scope) where
       ∙ ap (λ (e : Data). part_or (path_in x p) v e) (value_placed x ps vs)
       ∙ value_inside (path_in x p) (place_in x ps) v vs (value_of x s)
 
-  functions_under : (ps : List Pattern) (vs : List Data) → functions_in (scope_under ps vs s) ≡ functions_in s
+  pub functions_under : (ps : List Pattern) (vs : List Data) → functions_in (scope_under ps vs s) ≡ functions_in s
   functions_under [] vs = refl
   functions_under (p ∷ ps) [] = functions_bound p nonsense (scope_under ps [] s) ∙ functions_under ps []
   functions_under (p ∷ ps) (v ∷ vs) = functions_bound p v (scope_under ps vs s) ∙ functions_under ps vs

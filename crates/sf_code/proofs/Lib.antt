@@ -1,5 +1,6 @@
 pub mod Compiled
 pub mod Named
+pub mod Outside
 pub mod Worth
 pub mod Rows
 pub mod Sized

@@ -1,84 +1,77 @@
 -- The code of expressions and functions in scopes.
-use Rattle.std.proofs.Common.{◌≡◌, true, List, [], ◌∷◌, ap, sym, ◌∙◌, Result, Ok, Err, IfOk}
-use Rattle.std.specs.Prelude.{Option, Some, None, IfSome, option_map}
-use Rattle.std.proofs.lemmas.Option.{cond_some}
+use Rattle.std.proofs.Common.{◌≡◌, Bool, true, false, cond, List, [], ◌∷◌, refl, ap, sym, ◌∙◌}
+use Rattle.std.specs.Prelude.{Option, Some, None, bytes_eq}
+use Rattle.std.proofs.lemmas.Slice.Eq.{bytes_eq-Decides}
 use mathlib.Core.Path.{ap₂, fun_ext}
 use Rattle.sf_value.specs.Values.{Name, Data}
 use Rattle.sf_func.specs.Registries.{AnswersByName}
 use Rattle.sf_operator.specs.Outcomes.{nonsense}
-use Rattle.sf_expr.specs.declared.exprs.Exprs.{Exprs}
-use Rattle.sf_expr.specs.declared.exprs.ExprId.{ExprId}
-use Rattle.sf_expr.specs.declared.exprs.FunctionId.{FunctionId}
-use Rattle.sf_expr.specs.Arena.{expression, pattern_at, body_at, function_at}
-use Rattle.sf_expr.specs.Patterns.{pattern_of}
-use Rattle.sf_expr.specs.Expressions.{Pattern, Expression, Function}
-use Rattle.sf_expr.specs.Evaluation.{Scope, functions_in, value_of, eval}
-use Rattle.sf_code.specs.declared.code.Code as declared
+use Rattle.sf_expr.specs.Patterns.{PlacedPattern, pattern_of}
+use Rattle.sf_expr.specs.Expressions.{Pattern, unnamed, named, both, Expression, function}
+use Rattle.sf_expr.specs.Evaluation.{Scope, functions_in, value_of, bound_in, eval}
+use Rattle.sf_code.specs.declared.open.OpenCode.{OpenCode}
 use Rattle.sf_code.specs.CodeView.{code_of}
 use Rattle.sf_code.specs.Codes.{Code}
+use Rattle.sf_code.specs.PlaceView.{around_pattern}
 use Rattle.sf_code.specs.Running.{run}
-use Rattle.sf_code.specs.Compiling.{compiled, is_closed, closed_code, scope_under}
-use Rattle.sf_code.specs.Names.{ValuesByName, value_among, scope_with}
-use Rattle.sf_code.specs.Worth.{IsCodeOf, IsCodeOfFunction, IsCodeOfIn, IsCodeOfFunctionIn}
-use Rattle.sf_code.proofs.Compiled.{compiled_worth, closed_same}
-use Rattle.sf_code.proofs.Named.{value_with}
+use Rattle.sf_code.specs.Compiling.{path_in, compiled, is_closed, code_under, scope_under}
+use Rattle.sf_code.specs.Worth.{pattern_values, frame_around, IsCodeOf, IsCodeOfFunction}
+use Rattle.sf_code.proofs.Compiled.{part_or, part_inner, value_bound, functions_bound, functions_under, compiled_worth, closed_same}
 
--- what is code in every scope is code in each
-pub code_in : {e : Expression} {c : declared.Code} (s : Scope) → IsCodeOf e c → IsCodeOfIn s e c
-code_in s is = record { worth = is.worth s }
+-- the values of a pattern's names are found by it
+part_there : (x : Name) (p : Pattern) (s : Scope) → part_or (path_in x p) (pattern_values s p) (value_of x s) ≡ value_of x s
+part_there x unnamed s = refl
+part_there x (named y) s = by (bytes_eq x y) refl
+  where
+    by : (b : Bool) → bytes_eq x y ≡ b → part_or (cond b (Some []) None) (value_of y s) (value_of x s) ≡ value_of x s
+    by true same = ap (λ (z : Name). value_of z s) (sym ((bytes_eq-Decides x y).0 same))
+    by false same = refl
+part_there x (both p q) s =
+    sym (part_inner (path_in x q) (path_in x p) (pattern_values s (both p q)) (value_of x s))
+    ∙ ap (λ (d : Data). part_or (path_in x q) (pattern_values s q) d) (part_there x p s)
+    ∙ part_there x q s
 
-pub function_in : {g : Function} {c : declared.Code} (s : Scope) → IsCodeOfFunction g c → IsCodeOfFunctionIn s g c
-function_in s is = record { worth = is.worth s }
+-- an expression is worth the same where its names have the same values
+eval_same : (e : Expression) (s t : Scope) → ((x : Name) → value_of x s ≡ value_of x t) → functions_in s ≡ functions_in t → eval e s ≡ eval e t
+eval_same e s t values functions =
+    sym (compiled_worth s e [] []) ∙ ap₂ (λ (w : Name → Data) (f : AnswersByName). run (compiled w [] e) [] f) (fun_ext values) functions ∙ compiled_worth t e [] []
 
-module _ (p : List Pattern) (e : Expression) (vs : List Data) where
-  -- compiled under values
-  worth_with : (ws : ValuesByName) (f : AnswersByName) → run (compiled (value_among ws) p e) vs (functions_in (scope_with ws f)) ≡ eval e (scope_under p vs (scope_with ws f))
-  worth_with ws f =
-      ap (λ (w : Name → Data). run (compiled w p e) vs (functions_in (scope_with ws f))) (fun_ext (λ (x : Name). value_with ws f x)) ∙ compiled_worth (scope_with ws f) e p vs
+-- the code of an expression of which the patterns bind each name
+closed_worth : (ps : List Pattern) (e : Expression) (vs : List Data) (s : Scope) → is_closed ps e ≡ true → run (code_under ps e) vs (functions_in s) ≡ eval e (scope_under ps vs s)
+closed_worth ps e vs s closed = ap (λ (k : Code). run k vs (functions_in s)) (closed_same (λ x. nonsense) (λ x. value_of x s) e ps closed) ∙ compiled_worth s e ps vs
 
-  -- compiled where the patterns bind each name
-  worth_closed : (w : Name → Data) (s : Scope) → is_closed p e ≡ true → run (compiled w p e) vs (functions_in s) ≡ eval e (scope_under p vs s)
-  worth_closed w s closed = ap (λ (k : Code). run k vs (functions_in s)) (closed_same w (λ x. value_of x s) e p closed) ∙ compiled_worth s e p vs
+module _ (o : Option PlacedPattern) (s : Scope) where
+  -- the scope inside the frame of the names around
+  abbrev within : Scope
+  within = scope_under (around_pattern o) (frame_around o s) s
 
--- code that there is, where the patterns bind each name
-code_compiled : (ps : List Pattern) (e : Expression) (c : declared.Code) → Some (code_of c) ≡ closed_code ps e → (is_closed ps e ≡ true) × (code_of c ≡ compiled (λ x. nonsense) ps e)
-code_compiled ps e c is = let made = cond_some (is_closed ps e) (compiled (λ x. nonsense) ps e) (code_of c) (sym is) in (made.0, sym made.1)
+  same_value : (x : Name) → value_of x within ≡ value_of x s
+  same_value x = by o
+    where
+      by : (o : Option PlacedPattern) → value_of x (scope_under (around_pattern o) (frame_around o s) s) ≡ value_of x s
+      by None = refl
+      by (Some p) = value_bound x (pattern_of p) (pattern_values s (pattern_of p)) s ∙ part_there x (pattern_of p) s
 
-module _ {E : Type 0} (e : Expression) (ps : List Pattern) (none : ps ≡ []) where
-  -- code that is compiled under values, without patterns
-  pub code_with : (ws : ValuesByName) (r : Result declared.Code E) → IfOk r (λ c. code_of c ≡ compiled (value_among ws) ps e) → IfOk r (λ c. (f : AnswersByName) → IsCodeOfIn (scope_with ws f) e c)
-  code_with ws (Ok c) is = λ f. record {
-    worth = ap (λ (k : Code). run k [] (functions_in (scope_with ws f))) (is ∙ ap (λ (q : List Pattern). compiled (value_among ws) q e) none) ∙ worth_with [] e [] ws f;
-  }
-  code_with ws (Err q) is = tt
+  same_functions : functions_in within ≡ functions_in s
+  same_functions = functions_under s (around_pattern o) (frame_around o s)
 
-  pub code_everywhere : (r : Result (Option declared.Code) E) → IfOk r (λ o. option_map code_of o ≡ closed_code ps e) → IfOk r (λ o. IfSome o (λ c. IsCodeOf e c))
-  code_everywhere (Ok None) is = tt
-  code_everywhere (Ok (Some c)) is =
-      let made = code_compiled [] e c (is ∙ ap (λ (q : List Pattern). closed_code q e) none) in
-      record { worth = λ s. ap (λ (k : Code). run k [] (functions_in s)) made.1 ∙ worth_closed [] e [] (λ x. nonsense) s made.0 }
-  code_everywhere (Err q) is = tt
+  expression_worth : (e : Expression) → is_closed (around_pattern o) e ≡ true → run (code_under (around_pattern o) e) (frame_around o s) (functions_in s) ≡ eval e s
+  expression_worth e closed = closed_worth (around_pattern o) e (frame_around o s) s closed ∙ eval_same e within s same_value same_functions
 
--- the pattern of a function, and its expression
-abbrev own : Exprs → FunctionId → List Pattern
-own x id = pattern_of (pattern_at x id) ∷ []
+  function_worth : (p : Pattern) (e : Expression) (d : Data) → is_closed (p ∷ around_pattern o) e ≡ true → run (code_under (p ∷ around_pattern o) e) (d ∷ frame_around o s) (functions_in s) ≡ eval e (bound_in p d s)
+  function_worth p e d closed =
+      closed_worth (p ∷ around_pattern o) e (d ∷ frame_around o s) s closed
+      ∙ eval_same e (bound_in p d within) (bound_in p d s)
+      (λ x. value_bound x p d within ∙ ap (λ (v : Data). part_or (path_in x p) d v) (same_value x) ∙ sym (value_bound x p d s))
+      (functions_bound p d within ∙ same_functions ∙ sym (functions_bound p d s))
 
-abbrev whole : Exprs → FunctionId → Expression
-whole x id = expression x (body_at x id)
+-- code that is made with a frame of the names around it
+pub is_code_of : (e : Expression) (c : OpenCode) (ps : List Pattern) → ps ≡ around_pattern c.around → is_closed (around_pattern c.around) e ≡ true → code_of c.code ≡ code_under ps e → IsCodeOf e c
+is_code_of e c ps only closed made = record {
+  worth = λ s. ap (λ (k : Code). run k (frame_around c.around s) (functions_in s)) (made ∙ ap (λ (q : List Pattern). code_under q e) only) ∙ expression_worth c.around s e closed;
+}
 
-module _ {E : Type 0} (x : Exprs) (id : FunctionId) (body : ExprId) (ps : List Pattern) (only : ps ≡ own x id) (at : body ≡ body_at x id) where
-  -- code that is compiled with the pattern of a function
-  pub function_with : (ws : ValuesByName) (r : Result declared.Code E) → IfOk r (λ c. code_of c ≡ compiled (value_among ws) ps (expression x body)) → IfOk r (λ c. (f : AnswersByName) → IsCodeOfFunctionIn (scope_with ws f) (function_at x id) c)
-  function_with ws (Ok c) is = λ f. record {
-    worth = λ d.
-        ap (λ (k : Code). run k (d ∷ []) (functions_in (scope_with ws f))) (is ∙ ap₂ (λ (q : List Pattern) (i : ExprId). compiled (value_among ws) q (expression x i)) only at)
-        ∙ worth_with (own x id) (whole x id) (d ∷ []) ws f;
-  }
-  function_with ws (Err q) is = tt
-
-  pub function_everywhere : (r : Result (Option declared.Code) E) → IfOk r (λ o. option_map code_of o ≡ closed_code ps (expression x body)) → IfOk r (λ o. IfSome o (λ c. IsCodeOfFunction (function_at x id) c))
-  function_everywhere (Ok None) is = tt
-  function_everywhere (Ok (Some c)) is =
-      let made = code_compiled (own x id) (whole x id) c (is ∙ ap₂ (λ (q : List Pattern) (i : ExprId). closed_code q (expression x i)) only at) in
-      record { worth = λ s d. ap (λ (k : Code). run k (d ∷ []) (functions_in s)) made.1 ∙ worth_closed (own x id) (whole x id) (d ∷ []) (λ n. nonsense) s made.0 }
-  function_everywhere (Err q) is = tt
+pub is_code_of_function : (p : Pattern) (e : Expression) (c : OpenCode) (ps : List Pattern) → ps ≡ p ∷ around_pattern c.around → is_closed (p ∷ around_pattern c.around) e ≡ true → code_of c.code ≡ code_under ps e → IsCodeOfFunction (function p e) c
+is_code_of_function p e c ps only closed made = record {
+  worth = λ s d. ap (λ (k : Code). run k (d ∷ frame_around c.around s) (functions_in s)) (made ∙ ap (λ (q : List Pattern). code_under q e) only) ∙ function_worth c.around s p e d closed;
+}

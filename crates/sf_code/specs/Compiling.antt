@@ -1,8 +1,8 @@
 -- The code of expressions.
-use Rattle.std.specs.Prelude.{Bool, true, ◌&&◌, cond, bytes_eq, List, [], ◌∷◌, Option, Some, None, is_some, option_map}
+use Rattle.std.specs.Prelude.{◌≡◌, Bool, true, ◌&&◌, cond, bytes_eq, List, [], ◌∷◌, map, Option, Some, None, is_some, option_map}
 use Rattle.sf_value.specs.Values.{Name, Data}
 use Rattle.sf_operator.specs.Outcomes.{nonsense}
-use Rattle.sf_expr.specs.Expressions.{Pattern, unnamed, named, both, Expression, variable as variable_expression, literal as literal_expression, paired as paired_expression, applied as applied_expression, operation as operation_expression, conditional as conditional_expression, mapped as mapped_expression, folded as folded_expression, called as called_expression, Function, function}
+use Rattle.sf_expr.specs.Expressions.{Pattern, unnamed, named, both, Expression, variable as variable_expression, literal as literal_expression, paired as paired_expression, applied as applied_expression, operation as operation_expression, conditional as conditional_expression, mapped as mapped_expression, folded as folded_expression, called as called_expression}
 use Rattle.sf_expr.specs.Evaluation.{Scope, bound_in, literal_value}
 use Rattle.sf_code.specs.declared.place.Half.{Half}
 use Rattle.sf_code.specs.declared.place.Half.TheVariants.{First, Second}
@@ -60,13 +60,17 @@ is_closed ps (mapped_expression i m p j) = is_closed ps i && is_closed (p ∷ ps
 is_closed ps (folded_expression i o j p k) = is_closed ps i && (is_closed ps j && is_closed (p ∷ ps) k)
 is_closed ps (called_expression g i) = is_closed ps i
 
--- the code of an expression, if the frames' patterns bind each of its names
-abbrev pub closed_code : List Pattern → Expression → Option Code
-closed_code ps e = cond (is_closed ps e) (Some (compiled (λ x. nonsense) ps e)) None
+-- the code of an expression, where a name that none of the frames' patterns binds makes no sense
+abbrev pub code_under : List Pattern → Expression → Code
+code_under ps e = compiled (λ x. nonsense) ps e
 
--- whether the pattern of a function binds each name of its expression
-abbrev pub is_closed_function : Function → Bool
-is_closed_function (function p i) = is_closed (p ∷ []) i
+-- patterns of names, each of one frame
+abbrev pub named_each : List Name → List Pattern
+named_each xs = map (λ x. named x) xs
+
+-- the names that patterns bind, others bind too
+abbrev pub BindAsMany : List Pattern → List Pattern → Type 0
+BindAsMany qs ps = (x : Name) → is_some (place_in x qs) ≡ true → is_some (place_in x ps) ≡ true
 
 -- the names that frames' patterns bind to the frames' values, the innermost first, inside the scope around the frames; a frame without a value has one
 -- that makes no sense

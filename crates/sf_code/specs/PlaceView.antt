@@ -1,14 +1,14 @@
 -- What places and the patterns of frames stand for.
-use Rattle.std.specs.Prelude.{List, [], ◌∷◌}
+use Rattle.std.specs.Prelude.{List, [], ◌∷◌, Option, Some, None}
 use Rattle.sf_expr.specs.Expressions.{Pattern}
-use Rattle.sf_expr.specs.Patterns.{pattern_of}
+use Rattle.sf_expr.specs.Patterns.{PlacedPattern, pattern_of}
 use Rattle.sf_code.specs.declared.place.Half.{Half}
 use Rattle.sf_code.specs.declared.place.Path as paths
 use Rattle.sf_code.specs.declared.place.Path.TheVariants.{Whole, Half'}
 use Rattle.sf_code.specs.declared.place.Place as places
 use Rattle.sf_code.specs.declared.place.Place.TheVariants.{Here, Out'}
 use Rattle.sf_code.specs.declared.place.Patterns.{Patterns}
-use Rattle.sf_code.specs.declared.place.Patterns.TheVariants.{Empty, Within'}
+use Rattle.sf_code.specs.declared.place.Patterns.TheVariants.{Empty, Only, Within'}
 use Rattle.sf_code.specs.Places.{Place, at_frame, one_out}
 
 -- the halves of a path
@@ -24,4 +24,10 @@ place_of (Out' at place) = one_out (place_of place)
 -- the patterns, the innermost first
 abbrev pub patterns_of : Patterns → List Pattern
 patterns_of Empty = []
+patterns_of (Only pattern) = pattern_of pattern.now ∷ []
 patterns_of (Within' pattern at around) = pattern_of pattern.now ∷ patterns_of around
+
+-- the pattern of one frame, if there is one
+abbrev pub around_pattern : Option PlacedPattern → List Pattern
+around_pattern None = []
+around_pattern (Some p) = pattern_of p ∷ []

@@ -1,24 +1,43 @@
 -- What code is of.
-use Rattle.std.specs.Prelude.{◌≡◌, [], ◌∷◌}
-use Rattle.sf_value.specs.Values.{Data}
-use Rattle.sf_expr.specs.Expressions.{Expression, Function}
-use Rattle.sf_expr.specs.Evaluation.{Scope, functions_in, eval, apply}
+use Rattle.std.specs.Prelude.{◌≡◌, List, [], ◌∷◌, Option, Some, None, option_to_list}
+use Rattle.sf_value.specs.Values.{Data, unit, pair}
+use Rattle.sf_expr.specs.Expressions.{Pattern, unnamed, named, both, Expression, Function}
+use Rattle.sf_expr.specs.Patterns.{PlacedPattern, pattern_of}
+use Rattle.sf_expr.specs.Evaluation.{Scope, value_of, functions_in, eval, apply}
 use Rattle.sf_code.specs.declared.code.Code.{Code}
+use Rattle.sf_code.specs.declared.open.OpenCode.{OpenCode}
+use Rattle.sf_code.specs.declared.open.Closure.{Closure}
 use Rattle.sf_code.specs.CodeView.{code_of}
 use Rattle.sf_code.specs.Running.{run}
 
--- Code is that of an expression in a scope: it is worth the same.
-pub record IsCodeOfIn (s : Scope) (e : Expression) (c : Code) : Type 0 where
-  pub worth : run (code_of c) [] (functions_in s) ≡ eval e s
+-- the values of a pattern's names in a scope, in the pattern's shape
+abbrev pub pattern_values : Scope → Pattern → Data
+pattern_values s unnamed = unit
+pattern_values s (named x) = value_of x s
+pattern_values s (both p q) = pair (pattern_values s p) (pattern_values s q)
 
--- Code is that of a function in a scope: with its argument in the only frame it is worth what the function answers.
-pub record IsCodeOfFunctionIn (s : Scope) (g : Function) (c : Code) : Type 0 where
-  pub worth : (d : Data) → run (code_of c) (d ∷ []) (functions_in s) ≡ apply g d s
+-- the frame of the names around code, if it has any
+abbrev pub frame_around : Option PlacedPattern → Scope → List Data
+frame_around None s = []
+frame_around (Some p) s = pattern_values s (pattern_of p) ∷ []
 
--- Code is that of an expression in every scope.
-pub record IsCodeOf (e : Expression) (c : Code) : Type 0 where
-  pub worth : (s : Scope) → run (code_of c) [] (functions_in s) ≡ eval e s
+-- Code over a frame of the names around it is that of an expression in a scope: it is worth the same.
+pub record IsCodeOfIn (s : Scope) (e : Expression) (around : List Data) (c : Code) : Type 0 where
+  pub worth : run (code_of c) around (functions_in s) ≡ eval e s
 
--- Code is that of a function in every scope.
-pub record IsCodeOfFunction (g : Function) (c : Code) : Type 0 where
-  pub worth : (s : Scope) (d : Data) → run (code_of c) (d ∷ []) (functions_in s) ≡ apply g d s
+-- Code over a frame of the names around it is that of a function in a scope: with its argument in a frame inside that one it
+-- is worth what the function answers.
+pub record IsCodeOfFunctionIn (s : Scope) (g : Function) (around : List Data) (c : Code) : Type 0 where
+  pub worth : (d : Data) → run (code_of c) (d ∷ around) (functions_in s) ≡ apply g d s
+
+-- Code is that of an expression in every scope, over the values that its names have there.
+pub record IsCodeOf (e : Expression) (c : OpenCode) : Type 0 where
+  pub worth : (s : Scope) → run (code_of c.code) (frame_around c.around s) (functions_in s) ≡ eval e s
+
+-- Code is that of a function in every scope, likewise.
+pub record IsCodeOfFunction (g : Function) (c : OpenCode) : Type 0 where
+  pub worth : (s : Scope) (d : Data) → run (code_of c.code) (d ∷ frame_around c.around s) (functions_in s) ≡ apply g d s
+
+-- A closure is that of a function in a scope: its code is, over the value that it has.
+abbrev pub IsClosureOf : Scope → Function → Closure → Type 0
+IsClosureOf s g c = IsCodeOfFunctionIn s g (option_to_list c.around) c.function.value.code

@@ -1,136 +1,128 @@
 //! The code of expressions.
 ghost use Rattle.std.specs.Prelude.{◌≡◌, ◌∷◌, IfOk};
 ghost use Rattle.sf_expr.specs.Arena.{expression, placed_at, name_at};
-ghost use Rattle.sf_expr.specs.Evaluation.{literal_value};
+ghost use Rattle.sf_expr.specs.Evaluation.{literal_value, nonsense};
 ghost use Rattle.sf_expr.specs.Patterns.{pattern_of};
 ghost use Rattle.sf_code.specs.Codes as trees;
 ghost use Rattle.sf_code.specs.CodeView.{code_of};
-ghost use Rattle.sf_code.specs.Compiling.{compiled, place_in, name_code as code_of_name};
-ghost use Rattle.sf_code.specs.Names.{value_among};
+ghost use Rattle.sf_code.specs.Compiling.{code_under, place_in, name_code as code_of_name};
 ghost use Rattle.sf_code.specs.PlaceView.{patterns_of};
 
 use crate::code::Code;
-use crate::names::Names;
 use crate::place::Patterns;
 use sf_expr::{Constant, ExprId, ExprNode, Exprs, NameId, PatternId};
 use sf_operator::{Folding, Mapping};
 use sf_value::Value;
 use std::alloc::{AllocError, Global};
 
-/// The code of an expression, where frames have these patterns, and names around them these values.
+/// The code of an expression, where frames have these patterns. A name that none of them binds makes no sense.
 #[cycle(compile)]
-pub(crate) fn compile<N: Names>(
+pub(crate) fn compile(
     alloc: Global,
     exprs: &Exprs,
     id: ExprId,
     patterns: &Patterns,
-    names: &N,
 ) -> Result<Code, AllocError>
-    ensures { IfOk result (λ code. code_of code ≡ compiled (value_among (N.values names.now)) (patterns_of patterns.now) (expression exprs.now id)) }
+    ensures { IfOk result (λ code. code_of code ≡ code_under (patterns_of patterns.now) (expression exprs.now id)) }
 {
     match exprs.node(id) {
         ExprNode::Unit => Ok(Code::Constant(Value::unit())),
         ExprNode::Truth(truth) => Ok(Code::Constant(Value::bool(truth))),
         ExprNode::Int(number) => Ok(Code::Constant(Value::int(number))),
         ExprNode::Constant(constant) => constant_code(alloc, exprs.constant_at(constant)),
-        ExprNode::Name(name) => name_code(alloc, exprs.name_of(name), patterns, names),
+        ExprNode::Name(name) => name_code(alloc, exprs.name_of(name), patterns),
         ExprNode::Pair(first, second) => {
-            let (first, second) = both(alloc, exprs, first, second, patterns, names)?;
+            let (first, second) = both(alloc, exprs, first, second, patterns)?;
             Ok(Code::Pair(first, second))
         }
         ExprNode::Applied(operator, part) => {
-            let part = boxed(alloc, exprs, part, patterns, names)?;
+            let part = boxed(alloc, exprs, part, patterns)?;
             Ok(Code::Applied(operator, part))
         }
         ExprNode::Operation(left, operator, right) => {
-            let (left, right) = both(alloc, exprs, left, right, patterns, names)?;
+            let (left, right) = both(alloc, exprs, left, right, patterns)?;
             Ok(Code::Operation(left, operator, right))
         }
         ExprNode::Conditional(condition, first, second) => {
-            conditional(alloc, exprs, condition, first, second, patterns, names)
+            conditional(alloc, exprs, condition, first, second, patterns)
         }
         ExprNode::Mapped(part, mapping, pattern, body) => {
-            mapped(alloc, exprs, part, mapping, pattern, body, patterns, names)
+            mapped(alloc, exprs, part, mapping, pattern, body, patterns)
         }
         ExprNode::Folded(first, folding, second, pattern, body) => folded(
-            alloc, exprs, first, folding, second, pattern, body, patterns, names,
+            alloc, exprs, first, folding, second, pattern, body, patterns,
         ),
-        ExprNode::Called(name, _, part) => called(alloc, exprs, name, part, patterns, names),
+        ExprNode::Called(name, _, part) => called(alloc, exprs, name, part, patterns),
     }
 }
 
 /// The code of an expression, in a box.
 #[cycle(compile)]
-fn boxed<N: Names>(
+fn boxed(
     alloc: Global,
     exprs: &Exprs,
     id: ExprId,
     patterns: &Patterns,
-    names: &N,
 ) -> Result<Box<Code>, AllocError>
-    ensures { IfOk result (λ code. code_of code.value ≡ compiled (value_among (N.values names.now)) (patterns_of patterns.now) (expression exprs.now id)) }
+    ensures { IfOk result (λ code. code_of code.value ≡ code_under (patterns_of patterns.now) (expression exprs.now id)) }
 {
-    let code = compile(alloc, exprs, id, patterns, names)?;
+    let code = compile(alloc, exprs, id, patterns)?;
     Ok(Box::new(alloc, code)?)
 }
 
 /// The codes of two expressions, in boxes.
 #[cycle(compile)]
-fn both<N: Names>(
+fn both(
     alloc: Global,
     exprs: &Exprs,
     first: ExprId,
     second: ExprId,
     patterns: &Patterns,
-    names: &N,
 ) -> Result<(Box<Code>, Box<Code>), AllocError>
-    ensures first { IfOk result (λ pair. code_of pair.0.value ≡ compiled (value_among (N.values names.now)) (patterns_of patterns.now) (expression exprs.now first)) }
-    ensures second { IfOk result (λ pair. code_of pair.1.value ≡ compiled (value_among (N.values names.now)) (patterns_of patterns.now) (expression exprs.now second)) }
+    ensures first { IfOk result (λ pair. code_of pair.0.value ≡ code_under (patterns_of patterns.now) (expression exprs.now first)) }
+    ensures second { IfOk result (λ pair. code_of pair.1.value ≡ code_under (patterns_of patterns.now) (expression exprs.now second)) }
 {
-    let first = boxed(alloc, exprs, first, patterns, names)?;
-    let second = boxed(alloc, exprs, second, patterns, names)?;
+    let first = boxed(alloc, exprs, first, patterns)?;
+    let second = boxed(alloc, exprs, second, patterns)?;
     Ok((first, second))
 }
 
 /// The code of a function's expression, in a box: its pattern is that of a frame inside the others.
 #[cycle(compile)]
-fn within<N: Names>(
+fn within(
     alloc: Global,
     exprs: &Exprs,
     pattern: PatternId,
     body: ExprId,
     patterns: &Patterns,
-    names: &N,
 ) -> Result<Box<Code>, AllocError>
-    ensures { IfOk result (λ code. code_of code.value ≡ compiled (value_among (N.values names.now)) (pattern_of (placed_at exprs.now pattern) ∷ patterns_of patterns.now) (expression exprs.now body)) }
+    ensures { IfOk result (λ code. code_of code.value ≡ code_under (pattern_of (placed_at exprs.now pattern) ∷ patterns_of patterns.now) (expression exprs.now body)) }
 {
     let inner = (&*patterns).within((&*exprs).placed(pattern));
-    boxed(alloc, &*exprs, body, &inner, &*names)
+    boxed(alloc, &*exprs, body, &inner)
 }
 
 /// The code of two expressions of which a condition chooses one.
 #[cycle(compile)]
-fn conditional<N: Names>(
+fn conditional(
     alloc: Global,
     exprs: &Exprs,
     condition: ExprId,
     first: ExprId,
     second: ExprId,
     patterns: &Patterns,
-    names: &N,
 ) -> Result<Code, AllocError>
-    ensures { let w = value_among (N.values names.now) in
-        let ps = patterns_of patterns.now in
-        IfOk result (λ code. code_of code ≡ trees.conditional (compiled w ps (expression exprs.now condition)) (compiled w ps (expression exprs.now first)) (compiled w ps (expression exprs.now second))) }
+    ensures { let ps = patterns_of patterns.now in
+        IfOk result (λ code. code_of code ≡ trees.conditional (code_under ps (expression exprs.now condition)) (code_under ps (expression exprs.now first)) (code_under ps (expression exprs.now second))) }
 {
-    let condition = boxed(alloc, exprs, condition, patterns, names)?;
-    let (first, second) = both(alloc, exprs, first, second, patterns, names)?;
+    let condition = boxed(alloc, exprs, condition, patterns)?;
+    let (first, second) = both(alloc, exprs, first, second, patterns)?;
     Ok(Code::Conditional(condition, first, second))
 }
 
 /// The code of a form on an expression with a function.
 #[cycle(compile)]
-fn mapped<N: Names>(
+fn mapped(
     alloc: Global,
     exprs: &Exprs,
     part: ExprId,
@@ -138,21 +130,19 @@ fn mapped<N: Names>(
     pattern: PatternId,
     body: ExprId,
     patterns: &Patterns,
-    names: &N,
 ) -> Result<Code, AllocError>
-    ensures { let w = value_among (N.values names.now) in
-        let ps = patterns_of patterns.now in
+    ensures { let ps = patterns_of patterns.now in
         let p = pattern_of (placed_at exprs.now pattern) in
-        IfOk result (λ code. code_of code ≡ trees.mapped (compiled w ps (expression exprs.now part)) mapping (compiled w (p ∷ ps) (expression exprs.now body))) }
+        IfOk result (λ code. code_of code ≡ trees.mapped (code_under ps (expression exprs.now part)) mapping (code_under (p ∷ ps) (expression exprs.now body))) }
 {
-    let part = boxed(alloc, exprs, part, patterns, names)?;
-    let body = within(alloc, exprs, pattern, body, patterns, names)?;
+    let part = boxed(alloc, exprs, part, patterns)?;
+    let body = within(alloc, exprs, pattern, body, patterns)?;
     Ok(Code::Mapped(part, mapping, body))
 }
 
 /// The code of a form on two expressions with a function.
 #[cycle(compile)]
-fn folded<N: Names>(
+fn folded(
     alloc: Global,
     exprs: &Exprs,
     first: ExprId,
@@ -161,31 +151,28 @@ fn folded<N: Names>(
     pattern: PatternId,
     body: ExprId,
     patterns: &Patterns,
-    names: &N,
 ) -> Result<Code, AllocError>
-    ensures { let w = value_among (N.values names.now) in
-        let ps = patterns_of patterns.now in
+    ensures { let ps = patterns_of patterns.now in
         let p = pattern_of (placed_at exprs.now pattern) in
-        IfOk result (λ code. code_of code ≡ trees.folded (compiled w ps (expression exprs.now first)) folding (compiled w ps (expression exprs.now second)) (compiled w (p ∷ ps) (expression exprs.now body))) }
+        IfOk result (λ code. code_of code ≡ trees.folded (code_under ps (expression exprs.now first)) folding (code_under ps (expression exprs.now second)) (code_under (p ∷ ps) (expression exprs.now body))) }
 {
-    let (first, second) = both(alloc, exprs, first, second, patterns, names)?;
-    let body = within(alloc, exprs, pattern, body, patterns, names)?;
+    let (first, second) = both(alloc, exprs, first, second, patterns)?;
+    let body = within(alloc, exprs, pattern, body, patterns)?;
     Ok(Code::Folded(first, folding, second, body))
 }
 
 /// The code of a call of a stored function on an expression.
 #[cycle(compile)]
-fn called<N: Names>(
+fn called(
     alloc: Global,
     exprs: &Exprs,
     function: NameId,
     part: ExprId,
     patterns: &Patterns,
-    names: &N,
 ) -> Result<Code, AllocError>
-    ensures { IfOk result (λ code. code_of code ≡ trees.called (name_at exprs.now function) (compiled (value_among (N.values names.now)) (patterns_of patterns.now) (expression exprs.now part))) }
+    ensures { IfOk result (λ code. code_of code ≡ trees.called (name_at exprs.now function) (code_under (patterns_of patterns.now) (expression exprs.now part))) }
 {
-    let part = boxed(alloc, exprs, part, patterns, names)?;
+    let part = boxed(alloc, exprs, part, patterns)?;
     let function = String::from_str(alloc, exprs.name_of(function))?;
     Ok(Code::Called(function, part))
 }
@@ -198,20 +185,12 @@ fn constant_code(alloc: Global, constant: &Constant) -> Result<Code, AllocError>
     Ok(Code::Constant(value))
 }
 
-/// The code of a name: its place, or its value around the frames, or the number 0 where it has none.
-fn name_code<N: Names>(
-    alloc: Global,
-    name: &str,
-    patterns: &Patterns,
-    names: &N,
-) -> Result<Code, AllocError>
-    ensures { IfOk result (λ code. code_of code ≡ code_of_name (value_among (N.values names.now) name.now) (place_in name.now (patterns_of patterns.now))) }
+/// The code of a name: its place, or the number 0 where it has none.
+fn name_code(alloc: Global, name: &str, patterns: &Patterns) -> Result<Code, AllocError>
+    ensures { IfOk result (λ code. code_of code ≡ code_of_name nonsense (place_in name.now (patterns_of patterns.now))) }
 {
-    if let Some(place) = patterns.place(alloc, name)? {
-        return Ok(Code::Place(place));
-    }
-    match names.value(name) {
-        Some(value) => Ok(Code::Constant(value.clone_in(alloc)?)),
+    match patterns.place(alloc, name)? {
+        Some(place) => Ok(Code::Place(place)),
         None => Ok(Code::Constant(Value::int(0))),
     }
 }

@@ -1,5 +1,5 @@
 //! The values of frames.
-ghost use Rattle.std.specs.Prelude.{◌≡◌, [], ◌∷◌, IfOk};
+ghost use Rattle.std.specs.Prelude.{◌≡◌, ◌∷◌, IfOk, option_to_list};
 ghost use Rattle.sf_operator.specs.Operations.{number_in as a_number_in};
 ghost use Rattle.sf_code.specs.Places.{half_of, part_at, value_in_frames};
 ghost use Rattle.sf_code.specs.PlaceView.{path_of, place_of};
@@ -16,6 +16,8 @@ use std::rc::Rc;
 pub(crate) enum Frames<'a> {
     /// No frame.
     Empty,
+    /// That of the only frame.
+    Only(&'a Value),
     /// That of the innermost frame, and those around it.
     Within(&'a Value, &'a Frames<'a>),
 }
@@ -74,11 +76,15 @@ impl<'a> Found<'a> {
 }
 
 impl<'a> Frames<'a> {
-    /// No frame.
-    pub(crate) fn new() -> Frames<'a>
-        ensures { frames_of result ≡ [] }
+    /// One frame, if there is a value.
+    #[inline(always)]
+    pub(crate) fn around(value: &'a Option<Value>) -> Frames<'a>
+        ensures { frames_of result ≡ option_to_list value.now }
     {
-        Frames::Empty
+        match value {
+            Some(value) => Frames::Only(value),
+            None => Frames::Empty,
+        }
     }
 
     /// These frames, and inside them one with a value.
@@ -95,6 +101,10 @@ impl<'a> Frames<'a> {
     {
         match self {
             Frames::Empty => Found::Nothing,
+            Frames::Only(value) => match place {
+                Place::Here(path) => part(Found::Whole(value), path),
+                Place::Out(_) => Found::Nothing,
+            },
             Frames::Within(value, around) => match place {
                 Place::Here(path) => part(Found::Whole(value), path),
                 Place::Out(outer) => around.further(outer),
@@ -108,6 +118,10 @@ impl<'a> Frames<'a> {
     {
         match self {
             Frames::Empty => Found::Nothing,
+            Frames::Only(value) => match place {
+                Place::Here(path) => part(Found::Whole(value), path),
+                Place::Out(_) => Found::Nothing,
+            },
             Frames::Within(value, around) => match place {
                 Place::Here(path) => part(Found::Whole(value), path),
                 Place::Out(place) => around.further(place),

@@ -1,21 +1,18 @@
 //! The code of expressions and functions.
-ghost use Rattle.std.specs.Prelude.{◌≡◌, [], ◌∷◌, IfOk, IfSome, is_some};
-ghost use Rattle.sf_func.specs.Registries.{AnswersByName};
+ghost use Rattle.std.specs.Prelude.{◌≡◌, ◌∷◌, IfOk, option_to_list};
 ghost use Rattle.sf_expr.specs.Arena.{expression, function_at};
 ghost use Rattle.sf_expr.specs.Expressions.{Expression, Function};
 ghost use Rattle.sf_expr.specs.Evaluation.{Scope, functions_in, eval, apply as applied};
 ghost use Rattle.sf_operator.specs.Answers.{Evaluates, EvaluatesAs};
 ghost use Rattle.sf_code.specs.CodeView.{code_of};
-ghost use Rattle.sf_code.specs.Compiling.{is_closed, is_closed_function};
 ghost use Rattle.sf_code.specs.Running.{run as worth_of};
-ghost use Rattle.sf_code.specs.Names.{scope_with};
 ghost use Rattle.sf_code.specs.Worth.{IsCodeOf, IsCodeOfFunction, IsCodeOfIn, IsCodeOfFunctionIn};
 
-use crate::closing::closed_code;
+use crate::around::names_around;
 use crate::code::Code;
 use crate::compiler::compile;
 use crate::frames::Frames;
-use crate::names::Names;
+use crate::open::OpenCode;
 use crate::place::Patterns;
 use crate::rearranging::{paired_halves, rearranged};
 use crate::running::run;
@@ -26,93 +23,72 @@ use sf_value::Value;
 use std::alloc::{AllocError, Global};
 use std::mem;
 
-/// The code of an expression in every scope, if it has no names from around it.
-pub fn expression_code(alloc: Global, exprs: &Exprs, id: ExprId) -> Result<Option<Code>, AllocError>
-    ensures closed { IfOk result (λ code. is_some code ≡ is_closed [] (expression exprs.now id)) }
-    ensures code { IfOk result (λ code. IfSome code (λ c. IsCodeOf (expression exprs.now id) c)) }
+/// The code of an expression.
+pub fn expression_code(alloc: Global, exprs: &Exprs, id: ExprId) -> Result<OpenCode, AllocError>
+    ensures { IfOk result (λ code. IsCodeOf (expression exprs.now id) code) }
 {
-    closed_code(alloc, exprs, id, &Patterns::new())
+    let around = names_around(alloc, exprs, id, &Patterns::Empty)?;
+    let code = compile(alloc, exprs, id, &Patterns::around(&around))?;
+    Ok(OpenCode { code, around })
 }
 
-/// The code of a function in every scope, if it has no names from around it.
-pub fn function_code(
+/// The code of a function.
+pub fn function_code(alloc: Global, exprs: &Exprs, id: FunctionId) -> Result<OpenCode, AllocError>
+    ensures { IfOk result (λ code. IsCodeOfFunction (function_at exprs.now id) code) }
+{
+    let pattern = exprs.pattern(id);
+    let body = exprs.body(id);
+    let around = names_around(alloc, exprs, body, &Patterns::Only(pattern))?;
+    let outside = Patterns::around(&around);
+    let code = compile(alloc, exprs, body, &outside.within(pattern))?;
+    Ok(OpenCode { code, around })
+}
+
+/// What an expression is worth by its code, over the value of the names around it, or the first fault of its operations:
+/// operands stand from left to right.
+pub fn evaluate<F: Holds>(
     alloc: Global,
-    exprs: &Exprs,
-    id: FunctionId,
-) -> Result<Option<Code>, AllocError>
-    ensures closed { IfOk result (λ code. is_some code ≡ is_closed_function (function_at exprs.now id)) }
-    ensures code { IfOk result (λ code. IfSome code (λ c. IsCodeOfFunction (function_at exprs.now id) c)) }
+    code: &Code,
+    around: &Option<Value>,
+    functions: &F,
+) -> Result<Value, EvalFault>
+    ensures { (s : Scope) → functions_in s ≡ F.answers functions.now → (e : Expression) → IsCodeOfIn s e (option_to_list around.now) code.now → Evaluates result (eval e s) }
 {
-    let outside = Patterns::new();
-    let patterns = outside.within(exprs.pattern(id));
-    closed_code(alloc, exprs, exprs.body(id), &patterns)
+    run(alloc, code, &Frames::around(around), functions)
 }
 
-/// The code of an expression where these names are around it: their values are constants in it.
-pub fn expression_code_in<N: Names>(
-    alloc: Global,
-    exprs: &Exprs,
-    id: ExprId,
-    names: &N,
-) -> Result<Code, AllocError>
-    ensures { IfOk result (λ code. (f : AnswersByName) → IsCodeOfIn (scope_with (N.values names.now) f) (expression exprs.now id) code) }
-{
-    compile(alloc, exprs, id, &Patterns::new(), names)
-}
-
-/// The code of a function where these names are around it: their values are constants in it.
-pub fn function_code_in<N: Names>(
-    alloc: Global,
-    exprs: &Exprs,
-    id: FunctionId,
-    names: &N,
-) -> Result<Code, AllocError>
-    ensures { IfOk result (λ code. (f : AnswersByName) → IsCodeOfFunctionIn (scope_with (N.values names.now) f) (function_at exprs.now id) code) }
-{
-    let outside = Patterns::new();
-    let patterns = outside.within(exprs.pattern(id));
-    compile(alloc, exprs, exprs.body(id), &patterns, names)
-}
-
-/// What an expression is worth by its code, or the first fault of its operations: operands stand from left to right.
-pub fn evaluate<F: Holds>(alloc: Global, code: &Code, functions: &F) -> Result<Value, EvalFault>
-    ensures { (s : Scope) → functions_in s ≡ F.answers functions.now → (e : Expression) → IsCodeOfIn s e code.now → Evaluates result (eval e s) }
-{
-    run(alloc, code, &Frames::new(), functions)
-}
-
-/// What a function answers to a value by its code, or the first fault.
+/// What a function answers to a value by its code, over the value of the names around it, or the first fault.
 #[inline(always)]
 pub fn apply<F: Holds>(
     alloc: Global,
     code: &Code,
+    around: &Option<Value>,
     value: &Value,
     functions: &F,
 ) -> Result<Value, EvalFault>
-    ensures { (s : Scope) → functions_in s ≡ F.answers functions.now → (g : Function) → IsCodeOfFunctionIn s g code.now → Evaluates result (applied g value.now s) }
+    ensures { (s : Scope) → functions_in s ≡ F.answers functions.now → (g : Function) → IsCodeOfFunctionIn s g (option_to_list around.now) code.now → Evaluates result (applied g value.now s) }
 {
-    let outside = Frames::new();
-    let frames = outside.within(value);
-    run(alloc, code, &frames, functions)
+    run_over(alloc, code, around, value, functions)
 }
 
-/// Puts what a function's code is worth over a value in its place, or answers the first fault, after which the value may be
+/// Puts what a function's code is worth over a value, and over that of the names around it, in the value's place, or answers the first fault, after which the value may be
 /// any. A pair of the value's halves is made without a copy.
 #[inline(always)]
 pub fn apply_in_place<F: Holds>(
     alloc: Global,
     code: &Code,
+    around: &Option<Value>,
     functions: &F,
     value: &mut Value,
 ) -> Result<(), EvalFault>
-    ensures { EvaluatesAs (λ u. value.new) result (worth_of (code_of code.now) (value.old ∷ []) (F.answers functions.now)) }
+    ensures { EvaluatesAs (λ u. value.new) result (worth_of (code_of code.now) (value.old ∷ option_to_list around.now) (F.answers functions.now)) }
 {
     if let Some((first, second)) = paired_halves(code) {
         let input = mem::replace(value, Value::int(0));
         *value = rearranged(alloc, input, first, second)?;
         return Ok(());
     }
-    *value = run_over(alloc, code, value, functions)?;
+    *value = run_over(alloc, code, around, value, functions)?;
     Ok(())
 }
 
@@ -121,12 +97,13 @@ pub fn apply_in_place<F: Holds>(
 fn run_over<F: Holds>(
     alloc: Global,
     code: &Code,
+    around: &Option<Value>,
     value: &Value,
     functions: &F,
 ) -> Result<Value, EvalFault>
-    ensures { Evaluates result (worth_of (code_of code.now) (value.now ∷ []) (F.answers functions.now)) }
+    ensures { Evaluates result (worth_of (code_of code.now) (value.now ∷ option_to_list around.now) (F.answers functions.now)) }
 {
-    let outside = Frames::new();
+    let outside = Frames::around(around);
     let frames = outside.within(value);
     run(alloc, code, &frames, functions)
 }

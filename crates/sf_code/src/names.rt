@@ -1,5 +1,5 @@
 //! Values under names.
-ghost use Rattle.std.specs.Prelude.{◌≡◌, [], option_map};
+ghost use Rattle.std.specs.Prelude.{◌≡◌, option_map};
 ghost use Rattle.sf_code.specs.Names.{ValuesByName, value_named};
 
 use sf_value::Value;
@@ -12,16 +12,4 @@ pub trait Names {
     /// The value of a name: of the same names the first counts. None where it is not there or stands for no value.
     fn value<'r>(&'r self, name: &str) -> Option<&'r Value>
         ensures { option_map (λ v. v.now) result ≡ value_named (values self.now) name.now };
-}
-
-/// No names.
-#[derive(Clone, Copy)]
-pub struct NoNames;
-
-impl Names for NoNames {
-    ghost values = { λ _. [] };
-
-    fn value<'r>(&'r self, _name: &str) -> Option<&'r Value> {
-        None
-    }
 }

@@ -1,8 +1,8 @@
 //! Places of names, and how they are found.
-ghost use Rattle.std.specs.Prelude.{◌≡◌, [], ◌∷◌, IfOk, is_some, option_map};
+ghost use Rattle.std.specs.Prelude.{◌≡◌, ◌∷◌, IfOk, is_some, option_map};
 ghost use Rattle.sf_expr.specs.Patterns.{pattern_of};
 ghost use Rattle.sf_code.specs.Compiling.{path_in as path_of_name, place_in as place_of_name};
-ghost use Rattle.sf_code.specs.PlaceView.{path_of, place_of, patterns_of};
+ghost use Rattle.sf_code.specs.PlaceView.{path_of, place_of, patterns_of, around_pattern};
 
 use sf_expr::{Pat, PatForm};
 use std::alloc::{AllocError, Global};
@@ -39,16 +39,21 @@ pub enum Place {
 pub(crate) enum Patterns<'a> {
     /// No frame.
     Empty,
+    /// That of the only frame.
+    Only(&'a Pat),
     /// That of the innermost frame, and those around it.
     Within(&'a Pat, &'a Patterns<'a>),
 }
 
 impl<'a> Patterns<'a> {
-    /// No frame.
-    pub(crate) fn new() -> Patterns<'a>
-        ensures { patterns_of result ≡ [] }
+    /// One frame, if there is a pattern.
+    pub(crate) fn around(pattern: &'a Option<Pat>) -> Patterns<'a>
+        ensures { patterns_of result ≡ around_pattern pattern.now }
     {
-        Patterns::Empty
+        match pattern {
+            Some(pattern) => Patterns::Only(pattern),
+            None => Patterns::Empty,
+        }
     }
 
     /// These patterns, and inside them that of one frame more.
@@ -64,6 +69,10 @@ impl<'a> Patterns<'a> {
     {
         match self {
             Patterns::Empty => Ok(None),
+            Patterns::Only(pattern) => match path_in(alloc, pattern, name)? {
+                Some(path) => Ok(Some(Place::Here(path))),
+                None => Ok(None),
+            },
             Patterns::Within(pattern, around) => match path_in(alloc, pattern, name)? {
                 Some(path) => Ok(Some(Place::Here(path))),
                 None => match around.place(alloc, name)? {
@@ -80,6 +89,7 @@ impl<'a> Patterns<'a> {
     {
         match self {
             Patterns::Empty => false,
+            Patterns::Only(pattern) => binds(pattern, name),
             Patterns::Within(pattern, around) => binds(pattern, name) || around.binds(name),
         }
     }

@@ -1,5 +1,5 @@
 -- Plans that show the terms of a program.
-use Rattle.std.proofs.Common.{◌≡◌, ℕ, ◌+◌, ◌<◌, ◌≤◌, List, [], ◌∷◌, map, All, IsTrue, ℤ, Option, Some, None, refl, sym, ◌∙◌, ap, subst, arith, ⊎_elim}
+use Rattle.std.proofs.Common.{◌≡◌, ℕ, ◌+◌, ◌<◌, ◌≤◌, List, [], ◌∷◌, map, All, IsTrue, ℤ, Some, None, refl, sym, ◌∙◌, ap, subst, arith, ⊎_elim}
 use mathlib.Core.Path.{ap₂}
 use Rattle.std.specs.List.{AllZip}
 use Rattle.std.proofs.lemmas.Bool.{cases_lt}
@@ -21,7 +21,7 @@ use Rattle.sf_term.specs.declared.node.Node.TheVariants as ast
 use Rattle.sf_term.specs.declared.node.Primitive.{Primitive}
 use Rattle.sf_term.specs.declared.node.Primitive.TheVariants as ast_primitives
 use Rattle.sf_term.specs.declared.form.Timing.{Timing}
-use Rattle.sf_code.specs.declared.code.Code.{Code}
+use Rattle.sf_code.specs.declared.open.OpenCode.{OpenCode}
 use Rattle.sf_term.specs.declared.program.Program.{Program}
 use Rattle.sf_term.specs.Trees.{Term, Template, Templates, Arguments, value_argument, process_argument, primitive, reference, started, call, probe, joined, sided, headed, never, switching, keeping, with_value, timed, arrow, accumulated}
 use Rattle.sf_term.specs.Parameters.{PlacedParameter, parameters_of}
@@ -43,7 +43,7 @@ use Rattle.sf_law.specs.Copies.{plan_id, named_process, CopiesArgument, copies_v
 use Rattle.sf_law.proofs.Kept.{tree_past}
 
 -- a primitive with an equal time is copied
-pub timed_copied : {k : Timing} {q z : ℤ} {e : ExprId} {c : Option Code} → z ≡ q → CopiesPrimitive (ast_primitives.Timed k q e) (plan_primitives.Timed k z e c)
+pub timed_copied : {k : Timing} {q z : ℤ} {e : ExprId} {c : OpenCode} → z ≡ q → CopiesPrimitive (ast_primitives.Timed k q e) (plan_primitives.Timed k z e c)
 timed_copied {k} {q} {z} {e} {c} is = subst (λ (z : ℤ). CopiesPrimitive (ast_primitives.Timed k q e) (plan_primitives.Timed k z e c)) (sym is) copies_timed
 
 -- a plan shows a program's terms below a number

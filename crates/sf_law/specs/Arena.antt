@@ -1,5 +1,5 @@
 -- Plans, seen by their trees.
-use Rattle.std.specs.Prelude.{◌≡◌, Bool, ℕ, ◌+◌, ◌<◌, ◌≤◌, List, length, map, nat_le, IsTrue, Option, IfSome, unwrap_or, slice_index_or, All, Vec, String, string_bytes}
+use Rattle.std.specs.Prelude.{◌≡◌, Bool, ℕ, ◌+◌, ◌<◌, ◌≤◌, List, length, map, nat_le, IsTrue, unwrap_or, slice_index_or, All, Vec, String, string_bytes}
 use Rattle.sf_value.specs.Values.{Name}
 use Rattle.std.specs.declared.rc.Rc.{Rc}
 use Rattle.std.specs.declared.alloc.Global.{Global}
@@ -17,7 +17,7 @@ use Rattle.sf_term.specs.declared.form.Side.{Side}
 use Rattle.sf_term.specs.declared.form.Heading.{Heading}
 use Rattle.sf_term.specs.declared.form.Observation.{Observation}
 use Rattle.sf_term.specs.declared.form.Switching.{Switching}
-use Rattle.sf_code.specs.declared.code.Code.{Code}
+use Rattle.sf_code.specs.declared.open.OpenCode.{OpenCode}
 use Rattle.sf_code.specs.Worth.{IsCodeOf}
 use Rattle.sf_term.specs.Trees.{Term, primitive, probe, reference, started, call, Arguments, joined, sided, headed, switching, keeping, Template, Templates, template_named}
 use Rattle.sf_term.specs.Parameters.{NameKind}
@@ -113,7 +113,7 @@ pub data BuildsPlan (p : Plan) : PlanNode → Term → Type 0 where
       → BuildsPlan p (nodes.Call k g v) (reference (call (name_at (plan_expressions p) k) (plan_arguments p v.items)))
   builds_joined : {j : Join} {a b : PlanId} → BuildsPlan p (nodes.Joined j a b) (joined j (plan_tree p a) (plan_tree p b))
   builds_sided : {d : Side} {a : PlanId} → BuildsPlan p (nodes.Sided d a) (sided d (plan_tree p a))
-  builds_headed : {h : Heading} {e : ExprId} {c : Option Code} {a : PlanId} → IfSome c (λ i. IsCodeOf (plan_expression_at p e) i) → BuildsPlan p (nodes.Headed h e c a) (headed h (plan_expression_at p e) (plan_tree p a))
+  builds_headed : {h : Heading} {e : ExprId} {c : OpenCode} {a : PlanId} → IsCodeOf (plan_expression_at p e) c → BuildsPlan p (nodes.Headed h e c a) (headed h (plan_expression_at p e) (plan_tree p a))
   builds_switching : {w : Switching} {a b : PlanId} {q : PatternId} → BuildsPlan p (nodes.Switching w a q b) (switching w (plan_tree p a) (pattern_of (placed_at (plan_expressions p) q)) (plan_tree p b))
   builds_keeping : {w : Observation} {a o b : PlanId} {k : NameId} {q : PatternId} → BuildsPlan p (nodes.Keeping w a o k q b) (keeping w (plan_tree p a) (plan_tree p o) (name_at (plan_expressions p) k) (pattern_of (placed_at (plan_expressions p) q)) (plan_tree p b))
   builds_pipeline : {v : Vec PlanId Global} → IsTrue (nat_le 2 (length v.items)) → BuildsPlan p (nodes.Pipeline v) (pipeline (trees_at p v.items))

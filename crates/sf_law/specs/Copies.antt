@@ -34,7 +34,7 @@ use Rattle.sf_term.specs.declared.program.Program.{Program}
 use Rattle.sf_term.specs.Parameters.{PlacedParameter}
 use Rattle.sf_term.specs.Headers.{Header as TermHeader}
 use Rattle.sf_term.specs.Arena.{tree as term, expressions_of, term_node_at, arguments_under}
-use Rattle.sf_code.specs.declared.code.Code.{Code}
+use Rattle.sf_code.specs.declared.open.OpenCode.{OpenCode}
 use Rattle.sf_law.specs.declared.node.PlanId.{PlanId}
 use Rattle.sf_law.specs.declared.node.TemplateId.{TemplateId}
 use Rattle.sf_law.specs.declared.node.PlanArgument.{PlanArgument}
@@ -55,10 +55,10 @@ plan_id t = record { 0 = t.0 }
 pub data CopiesPrimitive : Primitive → PlanPrimitive → Type 0 where
   copies_bare : {k : Bare} → CopiesPrimitive (primitives.Bare k) (plan_primitives.Bare k)
   copies_never : {n : ConstantId} → CopiesPrimitive (primitives.Never n) (plan_primitives.Never n)
-  copies_with_value : {k : WithValue} {e : ExprId} {c : Option Code} → CopiesPrimitive (primitives.WithValue k e) (plan_primitives.WithValue k e c)
-  copies_timed : {k : Timing} {q : ℤ} {e : ExprId} {c : Option Code} → CopiesPrimitive (primitives.Timed k q e) (plan_primitives.Timed k q e c)
-  copies_accumulated : {k : Accumulation} {e : ExprId} {d : Option Code} {f : FunctionId} {c : Option (Rc Code Global)} → CopiesPrimitive (primitives.Accumulated k e f) (plan_primitives.Accumulated k e d f c)
-  copies_arrow : {f : FunctionId} {c : Option (Rc Code Global)} → CopiesPrimitive (primitives.Arrow f) (plan_primitives.Arrow f c)
+  copies_with_value : {k : WithValue} {e : ExprId} {c : OpenCode} → CopiesPrimitive (primitives.WithValue k e) (plan_primitives.WithValue k e c)
+  copies_timed : {k : Timing} {q : ℤ} {e : ExprId} {c : OpenCode} → CopiesPrimitive (primitives.Timed k q e) (plan_primitives.Timed k q e c)
+  copies_accumulated : {k : Accumulation} {e : ExprId} {d : OpenCode} {f : FunctionId} {c : Rc OpenCode Global} → CopiesPrimitive (primitives.Accumulated k e f) (plan_primitives.Accumulated k e d f c)
+  copies_arrow : {f : FunctionId} {c : Rc OpenCode Global} → CopiesPrimitive (primitives.Arrow f) (plan_primitives.Arrow f c)
 
 -- where the process begins that a node is, and its name, if it is a named one
 abbrev pub named_process : Node → Option (Start × NameId)
@@ -74,7 +74,7 @@ named_process (terms.Keeping w a o k s q b) = None
 
 -- A plan's argument is a program's, whatever its code: the same expression, the same named process, or the id of the same number.
 pub data CopiesArgument (p : Program) : Argument → PlanArgument → Type 0 where
-  copies_value : {e : ExprId} {c : Option Code} → CopiesArgument p (arguments.Value e) (plan_arguments.Value e c)
+  copies_value : {e : ExprId} {c : OpenCode} → CopiesArgument p (arguments.Value e) (plan_arguments.Value e c)
   copies_started : {a : TermId} {w : Start} {k : NameId} → named_process (term_node_at p a) ≡ Some (w, k) → CopiesArgument p (arguments.Process a) (plan_arguments.Started w k)
   copies_closed : {a : TermId} → named_process (term_node_at p a) ≡ None → CopiesArgument p (arguments.Process a) (plan_arguments.Closed (plan_id a))
 
@@ -88,7 +88,7 @@ pub data CopiesNode (p : Program) : Node → PlanNode → Type 0 where
   copies_sided : {d : Side} {a : TermId} → CopiesNode p (terms.Sided d a) (plans.Sided d (plan_id a))
   copies_switching : {w : Switching} {a b : TermId} {q : PatternId} → CopiesNode p (terms.Switching w a q b) (plans.Switching w (plan_id a) q (plan_id b))
   copies_keeping : {w : Observation} {a o b : TermId} {k : NameId} {s : _} {q : PatternId} → CopiesNode p (terms.Keeping w a o k s q b) (plans.Keeping w (plan_id a) (plan_id o) k q (plan_id b))
-  copies_headed : {h : Heading} {e : ExprId} {c : Option Code} {a : TermId} → CopiesNode p (terms.Headed h e a) (plans.Headed h e c (plan_id a))
+  copies_headed : {h : Heading} {e : ExprId} {c : OpenCode} {a : TermId} → CopiesNode p (terms.Headed h e a) (plans.Headed h e c (plan_id a))
 
 -- A plan's parameter is a program's, with its name and the pattern that binds it among the expressions.
 pub record CopiesParameter (x : Exprs) (q : PlacedParameter) (r : ParameterHeader) : Type 0 where

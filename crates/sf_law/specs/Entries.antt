@@ -1,6 +1,6 @@
 -- The nodes of an arena of plans.
 use Rattle.std.specs.List.{list_all}
-use Rattle.std.specs.Prelude.{◌≡◌, ℕ, suc, ◌≤◌, max, Bool, true, nat_le, nat_eq, IsTrue, ⊤, Option, IfSome, List, [], ◌∷◌, length, map, slice_index_or, All, string_bytes}
+use Rattle.std.specs.Prelude.{◌≡◌, ℕ, suc, ◌≤◌, max, Bool, true, nat_le, nat_eq, IsTrue, ⊤, List, [], ◌∷◌, length, map, slice_index_or, All, string_bytes}
 use Rattle.sf_expr.specs.declared.exprs.ExprId.{ExprId}
 use Rattle.sf_expr.specs.declared.exprs.Exprs.{Exprs}
 use Rattle.sf_expr.specs.Expressions.{named}
@@ -10,7 +10,7 @@ use Rattle.sf_arena.specs.Folded.{trees, tree_at}
 use Rattle.sf_term.specs.declared.form.Bare.TheVariants.{Identity}
 use Rattle.sf_term.specs.declared.form.Start.{Start}
 use Rattle.sf_term.specs.declared.form.Start.TheVariants.{Run, Fresh}
-use Rattle.sf_code.specs.declared.code.Code.{Code}
+use Rattle.sf_code.specs.declared.open.OpenCode.{OpenCode}
 use Rattle.sf_code.specs.Worth.{IsCodeOf, IsCodeOfFunction}
 use Rattle.sf_term.specs.Entries.{identity_term, absent_payload, term_among}
 use Rattle.sf_term.specs.Trees.{Chain, lone, chained, on_side, on_both, fanned, fused, Extent, whole, rest, Primitive, Term, primitive, reference, started, call, probe, Arguments, no_arguments, value_argument, process_argument, closed_argument, joined, sided, headed, switching, keeping, staged, bare, never, with_value, timed, arrow, accumulated}
@@ -45,7 +45,7 @@ chain_over x (chains.Fanned' a f b g) = fanned (chain_over x f) (chain_over x g)
 
 -- the code that its functions have is theirs
 abbrev pub IsCodedChain : Exprs → PlanChain → Type 0
-IsCodedChain x (chains.Lone f c) = IfSome c (λ i. IsCodeOfFunction (function_at x f) i.value)
+IsCodedChain x (chains.Lone f c) = IsCodeOfFunction (function_at x f) c.value
 IsCodedChain x (chains.Chained' a f b g) = IsCodedChain x f × IsCodedChain x g
 IsCodedChain x (chains.OnSide' d a f) = IsCodedChain x f
 IsCodedChain x (chains.OnBoth' a f b g) = IsCodedChain x f × IsCodedChain x g
@@ -65,19 +65,19 @@ primitive_over x (primitives.Accumulated k e d f c) = accumulated k (expression 
 abbrev pub IsCodedPrimitive : Exprs → PlanPrimitive → Type 0
 IsCodedPrimitive x (primitives.Bare k) = ⊤
 IsCodedPrimitive x (primitives.Never n) = ⊤
-IsCodedPrimitive x (primitives.WithValue k e c) = IfSome c (λ i. IsCodeOf (expression x e) i)
-IsCodedPrimitive x (primitives.Timed k q e c) = IfSome c (λ i. IsCodeOf (expression x e) i)
-IsCodedPrimitive x (primitives.Arrow f c) = IfSome c (λ i. IsCodeOfFunction (function_at x f) i.value)
+IsCodedPrimitive x (primitives.WithValue k e c) = IsCodeOf (expression x e) c
+IsCodedPrimitive x (primitives.Timed k q e c) = IsCodeOf (expression x e) c
+IsCodedPrimitive x (primitives.Arrow f c) = IsCodeOfFunction (function_at x f) c.value
 IsCodedPrimitive x (primitives.Fused r) = IsCodedChain x r.value
-IsCodedPrimitive x (primitives.Accumulated k e d f c) = IfSome d (λ i. IsCodeOf (expression x e) i) × IfSome c (λ i. IsCodeOfFunction (function_at x f) i.value)
+IsCodedPrimitive x (primitives.Accumulated k e d f c) = IsCodeOf (expression x e) d × IsCodeOfFunction (function_at x f) c.value
 
--- the code that an expression has, if there is any, is that of the expression
-abbrev pub IsCodedExpression : Exprs → ExprId → Option Code → Type 0
-IsCodedExpression x e c = IfSome c (λ i. IsCodeOf (expression x e) i)
+-- the code that an expression has is that of the expression
+abbrev pub IsCodedExpression : Exprs → ExprId → OpenCode → Type 0
+IsCodedExpression x e c = IsCodeOf (expression x e) c
 
 -- the code that an argument has is that of its expression
 abbrev pub IsCodedArgument : Exprs → PlanArgument → Type 0
-IsCodedArgument x (arguments.Value e c) = IfSome c (λ i. IsCodeOf (expression x e) i)
+IsCodedArgument x (arguments.Value e c) = IsCodeOf (expression x e) c
 IsCodedArgument x (arguments.Started w k) = ⊤
 IsCodedArgument x (arguments.Closed a) = ⊤
 
@@ -89,7 +89,7 @@ IsCoded x (nodes.Probe r) = ⊤
 IsCoded x (nodes.Call k g v) = All (IsCodedArgument x) v.items
 IsCoded x (nodes.Joined j a b) = ⊤
 IsCoded x (nodes.Sided d a) = ⊤
-IsCoded x (nodes.Headed h e c a) = IfSome c (λ i. IsCodeOf (expression x e) i)
+IsCoded x (nodes.Headed h e c a) = IsCodeOf (expression x e) c
 IsCoded x (nodes.Switching w a q b) = ⊤
 IsCoded x (nodes.Keeping w a o k q b) = ⊤
 IsCoded x (nodes.Pipeline v) = ⊤

@@ -1,9 +1,6 @@
 -- That a node is coded has one proof at most, so a plan can keep it.
-use Rattle.std.specs.Prelude.{◌≡◌, refl, ⊤, Option, IfSome, Result, Ok, Err, [], ◌∷◌, slice_index_or}
-use Rattle.std.specs.Option.{MatchOption-prop}
+use Rattle.std.specs.Prelude.{◌≡◌, refl, Result, Ok, Err, ◌∷◌, slice_index_or}
 use Rattle.std.specs.Coded.{Coded-set, code_by, coded_result, Unit-prop}
-use Rattle.std.specs.declared.rc.Rc.{Rc}
-use Rattle.std.specs.declared.alloc.Global.{Global}
 use Rattle.sf_value.specs.Values.{Data}
 use Rattle.sf_value.specs.declared.fault.ValueFault.{ValueFault}
 use Rattle.sf_value.specs.contracts.value.Value as values
@@ -15,10 +12,10 @@ use Rattle.sf_expr.specs.contracts.pat.Pat as placed
 use Rattle.sf_expr.specs.Evaluation.{functions_in, eval, apply}
 use Rattle.sf_expr.specs.Arena.{expression, function_at, name_at, placed_at}
 use Rattle.sf_expr.specs.declared.exprs.Exprs.{Exprs}
-use Rattle.sf_code.specs.declared.code.Code.{Code}
+use Rattle.sf_code.specs.declared.open.OpenCode.{OpenCode}
 use Rattle.sf_code.specs.CodeView.{code_of}
 use Rattle.sf_code.specs.Running.{run}
-use Rattle.sf_code.specs.Worth.{IsCodeOf, IsCodeOfFunction}
+use Rattle.sf_code.specs.Worth.{frame_around, IsCodeOf, IsCodeOfFunction}
 use Rattle.sf_law.specs.declared.node.PlanArgument.{PlanArgument}
 use Rattle.sf_law.specs.declared.node.PlanArgument.TheVariants as arguments
 use Rattle.sf_law.specs.declared.node.PlanChain.{PlanChain}
@@ -63,20 +60,14 @@ pattern-set = Coded-set (code_by PlacedPattern placed.the_row.coded placed_nowhe
 pub BindsNames-prop : (x : Exprs) (h : PlanHeader) → IsProp (BindsNames x h)
 BindsNames-prop x h = λ a b i n d l. let q : ParameterHeader = slice_index_or h.parameters n d in pattern-set (pattern_of (placed_at x q.pattern)) (named (name_at x q.name)) (a n d l) (b n d l) i
 
-IsCodeOf-prop : (e : Expression) (c : Code) → IsProp (IsCodeOf e c)
-IsCodeOf-prop e c a b = λ i. record { worth = λ s. evaluated-set (run (code_of c) [] (functions_in s)) (eval e s) (a.worth s) (b.worth s) i }
+IsCodeOf-prop : (e : Expression) (c : OpenCode) → IsProp (IsCodeOf e c)
+IsCodeOf-prop e c a b = λ i. record { worth = λ s. evaluated-set (run (code_of c.code) (frame_around c.around s) (functions_in s)) (eval e s) (a.worth s) (b.worth s) i }
 
-IsCodeOfFunction-prop : (g : Function) (c : Code) → IsProp (IsCodeOfFunction g c)
-IsCodeOfFunction-prop g c a b = λ i. record { worth = λ s d. evaluated-set (run (code_of c) (d ∷ []) (functions_in s)) (apply g d s) (a.worth s d) (b.worth s d) i }
-
-code-prop : (e : Expression) (o : Option Code) → IsProp (IfSome o (λ c. IsCodeOf e c))
-code-prop e o = MatchOption-prop o ⊤ (λ c. IsCodeOf e c) Unit-prop (λ c. IsCodeOf-prop e c)
-
-function-prop : (g : Function) (o : Option (Rc Code Global)) → IsProp (IfSome o (λ c. IsCodeOfFunction g c.value))
-function-prop g o = MatchOption-prop o ⊤ (λ c. IsCodeOfFunction g c.value) Unit-prop (λ c. IsCodeOfFunction-prop g c.value)
+IsCodeOfFunction-prop : (g : Function) (c : OpenCode) → IsProp (IsCodeOfFunction g c)
+IsCodeOfFunction-prop g c a b = λ i. record { worth = λ s d. evaluated-set (run (code_of c.code) (d ∷ frame_around c.around s) (functions_in s)) (apply g d s) (a.worth s d) (b.worth s d) i }
 
 IsCodedChain-prop : (x : Exprs) (c : PlanChain) → IsProp (IsCodedChain x c)
-IsCodedChain-prop x (chains.Lone f c) = function-prop (function_at x f) c
+IsCodedChain-prop x (chains.Lone f c) = IsCodeOfFunction-prop (function_at x f) c.value
 IsCodedChain-prop x (chains.Chained' a f b g) = λ k l i. (IsCodedChain-prop x f k.0 l.0 i, IsCodedChain-prop x g k.1 l.1 i)
 IsCodedChain-prop x (chains.OnSide' d a f) = IsCodedChain-prop x f
 IsCodedChain-prop x (chains.OnBoth' a f b g) = λ k l i. (IsCodedChain-prop x f k.0 l.0 i, IsCodedChain-prop x g k.1 l.1 i)
@@ -85,14 +76,14 @@ IsCodedChain-prop x (chains.Fanned' a f b g) = λ k l i. (IsCodedChain-prop x f 
 IsCodedPrimitive-prop : (x : Exprs) (q : PlanPrimitive) → IsProp (IsCodedPrimitive x q)
 IsCodedPrimitive-prop x (primitives.Bare k) = Unit-prop
 IsCodedPrimitive-prop x (primitives.Never n) = Unit-prop
-IsCodedPrimitive-prop x (primitives.WithValue k e c) = code-prop (expression x e) c
-IsCodedPrimitive-prop x (primitives.Timed k q e c) = code-prop (expression x e) c
-IsCodedPrimitive-prop x (primitives.Arrow f c) = function-prop (function_at x f) c
+IsCodedPrimitive-prop x (primitives.WithValue k e c) = IsCodeOf-prop (expression x e) c
+IsCodedPrimitive-prop x (primitives.Timed k q e c) = IsCodeOf-prop (expression x e) c
+IsCodedPrimitive-prop x (primitives.Arrow f c) = IsCodeOfFunction-prop (function_at x f) c.value
 IsCodedPrimitive-prop x (primitives.Fused r) = IsCodedChain-prop x r.value
-IsCodedPrimitive-prop x (primitives.Accumulated k e d f c) = λ a b i. (code-prop (expression x e) d a.0 b.0 i, function-prop (function_at x f) c a.1 b.1 i)
+IsCodedPrimitive-prop x (primitives.Accumulated k e d f c) = λ a b i. (IsCodeOf-prop (expression x e) d a.0 b.0 i, IsCodeOfFunction-prop (function_at x f) c.value a.1 b.1 i)
 
 IsCodedArgument-prop : (x : Exprs) (v : PlanArgument) → IsProp (IsCodedArgument x v)
-IsCodedArgument-prop x (arguments.Value e c) = code-prop (expression x e) c
+IsCodedArgument-prop x (arguments.Value e c) = IsCodeOf-prop (expression x e) c
 IsCodedArgument-prop x (arguments.Started w k) = Unit-prop
 IsCodedArgument-prop x (arguments.Closed a) = Unit-prop
 
@@ -103,7 +94,7 @@ IsCoded-prop x (nodes.Probe r) = Unit-prop
 IsCoded-prop x (nodes.Call k g v) = λ a b i n d h. IsCodedArgument-prop x (slice_index_or v.items n d) (a n d h) (b n d h) i
 IsCoded-prop x (nodes.Joined j a b) = Unit-prop
 IsCoded-prop x (nodes.Sided d a) = Unit-prop
-IsCoded-prop x (nodes.Headed h e c a) = code-prop (expression x e) c
+IsCoded-prop x (nodes.Headed h e c a) = IsCodeOf-prop (expression x e) c
 IsCoded-prop x (nodes.Switching w a q b) = Unit-prop
 IsCoded-prop x (nodes.Keeping w a o k q b) = Unit-prop
 IsCoded-prop x (nodes.Pipeline v) = Unit-prop

@@ -3,7 +3,7 @@ ghost use Rattle.std.specs.Prelude.{◌≡◌, false};
 ghost use Rattle.std.specs.List.{list_all};
 ghost use Rattle.sf_law.specs.Entries.{argument_within, is_within};
 
-use sf_code::Code;
+use sf_code::OpenCode;
 use sf_expr::{ConstantId, ExprId, FunctionId, NameId, PatternId};
 use sf_term::{
     Accumulation, Bare, Heading, Join, Observation, Side, Start, Switching, Timing, WithValue,
@@ -21,20 +21,19 @@ pub struct TemplateId(pub(crate) usize);
 /// An argument of a call.
 #[derive(Drop)]
 pub enum PlanArgument {
-    /// An expression, whose value it is, with the code that is run for it, where that has no names from around it.
-    Value(ExprId, Option<Code>),
+    /// An expression, whose value it is, with the code that is run for it.
+    Value(ExprId, OpenCode),
     /// The process of a name, with where it begins.
     Started(Start, NameId),
     /// A term, which is closed in the names around the call.
     Closed(PlanId),
 }
 
-/// Functions that are made into one, each with the code that is run for it, where that has no names from around it. Whatever
-/// lives by them shares their code.
+/// Functions that are made into one, each with the code that is run for it. Whatever lives by them shares their code.
 #[cycle(chain)]
 pub enum PlanChain {
     /// A function.
-    Lone(FunctionId, Option<Rc<Code>>),
+    Lone(FunctionId, Rc<OpenCode>),
     /// One after the other.
     Chained(Rc<PlanChain>, Rc<PlanChain>),
     /// One on a part of a pair.
@@ -67,8 +66,7 @@ impl Drop for PlanChain {
     }
 }
 
-/// A primitive of a plan, with the code that is run for its expression or its function, where that has no names from
-/// around it.
+/// A primitive of a plan, with the code that is run for its expression or its function.
 #[derive(Drop)]
 pub enum PlanPrimitive {
     /// One without an expression.
@@ -76,15 +74,15 @@ pub enum PlanPrimitive {
     /// `never`, with the constant that has its type.
     Never(ConstantId),
     /// One with an expression.
-    WithValue(WithValue, ExprId, Option<Code>),
+    WithValue(WithValue, ExprId, OpenCode),
     /// One with a time and an expression.
-    Timed(Timing, i64, ExprId, Option<Code>),
+    Timed(Timing, i64, ExprId, OpenCode),
     /// `arr`, with its function. Whatever lives by it shares the code.
-    Arrow(FunctionId, Option<Rc<Code>>),
+    Arrow(FunctionId, Rc<OpenCode>),
     /// `arr`, with functions that are made into one.
     Fused(Rc<PlanChain>),
     /// One with an expression and a function. Whatever lives by it shares the code of the function.
-    Accumulated(Accumulation, ExprId, Option<Code>, FunctionId, Option<Rc<Code>>),
+    Accumulated(Accumulation, ExprId, OpenCode, FunctionId, Rc<OpenCode>),
 }
 
 /// A term of a plan, whose parts are ids of terms before it.
@@ -102,9 +100,8 @@ pub enum PlanNode {
     Joined(Join, PlanId, PlanId),
     /// A term on one part of a pair.
     Sided(Side, PlanId),
-    /// A term with an expression at its head, and the code that is run for the expression, where that has no names from
-    /// around it.
-    Headed(Heading, ExprId, Option<Code>, PlanId),
+    /// A term with an expression at its head, and the code that is run for the expression.
+    Headed(Heading, ExprId, OpenCode, PlanId),
     /// A term that waits for its event, and the body that takes over inside a pattern.
     Switching(Switching, PlanId, PatternId, PlanId),
     /// A term and its observer, and the body that takes over inside a name and a pattern.

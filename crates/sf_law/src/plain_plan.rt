@@ -1,5 +1,5 @@
 //! The plan that is the network itself.
-ghost use Rattle.std.specs.Prelude.{◌≡◌, List, map, All, IsTrue, IfOk, OnOk, IfSome};
+ghost use Rattle.std.specs.Prelude.{◌≡◌, false, List, map, All, IsTrue, IfOk, OnOk};
 ghost use Rattle.std.specs.List.{AllZip};
 ghost use Rattle.sf_expr.specs.Arena.{function_at, placed_at, HoldsPattern, Keeps};
 ghost use Rattle.sf_expr.specs.Patterns.{placed_name};
@@ -9,7 +9,7 @@ ghost use Rattle.sf_code.specs.Worth.{IsCodeOfFunction};
 ghost use Rattle.sf_refusal.specs.declared.spot.Spot.{Spot};
 ghost use Rattle.sf_law.specs.Headers.{PlanHeader};
 ghost use Rattle.sf_law.specs.Entries.{IsCodedPrimitive, IsCodedArgument, IsCoded, calls_first};
-ghost use Rattle.sf_law.specs.Arena.{plan_expressions, node_count, plan_headers};
+ghost use Rattle.sf_law.specs.Arena.{plan_expressions, plan_anew, node_count, plan_headers};
 ghost use Rattle.sf_law.specs.Copies.{plan_id as id_of, named_process, CopiesArgument, CopiesPrimitive, CopiesNode, CopiesParameter, CopiesTemplate, ShowsTerms};
 ghost use Rattle.sf_law.specs.Plans.{IsPlainPlan};
 
@@ -17,7 +17,7 @@ use crate::node::{PlanArgument, PlanId, PlanNode, PlanPrimitive};
 use crate::plan::Plan;
 use crate::template::{PlanParameter, PlanTemplate};
 use sf_check::Checked;
-use sf_code::{Code, expression_code, function_code};
+use sf_code::{OpenCode, expression_code, function_code};
 use sf_expr::{Exprs, FunctionId, NameId, Pat, PatternId};
 use sf_term::{
     Argument, ArgumentsId, Naming, Node, Parameter, Primitive, Program, Start, Template, TermId,
@@ -38,6 +38,7 @@ pub fn plain(alloc: Global, checked: &Checked) -> Result<Plan, AllocError>
 /// A plan with the expressions and the templates of a program, and no term yet.
 pub fn empty_plan(alloc: Global, program: &Program) -> Result<Plan, AllocError>
     ensures empty { IfOk result (λ plan. node_count plan ≡ 0) }
+    ensures anew { IfOk result (λ plan. plan_anew plan ≡ false) }
     ensures kept { IfOk result (λ plan. Keeps (program_expressions program.now) (plan_expressions plan)) }
     ensures copied { IfOk result (λ plan. AllZip (CopiesTemplate (plan_expressions plan)) (program_headers program.now) (plan_headers plan)) }
 {
@@ -305,18 +306,16 @@ pub fn plan_primitive(
     }
 }
 
-// The code of a function, to be shared, if it has no names from around it.
+// The code of a function, to be shared.
 fn shared_code(
     alloc: Global,
     exprs: &Exprs,
     function: FunctionId,
-) -> Result<Option<Rc<Code>>, AllocError>
-    ensures { IfOk result (λ code. IfSome code (λ c. IsCodeOfFunction (function_at exprs.now function) c.value)) }
+) -> Result<Rc<OpenCode>, AllocError>
+    ensures { IfOk result (λ code. IsCodeOfFunction (function_at exprs.now function) code.value) }
 {
-    match function_code(alloc, exprs, function)? {
-        Some(code) => Ok(Some(Rc::new(alloc, code)?)),
-        None => Ok(None),
-    }
+    let code = function_code(alloc, exprs, function)?;
+    Ok(Rc::new(alloc, code)?)
 }
 
 // The id of the same number.

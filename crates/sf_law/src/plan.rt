@@ -1,5 +1,5 @@
 //! Plans.
-ghost use Rattle.std.specs.Prelude.{◌≡◌, ◌≤◌, true, false, cond, All, IsTrue, IfOk, OnErr};
+ghost use Rattle.std.specs.Prelude.{◌≡◌, ◌≤◌, true, false, cond, All, IsTrue, IfOk, OnOk, OnErr};
 ghost use Rattle.sf_term.specs.declared.form.Bare.TheVariants.{Identity as identity_form};
 ghost use Rattle.sf_law.specs.declared.node.PlanPrimitive.TheVariants.{Bare as bare_node};
 ghost use Rattle.sf_law.specs.declared.node.PlanNode.TheVariants.{Primitive as primitive_node};
@@ -72,6 +72,7 @@ impl Plan {
         ensures expressions { IfOk result (λ plan. plan_expressions plan ≡ expressions) }
         ensures nodes { IfOk result (λ plan. node_count plan ≡ 0) }
         ensures templates { IfOk result (λ plan. plan_headers plan ≡ templates.items) }
+        ensures anew { IfOk result (λ plan. plan_anew plan ≡ false) }
     {
         let numbers = first_templates(alloc, &templates)?;
         Ok(Plan {
@@ -93,14 +94,16 @@ impl Plan {
         requires coded { IsCoded (plan_expressions self.old) node }
         requires called { IsTrue (calls_first (plan_expressions self.old) (plan_headers self.old) node) }
         ensures ok { IfOk result (λ id. AddsNode self.old self.new id node) }
-        ensures err { OnErr result (node_count self.new ≡ node_count self.old) }
+        ensures err { OnErr result ((node_count self.new ≡ node_count self.old) × (plan_anew self.new ≡ plan_anew self.old)) }
         ensures kept { KeepsPlan self.old self.new }
         ensures templates { plan_headers self.new ≡ plan_headers self.old }
         ensures main { plan_main self.new ≡ plan_main self.old }
+        ensures anew { OnOk result (plan_anew self.new ≡ cond (is_within false node) (plan_anew self.old) true) }
     {
         let id = PlanId(self.nodes.len());
-        self.anew = self.anew_with(&node);
+        let anew = self.anew_with(&node);
         self.nodes.push(node)?;
+        self.anew = anew;
         Ok(id)
     }
 
@@ -125,6 +128,7 @@ impl Plan {
     #[tactic(auto, unfolding(crate::specs::Arena::plan_tree))]
     pub fn with_main(self, main: PlanId) -> Plan
         ensures main { plan_main result ≡ main }
+        ensures anew { plan_anew result ≡ plan_anew self }
         ensures trees { (a : PlanIdOf) → plan_tree result a ≡ plan_tree self a }
         ensures templates { plan_headers result ≡ plan_headers self }
         ensures expressions { plan_expressions result ≡ plan_expressions self }
@@ -141,6 +145,7 @@ impl Plan {
         ensures templates { plan_headers result ≡ map (rebodied bodies.now (node_count self)) (plan_headers self) }
         ensures trees { (a : PlanIdOf) → plan_tree result a ≡ plan_tree self a }
         ensures nodes { node_count result ≡ node_count self }
+        ensures anew { plan_anew result ≡ plan_anew self }
         ensures main { plan_main result ≡ plan_main self }
         ensures expressions { plan_expressions result ≡ plan_expressions self }
     {

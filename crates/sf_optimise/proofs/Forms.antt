@@ -1,13 +1,11 @@
 -- Terms of plans by their nodes.
-use Rattle.std.proofs.Common.{◌≡◌, ◌<◌, List, [], ◌∷◌, length, Bool, true, false, true≢false, nat_le, IsTrue, Option, IfSome, Some, Result, Ok, Err, Vec, inl, inr, refl, sym, ◌∙◌, ap, subst}
+use Rattle.std.proofs.Common.{◌≡◌, ◌<◌, List, [], ◌∷◌, length, Bool, true, false, true≢false, nat_le, IsTrue, Option, Some, Result, Ok, Err, Vec, inl, inr, refl, sym, ◌∙◌, ap, subst}
 use Rattle.std.specs.Prelude.{IfOk}
 use Rattle.std.specs.declared.rc.Rc.{Rc}
 use Rattle.std.specs.declared.alloc.Global.{Global}
-use Rattle.sf_code.specs.declared.code.Code.{Code}
-use Rattle.sf_code.specs.Worth.{IsCodeOfFunction}
+use Rattle.sf_code.specs.declared.open.OpenCode.{OpenCode}
 use Rattle.sf_expr.specs.declared.exprs.FunctionId.{FunctionId}
 use Rattle.sf_expr.specs.declared.exprs.Exprs.{Exprs}
-use Rattle.sf_expr.specs.Expressions.{Function}
 use Rattle.sf_expr.specs.Arena.{function_at}
 use Rattle.sf_term.specs.declared.form.Join.{Join}
 use Rattle.sf_term.specs.declared.form.Side.{Side}
@@ -75,11 +73,11 @@ pub pipeline_no_identity : {p : Plan} {v : Vec PlanId Global} {t : Term} → Bui
 pipeline_no_identity B = ap is_identity_term (pipeline_built B).term
 
 -- `arr` of one function
-pub arrow_chain : {x : Exprs} {f : FunctionId} (code : Option (Rc Code Global)) {shared : Option (Rc Code Global)} {c : Rc PlanChain Global} → c.value ≡ chains.Lone f shared
-    → ((g : Function) → IfSome code (λ i. IsCodeOfFunction g i.value) → IfSome shared (λ i. IsCodeOfFunction g i.value)) → IsCodedPrimitive x (primitives.Arrow f code)
+pub arrow_chain : {x : Exprs} {f : FunctionId} (code : Rc OpenCode Global) {shared : Rc OpenCode Global} {c : Rc PlanChain Global} → c.value ≡ chains.Lone f shared
+    → shared.value ≡ code.value → IsCodedPrimitive x (primitives.Arrow f code)
     → ChainIn x (primitive (primitive_over x (primitives.Arrow f code))) (Some c)
 arrow_chain {x} {f} code {shared} {c} is same k = chain_in (record {
-  coded = subst (IsCodedChain x) (sym is) (same (function_at x f) k);
+  coded = subst (IsCodedChain x) (sym is) (rw same k);
   law = subst (λ (d : PlanChain). Laws (primitive (arrow (function_at x f))) (arr (chain_over x d))) (sym is) arr_as_chain;
   is = refl;
 })

@@ -1,5 +1,5 @@
 -- What an optimised plan is of a network.
-use Rattle.std.specs.Prelude.{◌≡◌, ◌<◌, List, length, All, Option, Some, None, slice_index_or}
+use Rattle.std.specs.Prelude.{◌≡◌, ◌<◌, List, length, All, Some, None, slice_index_or}
 use Rattle.sf_func.specs.Registries.{AnswersByName}
 use Rattle.sf_expr.specs.declared.exprs.ExprId.{ExprId}
 use Rattle.sf_expr.specs.declared.exprs.NameId.{NameId}
@@ -13,7 +13,7 @@ use Rattle.sf_term.specs.Arena.{tree, term_number, term_node_at}
 use Rattle.sf_mean.specs.Networks.{network_of}
 use Rattle.sf_check.specs.declared.checked.Checked.{Checked}
 use Rattle.sf_check.specs.Accepting.{program_of, checked_main}
-use Rattle.sf_code.specs.declared.code.Code.{Code}
+use Rattle.sf_code.specs.declared.open.OpenCode.{OpenCode}
 use Rattle.sf_law.specs.declared.node.PlanId.{PlanId}
 use Rattle.sf_law.specs.declared.node.PlanArgument.{PlanArgument}
 use Rattle.sf_law.specs.declared.node.PlanArgument.TheVariants as plan_arguments
@@ -39,7 +39,7 @@ HoldsPlans p q ids = (t : TermId) → term_number t < length ids → HoldsPlan (
 
 -- An argument is rewritten: the same expression, the same named process, or the plan of a term.
 pub data RewritesArgument (p : Program) (ids : List PlanId) : Argument → PlanArgument → Type 0 where
-  rewrites_value : {e : ExprId} {c : Option Code} → RewritesArgument p ids (arguments.Value e) (plan_arguments.Value e c)
+  rewrites_value : {e : ExprId} {c : OpenCode} → RewritesArgument p ids (arguments.Value e) (plan_arguments.Value e c)
   rewrites_started : {a : TermId} {w : Start} {k : NameId} → named_process (term_node_at p a) ≡ Some (w, k) → RewritesArgument p ids (arguments.Process a) (plan_arguments.Started w k)
   rewrites_closed : {a : TermId} → named_process (term_node_at p a) ≡ None → RewritesArgument p ids (arguments.Process a) (plan_arguments.Closed (plan_of ids a))
 

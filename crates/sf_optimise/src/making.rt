@@ -6,14 +6,12 @@ ghost use Rattle.sf_term.specs.declared.form.Side.TheVariants.{First};
 ghost use Rattle.sf_term.specs.Trees.{joined, sided, headed as headed_term, staged, whole};
 ghost use Rattle.sf_rewrite.specs.Laws.{arr};
 ghost use Rattle.sf_law.specs.Arena.{plan_number, node_count, plan_tree, plan_expressions, plan_expression_at, trees_at};
-ghost use Rattle.sf_code.specs.Worth.{IsCodeOfFunction};
-ghost use Rattle.sf_expr.specs.Expressions.{Function};
 ghost use Rattle.sf_term.specs.Trees.{primitive as primitive_term};
 ghost use Rattle.sf_law.specs.Entries.{chain_over, pipeline, primitive_over, IsCodedPrimitive, IsCodedChain, ids_end};
 ghost use Rattle.sf_optimise.specs.Lists.{is_identity_term, AreStages};
 ghost use Rattle.sf_optimise.specs.Making.{GrowsPlan, HoldsTree, IsNormal, MakesPlan, ChainIn, ChainsIn, IsConstant};
 
-use sf_code::{Code, expression_code};
+use sf_code::expression_code;
 use sf_expr::{ExprId, Exprs};
 use sf_law::{Plan, PlanChain, PlanId, PlanNode, PlanPrimitive};
 use sf_term::{Bare, Heading, Join, Side, WithValue};
@@ -111,23 +109,14 @@ fn chain_of(alloc: Global, primitive: &PlanPrimitive) -> Result<Option<Rc<PlanCh
 {
     match primitive {
         PlanPrimitive::Arrow(function, code) => {
-            let chain = PlanChain::Lone(*function, same_code(code)?);
+            let same = code.clone()?;
+            let chain = PlanChain::Lone(*function, same);
             Ok(Some(Rc::new(alloc, chain)?))
         }
         PlanPrimitive::Fused(chain) => Ok(Some(chain.clone()?)),
         PlanPrimitive::Bare(_) | PlanPrimitive::Never(_) => Ok(None),
         PlanPrimitive::WithValue(_, _, _) | PlanPrimitive::Timed(_, _, _, _) => Ok(None),
         PlanPrimitive::Accumulated(_, _, _, _, _) => Ok(None),
-    }
-}
-
-// The same code, which is shared.
-fn same_code(code: &Option<Rc<Code>>) -> Result<Option<Rc<Code>>, AllocError>
-    ensures { IfOk result (λ same. (f : Function) → IfSome code.now (λ c. IsCodeOfFunction f c.value) → IfSome same (λ c. IsCodeOfFunction f c.value)) }
-{
-    match code {
-        Some(code) => Ok(Some(code.clone()?)),
-        None => Ok(None),
     }
 }
 

@@ -1,6 +1,6 @@
 -- The arguments of a call, bound one after another.
 use Rattle.std.proofs.Common.{◌≡◌, Bool, true, false, ◌&&◌, IsTrue, List, [], ◌∷◌, map, length, Result, Ok, Err, refl, sym, ap, ◌∙◌, subst, arith, ◌⊎◌, inl, inr}
-use Rattle.std.specs.Prelude.{Option, Some, IsErrAnd}
+use Rattle.std.specs.Prelude.{Some, IsErrAnd}
 use Rattle.sf_value.specs.Values.{Name, Data}
 use Rattle.sf_value.specs.declared.fault.ValueFault.{ValueFault}
 use Rattle.sf_value.specs.declared.fault.Fault.{Fault}
@@ -13,7 +13,7 @@ use Rattle.sf_expr.specs.declared.exprs.NameId.{NameId}
 use Rattle.sf_expr.specs.Evaluation.{Evaluated, Scope, answer, failed, ◌>>=◌, eval}
 use Rattle.sf_expr.specs.Arena.{expression, name_at, placed_at}
 use Rattle.sf_expr.specs.Patterns.{pattern_of}
-use Rattle.sf_code.specs.declared.code.Code.{Code}
+use Rattle.sf_code.specs.declared.open.OpenCode.{OpenCode}
 use Rattle.sf_code.specs.Names.{scope_with}
 use Rattle.sf_term.specs.declared.form.Start.{Start}
 use Rattle.sf_term.specs.Parameters.{NameKind, Bindings}
@@ -86,13 +86,13 @@ module _ (φ : AnswersByName) (p : Plan) where
     abbrev name : Name
     name = name_at (plan_expressions p) q.name
 
-    pub value_bound : (i : ExprId) (c : Option Code) (inner : Env) (v w : Data) → BindsName (plan_expressions p) q → eval (expression (plan_expressions p) i) (scope_in names) ≡ answer v → w ≡ v
+    pub value_bound : (i : ExprId) (c : OpenCode) (inner : Env) (v w : Data) → BindsName (plan_expressions p) q → eval (expression (plan_expressions p) i) (scope_in names) ≡ answer v → w ≡ v
         → ((d : Environment) → IsNames φ p bound d → IsNames φ p inner (bind (pattern_of (placed_at (plan_expressions p) q.pattern)) w d)) → BindsOne q (Value i c) names bound (Ok inner)
     value_bound i c inner v w alone h same f e d N M =
         makes (ap (λ s. eval (expression (plan_expressions p) i) s >>= λ v. answer (known name v d)) (sym (scope_is φ p names e N)) ∙ ap (λ o. o >>= λ v. answer (known name v d)) h)
         (subst (λ d. IsNames φ p inner d) (ap (λ r. bind r w d) alone ∙ ap (λ v. known name v d) same) (f d M))
 
-    pub value_fails : (i : ExprId) (c : Option Code) (f : EvalFault) → Evaluates (Err f) (eval (expression (plan_expressions p) i) (scope_in names)) → BindsOne q (Value i c) names bound (Err (fault_from f))
+    pub value_fails : (i : ExprId) (c : OpenCode) (f : EvalFault) → Evaluates (Err f) (eval (expression (plan_expressions p) i) (scope_in names)) → BindsOne q (Value i c) names bound (Err (fault_from f))
     value_fails i c (EValue x) h e d N M =
         makes_fault (ap (λ s. eval (expression (plan_expressions p) i) s >>= λ v. answer (known name v d)) (sym (scope_is φ p names e N)) ∙ ap (λ o. o >>= λ v. answer (known name v d)) h)
     value_fails i c EMemory h e d N M = makes_nothing

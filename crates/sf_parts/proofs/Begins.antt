@@ -1,5 +1,5 @@
 -- What terms are before their first sample, and what stands in their states.
-use Rattle.std.proofs.Common.{◌≡◌, ℕ, ◌+◌, ◌<◌, suc, List, [], ◌∷◌, ◌++◌, length, get_or, take, map, Option, Result, Ok, Err, refl, sym, ap, ◌∙◌, subst, arith, IsTrue}
+use Rattle.std.proofs.Common.{◌≡◌, ℕ, ◌+◌, ◌<◌, suc, List, [], ◌∷◌, ◌++◌, length, get_or, take, map, Result, Ok, Err, refl, sym, ap, ◌∙◌, subst, arith, IsTrue}
 use Rattle.std.specs.Prelude.{nat_le, IsErrAnd, All, Vec, String, string_bytes}
 use Rattle.std.specs.declared.rc.Rc.{Rc}
 use Rattle.std.specs.declared.alloc.Global.{Global}
@@ -18,7 +18,7 @@ use Rattle.sf_expr.specs.Patterns.{pattern_of}
 use Rattle.sf_expr.specs.declared.exprs.ExprId.{ExprId}
 use Rattle.sf_expr.specs.declared.exprs.NameId.{NameId}
 use Rattle.sf_expr.specs.declared.exprs.PatternId.{PatternId}
-use Rattle.sf_code.specs.declared.code.Code.{Code}
+use Rattle.sf_code.specs.declared.open.OpenCode.{OpenCode}
 use Rattle.sf_code.specs.Names.{scope_with}
 use Rattle.sf_term.specs.declared.form.Start.{Start}
 use Rattle.sf_term.specs.declared.form.Observation.{Observation}
@@ -129,12 +129,12 @@ module _ (φ : AnswersByName) (p : Plan) where
   open_sided d a t names w r builds_sided W h e N = h φ p _ e nothing_made N (λ x. refl) (W _ _ _ _)
 
   -- a part with a head opens as it does where its head's code is the head's
-  pub open_builds_headed : (i : Heading) (j : ExprId) (c : Option Code) (a : PlanId) (t : Term) (names : Env) (r : Result Opened Fault) → BuildsPlan p (NHeaded i j c a) t
+  pub open_builds_headed : (i : Heading) (j : ExprId) (c : OpenCode) (a : PlanId) (t : Term) (names : Env) (r : Result Opened Fault) → BuildsPlan p (NHeaded i j c a) t
       → ((e : Environment) → IsCodedExpression (plan_expressions p) j c → IsNames φ p names e → Opens φ p (headed i (plan_expression_at p j) (plan_tree p a)) e r)
       → (e : Environment) → IsNames φ p names e → Opens φ p t e r
   open_builds_headed i j c a t names r (builds_headed C) h e N = h e C N
 
-  pub open_headed : (i : Heading) (j : ExprId) (c : Option Code) (a : PlanId) (names : Env) (v : Data) (w : Wrap) (r : Result Opened Fault)
+  pub open_headed : (i : Heading) (j : ExprId) (c : OpenCode) (a : PlanId) (names : Env) (v : Data) (w : Wrap) (r : Result Opened Fault)
       → (IsCodedExpression (plan_expressions p) j c → eval (expression (plan_expressions p) j) (scope_in names) ≡ answer v)
       → ((n : Network) (j : Expression) (t : Term) (e : Environment) → Wraps n w (headed i j t) e (value_made v) [] t [])
       → ((φ : AnswersByName) (p : Plan) (t : Term) (e : Environment) (m : Made) → IsNames φ p names e → ((x : Data) → make (network_of_plan φ p) t e x ≡ answer m) → Wraps (network_of_plan φ p) w t e m [] (plan_tree p a) [] → Opens φ p t e r)
@@ -142,7 +142,7 @@ module _ (φ : AnswersByName) (p : Plan) where
   open_headed i j c a names v w r g W h e C N =
       h φ p _ e (value_made v) N (λ x. ap (λ s. eval (expression (plan_expressions p) j) s >>= λ v. answer (value_made v)) (sym (scope_is φ p names e N)) ∙ ap (λ o. o >>= λ v. answer (value_made v)) (g C)) (W _ _ _ _)
 
-  pub open_headed_fails : (i : Heading) (j : ExprId) (c : Option Code) (a : PlanId) (names : Env) (f : EvalFault)
+  pub open_headed_fails : (i : Heading) (j : ExprId) (c : OpenCode) (a : PlanId) (names : Env) (f : EvalFault)
       → (IsCodedExpression (plan_expressions p) j c → Evaluates (Err f) (eval (expression (plan_expressions p) j) (scope_in names))) → (e : Environment) → IsCodedExpression (plan_expressions p) j c → IsNames φ p names e → Opens φ p (headed i (plan_expression_at p j) (plan_tree p a)) e (Err (fault_from f))
   open_headed_fails i j c a names (EValue x) g e C N =
       opens_with_fault (λ s. gives not_begun (of_constants (ap (λ s. eval (expression (plan_expressions p) j) s >>= λ v. answer (value_made v)) (sym (scope_is φ p names e N)) ∙ ap (λ o. o >>= λ v. answer (value_made v)) (g C))))

@@ -2,6 +2,7 @@
 ghost use Rattle.std.specs.Prelude.{[], ◌∷◌, Some, All, IsTrue, IfOk};
 ghost use Rattle.std.specs.List.{list_all};
 ghost use Rattle.sf_func.specs.Registries.{AnswersByName};
+ghost use Rattle.sf_expr.specs.declared.exprs.ExprId.{ExprId};
 ghost use Rattle.sf_expr.specs.Arena.{name_at};
 ghost use Rattle.sf_law.specs.Arena.{plan_expressions, plan_anew, plan_binding, plan_template, plan_arguments};
 ghost use Rattle.sf_law.specs.declared.node.PlanArgument.TheVariants as arguments;
@@ -13,8 +14,8 @@ ghost use Rattle.sf_parts.specs.Beginning.{Makes};
 ghost use Rattle.sf_parts.specs.Contexts.{plan_in};
 
 use crate::context::{SampleContext, constant_in, fault_of};
-use sf_code::Code;
-use sf_expr::{ExprId, NameId};
+use sf_code::OpenCode;
+use sf_expr::NameId;
 use sf_func::Holds;
 use sf_law::{Plan, PlanArgument, PlanId, PlanParameter, PlanTemplate};
 use sf_state::{Env, Process, State};
@@ -121,9 +122,7 @@ fn bind<R: Holds>(
         (argued (R.answers context.now.functions.now) (plan_binding (plan_in context.now) parameter.now ∷ []) (plan_arguments (plan_in context.now) (argument.now ∷ [])) e d) result }
 {
     match argument {
-        PlanArgument::Value(value, code) => {
-            bind_value(context, parameter, *value, code, names, bound)
-        }
+        PlanArgument::Value(_, code) => bind_value(context, parameter, code, names, bound),
         PlanArgument::Started(start, name) => {
             bind_started(context, parameter, *start, *name, names, bound)
         }
@@ -135,18 +134,17 @@ fn bind<R: Holds>(
 fn bind_value<R: Holds>(
     context: &SampleContext<R>,
     parameter: &PlanParameter,
-    value: ExprId,
-    code: &Option<Code>,
+    code: &OpenCode,
     names: &Env,
     bound: &Env,
 ) -> Result<Env, Fault>
-    requires bound { BindsName (plan_expressions (plan_in context.now)) parameter.now }
-    requires coded { IsCodedArgument (plan_expressions (plan_in context.now)) (arguments.Value value code.now) }
-    ensures { (e d : Environment) → IsNames (R.answers context.now.functions.now) (plan_in context.now) names.now e → IsNames (R.answers context.now.functions.now) (plan_in context.now) bound.now d →
+    requires { BindsName (plan_expressions (plan_in context.now)) parameter.now }
+    ensures { (value : ExprId) → IsCodedArgument (plan_expressions (plan_in context.now)) (arguments.Value value code.now) →
+        (e d : Environment) → IsNames (R.answers context.now.functions.now) (plan_in context.now) names.now e → IsNames (R.answers context.now.functions.now) (plan_in context.now) bound.now d →
         Makes (IsNames (R.answers context.now.functions.now) (plan_in context.now))
         (argued (R.answers context.now.functions.now) (plan_binding (plan_in context.now) parameter.now ∷ []) (plan_arguments (plan_in context.now) (arguments.Value value code.now ∷ [])) e d) result }
 {
-    match constant_in(context, value, code, names) {
+    match constant_in(context, code, names) {
         Ok(value) => {
             let shared = Rc::new(context.alloc, value)?;
             Ok(bound.inside(context.alloc, parameter.pattern(), shared)?)

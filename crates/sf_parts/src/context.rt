@@ -1,17 +1,16 @@
 //! What the parts of a sample share.
 ghost use Rattle.std.specs.Prelude.{◌≡◌};
-ghost use Rattle.sf_expr.specs.Arena.{expression};
+ghost use Rattle.sf_expr.specs.Expressions.{Expression};
 ghost use Rattle.sf_expr.specs.Evaluation.{eval};
 ghost use Rattle.sf_code.specs.Names.{scope_with};
+ghost use Rattle.sf_code.specs.Worth.{IsCodeOf};
 ghost use Rattle.sf_operator.specs.Answers.{Evaluates};
 ghost use Rattle.sf_law.specs.Arena.{plan_expressions};
-ghost use Rattle.sf_law.specs.Entries.{IsCodedExpression};
 ghost use Rattle.sf_state.specs.Names.{values_around};
 ghost use Rattle.sf_parts.specs.Answering.{fault_from};
 ghost use Rattle.sf_parts.specs.Contexts.{plan_in};
 
-use sf_code::Code;
-use sf_expr::ExprId;
+use sf_code::OpenCode;
 use sf_func::Holds;
 use sf_law::Plan;
 use sf_operator::EvalFault;
@@ -36,17 +35,15 @@ pub struct SampleContext<'a, R> {
 /// The value of a constant with these names around it, or the first fault of its operations.
 pub(crate) fn constant_in<R: Holds>(
     context: &SampleContext<R>,
-    value: ExprId,
-    code: &Option<Code>,
+    code: &OpenCode,
     names: &Env,
 ) -> Result<Value, EvalFault>
-    ensures { let exprs = plan_expressions (plan_in context.now) in IsCodedExpression exprs value code.now →
-        Evaluates result (eval (expression exprs value) (scope_with (values_around exprs names.now) (R.answers context.now.functions.now))) }
+    ensures { (e : Expression) → IsCodeOf e code.now →
+        Evaluates result (eval e (scope_with (values_around (plan_expressions (plan_in context.now)) names.now) (R.answers context.now.functions.now))) }
 {
     let expressions = context.plan.expressions();
     let around = NamesIn { expressions, names };
-    let functions = context.functions;
-    constant(context.alloc, expressions, value, code, functions, &around)
+    constant(context.alloc, code, context.functions, &around)
 }
 
 /// The fault of an expression, as that of the sample.

@@ -2,6 +2,7 @@
 ghost use Rattle.std.specs.Prelude.{◌≡◌, [], IfOk, Ok, IsTrue};
 ghost use Rattle.sf_value.specs.Values.{Data};
 ghost use Rattle.sf_func.specs.Registries.{AnswersByName};
+ghost use Rattle.sf_expr.specs.declared.exprs.ExprId.{ExprId};
 ghost use Rattle.sf_expr.specs.Arena.{placed_at, name_at};
 ghost use Rattle.sf_expr.specs.Evaluation.{answer};
 ghost use Rattle.sf_expr.specs.Patterns.{pattern_of};
@@ -18,8 +19,8 @@ ghost use Rattle.sf_parts.specs.Contexts.{plan_in};
 use crate::calling::{called, started};
 use crate::context::{SampleContext, constant_in, fault_of};
 use crate::routing::{on_side, with_head};
-use sf_code::Code;
-use sf_expr::{ExprId, NameId, PatternId};
+use sf_code::OpenCode;
+use sf_expr::{NameId, PatternId};
 use sf_func::Holds;
 use sf_law::{PlanId, PlanNode};
 use sf_prim::PrimState;
@@ -99,12 +100,9 @@ fn open<R: Holds>(context: &SampleContext<R>, term: PlanId, names: &Env) -> Resu
 {
     match context.plan.node(term) {
         PlanNode::Primitive(primitive) => {
-            let exprs = context.plan.expressions();
-            let around = NamesIn {
-                expressions: exprs,
-                names,
-            };
-            match PrimState::born(context.alloc, exprs, primitive, context.functions, &around) {
+            let expressions = context.plan.expressions();
+            let around = NamesIn { expressions, names };
+            match PrimState::born(context.alloc, primitive, context.functions, &around) {
                 Ok(prim) => Ok(Opened::Primitive(prim)),
                 Err(fault) => Err(fault_of(fault)),
             }
@@ -114,8 +112,8 @@ fn open<R: Holds>(context: &SampleContext<R>, term: PlanId, names: &Env) -> Resu
             Ok(Opened::Live(both))
         }
         PlanNode::Sided(side, part) => wrapped(context.alloc, on_side(*side), *part, names),
-        PlanNode::Headed(heading, value, code, part) => {
-            headed(context, *heading, *value, code, *part, names)
+        PlanNode::Headed(heading, _, code, part) => {
+            headed(context, *heading, code, *part, names)
         }
         PlanNode::Switching(form, first, pattern, body) => {
             let switch = switching(context.alloc, *form, *first, *pattern, *body, names)?;
@@ -185,16 +183,15 @@ fn joined(
 fn headed<R: Holds>(
     context: &SampleContext<R>,
     heading: Heading,
-    value: ExprId,
-    code: &Option<Code>,
+    code: &OpenCode,
     part: PlanId,
     names: &Env,
 ) -> Result<Opened, Fault>
-    ensures { let p = plan_in context.now in (e : Environment) → IsCodedExpression (plan_expressions p) value code.now →
+    ensures { let p = plan_in context.now in (value : ExprId) (e : Environment) → IsCodedExpression (plan_expressions p) value code.now →
         IsNames (R.answers context.now.functions.now) p names.now e →
         Opens (R.answers context.now.functions.now) p (headed_term heading (plan_expression_at p value) (plan_tree p part)) e result }
 {
-    match constant_in(context, value, code, names) {
+    match constant_in(context, code, names) {
         Ok(head) => {
             let wrap = with_head(context.alloc, heading, head)?;
             wrapped(context.alloc, wrap, part, names)

@@ -9,8 +9,9 @@ use Rattle.sf_value.specs.Values.{Data, no_event, event}
 use Rattle.sf_func.specs.Registries.{AnswersByName}
 use Rattle.sf_expr.specs.Expressions.{Expression, Function}
 use Rattle.sf_expr.specs.Evaluation.{Evaluated, Scope, functions_in, answer, ◌>>=◌, eval, apply}
-use Rattle.sf_code.specs.declared.code.Code.{Code}
-use Rattle.sf_code.specs.Worth.{IsCodeOfFunctionIn}
+use Rattle.sf_code.specs.declared.open.OpenCode.{OpenCode}
+use Rattle.sf_code.specs.declared.open.Closure.{Closure}
+use Rattle.sf_code.specs.Worth.{IsCodeOfFunctionIn, IsClosureOf}
 use Rattle.sf_operator.specs.Outcomes.{tested}
 use Rattle.sf_operator.specs.Operations.{event_of, payload_or}
 use Rattle.sf_operator.specs.Answers.{Evaluates}
@@ -28,9 +29,9 @@ use Rattle.sf_prim.specs.declared.time.Area.{Area as Sum}
 use Rattle.sf_prim.specs.declared.time.Timer.{Timer}
 use Rattle.sf_prim.specs.declared.accumulator.Accumulator.{Accumulator}
 use Rattle.sf_prim.specs.declared.prim_state.PrimState.{PrimState}
-use Rattle.sf_prim.specs.declared.prim_state.PrimState.TheVariants.{Identity, Never, Constant, Previous, Arrow, Accumulated, Clock, Area, Timed, Edge, NotYet, Count, Now, Hold}
+use Rattle.sf_prim.specs.declared.prim_state.PrimState.TheVariants.{Identity, Never, Constant, Previous, Arrow, Closed, Accumulated, Clock, Area, Timed, Edge, NotYet, Count, Now, Hold}
 use Rattle.sf_prim.specs.Gifts.{gift}
-use Rattle.sf_prim.specs.Keeping.{shown_after, time_after, last_time, has_steps, span, waited, is_up, count_after, counted_after, Remembers, keeps_nothing, keeps_no_event, keeps_value, keeps_previous, keeps_initialized, keeps_pre, keeps_function, keeps_accumulation, keeps_time, keeps_area, keeps_timer, keeps_low, keeps_begun, keeps_count, keeps_first, keeps_passed, keeps_last, Begins, begins_with_fault, begins_without_memory, GoesOn, goes_on, goes_on_with_fault, goes_on_without_memory}
+use Rattle.sf_prim.specs.Keeping.{shown_after, time_after, last_time, has_steps, span, waited, is_up, count_after, counted_after, Remembers, keeps_nothing, keeps_no_event, keeps_value, keeps_previous, keeps_initialized, keeps_pre, keeps_function, keeps_closure, keeps_accumulation, keeps_time, keeps_area, keeps_timer, keeps_low, keeps_begun, keeps_count, keeps_first, keeps_passed, keeps_last, Begins, begins_with_fault, begins_without_memory, GoesOn, goes_on, goes_on_with_fault, goes_on_without_memory}
 
 -- a primitive with a value gives what its formula makes of it
 value_gives : (k : WithValue) (e : Expression) (scope : Scope) (v : Data) (s : Step) (L : Life)
@@ -84,11 +85,17 @@ previous_goes_on q scope d x L w (keeps_initialized {e = e} {v = v} h g) =
     goes_on (value_gives InitializedPre e scope v (step d x) L h ∙ ap answer (sym g)) (keeps_initialized h refl)
 previous_goes_on q scope d x L w (keeps_pre g) = goes_on (ap answer (sym g)) (keeps_pre refl)
 
-pub arrow_goes_on : (φ : AnswersByName) (c : Rc Code Global) (d : _) (x : Data) (r : Result Data EvalFault) → ((s : Scope) → functions_in s ≡ φ → (f : Function) → IsCodeOfFunctionIn s f c.value → Evaluates r (apply f x s))
+pub arrow_goes_on : (φ : AnswersByName) (c : Rc OpenCode Global) (d : _) (x : Data) (r : Result Data EvalFault) → ((s : Scope) → functions_in s ≡ φ → (f : Function) → IsCodeOfFunctionIn s f [] c.value.code → Evaluates r (apply f x s))
     → (q : Primitive) (scope : Scope) (L : Life) → functions_in scope ≡ φ → Remembers (Arrow c) q scope L → GoesOn q scope (step d x) L (Arrow c) r
 arrow_goes_on φ c d x (Ok v) h q scope L same (keeps_function {f = f} K) = goes_on (h scope same f K) (keeps_function K)
 arrow_goes_on φ c d x (Err (Value y)) h q scope L same (keeps_function {f = f} K) = goes_on_with_fault (h scope same f K)
 arrow_goes_on φ c d x (Err Memory) h q scope L same K = goes_on_without_memory
+
+pub closed_goes_on : (φ : AnswersByName) (c : Rc Closure Global) (d : _) (x : Data) (r : Result Data EvalFault) → ((s : Scope) → functions_in s ≡ φ → (f : Function) → IsClosureOf s f c.value → Evaluates r (apply f x s))
+    → (q : Primitive) (scope : Scope) (L : Life) → functions_in scope ≡ φ → Remembers (Closed c) q scope L → GoesOn q scope (step d x) L (Closed c) r
+closed_goes_on φ c d x (Ok v) h q scope L same (keeps_closure {f = f} K) = goes_on (h scope same f K) (keeps_closure K)
+closed_goes_on φ c d x (Err (Value y)) h q scope L same (keeps_closure {f = f} K) = goes_on_with_fault (h scope same f K)
+closed_goes_on φ c d x (Err Memory) h q scope L same K = goes_on_without_memory
 
 -- where a sample answers what the formula is worth, and then keeps the longer life
 goes_with : {A : Type 0} {q : Primitive} {scope : Scope} {s : Step} {L : Life} {i : PrimState} (r : Result A EvalFault) (w : Data) {worth : Evaluated Data}
@@ -243,34 +250,34 @@ shown_so k o u w (Err (Value y)) worth goes shows = ap (λ r. r >>= λ w. answer
 shown_so k o u w (Err Memory) worth goes shows = goes
 
 pub accumulated_goes_on : {A : Type 0} (φ : AnswersByName) (d : ℕ) (x : Data) (a b : Box Accumulator Global) (w : Data) (r : Result A EvalFault)
-    → ((s : Scope) → functions_in s ≡ φ → (f : Function) → IsCodeOfFunctionIn s f a.value.code.value → Evaluates (gift r b.value.value) (next_value f s a.value.value (coming a.value.form x)))
+    → ((s : Scope) → functions_in s ≡ φ → (f : Function) → IsClosureOf s f a.value.closure → Evaluates (gift r b.value.value) (next_value f s a.value.value (coming a.value.form x)))
     → OnOk r (w ≡ displayed a.value.form (coming a.value.form x) b.value.value)
-    → OnOk r ((b.value.form ≡ a.value.form) × (b.value.code.value ≡ a.value.code.value))
+    → OnOk r ((b.value.form ≡ a.value.form) × (b.value.closure ≡ a.value.closure))
     → (q : Primitive) (scope : Scope) (L : Life) → functions_in scope ≡ φ → Remembers (Accumulated a) q scope L → GoesOn q scope (step d x) L (Accumulated b) (gift r w)
 accumulated_goes_on φ d x a b w r goes shows same q scope L is (keeps_accumulation {e = e} {f = f} {v = v} h code k) =
     goes_with r w (accumulation_gives a.value e f v scope d x L h k) (shown_so a.value.form (coming a.value.form x) b.value.value w r _ (goes scope is f code) shows) (keeps r (goes scope is f code) same)
   where
-    goes_so : b.value.form ≡ a.value.form → b.value.code.value ≡ a.value.code.value → next_value f scope a.value.value (coming a.value.form x) ≡ answer b.value.value → Remembers (Accumulated b) (accumulated a.value.form e f) scope (step d x ∷ L)
+    goes_so : b.value.form ≡ a.value.form → b.value.closure ≡ a.value.closure → next_value f scope a.value.value (coming a.value.form x) ≡ answer b.value.value → Remembers (Accumulated b) (accumulated a.value.form e f) scope (step d x ∷ L)
     goes_so form code_same n =
         let after : accumulation a.value.form f scope v (step d x ∷ L) ≡ answer b.value.value = ap (λ r. r >>= λ w. next_value f scope w (coming a.value.form x)) k ∙ n in
         subst (λ m. Remembers (Accumulated b) (accumulated m e f) scope (step d x ∷ L)) form
         (keeps_accumulation h (rw code_same code) (ap (λ m. accumulation m f scope v (step d x ∷ L)) form ∙ after))
 
-    keeps : {A : Type 0} (r : Result A EvalFault) → Evaluates (gift r b.value.value) (next_value f scope a.value.value (coming a.value.form x)) → OnOk r ((b.value.form ≡ a.value.form) × (b.value.code.value ≡ a.value.code.value)) → OnOk r (Remembers (Accumulated b) (accumulated a.value.form e f) scope (step d x ∷ L))
+    keeps : {A : Type 0} (r : Result A EvalFault) → Evaluates (gift r b.value.value) (next_value f scope a.value.value (coming a.value.form x)) → OnOk r ((b.value.form ≡ a.value.form) × (b.value.closure ≡ a.value.closure)) → OnOk r (Remembers (Accumulated b) (accumulated a.value.form e f) scope (step d x ∷ L))
     keeps (Ok y) n m = goes_so m.0 m.1 n
     keeps (Err y) n m = m
 
 -- a copy of an accumulation keeps the same
-pub accumulated_follows : (a b : Box Accumulator Global) → b.value.form ≡ a.value.form → b.value.code.value ≡ a.value.code.value → b.value.value ≡ a.value.value → (q : Primitive) (scope : Scope) (L : Life) → Remembers (Accumulated a) q scope L → Remembers (Accumulated b) q scope L
+pub accumulated_follows : (a b : Box Accumulator Global) → b.value.form ≡ a.value.form → ((s : Scope) (f : Function) → IsClosureOf s f a.value.closure → IsClosureOf s f b.value.closure) → b.value.value ≡ a.value.value → (q : Primitive) (scope : Scope) (L : Life) → Remembers (Accumulated a) q scope L → Remembers (Accumulated b) q scope L
 accumulated_follows a b form code value q scope L (keeps_accumulation {e = e} {f = f} {v = v} h c k) =
-    subst (λ m. Remembers (Accumulated b) (accumulated m e f) scope L) form (keeps_accumulation h (rw code c) (ap (λ m. accumulation m f scope v L) form ∙ k ∙ ap answer (sym value)))
+    subst (λ m. Remembers (Accumulated b) (accumulated m e f) scope L) form (keeps_accumulation h (code scope f c) (ap (λ m. accumulation m f scope v L) form ∙ k ∙ ap answer (sym value)))
 
 -- before its first sample
-pub accumulated_keeps : (sc : Scope) (e : Expression) (f : Function) (a : Box Accumulator Global) → IsCodeOfFunctionIn sc f a.value.code.value → eval e sc ≡ answer a.value.value → Remembers (Accumulated a) (accumulated a.value.form e f) sc []
+pub accumulated_keeps : (sc : Scope) (e : Expression) (f : Function) (a : Box Accumulator Global) → IsClosureOf sc f a.value.closure → eval e sc ≡ answer a.value.value → Remembers (Accumulated a) (accumulated a.value.form e f) sc []
 accumulated_keeps sc e f a code h = keeps_accumulation h code refl
 
 -- of these parts
-pub accumulated_made : (sc : Scope) (e : Expression) (f : Function) (b : Box Accumulator Global) (a : Accumulator) → b.value ≡ a → IsCodeOfFunctionIn sc f a.code.value → eval e sc ≡ answer a.value → Remembers (Accumulated b) (accumulated a.form e f) sc []
+pub accumulated_made : (sc : Scope) (e : Expression) (f : Function) (b : Box Accumulator Global) (a : Accumulator) → b.value ≡ a → IsClosureOf sc f a.closure → eval e sc ≡ answer a.value → Remembers (Accumulated b) (accumulated a.form e f) sc []
 accumulated_made sc e f b a is code h =
     subst (λ m. Remembers (Accumulated b) (accumulated m e f) sc []) (ap (λ a. a.form) is) (accumulated_keeps sc e f b (rw is code) (h ∙ ap (λ a. answer a.value) (sym is)))
 
@@ -280,5 +287,8 @@ accumulated_fails sc k e g f r h w =
     exit_so sc (accumulated k e g) f r h (constant_fails sc (accumulated k e g) e (λ s v. accumulation k g sc v (s ∷ []) >>= λ w. answer (displayed k (coming k (input_of s)) w)) (λ s. refl) f w)
 
 -- the same code shared keeps the same
-pub arrow_follows : (c d : Rc Code Global) → d.value ≡ c.value → (q : Primitive) (scope : Scope) (L : Life) → Remembers (Arrow c) q scope L → Remembers (Arrow d) q scope L
+pub arrow_follows : (c d : Rc OpenCode Global) → d.value ≡ c.value → (q : Primitive) (scope : Scope) (L : Life) → Remembers (Arrow c) q scope L → Remembers (Arrow d) q scope L
 arrow_follows c d e q scope L (keeps_function K) = keeps_function (rw e K)
+
+pub closed_follows : (c d : Rc Closure Global) → d.value ≡ c.value → (q : Primitive) (scope : Scope) (L : Life) → Remembers (Closed c) q scope L → Remembers (Closed d) q scope L
+closed_follows c d e q scope L (keeps_closure K) = keeps_closure (rw e K)

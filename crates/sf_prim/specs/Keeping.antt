@@ -8,8 +8,9 @@ use Rattle.sf_value.specs.declared.fault.ValueFault.{ValueFault}
 use Rattle.sf_expr.specs.Expressions.{Expression, Function}
 use Rattle.sf_operator.specs.Outcomes.{tested}
 use Rattle.sf_expr.specs.Evaluation.{Evaluated, Scope, answer, failed, ◌>>=◌, eval}
-use Rattle.sf_code.specs.declared.code.Code.{Code}
-use Rattle.sf_code.specs.Worth.{IsCodeOfFunctionIn}
+use Rattle.sf_code.specs.declared.open.OpenCode.{OpenCode}
+use Rattle.sf_code.specs.declared.open.Closure.{Closure}
+use Rattle.sf_code.specs.Worth.{IsCodeOfFunctionIn, IsClosureOf}
 use Rattle.sf_operator.specs.declared.fault.EvalFault.{EvalFault}
 use Rattle.sf_operator.specs.declared.fault.EvalFault.TheVariants.{Value, Memory}
 use Rattle.sf_term.specs.declared.form.Bare.TheVariants.{Identity as BIdentity, LocalTime, Integral, Edge as BEdge, NotYet as BNotYet, Count as BCount, Pre}
@@ -25,7 +26,7 @@ use Rattle.std.specs.Prelude.{Vec}
 use Rattle.sf_prim.specs.declared.chain.Link.{Link}
 use Rattle.sf_prim.specs.Links.{AreLinksOf}
 use Rattle.sf_prim.specs.declared.prim_state.PrimState.{PrimState}
-use Rattle.sf_prim.specs.declared.prim_state.PrimState.TheVariants.{Identity, Never, Constant, Previous, Arrow, Fused, Accumulated, Clock, Area, Timed, Edge, NotYet, Count, Now, Hold}
+use Rattle.sf_prim.specs.declared.prim_state.PrimState.TheVariants.{Identity, Never, Constant, Previous, Arrow, Closed, Fused, Accumulated, Clock, Area, Timed, Edge, NotYet, Count, Now, Hold}
 
 -- the time at a sample, by that at the one before, if there was one
 abbrev pub time_after : Option ℤ → ℕ → ℤ
@@ -79,12 +80,14 @@ pub data Remembers : PrimState → Primitive → Scope → Life → Type 0 where
   keeps_initialized : {e : Expression} {scope : Scope} {v w : Data} {L : Life}
       → eval e scope ≡ answer v → w ≡ before v L → Remembers (Previous w) (with_value InitializedPre e) scope L
   keeps_pre : {scope : Scope} {w : Data} {L : Life} → w ≡ before (number (pos 0)) L → Remembers (Previous w) (bare Pre) scope L
-  keeps_function : {c : Rc Code Global} {f : Function} {scope : Scope} {L : Life}
-      → IsCodeOfFunctionIn scope f c.value → Remembers (Arrow c) (arrow f) scope L
+  keeps_function : {c : Rc OpenCode Global} {f : Function} {scope : Scope} {L : Life}
+      → IsCodeOfFunctionIn scope f [] c.value.code → Remembers (Arrow c) (arrow f) scope L
+  keeps_closure : {c : Rc Closure Global} {f : Function} {scope : Scope} {L : Life}
+      → IsClosureOf scope f c.value → Remembers (Closed c) (arrow f) scope L
   keeps_chain : {c : Rc (Vec Link Global) Global} {f : Chain} {scope : Scope} {L : Life}
       → AreLinksOf scope f c.value.items → Remembers (Fused c) (fused f) scope L
   keeps_accumulation : {a : Box Accumulator Global} {e : Expression} {f : Function} {v : Data} {scope : Scope} {L : Life}
-      → eval e scope ≡ answer v → IsCodeOfFunctionIn scope f a.value.code.value → accumulation a.value.form f scope v L ≡ answer a.value.value
+      → eval e scope ≡ answer v → IsClosureOf scope f a.value.closure → accumulation a.value.form f scope v L ≡ answer a.value.value
       → Remembers (Accumulated a) (accumulated a.value.form e f) scope L
   keeps_time : {t : Option ℤ} {scope : Scope} {L : Life} → t ≡ last_time L → Remembers (Clock t) (bare LocalTime) scope L
   keeps_area : {r : Sum} {scope : Scope} {L : Life}

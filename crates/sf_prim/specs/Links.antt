@@ -1,8 +1,9 @@
 -- What functions that are made into one make of a value, one after another.
-use Rattle.std.specs.Prelude.{◌≡◌, ℤ, List, [], ◌∷◌, map, Option, Some, None}
+use Rattle.std.specs.Prelude.{◌≡◌, ℤ, List, [], ◌∷◌, map, Option, Some, None, option_to_list}
 use Rattle.sf_value.specs.Values.{Data, number, pair}
 use Rattle.sf_func.specs.Registries.{AnswersByName}
 use Rattle.sf_expr.specs.Evaluation.{Evaluated, Scope, functions_in, answer, ◌>>=◌}
+use Rattle.sf_code.specs.declared.open.Closure.{Closure}
 use Rattle.sf_code.specs.CodeView.{code_of}
 use Rattle.sf_code.specs.Running.{run}
 use Rattle.sf_term.specs.declared.form.Side.{Side}
@@ -24,10 +25,14 @@ in_turn (w ∷ ws) φ x = w φ x >>= λ y. in_turn ws φ y
 abbrev pub on_part : Side → Worker → Worker
 on_part d w φ x = w φ (side_of d x) >>= λ y. answer (with_side d x y)
 
+-- what a function makes of a value
+abbrev pub closure_worth : Closure → Worker
+closure_worth c φ x = run (code_of c.function.value.code) (x ∷ option_to_list c.around) φ
+
 -- a link, with what the links in it make in their place
 abbrev pub link_step : Link-F Worker → Worker
-link_step (Link-F.Function c) φ x = run (code_of c.value) (x ∷ []) φ
-link_step (Link-F.Number k) φ x = run (code_of k.code.value) (x ∷ []) φ
+link_step (Link-F.Function c) φ x = closure_worth c φ x
+link_step (Link-F.Number k) φ x = closure_worth k.closure φ x
 link_step (Link-F.OnSide d v) φ x = on_part d (in_turn v.items) φ x
 link_step Link-F.Fork φ x = answer (pair x x)
 

@@ -5,12 +5,12 @@ ghost use Rattle.sf_value.specs.Values.{Data};
 ghost use Rattle.sf_operator.specs.Answers.{Evaluates};
 ghost use Rattle.sf_expr.specs.Expressions.{Function};
 ghost use Rattle.sf_expr.specs.Evaluation.{Scope, functions_in};
-ghost use Rattle.sf_code.specs.Worth.{IsCodeOfFunctionIn};
+ghost use Rattle.sf_code.specs.Worth.{IsClosureOf};
 ghost use Rattle.sf_mean.specs.Formulas.{coming as what_comes, next_value, displayed as what_is_shown};
 ghost use Rattle.sf_prim.specs.Gifts.{gift};
 
 use crate::events::occurs;
-use sf_code::{Code, apply};
+use sf_code::{Closure, apply};
 use sf_func::Holds;
 use sf_operator::EvalFault;
 use sf_term::Accumulation;
@@ -23,24 +23,24 @@ use std::rc::Rc;
 pub struct Accumulator {
     /// What it goes on with, and what it gives.
     pub form: Accumulation,
-    /// The code of its function, which it shares with its plan.
-    pub code: Rc<Code>,
+    /// Its function, whose code it shares with its plan.
+    pub closure: Closure,
     /// The value so far.
     pub value: Value,
 }
 
 impl Accumulator {
-    /// A copy, which shares the code; the error is a want of memory, or too many owners of the code.
+    /// A copy, which shares the code. The error is a want of memory, or too many owners of the code.
     pub(crate) fn clone_in(&self, alloc: Global) -> Result<Accumulator, AllocError>
         ensures form { IfOk result (λ copy. copy.form ≡ self.now.form) }
-        ensures code { IfOk result (λ copy. copy.code.value ≡ self.now.code.value) }
+        ensures closure { IfOk result (λ copy. (s : Scope) (f : Function) → IsClosureOf s f self.now.closure → IsClosureOf s f copy.closure) }
         ensures value { IfOk result (λ copy. copy.value ≡ self.now.value) }
     {
         let value = self.value.clone_in(alloc)?;
-        let code = self.code.clone()?;
+        let closure = self.closure.clone_in(alloc)?;
         Ok(Accumulator {
             form: self.form,
-            code,
+            closure,
             value,
         })
     }
@@ -79,10 +79,10 @@ pub(crate) fn accumulate<R: Holds>(
     functions: &R,
     value: &mut Value,
 ) -> Result<(), EvalFault>
-    ensures goes_on { (s : Scope) → functions_in s ≡ R.answers functions.now → (f : Function) → IsCodeOfFunctionIn s f accumulator.old.code.value →
+    ensures goes_on { (s : Scope) → functions_in s ≡ R.answers functions.now → (f : Function) → IsClosureOf s f accumulator.old.closure →
         Evaluates (gift result accumulator.new.value) (next_value f s accumulator.old.value (what_comes accumulator.old.form value.old)) }
     ensures shows { OnOk result (value.new ≡ what_is_shown accumulator.old.form (what_comes accumulator.old.form value.old) accumulator.new.value) }
-    ensures same { OnOk result ((accumulator.new.form ≡ accumulator.old.form) × (accumulator.new.code.value ≡ accumulator.old.code.value)) }
+    ensures same { OnOk result ((accumulator.new.form ≡ accumulator.old.form) × (accumulator.new.closure ≡ accumulator.old.closure)) }
 {
     let form = accumulator.form;
     let came = coming(alloc, form, value)?;
@@ -90,7 +90,14 @@ pub(crate) fn accumulate<R: Holds>(
     if let Some(argument) = came {
         let before = Rc::new(alloc, accumulator.value.clone_in(alloc)?)?;
         let both = Value::of_halves(before, argument);
-        let next = apply(alloc, &accumulator.code, &both, functions)?;
+        let closure = &accumulator.closure;
+        let next = apply(
+            alloc,
+            &closure.function.code,
+            &closure.around,
+            &both,
+            functions,
+        )?;
         accumulator.value = next;
     }
     let shown = shown(alloc, form, comes, &accumulator.value)?;

@@ -1,20 +1,19 @@
 //! Functions that are made into one, as they are run: links one after another, each on the value in its place.
 ghost use Rattle.std.specs.Prelude.{◌≡◌, IfOk, OnOk};
 ghost use Rattle.sf_func.specs.Registries.{AnswersByName};
+ghost use Rattle.sf_expr.specs.declared.exprs.Exprs.{Exprs};
 ghost use Rattle.sf_expr.specs.Expressions.{Function};
 ghost use Rattle.sf_expr.specs.Evaluation.{Scope, apply};
 ghost use Rattle.sf_code.specs.Names.{scope_with};
-ghost use Rattle.sf_code.specs.Worth.{IsCodeOfFunctionIn};
+ghost use Rattle.sf_code.specs.Worth.{IsClosureOf};
 ghost use Rattle.sf_operator.specs.Answers.{EvaluatesAs};
 ghost use Rattle.sf_value.specs.Values.{pair};
 ghost use Rattle.sf_law.specs.Entries.{chain_over, IsCodedChain};
 ghost use Rattle.sf_mean.specs.Formulas.{apply_chain};
 ghost use Rattle.sf_term.specs.Trees.{on_side};
-ghost use Rattle.sf_prim.specs.Links.{on_part, link_worth, links_worth, held, IsLinkOf, AreLinksOf, AddsLinks};
+ghost use Rattle.sf_prim.specs.Links.{on_part, closure_worth, link_worth, links_worth, held, IsLinkOf, AreLinksOf, AddsLinks};
 
-use crate::prim_state::shared_code;
-use sf_code::{Calculation, Code, Names, apply_in_place, halves, is_arithmetic};
-use sf_expr::Exprs;
+use sf_code::{Calculation, Closure, Names, apply_in_place, halves, is_arithmetic};
 use sf_func::Holds;
 use sf_law::PlanChain;
 use sf_operator::{EvalFault, number_in};
@@ -28,7 +27,7 @@ use std::rc::Rc;
 #[derive(Drop)]
 pub enum Link {
     /// A function.
-    Function(Rc<Code>),
+    Function(Closure),
     /// A function that makes a number of a number by arithmetic alone.
     Number(Calculation),
     /// Links on one part of a pair, which stays where it is.
@@ -41,15 +40,14 @@ pub enum Link {
 #[cycle(links)]
 pub(crate) fn links_of<N: Names>(
     alloc: Global,
-    exprs: &Exprs,
     chain: &PlanChain,
     names: &N,
 ) -> Result<Vec<Link>, AllocError>
-    ensures { IsCodedChain exprs.now chain.now →
-        IfOk result (λ links. (φ : AnswersByName) → AreLinksOf (scope_with (N.values names.now) φ) (chain_over exprs.now chain.now) links.items) }
+    ensures { (x : Exprs) → IsCodedChain x chain.now →
+        IfOk result (λ links. (φ : AnswersByName) → AreLinksOf (scope_with (N.values names.now) φ) (chain_over x chain.now) links.items) }
 {
     let mut links = Vec::new(alloc);
-    add_links(alloc, exprs, chain, names, &mut links)?;
+    add_links(alloc, chain, names, &mut links)?;
     Ok(links)
 }
 
@@ -57,33 +55,32 @@ pub(crate) fn links_of<N: Names>(
 #[cycle(links)]
 fn add_links<N: Names>(
     alloc: Global,
-    exprs: &Exprs,
     chain: &PlanChain,
     names: &N,
     links: &mut Vec<Link>,
 ) -> Result<(), AllocError>
-    ensures { IsCodedChain exprs.now chain.now →
-        OnOk result ((φ : AnswersByName) → AddsLinks (scope_with (N.values names.now) φ) (apply_chain (chain_over exprs.now chain.now)) links.old.items links.new.items) }
+    ensures { (x : Exprs) → IsCodedChain x chain.now →
+        OnOk result ((φ : AnswersByName) → AddsLinks (scope_with (N.values names.now) φ) (apply_chain (chain_over x chain.now)) links.old.items links.new.items) }
 {
     match chain {
-        PlanChain::Lone(function, code) => {
-            let shared = shared_code(alloc, exprs, *function, code, names)?;
-            links.push(function_link(shared))?;
+        PlanChain::Lone(_, code) => {
+            let closure = Closure::new(alloc, code, names)?;
+            links.push(function_link(closure))?;
             Ok(())
         }
         PlanChain::Chained(first, second) => {
-            add_links(alloc, exprs, first, names, links)?;
-            add_links(alloc, exprs, second, names, links)
+            add_links(alloc, first, names, links)?;
+            add_links(alloc, second, names, links)
         }
-        PlanChain::OnSide(side, part) => add_on_side(alloc, exprs, *side, part, names, links),
+        PlanChain::OnSide(side, part) => add_on_side(alloc, *side, part, names, links),
         PlanChain::OnBoth(first, second) => {
-            add_on_side(alloc, exprs, Side::First, first, names, links)?;
-            add_on_side(alloc, exprs, Side::Second, second, names, links)
+            add_on_side(alloc, Side::First, first, names, links)?;
+            add_on_side(alloc, Side::Second, second, names, links)
         }
         PlanChain::Fanned(first, second) => {
             links.push(Link::Fork)?;
-            add_on_side(alloc, exprs, Side::First, first, names, links)?;
-            add_on_side(alloc, exprs, Side::Second, second, names, links)
+            add_on_side(alloc, Side::First, first, names, links)?;
+            add_on_side(alloc, Side::Second, second, names, links)
         }
     }
 }
@@ -92,28 +89,27 @@ fn add_links<N: Names>(
 #[cycle(links)]
 fn add_on_side<N: Names>(
     alloc: Global,
-    exprs: &Exprs,
     side: Side,
     part: &PlanChain,
     names: &N,
     links: &mut Vec<Link>,
 ) -> Result<(), AllocError>
-    ensures { IsCodedChain exprs.now part.now →
-        OnOk result ((φ : AnswersByName) → AddsLinks (scope_with (N.values names.now) φ) (apply_chain (on_side side (chain_over exprs.now part.now))) links.old.items links.new.items) }
+    ensures { (x : Exprs) → IsCodedChain x part.now →
+        OnOk result ((φ : AnswersByName) → AddsLinks (scope_with (N.values names.now) φ) (apply_chain (on_side side (chain_over x part.now))) links.old.items links.new.items) }
 {
-    let inner = links_of(alloc, exprs, part, names)?;
+    let inner = links_of(alloc, part, names)?;
     links.push(Link::OnSide(side, inner))?;
     Ok(())
 }
 
 // A function as a link.
-fn function_link(code: Rc<Code>) -> Link
-    ensures { (s : Scope) (f : Function) → IsCodeOfFunctionIn s f code.value → IsLinkOf s (apply f) result }
+fn function_link(closure: Closure) -> Link
+    ensures { (s : Scope) (f : Function) → IsClosureOf s f closure → IsLinkOf s (apply f) result }
 {
-    if is_arithmetic(&code) {
-        return Link::Number(Calculation { code });
+    if is_arithmetic(&closure.function.code, &closure.around) {
+        return Link::Number(Calculation { closure });
     }
-    Link::Function(code)
+    Link::Function(closure)
 }
 
 /// What links make of the input, one after another, in its place. The error is the first fault of their operations, or
@@ -181,11 +177,30 @@ fn run_in_place<R: Holds>(
     ensures { EvaluatesAs (λ u. value.new) result (link_worth link.now (R.answers functions.now) value.old) }
 {
     match link {
-        Link::Function(code) => apply_in_place(alloc, code, functions, value),
-        Link::Number(calculation) => apply_in_place(alloc, &calculation.code, functions, value),
+        Link::Function(closure) => apply_closure(alloc, closure, functions, value),
+        Link::Number(calculation) => apply_closure(alloc, &calculation.closure, functions, value),
         Link::OnSide(side, links) => run_on_side(alloc, *side, links, functions, value),
         Link::Fork => Ok(fork(alloc, value)?),
     }
+}
+
+// What a function makes of the value, in its place.
+#[inline(always)]
+fn apply_closure<R: Holds>(
+    alloc: Global,
+    closure: &Closure,
+    functions: &R,
+    value: &mut Value,
+) -> Result<(), EvalFault>
+    ensures { EvaluatesAs (λ u. value.new) result (closure_worth closure.now (R.answers functions.now) value.old) }
+{
+    apply_in_place(
+        alloc,
+        &closure.function.code,
+        &closure.around,
+        functions,
+        value,
+    )
 }
 
 // The pair of the value with itself, in its place.

@@ -1,12 +1,10 @@
 //! The states of primitives.
-ghost use Rattle.std.specs.Prelude.{◌≡◌, OnOk, IfOk, IfSome, IfErr};
+ghost use Rattle.std.specs.Prelude.{◌≡◌, OnOk, IfOk, IfErr, option_to_list};
 ghost use Rattle.sf_func.specs.Registries.{AnswersByName};
-ghost use Rattle.sf_expr.specs.Arena.{expression, function_at};
-ghost use Rattle.sf_expr.specs.Expressions.{Function};
+ghost use Rattle.sf_expr.specs.Expressions.{Expression, Function};
 ghost use Rattle.sf_expr.specs.Evaluation.{Scope, functions_in, eval, apply as applied};
 ghost use Rattle.sf_code.specs.Names.{scope_with};
-ghost use Rattle.sf_code.specs.Worth.{IsCodeOfFunction, IsCodeOfFunctionIn};
-ghost use Rattle.sf_law.specs.Entries.{IsCodedExpression};
+ghost use Rattle.sf_code.specs.Worth.{IsCodeOf, IsCodeOfFunction, IsCodeOfFunctionIn};
 ghost use Rattle.sf_operator.specs.Answers.{Evaluates};
 ghost use Rattle.sf_operator.specs.declared.fault.EvalFault.TheVariants.{Memory};
 ghost use Rattle.sf_prim.specs.Gifts.{gift};
@@ -15,8 +13,7 @@ use crate::accumulator::{Accumulator, accumulate};
 use crate::chain::{Link, links_of, run_links};
 use crate::events::{announce, count_event, hold, pass_later, rise};
 use crate::time::{Area, Timer, integrate, run_down, tell_time};
-use sf_code::{Code, Names, apply_in_place, evaluate, expression_code_in, function_code_in};
-use sf_expr::{ExprId, Exprs, FunctionId};
+use sf_code::{Closure, Names, OpenCode, apply_in_place, evaluate};
 use sf_func::Holds;
 use sf_law::PlanPrimitive;
 use sf_operator::EvalFault;
@@ -37,7 +34,9 @@ pub enum PrimState {
     /// `iPre e`, `-->(e, pre)` or `pre`, with its next value.
     Previous(Value),
     /// `arr f`, with the code of `f`, which it shares with its plan.
-    Arrow(Rc<Code>),
+    Arrow(Rc<OpenCode>),
+    /// `arr f` where `f` has names from around it, with their values, which copies share.
+    Closed(Rc<Closure>),
     /// `arr` of functions that are made into one, which copies share.
     Fused(Rc<Vec<Link>>),
     /// A primitive with a value and a function.
@@ -69,6 +68,7 @@ impl Drop for PrimState {
             PrimState::Constant(value) => drop(value),
             PrimState::Previous(value) => drop(value),
             PrimState::Arrow(code) => drop(code),
+            PrimState::Closed(closure) => drop(closure),
             PrimState::Fused(links) => drop(links),
             PrimState::Accumulated(accumulator) => drop(accumulator),
             PrimState::Clock(_) => {}
@@ -85,9 +85,9 @@ impl Drop for PrimState {
 
 impl PrimState {
     ghost use Rattle.std.specs.Prelude.{[], ◌∷◌};
-    ghost use Rattle.sf_expr.specs.Expressions.{Expression};
+    ghost use Rattle.sf_expr.specs.declared.exprs.Exprs.{Exprs};
     ghost use Rattle.sf_expr.specs.Evaluation.{answer, eval as worth};
-    ghost use Rattle.sf_term.specs.Trees.{Primitive as Form, bare as bare_form, with_value as form_with_value, timed as timed_form};
+    ghost use Rattle.sf_term.specs.Trees.{Primitive as Form, bare as bare_form, with_value as form_with_value, timed as timed_form, arrow as arrow_form};
     ghost use Rattle.sf_law.specs.Entries.{primitive_over, IsCodedPrimitive};
     ghost use Rattle.sf_mean.specs.Lives.{step, Life};
     ghost use Rattle.sf_prim.specs.Keeping.{Remembers, Begins, GoesOn};
@@ -96,43 +96,54 @@ impl PrimState {
     /// first fault of that, or `Memory`.
     pub fn born<R: Holds, N: Names>(
         alloc: Global,
-        exprs: &Exprs,
         primitive: &PlanPrimitive,
         functions: &R,
         names: &N,
     ) -> Result<PrimState, EvalFault>
-        ensures { IsCodedPrimitive exprs.now primitive.now →
-            Begins (scope_with (N.values names.now) (R.answers functions.now)) (primitive_over exprs.now primitive.now) result }
+        ensures { (x : Exprs) → IsCodedPrimitive x primitive.now →
+            Begins (scope_with (N.values names.now) (R.answers functions.now)) (primitive_over x primitive.now) result }
     {
         match primitive {
             PlanPrimitive::Bare(form) => Ok(PrimState::bare(*form)),
             PlanPrimitive::Never(_) => Ok(PrimState::Never),
-            PlanPrimitive::WithValue(form, value, code) => {
-                let value = constant(alloc, exprs, *value, code, functions, names)?;
+            PlanPrimitive::WithValue(form, _, code) => {
+                let value = constant(alloc, code, functions, names)?;
                 Ok(PrimState::with_value(*form, value))
             }
-            PlanPrimitive::Timed(form, time, value, code) => {
-                let value = constant(alloc, exprs, *value, code, functions, names)?;
+            PlanPrimitive::Timed(form, time, _, code) => {
+                let value = constant(alloc, code, functions, names)?;
                 Ok(PrimState::timed(alloc, *form, *time, value)?)
             }
-            PlanPrimitive::Arrow(function, code) => {
-                let shared = shared_code(alloc, exprs, *function, code, names)?;
-                Ok(PrimState::Arrow(shared))
-            }
+            PlanPrimitive::Arrow(_, code) => Ok(PrimState::arrow(alloc, code, names)?),
             PlanPrimitive::Fused(chain) => {
-                let links = links_of(alloc, exprs, chain, names)?;
+                let links = links_of(alloc, chain, names)?;
                 Ok(PrimState::Fused(Rc::new(alloc, links)?))
             }
-            PlanPrimitive::Accumulated(form, value, start, function, code) => {
-                let value = constant(alloc, exprs, *value, start, functions, names)?;
-                let shared = shared_code(alloc, exprs, *function, code, names)?;
+            PlanPrimitive::Accumulated(form, _, start, _, code) => {
+                let value = constant(alloc, start, functions, names)?;
+                let closure = Closure::new(alloc, code, names)?;
                 let accumulator = Accumulator {
                     form: *form,
-                    code: shared,
+                    closure,
                     value,
                 };
                 Ok(PrimState::Accumulated(Box::new(alloc, accumulator)?))
             }
+        }
+    }
+
+    // `arr f` with these names around it.
+    fn arrow<N: Names>(
+        alloc: Global,
+        code: &Rc<OpenCode>,
+        names: &N,
+    ) -> Result<PrimState, AllocError>
+        ensures { IfOk result (λ prim. (φ : AnswersByName) (f : Function) → IsCodeOfFunction f code.now.value → Remembers prim (arrow_form f) (scope_with (N.values names.now) φ) []) }
+    {
+        let closure = Closure::new(alloc, code, names)?;
+        match closure.around {
+            None => Ok(PrimState::Arrow(closure.function)),
+            Some(_) => Ok(PrimState::Closed(Rc::new(alloc, closure)?)),
         }
     }
 
@@ -201,7 +212,10 @@ impl PrimState {
                 mem::swap(next, value);
                 Ok(())
             }
-            PrimState::Arrow(code) => replace(alloc, code, functions, value),
+            PrimState::Arrow(code) => replace(alloc, code, &None, functions, value),
+            PrimState::Closed(closure) => {
+                replace(alloc, &closure.function, &closure.around, functions, value)
+            }
             PrimState::Fused(links) => run_links(alloc, links, functions, value),
             PrimState::Accumulated(accumulator) => accumulate(alloc, accumulator, functions, value),
             PrimState::Clock(clock) => tell_time(clock, dt, value),
@@ -236,6 +250,10 @@ impl PrimState {
             PrimState::Arrow(code) => {
                 let shared = code.clone()?;
                 Ok(PrimState::Arrow(shared))
+            }
+            PrimState::Closed(closure) => {
+                let same = closure.clone()?;
+                Ok(PrimState::Closed(same))
             }
             PrimState::Fused(links) => {
                 let same = links.clone()?;
@@ -276,54 +294,27 @@ fn copy(alloc: Global, constant: &Value, value: &mut Value) -> Result<(), EvalFa
 #[inline(never)]
 fn replace<R: Holds>(
     alloc: Global,
-    code: &Code,
+    code: &OpenCode,
+    around: &Option<Value>,
     functions: &R,
     value: &mut Value,
 ) -> Result<(), EvalFault>
-    ensures { (s : Scope) → functions_in s ≡ R.answers functions.now → (f : Function) → IsCodeOfFunctionIn s f code.now →
+    ensures { (s : Scope) → functions_in s ≡ R.answers functions.now → (f : Function) → IsCodeOfFunctionIn s f (option_to_list around.now) code.now.code →
         Evaluates (gift result value.new) (applied f value.old s) }
 {
-    apply_in_place(alloc, code, functions, value)
+    apply_in_place(alloc, &code.code, around, functions, value)
 }
 
-/// The value of a constant with these names around it: by its code, or by code that is made of it with their values. The
-/// error is the first fault of its operations, or `Memory`.
+/// The value of a constant with these names around it. The error is the first fault of its operations, or `Memory`.
 pub fn constant<R: Holds, N: Names>(
     alloc: Global,
-    exprs: &Exprs,
-    value: ExprId,
-    code: &Option<Code>,
+    code: &OpenCode,
     functions: &R,
     names: &N,
 ) -> Result<Value, EvalFault>
-    ensures { IsCodedExpression exprs.now value code.now →
-        Evaluates result (eval (expression exprs.now value) (scope_with (N.values names.now) (R.answers functions.now))) }
+    ensures { (e : Expression) → IsCodeOf e code.now →
+        Evaluates result (eval e (scope_with (N.values names.now) (R.answers functions.now))) }
 {
-    match code {
-        Some(code) => evaluate(alloc, code, functions),
-        None => {
-            let made = expression_code_in(alloc, exprs, value, names)?;
-            evaluate(alloc, &made, functions)
-        }
-    }
-}
-
-/// The code of a function with these names around it: that of its plan, which is shared, or one that is made with their values.
-pub(crate) fn shared_code<N: Names>(
-    alloc: Global,
-    exprs: &Exprs,
-    function: FunctionId,
-    code: &Option<Rc<Code>>,
-    names: &N,
-) -> Result<Rc<Code>, AllocError>
-    ensures { IfSome code.now (λ c. IsCodeOfFunction (function_at exprs.now function) c.value) →
-        IfOk result (λ shared. (φ : AnswersByName) → IsCodeOfFunctionIn (scope_with (N.values names.now) φ) (function_at exprs.now function) shared.value) }
-{
-    match code {
-        Some(code) => Ok(code.clone()?),
-        None => {
-            let made = function_code_in(alloc, exprs, function, names)?;
-            Ok(Rc::new(alloc, made)?)
-        }
-    }
+    let around = code.frame(alloc, names)?;
+    evaluate(alloc, &code.code, &around, functions)
 }

@@ -2,25 +2,25 @@ use Rattle.std.proofs.Common.{◌+◌, ◌*◌, max}
 use Rattle.sf_code.proofs.compiler.+compile.Given as goal
 
 abbrev pub decreases-compile : goal.decreases-compile
-decreases-compile g l = 4 * l.id.0
+decreases-compile l = 4 * l.id.0
 
 abbrev pub decreases-boxed : goal.decreases-boxed
-decreases-boxed g l = 4 * l.id.0 + 1
+decreases-boxed l = 4 * l.id.0 + 1
 
 abbrev pub decreases-within : goal.decreases-within
-decreases-within g l = 4 * l.body.0 + 2
+decreases-within l = 4 * l.body.0 + 2
 
 abbrev pub decreases-both : goal.decreases-both
-decreases-both g l = 4 * max l.first.0 l.second.0 + 2
+decreases-both l = 4 * max l.first.0 l.second.0 + 2
 
 abbrev pub decreases-conditional : goal.decreases-conditional
-decreases-conditional g l = 4 * max l.condition.0 (max l.first.0 l.second.0) + 3
+decreases-conditional l = 4 * max l.condition.0 (max l.first.0 l.second.0) + 3
 
 abbrev pub decreases-mapped : goal.decreases-mapped
-decreases-mapped g l = 4 * max l.part.0 l.body.0 + 3
+decreases-mapped l = 4 * max l.part.0 l.body.0 + 3
 
 abbrev pub decreases-folded : goal.decreases-folded
-decreases-folded g l = 4 * max l.first.0 (max l.second.0 l.body.0) + 3
+decreases-folded l = 4 * max l.first.0 (max l.second.0 l.body.0) + 3
 
 abbrev pub decreases-called : goal.decreases-called
-decreases-called g l = 4 * l.part.0 + 3
+decreases-called l = 4 * l.part.0 + 3

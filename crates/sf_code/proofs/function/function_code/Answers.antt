@@ -1,13 +1,26 @@
-use Rattle.std.proofs.Common.{◌∷◌, ◌∙◌}
-use Rattle.std.specs.Prelude.{List}
+use Rattle.std.proofs.Common.{◌≡◌, true, ◌∷◌, ap, subst, ◌∙◌}
 use mathlib.Core.Path.{ap₂}
+use Rattle.std.specs.Prelude.{List}
+use Rattle.sf_expr.specs.declared.exprs.ExprId.{ExprId}
+use Rattle.sf_expr.specs.Arena.{expression, pattern_at, body_at}
 use Rattle.sf_expr.specs.Expressions.{Pattern}
 use Rattle.sf_expr.specs.Patterns.{PlacedPattern, pattern_of}
-use Rattle.sf_code.proofs.Worth.{function_everywhere}
+use Rattle.sf_code.specs.CodeView.{code_of}
+use Rattle.sf_code.specs.Compiling.{is_closed, code_under}
+use Rattle.sf_code.specs.PlaceView.{patterns_of, around_pattern}
+use Rattle.sf_code.proofs.Worth.{is_code_of_function}
 use Rattle.sf_code.proofs.function.function_code.Goals as goal
 
-pub returns-clause-code : goal.returns-clause-code
-returns-clause-code c =
-    function_everywhere c.args.exprs.now c.args.id c.body.result _
-    (c.within-patterns.ensures ∙ ap₂ (λ (p : PlacedPattern) (ps : List Pattern). pattern_of p ∷ ps) c.pattern.ensures c.new-outside.ensures)
-    c.body.ensures.value c.closed_code.result c.closed_code.ensures
+pub returns : goal.returns
+returns c =
+    let x = c.args.exprs.now in
+    let around = c.in_ok-around.around in
+    let own = pattern_of (pattern_at x c.args.id) in
+    let whole = expression x (body_at x c.args.id) in
+    let only : patterns_of c.within.result ≡ own ∷ around_pattern around =
+    c.within.ensures ∙ ap₂ (λ (p : PlacedPattern) (ps : List Pattern). pattern_of p ∷ ps) c.pattern-pattern.ensures c.around-outside.ensures in
+    let closed : is_closed (own ∷ around_pattern around) whole ≡ true =
+    subst (λ (p : PlacedPattern). is_closed (pattern_of p ∷ around_pattern around) whole ≡ true) c.pattern-pattern.ensures
+    (subst (λ (i : ExprId). is_closed (pattern_of c.pattern-pattern.result.now ∷ around_pattern around) (expression x i) ≡ true) c.body-body.ensures.value c.in_ok-around.ensures) in
+    let made : code_of c.in_ok-code.code ≡ code_under (patterns_of c.within.result) whole = c.in_ok-code.ensures ∙ ap (λ (i : ExprId). code_under (patterns_of c.within.result) (expression x i)) c.body-body.ensures.value in
+    is_code_of_function own whole _ (patterns_of c.within.result) only closed made

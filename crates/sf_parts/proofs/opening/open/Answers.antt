@@ -7,18 +7,18 @@ use Rattle.sf_parts.proofs.Begins.{open_exit, open_failure, open_prim, open_prim
 use Rattle.sf_parts.proofs.opening.open.Goals as goal
 
 pub returns-in-Ok : goal.returns-in-Ok
-returns-in-Ok g c = open_prim (g.R.Holds.answers c.args.context.now.functions.now) c.args.context.now.plan.now c.in-Primitive.primitive _ c.args.names.now c.in-Ok.prim (rw c.in-Primitive.is at c.node.ensures.builds) (rw c.expressions-exprs.ensures at c.in-Ok.ensures)
+returns-in-Ok g c = open_prim (g.R.Holds.answers c.args.context.now.functions.now) c.args.context.now.plan.now c.in-Primitive.primitive _ c.args.names.now c.in-Ok.prim (rw c.in-Primitive.is at c.node.ensures.builds) (rw c.expressions-expressions.ensures at c.in-Ok.ensures _)
 
 pub returns-in-Err : goal.returns-in-Err
 returns-in-Err g c =
-    rw c.fault_of.ensures (open_prim_fails (g.R.Holds.answers c.args.context.now.functions.now) c.args.context.now.plan.now c.in-Primitive.primitive _ c.args.names.now c.in-Err.fault (rw c.in-Primitive.is at c.node.ensures.builds) (rw c.expressions-exprs.ensures at c.in-Err.ensures))
+    rw c.fault_of.ensures (open_prim_fails (g.R.Holds.answers c.args.context.now.functions.now) c.args.context.now.plan.now c.in-Primitive.primitive _ c.args.names.now c.in-Err.fault (rw c.in-Primitive.is at c.node.ensures.builds) (rw c.expressions-expressions.ensures at c.in-Err.ensures _))
 
 pub returns-in-Sided : goal.returns-in-Sided
 returns-in-Sided g c = open_sided (g.R.Holds.answers c.args.context.now.functions.now) c.args.context.now.plan.now c.in-Sided.side c.in-Sided.part _ c.args.names.now _ _ (rw c.in-Sided.is at c.node.ensures.builds) c.on_side.ensures c.wrapped.ensures
 
 pub returns-in-Headed : goal.returns-in-Headed
 returns-in-Headed g c =
-    open_builds_headed (g.R.Holds.answers c.args.context.now.functions.now) c.args.context.now.plan.now c.in-Headed.heading c.in-Headed.value c.in-Headed.code c.in-Headed.part _ c.args.names.now _ (rw c.in-Headed.is at c.node.ensures.builds) c.headed.ensures
+    open_builds_headed (g.R.Holds.answers c.args.context.now.functions.now) c.args.context.now.plan.now c.in-Headed.heading c.in-Headed.field-1 c.in-Headed.code c.in-Headed.part _ c.args.names.now _ (rw c.in-Headed.is at c.node.ensures.builds) (c.headed.ensures _)
 
 pub returns-in_err-both-in-Joined : goal.returns-in_err-both-in-Joined
 returns-in_err-both-in-Joined g c = λ e N. open_exit (g.R.Holds.answers c.args.context.now.functions.now) c.args.context.now.plan.now _ e _ c.from_residual.ensures.1

@@ -4,12 +4,12 @@ use Rattle.sf_law.proofs.Placed.{arena_put, within_put}
 use Rattle.sf_law.proofs.Kept.{added_keeps, same_keeps, adds_added}
 use Rattle.sf_law.proofs.plan.Plan.add.Goals as goal
 
-pub invariant_of-self : goal.invariant_of-self
-invariant_of-self c =
+pub invariant_of-self-2 : goal.invariant_of-self-2
+invariant_of-self-2 c =
     let p = c.args.self.now in
     record {
       arena = arena_put p.expressions p.templates.items p.nodes.items c.push.new.self.items c.args.node _ c.push.ensures.items p.arena c.requires.held c.requires.whole c.requires.coded c.requires.called;
-      within = subst (λ b. AreWithin b c.push.new.self.items) (sym c.anew_with-self.ensures) (within_put p.anew p.nodes.items c.push.new.self.items c.args.node _ c.push.ensures.items p.within);
+      within = subst (λ b. AreWithin b c.push.new.self.items) (sym c.anew_with-anew.ensures) (within_put p.anew p.nodes.items c.push.new.self.items c.args.node _ c.push.ensures.items p.within);
       bound = p.bound;
       numbered = p.numbered;
       same = p.same;

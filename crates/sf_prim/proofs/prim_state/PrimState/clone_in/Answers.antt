@@ -1,6 +1,6 @@
 use Rattle.std.proofs.Common.{ap, ◌∙◌}
 use Rattle.sf_prim.proofs.Linked.{fused_follows}
-use Rattle.sf_prim.proofs.Primitives.{arrow_follows, accumulated_follows, timer_follows}
+use Rattle.sf_prim.proofs.Primitives.{arrow_follows, closed_follows, accumulated_follows, timer_follows}
 use Rattle.sf_prim.proofs.prim_state.PrimState.clone_in.Goals as goal
 
 pub returns-in_ok-shared-in-Arrow : goal.returns-in_ok-shared-in-Arrow
@@ -10,7 +10,7 @@ pub returns-in_ok-copy-in-Accumulated : goal.returns-in_ok-copy-in-Accumulated
 returns-in_ok-copy-in-Accumulated c = λ q scope L k.
     let is = c.in_ok-copy-in-Accumulated.ensures.ok in
     let kept = rw c.deref.ensures at c.in_ok-kept-in-Accumulated.ensures in
-    accumulated_follows c.in-Accumulated.accumulator c.in_ok-copy-in-Accumulated.copy (ap (λ a. a.form) is ∙ kept.form) (ap (λ a. a.code.value) is ∙ kept.code) (ap (λ a. a.value) is ∙ kept.value) q scope L (rw c.in-Accumulated.is at k)
+    accumulated_follows c.in-Accumulated.accumulator c.in_ok-copy-in-Accumulated.copy (ap (λ a. a.form) is ∙ kept.form) (λ s f h. rw is (kept.closure s f h)) (ap (λ a. a.value) is ∙ kept.value) q scope L (rw c.in-Accumulated.is at k)
 
 pub returns-in_ok-copy-in-Timed : goal.returns-in_ok-copy-in-Timed
 returns-in_ok-copy-in-Timed c = λ q scope L k.
@@ -20,3 +20,6 @@ returns-in_ok-copy-in-Timed c = λ q scope L k.
 
 pub returns-in_ok-same-in-Fused : goal.returns-in_ok-same-in-Fused
 returns-in_ok-same-in-Fused c = λ q scope L k. fused_follows c.in-Fused.links _ c.in_ok-same-in-Fused.ensures.cases q scope L (rw c.in-Fused.is at k)
+
+pub returns-in_ok-same-in-Closed : goal.returns-in_ok-same-in-Closed
+returns-in_ok-same-in-Closed c = λ q scope L k. closed_follows c.in-Closed.closure _ c.in_ok-same-in-Closed.ensures.cases q scope L (rw c.in-Closed.is at k)

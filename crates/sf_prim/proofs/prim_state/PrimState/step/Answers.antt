@@ -1,5 +1,5 @@
 use Rattle.sf_prim.proofs.Linked.{fused_goes_on}
-use Rattle.sf_prim.proofs.Primitives.{identity_goes_on, never_goes_on, constant_goes_on, previous_goes_on, arrow_goes_on, accumulated_goes_on, clock_goes_on, area_goes_on, timer_goes_on, edge_goes_on, not_yet_goes_on, count_goes_on, now_goes_on, hold_goes_on}
+use Rattle.sf_prim.proofs.Primitives.{identity_goes_on, never_goes_on, constant_goes_on, previous_goes_on, arrow_goes_on, closed_goes_on, accumulated_goes_on, clock_goes_on, area_goes_on, timer_goes_on, edge_goes_on, not_yet_goes_on, count_goes_on, now_goes_on, hold_goes_on}
 use Rattle.sf_prim.proofs.prim_state.PrimState.step.Goals as goal
 
 pub returns-in-Identity : goal.returns-in-Identity
@@ -16,6 +16,10 @@ returns-in-Previous g c = λ q scope L same k. rw (c.swap.ensures.x_after, c.swa
 
 pub returns-in-Arrow : goal.returns-in-Arrow
 returns-in-Arrow g c = rw c.in-Arrow.is (arrow_goes_on (g.R.Holds.answers c.args.functions.now) c.in-Arrow.code _ _ _ (rw c.deref.ensures at c.replace.ensures))
+
+pub returns-in-Closed : goal.returns-in-Closed
+returns-in-Closed g c =
+    rw c.in-Closed.is (closed_goes_on (g.R.Holds.answers c.args.functions.now) c.in-Closed.closure _ _ _ (rw (c.deref-in-Closed-2.ensures, c.deref-in-Closed.ensures, c.deref-in-Closed-3.ensures) at c.replace-in-Closed.ensures))
 
 pub returns-in-Clock : goal.returns-in-Clock
 returns-in-Clock g c = λ q scope L same k. clock_goes_on q scope _ _ L _ _ _ _ c.tell_time.ensures.told c.tell_time.ensures.kept (rw c.in-Clock.is at k)

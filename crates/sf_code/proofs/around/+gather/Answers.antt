@@ -1,0 +1,40 @@
+use Rattle.std.proofs.Common.{Result, Ok, Err, OnOk}
+use Rattle.sf_expr.specs.Arena.{expression}
+use Rattle.sf_expr.specs.Meanings.{names_seen}
+use Rattle.sf_code.specs.Compiling.{named_each}
+use Rattle.sf_code.specs.PlaceView.{patterns_of}
+use Rattle.sf_code.proofs.Outside.{closed_more, conditional_closed, mapped_closed, folded_closed}
+use Rattle.sf_code.proofs.around.+gather.Goals as goal
+
+-- what follows where there is no error
+where_ok : {A E : Type 0} {P Q : Type 0} (r : Result A E) → (P → Q) → OnOk r P → OnOk r Q
+where_ok (Ok a) f h = f h
+where_ok (Err e) f h = tt
+
+where_both : {A E : Type 0} {P Q R : Type 0} (r : Result A E) → (P → Q → R) → OnOk r P → OnOk r Q → OnOk r R
+where_both (Ok a) f h k = f h k
+where_both (Err e) f h k = tt
+
+where_all : {A E : Type 0} {P Q R S : Type 0} (r : Result A E) → (P → Q → R → S) → OnOk r P → OnOk r Q → OnOk r R → OnOk r S
+where_all (Ok a) f h k l = f h k l
+where_all (Err e) f h k l = tt
+
+pub gather-returns-in_ok-gather-in-Conditional-clause-closed : goal.gather-returns-in_ok-gather-in-Conditional-clause-closed
+gather-returns-in_ok-gather-in-Conditional-clause-closed t c =
+    where_all _ (λ k i j. conditional_closed (patterns_of c.args.patterns.now) (named_each (names_seen c.gather.new.names.keys)) (named_each (names_seen c.gather_both.new.names.keys)) (rw c.in-Conditional.is at c.node.ensures.builds) k c.in_ok-gather-in-Conditional.ensures.closed i j)
+    c.gather_both.ensures.kept c.gather_both.ensures.first c.gather_both.ensures.second
+
+pub gather-returns-in_ok-gather-in-Mapped-clause-closed : goal.gather-returns-in_ok-gather-in-Mapped-clause-closed
+gather-returns-in_ok-gather-in-Mapped-clause-closed t c =
+    where_both _ (λ k i. mapped_closed (patterns_of c.args.patterns.now) (named_each (names_seen c.gather-in-Mapped.new.names.keys)) (named_each (names_seen c.gather_within.new.names.keys)) (rw c.in-Mapped.is at c.node.ensures.builds) k c.in_ok-gather-in-Mapped.ensures.closed i)
+    c.gather_within.ensures.kept c.gather_within.ensures.closed
+
+pub gather-returns-in_ok-gather_both-in-Folded-clause-closed : goal.gather-returns-in_ok-gather_both-in-Folded-clause-closed
+gather-returns-in_ok-gather_both-in-Folded-clause-closed t c =
+    where_both _
+    (λ k i. folded_closed (patterns_of c.args.patterns.now) (named_each (names_seen c.gather_both-in-Folded.new.names.keys)) (named_each (names_seen c.gather_within-in-Folded.new.names.keys)) (rw c.in-Folded.is at c.node.ensures.builds) k c.in_ok-gather_both-in-Folded.ensures.first c.in_ok-gather_both-in-Folded.ensures.second i)
+    c.gather_within-in-Folded.ensures.kept c.gather_within-in-Folded.ensures.closed
+
+pub gather_both-returns-clause-first : goal.gather_both-returns-clause-first
+gather_both-returns-clause-first t c =
+    where_ok _ (λ k. closed_more (named_each (names_seen c.gather.new.names.keys)) (named_each (names_seen c.gather-2.new.names.keys)) k (expression c.args.exprs.now c.args.first) (patterns_of c.args.patterns.now) c.in_ok-gather.ensures.closed) c.gather-2.ensures.kept
