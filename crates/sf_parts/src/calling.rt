@@ -147,7 +147,8 @@ fn bind_value<R: Holds>(
     match constant_in(context, code, names) {
         Ok(value) => {
             let shared = Rc::new(context.alloc, value)?;
-            Ok(bound.inside(context.alloc, parameter.pattern(), shared)?)
+            let expressions = context.plan.expressions();
+            Ok(bound.inside(context.alloc, expressions, parameter.pattern(), shared)?)
         }
         Err(fault) => Err(fault_of(fault)),
     }

@@ -3,6 +3,7 @@ ghost use Rattle.std.specs.Prelude.{◌≡◌, ◌<◌, [], bytes_eq, option_map
 ghost use Rattle.std.specs.Map.{lookup};
 ghost use Rattle.sf_func.specs.Registries.{AnswersByName};
 ghost use Rattle.sf_expr.specs.Arena.{placed_at, name_at};
+ghost use Rattle.sf_expr.specs.Expressions.{unnamed};
 ghost use Rattle.sf_expr.specs.Patterns.{pattern_of};
 ghost use Rattle.sf_mean.specs.Lives.{Environment, Process as ProcessOf, bind, running, base as base_of, process_of};
 ghost use Rattle.sf_law.specs.declared.plan.Plan.{Plan};
@@ -171,18 +172,22 @@ impl Env {
         if asked { self.share() } else { Ok(Env::Empty) }
     }
 
-    /// These names, and inside them those of a pattern that is bound to a value. The error is a want of memory, or too
-    /// many owners.
+    /// These names, and inside them those of a pattern of these expressions that is bound to a value. It takes no memory
+    /// where the pattern binds nothing. The error is a want of memory, or too many owners.
     pub fn inside(
         &self,
         alloc: Global,
+        expressions: &Exprs,
         pattern: PatternId,
         value: Rc<Value>,
     ) -> Result<Env, AllocError>
-        ensures { IfOk result (λ names. (φ : AnswersByName) (p : Plan) (e : Environment) → IsNames φ p self.now e →
+        ensures { IfOk result (λ names. (φ : AnswersByName) (p : Plan) → expressions.now ≡ plan_expressions p → (e : Environment) → IsNames φ p self.now e →
             IsNames φ p names (bind (pattern_of (placed_at (plan_expressions p) pattern)) value.value e)) }
     {
         let around = self.share()?;
+        if binds_nothing(expressions.placed(pattern)) {
+            return Ok(around);
+        }
         let binding = Rc::new(
             alloc,
             Binding {
@@ -265,6 +270,16 @@ impl Env {
                 }
             }
         }
+    }
+}
+
+// Whether a pattern is the one that binds nothing.
+fn binds_nothing(pattern: &Pat) -> bool
+    ensures { IsTrue result → pattern_of pattern.now ≡ unnamed }
+{
+    match pattern.form() {
+        PatForm::Unnamed => true,
+        PatForm::Name(_, _) | PatForm::Both(_, _) => false,
     }
 }
 

@@ -5,7 +5,7 @@ ghost use Rattle.sf_func.specs.Registries.{AnswersByName};
 ghost use Rattle.sf_law.specs.declared.plan.Plan.{Plan};
 ghost use Rattle.sf_expr.specs.Arena.{placed_at, name_at};
 ghost use Rattle.sf_expr.specs.Patterns.{pattern_of};
-ghost use Rattle.sf_law.specs.Arena.{plan_expressions, plan_anew, plan_tree};
+ghost use Rattle.sf_law.specs.Arena.{plan_expressions, plan_tree};
 ghost use Rattle.sf_mean.specs.Lives.{base, bind, closure, resumed, empty, running, frozen as frozen_process, Environment, Step, Life, Process as ProcessOf};
 ghost use Rattle.sf_mean.specs.Meaning.{body_of};
 ghost use Rattle.sf_state.specs.declared.env.Env.{Env as EnvOf};
@@ -14,7 +14,7 @@ ghost use Rattle.sf_state.specs.Standing.{IsNames, Stands, Ready, Waits, WaitsKe
 use crate::env::Env;
 use crate::feedback::Feedback;
 use sf_expr::{NameId, PatternId};
-use sf_law::PlanId;
+use sf_law::{Plan, PlanId};
 use sf_prim::PrimState;
 use sf_term::{Join, Observation, Switching};
 use sf_value::Value;
@@ -454,11 +454,18 @@ impl Switch {
 
     /// Its body before the first sample, inside its pattern for the payload of an event, where these names are around the
     /// switch. The error is a want of memory, or too many owners.
-    pub fn begin(&self, alloc: Global, names: &Env, payload: Rc<Value>) -> Result<State, AllocError>
-        ensures { IfOk result (λ begun. (φ : AnswersByName) (p : Plan) (e : Environment) → IsNames φ p names.now e →
+    pub fn begin(
+        &self,
+        alloc: Global,
+        plan: &Plan,
+        names: &Env,
+        payload: Rc<Value>,
+    ) -> Result<State, AllocError>
+        ensures { let p = plan.now in
+            IfOk result (λ begun. (φ : AnswersByName) (e : Environment) → IsNames φ p names.now e →
             Stands φ p begun (body_of (pattern_of (placed_at (plan_expressions p) self.now.pattern)) (plan_tree p self.now.body) e payload.value) []) }
     {
-        let around = names.inside(alloc, self.pattern, payload)?;
+        let around = names.inside(alloc, plan.expressions(), self.pattern, payload)?;
         Ok(State::Unborn(Process {
             term: self.body,
             names: around,
@@ -491,23 +498,24 @@ impl Keeping {
     pub fn begin(
         &self,
         alloc: Global,
+        plan: &Plan,
         names: &Env,
         wait: u64,
-        anew: bool,
         payload: Rc<Value>,
     ) -> Result<State, AllocError>
-        ensures { IfOk result (λ begun. (φ : AnswersByName) (p : Plan) → anew ≡ plan_anew p → (e : Environment) (P : ProcessOf) (L : Life) → IsNames φ p names.now e → Stands φ p self.now.before P L →
+        ensures { let p = plan.now in
+            IfOk result (λ begun. (φ : AnswersByName) (e : Environment) (P : ProcessOf) (L : Life) → IsNames φ p names.now e → Stands φ p self.now.before P L →
             base P ≡ closure (plan_tree p self.now.first) e → Stands φ p begun (closure (plan_tree p self.now.body)
             (bind (pattern_of (placed_at (plan_expressions p) self.now.pattern)) payload.value (running (name_at (plan_expressions p) self.now.name) (frozen_process P L wait) e))) []) }
     {
         let frozen = self.before.freeze(alloc, wait)?;
-        let outer = names.share_where(anew)?;
+        let outer = names.share_where(plan.begins_anew())?;
         let base = Process {
             term: self.first,
             names: outer,
         };
         let known = names.with_process(alloc, self.name, frozen, base)?;
-        let around = known.inside(alloc, self.pattern, payload)?;
+        let around = known.inside(alloc, plan.expressions(), self.pattern, payload)?;
         Ok(State::Unborn(Process {
             term: self.body,
             names: around,

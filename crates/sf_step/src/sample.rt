@@ -267,7 +267,7 @@ fn step_basic<R: Holds>(
     match occurring {
         None => Ok(None),
         Some(payload) => {
-            let Ok(body) = switch.begin(context.alloc, names, payload) else {
+            let Ok(body) = switch.begin(context.alloc, context.plan, names, payload) else {
                 return Err(meter.stop(Fault::Memory));
             };
             let (body, output) = step_begun(context, body, inside, output, meter)?;
@@ -306,7 +306,7 @@ fn step_recurring<R: Holds>(
             };
             let ran = &mut switch.running;
             step_state(context, ran, inside, value, meter)?;
-            let Ok(body) = switch.begin(context.alloc, names, payload) else {
+            let Ok(body) = switch.begin(context.alloc, context.plan, names, payload) else {
                 return Err(meter.stop(Fault::Memory));
             };
             let (body, output) = step_begun(context, body, inside, begun, meter)?;
@@ -346,8 +346,8 @@ fn step_keeping<R: Holds>(
     match payload_of(seen) {
         None => Ok(None),
         Some(payload) => {
-            let anew = context.plan.begins_anew();
-            let Ok(successor) = keeping.begin(context.alloc, names, context.dt, anew, payload)
+            let plan = context.plan;
+            let Ok(successor) = keeping.begin(context.alloc, plan, names, context.dt, payload)
             else {
                 return Err(meter.stop(Fault::Memory));
             };

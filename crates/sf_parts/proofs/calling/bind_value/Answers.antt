@@ -21,4 +21,4 @@ returns-in_ok-inside-in-Ok g c = λ i K.
     let φ = g.R.Holds.answers c.args.context.now.functions.now in
     let p = c.args.context.now.plan.now in
     (value_bound φ p c.args.parameter.now c.args.names.now c.args.bound.now i c.args.code.now c.in_ok-inside-in-Ok.field-0 c.in-Ok.value c.in_ok-shared-in-Ok.shared.value c.requires
-    (c.in-Ok.ensures _ K) c.in_ok-shared-in-Ok.ensures.ok (λ d M. rw c.pattern.ensures at (c.in_ok-inside-in-Ok.ensures φ p d M)))
+    (c.in-Ok.ensures _ K) c.in_ok-shared-in-Ok.ensures.ok (λ d M. rw c.pattern.ensures at (c.in_ok-inside-in-Ok.ensures φ p c.expressions-expressions.ensures d M)))

@@ -174,14 +174,14 @@ step_basic-returns-in_err-body-in-Some g t c = λ m depth t T e L N W.
     let y = c.step_state.new.value in
     pass_beside (g.R.Holds.answers c.args.context.now.functions.now) c.args.context.now.plan.now _ _ _ c.from_residual-in_err-body-in-Some.ensures.0 (body_fails (g.R.Holds.answers c.args.context.now.functions.now) c.args.context.now.plan.now c.args.names.now c.args.switch.now c.args.shown c.requires.form (step c.args.context.now.dt c.args.value.now) c.args.meter.now c.step_state.new.meter c.args.inside
     c.step_state.new.state y c.in_ok-step_state.ensures c.in-Some.payload.value (some_occurs _ c.in-Ok-value_and_payload.occurring c.in-Some.payload (second_of y) c.in-Ok-value_and_payload.ensures.1 c.in-Some.is)
-    c.in-Ok-begin.body (c.in-Ok-begin.ensures (g.R.Holds.answers c.args.context.now.functions.now) c.args.context.now.plan.now) c.step_begun.new.meter _ (rw c.in-Ok.ensures at c.in_err-body-in-Some.ensures) m depth t T e L N W)
+    c.in-Ok-begin.body (c.in-Ok-begin.ensures (g.R.Holds.answers c.args.context.now.functions.now)) c.step_begun.new.meter _ (rw c.in-Ok.ensures at c.in_err-body-in-Some.ensures) m depth t T e L N W)
 
 pub step_basic-returns-in_ok-body-in-Some : goal.step_basic-returns-in_ok-body-in-Some
 step_basic-returns-in_ok-body-in-Some g t c =
     let y = c.step_state.new.value in
     body_takes_over (g.R.Holds.answers c.args.context.now.functions.now) c.args.context.now.plan.now c.args.names.now c.args.switch.now c.args.shown c.requires.form (step c.args.context.now.dt c.args.value.now) c.args.meter.now c.step_state.new.meter c.args.inside
     c.step_state.new.state y c.in_ok-step_state.ensures c.in-Some.payload.value (some_occurs _ c.in-Ok-value_and_payload.occurring c.in-Some.payload (second_of y) c.in-Ok-value_and_payload.ensures.1 c.in-Some.is)
-    c.in-Ok-begin.body (c.in-Ok-begin.ensures (g.R.Holds.answers c.args.context.now.functions.now) c.args.context.now.plan.now) c.step_begun.new.meter
+    c.in-Ok-begin.body (c.in-Ok-begin.ensures (g.R.Holds.answers c.args.context.now.functions.now)) c.step_begun.new.meter
     c.in_ok-body-in-Some.body c.in_ok-body-in-Some.output _ (c.show.ensures ∙ ap (λ d. switched_value c.args.shown d c.in_ok-body-in-Some.output) c.in-Ok-value_and_payload.ensures.0) _
     (rw c.in-Ok.ensures at c.in_ok-body-in-Some.ensures)
 
@@ -213,13 +213,13 @@ pub step_recurring-returns-in_err-body-in-Some : goal.step_recurring-returns-in_
 step_recurring-returns-in_err-body-in-Some g t c = λ m depth t T e L N W.
     pass_exit _ _ c.from_residual-in_err-body-in-Some.ensures.0 (new_fails (g.R.Holds.answers c.args.context.now.functions.now) c.args.context.now.plan.now c.args.names.now c.args.switch.now c.args.shown c.requires.form c.args.context.now.dt c.args.value.now c.in-Ok.input c.in-Ok.ensures.0 c.args.meter.now c.step_state-in-Some.new.meter c.args.inside
     c.step_state-in-Some.new.state c.step_state-in-Some.new.value c.in_ok-step_state-in-Some.ensures c.in-Some.payload.value (some_occurs _ c.in-Ok.occurring c.in-Some.payload (second_of c.args.value.now) c.in-Ok.ensures.1 c.in-Some.is)
-    c.in-Ok-begin.body c.in-Ok-clone_in.begun c.in-Ok-clone_in.ensures (c.in-Ok-begin.ensures (g.R.Holds.answers c.args.context.now.functions.now) c.args.context.now.plan.now) c.step_begun.new.meter _ c.in_err-body-in-Some.ensures m depth t T e L N W)
+    c.in-Ok-begin.body c.in-Ok-clone_in.begun c.in-Ok-clone_in.ensures (c.in-Ok-begin.ensures (g.R.Holds.answers c.args.context.now.functions.now)) c.step_begun.new.meter _ c.in_err-body-in-Some.ensures m depth t T e L N W)
 
 pub step_recurring-returns-in_ok-body-in-Some : goal.step_recurring-returns-in_ok-body-in-Some
 step_recurring-returns-in_ok-body-in-Some g t c =
     new_runs (g.R.Holds.answers c.args.context.now.functions.now) c.args.context.now.plan.now c.args.names.now c.args.switch.now c.args.shown c.requires.form c.args.context.now.dt c.args.value.now c.in-Ok.input c.in-Ok.ensures.0 c.args.meter.now c.step_state-in-Some.new.meter c.args.inside
     c.step_state-in-Some.new.state c.step_state-in-Some.new.value c.in_ok-step_state-in-Some.ensures c.in-Some.payload.value (some_occurs _ c.in-Ok.occurring c.in-Some.payload (second_of c.args.value.now) c.in-Ok.ensures.1 c.in-Some.is)
-    c.in-Ok-begin.body c.in-Ok-clone_in.begun c.in-Ok-clone_in.ensures (c.in-Ok-begin.ensures (g.R.Holds.answers c.args.context.now.functions.now) c.args.context.now.plan.now) c.step_begun.new.meter
+    c.in-Ok-begin.body c.in-Ok-clone_in.begun c.in-Ok-clone_in.ensures (c.in-Ok-begin.ensures (g.R.Holds.answers c.args.context.now.functions.now)) c.step_begun.new.meter
     c.in_ok-body-in-Some.body c.in_ok-body-in-Some.output _ c.show.ensures _ (ap (λ (a : State). record { form = c.args.switch.now.form; running = a; pattern = c.args.switch.now.pattern; body = c.args.switch.now.body }) c.take_over.ensures) c.in_ok-body-in-Some.ensures
 
 -- ## step_pipeline
@@ -455,12 +455,12 @@ step_keeping-returns-in_err-successor-in-Some g t c = λ m depth t T e L N W.
     pass_beside (g.R.Holds.answers c.args.context.now.functions.now) c.args.context.now.plan.now _ _ _ c.from_residual-in_err-successor-in-Some.ensures.0 (kept_body_fails (g.R.Holds.answers c.args.context.now.functions.now) c.args.context.now.plan.now c.args.names.now c.args.keeping.now c.args.context.now.dt c.args.value.now c.args.meter.now c.step_state.new.meter c.args.inside
     c.step_state.new.state c.step_state.new.value (runs_alike (g.R.Holds.answers c.args.context.now.functions.now) c.args.context.now.plan.now (c.in-Ok.ensures.runs_on (g.R.Holds.answers c.args.context.now.functions.now) c.args.context.now.plan.now) c.in_ok-step_state.ensures) c.in-Ok-beside.seen (rw c.in-Ok-copies.ensures.0 at c.in-Ok-beside.ensures) c.step_state-2.new.meter
     c.step_state-2.new.state c.step_state-2.new.value c.in_ok-step_state-2.ensures c.in-Some.payload.value (some_occurs _ c.payload_of.result c.in-Some.payload c.step_state-2.new.value c.payload_of.ensures c.in-Some.is)
-    c.in-Ok-begin.successor (rw c.in-Ok.ensures.held at (c.in-Ok-begin.ensures (g.R.Holds.answers c.args.context.now.functions.now) c.args.context.now.plan.now c.begins_anew-anew.ensures)) c.in-Ok-copies.output c.in-Ok-copies.ensures.1 c.step_begun.new.meter _ c.in_err-successor-in-Some.ensures m depth t T e L N W)
+    c.in-Ok-begin.successor (rw c.in-Ok.ensures.held at (c.in-Ok-begin.ensures (g.R.Holds.answers c.args.context.now.functions.now))) c.in-Ok-copies.output c.in-Ok-copies.ensures.1 c.step_begun.new.meter _ c.in_err-successor-in-Some.ensures m depth t T e L N W)
 
 pub step_keeping-returns-in_ok-successor-in-Some : goal.step_keeping-returns-in_ok-successor-in-Some
 step_keeping-returns-in_ok-successor-in-Some g t c =
     kept_body_takes_over (g.R.Holds.answers c.args.context.now.functions.now) c.args.context.now.plan.now c.args.names.now c.args.keeping.now c.args.context.now.dt c.args.value.now c.args.meter.now c.step_state.new.meter c.args.inside
     c.step_state.new.state c.step_state.new.value (runs_alike (g.R.Holds.answers c.args.context.now.functions.now) c.args.context.now.plan.now (c.in-Ok.ensures.runs_on (g.R.Holds.answers c.args.context.now.functions.now) c.args.context.now.plan.now) c.in_ok-step_state.ensures) c.in-Ok-beside.seen (rw c.in-Ok-copies.ensures.0 at c.in-Ok-beside.ensures) c.step_state-2.new.meter
     c.step_state-2.new.state c.step_state-2.new.value c.in_ok-step_state-2.ensures c.in-Some.payload.value (some_occurs _ c.payload_of.result c.in-Some.payload c.step_state-2.new.value c.payload_of.ensures c.in-Some.is)
-    c.in-Ok-begin.successor (rw c.in-Ok.ensures.held at (c.in-Ok-begin.ensures (g.R.Holds.answers c.args.context.now.functions.now) c.args.context.now.plan.now c.begins_anew-anew.ensures)) c.in-Ok-copies.output c.in-Ok-copies.ensures.1 c.step_begun.new.meter
+    c.in-Ok-begin.successor (rw c.in-Ok.ensures.held at (c.in-Ok-begin.ensures (g.R.Holds.answers c.args.context.now.functions.now))) c.in-Ok-copies.output c.in-Ok-copies.ensures.1 c.step_begun.new.meter
     c.in_ok-successor-in-Some.successor c.in_ok-successor-in-Some.output _ c.show.ensures _ c.in_ok-successor-in-Some.ensures
