@@ -11,6 +11,7 @@ use sf_value::{Fault, Form, Value, ValueFault};
 use std::alloc::AllocError;
 
 /// Appends the line of a sample, `> T VALUE`, at a time in milliseconds. An error leaves what was there.
+#[inline(always)]
 pub fn write_sample(time: u64, value: &Value, out: &mut Vec<u8>) -> Result<(), AllocError>
     ensures ok { OnOk result (out.new.items ≡ out.old.items ++ sample_line time value.now) }
     ensures err { OnErr result (out.new.items ≡ out.old.items) }
@@ -22,6 +23,7 @@ pub fn write_sample(time: u64, value: &Value, out: &mut Vec<u8>) -> Result<(), A
 }
 
 // The line of a sample that is a number.
+#[inline(always)]
 fn write_number(time: u64, n: i64, out: &mut Vec<u8>) -> Result<(), AllocError>
     ensures ok { OnOk result (out.new.items ≡ out.old.items ++ sample_line time (number n)) }
     ensures err { OnErr result (out.new.items ≡ out.old.items) }

@@ -10,6 +10,7 @@ use std::alloc::AllocError;
 
 /// Appends the lines of a sample: those of its readings where they are asked for, and then its value's. An error leaves
 /// what was there.
+#[inline(always)]
 pub(crate) fn gather(probes: bool, sample: &Sample, out: &mut Vec<u8>) -> Result<(), AllocError>
     ensures ok { OnOk result (out.new.items ≡ out.old.items ++ sample_lines probes sample.now.time sample.now.value (readings_of sample.now.readings)) }
     ensures err { OnErr result (out.new.items ≡ out.old.items) }
@@ -26,6 +27,7 @@ pub(crate) fn gather(probes: bool, sample: &Sample, out: &mut Vec<u8>) -> Result
 }
 
 // An error leaves a part of the lines behind what was there.
+#[inline(never)]
 fn append_lines(sample: &Sample, out: &mut Vec<u8>) -> Result<(), AllocError>
     ensures ok { OnOk result (out.new.items ≡ out.old.items ++ sample_lines true sample.now.time sample.now.value (readings_of sample.now.readings)) }
     ensures err { OnErr result (take (vec_len out.old) out.new.items ≡ out.old.items) }

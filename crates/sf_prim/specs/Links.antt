@@ -31,7 +31,8 @@ closure_worth c φ x = run (code_of c.function.value.code) (x ∷ option_to_list
 
 -- a link, with what the links in it make in their place
 abbrev pub link_step : Link-F Worker → Worker
-link_step (Link-F.Function c) φ x = closure_worth c φ x
+link_step (Link-F.Function c) φ x = run (code_of c.value.code) (x ∷ []) φ
+link_step (Link-F.Closed c) φ x = closure_worth c φ x
 link_step (Link-F.Number k) φ x = closure_worth k.closure φ x
 link_step (Link-F.OnSide d v) φ x = on_part d (in_turn v.items) φ x
 link_step Link-F.Fork φ x = answer (pair x x)

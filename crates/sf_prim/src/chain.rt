@@ -13,7 +13,7 @@ ghost use Rattle.sf_mean.specs.Formulas.{apply_chain};
 ghost use Rattle.sf_term.specs.Trees.{on_side};
 ghost use Rattle.sf_prim.specs.Links.{on_part, closure_worth, link_worth, links_worth, held, IsLinkOf, AreLinksOf, AddsLinks};
 
-use sf_code::{Calculation, Closure, Names, apply_in_place, halves, is_arithmetic};
+use sf_code::{Calculation, Closure, Names, OpenCode, apply_in_place, halves, is_arithmetic};
 use sf_func::Holds;
 use sf_law::PlanChain;
 use sf_operator::{EvalFault, number_in};
@@ -26,8 +26,10 @@ use std::rc::Rc;
 /// A step of functions that are made into one.
 #[derive(Drop)]
 pub enum Link {
-    /// A function.
-    Function(Closure),
+    /// A function without names around it.
+    Function(Rc<OpenCode>),
+    /// A function with names around it.
+    Closed(Closure),
     /// A function that makes a number of a number by arithmetic alone.
     Number(Calculation),
     /// Links on one part of a pair, which stays where it is.
@@ -109,7 +111,10 @@ fn function_link(closure: Closure) -> Link
     if is_arithmetic(&closure.function.code, &closure.around) {
         return Link::Number(Calculation { closure });
     }
-    Link::Function(closure)
+    match closure.around {
+        None => Link::Function(closure.function),
+        Some(_) => Link::Closed(closure),
+    }
 }
 
 /// What links make of the input, one after another, in its place. The error is the first fault of their operations, or
@@ -177,15 +182,16 @@ fn run_in_place<R: Holds>(
     ensures { EvaluatesAs (λ u. value.new) result (link_worth link.now (R.answers functions.now) value.old) }
 {
     match link {
-        Link::Function(closure) => apply_closure(alloc, closure, functions, value),
+        Link::Function(code) => apply_in_place(alloc, &code.code, &None, functions, value),
+        Link::Closed(closure) => apply_closure(alloc, closure, functions, value),
         Link::Number(calculation) => apply_closure(alloc, &calculation.closure, functions, value),
         Link::OnSide(side, links) => run_on_side(alloc, *side, links, functions, value),
         Link::Fork => Ok(fork(alloc, value)?),
     }
 }
 
-// What a function makes of the value, in its place.
-#[inline(always)]
+// What a function makes of the value, over those of the names around it, in its place.
+#[inline(never)]
 fn apply_closure<R: Holds>(
     alloc: Global,
     closure: &Closure,

@@ -1,10 +1,10 @@
 //! The states of primitives.
-ghost use Rattle.std.specs.Prelude.{◌≡◌, OnOk, IfOk, IfErr, option_to_list};
+ghost use Rattle.std.specs.Prelude.{◌≡◌, [], OnOk, IfOk, IfErr};
 ghost use Rattle.sf_func.specs.Registries.{AnswersByName};
 ghost use Rattle.sf_expr.specs.Expressions.{Expression, Function};
 ghost use Rattle.sf_expr.specs.Evaluation.{Scope, functions_in, eval, apply as applied};
 ghost use Rattle.sf_code.specs.Names.{scope_with};
-ghost use Rattle.sf_code.specs.Worth.{IsCodeOf, IsCodeOfFunction, IsCodeOfFunctionIn};
+ghost use Rattle.sf_code.specs.Worth.{IsCodeOf, IsCodeOfFunction, IsCodeOfFunctionIn, IsClosureOf};
 ghost use Rattle.sf_operator.specs.Answers.{Evaluates};
 ghost use Rattle.sf_operator.specs.declared.fault.EvalFault.TheVariants.{Memory};
 ghost use Rattle.sf_prim.specs.Gifts.{gift};
@@ -84,7 +84,7 @@ impl Drop for PrimState {
 }
 
 impl PrimState {
-    ghost use Rattle.std.specs.Prelude.{[], ◌∷◌};
+    ghost use Rattle.std.specs.Prelude.{◌∷◌};
     ghost use Rattle.sf_expr.specs.declared.exprs.Exprs.{Exprs};
     ghost use Rattle.sf_expr.specs.Evaluation.{answer, eval as worth};
     ghost use Rattle.sf_term.specs.Trees.{Primitive as Form, bare as bare_form, with_value as form_with_value, timed as timed_form, arrow as arrow_form};
@@ -212,10 +212,8 @@ impl PrimState {
                 mem::swap(next, value);
                 Ok(())
             }
-            PrimState::Arrow(code) => replace(alloc, code, &None, functions, value),
-            PrimState::Closed(closure) => {
-                replace(alloc, &closure.function, &closure.around, functions, value)
-            }
+            PrimState::Arrow(code) => replace(alloc, code, functions, value),
+            PrimState::Closed(closure) => replace_within(alloc, closure, functions, value),
             PrimState::Fused(links) => run_links(alloc, links, functions, value),
             PrimState::Accumulated(accumulator) => accumulate(alloc, accumulator, functions, value),
             PrimState::Clock(clock) => tell_time(clock, dt, value),
@@ -290,19 +288,38 @@ fn copy(alloc: Global, constant: &Value, value: &mut Value) -> Result<(), EvalFa
     Ok(())
 }
 
-// What a function makes of the input, in its place.
+// What a function without names around it makes of the input, in its place.
 #[inline(never)]
 fn replace<R: Holds>(
     alloc: Global,
     code: &OpenCode,
-    around: &Option<Value>,
     functions: &R,
     value: &mut Value,
 ) -> Result<(), EvalFault>
-    ensures { (s : Scope) → functions_in s ≡ R.answers functions.now → (f : Function) → IsCodeOfFunctionIn s f (option_to_list around.now) code.now.code →
+    ensures { (s : Scope) → functions_in s ≡ R.answers functions.now → (f : Function) → IsCodeOfFunctionIn s f [] code.now.code →
         Evaluates (gift result value.new) (applied f value.old s) }
 {
-    apply_in_place(alloc, &code.code, around, functions, value)
+    apply_in_place(alloc, &code.code, &None, functions, value)
+}
+
+// What a function with names around it makes of the input, in its place.
+#[inline(never)]
+fn replace_within<R: Holds>(
+    alloc: Global,
+    closure: &Closure,
+    functions: &R,
+    value: &mut Value,
+) -> Result<(), EvalFault>
+    ensures { (s : Scope) → functions_in s ≡ R.answers functions.now → (f : Function) → IsClosureOf s f closure.now →
+        Evaluates (gift result value.new) (applied f value.old s) }
+{
+    apply_in_place(
+        alloc,
+        &closure.function.code,
+        &closure.around,
+        functions,
+        value,
+    )
 }
 
 /// The value of a constant with these names around it. The error is the first fault of its operations, or `Memory`.
