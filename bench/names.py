@@ -62,7 +62,7 @@ def let_nest(levels, width, used, uses):
     for level in range(levels):
         names = joined([f"a{level}b{at}" for at in range(width)], ",")
         body = f"let {names} = {value} in {body}"
-    return network(f"arr x => ({body})")
+    return network(f"arr x => {body}")
 
 
 def templates(count):
@@ -83,8 +83,8 @@ NETWORKS = {
     "21,500 processes, each run": (one_template(21_500, "Int ~> Int", "sf identity", "run a{}"), 0),
     "a pattern of 100,000 names": (wide_pattern(100_000), 5),
     "40 lets of 100 names": (let_nest(40, 100, "x", 40_000), 0),
-    "40 lets, a let at each use": (let_nest(40, 100, "(let y = x in y)", 20_000), 0),
-    "20,000 templates, each called": (templates(20_000), 0),
+    "40 lets, a let at each use": (let_nest(40, 100, "let y = x in y", 20_000), 0),
+    "20,000 templates, each called": (templates(20_000), 3),
     "30,000 probes": (probes(30_000), 0),
 }
 
