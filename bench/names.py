@@ -44,6 +44,13 @@ def all_at_each(count):
     return one_template(count, "Int", "1", "arr x => (x + a{})")
 
 
+def both_kinds(count):
+    """A network whose `main` calls a template with so many values and as many processes, in turn, each of them given and used."""
+    parameters = ", ".join(f"a{at}: Int, p{at}: Int ~> Int" for at in range(count))
+    body = joined([f"(iPre a{at} >>> run p{at})" for at in range(count)])
+    return network(f"t({','.join(['1,sf identity'] * count)})", f"template t({parameters}): Int ~> Int = {body};\n")
+
+
 def the_first_at_each(count):
     """Parameters of which the first alone is used, as often as there are parameters: it is the farthest from its uses."""
     return one_template(count, "Int", "1", "iPre a0")
@@ -81,6 +88,7 @@ NETWORKS = {
     "24,500 values in functions": (all_at_each(24_500), 0),
     "36,000 values, the first": (the_first_at_each(36_000), 0),
     "21,500 processes, each run": (one_template(21_500, "Int ~> Int", "sf identity", "run a{}"), 0),
+    "13,000 values and processes": (both_kinds(13_000), 0),
     "a pattern of 100,000 names": (wide_pattern(100_000), 5),
     "40 lets of 100 names": (let_nest(40, 100, "x", 40_000), 0),
     "40 lets, a let at each use": (let_nest(40, 100, "let y = x in y", 20_000), 0),

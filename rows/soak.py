@@ -76,6 +76,15 @@ RUNS = [
         makes_chains=True,
     ),
     Run(
+        "hands itself what it froze among twenty parameters at every sample but the first",
+        f"Int ~> Int = go(sf integral, {', '.join(['1'] * 19)});\n"
+        f"template go(f: Int ~> Int, {', '.join(f'a{at}: Int' for at in range(19))}): Int ~> Int ="
+        f" kSwitch(run f, {EVENT}, k, _ => go(sf run k, {', '.join(f'a{at}' for at in range(19))}))",
+        ["1"],
+        lambda number: number,
+        makes_chains=True,
+    ),
+    Run(
         "is a game whose menu opens and closes at every sample but the first",
         f"{GAME} = playing(sf (arr (speed, _) => speed >>> integral));\n"
         f"template playing(game: {GAME}): {GAME} = kSwitch(run game, (arr ((_, press), _) => press >>> notYet), g, _ => paused(sf run g));\n"

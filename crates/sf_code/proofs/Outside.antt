@@ -1,10 +1,11 @@
 -- The names around an expression.
 use Rattle.std.proofs.Common.{◌≡◌, ℕ, Bool, true, false, cond, List, [], ◌∷◌, ◌++◌, refl, ap, sym, ◌∙◌}
-use Rattle.std.specs.Prelude.{◌&&◌, ◌||◌, Option, Some, None, bytes_eq, is_some, if◌then◌else◌}
+use Rattle.std.specs.Prelude.{◌||◌, Option, Some, None, bytes_eq, is_some, if◌then◌else◌}
 use Rattle.std.specs.List.{list_any}
 use Rattle.std.specs.Borrow.{Bor}
-use Rattle.std.proofs.lemmas.Bool.{and_parts, false≢true}
+use Rattle.std.proofs.lemmas.Bool.{and_parts, and_from, or_right, false≢true}
 use Rattle.std.proofs.lemmas.List.{map-append}
+use Rattle.std.proofs.Math.Bool.{or_assoc, or-false}
 use Rattle.std.proofs.lemmas.Slice.Eq.{bytes_eq-Decides}
 use Rattle.sf_value.specs.Values.{Name}
 use Rattle.sf_expr.specs.declared.exprs.Exprs.{Exprs}
@@ -19,53 +20,37 @@ use Rattle.sf_code.specs.declared.place.Half.{Half}
 use Rattle.sf_code.specs.Places.{Place}
 use Rattle.sf_code.specs.Compiling.{path_in, inner_path, place_or, place_in, is_closed, named_each, BindAsMany}
 
-and_true : (a b : Bool) → a ≡ true → b ≡ true → (a && b) ≡ true
-and_true true b h k = k
-and_true false b h k = absurd (false≢true h)
-
--- whether one of two holds
-abbrev either : Bool → Bool → Bool
-either a b = cond a true b
-
-either_second : (a b : Bool) → b ≡ true → either a b ≡ true
-either_second true b h = refl
-either_second false b h = h
-
 -- ## Patterns of frames
 
 -- whether one of the patterns binds a name
 abbrev binds : Name → List Pattern → Bool
 binds x ps = is_some (place_in x ps)
 
-first_binds : (o : Option (List Half)) (q : Option Place) → is_some (place_or o q) ≡ either (is_some o) (is_some q)
+first_binds : (o : Option (List Half)) (q : Option Place) → is_some (place_or o q) ≡ (is_some o || is_some q)
 first_binds (Some hs) q = refl
 first_binds None None = refl
 first_binds None (Some p) = refl
 
-binds_append : (x : Name) (ps qs : List Pattern) → binds x (ps ++ qs) ≡ either (binds x ps) (binds x qs)
+binds_append : (x : Name) (ps qs : List Pattern) → binds x (ps ++ qs) ≡ (binds x ps || binds x qs)
 binds_append x [] qs = refl
 binds_append x (p ∷ ps) qs =
     first_binds (path_in x p) (place_in x (ps ++ qs))
-    ∙ ap (either (is_some (path_in x p))) (binds_append x ps qs)
-    ∙ by (is_some (path_in x p)) (binds x ps) (binds x qs)
-    ∙ ap (λ (b : Bool). either b (binds x qs)) (sym (first_binds (path_in x p) (place_in x ps)))
-  where
-    by : (a b c : Bool) → either a (either b c) ≡ either (either a b) c
-    by true b c = refl
-    by false b c = refl
+    ∙ ap (λ (b : Bool). is_some (path_in x p) || b) (binds_append x ps qs)
+    ∙ sym (or_assoc (is_some (path_in x p)) (binds x ps) (binds x qs))
+    ∙ ap (λ (b : Bool). b || binds x qs) (sym (first_binds (path_in x p) (place_in x ps)))
 
 -- a name that some patterns bind is bound by them and others
 pub binds_before : (x : Name) (ps qs : List Pattern) → binds x ps ≡ true → binds x (ps ++ qs) ≡ true
-binds_before x ps qs h = binds_append x ps qs ∙ ap (λ (b : Bool). either b (binds x qs)) h
+binds_before x ps qs h = binds_append x ps qs ∙ ap (λ (b : Bool). b || binds x qs) h
 
 pub binds_behind : (x : Name) (ps qs : List Pattern) → binds x qs ≡ true → binds x (ps ++ qs) ≡ true
-binds_behind x ps qs h = binds_append x ps qs ∙ either_second (binds x ps) (binds x qs) h
+binds_behind x ps qs h = binds_append x ps qs ∙ or_right (binds x ps) (binds x qs) h
 
 module _ (qs rs : List Pattern) (more : BindAsMany qs rs) where
   binds_more : (ps : List Pattern) (x : Name) → binds x (ps ++ qs) ≡ true → binds x (ps ++ rs) ≡ true
   binds_more ps x h = binds_append x ps rs ∙ by (binds x ps) (binds x qs) (binds x rs) (more x) (sym (binds_append x ps qs) ∙ h)
     where
-      by : (a b c : Bool) → (b ≡ true → c ≡ true) → either a b ≡ true → either a c ≡ true
+      by : (a b c : Bool) → (b ≡ true → c ≡ true) → (a || b) ≡ true → (a || c) ≡ true
       by true b c f k = refl
       by false b c f k = f k
 
@@ -73,18 +58,18 @@ module _ (qs rs : List Pattern) (more : BindAsMany qs rs) where
   pub closed_more : (e : Expression) (ps : List Pattern) → is_closed (ps ++ qs) e ≡ true → is_closed (ps ++ rs) e ≡ true
   closed_more (variable x) ps h = binds_more ps x h
   closed_more (literal l) ps h = refl
-  closed_more (paired i j) ps h = let each = and_parts _ _ h in and_true _ _ (closed_more i ps each.0) (closed_more j ps each.1)
+  closed_more (paired i j) ps h = let each = and_parts _ _ h in and_from _ _ (closed_more i ps each.0) (closed_more j ps each.1)
   closed_more (applied o i) ps h = closed_more i ps h
-  closed_more (operation i op j) ps h = let each = and_parts _ _ h in and_true _ _ (closed_more i ps each.0) (closed_more j ps each.1)
+  closed_more (operation i op j) ps h = let each = and_parts _ _ h in and_from _ _ (closed_more i ps each.0) (closed_more j ps each.1)
   closed_more (conditional i j k) ps h =
       let each = and_parts _ _ h in
       let branches = and_parts _ _ each.1 in
-      and_true _ _ (closed_more i ps each.0) (and_true _ _ (closed_more j ps branches.0) (closed_more k ps branches.1))
-  closed_more (mapped i m p j) ps h = let each = and_parts _ _ h in and_true _ _ (closed_more i ps each.0) (closed_more j (p ∷ ps) each.1)
+      and_from _ _ (closed_more i ps each.0) (and_from _ _ (closed_more j ps branches.0) (closed_more k ps branches.1))
+  closed_more (mapped i m p j) ps h = let each = and_parts _ _ h in and_from _ _ (closed_more i ps each.0) (closed_more j (p ∷ ps) each.1)
   closed_more (folded i o j p k) ps h =
       let each = and_parts _ _ h in
       let later = and_parts _ _ each.1 in
-      and_true _ _ (closed_more i ps each.0) (and_true _ _ (closed_more j ps later.0) (closed_more k (p ∷ ps) later.1))
+      and_from _ _ (closed_more i ps each.0) (and_from _ _ (closed_more j ps later.0) (closed_more k (p ∷ ps) later.1))
   closed_more (called g i) ps h = closed_more i ps h
 
 -- ## Names, each of one frame
@@ -95,26 +80,19 @@ named_append ys zs = map-append (λ (x : Name). named x) ys zs
 abbrev is_one_of : Name → List Name → Bool
 is_one_of x ys = binds x (named_each ys)
 
-one_append : (x : Name) (ys zs : List Name) → is_one_of x (ys ++ zs) ≡ either (is_one_of x ys) (is_one_of x zs)
+one_append : (x : Name) (ys zs : List Name) → is_one_of x (ys ++ zs) ≡ (is_one_of x ys || is_one_of x zs)
 one_append x ys zs = ap (binds x) (named_append ys zs) ∙ binds_append x (named_each ys) (named_each zs)
 
-test_some : (b : Bool) (o : Option Place) → is_some (place_or (cond b (Some []) None) o) ≡ either b (is_some o)
+test_some : (b : Bool) (o : Option Place) → is_some (place_or (cond b (Some []) None) o) ≡ (b || is_some o)
 test_some true o = refl
 test_some false o = first_binds None o
 
-one_next : (x y : Name) (ys : List Name) → is_one_of x (y ∷ ys) ≡ either (bytes_eq x y) (is_one_of x ys)
+one_next : (x y : Name) (ys : List Name) → is_one_of x (y ∷ ys) ≡ (bytes_eq x y || is_one_of x ys)
 one_next x y ys = test_some (bytes_eq x y) (place_in x (named_each ys))
 
 any_one : (x : Name) (ks : List (Bor (List ℕ))) → list_any (λ (j : Bor (List ℕ)). bytes_eq x j.now) ks ≡ is_one_of x (names_seen ks)
 any_one x [] = refl
-any_one x (k ∷ ks) = by (bytes_eq x k.now) (any_one x ks) ∙ sym (one_next x k.now (names_seen ks))
-  where
-    by : (b : Bool) {c d : Bool} → c ≡ d → (b || c) ≡ either b d
-    by true same = refl
-    by false same = same
-
-seen_append : (ks : List (Bor (List ℕ))) (k : Bor (List ℕ)) → names_seen (ks ++ k ∷ []) ≡ names_seen ks ++ k.now ∷ []
-seen_append ks k = map-append (λ (j : Bor (List ℕ)). j.now) ks (k ∷ [])
+any_one x (k ∷ ks) = ap (λ b. bytes_eq x k.now || b) (any_one x ks) ∙ sym (one_next x k.now (names_seen ks))
 
 pub seen_both : (ks js : List (Bor (List ℕ))) → names_seen (ks ++ js) ≡ names_seen ks ++ names_seen js
 seen_both ks js = map-append (λ (j : Bor (List ℕ)). j.now) ks js
@@ -126,7 +104,7 @@ module _ (k : Bor (List ℕ)) (ks new : List (Bor (List ℕ))) (b : Bool) (put :
     where
       by : (b : Bool) → is_one_of x (names_seen (if b then ks else ks ++ k ∷ [])) ≡ true
       by true = h
-      by false = ap (is_one_of x) (seen_append ks k) ∙ one_append x (names_seen ks) (k.now ∷ []) ∙ ap (λ (c : Bool). either c (is_one_of x (k.now ∷ []))) h
+      by false = ap (is_one_of x) (seen_both ks (k ∷ [])) ∙ one_append x (names_seen ks) (k.now ∷ []) ∙ ap (λ (c : Bool). c || is_one_of x (k.now ∷ [])) h
 
   pub put_there : list_any (λ (j : Bor (List ℕ)). bytes_eq k.now j.now) ks ≡ b → is_one_of k.now (names_seen new) ≡ true
   put_there old = ap (λ (js : List (Bor (List ℕ))). is_one_of k.now (names_seen js)) put ∙ by b old
@@ -134,24 +112,20 @@ module _ (k : Bor (List ℕ)) (ks new : List (Bor (List ℕ))) (b : Bool) (put :
       by : (b : Bool) → list_any (λ (j : Bor (List ℕ)). bytes_eq k.now j.now) ks ≡ b → is_one_of k.now (names_seen (if b then ks else ks ++ k ∷ [])) ≡ true
       by true h = sym (any_one k.now ks) ∙ h
       by false h =
-          ap (is_one_of k.now) (seen_append ks k)
+          ap (is_one_of k.now) (seen_both ks (k ∷ []))
           ∙ one_append k.now (names_seen ks) (k.now ∷ [])
-          ∙ either_second (is_one_of k.now (names_seen ks)) (is_one_of k.now (k.now ∷ []))
-          (one_next k.now k.now [] ∙ ap (λ (c : Bool). either c (is_one_of k.now [])) ((bytes_eq-Decides k.now k.now).1 refl))
+          ∙ or_right (is_one_of k.now (names_seen ks)) (is_one_of k.now (k.now ∷ []))
+          (one_next k.now k.now [] ∙ ap (λ (c : Bool). c || is_one_of k.now []) ((bytes_eq-Decides k.now k.now).1 refl))
 
 -- ## A pattern of names
 
-path_some : (o q : Option (List Half)) → is_some (inner_path o q) ≡ either (is_some o) (is_some q)
+path_some : (o q : Option (List Half)) → is_some (inner_path o q) ≡ (is_some o || is_some q)
 path_some (Some hs) q = refl
 path_some None (Some hs) = refl
 path_some None None = refl
 
 only_binds : (x : Name) (p : Pattern) → binds x (p ∷ []) ≡ is_some (path_in x p)
-only_binds x p = first_binds (path_in x p) None ∙ by (is_some (path_in x p))
-  where
-    by : (b : Bool) → either b false ≡ b
-    by true = refl
-    by false = refl
+only_binds x p = first_binds (path_in x p) None ∙ or-false (is_some (path_in x p))
 
 -- a pattern binds the names of both its parts
 pub both_bind : (p q : Pattern) (ys zs : List Name) → BindAsMany (named_each ys) (p ∷ []) → BindAsMany (named_each zs) (q ∷ []) → BindAsMany (named_each (ys ++ zs)) (both p q ∷ [])
@@ -160,7 +134,7 @@ both_bind p q ys zs h k x m =
     ∙ path_some (path_in x q) (path_in x p)
     ∙ by (is_one_of x ys) (is_one_of x zs) (is_some (path_in x q)) (is_some (path_in x p)) (sym (one_append x ys zs) ∙ m) (λ i. sym (only_binds x p) ∙ h x i) (λ i. sym (only_binds x q) ∙ k x i)
   where
-    by : (a b c d : Bool) → either a b ≡ true → (a ≡ true → d ≡ true) → (b ≡ true → c ≡ true) → either c d ≡ true
+    by : (a b c d : Bool) → (a || b) ≡ true → (a ≡ true → d ≡ true) → (b ≡ true → c ≡ true) → (c || d) ≡ true
     by a b true d n f g = refl
     by true b false d n f g = f refl
     by false b false d n f g = absurd (false≢true (g n))
@@ -171,13 +145,13 @@ module _ {x : Exprs} (ps : List Pattern) where
   -- an expression is closed where its parts are
   pub conditional_closed : {a b c : ExprId} {t : Expression} (old new : List Pattern) → Builds x (nodes.Conditional a b c) t → BindAsMany old new
       → is_closed (ps ++ old) (expression x a) ≡ true → is_closed (ps ++ new) (expression x b) ≡ true → is_closed (ps ++ new) (expression x c) ≡ true → is_closed (ps ++ new) t ≡ true
-  conditional_closed {a} old new builds_conditional more h k l = and_true _ _ (closed_more old new more (expression x a) ps h) (and_true _ _ k l)
+  conditional_closed {a} old new builds_conditional more h k l = and_from _ _ (closed_more old new more (expression x a) ps h) (and_from _ _ k l)
 
   pub mapped_closed : {a b : ExprId} {m : _} {p : PatternId} {t : Expression} (old new : List Pattern) → Builds x (nodes.Mapped a m p b) t → BindAsMany old new
       → is_closed (ps ++ old) (expression x a) ≡ true → is_closed (pattern_of (placed_at x p) ∷ (ps ++ new)) (expression x b) ≡ true → is_closed (ps ++ new) t ≡ true
-  mapped_closed {a} old new builds_mapped more h k = and_true _ _ (closed_more old new more (expression x a) ps h) k
+  mapped_closed {a} old new builds_mapped more h k = and_from _ _ (closed_more old new more (expression x a) ps h) k
 
   pub folded_closed : {a b c : ExprId} {o : _} {p : PatternId} {t : Expression} (old new : List Pattern) → Builds x (nodes.Folded a o b p c) t → BindAsMany old new
       → is_closed (ps ++ old) (expression x a) ≡ true → is_closed (ps ++ old) (expression x b) ≡ true → is_closed (pattern_of (placed_at x p) ∷ (ps ++ new)) (expression x c) ≡ true → is_closed (ps ++ new) t ≡ true
   folded_closed {a} {b} old new builds_folded more h k l =
-      and_true _ _ (closed_more old new more (expression x a) ps h) (and_true _ _ (closed_more old new more (expression x b) ps k) l)
+      and_from _ _ (closed_more old new more (expression x a) ps h) (and_from _ _ (closed_more old new more (expression x b) ps k) l)

@@ -1,6 +1,7 @@
 -- The code of expressions and functions in scopes.
 use Rattle.std.proofs.Common.{◌≡◌, Bool, true, false, cond, List, [], ◌∷◌, refl, ap, sym, ◌∙◌}
-use Rattle.std.specs.Prelude.{Option, Some, None, bytes_eq}
+use Rattle.std.specs.Prelude.{Option, Some, None, bytes_eq, Box}
+use Rattle.std.specs.declared.alloc.Global.{Global}
 use Rattle.std.proofs.lemmas.Slice.Eq.{bytes_eq-Decides}
 use mathlib.Core.Path.{ap₂, fun_ext}
 use Rattle.sf_value.specs.Values.{Name, Data}
@@ -40,7 +41,7 @@ eval_same e s t values functions =
 closed_worth : (ps : List Pattern) (e : Expression) (vs : List Data) (s : Scope) → is_closed ps e ≡ true → run (code_under ps e) vs (functions_in s) ≡ eval e (scope_under ps vs s)
 closed_worth ps e vs s closed = ap (λ (k : Code). run k vs (functions_in s)) (closed_same (λ x. nonsense) (λ x. value_of x s) e ps closed) ∙ compiled_worth s e ps vs
 
-module _ (o : Option PlacedPattern) (s : Scope) where
+module _ (o : Option (Box PlacedPattern Global)) (s : Scope) where
   -- the scope inside the frame of the names around
   abbrev within : Scope
   within = scope_under (around_pattern o) (frame_around o s) s
@@ -48,9 +49,9 @@ module _ (o : Option PlacedPattern) (s : Scope) where
   same_value : (x : Name) → value_of x within ≡ value_of x s
   same_value x = by o
     where
-      by : (o : Option PlacedPattern) → value_of x (scope_under (around_pattern o) (frame_around o s) s) ≡ value_of x s
+      by : (o : Option (Box PlacedPattern Global)) → value_of x (scope_under (around_pattern o) (frame_around o s) s) ≡ value_of x s
       by None = refl
-      by (Some p) = value_bound x (pattern_of p) (pattern_values s (pattern_of p)) s ∙ part_there x (pattern_of p) s
+      by (Some p) = value_bound x (pattern_of p.value) (pattern_values s (pattern_of p.value)) s ∙ part_there x (pattern_of p.value) s
 
   same_functions : functions_in within ≡ functions_in s
   same_functions = functions_under s (around_pattern o) (frame_around o s)

@@ -1,5 +1,7 @@
 -- What code stands for.
 use Rattle.std.specs.Prelude.{string_bytes}
+use Rattle.sf_value.specs.Values.{number}
+use Rattle.sf_operator.specs.declared.operator.Operator.TheVariants.{Arithmetic}
 use Rattle.sf_code.specs.declared.code.Code as declared
 use Rattle.sf_code.specs.declared.code.Code.TheVariants as codes
 use Rattle.sf_code.specs.PlaceView.{place_of}
@@ -12,6 +14,8 @@ code_of (codes.Constant v) = constant v
 code_of (codes.Pair' a i b j) = paired (code_of i) (code_of j)
 code_of (codes.Applied' o a i) = applied o (code_of i)
 code_of (codes.Operation' a i o b j) = operation (code_of i) o (code_of j)
+code_of (codes.WithNumber o p n) = operation (place (place_of p)) (Arithmetic o) (constant (number n))
+code_of (codes.NumberWith o n p) = operation (constant (number n)) (Arithmetic o) (place (place_of p))
 code_of (codes.Conditional' a i b j c k) = conditional (code_of i) (code_of j) (code_of k)
 code_of (codes.Mapped' a i m b j) = mapped (code_of i) m (code_of j)
 code_of (codes.Folded' a i o b j c k) = folded (code_of i) o (code_of j) (code_of k)

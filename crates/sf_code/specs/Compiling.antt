@@ -2,7 +2,7 @@
 use Rattle.std.specs.Prelude.{◌≡◌, Bool, true, ◌&&◌, cond, bytes_eq, List, [], ◌∷◌, map, Option, Some, None, is_some, option_map}
 use Rattle.sf_value.specs.Values.{Name, Data}
 use Rattle.sf_operator.specs.Outcomes.{nonsense}
-use Rattle.sf_expr.specs.Expressions.{Pattern, unnamed, named, both, Expression, variable as variable_expression, literal as literal_expression, paired as paired_expression, applied as applied_expression, operation as operation_expression, conditional as conditional_expression, mapped as mapped_expression, folded as folded_expression, called as called_expression}
+use Rattle.sf_expr.specs.Expressions.{Pattern, unnamed, named, both, Expression, variable as variable_expression, literal as literal_expression, paired as paired_expression, applied as applied_expression, operation as operation_expression, conditional as conditional_expression, mapped as mapped_expression, folded as folded_expression, called as called_expression, Function, function}
 use Rattle.sf_expr.specs.Evaluation.{Scope, bound_in, literal_value}
 use Rattle.sf_code.specs.declared.place.Half.{Half}
 use Rattle.sf_code.specs.declared.place.Half.TheVariants.{First, Second}
@@ -59,6 +59,10 @@ is_closed ps (conditional_expression i j k) = is_closed ps i && (is_closed ps j 
 is_closed ps (mapped_expression i m p j) = is_closed ps i && is_closed (p ∷ ps) j
 is_closed ps (folded_expression i o j p k) = is_closed ps i && (is_closed ps j && is_closed (p ∷ ps) k)
 is_closed ps (called_expression g i) = is_closed ps i
+
+-- whether a function's own pattern binds each name of its expression
+abbrev pub is_closed_function : Function → Bool
+is_closed_function (function p e) = is_closed (p ∷ []) e
 
 -- the code of an expression, where a name that none of the frames' patterns binds makes no sense
 abbrev pub code_under : List Pattern → Expression → Code

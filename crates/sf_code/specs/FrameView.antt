@@ -5,7 +5,7 @@ use Rattle.sf_operator.specs.Outcomes.{nonsense}
 use Rattle.sf_code.specs.declared.frames.Frames.{Frames}
 use Rattle.sf_code.specs.declared.frames.Frames.TheVariants.{Empty, Only, Within'}
 use Rattle.sf_code.specs.declared.frames.Found.{Found}
-use Rattle.sf_code.specs.declared.frames.Found.TheVariants.{Nothing, Whole, Half}
+use Rattle.sf_code.specs.declared.frames.Found.TheVariants.{Nothing, Value}
 
 -- the values of frames, the innermost first
 abbrev pub frames_of : Frames → List Data
@@ -16,5 +16,4 @@ frames_of (Within' value at around) = value.now ∷ frames_of around
 -- the value that was found; what makes no sense, where there is nothing
 abbrev pub found_value : Found → Data
 found_value Nothing = nonsense
-found_value (Whole v) = v.now
-found_value (Half r) = r.now.value
+found_value (Value v) = v.now

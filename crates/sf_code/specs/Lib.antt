@@ -6,6 +6,7 @@ pub mod Names
 pub mod Laws
 pub mod PlaceView
 pub mod CodeView
+pub mod Nodes
 pub mod Worth
 pub mod FrameView
 pub mod Numbers

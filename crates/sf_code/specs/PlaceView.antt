@@ -1,5 +1,6 @@
 -- What places and the patterns of frames stand for.
-use Rattle.std.specs.Prelude.{List, [], ◌∷◌, Option, Some, None}
+use Rattle.std.specs.Prelude.{List, [], ◌∷◌, Option, Some, None, Box}
+use Rattle.std.specs.declared.alloc.Global.{Global}
 use Rattle.sf_expr.specs.Expressions.{Pattern}
 use Rattle.sf_expr.specs.Patterns.{PlacedPattern, pattern_of}
 use Rattle.sf_code.specs.declared.place.Half.{Half}
@@ -28,6 +29,6 @@ patterns_of (Only pattern) = pattern_of pattern.now ∷ []
 patterns_of (Within' pattern at around) = pattern_of pattern.now ∷ patterns_of around
 
 -- the pattern of one frame, if there is one
-abbrev pub around_pattern : Option PlacedPattern → List Pattern
+abbrev pub around_pattern : Option (Box PlacedPattern Global) → List Pattern
 around_pattern None = []
-around_pattern (Some p) = pattern_of p ∷ []
+around_pattern (Some p) = pattern_of p.value ∷ []

@@ -1,5 +1,6 @@
 -- What code is of.
-use Rattle.std.specs.Prelude.{◌≡◌, List, [], ◌∷◌, Option, Some, None, option_to_list}
+use Rattle.std.specs.Prelude.{◌≡◌, List, [], ◌∷◌, Option, Some, None, option_to_list, Box}
+use Rattle.std.specs.declared.alloc.Global.{Global}
 use Rattle.sf_value.specs.Values.{Data, unit, pair}
 use Rattle.sf_expr.specs.Expressions.{Pattern, unnamed, named, both, Expression, Function}
 use Rattle.sf_expr.specs.Patterns.{PlacedPattern, pattern_of}
@@ -17,9 +18,9 @@ pattern_values s (named x) = value_of x s
 pattern_values s (both p q) = pair (pattern_values s p) (pattern_values s q)
 
 -- the frame of the names around code, if it has any
-abbrev pub frame_around : Option PlacedPattern → Scope → List Data
+abbrev pub frame_around : Option (Box PlacedPattern Global) → Scope → List Data
 frame_around None s = []
-frame_around (Some p) s = pattern_values s (pattern_of p) ∷ []
+frame_around (Some p) s = pattern_values s (pattern_of p.value) ∷ []
 
 -- Code over a frame of the names around it is that of an expression in a scope: it is worth the same.
 pub record IsCodeOfIn (s : Scope) (e : Expression) (around : List Data) (c : Code) : Type 0 where

@@ -21,67 +21,31 @@ pub(crate) fn next_argument(
 ) -> Result<Value, AllocError>
     ensures { IfOk result (λ v. v ≡ pair_data so_far (pair_data (data_of_key (key_of key.now)) value.now)) }
 {
-    let Some((first, second)) = nodes_of(last) else {
-        let row = row(alloc, key, value)?;
-        return Value::pair(alloc, so_far, row);
-    };
-    let first = renewed(alloc, first, so_far)?;
-    let second = renewed_row(alloc, second, key, value)?;
-    Ok(Value::of_halves(first, second))
-}
-
-// The nodes of a pair's halves.
-#[inline(always)]
-fn nodes_of(value: Value) -> Option<(Rc<Value>, Rc<Value>)> {
-    match value.into_form() {
-        Form::Pair(first, second) => Some((first, second)),
-        _ => None,
+    if let Form::Pair(mut node) = last.into_form() {
+        if let Some(own) = Rc::get_mut(&mut node) {
+            let last_row = mem::replace(&mut own.second, Value::unit());
+            own.first = so_far;
+            own.second = next_row(alloc, last_row, key, value)?;
+            return Ok(Value::of_pair(node));
+        }
     }
+    let row = row(alloc, key, value)?;
+    Value::pair(alloc, so_far, row)
 }
 
-// A value in a node, where nothing else has it, and else in a new one.
+// A row of a table, as the pair of its key and its value: in the node of the last row, likewise.
 #[inline(always)]
-fn renewed(alloc: Global, node: Rc<Value>, value: Value) -> Result<Rc<Value>, AllocError>
-    ensures { IfOk result (λ half. half.value ≡ value) }
-{
-    let mut node = node;
-    if let Some(own) = Rc::get_mut(&mut node) {
-        *own = value;
-        return Ok(node);
-    }
-    Ok(Rc::new(alloc, value)?)
-}
-
-// A row of a table in a node, likewise.
-#[inline(always)]
-fn renewed_row(
-    alloc: Global,
-    node: Rc<Value>,
-    key: &Key,
-    value: &Value,
-) -> Result<Rc<Value>, AllocError>
-    ensures { IfOk result (λ half. half.value ≡ pair_data (data_of_key (key_of key.now)) value.now) }
-{
-    let mut node = node;
-    if let Some(own) = Rc::get_mut(&mut node) {
-        let last = mem::replace(own, Value::unit());
-        *own = row_in(alloc, last, key, value)?;
-        return Ok(node);
-    }
-    Ok(Rc::new(alloc, row(alloc, key, value)?)?)
-}
-
-// A row of a table, as the pair of its key and its value: in the nodes of the last row, likewise.
-#[inline(always)]
-fn row_in(alloc: Global, last: Value, key: &Key, value: &Value) -> Result<Value, AllocError>
+fn next_row(alloc: Global, last: Value, key: &Key, value: &Value) -> Result<Value, AllocError>
     ensures { IfOk result (λ v. v ≡ pair_data (data_of_key (key_of key.now)) value.now) }
 {
-    let Some((first, second)) = nodes_of(last) else {
-        return row(alloc, key, value);
-    };
-    let first = renewed(alloc, first, value_of_key(key)?)?;
-    let second = renewed(alloc, second, value.clone_in(alloc)?)?;
-    Ok(Value::of_halves(first, second))
+    if let Form::Pair(mut node) = last.into_form() {
+        if let Some(own) = Rc::get_mut(&mut node) {
+            own.first = value_of_key(key)?;
+            own.second = value.clone_in(alloc)?;
+            return Ok(Value::of_pair(node));
+        }
+    }
+    row(alloc, key, value)
 }
 
 // A row of a table, as the pair of its key and its value.

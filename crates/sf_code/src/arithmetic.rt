@@ -48,6 +48,9 @@ pub fn is_arithmetic(code: &Code, around: &Option<Value>) -> bool
         Code::Operation(left, Operator::Arithmetic(_), right) => {
             is_arithmetic(left, around) && is_arithmetic(right, around)
         }
+        Code::WithNumber(_, place, _) | Code::NumberWith(_, _, place) => {
+            number_at(place, around, 0).is_some()
+        }
         _ => false,
     }
 }
@@ -84,6 +87,14 @@ fn calculated(code: &Code, around: &Option<Value>, number: i64) -> Result<i64, V
             None => unreachable!(),
         },
         Code::Operation(left, operator, right) => at_once(left, *operator, right, around, number),
+        Code::WithNumber(operator, place, second) => match number_at(place, around, number) {
+            Some(first) => calculate(*operator, first, *second),
+            None => unreachable!(),
+        },
+        Code::NumberWith(operator, first, place) => match number_at(place, around, number) {
+            Some(second) => calculate(*operator, *first, second),
+            None => unreachable!(),
+        },
         _ => unreachable!(),
     }
 }

@@ -12,14 +12,16 @@ use sf_expr::{ExprId, ExprNode, Exprs, Pat, PatternId};
 use sf_refusal::Spot;
 use std::alloc::{AllocError, Global};
 
-/// A pattern of the names that no pattern of an expression's frames binds; none where there is no such name.
+/// A pattern of the names that no pattern of an expression's frames binds; none where there is no such name, so that the
+/// code has no frame for them.
 pub(crate) fn names_around(
     alloc: Global,
     exprs: &Exprs,
     id: ExprId,
     patterns: &Patterns,
-) -> Result<Option<Pat>, AllocError>
-    ensures { IfOk result (λ around. is_closed (patterns_of patterns.now ++ around_pattern around) (expression exprs.now id) ≡ true) }
+) -> Result<Option<Box<Pat>>, AllocError>
+    ensures closed { IfOk result (λ around. is_closed (patterns_of patterns.now ++ around_pattern around) (expression exprs.now id) ≡ true) }
+    ensures fewest { is_closed (patterns_of patterns.now) (expression exprs.now id) ≡ true → IfOk result (λ around. around ≡ None) }
 {
     let mut names = IndexSet::new(alloc);
     gather(exprs, id, patterns, &mut names)?;
@@ -27,13 +29,15 @@ pub(crate) fn names_around(
 }
 
 // A pattern of names, if there are any.
-fn pattern_of_names(alloc: Global, names: &[&str]) -> Result<Option<Pat>, AllocError>
-    ensures { IfOk result (λ around. BindAsMany (named_each (names_seen names.now)) (around_pattern around)) }
+fn pattern_of_names(alloc: Global, names: &[&str]) -> Result<Option<Box<Pat>>, AllocError>
+    ensures bound { IfOk result (λ around. BindAsMany (named_each (names_seen names.now)) (around_pattern around)) }
+    ensures fewest { names.now ≡ [] → IfOk result (λ around. around ≡ None) }
 {
     if names.is_empty() {
         return Ok(None);
     }
-    Ok(Some(balanced(alloc, names)?))
+    let pattern = balanced(alloc, names)?;
+    Ok(Some(Box::new(alloc, pattern)?))
 }
 
 // A pattern of names, as low as can be.
@@ -53,7 +57,7 @@ fn balanced(alloc: Global, names: &[&str]) -> Result<Pat, AllocError>
     }
 }
 
-// Puts the names behind others that neither these patterns nor those names bind.
+// Puts the names behind others that neither these patterns nor those names bind: none where the patterns bind each.
 #[cycle(gather)]
 fn gather<'a>(
     exprs: &'a Exprs,
@@ -63,6 +67,7 @@ fn gather<'a>(
 ) -> Result<(), AllocError>
     ensures kept { OnOk result (BindAsMany (named_each (names_seen names.old.keys)) (named_each (names_seen names.new.keys))) }
     ensures closed { OnOk result (is_closed (patterns_of patterns.now ++ named_each (names_seen names.new.keys)) (expression exprs.now id) ≡ true) }
+    ensures fewest { OnOk result (is_closed (patterns_of patterns.now) (expression exprs.now id) ≡ true → names.new.keys ≡ names.old.keys) }
 {
     match exprs.node(id) {
         ExprNode::Unit | ExprNode::Truth(_) | ExprNode::Int(_) | ExprNode::Constant(_) => Ok(()),
@@ -100,6 +105,7 @@ fn gather_both<'a>(
     ensures kept { OnOk result (BindAsMany (named_each (names_seen names.old.keys)) (named_each (names_seen names.new.keys))) }
     ensures first { OnOk result (is_closed (patterns_of patterns.now ++ named_each (names_seen names.new.keys)) (expression exprs.now first) ≡ true) }
     ensures second { OnOk result (is_closed (patterns_of patterns.now ++ named_each (names_seen names.new.keys)) (expression exprs.now second) ≡ true) }
+    ensures fewest { OnOk result (is_closed (patterns_of patterns.now) (expression exprs.now first) ≡ true → is_closed (patterns_of patterns.now) (expression exprs.now second) ≡ true → names.new.keys ≡ names.old.keys) }
 {
     gather(exprs, first, patterns, names)?;
     gather(exprs, second, patterns, names)
@@ -116,6 +122,7 @@ fn gather_within<'a>(
 ) -> Result<(), AllocError>
     ensures kept { OnOk result (BindAsMany (named_each (names_seen names.old.keys)) (named_each (names_seen names.new.keys))) }
     ensures closed { OnOk result (is_closed (pattern_of (placed_at exprs.now pattern) ∷ (patterns_of patterns.now ++ named_each (names_seen names.new.keys))) (expression exprs.now body) ≡ true) }
+    ensures fewest { OnOk result (is_closed (pattern_of (placed_at exprs.now pattern) ∷ patterns_of patterns.now) (expression exprs.now body) ≡ true → names.new.keys ≡ names.old.keys) }
 {
     let inner = (&*patterns).within((&*exprs).placed(pattern));
     gather(exprs, body, &inner, names)
@@ -129,6 +136,7 @@ fn note<'a>(
 ) -> Result<(), AllocError>
     ensures kept { OnOk result (BindAsMany (named_each (names_seen names.old.keys)) (named_each (names_seen names.new.keys))) }
     ensures bound { OnOk result (is_some (place_in name.now (patterns_of patterns.now ++ named_each (names_seen names.new.keys))) ≡ true) }
+    ensures fewest { OnOk result (is_some (place_in name.now (patterns_of patterns.now)) ≡ true → names.new.keys ≡ names.old.keys) }
 {
     if !patterns.binds(name) {
         names.insert(name)?;

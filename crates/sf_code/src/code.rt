@@ -1,6 +1,6 @@
 //! Code.
 use crate::place::Place;
-use sf_operator::{Folding, Mapping, Operator, Unary};
+use sf_operator::{Arithmetic, Folding, Mapping, Operator, Unary};
 use sf_value::Value;
 
 /// An expression of which each name is a place among the values of frames, or a value. The code of a function stands last,
@@ -17,6 +17,10 @@ pub enum Code {
     Applied(Unary, Box<Code>),
     /// An operator between its operands.
     Operation(Box<Code>, Operator, Box<Code>),
+    /// Arithmetic between a place and a number.
+    WithNumber(Arithmetic, Place, i64),
+    /// Arithmetic between a number and a place.
+    NumberWith(Arithmetic, i64, Place),
     /// The second where the first is true, the third where it is false.
     Conditional(Box<Code>, Box<Code>, Box<Code>),
     /// A form on a value with a function.

@@ -1,17 +1,20 @@
 //! The code of expressions.
-ghost use Rattle.std.specs.Prelude.{◌≡◌, ◌∷◌, IfOk};
+ghost use Rattle.std.specs.Prelude.{◌≡◌, true, ◌∷◌, IfOk, IfSome, is_some};
 ghost use Rattle.sf_expr.specs.Arena.{expression, placed_at, name_at};
 ghost use Rattle.sf_expr.specs.Evaluation.{literal_value, nonsense};
 ghost use Rattle.sf_expr.specs.Patterns.{pattern_of};
+ghost use Rattle.sf_value.specs.Values.{number};
 ghost use Rattle.sf_code.specs.Codes as trees;
 ghost use Rattle.sf_code.specs.CodeView.{code_of};
+ghost use Rattle.sf_code.specs.Nodes.{is_place, is_number, is_one_node};
+ghost use Rattle.sf_operator.specs.declared.operator.Arithmetic.{Arithmetic};
 ghost use Rattle.sf_code.specs.Compiling.{code_under, place_in, name_code as code_of_name};
 ghost use Rattle.sf_code.specs.PlaceView.{patterns_of};
 
 use crate::code::Code;
 use crate::place::Patterns;
 use sf_expr::{Constant, ExprId, ExprNode, Exprs, NameId, PatternId};
-use sf_operator::{Folding, Mapping};
+use sf_operator::{Folding, Mapping, Operator, number_in};
 use sf_value::Value;
 use std::alloc::{AllocError, Global};
 
@@ -40,8 +43,7 @@ pub(crate) fn compile(
             Ok(Code::Applied(operator, part))
         }
         ExprNode::Operation(left, operator, right) => {
-            let (left, right) = both(alloc, exprs, left, right, patterns)?;
-            Ok(Code::Operation(left, operator, right))
+            operation(alloc, exprs, left, operator, right, patterns)
         }
         ExprNode::Conditional(condition, first, second) => {
             conditional(alloc, exprs, condition, first, second, patterns)
@@ -100,6 +102,70 @@ fn within(
 {
     let inner = (&*patterns).within((&*exprs).placed(pattern));
     boxed(alloc, &*exprs, body, &inner)
+}
+
+/// The code of an operator between two expressions.
+#[cycle(compile)]
+fn operation(
+    alloc: Global,
+    exprs: &Exprs,
+    left: ExprId,
+    operator: Operator,
+    right: ExprId,
+    patterns: &Patterns,
+) -> Result<Code, AllocError>
+    ensures { let ps = patterns_of patterns.now in
+        IfOk result (λ code. code_of code ≡ trees.operation (code_under ps (expression exprs.now left)) operator (code_under ps (expression exprs.now right))) }
+{
+    let left = compile(alloc, exprs, left, patterns)?;
+    let right = compile(alloc, exprs, right, patterns)?;
+    between(alloc, left, operator, right)
+}
+
+/// The code of an operator between two codes: of arithmetic between a place and a number, in either order, one node.
+fn between(alloc: Global, left: Code, operator: Operator, right: Code) -> Result<Code, AllocError>
+    ensures same { IfOk result (λ code. code_of code ≡ trees.operation (code_of left) operator (code_of right)) }
+    ensures place { (o : Arithmetic) → operator ≡ Operator.Arithmetic o → is_place left ≡ true → is_number right ≡ true → IfOk result (λ code. is_one_node code ≡ true) }
+    ensures number { (o : Arithmetic) → operator ≡ Operator.Arithmetic o → is_number left ≡ true → is_place right ≡ true → IfOk result (λ code. is_one_node code ≡ true) }
+{
+    match (left, operator, number_of_code(&right)) {
+        (Code::Place(place), Operator::Arithmetic(operator), Some(number)) => {
+            Ok(Code::WithNumber(operator, place, number))
+        }
+        (left, operator, _) => number_first(alloc, left, operator, right),
+    }
+}
+
+/// The code of an operator between two codes: of arithmetic between a number and a place, one node.
+fn number_first(
+    alloc: Global,
+    left: Code,
+    operator: Operator,
+    right: Code,
+) -> Result<Code, AllocError>
+    ensures same { IfOk result (λ code. code_of code ≡ trees.operation (code_of left) operator (code_of right)) }
+    ensures number { (o : Arithmetic) → operator ≡ Operator.Arithmetic o → is_number left ≡ true → is_place right ≡ true → IfOk result (λ code. is_one_node code ≡ true) }
+{
+    match (number_of_code(&left), operator, right) {
+        (Some(number), Operator::Arithmetic(operator), Code::Place(place)) => {
+            Ok(Code::NumberWith(operator, number, place))
+        }
+        (_, operator, right) => {
+            let left = Box::new(alloc, left)?;
+            Ok(Code::Operation(left, operator, Box::new(alloc, right)?))
+        }
+    }
+}
+
+/// The number that code is, if it is one.
+fn number_of_code(code: &Code) -> Option<i64>
+    ensures found { is_some result ≡ is_number code.now }
+    ensures same { IfSome result (λ n. code_of code.now ≡ trees.constant (number n)) }
+{
+    match code {
+        Code::Constant(value) => number_in(value),
+        _ => None,
+    }
 }
 
 /// The code of two expressions of which a condition chooses one.

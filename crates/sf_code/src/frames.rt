@@ -9,7 +9,6 @@ use crate::place::{Half, Path, Place};
 use sf_operator::number_in;
 use sf_value::{Form, Value};
 use std::alloc::{AllocError, Global};
-use std::rc::Rc;
 
 /// The values of frames.
 #[derive(Clone, Copy)]
@@ -27,10 +26,8 @@ pub(crate) enum Frames<'a> {
 pub(crate) enum Found<'a> {
     /// Nothing.
     Nothing,
-    /// A whole value.
-    Whole(&'a Value),
-    /// A half of a pair, which can be shared.
-    Half(&'a Rc<Value>),
+    /// A value.
+    Value(&'a Value),
 }
 
 impl<'a> Found<'a> {
@@ -40,8 +37,7 @@ impl<'a> Found<'a> {
     {
         match self {
             Found::Nothing => Ok(Value::int(0)),
-            Found::Whole(value) => value.clone_in(alloc),
-            Found::Half(shared) => shared.clone_in(alloc),
+            Found::Value(value) => value.clone_in(alloc),
         }
     }
 
@@ -51,8 +47,7 @@ impl<'a> Found<'a> {
     {
         match self {
             Found::Nothing => Some(0),
-            Found::Whole(value) => number_in(value),
-            Found::Half(shared) => number_in(&**shared),
+            Found::Value(value) => number_in(value),
         }
     }
 
@@ -60,15 +55,13 @@ impl<'a> Found<'a> {
     fn half(self, half: Half) -> Found<'a>
         ensures { found_value result ≡ half_of half (found_value self.entry) }
     {
-        let value = match self {
-            Found::Nothing => return self,
-            Found::Whole(value) => value,
-            Found::Half(shared) => &**shared,
+        let Found::Value(value) = self else {
+            return self;
         };
         match value.form() {
-            Form::Pair(first, second) => match half {
-                Half::First => Found::Half(first),
-                Half::Second => Found::Half(second),
+            Form::Pair(halves) => match half {
+                Half::First => Found::Value(&halves.first),
+                Half::Second => Found::Value(&halves.second),
             },
             _ => self,
         }
@@ -102,11 +95,11 @@ impl<'a> Frames<'a> {
         match self {
             Frames::Empty => Found::Nothing,
             Frames::Only(value) => match place {
-                Place::Here(path) => part(Found::Whole(value), path),
+                Place::Here(path) => part(Found::Value(value), path),
                 Place::Out(_) => Found::Nothing,
             },
             Frames::Within(value, around) => match place {
-                Place::Here(path) => part(Found::Whole(value), path),
+                Place::Here(path) => part(Found::Value(value), path),
                 Place::Out(outer) => around.further(outer),
             },
         }
@@ -119,11 +112,11 @@ impl<'a> Frames<'a> {
         match self {
             Frames::Empty => Found::Nothing,
             Frames::Only(value) => match place {
-                Place::Here(path) => part(Found::Whole(value), path),
+                Place::Here(path) => part(Found::Value(value), path),
                 Place::Out(_) => Found::Nothing,
             },
             Frames::Within(value, around) => match place {
-                Place::Here(path) => part(Found::Whole(value), path),
+                Place::Here(path) => part(Found::Value(value), path),
                 Place::Out(place) => around.further(place),
             },
         }

@@ -1,10 +1,11 @@
 //! The code of expressions and functions.
-ghost use Rattle.std.specs.Prelude.{◌≡◌, ◌∷◌, IfOk, option_to_list};
+ghost use Rattle.std.specs.Prelude.{◌≡◌, true, [], ◌∷◌, IfOk, option_to_list};
 ghost use Rattle.sf_expr.specs.Arena.{expression, function_at};
 ghost use Rattle.sf_expr.specs.Expressions.{Expression, Function};
 ghost use Rattle.sf_expr.specs.Evaluation.{Scope, functions_in, eval, apply as applied};
 ghost use Rattle.sf_operator.specs.Answers.{Evaluates, EvaluatesAs};
 ghost use Rattle.sf_code.specs.CodeView.{code_of};
+ghost use Rattle.sf_code.specs.Compiling.{is_closed, is_closed_function};
 ghost use Rattle.sf_code.specs.Running.{run as worth_of};
 ghost use Rattle.sf_code.specs.Worth.{IsCodeOf, IsCodeOfFunction, IsCodeOfIn, IsCodeOfFunctionIn};
 
@@ -23,18 +24,20 @@ use sf_value::Value;
 use std::alloc::{AllocError, Global};
 use std::mem;
 
-/// The code of an expression.
+/// The code of an expression: without a frame for names around it where it has no names.
 pub fn expression_code(alloc: Global, exprs: &Exprs, id: ExprId) -> Result<OpenCode, AllocError>
-    ensures { IfOk result (λ code. IsCodeOf (expression exprs.now id) code) }
+    ensures code { IfOk result (λ code. IsCodeOf (expression exprs.now id) code) }
+    ensures bare { is_closed [] (expression exprs.now id) ≡ true → IfOk result (λ code. code.around ≡ None) }
 {
     let around = names_around(alloc, exprs, id, &Patterns::Empty)?;
     let code = compile(alloc, exprs, id, &Patterns::around(&around))?;
     Ok(OpenCode { code, around })
 }
 
-/// The code of a function.
+/// The code of a function: without a frame for names around it where its own pattern binds each of its names.
 pub fn function_code(alloc: Global, exprs: &Exprs, id: FunctionId) -> Result<OpenCode, AllocError>
-    ensures { IfOk result (λ code. IsCodeOfFunction (function_at exprs.now id) code) }
+    ensures code { IfOk result (λ code. IsCodeOfFunction (function_at exprs.now id) code) }
+    ensures bare { is_closed_function (function_at exprs.now id) ≡ true → IfOk result (λ code. code.around ≡ None) }
 {
     let pattern = exprs.pattern(id);
     let body = exprs.body(id);
@@ -72,7 +75,7 @@ pub fn apply<F: Holds>(
 }
 
 /// Puts what a function's code is worth over a value, and over that of the names around it, in the value's place, or answers the first fault, after which the value may be
-/// any. A pair of the value's halves is made without a copy.
+/// any. A pair of the value's halves is made in the value's own node, where it has no other owner.
 #[inline(always)]
 pub fn apply_in_place<F: Holds>(
     alloc: Global,

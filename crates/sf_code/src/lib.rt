@@ -28,4 +28,3 @@ pub use function::{apply, apply_in_place, evaluate, expression_code, function_co
 pub use laws::compiled_expression;
 pub use names::Names;
 pub use open::{Closure, OpenCode};
-pub use rearranging::halves;

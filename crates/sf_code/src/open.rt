@@ -21,7 +21,7 @@ pub struct OpenCode {
     /// The code.
     pub code: Code,
     /// The pattern of its outermost frame, which binds the names around it; none where it has no such name.
-    pub around: Option<Pat>,
+    pub around: Option<Box<Pat>>,
 }
 
 impl OpenCode {
@@ -70,8 +70,9 @@ impl Closure {
         function: &Rc<OpenCode>,
         names: &N,
     ) -> Result<Closure, AllocError>
-        ensures { IfOk result (λ closure. (f : AnswersByName) (g : Function) → IsCodeOfFunction g function.now.value →
+        ensures made { IfOk result (λ closure. (f : AnswersByName) (g : Function) → IsCodeOfFunction g function.now.value →
             IsClosureOf (scope_with (N.values names.now) f) g closure) }
+        ensures bare { function.now.value.around ≡ None → IfOk result (λ closure. closure.around ≡ None) }
     {
         let around = function.frame(alloc, names)?;
         let function = function.clone()?;

@@ -47,7 +47,7 @@ pub(crate) enum Patterns<'a> {
 
 impl<'a> Patterns<'a> {
     /// One frame, if there is a pattern.
-    pub(crate) fn around(pattern: &'a Option<Pat>) -> Patterns<'a>
+    pub(crate) fn around(pattern: &'a Option<Box<Pat>>) -> Patterns<'a>
         ensures { patterns_of result ≡ around_pattern pattern.now }
     {
         match pattern {

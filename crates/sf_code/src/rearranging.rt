@@ -1,6 +1,6 @@
-//! Pairs whose halves change places, without a copy.
-ghost use Rattle.std.specs.Prelude.{◌≡◌, [], ◌∷◌, IfOk, IfSome};
-ghost use Rattle.sf_value.specs.Values.{Data, pair as pair_data, first_of, second_of};
+//! Pairs whose halves change places.
+ghost use Rattle.std.specs.Prelude.{◌≡◌, [], ◌∷◌, IfOk, IfSome, OnOk};
+ghost use Rattle.sf_value.specs.Values.{Data, pair as pair_data};
 ghost use Rattle.sf_code.specs.Codes.{paired, place as code_at};
 ghost use Rattle.sf_code.specs.CodeView.{code_of};
 ghost use Rattle.sf_code.specs.Places.{at_frame, half_of};
@@ -8,8 +8,9 @@ ghost use Rattle.sf_code.specs.PlaceView.{path_of, place_of};
 
 use crate::code::Code;
 use crate::place::{Half, Path, Place};
-use sf_value::{Form, Value};
+use sf_value::{Pair, Value};
 use std::alloc::{AllocError, Global};
+use std::mem;
 use std::rc::Rc;
 
 /// The two halves of the argument of which code makes a pair, if it does that and no more.
@@ -61,7 +62,7 @@ fn only_half(path: &Path) -> Option<Half>
     }
 }
 
-/// The pair of two halves of a value, which it takes.
+/// The pair of two halves of a value, which it takes: in the value's own node, where it has no other owner.
 #[inline(always)]
 pub(crate) fn rearranged(
     alloc: Global,
@@ -71,44 +72,46 @@ pub(crate) fn rearranged(
 ) -> Result<Value, AllocError>
     ensures { IfOk result (λ v. v ≡ pair_data (half_of first value) (half_of second value)) }
 {
-    let (left, right) = halves(alloc, value)?;
-    match (first, second) {
-        (Half::First, Half::Second) => Ok(Value::of_halves(left, right)),
-        (Half::Second, Half::First) => Ok(Value::of_halves(right, left)),
-        (Half::First, Half::First) => twice(left),
-        (Half::Second, Half::Second) => twice(right),
+    let mut node = value.into_pair(alloc)?;
+    if let Some(own) = Rc::get_mut(&mut node) {
+        rearrange(alloc, own, first, second)?;
+        return Ok(Value::of_pair(node));
     }
+    copied(alloc, &*node, first, second)
 }
 
-// The pair of a value with itself, which is shared.
-fn twice(half: Rc<Value>) -> Result<Value, AllocError>
-    ensures { IfOk result (λ v. v ≡ pair_data half.value half.value) }
-{
-    let same = half.clone()?;
-    Ok(Value::of_halves(half, same))
-}
-
-/// Both parts of a pair, taken out of it; of a value that is no pair, the value itself twice.
-#[inline(always)]
-pub fn halves(alloc: Global, value: Value) -> Result<(Rc<Value>, Rc<Value>), AllocError>
-    ensures { IfOk result (λ parts. (parts.0.value ≡ first_of value) × (parts.1.value ≡ second_of value)) }
-{
-    match value.form() {
-        Form::Pair(_, _) => match value.into_form() {
-            Form::Pair(first, second) => Ok((first, second)),
-            _ => unreachable!(),
-        },
-        _ => doubled(alloc, value),
-    }
-}
-
-// A value in place of two parts.
-#[cold]
+// The pair of copies of two halves.
 #[inline(never)]
-fn doubled(alloc: Global, value: Value) -> Result<(Rc<Value>, Rc<Value>), AllocError>
-    ensures { IfOk result (λ parts. (parts.0.value ≡ value) × (parts.1.value ≡ value)) }
+fn copied(alloc: Global, halves: &Pair, first: Half, second: Half) -> Result<Value, AllocError>
+    ensures { IfOk result (λ v. v ≡ pair_data (half_of first (pair_data halves.now.first halves.now.second)) (half_of second (pair_data halves.now.first halves.now.second))) }
 {
-    let first = Rc::new(alloc, value)?;
-    let second = first.clone()?;
-    Ok((first, second))
+    let first = copied_half(alloc, halves, first)?;
+    let second = copied_half(alloc, halves, second)?;
+    Value::pair(alloc, first, second)
+}
+
+// Puts two of the halves in the places of both.
+#[inline(always)]
+fn rearrange(alloc: Global, halves: &mut Pair, first: Half, second: Half) -> Result<(), AllocError>
+    ensures first { OnOk result (halves.new.first ≡ half_of first (pair_data halves.old.first halves.old.second)) }
+    ensures second { OnOk result (halves.new.second ≡ half_of second (pair_data halves.old.first halves.old.second)) }
+{
+    match (first, second) {
+        (Half::First, Half::Second) => {}
+        (Half::Second, Half::First) => mem::swap(&mut halves.first, &mut halves.second),
+        (Half::First, Half::First) => halves.second = halves.first.clone_in(alloc)?,
+        (Half::Second, Half::Second) => halves.first = halves.second.clone_in(alloc)?,
+    }
+    Ok(())
+}
+
+// A copy of a half, which shares what it is made of.
+#[inline(always)]
+fn copied_half(alloc: Global, halves: &Pair, half: Half) -> Result<Value, AllocError>
+    ensures { IfOk result (λ v. v ≡ half_of half (pair_data halves.now.first halves.now.second)) }
+{
+    match half {
+        Half::First => halves.first.clone_in(alloc),
+        Half::Second => halves.second.clone_in(alloc),
+    }
 }

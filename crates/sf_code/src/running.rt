@@ -30,7 +30,6 @@ use sf_operator::{
 };
 use sf_value::{Key, Value, ValueFault};
 use std::alloc::{AllocError, Global};
-use std::rc::Rc;
 
 /// What code is worth over the values of frames, or the first fault of its operations: operands stand from left to right.
 #[cycle(run)]
@@ -54,6 +53,12 @@ pub(crate) fn run<F: Holds>(
         }
         Code::Operation(left, operator, right) => {
             operation(alloc, left, *operator, right, frames, functions)
+        }
+        Code::WithNumber(operator, place, number) => {
+            computed(with_number(*operator, frames.at(place), *number))
+        }
+        Code::NumberWith(operator, number, place) => {
+            computed(number_with(*operator, *number, frames.at(place)))
         }
         Code::Conditional(condition, first, second) => {
             conditional(alloc, condition, first, second, frames, functions)
@@ -96,16 +101,17 @@ fn pair<F: Holds>(
 ) -> Result<Value, EvalFault>
     ensures { Evaluates result (worth_of (trees.paired (code_of first.now) (code_of second.now)) (frames_of frames.now) (F.answers functions.now)) }
 {
-    let first = half(alloc, first, frames, functions)?;
-    paired(first, half(alloc, second, frames, functions))
+    let first = run(alloc, first, frames, functions)?;
+    let second = run(alloc, second, frames, functions);
+    paired(alloc, first, second)
 }
 
-/// The pair of two halves, or the fault in place of the second.
+/// The pair of two values, or the fault in place of the second.
 #[inline(always)]
-fn paired(first: Rc<Value>, second: Result<Rc<Value>, EvalFault>) -> Result<Value, EvalFault>
-    ensures { (worth : Evaluated Data) → EvaluatesAs (λ half. half.value) second worth → Evaluates result (followed worth (λ b. worth_as (pair_data first.value b))) }
+fn paired(alloc: Global, first: Value, second: Result<Value, EvalFault>) -> Result<Value, EvalFault>
+    ensures { (worth : Evaluated Data) → Evaluates second worth → Evaluates result (followed worth (λ b. worth_as (pair_data first b))) }
 {
-    Ok(Value::of_halves(first, second?))
+    Ok(Value::pair(alloc, first, second?)?)
 }
 
 /// What an operator makes of one code, or the first fault.
@@ -184,8 +190,30 @@ fn arithmetic<F: Holds>(
     }
 }
 
-/// The number that code is worth, none where it is worth another value, or the first fault: at once where it is a constant
-/// or a place.
+/// The number that arithmetic makes of what was found and a number, or its fault: the number 0 of what is no number.
+#[inline(always)]
+fn with_number(operator: Arithmetic, found: Found, number: i64) -> Result<i64, EvalFault>
+    ensures { EvaluatesAs (λ n. number_of n) result (operated_value (operators.Arithmetic operator) (found_value found.entry) (number_of number)) }
+{
+    match found.number() {
+        Some(own) => Ok(calculate(operator, own, number)?),
+        None => Ok(0),
+    }
+}
+
+/// The number that arithmetic makes of a number and what was found, or its fault: the number 0 of what is no number.
+#[inline(always)]
+fn number_with(operator: Arithmetic, number: i64, found: Found) -> Result<i64, EvalFault>
+    ensures { EvaluatesAs (λ n. number_of n) result (operated_value (operators.Arithmetic operator) (number_of number) (found_value found.entry)) }
+{
+    match found.number() {
+        Some(own) => Ok(calculate(operator, number, own)?),
+        None => Ok(0),
+    }
+}
+
+/// The number that code is worth, none where it is worth another value, or the first fault: at once where it is a constant,
+/// a place, or arithmetic between these.
 #[cycle(run)]
 #[inline(always)]
 fn number<F: Holds>(
@@ -199,6 +227,12 @@ fn number<F: Holds>(
     match code {
         Code::Constant(value) => Ok(number_in(value)),
         Code::Place(place) => Ok(frames.at(place).number()),
+        Code::WithNumber(operator, place, number) => {
+            counted(with_number(*operator, frames.at(place), *number))
+        }
+        Code::NumberWith(operator, number, place) => {
+            counted(number_with(*operator, *number, frames.at(place)))
+        }
         _ => number_run(alloc, code, frames, functions),
     }
 }
@@ -277,8 +311,7 @@ fn truth_found(found: Found) -> Option<bool>
 {
     match found {
         Found::Nothing => None,
-        Found::Whole(value) => is_true(value),
-        Found::Half(shared) => is_true(&**shared),
+        Found::Value(value) => is_true(value),
     }
 }
 
@@ -562,7 +595,7 @@ fn merge<F: Holds>(
     match payload_in(first) {
         Some(Some(left)) => match payload_in(second) {
             Some(Some(right)) => {
-                let both = pair_of(left, right)?;
+                let both = pair_of(alloc, left, right)?;
                 let made = answer(alloc, body, &both, frames, functions);
                 occurring(alloc, made)
             }
@@ -577,11 +610,13 @@ fn merge<F: Holds>(
     }
 }
 
-/// The pair of two values that stay shared.
-fn pair_of(first: &Rc<Value>, second: &Rc<Value>) -> Result<Value, AllocError>
-    ensures { IfOk result (λ both. both ≡ pair_data first.now.value second.now.value) }
+/// The pair of copies of two values, which share what they are made of.
+fn pair_of(alloc: Global, first: &Value, second: &Value) -> Result<Value, AllocError>
+    ensures { IfOk result (λ both. both ≡ pair_data first.now second.now) }
 {
-    Ok(Value::of_halves(first.clone()?, second.clone()?))
+    let first = first.clone_in(alloc)?;
+    let second = second.clone_in(alloc)?;
+    Value::pair(alloc, first, second)
 }
 
 /// What a function makes of the second value and the rows of a table, one after the other, or the first fault.
@@ -654,44 +689,4 @@ fn answered(answer: Result<Value, FunctionFault>) -> Result<Value, EvalFault>
         Err(FunctionFault::Refused) => Err(EvalFault::Value(ValueFault::Function)),
         Err(FunctionFault::Memory) => Err(EvalFault::Memory),
     }
-}
-
-/// What code is worth, as a half of a pair: a half of a frame's value is shared, and arithmetic makes its number there.
-#[cycle(run)]
-#[inline(always)]
-fn half<F: Holds>(
-    alloc: Global,
-    code: &Code,
-    frames: &Frames,
-    functions: &F,
-) -> Result<Rc<Value>, EvalFault>
-    ensures { EvaluatesAs (λ half. half.value) result (worth_of (code_of code.now) (frames_of frames.now) (F.answers functions.now)) }
-{
-    match code {
-        Code::Place(place) => found_half(alloc, frames.at(place)),
-        Code::Operation(left, Operator::Arithmetic(operator), right) => {
-            let number = arithmetic(alloc, left, *operator, right, frames, functions);
-            half_of(alloc, computed(number))
-        }
-        _ => half_of(alloc, run(alloc, code, frames, functions)),
-    }
-}
-
-/// What was found, as a half of a pair: a half stays shared.
-#[inline(always)]
-fn found_half(alloc: Global, found: Found) -> Result<Rc<Value>, EvalFault>
-    ensures { EvaluatesAs (λ half. half.value) result (worth_as (found_value found.entry)) }
-{
-    match found {
-        Found::Half(shared) => Ok(shared.clone()?),
-        found => Ok(Rc::new(alloc, found.value(alloc)?)?),
-    }
-}
-
-/// A value as a half of a pair, or the fault in its place.
-#[inline(always)]
-fn half_of(alloc: Global, value: Result<Value, EvalFault>) -> Result<Rc<Value>, EvalFault>
-    ensures { (worth : Evaluated Data) → Evaluates value worth → EvaluatesAs (λ half. half.value) result worth }
-{
-    Ok(Rc::new(alloc, value?)?)
 }

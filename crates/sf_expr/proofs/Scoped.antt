@@ -18,7 +18,8 @@ use Rattle.sf_expr.specs.Scopes.{entries_in, with_frame, entries_along, entries_
 
 -- ## The places of names
 
-same_both_ways : (x y : Name) → bytes_eq x y ≡ bytes_eq y x
+-- two names are the same or not, whichever stands first
+pub same_both_ways : (x y : Name) → bytes_eq x y ≡ bytes_eq y x
 same_both_ways x y = each (bytes_eq x y) (bytes_eq y x) (bytes_eq-Decides x y) (bytes_eq-Decides y x)
   where
     each : (b c : Bool) → Decides b (x ≡ y) → Decides c (y ≡ x) → b ≡ c

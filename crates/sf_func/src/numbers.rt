@@ -19,7 +19,7 @@ pub(crate) fn numbers_of(value: &Value) -> Option<(i64, i64)>
     ensures { result ≡ as_numbers value.now }
 {
     match value.form() {
-        Form::Pair(first, second) => Some((number_of(first)?, number_of(second)?)),
+        Form::Pair(halves) => Some((number_of(&halves.first)?, number_of(&halves.second)?)),
         _ => None,
     }
 }

@@ -5,3 +5,4 @@ pub mod Among
 pub mod Called
 pub mod Rebodied
 mod Numbers
+mod Located

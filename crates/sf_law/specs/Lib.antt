@@ -1,4 +1,5 @@
 pub mod Headers
+pub mod Places
 pub mod Entries
 pub mod Unique
 pub mod Arena

@@ -1,6 +1,9 @@
 -- That a node is coded has one proof at most, so a plan can keep it.
-use Rattle.std.specs.Prelude.{◌≡◌, refl, Result, Ok, Err, ◌∷◌, slice_index_or}
-use Rattle.std.specs.Coded.{Coded-set, code_by, coded_result, Unit-prop}
+use Rattle.std.specs.Prelude.{◌≡◌, ℕ, refl, Result, Ok, Err, Option, List, [], ◌∷◌, slice_index_or}
+use Rattle.std.specs.BTreeMap.{BTreeMap, get_by_text}
+use Rattle.std.specs.declared.alloc.Global.{Global}
+use Rattle.std.specs.declared.string.String.{String}
+use Rattle.std.specs.Coded.{Coded-set, code_by, coded_result, codes, Unit-prop}
 use Rattle.sf_value.specs.Values.{Data}
 use Rattle.sf_value.specs.declared.fault.ValueFault.{ValueFault}
 use Rattle.sf_value.specs.contracts.value.Value as values
@@ -25,6 +28,7 @@ use Rattle.sf_law.specs.declared.node.PlanNode.TheVariants as nodes
 use Rattle.sf_law.specs.declared.node.PlanPrimitive.{PlanPrimitive}
 use Rattle.sf_law.specs.declared.node.PlanPrimitive.TheVariants as primitives
 use Rattle.sf_law.specs.Headers.{ParameterHeader, PlanHeader}
+use Rattle.sf_law.specs.Places.{names_of_parameters, last_parameter, ArePlaces}
 use Rattle.sf_law.specs.Entries.{IsCodedChain, IsCodedPrimitive, IsCodedArgument, IsCoded, BindsNames}
 
 -- an evaluation as a result, and back
@@ -98,3 +102,12 @@ IsCoded-prop x (nodes.Headed h e c a) = IsCodeOf-prop (expression x e) c
 IsCoded-prop x (nodes.Switching w a q b) = Unit-prop
 IsCoded-prop x (nodes.Keeping w a o k q b) = Unit-prop
 IsCoded-prop x (nodes.Pipeline v) = Unit-prop
+
+place-set : (a b : Option ℕ) → IsProp (a ≡ b)
+place-set = Coded-set (Prim.hlevel codes)
+
+pub ArePlaces-prop : (x : Exprs) (hs : List PlanHeader) (ps : List (BTreeMap (String Global) ℕ)) → IsProp (ArePlaces x hs ps)
+ArePlaces-prop x [] [] = Unit-prop
+ArePlaces-prop x [] (p ∷ ps) = λ a. absurd a
+ArePlaces-prop x (h ∷ hs) [] = λ a. absurd a
+ArePlaces-prop x (h ∷ hs) (p ∷ ps) = λ a b i. ((λ y. place-set (get_by_text p y) (last_parameter y (names_of_parameters x h.parameters)) (a.0 y) (b.0 y) i), ArePlaces-prop x hs ps a.1 b.1 i)

@@ -2,6 +2,7 @@
 #![tactic(auto)]
 
 mod node;
+mod places;
 mod plain_plan;
 mod plan;
 mod template;

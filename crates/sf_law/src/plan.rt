@@ -6,17 +6,20 @@ ghost use Rattle.sf_law.specs.declared.node.PlanNode.TheVariants.{Primitive as p
 ghost use Rattle.sf_term.specs.Trees.{primitive, bare};
 ghost use Rattle.std.specs.Prelude.{map};
 ghost use Rattle.sf_law.specs.Headers.{place_named, rebodied, NumbersFirst, no_header};
+ghost use Rattle.sf_law.specs.Places.{last_parameter, names_of_parameters, ArePlaces};
 ghost use Rattle.sf_law.specs.Entries.{ArePlanNodes, AreWithin, BindsNames, IsCoded, is_whole, is_within, calls_first, parts_end};
-ghost use Rattle.sf_law.specs.Unique.{IsCoded-prop, BindsNames-prop};
+ghost use Rattle.sf_law.specs.Unique.{IsCoded-prop, BindsNames-prop, ArePlaces-prop};
 ghost use Rattle.std.proofs.Props.{props};
 
 use crate::node::{PlanId, PlanNode, PlanPrimitive, TemplateId};
+use crate::places::{all_places, place_in};
 use crate::template::{PlanTemplate, first_templates, put_bodies};
 use indexmap::IndexMap;
 use sf_expr::Exprs;
 use sf_term::Bare;
 use sf_value::Ty;
 use std::alloc::{AllocError, Global};
+use std::collections::BTreeMap;
 
 /// The network that is run: its terms with their expressions and functions, its templates, and the term that is run.
 pub struct Plan {
@@ -24,6 +27,7 @@ pub struct Plan {
     nodes: Vec<PlanNode>,
     templates: Vec<PlanTemplate>,
     numbers: IndexMap<String, usize>,
+    places: Vec<BTreeMap<String, usize>>,
     main: PlanId,
     anew: bool,
     identity: PlanNode,
@@ -32,6 +36,7 @@ pub struct Plan {
     ghost within: { AreWithin anew nodes.items },
     ghost bound: { All (BindsNames expressions) templates.items } by { Prim.hlevel (props, BindsNames-prop) },
     ghost numbered: { NumbersFirst numbers templates.items },
+    ghost placed: { ArePlaces expressions templates.items places.items } by { Prim.hlevel (props, ArePlaces-prop) },
     ghost same: { identity ≡ primitive_node (bare_node identity_form) },
     ghost nothing: { absent ≡ no_header },
 }
@@ -43,6 +48,7 @@ impl Drop for Plan {
             nodes,
             templates,
             numbers,
+            places,
             main: _,
             anew: _,
             identity,
@@ -52,6 +58,7 @@ impl Drop for Plan {
         drop(nodes);
         drop(templates);
         drop(numbers);
+        drop(places);
         drop(identity);
         drop(absent);
     }
@@ -75,11 +82,13 @@ impl Plan {
         ensures anew { IfOk result (λ plan. plan_anew plan ≡ false) }
     {
         let numbers = first_templates(alloc, &templates)?;
+        let places = all_places(alloc, &expressions, &templates)?;
         Ok(Plan {
             expressions,
             nodes: Vec::new(alloc),
             templates,
             numbers,
+            places,
             main: PlanId(0),
             anew: false,
             identity: PlanNode::Primitive(PlanPrimitive::Bare(Bare::Identity)),
@@ -178,6 +187,16 @@ impl Plan {
         match self.templates.get(id.0) {
             Some(template) => template,
             None => &self.absent,
+        }
+    }
+
+    /// The place of the last parameter of a name in a template, from 0; none where it has none of that name.
+    pub fn place(&self, id: TemplateId, name: &str) -> Option<usize>
+        ensures { result ≡ last_parameter name.now (names_of_parameters (plan_expressions self.now) (header_at self.now id).parameters) }
+    {
+        match self.places.get(id.0) {
+            Some(places) => place_in(places, name),
+            None => None,
         }
     }
 

@@ -31,11 +31,11 @@ pub fn number_in(value: &Value) -> Option<i64>
 }
 
 /// The halves of a pair; none of another value.
-pub(crate) fn halves_in(value: &Value) -> Option<(&Rc<Value>, &Rc<Value>)>
-    ensures { option_map (λ h. (h.0.now.value, h.1.now.value)) result ≡ the_halves_in value.now }
+pub(crate) fn halves_in(value: &Value) -> Option<(&Value, &Value)>
+    ensures { option_map (λ h. (h.0.now, h.1.now)) result ≡ the_halves_in value.now }
 {
     match value.form() {
-        Form::Pair(first, second) => Some((first, second)),
+        Form::Pair(halves) => Some((&halves.first, &halves.second)),
         _ => None,
     }
 }

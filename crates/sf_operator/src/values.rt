@@ -13,7 +13,6 @@ use crate::parts::{halves_in, is_true, key_in, number_in, order_of, payload_in, 
 use sf_value::{Form, Key, Value, ValueFault, same};
 use std::alloc::Global;
 use std::cmp::Ordering;
-use std::rc::Rc;
 
 /// What stands where an operator makes no sense.
 fn nonsense() -> Value
@@ -163,14 +162,14 @@ fn tag(alloc: Global, event: &Value, value: &Value) -> Result<Value, EvalFault>
     }
 }
 
-/// An event with a value beside its payload, which is shared.
+/// An event with a value beside its payload.
 fn attach(alloc: Global, event: &Value, value: &Value) -> Result<Value, EvalFault>
     ensures { Evaluates result (operated Operator.Attach event.now value.now) }
 {
     match payload_in(event) {
         Some(Some(payload)) => {
-            let value = Rc::new(alloc, value.clone_in(alloc)?)?;
-            Ok(Value::event(alloc, Value::of_halves(payload.clone()?, value))?)
+            let both = Value::pair(alloc, payload.clone_in(alloc)?, value.clone_in(alloc)?)?;
+            Ok(Value::event(alloc, both)?)
         }
         Some(None) => Ok(Value::no_event()),
         None => Ok(nonsense()),

@@ -1,6 +1,7 @@
 -- The arguments of a call, bound one after another.
-use Rattle.std.proofs.Common.{◌≡◌, Bool, true, false, ◌&&◌, IsTrue, List, [], ◌∷◌, map, length, Result, Ok, Err, refl, sym, ap, ◌∙◌, subst, arith, ◌⊎◌, inl, inr}
+use Rattle.std.proofs.Common.{◌≡◌, Bool, true, false, ◌&&◌, IsTrue, List, [], ◌∷◌, ◌++◌, map, length, append_assoc, Result, Ok, Err, refl, sym, ap, ◌∙◌, subst, arith, ◌⊎◌, inl, inr}
 use Rattle.std.specs.Prelude.{Some, IsErrAnd}
+use Rattle.std.proofs.lemmas.List.{append-nil}
 use Rattle.sf_value.specs.Values.{Name, Data}
 use Rattle.sf_value.specs.declared.fault.ValueFault.{ValueFault}
 use Rattle.sf_value.specs.declared.fault.Fault.{Fault}
@@ -11,31 +12,33 @@ use Rattle.sf_operator.specs.Answers.{Evaluates}
 use Rattle.sf_expr.specs.declared.exprs.ExprId.{ExprId}
 use Rattle.sf_expr.specs.declared.exprs.NameId.{NameId}
 use Rattle.sf_expr.specs.Evaluation.{Evaluated, Scope, answer, failed, ◌>>=◌, eval}
-use Rattle.sf_expr.specs.Arena.{expression, name_at, placed_at}
-use Rattle.sf_expr.specs.Patterns.{pattern_of}
+use Rattle.sf_expr.specs.Arena.{expression, name_at}
 use Rattle.sf_code.specs.declared.open.OpenCode.{OpenCode}
 use Rattle.sf_code.specs.Names.{scope_with}
 use Rattle.sf_term.specs.declared.form.Start.{Start}
 use Rattle.sf_term.specs.Parameters.{NameKind, Bindings}
 use Rattle.sf_term.specs.Trees.{no_arguments}
-use Rattle.sf_mean.specs.Lives.{Process, closure, Environment, empty, known, running, bind, process_started, scope_around}
+use Rattle.sf_mean.specs.Lives.{Process, closure, Environment, empty, known, running, process_started, scope_around}
 use Rattle.sf_mean.specs.Meaning.{argued, process_called}
 use Rattle.sf_law.specs.declared.node.PlanId.{PlanId}
 use Rattle.sf_law.specs.declared.node.PlanArgument.{PlanArgument}
 use Rattle.sf_law.specs.declared.node.PlanArgument.TheVariants.{Value, Started, Closed}
 use Rattle.sf_law.specs.declared.plan.Plan.{Plan}
 use Rattle.sf_law.specs.Headers.{ParameterHeader, PlanHeader}
-use Rattle.sf_law.specs.Entries.{BindsName}
+use Rattle.sf_law.specs.Places.{names_of_parameters}
 use Rattle.sf_law.specs.Arena.{plan_tree, plan_expressions, plan_binding, plan_template, plan_arguments}
 use Rattle.sf_law.proofs.Called.{argued_closed}
 use Rattle.sf_state.specs.declared.state.State.{State}
 use Rattle.sf_state.specs.declared.state.State.TheVariants.{Unborn}
 use Rattle.sf_state.specs.declared.env.Env.{Env}
 use Rattle.sf_state.specs.Names.{values_around}
-use Rattle.sf_state.specs.Standing.{IsNames, Stands, itself, unborn, is_closure, closed_over}
+use Rattle.sf_state.specs.declared.env.Handed.{Handed}
+use Rattle.sf_state.specs.declared.env.Given.{Given}
+use Rattle.sf_state.specs.declared.env.Given.TheVariants.{Value as GValue, Process as GProcess}
+use Rattle.sf_state.specs.Standing.{IsNames, AreGiven, nothing_given, value_is_given, process_is_given, IsHanded, Stands, itself, unborn, is_closure, closed_over}
 use Rattle.sf_state.proofs.Scopes.{scope_is}
 use Rattle.sf_parts.specs.Answering.{fault_from}
-use Rattle.sf_parts.specs.Beginning.{Makes, makes, makes_fault, makes_nothing}
+use Rattle.sf_parts.specs.Beginning.{Makes, makes, makes_fault, makes_nothing, GivesOne}
 
 -- ## What goes on after an evaluation
 
@@ -74,41 +77,65 @@ module _ (φ : AnswersByName) (p : Plan) where
     one_fault (Started w k) x h = absurd cc
     one_fault (Closed a) x h = let is : answer (running q.0 (closure (plan_tree p a) e) d) ≡ failed x = sym (argued_closed φ q [] (plan_tree p a) no_arguments e d) ∙ h in absurd cc
 
-  -- the names so far, and inside them a parameter that is bound to an argument
-  abbrev pub BindsOne : ParameterHeader → PlanArgument → (names bound : Env) → Result Env Fault → Type 0
-  BindsOne q v names bound r = (e d : Environment) → IsNames φ p names e → IsNames φ p bound d → Makes (IsNames φ p) (argued φ (plan_binding p q ∷ []) (plan_arguments p (v ∷ [])) e d) r
-
   -- the scope around a call, as its names have it
   abbrev scope_in : Env → Scope
-  scope_in names = scope_with (values_around (plan_expressions p) names) φ
+  scope_in names = scope_with (values_around p names) φ
 
-  module _ (q : ParameterHeader) (names bound : Env) where
+  module _ (q : ParameterHeader) (names : Env) where
     abbrev name : Name
     name = name_at (plan_expressions p) q.name
 
-    pub value_bound : (i : ExprId) (c : OpenCode) (inner : Env) (v w : Data) → BindsName (plan_expressions p) q → eval (expression (plan_expressions p) i) (scope_in names) ≡ answer v → w ≡ v
-        → ((d : Environment) → IsNames φ p bound d → IsNames φ p inner (bind (pattern_of (placed_at (plan_expressions p) q.pattern)) w d)) → BindsOne q (Value i c) names bound (Ok inner)
-    value_bound i c inner v w alone h same f e d N M =
+    pub value_given : (i : ExprId) (c : OpenCode) (v w : Data) → eval (expression (plan_expressions p) i) (scope_in names) ≡ answer v → w ≡ v → GivesOne φ p q (Value i c) names (Ok (GValue w))
+    value_given i c v w h same e d N =
         makes (ap (λ s. eval (expression (plan_expressions p) i) s >>= λ v. answer (known name v d)) (sym (scope_is φ p names e N)) ∙ ap (λ o. o >>= λ v. answer (known name v d)) h)
-        (subst (λ d. IsNames φ p inner d) (ap (λ r. bind r w d) alone ∙ ap (λ v. known name v d) same) (f d M))
+        (subst (λ v. AreGiven φ p (name ∷ []) (GValue w ∷ []) d (known name v d)) same (value_is_given nothing_given))
 
-    pub value_fails : (i : ExprId) (c : OpenCode) (f : EvalFault) → Evaluates (Err f) (eval (expression (plan_expressions p) i) (scope_in names)) → BindsOne q (Value i c) names bound (Err (fault_from f))
-    value_fails i c (EValue x) h e d N M =
+    pub value_fails : (i : ExprId) (c : OpenCode) (f : EvalFault) → Evaluates (Err f) (eval (expression (plan_expressions p) i) (scope_in names)) → GivesOne φ p q (Value i c) names (Err (fault_from f))
+    value_fails i c (EValue x) h e d N =
         makes_fault (ap (λ s. eval (expression (plan_expressions p) i) s >>= λ v. answer (known name v d)) (sym (scope_is φ p names e N)) ∙ ap (λ o. o >>= λ v. answer (known name v d)) h)
-    value_fails i c EMemory h e d N M = makes_nothing
+    value_fails i c EMemory h e d N = makes_nothing
 
-    pub started_bound : (w : Start) (k : NameId) (inner : Env) → ((e : Environment) (d : Environment) → IsNames φ p names e → IsNames φ p bound d → IsNames φ p inner (running name (process_started w (name_at (plan_expressions p) k) e) d))
-        → BindsOne q (Started w k) names bound (Ok inner)
-    started_bound w k inner f e d N M = makes refl (f e d N M)
+    pub started_given : (w : Start) (k : NameId) (h : Handed) → ((e : Environment) → IsNames φ p names e → IsHanded φ p h (process_started w (name_at (plan_expressions p) k) e)) → GivesOne φ p q (Started w k) names (Ok (GProcess h))
+    started_given w k h f e d N = let g = f e N in makes refl (process_is_given g.0 g.1 nothing_given)
 
-    pub closed_bound : (a : PlanId) (inner : Env) → ((e : Environment) (d : Environment) → IsNames φ p names e → IsNames φ p bound d → IsNames φ p inner (running name (closure (plan_tree p a) e) d))
-        → BindsOne q (Closed a) names bound (Ok inner)
-    closed_bound a inner f e d N M = makes (argued_closed φ (plan_binding p q) [] (plan_tree p a) no_arguments e d) (f e d N M)
+    pub closed_given : (a : PlanId) (h : Handed) → ((e : Environment) → IsNames φ p names e → IsHanded φ p h (closure (plan_tree p a) e)) → GivesOne φ p q (Closed a) names (Ok (GProcess h))
+    closed_given a h f e d N = let g = f e N in makes (argued_closed φ (plan_binding p q) [] (plan_tree p a) no_arguments e d) (process_is_given g.0 g.1 nothing_given)
+
+  -- a parameter that stands for what is given, inside other names
+  module _ (x : Name) (bound inner : Env) where
+    pub value_inside : (v : Data) → ((d : Environment) → IsNames φ p bound d → IsNames φ p inner (known x v d)) → (d e : Environment) → IsNames φ p bound d → AreGiven φ p (x ∷ []) (GValue v ∷ []) d e → IsNames φ p inner e
+    value_inside v f d e M (value_is_given nothing_given) = f d M
+
+    pub process_inside : (h : Handed) → ((d : Environment) (P : Process) → IsNames φ p bound d → IsHanded φ p h P → IsNames φ p inner (running x P d)) → (d e : Environment) → IsNames φ p bound d → AreGiven φ p (x ∷ []) (GProcess h ∷ []) d e → IsNames φ p inner e
+    process_inside h f d e M (process_is_given {P = P} A B nothing_given) = f d P M (A, B)
+
+  -- what is given stands before what is given after it
+  given_before : (x : Name) (g : Given) (xs : List Name) (gs : List Given) (d b e : Environment) → AreGiven φ p (x ∷ []) (g ∷ []) d b → AreGiven φ p xs gs b e → AreGiven φ p (x ∷ xs) (g ∷ gs) d e
+  given_before x g xs gs d b e (value_is_given nothing_given) G = value_is_given G
+  given_before x g xs gs d b e (process_is_given A B nothing_given) G = process_is_given A B G
 
 -- The first arguments are bound: those that are left go on from the names that these stand for.
 pub record Binds (φ : AnswersByName) (p : Plan) (qs : List ParameterHeader) (vs : List PlanArgument) (e : Environment) (ps : List ParameterHeader) (us : List PlanArgument) (bound : Env) : Type 0 where
   pub inner : Environment
   pub stand : IsNames φ p bound inner
+  pub rest : argued φ (map (plan_binding p) qs) (plan_arguments p vs) e empty ≡ argued φ (map (plan_binding p) ps) (plan_arguments p us) e inner
+
+-- an argument that fails fails the call
+given_fails : (φ : AnswersByName) (p : Plan) (qs : List ParameterHeader) (vs : List PlanArgument) (e : Environment) (ps ps' : List ParameterHeader) (us us' : List PlanArgument) (d : Environment) (q : ParameterHeader) (v : PlanArgument)
+    → argued φ (map (plan_binding p) qs) (plan_arguments p vs) e empty ≡ argued φ (plan_binding p q ∷ map (plan_binding p) ps') (plan_arguments p (v ∷ us')) e d
+    → (names : Env) (f : Fault) → IsNames φ p names e → GivesOne φ p q v names (Err f) → Makes (IsNames φ p) (argued φ (map (plan_binding p) qs) (plan_arguments p vs) e empty) (Err f)
+given_fails φ p qs vs e ps ps' us us' d q v next_is names f N g = by f (g e d N)
+  where
+    by : (f : Fault) → Makes (λ g b. AreGiven φ p (name_at (plan_expressions p) q.name ∷ []) (g ∷ []) d b) (argued φ (plan_binding p q ∷ []) (plan_arguments p (v ∷ [])) e d) (Err f)
+        → Makes (IsNames φ p) (argued φ (map (plan_binding p) qs) (plan_arguments p vs) e empty) (Err f)
+    by f (makes_fault {x = x} h) = makes_fault (next_is ∙ one_fault φ p (plan_binding p q) (map (plan_binding p) ps') us' e d v x h)
+    by f makes_nothing = makes_nothing
+
+-- The same of what is given side by side.
+pub record Gives (φ : AnswersByName) (p : Plan) (qs : List ParameterHeader) (vs : List PlanArgument) (e : Environment) (ps : List ParameterHeader) (us : List PlanArgument) (given : List Given) : Type 0 where
+  pub inner : Environment
+  pub long : length us ≡ length ps
+  pub stand : (gs : List Given) (b : Environment) → AreGiven φ p (names_of_parameters (plan_expressions p) ps) gs inner b → AreGiven φ p (names_of_parameters (plan_expressions p) qs) (given ++ gs) empty b
   pub rest : argued φ (map (plan_binding p) qs) (plan_arguments p vs) e empty ≡ argued φ (map (plan_binding p) ps) (plan_arguments p us) e inner
 
 module _ (φ : AnswersByName) (p : Plan) (qs : List ParameterHeader) (vs : List PlanArgument) (e : Environment) where
@@ -130,18 +157,15 @@ module _ (φ : AnswersByName) (p : Plan) (qs : List ParameterHeader) (vs : List 
         B.rest ∙ ap (λ qs. argued φ (map (plan_binding p) qs) (plan_arguments p us) e B.inner) parameters
         ∙ ap (λ vs. argued φ (plan_binding p q ∷ map (plan_binding p) ps') (plan_arguments p vs) e B.inner) arguments
 
-    pub next_bound : (names inner : Env) → IsNames φ p names e → BindsOne φ p q v names bound (Ok inner) → Binds φ p qs vs e ps' us' inner
-    next_bound names inner N f = by (f e B.inner N B.stand)
+    pub next_bound : (names : Env) (g : Given) (inner : Env) → IsNames φ p names e → GivesOne φ p q v names (Ok g)
+        → ((d b : Environment) → IsNames φ p bound d → AreGiven φ p (name_at (plan_expressions p) q.name ∷ []) (g ∷ []) d b → IsNames φ p inner b) → Binds φ p qs vs e ps' us' inner
+    next_bound names g inner N f inside = by (f e B.inner N)
       where
-        by : Makes (IsNames φ p) (argued φ (plan_binding p q ∷ []) (plan_arguments p (v ∷ [])) e B.inner) (Ok inner) → Binds φ p qs vs e ps' us' inner
-        by (makes {b = d} h M) = record { inner = d; stand = M; rest = next_is ∙ one_answer φ p (plan_binding p q) (map (plan_binding p) ps') us' e B.inner v d h }
+        by : Makes (λ g b. AreGiven φ p (name_at (plan_expressions p) q.name ∷ []) (g ∷ []) B.inner b) (argued φ (plan_binding p q ∷ []) (plan_arguments p (v ∷ [])) e B.inner) (Ok g) → Binds φ p qs vs e ps' us' inner
+        by (makes {b = b} h G) = record { inner = b; stand = inside B.inner b B.stand G; rest = next_is ∙ one_answer φ p (plan_binding p q) (map (plan_binding p) ps') us' e B.inner v b h }
 
-    next_fails : (names : Env) (f : Fault) → IsNames φ p names e → BindsOne φ p q v names bound (Err f) → Makes (IsNames φ p) all_argued (Err f)
-    next_fails names f N g = by f (g e B.inner N B.stand)
-      where
-        by : (f : Fault) → Makes (IsNames φ p) (argued φ (plan_binding p q ∷ []) (plan_arguments p (v ∷ [])) e B.inner) (Err f) → Makes (IsNames φ p) all_argued (Err f)
-        by f (makes_fault {x = x} h) = makes_fault (next_is ∙ one_fault φ p (plan_binding p q) (map (plan_binding p) ps') us' e B.inner v x h)
-        by f makes_nothing = makes_nothing
+    pub next_fails : (names : Env) (f : Fault) → IsNames φ p names e → GivesOne φ p q v names (Err f) → Makes (IsNames φ p) all_argued (Err f)
+    next_fails names f N g = given_fails φ p qs vs e ps ps' us us' B.inner q v next_is names f N g
 
   -- no parameter is left, or no argument
   none_left : (ps : List ParameterHeader) (us : List PlanArgument) (d : Environment) → (length ps ≡ 0) ⊎ (length us ≡ 0) → argued φ (map (plan_binding p) ps) (plan_arguments p us) e d ≡ answer d
@@ -149,6 +173,49 @@ module _ (φ : AnswersByName) (p : Plan) (qs : List ParameterHeader) (vs : List 
   none_left (q ∷ ps) [] d h = refl
   none_left (q ∷ ps) (v ∷ us) d (inl h) = absurd (omega arith)
   none_left (q ∷ ps) (v ∷ us) d (inr h) = absurd (omega arith)
+
+  pub all_bound : (ps : List ParameterHeader) (us : List PlanArgument) (bound : Env) → Binds φ p qs vs e ps us bound → (length ps ≡ 0) ⊎ (length us ≡ 0) → Makes (IsNames φ p) all_argued (Ok bound)
+  all_bound ps us bound B left = makes (B.rest ∙ none_left ps us B.inner left) B.stand
+
+  -- ## The same, side by side
+
+  pub none_given : (ps : List ParameterHeader) (us : List PlanArgument) (given : List Given) → ps ≡ qs → us ≡ vs → length vs ≡ length qs → given ≡ [] → Gives φ p qs vs e ps us given
+  none_given ps us given parameters arguments long nothing = record {
+    inner = empty;
+    long = ap length arguments ∙ long ∙ ap length (sym parameters);
+    stand = λ gs b G. subst (λ hs. AreGiven φ p (names_of_parameters (plan_expressions p) qs) (hs ++ gs) empty b) (sym nothing) (subst (λ qs. AreGiven φ p (names_of_parameters (plan_expressions p) qs) gs empty b) parameters G);
+    rest = ap (λ qs. argued φ (map (plan_binding p) qs) (plan_arguments p vs) e empty) (sym parameters) ∙ ap (λ vs. argued φ (map (plan_binding p) ps) (plan_arguments p vs) e empty) (sym arguments);
+  }
+
+  module _ (ps ps' : List ParameterHeader) (us us' : List PlanArgument) (given : List Given) (q : ParameterHeader) (v : PlanArgument) (parameters : ps ≡ q ∷ ps') (arguments : us ≡ v ∷ us') (B : Gives φ p qs vs e ps us given) where
+    given_next : all_argued ≡ argued φ (plan_binding p q ∷ map (plan_binding p) ps') (plan_arguments p (v ∷ us')) e B.inner
+    given_next =
+        B.rest ∙ ap (λ qs. argued φ (map (plan_binding p) qs) (plan_arguments p us) e B.inner) parameters
+        ∙ ap (λ vs. argued φ (plan_binding p q ∷ map (plan_binding p) ps') (plan_arguments p vs) e B.inner) arguments
+
+    pub next_given : (names : Env) (g : Given) (more : List Given) → IsNames φ p names e → GivesOne φ p q v names (Ok g) → more ≡ given ++ g ∷ [] → Gives φ p qs vs e ps' us' more
+    next_given names g more N f put = by (f e B.inner N)
+      where
+        by : Makes (λ g b. AreGiven φ p (name_at (plan_expressions p) q.name ∷ []) (g ∷ []) B.inner b) (argued φ (plan_binding p q ∷ []) (plan_arguments p (v ∷ [])) e B.inner) (Ok g) → Gives φ p qs vs e ps' us' more
+        by (makes {b = b} h G) = record {
+          inner = b;
+          long = let here : length (v ∷ us') ≡ length (q ∷ ps') = ap length (sym arguments) ∙ B.long ∙ ap length parameters in omega (arith, here);
+          stand = λ gs a H.
+              let first = subst (λ ps. AreGiven φ p (names_of_parameters (plan_expressions p) ps) (g ∷ gs) B.inner a) (sym parameters) (given_before φ p (name_at (plan_expressions p) q.name) g (names_of_parameters (plan_expressions p) ps') gs B.inner b a G H) in
+              subst (λ hs. AreGiven φ p (names_of_parameters (plan_expressions p) qs) hs empty a) (sym (ap (λ hs. hs ++ gs) put ∙ append_assoc given (g ∷ []) gs)) (B.stand (g ∷ gs) a first);
+          rest = given_next ∙ one_answer φ p (plan_binding p q) (map (plan_binding p) ps') us' e B.inner v b h;
+        }
+
+    pub next_not_given : (names : Env) (f : Fault) → IsNames φ p names e → GivesOne φ p q v names (Err f) → Makes (IsNames φ p) all_argued (Err f)
+    next_not_given names f N g = given_fails φ p qs vs e ps ps' us us' B.inner q v given_next names f N g
+
+  pub all_given : (ps : List ParameterHeader) (us : List PlanArgument) (given : List Given) (bound : Env) → Gives φ p qs vs e ps us given → (length ps ≡ 0) ⊎ (length us ≡ 0)
+      → ((b : Environment) → AreGiven φ p (names_of_parameters (plan_expressions p) qs) given empty b → IsNames φ p bound b) → Makes (IsNames φ p) all_argued (Ok bound)
+  all_given [] [] given bound B left stands = makes (B.rest) (stands B.inner (subst (λ hs. AreGiven φ p (names_of_parameters (plan_expressions p) qs) hs empty B.inner) (append-nil given) (B.stand [] B.inner nothing_given)))
+  all_given [] (v ∷ us) given bound B left stands = let long = B.long in absurd (omega (arith, long))
+  all_given (q ∷ ps) [] given bound B left stands = let long = B.long in absurd (omega (arith, long))
+  all_given (q ∷ ps) (v ∷ us) given bound B (inl h) stands = absurd (omega arith)
+  all_given (q ∷ ps) (v ∷ us) given bound B (inr h) stands = absurd (omega arith)
 
 module _ (φ : AnswersByName) (p : Plan) (h : PlanHeader) (vs : List PlanArgument) (e : Environment) where
   -- what stands in the place of a call
@@ -158,15 +225,14 @@ module _ (φ : AnswersByName) (p : Plan) (h : PlanHeader) (vs : List PlanArgumen
   abbrev body_in : Environment → Evaluated Process
   body_in d = answer (closure (plan_tree p h.body) d)
 
-  module _ (ps : List ParameterHeader) (us : List PlanArgument) (bound : Env) (B : Binds φ p h.parameters vs e ps us bound) where
-    pub called_so : (body : PlanId) → body ≡ h.body → (length ps ≡ 0) ⊎ (length us ≡ 0) → StandsCalled (Ok (Unborn (closed_over body bound)))
-    called_so body same left =
-        makes (ap (λ w. w >>= body_in) (B.rest ∙ none_left φ p h.parameters vs e ps us B.inner left))
-        (subst (λ t. Stands φ p (Unborn (closed_over t bound)) (closure (plan_tree p h.body) B.inner) []) (sym same) (itself (unborn (is_closure B.stand))))
+  abbrev parameters_argued : Evaluated Environment
+  parameters_argued = argued φ (map (plan_binding p) h.parameters) (plan_arguments p vs) e empty
 
-    pub called_fails : (ps' : List ParameterHeader) (us' : List PlanArgument) (q : ParameterHeader) (v : PlanArgument) → ps ≡ q ∷ ps' → us ≡ v ∷ us' → (names : Env) (f : Fault) → IsNames φ p names e → BindsOne φ p q v names bound (Err f) → StandsCalled (Err f)
-    called_fails ps' us' q v parameters arguments names f N g = by f (next_fails φ p h.parameters vs e ps ps' us us' bound q v parameters arguments B names f N g)
-      where
-        by : (f : Fault) → Makes (IsNames φ p) (argued φ (map (plan_binding p) h.parameters) (plan_arguments p vs) e empty) (Err f) → StandsCalled (Err f)
-        by f (makes_fault w) = makes_fault (ap (λ w. w >>= body_in) w)
-        by f makes_nothing = makes_nothing
+  pub called_so : (body : PlanId) (bound : Env) → body ≡ h.body → Makes (IsNames φ p) parameters_argued (Ok bound) → StandsCalled (Ok (Unborn (closed_over body bound)))
+  called_so body bound same (makes {b = d} w N) =
+      makes (ap (λ w. w >>= body_in) w)
+      (subst (λ t. Stands φ p (Unborn (closed_over t bound)) (closure (plan_tree p h.body) d) []) (sym same) (itself (unborn (is_closure N))))
+
+  pub called_fails : (f : Fault) → Makes (IsNames φ p) parameters_argued (Err f) → StandsCalled (Err f)
+  called_fails f (makes_fault w) = makes_fault (ap (λ w. w >>= body_in) w)
+  called_fails f makes_nothing = makes_nothing

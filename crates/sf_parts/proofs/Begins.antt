@@ -95,7 +95,7 @@ module _ (φ : AnswersByName) (p : Plan) where
 
   -- the scope around a part, as its names have it
   abbrev scope_in : Env → Scope
-  scope_in names = scope_with (values_around (plan_expressions p) names) φ
+  scope_in names = scope_with (values_around p names) φ
 
   pub open_prim : (q : PlanPrimitive) (t : Term) (names : Env) (i : PrimState) → BuildsPlan p (NPrimitive q) t → (IsCodedPrimitive (plan_expressions p) q → Begins (scope_in names) (primitive_over (plan_expressions p) q) (Ok i))
       → (e : Environment) → IsNames φ p names e → Opens φ p t e (Ok (opened.Primitive i))
@@ -114,9 +114,10 @@ module _ (φ : AnswersByName) (p : Plan) where
       opens same (λ x. ready refl not_begun (lives_join O A B))
 
   -- a node of two parts opens as they do
-  pub open_joined : (j : Join) (a b : PlanId) (t : Term) (names : Env) (l : Rc Live Global) → BuildsPlan p (NJoined j a b) t → ((e : Environment) → IsNames φ p names e → Opens φ p (joined j (plan_tree p a) (plan_tree p b)) e (Ok (opened.Live l)))
-      → (e : Environment) → IsNames φ p names e → Opens φ p t e (Ok (opened.Live l))
-  open_joined j a b t names l builds_joined h = h
+  pub open_joined : (j : Join) (a b : PlanId) (t : Term) (names : Env) (r : Result Opened Fault) → BuildsPlan p (NJoined j a b) t
+      → ((e : Environment) → IsNames φ p names e → Opens φ p (joined j (plan_tree p a) (plan_tree p b)) e r)
+      → (e : Environment) → IsNames φ p names e → Opens φ p t e r
+  open_joined j a b t names r builds_joined h = h
 
   pub open_wrap : (w : Wrap) (a : PlanId) (names inner : Env) (l : Rc Live Global) → l.value ≡ LWrap w (Unborn (SClosure a inner)) → ((e : Environment) → IsNames φ p names e → IsNames φ p inner e)
       → (t : Term) (e : Environment) (m : Made) → IsNames φ p names e → ((x : Data) → make net t e x ≡ answer m) → Wraps net w t e m [] (plan_tree p a) [] → Opens φ p t e (Ok (opened.Live l))
@@ -178,8 +179,8 @@ module _ (φ : AnswersByName) (p : Plan) where
   open_started w k t names a builds_started f e N = opens_running refl refl (f e N)
 
   -- a probe keeps nothing
-  pub open_probe : (r r' : Rc (String Global) Global) (t : Term) (names : Env) (l : Rc Live Global) → l.value ≡ LProbe r' → BuildsPlan p (NProbe r) t → r'.value ≡ r.value → (e : Environment) → IsNames φ p names e → Opens φ p t e (Ok (opened.Live l))
-  open_probe r r' t names l there builds_probe same e N =
+  pub open_probe : (r r' : Rc (String Global) Global) (t : Term) (l : Rc Live Global) → l.value ≡ LProbe r' → BuildsPlan p (NProbe r) t → r'.value ≡ r.value → (e : Environment) → Opens φ p t e (Ok (opened.Live l))
+  open_probe r r' t l there builds_probe same e =
       let name : string_bytes r'.value ≡ string_bytes r.value = ap (λ (s : String Global). string_bytes s) same in
       subst (λ n. Opens φ p (primitive (probe n)) e (Ok (opened.Live l))) name (opens there (λ x. ready refl not_begun lives_probe))
 

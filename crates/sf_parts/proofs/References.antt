@@ -10,7 +10,7 @@ use Rattle.sf_law.specs.declared.node.PlanId.{PlanId}
 use Rattle.sf_law.specs.Arena.{plan_tree}
 use Rattle.sf_state.specs.declared.state.State.{State}
 use Rattle.sf_state.specs.declared.env.Env.TheVariants.{Empty as SEmpty}
-use Rattle.sf_state.specs.declared.env.Running.{Running}
+use Rattle.sf_state.specs.declared.env.Handed.{Handed}
 use Rattle.sf_state.specs.Standing.{closed_over as SClosure, Stands, IsFound, IsProcess, is_closure, is_empty}
 
 -- what holds of a result holds where more is asked of it
@@ -20,13 +20,13 @@ when_ok (Err e) f h = tt
 
 module _ (φ : AnswersByName) (p : Plan) where
   -- the process that was found, or what passes inputs on
-  pub passing_process : (r : Option Running) (a : State) (i : PlanId) (P : Process) → r ≡ None → plan_tree p i ≡ primitive (bare Identity) → Stands φ p a (closure (plan_tree p i) empty) [] → IsFound φ p r P → Stands φ p a P []
+  pub passing_process : (r : Option Handed) (a : State) (i : PlanId) (P : Process) → r ≡ None → plan_tree p i ≡ primitive (bare Identity) → Stands φ p a (closure (plan_tree p i) empty) [] → IsFound φ p r P → Stands φ p a P []
   passing_process r a i P is same A h =
       let none : P ≡ passing = subst (λ r. IsFound φ p r P) is h in
       subst (λ P. Stands φ p a P []) (ap (λ t. closure t empty) same ∙ sym none) A
 
   -- which began as itself
-  pub passing_base : (r : Option Running) (i : PlanId) (P : Process) → r ≡ None → plan_tree p i ≡ primitive (bare Identity) → IsFound φ p r P → IsProcess φ p (SClosure i SEmpty) (base P)
+  pub passing_base : (r : Option Handed) (i : PlanId) (P : Process) → r ≡ None → plan_tree p i ≡ primitive (bare Identity) → IsFound φ p r P → IsProcess φ p (SClosure i SEmpty) (base P)
   passing_base r i P is same h =
       let none : P ≡ passing = subst (λ r. IsFound φ p r P) is h in
       subst (λ P. IsProcess φ p (SClosure i SEmpty) P) (ap (λ t. closure t empty) same ∙ ap base (sym none)) (is_closure is_empty)

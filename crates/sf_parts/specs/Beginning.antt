@@ -9,15 +9,18 @@ use Rattle.sf_value.specs.declared.fault.Fault.TheVariants.{Value, Memory}
 use Rattle.sf_func.specs.Registries.{AnswersByName}
 use Rattle.sf_expr.specs.declared.exprs.NameId.{NameId}
 use Rattle.sf_expr.specs.declared.exprs.PatternId.{PatternId}
+use Rattle.sf_expr.specs.Arena.{name_at}
 use Rattle.sf_expr.specs.Evaluation.{Evaluated, answer, failed}
 use Rattle.sf_term.specs.declared.form.Observation.{Observation}
 use Rattle.sf_term.specs.declared.form.Switching.{Switching}
 use Rattle.sf_term.specs.Trees.{Term, Reference, reference}
 use Rattle.sf_mean.specs.Lives.{Step, Life, Process, closure, Environment, first_input}
-use Rattle.sf_mean.specs.Meaning.{faulted, entered_cost, referred, Gives}
+use Rattle.sf_mean.specs.Meaning.{faulted, entered_cost, argued, referred, Gives}
 use Rattle.sf_law.specs.declared.plan.Plan.{Plan}
 use Rattle.sf_law.specs.declared.node.PlanId.{PlanId}
-use Rattle.sf_law.specs.Arena.{plan_tree, network_of_plan}
+use Rattle.sf_law.specs.declared.node.PlanArgument.{PlanArgument}
+use Rattle.sf_law.specs.Headers.{ParameterHeader}
+use Rattle.sf_law.specs.Arena.{plan_tree, plan_expressions, plan_binding, plan_arguments, network_of_plan}
 use Rattle.sf_prim.specs.declared.prim_state.PrimState.{PrimState}
 use Rattle.sf_state.specs.declared.state.State.{State}
 use Rattle.sf_state.specs.declared.state.State.TheVariants.{Unborn', Primitive as SPrimitive, Live' as Alive', Switch' as Watching', Keeping', Frozen'}
@@ -25,7 +28,8 @@ use Rattle.sf_state.specs.declared.state.Live.{Live}
 use Rattle.sf_state.specs.declared.state.Switch.{Switch}
 use Rattle.sf_state.specs.declared.state.Keeping.{Keeping}
 use Rattle.sf_state.specs.declared.env.Env.{Env}
-use Rattle.sf_state.specs.Standing.{IsNames, Recalls, Stands, Waits, WaitsKeeping, Ready}
+use Rattle.sf_state.specs.declared.env.Given.{Given}
+use Rattle.sf_state.specs.Standing.{IsNames, AreGiven, Recalls, Stands, Waits, WaitsKeeping, Ready}
 use Rattle.sf_parts.specs.declared.opening.Opened.{Opened}
 use Rattle.sf_parts.specs.declared.opening.Opened.TheVariants as opened
 use Rattle.sf_parts.specs.declared.opening.Begun.{Begun}
@@ -66,6 +70,11 @@ pub data Makes {A B : Type 0} (stands : A → B → Type 0) (w : Evaluated B) : 
   makes : {a : A} {b : B} → w ≡ answer b → stands a b → Makes stands w (Ok a)
   makes_fault : {x : ValueFault} → w ≡ failed x → Makes stands w (Err (Value x))
   makes_nothing : Makes stands w (Err Memory)
+
+-- what an argument gives to a parameter where a call with these names around it binds it, or the fault of the argument
+abbrev pub GivesOne : AnswersByName → Plan → ParameterHeader → PlanArgument → Env → Result Given Fault → Type 0
+GivesOne φ p q v names r = (e d : Environment) → IsNames φ p names e
+    → Makes (λ g b. AreGiven φ p (name_at (plan_expressions p) q.name ∷ []) (g ∷ []) d b) (argued φ (plan_binding p q ∷ []) (plan_arguments p (v ∷ [])) e d) r
 
 -- a part before its first sample, or the fault of its constants
 pub data Opens (φ : AnswersByName) (p : Plan) (t : Term) (e : Environment) : Result Opened Fault → Type 0 where

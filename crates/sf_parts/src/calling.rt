@@ -1,24 +1,22 @@
 //! What stands in the place of a reference: the process of a name, or a template under the arguments of a call.
-ghost use Rattle.std.specs.Prelude.{[], ◌∷◌, Some, All, IsTrue, IfOk};
+ghost use Rattle.std.specs.Prelude.{◌≡◌, [], ◌∷◌, map, length, Some, All, IsTrue, IfOk};
 ghost use Rattle.std.specs.List.{list_all};
 ghost use Rattle.sf_func.specs.Registries.{AnswersByName};
-ghost use Rattle.sf_expr.specs.declared.exprs.ExprId.{ExprId};
 ghost use Rattle.sf_expr.specs.Arena.{name_at};
-ghost use Rattle.sf_law.specs.Arena.{plan_expressions, plan_anew, plan_binding, plan_template, plan_arguments};
-ghost use Rattle.sf_law.specs.declared.node.PlanArgument.TheVariants as arguments;
+ghost use Rattle.sf_law.specs.Arena.{plan_tree, plan_expressions, plan_anew, plan_binding, plan_template, plan_arguments, header_at};
+ghost use Rattle.sf_law.specs.Headers.{ParameterHeader};
 ghost use Rattle.sf_law.specs.Entries.{BindsName, BindsNames, IsCodedArgument, start_within, argument_within};
-ghost use Rattle.sf_mean.specs.Lives.{Environment, Process as ProcessOf, base, process_of, process_started};
+ghost use Rattle.sf_mean.specs.Lives.{Environment, Process as ProcessOf, closure, empty, base, process_of, process_started};
 ghost use Rattle.sf_mean.specs.Meaning.{argued, process_called};
-ghost use Rattle.sf_state.specs.Standing.{IsNames, IsProcess, Stands};
-ghost use Rattle.sf_parts.specs.Beginning.{Makes};
+ghost use Rattle.sf_state.specs.Standing.{IsNames, AreGiven, IsHanded, IsProcess, Stands};
+ghost use Rattle.sf_parts.specs.Beginning.{Makes, GivesOne};
 ghost use Rattle.sf_parts.specs.Contexts.{plan_in};
 
 use crate::context::{SampleContext, constant_in, fault_of};
-use sf_code::OpenCode;
 use sf_expr::NameId;
 use sf_func::Holds;
-use sf_law::{Plan, PlanArgument, PlanId, PlanParameter, PlanTemplate};
-use sf_state::{Env, Process, State};
+use sf_law::{Plan, PlanArgument, PlanId, PlanParameter, PlanTemplate, TemplateId};
+use sf_state::{Env, Given, Handed, Process, State};
 use sf_term::Start;
 use sf_value::Fault;
 use std::alloc::{AllocError, Global};
@@ -40,9 +38,8 @@ pub(crate) fn started(
     match start {
         Start::Fresh => Ok(State::Unborn(began(plan, names, name)?)),
         Start::Run => {
-            let exprs = plan.expressions();
-            match names.running(exprs, exprs.name_of(name)) {
-                Some(running) => running.process.share(alloc),
+            match names.running(plan, plan.expressions().name_of(name)) {
+                Some(handed) => handed.process.share(alloc),
                 None => Ok(State::unborn(plan.passing())),
             }
         }
@@ -55,9 +52,8 @@ fn began(plan: &Plan, names: &Env, name: NameId) -> Result<Process, AllocError>
     ensures { IfOk result (λ process. (φ : AnswersByName) (e : Environment) → IsNames φ plan.now names.now e → IsTrue (plan_anew plan.now) →
         IsProcess φ plan.now process (base (process_of (name_at (plan_expressions plan.now) name) e))) }
 {
-    let exprs = plan.expressions();
-    match names.running(exprs, exprs.name_of(name)) {
-        Some(running) => kept(plan, &running.base),
+    match names.running(plan, plan.expressions().name_of(name)) {
+        Some(handed) => kept(plan, &handed.base),
         None => Ok(Process {
             term: plan.passing(),
             names: Env::Empty,
@@ -85,112 +81,170 @@ fn kept(plan: &Plan, process: &Process) -> Result<Process, AllocError>
 #[inline(never)]
 pub(crate) fn called<R: Holds>(
     context: &SampleContext<R>,
-    template: &PlanTemplate,
+    id: TemplateId,
     arguments: &[PlanArgument],
     names: &Env,
 ) -> Result<State, Fault>
-    requires bound { BindsNames (plan_expressions (plan_in context.now)) template.now }
     requires coded { All (IsCodedArgument (plan_expressions (plan_in context.now))) arguments.now }
     requires within { IsTrue (list_all (argument_within (plan_anew (plan_in context.now))) arguments.now) }
     ensures { (e : Environment) → IsNames (R.answers context.now.functions.now) (plan_in context.now) names.now e →
         Makes (λ a P. Stands (R.answers context.now.functions.now) (plan_in context.now) a P [])
-        (process_called (R.answers context.now.functions.now) (Some (plan_template (plan_in context.now) template.now)) (plan_arguments (plan_in context.now) arguments.now) e) result }
+        (process_called (R.answers context.now.functions.now) (Some (plan_template (plan_in context.now) (header_at (plan_in context.now) id))) (plan_arguments (plan_in context.now) arguments.now) e) result }
 {
-    let mut bound = Env::Empty;
-    for (parameter, argument) in template.parameters().iter().zip(arguments) {
-        bound = bind(context, parameter, argument, names, &bound)?;
-    }
+    let template = context.plan.template(id);
+    let bound = bound_names(context, id, template, arguments, names)?;
     Ok(State::Unborn(Process {
         term: template.body(),
         names: bound,
     }))
 }
 
-// Names, and inside them that of a parameter, bound to its argument with the names around the call.
+// Up to so many parameters are bound one inside another, and gone through where a name is looked for; more stand side by
+// side, where each has its place.
+const FEW: usize = 16;
+
+// The parameters of a template, each bound to its argument.
+fn bound_names<R: Holds>(
+    context: &SampleContext<R>,
+    id: TemplateId,
+    template: &PlanTemplate,
+    arguments: &[PlanArgument],
+    names: &Env,
+) -> Result<Env, Fault>
+    requires same { template.now ≡ header_at (plan_in context.now) id }
+    requires bound { BindsNames (plan_expressions (plan_in context.now)) template.now }
+    requires coded { All (IsCodedArgument (plan_expressions (plan_in context.now))) arguments.now }
+    requires within { IsTrue (list_all (argument_within (plan_anew (plan_in context.now))) arguments.now) }
+    ensures { (e : Environment) → IsNames (R.answers context.now.functions.now) (plan_in context.now) names.now e →
+        Makes (IsNames (R.answers context.now.functions.now) (plan_in context.now))
+        (argued (R.answers context.now.functions.now) (map (plan_binding (plan_in context.now)) template.now.parameters) (plan_arguments (plan_in context.now) arguments.now) e empty) result }
+{
+    let parameters = template.parameters();
+    if arguments.len() > FEW && arguments.len() == parameters.len() {
+        side_by_side(context, id, parameters, arguments, names)
+    } else {
+        one_inside_another(context, parameters, arguments, names)
+    }
+}
+
+// Parameters, each bound to its argument inside those before it.
+fn one_inside_another<R: Holds>(
+    context: &SampleContext<R>,
+    parameters: &[PlanParameter],
+    arguments: &[PlanArgument],
+    names: &Env,
+) -> Result<Env, Fault>
+    requires bound { All (BindsName (plan_expressions (plan_in context.now))) parameters.now }
+    requires coded { All (IsCodedArgument (plan_expressions (plan_in context.now))) arguments.now }
+    requires within { IsTrue (list_all (argument_within (plan_anew (plan_in context.now))) arguments.now) }
+    ensures { (e : Environment) → IsNames (R.answers context.now.functions.now) (plan_in context.now) names.now e →
+        Makes (IsNames (R.answers context.now.functions.now) (plan_in context.now))
+        (argued (R.answers context.now.functions.now) (map (plan_binding (plan_in context.now)) parameters.now) (plan_arguments (plan_in context.now) arguments.now) e empty) result }
+{
+    let mut bound = Env::Empty;
+    for (parameter, argument) in parameters.iter().zip(arguments) {
+        let given = given_by(context, argument, names)?;
+        bound = bind(context, parameter, given, &bound)?;
+    }
+    Ok(bound)
+}
+
+// The parameters of a template, with what their arguments are, side by side.
+fn side_by_side<R: Holds>(
+    context: &SampleContext<R>,
+    id: TemplateId,
+    parameters: &[PlanParameter],
+    arguments: &[PlanArgument],
+    names: &Env,
+) -> Result<Env, Fault>
+    requires same { parameters.now ≡ (header_at (plan_in context.now) id).parameters }
+    requires long { length arguments.now ≡ length parameters.now }
+    requires coded { All (IsCodedArgument (plan_expressions (plan_in context.now))) arguments.now }
+    requires within { IsTrue (list_all (argument_within (plan_anew (plan_in context.now))) arguments.now) }
+    ensures { (e : Environment) → IsNames (R.answers context.now.functions.now) (plan_in context.now) names.now e →
+        Makes (IsNames (R.answers context.now.functions.now) (plan_in context.now))
+        (argued (R.answers context.now.functions.now) (map (plan_binding (plan_in context.now)) parameters.now) (plan_arguments (plan_in context.now) arguments.now) e empty) result }
+{
+    let mut given = Vec::with_capacity(context.alloc, arguments.len())?;
+    for (_, argument) in parameters.iter().zip(arguments) {
+        given.push(given_by(context, argument, names)?)?;
+    }
+    Ok(Env::of_call(context.alloc, id, given)?)
+}
+
+// Names, and inside them that of a parameter, which stands for what is given.
 fn bind<R: Holds>(
     context: &SampleContext<R>,
     parameter: &PlanParameter,
-    argument: &PlanArgument,
-    names: &Env,
+    given: Given,
     bound: &Env,
-) -> Result<Env, Fault>
-    requires bound { BindsName (plan_expressions (plan_in context.now)) parameter.now }
-    requires coded { IsCodedArgument (plan_expressions (plan_in context.now)) argument.now }
-    requires within { IsTrue (argument_within (plan_anew (plan_in context.now)) argument.now) }
-    ensures { (e d : Environment) → IsNames (R.answers context.now.functions.now) (plan_in context.now) names.now e → IsNames (R.answers context.now.functions.now) (plan_in context.now) bound.now d →
-        Makes (IsNames (R.answers context.now.functions.now) (plan_in context.now))
-        (argued (R.answers context.now.functions.now) (plan_binding (plan_in context.now) parameter.now ∷ []) (plan_arguments (plan_in context.now) (argument.now ∷ [])) e d) result }
-{
-    match argument {
-        PlanArgument::Value(_, code) => bind_value(context, parameter, code, names, bound),
-        PlanArgument::Started(start, name) => {
-            bind_started(context, parameter, *start, *name, names, bound)
-        }
-        PlanArgument::Closed(term) => bind_closed(context, parameter, *term, names, bound),
-    }
-}
-
-// The same where the argument is an expression: its value.
-fn bind_value<R: Holds>(
-    context: &SampleContext<R>,
-    parameter: &PlanParameter,
-    code: &OpenCode,
-    names: &Env,
-    bound: &Env,
-) -> Result<Env, Fault>
+) -> Result<Env, AllocError>
     requires { BindsName (plan_expressions (plan_in context.now)) parameter.now }
-    ensures { (value : ExprId) → IsCodedArgument (plan_expressions (plan_in context.now)) (arguments.Value value code.now) →
-        (e d : Environment) → IsNames (R.answers context.now.functions.now) (plan_in context.now) names.now e → IsNames (R.answers context.now.functions.now) (plan_in context.now) bound.now d →
-        Makes (IsNames (R.answers context.now.functions.now) (plan_in context.now))
-        (argued (R.answers context.now.functions.now) (plan_binding (plan_in context.now) parameter.now ∷ []) (plan_arguments (plan_in context.now) (arguments.Value value code.now ∷ [])) e d) result }
+    ensures { IfOk result (λ inner. (φ : AnswersByName) (d e : Environment) → IsNames φ (plan_in context.now) bound.now d →
+        AreGiven φ (plan_in context.now) (name_at (plan_expressions (plan_in context.now)) parameter.now.name ∷ []) (given ∷ []) d e → IsNames φ (plan_in context.now) inner e) }
 {
-    match constant_in(context, code, names) {
-        Ok(value) => {
+    match given {
+        Given::Value(value) => {
             let shared = Rc::new(context.alloc, value)?;
             let expressions = context.plan.expressions();
-            Ok(bound.inside(context.alloc, expressions, parameter.pattern(), shared)?)
+            bound.inside(context.alloc, expressions, parameter.pattern(), shared)
         }
-        Err(fault) => Err(fault_of(fault)),
+        Given::Process(handed) => bound.with_process(context.alloc, parameter.name(), handed),
     }
 }
 
-// The same where the argument is the process of a name.
-fn bind_started<R: Holds>(
+// What an argument gives to a parameter, with the names around the call.
+fn given_by<R: Holds>(
     context: &SampleContext<R>,
-    parameter: &PlanParameter,
+    argument: &PlanArgument,
+    names: &Env,
+) -> Result<Given, Fault>
+    requires coded { IsCodedArgument (plan_expressions (plan_in context.now)) argument.now }
+    requires within { IsTrue (argument_within (plan_anew (plan_in context.now)) argument.now) }
+    ensures { (q : ParameterHeader) → GivesOne (R.answers context.now.functions.now) (plan_in context.now) q argument.now names.now result }
+{
+    match argument {
+        PlanArgument::Value(_, code) => match constant_in(context, code, names) {
+            Ok(value) => Ok(Given::Value(value)),
+            Err(fault) => Err(fault_of(fault)),
+        },
+        PlanArgument::Started(start, name) => {
+            let handed = handed_on(context, *start, *name, names)?;
+            Ok(Given::Process(handed))
+        }
+        PlanArgument::Closed(term) => {
+            let handed = closed(context.plan, *term, names)?;
+            Ok(Given::Process(handed))
+        }
+    }
+}
+
+// The process of a name, beside what it began as.
+fn handed_on<R: Holds>(
+    context: &SampleContext<R>,
     start: Start,
     name: NameId,
     names: &Env,
-    bound: &Env,
-) -> Result<Env, Fault>
+) -> Result<Handed, AllocError>
     requires { IsTrue (start_within (plan_anew (plan_in context.now)) start) }
-    ensures { (e d : Environment) → IsNames (R.answers context.now.functions.now) (plan_in context.now) names.now e → IsNames (R.answers context.now.functions.now) (plan_in context.now) bound.now d →
-        Makes (IsNames (R.answers context.now.functions.now) (plan_in context.now))
-        (argued (R.answers context.now.functions.now) (plan_binding (plan_in context.now) parameter.now ∷ []) (plan_arguments (plan_in context.now) (arguments.Started start name ∷ [])) e d) result }
+    ensures { IfOk result (λ handed. (φ : AnswersByName) (e : Environment) → IsNames φ (plan_in context.now) names.now e →
+        IsHanded φ (plan_in context.now) handed (process_started start (name_at (plan_expressions (plan_in context.now)) name) e)) }
 {
     let base = began(context.plan, names, name)?;
     let process = started(context.alloc, context.plan, names, start, name)?;
-    Ok(bound.with_process(context.alloc, parameter.name(), process, base)?)
+    Ok(Handed { process, base })
 }
 
-// The same where the argument is a term: its process in the names around the call.
-fn bind_closed<R: Holds>(
-    context: &SampleContext<R>,
-    parameter: &PlanParameter,
-    term: PlanId,
-    names: &Env,
-    bound: &Env,
-) -> Result<Env, Fault>
-    ensures { (e d : Environment) → IsNames (R.answers context.now.functions.now) (plan_in context.now) names.now e → IsNames (R.answers context.now.functions.now) (plan_in context.now) bound.now d →
-        Makes (IsNames (R.answers context.now.functions.now) (plan_in context.now))
-        (argued (R.answers context.now.functions.now) (plan_binding (plan_in context.now) parameter.now ∷ []) (plan_arguments (plan_in context.now) (arguments.Closed term ∷ [])) e d) result }
+// The process of a term in the names around it, which began as itself.
+fn closed(plan: &Plan, term: PlanId, names: &Env) -> Result<Handed, AllocError>
+    ensures { IfOk result (λ handed. (φ : AnswersByName) (e : Environment) → IsNames φ plan.now names.now e → IsHanded φ plan.now handed (closure (plan_tree plan.now term) e)) }
 {
     let around = names.share()?;
     let process = Process {
         term,
         names: around,
     };
-    let base = kept(context.plan, &process)?;
+    let base = kept(plan, &process)?;
     let process = State::Unborn(process);
-    Ok(bound.with_process(context.alloc, parameter.name(), process, base)?)
+    Ok(Handed { process, base })
 }

@@ -5,7 +5,6 @@ ghost use Rattle.sf_expr.specs.Evaluation.{eval};
 ghost use Rattle.sf_code.specs.Names.{scope_with};
 ghost use Rattle.sf_code.specs.Worth.{IsCodeOf};
 ghost use Rattle.sf_operator.specs.Answers.{Evaluates};
-ghost use Rattle.sf_law.specs.Arena.{plan_expressions};
 ghost use Rattle.sf_state.specs.Names.{values_around};
 ghost use Rattle.sf_parts.specs.Answering.{fault_from};
 ghost use Rattle.sf_parts.specs.Contexts.{plan_in};
@@ -39,10 +38,10 @@ pub(crate) fn constant_in<R: Holds>(
     names: &Env,
 ) -> Result<Value, EvalFault>
     ensures { (e : Expression) → IsCodeOf e code.now →
-        Evaluates result (eval e (scope_with (values_around (plan_expressions (plan_in context.now)) names.now) (R.answers context.now.functions.now))) }
+        Evaluates result (eval e (scope_with (values_around (plan_in context.now) names.now) (R.answers context.now.functions.now))) }
 {
-    let expressions = context.plan.expressions();
-    let around = NamesIn { expressions, names };
+    let plan = context.plan;
+    let around = NamesIn { plan, names };
     constant(context.alloc, code, context.functions, &around)
 }
 

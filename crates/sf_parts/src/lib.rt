@@ -13,6 +13,5 @@ pub use leaves::{step_prim, step_probe};
 pub use meter::{Meter, Stop};
 pub use opening::{Begun, begin};
 pub use routing::{
-    beside, copies, feed_back, halves, hold_back, payload_of, put_first, show, take_over,
-    unshare_half, value_and_payload,
+    beside, copies, hold_back, payload_of, put_first, show, take_over, value_and_payload,
 };

@@ -1,14 +1,19 @@
 //! How a part begins: what its term is before its first sample.
-ghost use Rattle.std.specs.Prelude.{◌≡◌, [], IfOk, Ok, IsTrue};
+ghost use Rattle.std.specs.Prelude.{◌≡◌, [], All, IfOk, Ok, IsTrue, Vec as VecOf};
+ghost use Rattle.std.specs.List.{list_all};
 ghost use Rattle.sf_value.specs.Values.{Data};
 ghost use Rattle.sf_func.specs.Registries.{AnswersByName};
 ghost use Rattle.sf_expr.specs.declared.exprs.ExprId.{ExprId};
+ghost use Rattle.sf_expr.specs.declared.exprs.NameId.{NameId as NameIdOf};
 ghost use Rattle.sf_expr.specs.Arena.{placed_at, name_at};
 ghost use Rattle.sf_expr.specs.Evaluation.{answer};
 ghost use Rattle.sf_expr.specs.Patterns.{pattern_of};
 ghost use Rattle.sf_term.specs.Trees.{Term, joined as joined_term, headed as headed_term, switching as switching_term, keeping as keeping_term};
-ghost use Rattle.sf_law.specs.Arena.{plan_tree, plan_expressions, plan_expression_at, network_of_plan};
-ghost use Rattle.sf_law.specs.Entries.{IsCodedExpression};
+ghost use Rattle.sf_law.specs.Arena.{plan_tree, plan_anew, plan_expressions, plan_expression_at, network_of_plan, BuildsPlan};
+ghost use Rattle.sf_law.specs.Entries.{IsCodedExpression, IsCodedArgument, start_within, argument_within};
+ghost use Rattle.sf_law.specs.declared.node.PlanId.{PlanId as PlanIdOf};
+ghost use Rattle.sf_law.specs.declared.node.PlanArgument.{PlanArgument as PlanArgumentOf};
+ghost use Rattle.sf_law.specs.declared.node.PlanNode.TheVariants as NodeOf;
 ghost use Rattle.sf_law.specs.declared.plan.Plan.{Plan as PlanOf};
 ghost use Rattle.sf_mean.specs.Lives.{Environment};
 ghost use Rattle.sf_mean.specs.Meaning.{Made, make};
@@ -22,10 +27,10 @@ use crate::routing::{on_side, with_head};
 use sf_code::OpenCode;
 use sf_expr::{NameId, PatternId};
 use sf_func::Holds;
-use sf_law::{PlanId, PlanNode};
+use sf_law::{PlanArgument, PlanId, PlanNode, PlanPrimitive, TemplateId};
 use sf_prim::PrimState;
 use sf_state::{Env, Keeping, Live, NamesIn, Process, State, Switch, Wrap};
-use sf_term::{Heading, Join, Observation, Switching};
+use sf_term::{Heading, Join, Observation, Start, Switching};
 use sf_value::Fault;
 use std::alloc::{AllocError, Global};
 use std::rc::Rc;
@@ -93,64 +98,110 @@ pub(crate) enum Opened {
     Running(State),
 }
 
-// A term before its first sample, with the names around it.
+// A term before its first sample, with the names around it. Each group of forms opens in a function of its own, which makes
+// room for its own values alone.
 fn open<R: Holds>(context: &SampleContext<R>, term: PlanId, names: &Env) -> Result<Opened, Fault>
     ensures { (e : Environment) → IsNames (R.answers context.now.functions.now) (plan_in context.now) names.now e →
         Opens (R.answers context.now.functions.now) (plan_in context.now) (plan_tree (plan_in context.now) term) e result }
 {
     match context.plan.node(term) {
-        PlanNode::Primitive(primitive) => {
-            let expressions = context.plan.expressions();
-            let around = NamesIn { expressions, names };
-            match PrimState::born(context.alloc, primitive, context.functions, &around) {
-                Ok(prim) => Ok(Opened::Primitive(prim)),
-                Err(fault) => Err(fault_of(fault)),
-            }
-        }
+        PlanNode::Primitive(primitive) => open_primitive(context, primitive, names),
         PlanNode::Joined(join, left, right) => {
-            let both = joined(context.alloc, *join, *left, *right, names)?;
-            Ok(Opened::Live(both))
+            joined(context.alloc, *join, *left, *right, names)
         }
         PlanNode::Sided(side, part) => wrapped(context.alloc, on_side(*side), *part, names),
         PlanNode::Headed(heading, _, code, part) => {
             headed(context, *heading, code, *part, names)
         }
         PlanNode::Switching(form, first, pattern, body) => {
-            let switch = switching(context.alloc, *form, *first, *pattern, *body, names)?;
-            Ok(Opened::Switch(switch))
+            switching(context.alloc, *form, *first, *pattern, *body, names)
         }
-        PlanNode::Pipeline(stages) => {
-            let begun = begin_all(context.alloc, stages, names)?;
-            let node = Rc::new(context.alloc, Live::Pipeline(begun))?;
-            Ok(Opened::Live(node))
-        }
-        PlanNode::Keeping(shown, source, observer, name, pattern, body) => {
-            let kept = keeping(
-                context.alloc,
-                *shown,
-                *source,
-                *observer,
-                *name,
-                *pattern,
-                *body,
-                names,
-            )?;
-            Ok(Opened::Keeping(kept))
-        }
-        PlanNode::Started(start, name) => {
-            let process = started(context.alloc, context.plan, names, *start, *name)?;
-            Ok(Opened::Running(process))
-        }
-        PlanNode::Probe(name) => {
-            let same = name.clone()?;
-            let node = Rc::new(context.alloc, Live::Probe(same))?;
-            Ok(Opened::Live(node))
-        }
-        PlanNode::Call(_, template, arguments) => {
-            let body = called(context, context.plan.template(*template), arguments, names)?;
-            Ok(Opened::Running(body))
-        }
+        PlanNode::Pipeline(stages) => pipeline(context.alloc, stages, names),
+        PlanNode::Keeping(shown, source, observer, name, pattern, body) => keeping(
+            context.alloc,
+            *shown,
+            *source,
+            *observer,
+            *name,
+            *pattern,
+            *body,
+            names,
+        ),
+        PlanNode::Started(start, name) => referred(context, *start, *name, names),
+        PlanNode::Probe(name) => probe(context.alloc, name),
+        PlanNode::Call(_, template, arguments) => call(context, *template, arguments, names),
     }
+}
+
+// A primitive before its first sample, with the names around it.
+#[inline(never)]
+fn open_primitive<R: Holds>(
+    context: &SampleContext<R>,
+    primitive: &PlanPrimitive,
+    names: &Env,
+) -> Result<Opened, Fault>
+    ensures { (t : Term) → BuildsPlan (plan_in context.now) (NodeOf.Primitive primitive.now) t → (e : Environment) →
+        IsNames (R.answers context.now.functions.now) (plan_in context.now) names.now e → Opens (R.answers context.now.functions.now) (plan_in context.now) t e result }
+{
+    let plan = context.plan;
+    let around = NamesIn { plan, names };
+    match PrimState::born(context.alloc, primitive, context.functions, &around) {
+        Ok(prim) => Ok(Opened::Primitive(prim)),
+        Err(fault) => Err(fault_of(fault)),
+    }
+}
+
+// A probe, which is the same before its first sample.
+#[inline(never)]
+fn probe(alloc: Global, name: &Rc<String>) -> Result<Opened, Fault>
+    ensures { (φ : AnswersByName) (p : PlanOf) (t : Term) → BuildsPlan p (NodeOf.Probe name.now) t → (e : Environment) → Opens φ p t e result }
+{
+    let same = name.clone()?;
+    let node = Rc::new(alloc, Live::Probe(same))?;
+    Ok(Opened::Live(node))
+}
+
+// What a name refers to, with the names around it.
+#[inline(never)]
+fn referred<R: Holds>(
+    context: &SampleContext<R>,
+    start: Start,
+    name: NameId,
+    names: &Env,
+) -> Result<Opened, Fault>
+    requires { IsTrue (start_within (plan_anew (plan_in context.now)) start) }
+    ensures { (t : Term) → BuildsPlan (plan_in context.now) (NodeOf.Started start name) t → (e : Environment) →
+        IsNames (R.answers context.now.functions.now) (plan_in context.now) names.now e → Opens (R.answers context.now.functions.now) (plan_in context.now) t e result }
+{
+    let process = started(context.alloc, context.plan, names, start, name)?;
+    Ok(Opened::Running(process))
+}
+
+// A call of a template, with the names around it.
+#[inline(never)]
+fn call<R: Holds>(
+    context: &SampleContext<R>,
+    template: TemplateId,
+    arguments: &[PlanArgument],
+    names: &Env,
+) -> Result<Opened, Fault>
+    requires coded { All (IsCodedArgument (plan_expressions (plan_in context.now))) arguments.now }
+    requires within { IsTrue (list_all (argument_within (plan_anew (plan_in context.now))) arguments.now) }
+    ensures { (k : NameIdOf) (v : VecOf PlanArgumentOf Global) (t : Term) → v.items ≡ arguments.now → BuildsPlan (plan_in context.now) (NodeOf.Call k template v) t → (e : Environment) →
+        IsNames (R.answers context.now.functions.now) (plan_in context.now) names.now e → Opens (R.answers context.now.functions.now) (plan_in context.now) t e result }
+{
+    let body = called(context, template, arguments, names)?;
+    Ok(Opened::Running(body))
+}
+
+// Stages before their first sample, with the names around them.
+#[inline(never)]
+fn pipeline(alloc: Global, stages: &[PlanId], names: &Env) -> Result<Opened, Fault>
+    ensures { (φ : AnswersByName) (p : PlanOf) (v : VecOf PlanIdOf Global) (t : Term) → v.items ≡ stages.now → BuildsPlan p (NodeOf.Pipeline v) t → (e : Environment) → IsNames φ p names.now e → Opens φ p t e result }
+{
+    let begun = begin_all(alloc, stages, names)?;
+    let node = Rc::new(alloc, Live::Pipeline(begun))?;
+    Ok(Opened::Live(node))
 }
 
 // Two parts joined, before their first sample, with the names around them.
@@ -161,9 +212,9 @@ fn joined(
     left: PlanId,
     right: PlanId,
     names: &Env,
-) -> Result<Rc<Live>, AllocError>
-    ensures { IfOk result (λ live. (φ : AnswersByName) (p : PlanOf) (e : Environment) → IsNames φ p names.now e →
-        Opens φ p (joined_term join (plan_tree p left) (plan_tree p right)) e (Ok (Opened.Live live))) }
+) -> Result<Opened, Fault>
+    ensures { (φ : AnswersByName) (p : PlanOf) (e : Environment) → IsNames φ p names.now e →
+        Opens φ p (joined_term join (plan_tree p left) (plan_tree p right)) e result }
 {
     let one = names.share()?;
     let two = names.share()?;
@@ -176,10 +227,11 @@ fn joined(
         names: two,
     });
     let node = Rc::new(alloc, Live::Join(join, first, second))?;
-    Ok(node)
+    Ok(Opened::Live(node))
 }
 
 // A part with a value at its head, before its first sample, with the names around it.
+#[inline(never)]
 fn headed<R: Holds>(
     context: &SampleContext<R>,
     heading: Heading,
@@ -193,7 +245,7 @@ fn headed<R: Holds>(
 {
     match constant_in(context, code, names) {
         Ok(head) => {
-            let wrap = with_head(context.alloc, heading, head)?;
+            let wrap = with_head(heading, head);
             wrapped(context.alloc, wrap, part, names)
         }
         Err(fault) => Err(fault_of(fault)),
@@ -209,9 +261,9 @@ fn switching(
     pattern: PatternId,
     body: PlanId,
     names: &Env,
-) -> Result<Rc<Switch>, AllocError>
-    ensures { IfOk result (λ switch. (φ : AnswersByName) (p : PlanOf) (e : Environment) → IsNames φ p names.now e →
-        Opens φ p (switching_term form (plan_tree p first) (pattern_of (placed_at (plan_expressions p) pattern)) (plan_tree p body)) e (Ok (Opened.Switch switch))) }
+) -> Result<Opened, Fault>
+    ensures { (φ : AnswersByName) (p : PlanOf) (e : Environment) → IsNames φ p names.now e →
+        Opens φ p (switching_term form (plan_tree p first) (pattern_of (placed_at (plan_expressions p) pattern)) (plan_tree p body)) e result }
 {
     let shared = names.share()?;
     let switch = Switch {
@@ -224,7 +276,7 @@ fn switching(
         body,
     };
     let node = Rc::new(alloc, switch)?;
-    Ok(node)
+    Ok(Opened::Switch(node))
 }
 
 // A switch that keeps its source, likewise.
@@ -238,10 +290,10 @@ fn keeping(
     pattern: PatternId,
     body: PlanId,
     names: &Env,
-) -> Result<Rc<Keeping>, AllocError>
-    ensures { IfOk result (λ kept. (φ : AnswersByName) (p : PlanOf) (e : Environment) → IsNames φ p names.now e →
+) -> Result<Opened, Fault>
+    ensures { (φ : AnswersByName) (p : PlanOf) (e : Environment) → IsNames φ p names.now e →
         Opens φ p (keeping_term shown (plan_tree p source) (plan_tree p observer) (name_at (plan_expressions p) name) (pattern_of (placed_at (plan_expressions p) pattern)) (plan_tree p body))
-        e (Ok (Opened.Keeping kept))) }
+        e result }
 {
     let one = names.share()?;
     let two = names.share()?;
@@ -262,7 +314,7 @@ fn keeping(
         body,
     };
     let node = Rc::new(alloc, keeping)?;
-    Ok(node)
+    Ok(Opened::Keeping(node))
 }
 
 // Stages before their first sample, with the names around them.

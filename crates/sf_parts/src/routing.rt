@@ -18,42 +18,6 @@ use std::alloc::{AllocError, Global};
 use std::mem;
 use std::rc::Rc;
 
-/// The two parts of a pair, as they are shared; a value that is no pair stands for both. It leaves a number in its place.
-#[inline(always)]
-pub fn halves(alloc: Global, value: &mut Value) -> Result<(Rc<Value>, Rc<Value>), AllocError>
-    ensures { IfOk result (λ halves. (halves.0.value ≡ first_of value.old) × (halves.1.value ≡ second_of value.old)) }
-{
-    match value.form() {
-        Form::Pair(_, _) => match mem::replace(value, Value::int(0)).into_form() {
-            Form::Pair(first, second) => Ok((first, second)),
-            _ => unreachable!(),
-        },
-        _ => doubled(alloc, value),
-    }
-}
-
-// The value, in place of two parts. It leaves a number in its place.
-#[cold]
-#[inline(never)]
-fn doubled(alloc: Global, value: &mut Value) -> Result<(Rc<Value>, Rc<Value>), AllocError>
-    ensures { IfOk result (λ halves. (halves.0.value ≡ value.old) × (halves.1.value ≡ value.old)) }
-{
-    let whole = mem::replace(value, Value::int(0));
-    let first = Rc::new(alloc, whole)?;
-    let second = first.clone()?;
-    Ok((first, second))
-}
-
-// The two parts of a pair, taken out of it; a value that is no pair stands for both.
-#[inline]
-fn parts(alloc: Global, pair: Value) -> Result<(Value, Value), AllocError>
-    ensures { IfOk result (λ parts. (parts.0 ≡ first_of pair) × (parts.1 ≡ second_of pair)) }
-{
-    let mut pair = pair;
-    let (first, second) = halves(alloc, &mut pair)?;
-    Ok((taken(alloc, first)?, taken(alloc, second)?))
-}
-
 /// The first part of a pair, and the payload of the event beside it, if it occurs; a value that is no pair stands for both
 /// parts. It leaves a number in its place.
 #[inline]
@@ -64,7 +28,7 @@ pub fn value_and_payload(
     ensures { IfOk result (λ x. (x.0 ≡ first_of value.old) × (option_map (λ r. r.value) x.1 ≡ occurring (second_of value.old))) }
 {
     let both = mem::replace(value, Value::int(0));
-    let (first, event) = parts(alloc, both)?;
+    let (first, event) = both.into_halves(alloc)?;
     Ok((first, payload_of(event)))
 }
 
@@ -88,21 +52,6 @@ pub fn show(shown: Observation, value: &mut Value, new: Value)
     }
 }
 
-/// Feeds back the second part of a pair; the first is put in place of a value. A value that is no pair stands for both.
-#[inline(always)]
-pub fn feed_back(
-    alloc: Global,
-    feedback: &mut Feedback,
-    both: &mut Value,
-    value: &mut Value,
-) -> Result<(), AllocError>
-    ensures output { OnOk result (value.new ≡ first_of both.old) }
-    ensures next { OnOk result (feedback.new ≡ second_of both.old) }
-{
-    let (output, next) = halves(alloc, both)?;
-    feedback.keep(alloc, output, next, value)
-}
-
 /// Puts the value of a head, which is kept before the first sample alone, in the place of the part's.
 pub fn put_first(first: &mut Option<Value>, value: &mut Value)
     ensures value { value.new ≡ unwrap_or first.old value.old }
@@ -111,39 +60,6 @@ pub fn put_first(first: &mut Option<Value>, value: &mut Value)
     if let Some(initial) = first.take() {
         *value = initial;
     }
-}
-
-// The value, moved where this is its only owner.
-#[inline(always)]
-fn taken(alloc: Global, half: Rc<Value>) -> Result<Value, AllocError>
-    ensures { IfOk result (λ value. value ≡ half.value) }
-{
-    match Rc::try_unwrap(half) {
-        Ok(value) => Ok(value),
-        Err(shared) => shared.clone_in(alloc),
-    }
-}
-
-/// Makes a half of a pair its owner's alone: where it is shared, a copy takes its place, and the other owners keep it.
-#[inline(always)]
-pub fn unshare_half(alloc: Global, half: &mut Rc<Value>) -> Result<(), AllocError>
-    ensures { half.new.value ≡ half.old.value }
-{
-    if Rc::strong_count(half) == 1 {
-        return Ok(());
-    }
-    put_copy(alloc, half)
-}
-
-// Puts a copy in the place of a half.
-#[cold]
-#[inline(never)]
-fn put_copy(alloc: Global, half: &mut Rc<Value>) -> Result<(), AllocError>
-    ensures { half.new.value ≡ half.old.value }
-{
-    let copy = half.clone_in(alloc)?;
-    *half = Rc::new(alloc, copy)?;
-    Ok(())
 }
 
 /// A part on one side of a pair, before its first step.
@@ -157,13 +73,13 @@ pub(crate) fn on_side(side: Side) -> Wrap
 }
 
 /// A part with a value at its head, before its first step.
-pub(crate) fn with_head(alloc: Global, heading: Heading, value: Value) -> Result<Wrap, AllocError>
-    ensures { IfOk result (λ wrap. (n : Network) (i : Expression) (t : Term) (e : Environment) →
-        Wraps n wrap (headed heading i t) e (value_made value) [] t []) }
+pub(crate) fn with_head(heading: Heading, value: Value) -> Wrap
+    ensures { (n : Network) (i : Expression) (t : Term) (e : Environment) →
+        Wraps n result (headed heading i t) e (value_made value) [] t [] }
 {
     match heading {
-        Heading::LoopPre => Ok(Wrap::Loop(Feedback::new(alloc, value)?)),
-        Heading::Initialized => Ok(Wrap::Initialized(Some(value))),
+        Heading::LoopPre => Wrap::Loop(Feedback::new(value)),
+        Heading::Initialized => Wrap::Initialized(Some(value)),
     }
 }
 

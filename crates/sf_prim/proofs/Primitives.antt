@@ -14,7 +14,7 @@ use Rattle.sf_code.specs.declared.open.Closure.{Closure}
 use Rattle.sf_code.specs.Worth.{IsCodeOfFunctionIn, IsClosureOf}
 use Rattle.sf_operator.specs.Outcomes.{tested}
 use Rattle.sf_operator.specs.Operations.{event_of, payload_or}
-use Rattle.sf_operator.specs.Answers.{Evaluates}
+use Rattle.sf_operator.specs.Answers.{Evaluates, EvaluatesAs}
 use Rattle.sf_operator.specs.declared.fault.EvalFault.{EvalFault}
 use Rattle.sf_operator.specs.declared.fault.EvalFault.TheVariants.{Value, Memory}
 use Rattle.sf_term.specs.declared.form.WithValue.{WithValue}
@@ -31,6 +31,8 @@ use Rattle.sf_prim.specs.declared.accumulator.Accumulator.{Accumulator}
 use Rattle.sf_prim.specs.declared.prim_state.PrimState.{PrimState}
 use Rattle.sf_prim.specs.declared.prim_state.PrimState.TheVariants.{Identity, Never, Constant, Previous, Arrow, Closed, Accumulated, Clock, Area, Timed, Edge, NotYet, Count, Now, Hold}
 use Rattle.sf_prim.specs.Gifts.{gift}
+use Rattle.sf_prim.specs.Links.{closure_worth}
+use Rattle.std.proofs.lemmas.Result.{on_ok_weaker}
 use Rattle.sf_prim.specs.Keeping.{shown_after, time_after, last_time, has_steps, span, waited, is_up, count_after, counted_after, Remembers, keeps_nothing, keeps_no_event, keeps_value, keeps_previous, keeps_initialized, keeps_pre, keeps_function, keeps_closure, keeps_accumulation, keeps_time, keeps_area, keeps_timer, keeps_low, keeps_begun, keeps_count, keeps_first, keeps_passed, keeps_last, Begins, begins_with_fault, begins_without_memory, GoesOn, goes_on, goes_on_with_fault, goes_on_without_memory}
 
 -- a primitive with a value gives what its formula makes of it
@@ -91,11 +93,11 @@ arrow_goes_on φ c d x (Ok v) h q scope L same (keeps_function {f = f} K) = goes
 arrow_goes_on φ c d x (Err (Value y)) h q scope L same (keeps_function {f = f} K) = goes_on_with_fault (h scope same f K)
 arrow_goes_on φ c d x (Err Memory) h q scope L same K = goes_on_without_memory
 
-pub closed_goes_on : (φ : AnswersByName) (c : Rc Closure Global) (d : _) (x : Data) (r : Result Data EvalFault) → ((s : Scope) → functions_in s ≡ φ → (f : Function) → IsClosureOf s f c.value → Evaluates r (apply f x s))
-    → (q : Primitive) (scope : Scope) (L : Life) → functions_in scope ≡ φ → Remembers (Closed c) q scope L → GoesOn q scope (step d x) L (Closed c) r
-closed_goes_on φ c d x (Ok v) h q scope L same (keeps_closure {f = f} K) = goes_on (h scope same f K) (keeps_closure K)
-closed_goes_on φ c d x (Err (Value y)) h q scope L same (keeps_closure {f = f} K) = goes_on_with_fault (h scope same f K)
-closed_goes_on φ c d x (Err Memory) h q scope L same K = goes_on_without_memory
+pub closed_goes_on : {A : Type 0} (φ : AnswersByName) (c : Rc Closure Global) (d : _) (x w : Data) (r : Result A EvalFault) → EvaluatesAs (λ (a : A). w) r (closure_worth c.value φ x)
+    → (q : Primitive) (scope : Scope) (L : Life) → functions_in scope ≡ φ → Remembers (Closed c) q scope L → GoesOn q scope (step d x) L (Closed c) (gift r w)
+closed_goes_on φ c d x w (Ok a) h q scope L same (keeps_closure {f = f} K) = goes_on (sym (K.worth x) ∙ ap (λ φ. closure_worth c.value φ x) same ∙ h) (keeps_closure K)
+closed_goes_on φ c d x w (Err (Value y)) h q scope L same (keeps_closure {f = f} K) = goes_on_with_fault (sym (K.worth x) ∙ ap (λ φ. closure_worth c.value φ x) same ∙ h)
+closed_goes_on φ c d x w (Err Memory) h q scope L same K = goes_on_without_memory
 
 -- where a sample answers what the formula is worth, and then keeps the longer life
 goes_with : {A : Type 0} {q : Primitive} {scope : Scope} {s : Step} {L : Life} {i : PrimState} (r : Result A EvalFault) (w : Data) {worth : Evaluated Data}
@@ -108,10 +110,6 @@ always : {A : Type 0} {P : Type 0} (r : Result A EvalFault) → P → OnOk r P
 always (Ok a) h = h
 always (Err e) h = tt
 
-where_ok : {A : Type 0} {P Q : Type 0} (r : Result A EvalFault) → (P → Q) → OnOk r P → OnOk r Q
-where_ok (Ok a) f h = f h
-where_ok (Err e) f h = h
-
 time_is : (d : ℕ) (x : Data) (L : Life) → time_after (last_time L) d ≡ pos (time (step d x ∷ L))
 time_is d x [] = refl
 time_is d x (s ∷ L) = refl
@@ -120,13 +118,13 @@ pub clock_goes_on : {A : Type 0} (q : Primitive) (scope : Scope) (d : ℕ) (x : 
     → Evaluates (gift r w) (tested (time_after t d)) → OnOk r (u ≡ Some (time_after t d)) → Remembers (Clock t) q scope L → GoesOn q scope (step d x) L (Clock u) (gift r w)
 clock_goes_on q scope d x L t u w r told kept (keeps_time is) =
     let now : time_after t d ≡ pos (time (step d x ∷ L)) = ap (λ t. time_after t d) is ∙ time_is d x L in
-    goes_with r w (ap tested (sym now)) told (where_ok r (λ h. keeps_time (h ∙ ap Some now)) kept)
+    goes_with r w (ap tested (sym now)) told (on_ok_weaker r (λ h. keeps_time (h ∙ ap Some now)) kept)
 
 pub area_goes_on : {A : Type 0} (q : Primitive) (scope : Scope) (d : ℕ) (x : Data) (L : Life) (b c : Sum) (w : Data) (r : Result A EvalFault)
     → Evaluates (gift r w) (tested (b.sum +ℤ (pos d *ℤ b.level))) → OnOk r ((c.sum ≡ b.sum +ℤ (pos d *ℤ b.level)) × (c.level ≡ level x)) → Remembers (Area b) q scope L → GoesOn q scope (step d x) L (Area c) (gift r w)
 area_goes_on q scope d x L b c w r told kept (keeps_area sum last) =
     let now : b.sum +ℤ (pos d *ℤ b.level) ≡ area (step d x ∷ L) = ap₂ (λ z h. z +ℤ (pos d *ℤ h)) sum last in
-    goes_with r w (ap tested (sym now)) told (where_ok r (λ k. keeps_area (k.0 ∙ now) k.1) kept)
+    goes_with r w (ap tested (sym now)) told (on_ok_weaker r (λ k. keeps_area (k.0 ∙ now) k.1) kept)
 
 -- how much of a time is left, and whether all of it has passed
 le_moved : (n a w : ℕ) → nat_le (n - a) w ≡ nat_le n (a + w)
@@ -199,7 +197,7 @@ timer_goes_on q scope d x L t u w r told due begun left (keeps_timer {q = m} {e 
 pub edge_goes_on : {A : Type 0} (q : Primitive) (scope : Scope) (d : ℕ) (x : Data) (L : Life) (b c : Bool) (w : Data) (r : Result A EvalFault)
     → Evaluates (gift r w) (answer (event_if (is_high x && b))) → OnOk r (c ≡ is_low x) → Remembers (Edge b) q scope L → GoesOn q scope (step d x) L (Edge c) (gift r w)
 edge_goes_on q scope d x L b c w r told kept (keeps_low is) =
-    goes_with r w (ap (λ b. answer (event_if (is_high x && b))) (sym is)) told (where_ok r keeps_low kept)
+    goes_with r w (ap (λ b. answer (event_if (is_high x && b))) (sym is)) told (on_ok_weaker r keeps_low kept)
 
 passed_is : (x : Data) (L : Life) → cond (has_steps L) x no_event ≡ at_first L no_event x
 passed_is x [] = refl
@@ -224,7 +222,7 @@ count_is (Some x) n = ap pos (one_plus n)
 pub count_goes_on : {A : Type 0} (q : Primitive) (scope : Scope) (d : ℕ) (x : Data) (L : Life) (z y : ℤ) (w : Data) (r : Result A EvalFault)
     → Evaluates (gift r w) (counted_after (occurring x) z) → OnOk r (y ≡ count_after (occurring x) z) → Remembers (Count z) q scope L → GoesOn q scope (step d x) L (Count y) (gift r w)
 count_goes_on q scope d x L z y w r told kept (keeps_count is) =
-    goes_with r w (sym (ap (counted_after (occurring x)) is ∙ counted_is (occurring x) (occurrences L))) told (where_ok r (λ h. keeps_count (h ∙ ap (count_after (occurring x)) is ∙ count_is (occurring x) (occurrences L))) kept)
+    goes_with r w (sym (ap (counted_after (occurring x)) is ∙ counted_is (occurring x) (occurrences L))) told (on_ok_weaker r (λ h. keeps_count (h ∙ ap (count_after (occurring x)) is ∙ count_is (occurring x) (occurrences L))) kept)
 
 pub now_goes_on : {A : Type 0} (q : Primitive) (scope : Scope) (s : Step) (L : Life) (v w : Data) (r : Result A EvalFault)
     → Evaluates (gift r w) (answer (event v)) → Remembers (Now v) q scope L → GoesOn q scope s L Never (gift r w)
@@ -234,7 +232,7 @@ pub hold_goes_on : {A : Type 0} (q : Primitive) (scope : Scope) (d : ℕ) (x : D
     → Evaluates (gift r w) (answer (payload_or (occurring x) v)) → OnOk r (u ≡ payload_or (occurring x) v) → Remembers (Hold v) q scope L → GoesOn q scope (step d x) L (Hold u) (gift r w)
 hold_goes_on q scope d x L v u w r told kept (keeps_last {e = e} {v = given} h is) =
     let now : payload_or (occurring x) v ≡ last_payload given (step d x ∷ L) = ap (payload_or (occurring x)) is in
-    goes_with r w (value_gives VHold e scope given (step d x) L h ∙ ap answer (sym now)) told (where_ok r (λ k. keeps_last h (k ∙ now)) kept)
+    goes_with r w (value_gives VHold e scope given (step d x) L h ∙ ap answer (sym now)) told (on_ok_weaker r (λ k. keeps_last h (k ∙ now)) kept)
 
 -- an accumulation on a longer life
 accumulation_gives : (a : Accumulator) (e : Expression) (f : Function) (v : Data) (sc : Scope) (d : ℕ) (x : Data) (L : Life)

@@ -1,6 +1,5 @@
 //! Samples of primitives with a value and a function.
 ghost use Rattle.std.specs.Prelude.{◌≡◌, Option, is_some, IfOk, OnOk};
-ghost use Rattle.std.specs.Option.{option_map};
 ghost use Rattle.sf_value.specs.Values.{Data};
 ghost use Rattle.sf_operator.specs.Answers.{Evaluates};
 ghost use Rattle.sf_expr.specs.Expressions.{Function};
@@ -16,7 +15,6 @@ use sf_operator::EvalFault;
 use sf_term::Accumulation;
 use sf_value::Value;
 use std::alloc::{AllocError, Global};
-use std::rc::Rc;
 
 /// An accumulation that has lived through some samples.
 #[derive(Drop)]
@@ -46,16 +44,16 @@ impl Accumulator {
     }
 }
 
-/// What an accumulation goes on with: the payload of an event that occurs, which is shared, or each input.
-fn coming(alloc: Global, form: Accumulation, value: &Value) -> Result<Option<Rc<Value>>, AllocError>
-    ensures { IfOk result (λ o. option_map (λ x. x.value) o ≡ what_comes form value.now) }
+/// What an accumulation goes on with: the payload of an event that occurs, or each input.
+fn coming(alloc: Global, form: Accumulation, value: &Value) -> Result<Option<Value>, AllocError>
+    ensures { IfOk result (λ o. o ≡ what_comes form value.now) }
 {
     match form {
         Accumulation::AccumBy | Accumulation::AccumHoldBy => match occurs(value) {
-            Some(payload) => Ok(Some(payload.clone()?)),
+            Some(payload) => Ok(Some(payload.clone_in(alloc)?)),
             None => Ok(None),
         },
-        Accumulation::Scan => Ok(Some(Rc::new(alloc, value.clone_in(alloc)?)?)),
+        Accumulation::Scan => Ok(Some(value.clone_in(alloc)?)),
     }
 }
 
@@ -88,8 +86,8 @@ pub(crate) fn accumulate<R: Holds>(
     let came = coming(alloc, form, value)?;
     let comes = came.is_some();
     if let Some(argument) = came {
-        let before = Rc::new(alloc, accumulator.value.clone_in(alloc)?)?;
-        let both = Value::of_halves(before, argument);
+        let before = accumulator.value.clone_in(alloc)?;
+        let both = Value::pair(alloc, before, argument)?;
         let closure = &accumulator.closure;
         let next = apply(
             alloc,

@@ -1,9 +1,12 @@
 //! Functions that are made into one, as they are run: links one after another, each on the value in its place.
-ghost use Rattle.std.specs.Prelude.{◌≡◌, IfOk, OnOk};
+ghost use Rattle.std.specs.Prelude.{◌≡◌, true, false, IfOk, OnOk, option_to_list};
 ghost use Rattle.sf_func.specs.Registries.{AnswersByName};
 ghost use Rattle.sf_expr.specs.declared.exprs.Exprs.{Exprs};
 ghost use Rattle.sf_expr.specs.Expressions.{Function};
 ghost use Rattle.sf_expr.specs.Evaluation.{Scope, apply};
+ghost use Rattle.sf_code.specs.Arithmetic.{is_arithmetic as is_by_arithmetic};
+ghost use Rattle.sf_code.specs.CodeView.{code_of};
+ghost use Rattle.sf_code.specs.declared.arithmetic.Calculation.{Calculation};
 ghost use Rattle.sf_code.specs.Names.{scope_with};
 ghost use Rattle.sf_code.specs.Worth.{IsClosureOf};
 ghost use Rattle.sf_operator.specs.Answers.{EvaluatesAs};
@@ -13,7 +16,7 @@ ghost use Rattle.sf_mean.specs.Formulas.{apply_chain};
 ghost use Rattle.sf_term.specs.Trees.{on_side};
 ghost use Rattle.sf_prim.specs.Links.{on_part, closure_worth, link_worth, links_worth, held, IsLinkOf, AreLinksOf, AddsLinks};
 
-use sf_code::{Calculation, Closure, Names, OpenCode, apply_in_place, halves, is_arithmetic};
+use sf_code::{Calculation, Closure, Names, OpenCode, apply_in_place, is_arithmetic};
 use sf_func::Holds;
 use sf_law::PlanChain;
 use sf_operator::{EvalFault, number_in};
@@ -104,9 +107,11 @@ fn add_on_side<N: Names>(
     Ok(())
 }
 
-// A function as a link.
+// A function as a link: arithmetic alone hands its number on, and what has no name around it is run by its code alone.
 fn function_link(closure: Closure) -> Link
-    ensures { (s : Scope) (f : Function) → IsClosureOf s f closure → IsLinkOf s (apply f) result }
+    ensures made { (s : Scope) (f : Function) → IsClosureOf s f closure → IsLinkOf s (apply f) result }
+    ensures number { is_by_arithmetic (option_to_list closure.around) (code_of closure.function.value.code) ≡ true → (k : Calculation) × (result ≡ Link.Number k) }
+    ensures bare { is_by_arithmetic (option_to_list closure.around) (code_of closure.function.value.code) ≡ false → closure.around ≡ None → result ≡ Link.Function closure.function }
 {
     if is_arithmetic(&closure.function.code, &closure.around) {
         return Link::Number(Calculation { closure });
@@ -190,9 +195,9 @@ fn run_in_place<R: Holds>(
     }
 }
 
-// What a function makes of the value, over those of the names around it, in its place.
+/// What a function makes of the value, over those of the names around it, in its place.
 #[inline(never)]
-fn apply_closure<R: Holds>(
+pub(crate) fn apply_closure<R: Holds>(
     alloc: Global,
     closure: &Closure,
     functions: &R,
@@ -214,13 +219,13 @@ fn apply_closure<R: Holds>(
 fn fork(alloc: Global, value: &mut Value) -> Result<(), AllocError>
     ensures { OnOk result (value.new ≡ pair value.old value.old) }
 {
-    let first = Rc::new(alloc, mem::replace(value, Value::int(0)))?;
-    let second = first.clone()?;
-    *value = Value::of_halves(first, second);
+    let first = value.clone_in(alloc)?;
+    let second = mem::replace(value, Value::int(0));
+    *value = Value::pair(alloc, first, second)?;
     Ok(())
 }
 
-// What links on one part make of a pair, in its place.
+// What links on one part make of a pair, in its node, which is made its own.
 #[cycle(run)]
 #[inline(never)]
 fn run_on_side<R: Holds>(
@@ -232,37 +237,14 @@ fn run_on_side<R: Holds>(
 ) -> Result<(), EvalFault>
     ensures { EvaluatesAs (λ u. value.new) result (on_part side (links_worth links.now) (R.answers functions.now) value.old) }
 {
-    let (first, second) = halves(alloc, mem::replace(value, Value::int(0)))?;
+    let mut node = mem::replace(value, Value::int(0)).into_own_pair(alloc)?;
+    let Some(halves) = Rc::get_mut(&mut node) else {
+        return Err(EvalFault::Memory);
+    };
     match side {
-        Side::First => {
-            let made = run_on_part(alloc, links, functions, first)?;
-            *value = Value::of_halves(made, second);
-        }
-        Side::Second => {
-            let made = run_on_part(alloc, links, functions, second)?;
-            *value = Value::of_halves(first, made);
-        }
+        Side::First => run_links(alloc, links, functions, &mut halves.first)?,
+        Side::Second => run_links(alloc, links, functions, &mut halves.second)?,
     }
+    *value = Value::of_pair(node);
     Ok(())
-}
-
-// What links make of a part, in its place where it has no other owner.
-#[cycle(run)]
-#[inline(always)]
-fn run_on_part<R: Holds>(
-    alloc: Global,
-    links: &[Link],
-    functions: &R,
-    part: Rc<Value>,
-) -> Result<Rc<Value>, EvalFault>
-    ensures { EvaluatesAs (λ made. made.value) result (links_worth links.now (R.answers functions.now) part.value) }
-{
-    let mut part = part;
-    if let Some(own) = Rc::get_mut(&mut part) {
-        run_links(alloc, links, functions, own)?;
-        return Ok(part);
-    }
-    let mut made = part.clone_in(alloc)?;
-    run_links(alloc, links, functions, &mut made)?;
-    Ok(Rc::new(alloc, made)?)
 }

@@ -4,13 +4,13 @@ ghost use Rattle.sf_func.specs.Registries.{AnswersByName};
 ghost use Rattle.sf_expr.specs.Expressions.{Expression, Function};
 ghost use Rattle.sf_expr.specs.Evaluation.{Scope, functions_in, eval, apply as applied};
 ghost use Rattle.sf_code.specs.Names.{scope_with};
-ghost use Rattle.sf_code.specs.Worth.{IsCodeOf, IsCodeOfFunction, IsCodeOfFunctionIn, IsClosureOf};
+ghost use Rattle.sf_code.specs.Worth.{IsCodeOf, IsCodeOfFunction, IsCodeOfFunctionIn};
 ghost use Rattle.sf_operator.specs.Answers.{Evaluates};
 ghost use Rattle.sf_operator.specs.declared.fault.EvalFault.TheVariants.{Memory};
 ghost use Rattle.sf_prim.specs.Gifts.{gift};
 
 use crate::accumulator::{Accumulator, accumulate};
-use crate::chain::{Link, links_of, run_links};
+use crate::chain::{Link, apply_closure, links_of, run_links};
 use crate::events::{announce, count_event, hold, pass_later, rise};
 use crate::time::{Area, Timer, integrate, run_down, tell_time};
 use sf_code::{Closure, Names, OpenCode, apply_in_place, evaluate};
@@ -85,6 +85,9 @@ impl Drop for PrimState {
 
 impl PrimState {
     ghost use Rattle.std.specs.Prelude.{◌∷◌};
+    ghost use Rattle.std.specs.declared.rc.Rc.{Rc};
+    ghost use Rattle.std.specs.declared.alloc.Global.{Global};
+    ghost use Rattle.sf_code.specs.declared.open.OpenCode.{OpenCode};
     ghost use Rattle.sf_expr.specs.declared.exprs.Exprs.{Exprs};
     ghost use Rattle.sf_expr.specs.Evaluation.{answer, eval as worth};
     ghost use Rattle.sf_term.specs.Trees.{Primitive as Form, bare as bare_form, with_value as form_with_value, timed as timed_form, arrow as arrow_form};
@@ -132,13 +135,14 @@ impl PrimState {
         }
     }
 
-    // `arr f` with these names around it.
+    // `arr f` with these names around it: the code alone, where it has no name around it.
     fn arrow<N: Names>(
         alloc: Global,
         code: &Rc<OpenCode>,
         names: &N,
     ) -> Result<PrimState, AllocError>
-        ensures { IfOk result (λ prim. (φ : AnswersByName) (f : Function) → IsCodeOfFunction f code.now.value → Remembers prim (arrow_form f) (scope_with (N.values names.now) φ) []) }
+        ensures kept { IfOk result (λ prim. (φ : AnswersByName) (f : Function) → IsCodeOfFunction f code.now.value → Remembers prim (arrow_form f) (scope_with (N.values names.now) φ) []) }
+        ensures bare { code.now.value.around ≡ None → IfOk result (λ prim. (own : Rc OpenCode Global) × (prim ≡ PrimState.Arrow own)) }
     {
         let closure = Closure::new(alloc, code, names)?;
         match closure.around {
@@ -213,7 +217,7 @@ impl PrimState {
                 Ok(())
             }
             PrimState::Arrow(code) => replace(alloc, code, functions, value),
-            PrimState::Closed(closure) => replace_within(alloc, closure, functions, value),
+            PrimState::Closed(closure) => apply_closure(alloc, closure, functions, value),
             PrimState::Fused(links) => run_links(alloc, links, functions, value),
             PrimState::Accumulated(accumulator) => accumulate(alloc, accumulator, functions, value),
             PrimState::Clock(clock) => tell_time(clock, dt, value),
@@ -300,26 +304,6 @@ fn replace<R: Holds>(
         Evaluates (gift result value.new) (applied f value.old s) }
 {
     apply_in_place(alloc, &code.code, &None, functions, value)
-}
-
-// What a function with names around it makes of the input, in its place.
-#[inline(never)]
-fn replace_within<R: Holds>(
-    alloc: Global,
-    closure: &Closure,
-    functions: &R,
-    value: &mut Value,
-) -> Result<(), EvalFault>
-    ensures { (s : Scope) → functions_in s ≡ R.answers functions.now → (f : Function) → IsClosureOf s f closure.now →
-        Evaluates (gift result value.new) (applied f value.old s) }
-{
-    apply_in_place(
-        alloc,
-        &closure.function.code,
-        &closure.around,
-        functions,
-        value,
-    )
 }
 
 /// The value of a constant with these names around it. The error is the first fault of its operations, or `Memory`.

@@ -34,7 +34,7 @@ fn append(value: &Value, out: &mut Vec<u8>) -> Result<(), AllocError>
         Form::Bool(false) => out.extend_from_slice(b"false"),
         Form::Int(n) => write_integer(*n, out),
         Form::Text(s) => append_text(s.as_str(), out),
-        Form::Pair(first, second) => append_pair(first, second, out),
+        Form::Pair(halves) => append_pair(&halves.first, &halves.second, out),
         Form::NoEvent => out.extend_from_slice(b"none"),
         Form::Event(payload) => {
             out.extend_from_slice(b"event ")?;

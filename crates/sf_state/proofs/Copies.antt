@@ -16,7 +16,7 @@ use Rattle.sf_prim.specs.Keeping.{Remembers}
 use Rattle.sf_state.specs.declared.state.State.{State}
 use Rattle.sf_state.specs.declared.state.State.TheVariants.{Unborn, Primitive as SPrimitive, Live' as Alive', Switch' as Watching', Keeping', Frozen'}
 use Rattle.sf_state.specs.declared.state.Live.{Live}
-use Rattle.sf_state.specs.declared.state.Live.{items_hidden-the_row-State-0}
+use Rattle.sf_state.specs.declared.state.Live.{items_hidden-the_row-State-1}
 use Rattle.sf_state.specs.declared.state.Live.TheVariants.{Probe as LProbe, Join as LJoin, Pipeline as LPipeline, Wrap as LWrap}
 use Rattle.sf_state.specs.declared.state.Wrap.{Wrap}
 use Rattle.sf_state.specs.declared.state.Process.{Process as SProcess}
@@ -154,7 +154,7 @@ module _ (φ : AnswersByName) (p : Plan) where
 
   -- a pipeline lives where its stages stand
   pub pipeline_lives : (v : Vec State Global) {f g : Term} {e : Environment} {m : Made} {L : Life} → StagesStand φ p v.items (staged rest f g) e L → Lives φ p (LPipeline v) (staged whole f g) e m L
-  pipeline_lives v {f = f} {g = g} {e = e} {L = L} S = lives_pipeline (subst (λ (bs : List State). StagesStand φ p bs (staged rest f g) e L) (sym (items_hidden-the_row-State-0 v)) S)
+  pipeline_lives v {f = f} {g = g} {e = e} {L = L} S = lives_pipeline (subst (λ (bs : List State). StagesStand φ p bs (staged rest f g) e L) (sym (items_hidden-the_row-State-1 v)) S)
 
   stages_follow : {bs cs : List State} {u : Term} {e : Environment} {L : Life} → AllFollow φ p bs cs → StagesStand φ p bs u e L → StagesStand φ p cs u e L
   stages_follow none_follow S = elim S [ ]
@@ -163,7 +163,7 @@ module _ (φ : AnswersByName) (p : Plan) where
 
   pub pipeline_follows : (v w : Vec State Global) → AllFollow φ p v.items w.items → NodeFollows (LPipeline v) (LPipeline w)
   pipeline_follows v w fs P x L (ready h O (lives_pipeline {f = f} {g = g} {e = e} {L = K} S)) =
-      ready h O (pipeline_lives w (stages_follow fs (subst (λ (bs : List State). StagesStand φ p bs (staged rest f g) e K) (items_hidden-the_row-State-0 v) S)))
+      ready h O (pipeline_lives w (stages_follow fs (subst (λ (bs : List State). StagesStand φ p bs (staged rest f g) e K) (items_hidden-the_row-State-1 v) S)))
 
   follow_push : {bs cs : List State} (a b : State) → AllFollow φ p bs cs → Follows a b → AllFollow φ p (bs ++ a ∷ []) (cs ++ b ∷ [])
   follow_push a b none_follow f = more_follow f none_follow

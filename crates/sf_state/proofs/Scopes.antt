@@ -1,30 +1,36 @@
 -- The names around a part are those of its environment.
-use Rattle.std.proofs.Common.{◌≡◌, Bool, true, false, cond, [], Option, Some, None, refl, ap, sym, ◌∙◌, subst}
-use Rattle.std.specs.Prelude.{bytes_eq, IsTrue}
+use Rattle.std.proofs.Common.{◌≡◌, ℕ, suc, Bool, true, false, cond, List, [], ◌∷◌, Option, Some, None, refl, ap, sym, ◌∙◌, subst}
+use Rattle.std.specs.Prelude.{bytes_eq}
+use Rattle.std.specs.List.{slice_get}
 use Rattle.std.specs.declared.alloc.Global.{Global}
 use Rattle.std.specs.declared.rc.Rc.{Rc}
 use Rattle.sf_value.specs.declared.value.Value.{Value}
 use Rattle.sf_value.specs.Values.{Name, Data, first_of, second_of}
 use Rattle.sf_func.specs.Registries.{AnswersByName}
 use Rattle.sf_expr.specs.Expressions.{Pattern, unnamed, named, both}
-use Rattle.sf_expr.specs.Evaluation.{functions_in, other_name, bound_in}
+use Rattle.sf_expr.specs.Evaluation.{functions_in, value_name, other_name, bound_in}
+use Rattle.sf_expr.specs.Meanings.{place_behind}
 use Rattle.sf_expr.specs.Patterns.{pattern_of}
 use Rattle.sf_expr.specs.declared.exprs.NameId.{NameId}
 use Rattle.sf_expr.specs.declared.exprs.PatternId.{PatternId}
-use Rattle.sf_expr.specs.declared.exprs.Exprs.{Exprs}
 use Rattle.sf_expr.specs.Arena.{name_at, placed_at}
 use Rattle.sf_code.specs.Names.{ValuesByName, value_named, scope_with}
 use Rattle.sf_mean.specs.Lives.{Process, Environment, empty, known, running, base, bind, passing, process_of, scope_around}
 use Rattle.sf_law.specs.declared.plan.Plan.{Plan}
-use Rattle.sf_law.specs.Arena.{plan_expressions, plan_anew}
+use Rattle.sf_law.specs.Arena.{plan_expressions, header_at}
+use Rattle.sf_law.specs.Places.{names_of_parameters, last_parameter}
 use Rattle.sf_state.specs.declared.state.State.{State}
 use Rattle.sf_state.specs.declared.env.Env.{Env}
-use Rattle.sf_state.specs.declared.env.Env.TheVariants.{Bound', Running'}
+use Rattle.sf_state.specs.declared.env.Env.TheVariants.{Bound', Running', Called as ECalled}
+use Rattle.sf_state.specs.declared.env.Call.{Call, items-the_row-Given, items_hidden-the_row-Given-0}
+use Rattle.sf_state.specs.declared.env.Handed.{Handed}
+use Rattle.sf_state.specs.declared.env.Given.{Given}
+use Rattle.sf_state.specs.declared.env.Given.TheVariants.{Value as GValue, Process' as GProcess'}
 use Rattle.sf_state.specs.declared.env.Binding.{Binding}
 use Rattle.sf_state.specs.declared.env.Running.{Running}
 use Rattle.sf_state.specs.declared.state.Process.{Process as SProcess}
-use Rattle.sf_state.specs.Names.{values_inside, values_around}
-use Rattle.sf_state.specs.Standing.{IsNames, is_empty, is_bound, is_running, IsProcess, Stands, IsFound}
+use Rattle.sf_state.specs.Names.{given_value, handed_of, given_at, values_given, values_inside, values_around}
+use Rattle.sf_state.specs.Standing.{IsNames, is_empty, is_bound, is_running, is_called, AreGiven, nothing_given, value_is_given, process_is_given, IsHanded, IsFound}
 
 pub functions_around : (φ : AnswersByName) (e : Environment) → functions_in (scope_around φ e) ≡ φ
 functions_around φ empty = refl
@@ -42,15 +48,22 @@ environment_bound φ unnamed d e = refl
 environment_bound φ (named x) d e = refl
 environment_bound φ (both p q) d e = environment_bound φ q (second_of d) (bind p (first_of d) e) ∙ ap (bound_in q (second_of d)) (environment_bound φ p (first_of d) e)
 
+-- the scope of the values that are given
+scope_given : (φ : AnswersByName) (p : Plan) (xs : List Name) (gs : List Given) (d e : Environment) → AreGiven φ p xs gs d e → (vs : ValuesByName) → scope_with vs φ ≡ scope_around φ d → scope_with (values_given xs gs vs) φ ≡ scope_around φ e
+scope_given φ p xs gs d e nothing_given vs h = h
+scope_given φ p xs gs d e (value_is_given {x = x} {xs = ys} {v = v} {gs = hs} {d = b} G) vs h = scope_given φ p ys hs (known x v b) e G ((x, Some v) ∷ vs) (ap (value_name x v) h)
+scope_given φ p xs gs d e (process_is_given {x = x} {xs = ys} {gs = hs} {P = P} {d = b} A B G) vs h = scope_given φ p ys hs (running x P b) e G ((x, None) ∷ vs) (ap (other_name x) h)
+
 -- the scope of the values is that of the environment
-pub scope_is : (φ : AnswersByName) (p : Plan) (names : Env) (e : Environment) → IsNames φ p names e → scope_with (values_around (plan_expressions p) names) φ ≡ scope_around φ e
+pub scope_is : (φ : AnswersByName) (p : Plan) (names : Env) (e : Environment) → IsNames φ p names e → scope_with (values_around p names) φ ≡ scope_around φ e
 scope_is φ p names e is_empty = refl
 scope_is φ p names e (is_bound {q = i} {v = v} {names = outer} {e = around} N) =
     let q = pattern_of (placed_at (plan_expressions p) i) in
-    values_bound φ q v.value (values_around (plan_expressions p) outer)
+    values_bound φ q v.value (values_around p outer)
     ∙ ap (bound_in q v.value) (scope_is φ p outer around N)
     ∙ sym (environment_bound φ q v.value around)
 scope_is φ p names e (is_running {k = k} {names = outer} {e = around} A B N) = ap (other_name (name_at (plan_expressions p) k)) (scope_is φ p outer around N)
+scope_is φ p names e (is_called {g = g} {row = row} G) = scope_given φ p (names_of_parameters (plan_expressions p) (header_at p g).parameters) (items-the_row-Given _ row) empty e G [] refl
 
 -- what stands behind a value under the same name
 hidden_by : Option Data → Process → Process
@@ -83,7 +96,7 @@ module _ (φ : AnswersByName) (p : Plan) where
   found_value x i v names d e h (is_bound {e = around} N) = process_inside x (pattern_of (placed_at (plan_expressions p) i)) v.value around ∙ ap (λ o. hidden_by o (process_of x around)) h
 
   -- behind a pattern without a name stands what stands around it
-  pub found_outside : {at : _} (x : Name) (i : PatternId) (v : Rc Value Global) (names : Env) (found : Option Running) (e : Environment) → part_of i v.value x ≡ None
+  pub found_outside : {at : _} (x : Name) (i : PatternId) (v : Rc Value Global) (names : Env) (found : Option Handed) (e : Environment) → part_of i v.value x ≡ None
       → ((e : Environment) → IsNames φ p names e → IsFound φ p found (process_of x e)) → IsNames φ p (Bound' at i v names) e → IsFound φ p found (process_of x e)
   unfolding hidden_by
   found_outside x i v names found e h outside (is_bound {e = around} N) =
@@ -91,11 +104,11 @@ module _ (φ : AnswersByName) (p : Plan) where
 
   -- under its name stands a process
   pub found_there : {at : _} (x : Name) (r : Running) (e : Environment) → bytes_eq x (name_at (plan_expressions p) r.name) ≡ true
-      → IsNames φ p (Running' at r.name r.process r.base.term r.base.names r.around) e → IsFound φ p (Some r) (process_of x e)
-  found_there x r e h (is_running {P = P} {e = around} A B N) = subst (λ c. IsFound φ p (Some r) (cond c P (process_of x around))) (sym h) (A, B)
+      → IsNames φ p (Running' at r.name r.handed.process r.handed.base.term r.handed.base.names r.around) e → IsFound φ p (Some r.handed) (process_of x e)
+  found_there x r e h (is_running {P = P} {e = around} A B N) = subst (λ c. IsFound φ p (Some r.handed) (cond c P (process_of x around))) (sym h) (A, B)
 
   -- behind a process of another name
-  pub found_further : {at : _} (x : Name) (k : NameId) (a : State) (b : SProcess) (names : Env) (found : Option Running) (e : Environment) → bytes_eq x (name_at (plan_expressions p) k) ≡ false
+  pub found_further : {at : _} (x : Name) (k : NameId) (a : State) (b : SProcess) (names : Env) (found : Option Handed) (e : Environment) → bytes_eq x (name_at (plan_expressions p) k) ≡ false
       → ((e : Environment) → IsNames φ p names e → IsFound φ p found (process_of x e)) → IsNames φ p (Running' at k a b.term b.names names) e → IsFound φ p found (process_of x e)
   found_further x k a b names found e h outside (is_running {P = P} {e = around} A B N) = subst (λ c. IsFound φ p found (cond c P (process_of x around))) (sym h) (outside around N)
 
@@ -106,20 +119,116 @@ module _ (φ : AnswersByName) (p : Plan) where
   pub names_follow : {at at' : _} (b c : Binding) → c ≡ b → (e : Environment) → IsNames φ p (Bound' at b.pattern b.value b.around) e → IsNames φ p (Bound' at' c.pattern c.value c.around) e
   names_follow {at' = at'} b c same e N = subst (λ (c : Binding). IsNames φ p (Bound' at' c.pattern c.value c.around) e) (sym same) (names_moved N)
 
-  running_moved : {at at' : _} {b : Running} {e : Environment} → IsNames φ p (Running' at b.name b.process b.base.term b.base.names b.around) e → IsNames φ p (Running' at' b.name b.process b.base.term b.base.names b.around) e
+  running_moved : {at at' : _} {b : Running} {e : Environment} → IsNames φ p (Running' at b.name b.handed.process b.handed.base.term b.handed.base.names b.around) e → IsNames φ p (Running' at' b.name b.handed.process b.handed.base.term b.handed.base.names b.around) e
   running_moved (is_running A B N) = is_running A B N
 
-  pub running_follows : {at at' : _} (b c : Running) → c ≡ b → (e : Environment) → IsNames φ p (Running' at b.name b.process b.base.term b.base.names b.around) e → IsNames φ p (Running' at' c.name c.process c.base.term c.base.names c.around) e
-  running_follows {at' = at'} b c same e N = subst (λ (c : Running). IsNames φ p (Running' at' c.name c.process c.base.term c.base.names c.around) e) (sym same) (running_moved N)
+  pub running_follows : {at at' : _} (b c : Running) → c ≡ b → (e : Environment) → IsNames φ p (Running' at b.name b.handed.process b.handed.base.term b.handed.base.names b.around) e → IsNames φ p (Running' at' c.name c.handed.process c.handed.base.term c.handed.base.names c.around) e
+  running_follows {at' = at'} b c same e N = subst (λ (c : Running). IsNames φ p (Running' at' c.name c.handed.process c.handed.base.term c.handed.base.names c.around) e) (sym same) (running_moved N)
 
   -- a pattern's names around a part, once they are bound
   pub names_bound_inside : {at : _} (b c : Binding) → c ≡ b → (e : Environment) → IsNames φ p b.around e → IsNames φ p (Bound' at c.pattern c.value c.around) (bind (pattern_of (placed_at (plan_expressions p) b.pattern)) b.value.value e)
   names_bound_inside {at} b c same e N = subst (λ (c : Binding). IsNames φ p (Bound' at c.pattern c.value c.around) (bind (pattern_of (placed_at (plan_expressions p) b.pattern)) b.value.value e)) (sym same) (is_bound N)
 
   -- the same of a process under its name
-  pub names_running_inside : {at : _} (b c : Running) → c ≡ b → (e : Environment) (P : Process) → IsNames φ p b.around e → Stands φ p b.process P [] → (IsTrue (plan_anew p) → IsProcess φ p b.base (base P)) → IsNames φ p (Running' at c.name c.process c.base.term c.base.names c.around) (running (name_at (plan_expressions p) b.name) P e)
-  names_running_inside {at} b c same e P N A B = subst (λ (c : Running). IsNames φ p (Running' at c.name c.process c.base.term c.base.names c.around) (running (name_at (plan_expressions p) b.name) P e)) (sym same) (is_running A B N)
+  pub names_running_inside : {at : _} (b c : Running) → c ≡ b → (e : Environment) (P : Process) → IsNames φ p b.around e → IsHanded φ p b.handed P → IsNames φ p (Running' at c.name c.handed.process c.handed.base.term c.handed.base.names c.around) (running (name_at (plan_expressions p) b.name) P e)
+  names_running_inside {at} b c same e P N H = subst (λ (c : Running). IsNames φ p (Running' at c.name c.handed.process c.handed.base.term c.handed.base.names c.around) (running (name_at (plan_expressions p) b.name) P e)) (sym same) (is_running H.0 H.1 N)
 
--- what is found under a name among names of a plan with these expressions
-abbrev pub Finds : Exprs → Name → Env → Option Running → Type 0
-Finds x name names found = (φ : AnswersByName) (p : Plan) (e : Environment) → x ≡ plan_expressions p → IsNames φ p names e → IsFound φ p found (process_of name e)
+-- ## What is given side by side
+
+module _ (x : Name) where
+  -- what the value of a name is, that of its last place or else another
+  abbrev value_found : Option ℕ → List Given → Option Data → Option Data
+  value_found None gs o = o
+  value_found (Some i) gs o = given_value (slice_get gs i)
+
+  value_placed : (xs : List Name) (gs : List Given) (vs : ValuesByName) → value_named (values_given xs gs vs) x ≡ value_found (last_parameter x xs) gs (value_named vs x)
+  value_placed [] gs vs = refl
+  value_placed (y ∷ ys) [] vs = value_placed ys [] ((y, None) ∷ vs) ∙ each (bytes_eq x y) (last_parameter x ys)
+    where
+      each : (b : Bool) (o : Option ℕ) → value_found o [] (cond b None (value_named vs x)) ≡ value_found (place_behind b o) [] (value_named vs x)
+      each true None = refl
+      each false None = refl
+      each b (Some i) = refl
+  value_placed (y ∷ ys) (g ∷ gs) vs = value_placed ys gs ((y, given_value (Some g)) ∷ vs) ∙ each (bytes_eq x y) (last_parameter x ys)
+    where
+      each : (b : Bool) (o : Option ℕ) → value_found o gs (cond b (given_value (Some g)) (value_named vs x)) ≡ value_found (place_behind b o) (g ∷ gs) (value_named vs x)
+      each true None = refl
+      each false None = refl
+      each b (Some i) = refl
+
+  -- the value of a name is what is given at its last place
+  pub value_of_place : (xs : List Name) (gs : List Given) → given_value (given_at (last_parameter x xs) gs) ≡ value_named (values_given xs gs []) x
+  value_of_place xs gs = each (last_parameter x xs) ∙ sym (value_placed xs gs [])
+    where
+      each : (o : Option ℕ) → given_value (given_at o gs) ≡ value_found o gs None
+      each None = refl
+      each (Some i) = refl
+
+  module _ (φ : AnswersByName) (p : Plan) where
+    -- a name that has no place stands for what it stood for
+    process_past : (xs : List Name) (gs : List Given) (d e : Environment) → AreGiven φ p xs gs d e → last_parameter x xs ≡ None → process_of x e ≡ process_of x d
+    process_past xs gs d e nothing_given h = refl
+    process_past xs gs d e (value_is_given {x = y} {xs = ys} {v = v} {gs = hs} {d = b} G) h = each (bytes_eq x y) (last_parameter x ys) h (process_past ys hs (known y v b) e G)
+      where
+        each : (c : Bool) (o : Option ℕ) → place_behind c o ≡ None → (o ≡ None → process_of x e ≡ cond c passing (process_of x b)) → process_of x e ≡ process_of x d
+        each true None h rest = absurd cc
+        each false None h rest = rest refl
+        each c (Some i) h rest = absurd cc
+    process_past xs gs d e (process_is_given {x = y} {xs = ys} {gs = hs} {P = P} {d = b} A B G) h = each (bytes_eq x y) (last_parameter x ys) h (process_past ys hs (running y P b) e G)
+      where
+        each : (c : Bool) (o : Option ℕ) → place_behind c o ≡ None → (o ≡ None → process_of x e ≡ cond c P (process_of x b)) → process_of x e ≡ process_of x d
+        each true None h rest = absurd cc
+        each false None h rest = rest refl
+        each c (Some i) h rest = absurd cc
+
+    -- one that has stands for the process that is given there, if one is
+    process_placed : (xs : List Name) (gs : List Given) (d e : Environment) (i : ℕ) → AreGiven φ p xs gs d e → last_parameter x xs ≡ Some i → IsFound φ p (handed_of (slice_get gs i)) (process_of x e)
+    process_placed xs gs d e i nothing_given h = absurd cc
+    process_placed xs gs d e i (value_is_given {x = y} {xs = ys} {v = v} {gs = hs} {d = b} G) h =
+        each (bytes_eq x y) (last_parameter x ys) h (process_past ys hs (known y v b) e G) (λ j. process_placed ys hs (known y v b) e j G)
+      where
+        each : (c : Bool) (o : Option ℕ) → place_behind c o ≡ Some i → (o ≡ None → process_of x e ≡ cond c passing (process_of x b)) → ((j : ℕ) → o ≡ Some j → IsFound φ p (handed_of (slice_get hs j)) (process_of x e))
+            → IsFound φ p (handed_of (slice_get (GValue v ∷ hs) i)) (process_of x e)
+        each true None h past rest = let z : 0 ≡ i = cc in subst (λ k. IsFound φ p (handed_of (slice_get (GValue v ∷ hs) k)) (process_of x e)) z (past refl)
+        each false None h past rest = absurd cc
+        each c (Some j) h past rest = let z : suc j ≡ i = cc in subst (λ k. IsFound φ p (handed_of (slice_get (GValue v ∷ hs) k)) (process_of x e)) z (rest j refl)
+    process_placed xs gs d e i (process_is_given {x = y} {xs = ys} {a = a} {b = t} {inner = inner} {gs = hs} {P = P} {d = b} A B G) h =
+        each (bytes_eq x y) (last_parameter x ys) h (process_past ys hs (running y P b) e G) (λ j. process_placed ys hs (running y P b) e j G)
+      where
+        each : (c : Bool) (o : Option ℕ) → place_behind c o ≡ Some i → (o ≡ None → process_of x e ≡ cond c P (process_of x b)) → ((j : ℕ) → o ≡ Some j → IsFound φ p (handed_of (slice_get hs j)) (process_of x e))
+            → IsFound φ p (handed_of (slice_get (GProcess' a t inner ∷ hs) i)) (process_of x e)
+        each true None h past rest = let z : 0 ≡ i = cc in subst (λ k. IsFound φ p (handed_of (slice_get (GProcess' a t inner ∷ hs) k)) (process_of x e)) z (subst (λ Q. IsFound φ p (handed_of (Some (GProcess' a t inner))) Q) (sym (past refl)) (A, B))
+        each false None h past rest = absurd cc
+        each c (Some j) h past rest = let z : suc j ≡ i = cc in subst (λ k. IsFound φ p (handed_of (slice_get (GProcess' a t inner ∷ hs) k)) (process_of x e)) z (rest j refl)
+
+    -- the process of a name is the one that is given at its last place
+    pub process_of_place : (xs : List Name) (gs : List Given) (e : Environment) → AreGiven φ p xs gs empty e → IsFound φ p (handed_of (given_at (last_parameter x xs) gs)) (process_of x e)
+    process_of_place xs gs e G = each (last_parameter x xs) (process_past xs gs empty e G) (λ i. process_placed xs gs empty e i G)
+      where
+        each : (o : Option ℕ) → (o ≡ None → process_of x e ≡ passing) → ((i : ℕ) → o ≡ Some i → IsFound φ p (handed_of (slice_get gs i)) (process_of x e)) → IsFound φ p (handed_of (given_at o gs)) (process_of x e)
+        each None past there = past refl
+        each (Some i) past there = there i refl
+
+-- the names of a call
+abbrev pub names_called : Plan → Call → List Name
+names_called p c = names_of_parameters (plan_expressions p) (header_at p c.template).parameters
+
+-- what is given in a call
+module _ (φ : AnswersByName) (p : Plan) where
+  pub called_is : (r : Rc Call Global) (e : Environment) → AreGiven φ p (names_called p r.value) r.value.arguments.items empty e → IsNames φ p (ECalled r) e
+  called_is r e G = is_called (subst (λ (gs : List Given). AreGiven φ p (names_called p r.value) gs empty e) (sym (items_hidden-the_row-Given-0 r.value.arguments)) G)
+
+  called_gives : (r : Rc Call Global) (e : Environment) → IsNames φ p (ECalled r) e → AreGiven φ p (names_called p r.value) r.value.arguments.items empty e
+  called_gives r e (is_called G) = subst (λ (gs : List Given). AreGiven φ p (names_called p r.value) gs empty e) (items_hidden-the_row-Given-0 r.value.arguments) G
+
+  pub called_of : (c : Call) (r : Rc Call Global) → r.value ≡ c → (e : Environment) → AreGiven φ p (names_called p c) c.arguments.items empty e → IsNames φ p (ECalled r) e
+  called_of c r same e G = called_is r e (subst (λ (c : Call). AreGiven φ p (names_called p c) c.arguments.items empty e) (sym same) G)
+
+  pub called_follows : (r s : Rc Call Global) → s.value ≡ r.value → (e : Environment) → IsNames φ p (ECalled r) e → IsNames φ p (ECalled s) e
+  called_follows r s same e N = called_of r.value s same e (called_gives r e N)
+
+  pub found_called : (x : Name) (r : Rc Call Global) (e : Environment) → IsNames φ p (ECalled r) e → IsFound φ p (handed_of (given_at (last_parameter x (names_called p r.value)) r.value.arguments.items)) (process_of x e)
+  found_called x r e N = process_of_place x φ p (names_called p r.value) r.value.arguments.items e (called_gives r e N)
+
+pub value_called : (p : Plan) (x : Name) (r : Rc Call Global) → given_value (given_at (last_parameter x (names_called p r.value)) r.value.arguments.items) ≡ value_named (values_around p (ECalled r)) x
+value_called p x r = ap (λ (gs : List Given). given_value (given_at (last_parameter x (names_called p r.value)) gs)) (sym (items_hidden-the_row-Given-0 r.value.arguments)) ∙ value_of_place x (names_called p r.value) _

@@ -18,12 +18,14 @@ use Rattle.sf_term.specs.declared.form.Observation.{Observation}
 use Rattle.sf_term.specs.declared.form.Switching.{Switching}
 use Rattle.sf_term.specs.declared.form.Switching.TheVariants.{Basic, Recurring}
 use Rattle.sf_term.specs.Trees.{Primitive, probe, whole, rest, Term, primitive, Reference, reference, joined, sided, headed, switching, keeping, staged}
-use Rattle.sf_mean.specs.Lives.{Step, Life, Process, closure, resumed, Environment, empty, running, base, bind, passing, scope_around, first_input, with_inputs, relay, observed_life, after, fed_back, older, fed}
+use Rattle.sf_mean.specs.Lives.{Step, Life, Process, closure, resumed, Environment, empty, known, running, base, bind, passing, scope_around, first_input, with_inputs, relay, observed_life, after, fed_back, older, fed}
 use Rattle.sf_mean.specs.Formulas.{at_first, side_of}
 use Rattle.sf_mean.specs.Meaning.{Network, Made, value_made, referred, make, left_life, right_life, itself as watched_itself, observed, waits, fired, body_of, body_with, whenever, last_event, since_event, what_runs, Outputs, Loops, Since}
 use Rattle.sf_law.specs.declared.node.PlanId.{PlanId}
+use Rattle.sf_law.specs.declared.node.TemplateId.{TemplateId}
+use Rattle.sf_law.specs.Places.{names_of_parameters}
 use Rattle.sf_law.specs.declared.plan.Plan.{Plan}
-use Rattle.sf_law.specs.Arena.{plan_tree, plan_expressions, plan_anew, network_of_plan}
+use Rattle.sf_law.specs.Arena.{plan_tree, plan_expressions, plan_anew, header_at, network_of_plan}
 use Rattle.sf_prim.specs.declared.prim_state.PrimState.{PrimState}
 use Rattle.sf_prim.specs.Keeping.{Remembers}
 use Rattle.sf_state.specs.declared.state.State.{State}
@@ -39,8 +41,11 @@ use Rattle.sf_state.specs.declared.state.Keeping.{Keeping}
 use Rattle.sf_state.specs.declared.state.Kept.{Kept}
 use Rattle.sf_state.specs.declared.state.Kept.TheVariants.{Primitive as KPrimitive, Live' as KLive', Switch' as KSwitch', Keeping' as KKeeping'}
 use Rattle.sf_state.specs.declared.env.Env.{Env}
-use Rattle.sf_state.specs.declared.env.Running.{Running}
-use Rattle.sf_state.specs.declared.env.Env.TheVariants.{Empty as SEmpty, Bound', Running'}
+use Rattle.sf_state.specs.declared.env.Handed.{Handed}
+use Rattle.sf_state.specs.declared.env.Given.{Given}
+use Rattle.sf_state.specs.declared.env.Given.TheVariants.{Value as GValue, Process' as GProcess'}
+use Rattle.sf_state.specs.declared.env.Call.{items-the_row-Given}
+use Rattle.sf_state.specs.declared.env.Env.TheVariants.{Empty as SEmpty, Bound', Running', Called'}
 
 -- What a form with one part keeps after a life; the part, and the life that the part has led.
 pub data Wraps (n : Network) : Wrap → Term → Environment → Made → Life → Term → Life → Type 0 where
@@ -107,6 +112,16 @@ mutual
     -- a process that has lived no step, beside what it began as, where processes may begin anew
     is_running : {at : _} {k : NameId} {a : State} {b : PlanId} {inner names : Env} {P : Process} {e : Environment}
         → Stands φ p a P [] → (IsTrue (plan_anew p) → IsProcess φ p (closed_over b inner) (base P)) → IsNames φ p names e → IsNames φ p (Running' at k a b inner names) (running (name_at (plan_expressions p) k) P e)
+    -- what is given for the parameters of a template
+    is_called : {at : _} {g : TemplateId} {shape row : _} {e : Environment}
+        → AreGiven φ p (names_of_parameters (plan_expressions p) (header_at p g).parameters) (items-the_row-Given _ row) empty e → IsNames φ p (Called' at g shape row) e
+
+  -- Names stand for what is given, each inside the names before it, the first inside an environment.
+  pub data AreGiven (φ : AnswersByName) (p : Plan) : List Name → List Given → Environment → Environment → Type 0 where
+    nothing_given : {d : Environment} → AreGiven φ p [] [] d d
+    value_is_given : {x : Name} {xs : List Name} {v : Data} {gs : List Given} {d e : Environment} → AreGiven φ p xs gs (known x v d) e → AreGiven φ p (x ∷ xs) (GValue v ∷ gs) d e
+    process_is_given : {x : Name} {xs : List Name} {a : State} {b : PlanId} {inner : Env} {gs : List Given} {P : Process} {d e : Environment}
+        → Stands φ p a P [] → (IsTrue (plan_anew p) → IsProcess φ p (closed_over b inner) (base P)) → AreGiven φ p xs gs (running x P d) e → AreGiven φ p (x ∷ xs) (GProcess' a b inner ∷ gs) d e
 
   -- what can be run
   pub data IsProcess (φ : AnswersByName) (p : Plan) : SProcess → Process → Type 0 where
@@ -201,10 +216,13 @@ mutual
         → Outputs (network_of_plan φ p) (closure f e) L ys → Stands φ p a (closure f e) L → StagesStand φ p bs g e (relay L ys)
         → StagesStand φ p (a ∷ bs) (staged rest f g) e L
 
--- the process that was found under a name, beside what it began as, where processes may begin anew; where none was, inputs
--- pass
-abbrev pub IsFound : AnswersByName → Plan → Option Running → Process → Type 0
-IsFound φ p (Some r) P = Stands φ p r.process P [] × (IsTrue (plan_anew p) → IsProcess φ p r.base (base P))
+-- what stands under a name for a process, beside what that began as, where processes may begin anew
+abbrev pub IsHanded : AnswersByName → Plan → Handed → Process → Type 0
+IsHanded φ p h P = Stands φ p h.process P [] × (IsTrue (plan_anew p) → IsProcess φ p h.base (base P))
+
+-- the process that was found under a name; where none was, inputs pass
+abbrev pub IsFound : AnswersByName → Plan → Option Handed → Process → Type 0
+IsFound φ p (Some h) P = IsHanded φ p h P
 IsFound φ p None P = P ≡ passing
 
 -- Each state stands for all that the one at its place stands for.

@@ -1,23 +1,27 @@
 //! What names stand for.
-ghost use Rattle.std.specs.Prelude.{◌≡◌, ◌<◌, [], bytes_eq, option_map, IsTrue, IfOk};
+ghost use Rattle.std.specs.Prelude.{◌≡◌, ◌<◌, ◌≤◌, bytes_eq, option_map, IsTrue, IfOk};
 ghost use Rattle.std.specs.Map.{lookup};
 ghost use Rattle.sf_func.specs.Registries.{AnswersByName};
 ghost use Rattle.sf_expr.specs.Arena.{placed_at, name_at};
 ghost use Rattle.sf_expr.specs.Expressions.{unnamed};
 ghost use Rattle.sf_expr.specs.Patterns.{pattern_of};
-ghost use Rattle.sf_mean.specs.Lives.{Environment, Process as ProcessOf, bind, running, base as base_of, process_of};
-ghost use Rattle.sf_law.specs.declared.plan.Plan.{Plan};
-ghost use Rattle.sf_law.specs.Arena.{plan_expressions, plan_anew};
+ghost use Rattle.sf_mean.specs.Lives.{Environment, Process as ProcessOf, empty, bind, running, process_of};
+ghost use Rattle.sf_law.specs.declared.plan.Plan.{Plan as PlanOf};
+ghost use Rattle.sf_law.specs.Arena.{plan_expressions, plan_anew, header_at};
+ghost use Rattle.sf_law.specs.Places.{last_parameter, names_of_parameters};
 ghost use Rattle.sf_code.specs.Names.{ValuesByName, value_named};
 ghost use Rattle.sf_state.specs.declared.env.Env.{size-Env};
 ghost use Rattle.sf_state.specs.declared.env.Binding.{size-Binding};
 ghost use Rattle.sf_state.specs.declared.env.Running.{size-Running};
-ghost use Rattle.sf_state.specs.Names.{found_or, values_inside, values_around};
-ghost use Rattle.sf_state.specs.Standing.{IsNames, IsProcess, Stands, IsFound};
+ghost use Rattle.sf_state.specs.declared.env.Handed.{size-Handed};
+ghost use Rattle.sf_state.specs.declared.env.Call.{size-Call};
+ghost use Rattle.sf_state.specs.Names.{found_or, given_at, handed_of, given_value, values_inside, values_around};
+ghost use Rattle.sf_state.specs.Standing.{IsNames, AreGiven, IsHanded, IsFound};
 
 use crate::state::{Process, State};
 use sf_code::Names;
 use sf_expr::{Exprs, NameId, Pat, PatForm, PatternId};
+use sf_law::{Plan, TemplateId};
 use sf_value::{Form, Value};
 use std::alloc::{AllocError, Global};
 use std::rc::Rc;
@@ -31,6 +35,8 @@ pub enum Env {
     Bound(Rc<Binding>),
     /// That of a process, and those around it. They may be shared.
     Running(Rc<Running>),
+    /// Those of a template's parameters, in a call with many. They may be shared.
+    Called(Rc<Call>),
 }
 
 // Names may hold a long chain of processes, each with the names around it: they are let go in a loop.
@@ -62,6 +68,10 @@ impl Env {
                     Some(own) => self = own.left(),
                     None => return,
                 },
+                Env::Called(call) => match Rc::into_inner(call) {
+                    Some(own) => self = own.left(),
+                    None => return,
+                },
             }
         }
     }
@@ -72,6 +82,7 @@ impl Env {
             Env::Empty => false,
             Env::Bound(binding) => Rc::strong_count(binding) == 1,
             Env::Running(running) => Rc::strong_count(running) == 1,
+            Env::Called(call) => Rc::strong_count(call) == 1,
         }
     }
 }
@@ -99,24 +110,53 @@ impl Running {
     {
         let Running {
             name: _,
-            process,
-            base,
+            handed,
             around,
         } = self;
-        let names = process.left();
-        let first = base.left();
+        let names = handed.left();
         if names.is_last() {
-            drop(first);
             drop(around);
             return names;
         }
         drop(names);
-        if first.is_last() {
-            drop(around);
-            return first;
-        }
-        drop(first);
         around
+    }
+}
+
+impl Handed {
+    // The same of a process.
+    #[cycle(state)]
+    fn left(self) -> Env
+        ensures { size-Env result < size-Handed self }
+    {
+        let Handed { process, base } = self;
+        let names = process.left();
+        let first = base.left();
+        if names.is_last() {
+            drop(first);
+            return names;
+        }
+        drop(names);
+        first
+    }
+}
+
+impl Call {
+    // The same of a call.
+    #[cycle(state)]
+    fn left(mut self) -> Env
+        ensures { size-Env result ≤ size-Call self }
+    {
+        while let Some(given) = self.arguments.pop() {
+            if let Given::Process(handed) = given {
+                let names = handed.left();
+                if names.is_last() {
+                    return names;
+                }
+                drop(names);
+            }
+        }
+        Env::Empty
     }
 }
 
@@ -138,19 +178,76 @@ pub struct Binding {
 pub struct Running {
     /// The name, in the expressions of the plan.
     pub name: NameId,
+    /// The process.
+    pub handed: Handed,
+    /// The names around it.
+    pub around: Env,
+}
+
+/// A process that stands under a name.
+#[derive(Drop)]
+#[cycle(state)]
+pub struct Handed {
     /// The process, of which no step has been lived.
     pub process: State,
     /// What it began as: itself, or where it was frozen what it was before it lived. In a plan in which no process begins
     /// anew nothing asks for it, and it may be anything.
     pub base: Process,
-    /// The names around it.
-    pub around: Env,
+}
+
+/// What the parameters of a template stand for in a call.
+#[derive(Drop)]
+#[cycle(state)]
+pub struct Call {
+    /// The template.
+    pub template: TemplateId,
+    /// What its parameters stand for, in their order.
+    pub arguments: Vec<Given>,
+}
+
+/// What a parameter stands for.
+#[derive(Drop)]
+#[cycle(state)]
+pub enum Given {
+    /// A value.
+    Value(Value),
+    /// A process.
+    Process(Handed),
+}
+
+impl Call {
+    // What a parameter of a name stands for: of the same names the last counts.
+    fn given<'r>(&'r self, plan: &Plan, name: &str) -> Option<&'r Given>
+        ensures { option_map (λ g. g.now) result ≡ given_at (last_parameter name.now (names_of_parameters (plan_expressions plan.now) (header_at plan.now self.now.template).parameters)) self.now.arguments.items }
+    {
+        self.arguments.get(plan.place(self.template, name)?)
+    }
+
+    // The same, if that is a process.
+    fn handed<'r>(&'r self, plan: &Plan, name: &str) -> Option<&'r Handed>
+        ensures { option_map (λ h. h.now) result ≡ handed_of (given_at (last_parameter name.now (names_of_parameters (plan_expressions plan.now) (header_at plan.now self.now.template).parameters)) self.now.arguments.items) }
+    {
+        match self.given(plan, name) {
+            Some(Given::Process(handed)) => Some(handed),
+            _ => None,
+        }
+    }
+
+    // The same, if that is a value.
+    fn value<'r>(&'r self, plan: &Plan, name: &str) -> Option<&'r Value>
+        ensures { option_map (λ v. v.now) result ≡ given_value (given_at (last_parameter name.now (names_of_parameters (plan_expressions plan.now) (header_at plan.now self.now.template).parameters)) self.now.arguments.items) }
+    {
+        match self.given(plan, name) {
+            Some(Given::Value(value)) => Some(value),
+            _ => None,
+        }
+    }
 }
 
 impl Env {
     /// The same names, shared. The error is too many owners of one name.
     pub fn share(&self) -> Result<Env, AllocError>
-        ensures { IfOk result (λ names. (φ : AnswersByName) (p : Plan) (e : Environment) → IsNames φ p self.now e → IsNames φ p names e) }
+        ensures { IfOk result (λ names. (φ : AnswersByName) (p : PlanOf) (e : Environment) → IsNames φ p self.now e → IsNames φ p names e) }
     {
         match self {
             Env::Empty => Ok(Env::Empty),
@@ -162,12 +259,16 @@ impl Env {
                 let same = running.clone()?;
                 Ok(Env::Running(same))
             }
+            Env::Called(call) => {
+                let both = call.clone()?;
+                Ok(Env::Called(both))
+            }
         }
     }
 
     // The same names where they are asked for, else none. The error is too many owners of one name.
     pub(crate) fn share_where(&self, asked: bool) -> Result<Env, AllocError>
-        ensures { IfOk result (λ names. IsTrue asked → (φ : AnswersByName) (p : Plan) (e : Environment) → IsNames φ p self.now e → IsNames φ p names e) }
+        ensures { IfOk result (λ names. IsTrue asked → (φ : AnswersByName) (p : PlanOf) (e : Environment) → IsNames φ p self.now e → IsNames φ p names e) }
     {
         if asked { self.share() } else { Ok(Env::Empty) }
     }
@@ -181,7 +282,7 @@ impl Env {
         pattern: PatternId,
         value: Rc<Value>,
     ) -> Result<Env, AllocError>
-        ensures { IfOk result (λ names. (φ : AnswersByName) (p : Plan) → expressions.now ≡ plan_expressions p → (e : Environment) → IsNames φ p self.now e →
+        ensures { IfOk result (λ names. (φ : AnswersByName) (p : PlanOf) → expressions.now ≡ plan_expressions p → (e : Environment) → IsNames φ p self.now e →
             IsNames φ p names (bind (pattern_of (placed_at (plan_expressions p) pattern)) value.value e)) }
     {
         let around = self.share()?;
@@ -205,10 +306,9 @@ impl Env {
         &self,
         alloc: Global,
         name: NameId,
-        process: State,
-        base: Process,
+        handed: Handed,
     ) -> Result<Env, AllocError>
-        ensures { IfOk result (λ names. (φ : AnswersByName) (p : Plan) (e : Environment) (P : ProcessOf) → IsNames φ p self.now e → Stands φ p process P [] → (IsTrue (plan_anew p) → IsProcess φ p base (base_of P)) →
+        ensures { IfOk result (λ names. (φ : AnswersByName) (p : PlanOf) (e : Environment) (P : ProcessOf) → IsNames φ p self.now e → IsHanded φ p handed P →
             IsNames φ p names (running (name_at (plan_expressions p) name) P e)) }
     {
         let around = self.share()?;
@@ -216,59 +316,77 @@ impl Env {
             alloc,
             Running {
                 name,
-                process,
-                base,
+                handed,
                 around,
             },
         )?;
         Ok(Env::Running(running))
     }
 
-    /// What a name stands for, if that is a process: of the same names the innermost counts. The names are those of a plan
-    /// with these expressions.
-    pub fn running<'r>(&'r self, expressions: &Exprs, name: &str) -> Option<&'r Running>
-        ensures { (φ : AnswersByName) (p : Plan) (e : Environment) → expressions.now ≡ plan_expressions p → IsNames φ p self.now e →
-            IsFound φ p (option_map (λ r. r.now) result) (process_of name.now e) }
+    /// The names of a template's parameters, in a call in which they stand for these. The error is a want of memory.
+    pub fn of_call(
+        alloc: Global,
+        template: TemplateId,
+        arguments: Vec<Given>,
+    ) -> Result<Env, AllocError>
+        ensures { IfOk result (λ names. (φ : AnswersByName) (p : PlanOf) (e : Environment) → AreGiven φ p (names_of_parameters (plan_expressions p) (header_at p template).parameters) arguments.items empty e → IsNames φ p names e) }
+    {
+        let call = Rc::new(
+            alloc,
+            Call {
+                template,
+                arguments,
+            },
+        )?;
+        Ok(Env::Called(call))
+    }
+
+    /// What a name stands for, if that is a process: of the same names the innermost counts. The names are those of the plan.
+    pub fn running<'r>(&'r self, plan: &Plan, name: &str) -> Option<&'r Handed>
+        ensures { (φ : AnswersByName) (e : Environment) → IsNames φ plan.now self.now e →
+            IsFound φ plan.now (option_map (λ r. r.now) result) (process_of name.now e) }
     {
         match self {
             Env::Empty => None,
             Env::Bound(binding) => {
-                let pattern = expressions.placed(binding.pattern);
+                let pattern = plan.expressions().placed(binding.pattern);
                 match part_named(pattern, &*binding.value, name) {
                     Some(_) => None,
-                    None => binding.around.running(expressions, name),
+                    None => binding.around.running(plan, name),
                 }
             }
             Env::Running(running) => {
-                if name == expressions.name_of(running.name) {
-                    Some(&**running)
+                if name == plan.expressions().name_of(running.name) {
+                    Some(&running.handed)
                 } else {
-                    running.around.running(expressions, name)
+                    running.around.running(plan, name)
                 }
             }
+            Env::Called(call) => call.handed(plan, name),
         }
     }
 
     // The value of a name: of the same names the innermost counts, and a process has none.
-    fn value<'r>(&'r self, expressions: &Exprs, name: &str) -> Option<&'r Value>
-        ensures { option_map (λ v. v.now) result ≡ value_named (values_around expressions.now self.now) name.now }
+    fn value<'r>(&'r self, plan: &Plan, name: &str) -> Option<&'r Value>
+        ensures { option_map (λ v. v.now) result ≡ value_named (values_around plan.now self.now) name.now }
     {
         match self {
             Env::Empty => None,
             Env::Running(running) => {
-                if name == expressions.name_of(running.name) {
+                if name == plan.expressions().name_of(running.name) {
                     None
                 } else {
-                    running.around.value(expressions, name)
+                    running.around.value(plan, name)
                 }
             }
             Env::Bound(binding) => {
-                let pattern = expressions.placed(binding.pattern);
+                let pattern = plan.expressions().placed(binding.pattern);
                 match part_named(pattern, &*binding.value, name) {
                     Some(value) => Some(value),
-                    None => binding.around.value(expressions, name),
+                    None => binding.around.value(plan, name),
                 }
             }
+            Env::Called(call) => call.value(plan, name),
         }
     }
 }
@@ -298,7 +416,7 @@ fn part_named<'r>(pattern: &Pat, value: &'r Value, name: &str) -> Option<&'r Val
         }
         PatForm::Both(first, second) => {
             let (left, right) = match value.form() {
-                Form::Pair(left, right) => (&**left, &**right),
+                Form::Pair(halves) => (&halves.first, &halves.second),
                 _ => (value, value),
             };
             match part_named(second, right, name) {
@@ -309,19 +427,19 @@ fn part_named<'r>(pattern: &Pat, value: &'r Value, name: &str) -> Option<&'r Val
     }
 }
 
-/// The names of an environment, whose patterns are among these expressions.
+/// The names of an environment, which are those of this plan.
 #[derive(Clone, Copy)]
 pub struct NamesIn<'a> {
-    /// The expressions of the plan.
-    pub expressions: &'a Exprs,
+    /// The plan.
+    pub plan: &'a Plan,
     /// The environment.
     pub names: &'a Env,
 }
 
 impl<'a> Names for NamesIn<'a> {
-    ghost values = { λ n. values_around n.expressions.now n.names.now };
+    ghost values = { λ n. values_around n.plan.now n.names.now };
 
     fn value<'r>(&'r self, name: &str) -> Option<&'r Value> {
-        self.names.value(self.expressions, name)
+        self.names.value(self.plan, name)
     }
 }

@@ -1,8 +1,8 @@
 //! What a `loopPre` feeds back.
 ghost use Rattle.std.specs.Prelude.{◌≡◌, IfOk, OnOk};
-ghost use Rattle.sf_value.specs.Values.{pair};
+ghost use Rattle.sf_value.specs.Values.{pair, first_of, second_of};
 
-use sf_value::Value;
+use sf_value::{Pair, Value};
 use std::alloc::{AllocError, Global};
 use std::marker::Model;
 use std::mem;
@@ -10,9 +10,9 @@ use std::rc::Rc;
 
 /// The value that a `loopPre` feeds its part with next, beside the input.
 pub struct Feedback {
-    next: Rc<Value>,
-    // a node for the next input, which takes the place of a new one
-    room: Option<Rc<Value>>,
+    next: Value,
+    // a node for the next pair, which takes the place of a new one
+    room: Option<Rc<Pair>>,
 }
 
 impl Drop for Feedback {
@@ -34,75 +34,65 @@ impl Model for Feedback {
 
     ghost coded = { code_by (List Mark) (Prim.hlevel codes) marks_of data_from data_from-marks_of };
 
-    ghost view = { λ a. a.next.value };
+    ghost view = { λ a. a.next };
 }
 
 impl Feedback {
     /// What is fed back at first.
-    pub fn new(alloc: Global, first: Value) -> Result<Feedback, AllocError>
-        ensures { IfOk result (λ feedback. feedback ≡ first) }
+    pub fn new(first: Value) -> Feedback
+        ensures { result ≡ first }
     {
-        let next = Rc::new(alloc, first)?;
-        Ok(Feedback { next, room: None })
+        Feedback {
+            next: first,
+            room: None,
+        }
     }
 
-    /// A copy, which shares the value. It takes no memory; the error is too many owners.
-    pub fn clone_in(&self, _alloc: Global) -> Result<Feedback, AllocError>
+    /// A copy, which shares what the value is made of. It takes no memory; the error is too many owners.
+    pub fn clone_in(&self, alloc: Global) -> Result<Feedback, AllocError>
         ensures { IfOk result (λ copy. copy ≡ self.now) }
     {
-        let next = self.next.clone()?;
+        let next = self.next.clone_in(alloc)?;
         Ok(Feedback { next, room: None })
     }
 
-    /// An input beside what is fed back. It takes memory at the first sample alone, and where the last output was shared.
+    /// An input beside what is fed back. It takes memory at the first sample alone, and where the last pair was shared.
     /// The input's place then holds any value.
     pub fn beside(&mut self, alloc: Global, input: &mut Value) -> Result<Value, AllocError>
         ensures both { IfOk result (λ both. both ≡ pair input.old self.old) }
         ensures same { self.new ≡ self.old }
     {
-        let first = placed(alloc, self.room.take(), input)?;
-        let second = self.next.clone()?;
-        Ok(Value::of_halves(first, second))
+        let next = self.next.clone_in(alloc)?;
+        if let Some(mut node) = self.room.take() {
+            if let Some(own) = Rc::get_mut(&mut node) {
+                mem::swap(&mut own.first, input);
+                own.second = next;
+                return Ok(Value::of_pair(node));
+            }
+        }
+        Value::pair(alloc, mem::replace(input, Value::int(0)), next)
     }
 
-    /// Keeps what is fed back next, and puts the output that stood beside it where the input was. The output's node is room
-    /// for the next input.
-    pub fn keep(
-        &mut self,
-        alloc: Global,
-        output: Rc<Value>,
-        next: Rc<Value>,
-        value: &mut Value,
-    ) -> Result<(), AllocError>
-        ensures output { OnOk result (value.new ≡ output.value) }
-        ensures next { self.new ≡ next.value }
+    /// Takes apart the pair that came out: its first half, the output, takes the place of a value, and its second half is
+    /// fed back next. Where nothing else has its node, that is room for the next pair. A value that is no pair stands for
+    /// both halves.
+    #[inline(always)]
+    pub fn keep(&mut self, alloc: Global, both: Value, value: &mut Value) -> Result<(), AllocError>
+        ensures output { OnOk result (value.new ≡ first_of both) }
+        ensures next { OnOk result (self.new ≡ second_of both) }
     {
-        self.next = next;
-        let mut node = output;
+        let mut node = both.into_pair(alloc)?;
         match Rc::get_mut(&mut node) {
             Some(own) => {
-                mem::swap(own, value);
+                mem::swap(&mut own.first, value);
+                self.next = mem::replace(&mut own.second, Value::int(0));
                 self.room = Some(node);
             }
-            None => *value = node.clone_in(alloc)?,
+            None => {
+                *value = node.first.clone_in(alloc)?;
+                self.next = node.second.clone_in(alloc)?;
+            }
         }
         Ok(())
     }
-}
-
-// A value in a node that nothing else has, or in a new one.
-fn placed(
-    alloc: Global,
-    room: Option<Rc<Value>>,
-    value: &mut Value,
-) -> Result<Rc<Value>, AllocError>
-    ensures { IfOk result (λ node. node.value ≡ value.old) }
-{
-    if let Some(mut node) = room {
-        if let Some(own) = Rc::get_mut(&mut node) {
-            mem::swap(own, value);
-            return Ok(node);
-        }
-    }
-    Ok(Rc::new(alloc, mem::replace(value, Value::int(0)))?)
 }

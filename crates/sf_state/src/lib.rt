@@ -5,7 +5,7 @@ mod env;
 mod feedback;
 mod state;
 
-pub use env::{Binding, Env, NamesIn, Running};
+pub use env::{Binding, Call, Env, Given, Handed, NamesIn, Running};
 pub use feedback::Feedback;
 pub use state::{
     Frozen, Keeping, Kept, Live, Process, State, Switch, Wrap, unshare, unshare_keeping,

@@ -11,7 +11,7 @@ ghost use Rattle.sf_mean.specs.Meaning.{body_of};
 ghost use Rattle.sf_state.specs.declared.env.Env.{Env as EnvOf};
 ghost use Rattle.sf_state.specs.Standing.{IsNames, Stands, Ready, Waits, WaitsKeeping, IsProcess, AllFollow, kept_state, is_frozen};
 
-use crate::env::Env;
+use crate::env::{Env, Handed};
 use crate::feedback::Feedback;
 use sf_expr::{NameId, PatternId};
 use sf_law::{Plan, PlanId};
@@ -514,7 +514,11 @@ impl Keeping {
             term: self.first,
             names: outer,
         };
-        let known = names.with_process(alloc, self.name, frozen, base)?;
+        let handed = Handed {
+            process: frozen,
+            base,
+        };
+        let known = names.with_process(alloc, self.name, handed)?;
         let around = known.inside(alloc, plan.expressions(), self.pattern, payload)?;
         Ok(State::Unborn(Process {
             term: self.body,

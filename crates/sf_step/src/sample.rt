@@ -12,8 +12,8 @@ ghost use Rattle.sf_step.specs.Stepping.{Steps};
 use sf_func::Holds;
 use sf_law::Plan;
 use sf_parts::{
-    Begun, Meter, SampleContext, Stop, begin, beside, copies, feed_back, halves, hold_back,
-    payload_of, put_first, show, step_prim, step_probe, take_over, unshare_half, value_and_payload,
+    Begun, Meter, SampleContext, Stop, begin, beside, copies, hold_back, payload_of, put_first,
+    show, step_prim, step_probe, take_over, value_and_payload,
 };
 use sf_state::{
     Env, Feedback, Keeping, Live, State, Switch, Wrap, unshare, unshare_keeping, unshare_switch,
@@ -383,28 +383,6 @@ fn step_begun<R: Holds>(
     }
 }
 
-// The next sample of a part on a half of a pair, likewise.
-#[cycle(step)]
-#[inline(always)]
-fn step_half<R: Holds>(
-    context: &SampleContext<R>,
-    state: &mut State,
-    depth: u64,
-    half: &mut Rc<Value>,
-    meter: &mut Meter,
-) -> Result<(), Stop>
-    ensures { StateSteps (R.answers context.now.functions.now) (plan_in context.now) state.old (step (dt_in context.now) half.old.value)
-        (left_or result (state.new, half.new.value) (fault_in meter.new)) meter.old meter.new depth }
-{
-    let Ok(()) = unshare_half(context.alloc, half) else {
-        return Err(meter.stop(Fault::Memory));
-    };
-    match Rc::get_mut(half) {
-        Some(value) => step_state(context, state, depth, value, meter),
-        None => Err(meter.stop(Fault::Memory)),
-    }
-}
-
 // The next sample of a node, which has been counted and whose parts stand inside `inside` nodes. Only here is a node
 // reached, which other states may share.
 #[cycle(step)]
@@ -492,12 +470,16 @@ fn step_parallel<R: Holds>(
     ensures { LiveSteps (R.answers context.now.functions.now) (plan_in context.now) (Live.Join Join.InParallel left.old right.old) (step (dt_in context.now) value.old)
         (left_or result (Live.Join Join.InParallel left.new right.new, value.new) (fault_in meter.new)) meter.old meter.new inside }
 {
-    let Ok((mut first, mut second)) = halves(context.alloc, value) else {
+    let input = mem::replace(value, Value::int(0));
+    let Ok(mut node) = input.into_own_pair(context.alloc) else {
         return Err(meter.stop(Fault::Memory));
     };
-    step_half(context, left, inside, &mut first, meter)?;
-    step_half(context, right, inside, &mut second, meter)?;
-    *value = Value::of_halves(first, second);
+    let Some(halves) = Rc::get_mut(&mut node) else {
+        return Err(meter.stop(Fault::Memory));
+    };
+    step_state(context, left, inside, &mut halves.first, meter)?;
+    step_state(context, right, inside, &mut halves.second, meter)?;
+    *value = Value::of_pair(node);
     Ok(())
 }
 
@@ -560,11 +542,15 @@ fn step_first<R: Holds>(
     ensures { LiveSteps (R.answers context.now.functions.now) (plan_in context.now) (Live.Wrap Wrap.First part.old) (step (dt_in context.now) value.old)
         (left_or result (Live.Wrap Wrap.First part.new, value.new) (fault_in meter.new)) meter.old meter.new inside }
 {
-    let Ok((mut first, second)) = halves(context.alloc, value) else {
+    let input = mem::replace(value, Value::int(0));
+    let Ok(mut node) = input.into_own_pair(context.alloc) else {
         return Err(meter.stop(Fault::Memory));
     };
-    step_half(context, part, inside, &mut first, meter)?;
-    *value = Value::of_halves(first, second);
+    let Some(halves) = Rc::get_mut(&mut node) else {
+        return Err(meter.stop(Fault::Memory));
+    };
+    step_state(context, part, inside, &mut halves.first, meter)?;
+    *value = Value::of_pair(node);
     Ok(())
 }
 
@@ -581,11 +567,15 @@ fn step_second<R: Holds>(
     ensures { LiveSteps (R.answers context.now.functions.now) (plan_in context.now) (Live.Wrap Wrap.Second part.old) (step (dt_in context.now) value.old)
         (left_or result (Live.Wrap Wrap.Second part.new, value.new) (fault_in meter.new)) meter.old meter.new inside }
 {
-    let Ok((first, mut second)) = halves(context.alloc, value) else {
+    let input = mem::replace(value, Value::int(0));
+    let Ok(mut node) = input.into_own_pair(context.alloc) else {
         return Err(meter.stop(Fault::Memory));
     };
-    step_half(context, part, inside, &mut second, meter)?;
-    *value = Value::of_halves(first, second);
+    let Some(halves) = Rc::get_mut(&mut node) else {
+        return Err(meter.stop(Fault::Memory));
+    };
+    step_state(context, part, inside, &mut halves.second, meter)?;
+    *value = Value::of_pair(node);
     Ok(())
 }
 
@@ -607,7 +597,7 @@ fn step_loop<R: Holds>(
         return Err(meter.stop(Fault::Memory));
     };
     step_state(context, part, inside, &mut both, meter)?;
-    match feed_back(context.alloc, feedback, &mut both, value) {
+    match feedback.keep(context.alloc, both, value) {
         Ok(()) => Ok(()),
         Err(_) => Err(meter.stop(Fault::Memory)),
     }

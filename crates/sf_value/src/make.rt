@@ -3,7 +3,7 @@ ghost use Rattle.std.specs.Prelude.{◌≡◌, IfOk, string_bytes};
 ghost use Rattle.sf_value.specs.Values.{unit, truth, number, text, pair, no_event, event};
 ghost use Rattle.sf_value.specs.View.{key_of, data_of, IsProper, IsIndexed};
 
-use crate::value::{Form, Key, Value};
+use crate::value::{Form, Key, Pair, Value};
 use std::alloc::{AllocError, Global};
 use std::rc::Rc;
 
@@ -56,17 +56,16 @@ impl Value {
     pub fn pair(alloc: Global, first: Value, second: Value) -> Result<Value, AllocError>
         ensures { IfOk result (λ v. v ≡ pair first second) }
     {
-        let first = Rc::new(alloc, first)?;
-        let second = Rc::new(alloc, second)?;
-        Ok(Value::of_halves(first, second))
+        let halves = Rc::new(alloc, Pair { first, second })?;
+        Ok(Value::of_pair(halves))
     }
 
-    /// A pair of two values that are shared. It takes no memory.
-    pub fn of_halves(first: Rc<Value>, second: Rc<Value>) -> Value
-        ensures { result ≡ pair first.value second.value }
+    /// The pair of two halves in their node, which may be shared. It takes no memory.
+    pub fn of_pair(halves: Rc<Pair>) -> Value
+        ensures { result ≡ pair halves.value.first halves.value.second }
     {
         Value {
-            form: Form::Pair(first, second),
+            form: Form::Pair(halves),
         }
     }
 
@@ -107,7 +106,7 @@ impl Value {
             Form::Bool(b) => Form::Bool(*b),
             Form::Int(n) => Form::Int(*n),
             Form::Text(s) => Form::Text(s.clone()?),
-            Form::Pair(first, second) => Form::Pair(first.clone()?, second.clone()?),
+            Form::Pair(halves) => Form::Pair(halves.clone()?),
             Form::NoEvent => Form::NoEvent,
             Form::Event(payload) => Form::Event(payload.clone()?),
             Form::Table(rows) => Form::Table(rows.clone()?),

@@ -53,13 +53,23 @@ pub enum Form {
     /// A text.
     Text(Rc<String>),
     /// Two values.
-    Pair(Rc<Value>, Rc<Value>),
+    Pair(Rc<Pair>),
     /// No event.
     NoEvent,
     /// An event with its payload.
     Event(Rc<Value>),
     /// Values under keys, in order.
     Table(Rc<Table>),
+}
+
+/// The two halves of a pair.
+#[derive(Drop)]
+#[cycle(value)]
+pub struct Pair {
+    /// The first value.
+    pub first: Value,
+    /// The second value.
+    pub second: Value,
 }
 
 /// Values under different keys, in order.

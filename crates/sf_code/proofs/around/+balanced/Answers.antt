@@ -1,5 +1,6 @@
 use Rattle.std.proofs.lemmas.List.{take-append-drop}
-use Rattle.std.proofs.Common.{ℕ, List, ◌++◌, Result, Ok, Err, IfOk, ap, sym, subst, ◌∙◌, [], ◌∷◌}
+use Rattle.std.proofs.lemmas.Result.{IfOk-weaker}
+use Rattle.std.proofs.Common.{ℕ, List, ◌++◌, ap, sym, subst, ◌∙◌, [], ◌∷◌}
 use mathlib.Core.Path.{ap₂}
 use Rattle.std.specs.Borrow.{Bor}
 use Rattle.sf_expr.specs.Patterns.{PlacedPattern, pattern_of}
@@ -8,13 +9,9 @@ use Rattle.sf_code.specs.Compiling.{named_each, BindAsMany}
 use Rattle.sf_code.proofs.Outside.{both_bind, seen_both}
 use Rattle.sf_code.proofs.around.+balanced.Goals as goal
 
-where_ok : {A E : Type 0} (r : Result A E) (P Q : A → Type 0) → ((a : A) → P a → Q a) → IfOk r P → IfOk r Q
-where_ok (Ok a) P Q f h = f a h
-where_ok (Err e) P Q f h = tt
-
 pub returns-in_ok-balanced-in_default-2 : goal.returns-in_ok-balanced-in_default-2
 returns-in_ok-balanced-in_default-2 t c =
-    where_ok c.both.result _ _
+    IfOk-weaker c.both.result _ _
     (λ pattern is.
     let p = c.in_ok-balanced-in_default.field-0 in
     let q = c.in_ok-balanced-in_default-2.field-0 in

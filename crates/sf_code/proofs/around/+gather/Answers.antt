@@ -1,4 +1,5 @@
 use Rattle.std.proofs.Common.{Result, Ok, Err, OnOk}
+use Rattle.std.proofs.lemmas.Result.{on_ok_weaker}
 use Rattle.sf_expr.specs.Arena.{expression}
 use Rattle.sf_expr.specs.Meanings.{names_seen}
 use Rattle.sf_code.specs.Compiling.{named_each}
@@ -6,11 +7,7 @@ use Rattle.sf_code.specs.PlaceView.{patterns_of}
 use Rattle.sf_code.proofs.Outside.{closed_more, conditional_closed, mapped_closed, folded_closed}
 use Rattle.sf_code.proofs.around.+gather.Goals as goal
 
--- what follows where there is no error
-where_ok : {A E : Type 0} {P Q : Type 0} (r : Result A E) → (P → Q) → OnOk r P → OnOk r Q
-where_ok (Ok a) f h = f h
-where_ok (Err e) f h = tt
-
+-- what follows of two facts, or of three, where there is no error
 where_both : {A E : Type 0} {P Q R : Type 0} (r : Result A E) → (P → Q → R) → OnOk r P → OnOk r Q → OnOk r R
 where_both (Ok a) f h k = f h k
 where_both (Err e) f h k = tt
@@ -37,4 +34,4 @@ gather-returns-in_ok-gather_both-in-Folded-clause-closed t c =
 
 pub gather_both-returns-clause-first : goal.gather_both-returns-clause-first
 gather_both-returns-clause-first t c =
-    where_ok _ (λ k. closed_more (named_each (names_seen c.gather.new.names.keys)) (named_each (names_seen c.gather-2.new.names.keys)) k (expression c.args.exprs.now c.args.first) (patterns_of c.args.patterns.now) c.in_ok-gather.ensures.closed) c.gather-2.ensures.kept
+    on_ok_weaker _ (λ k. closed_more (named_each (names_seen c.gather.new.names.keys)) (named_each (names_seen c.gather-2.new.names.keys)) k (expression c.args.exprs.now c.args.first) (patterns_of c.args.patterns.now) c.in_ok-gather.ensures.closed) c.gather-2.ensures.kept

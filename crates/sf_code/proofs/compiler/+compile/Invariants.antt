@@ -24,3 +24,6 @@ decreases-folded l = 4 * max l.first.0 (max l.second.0 l.body.0) + 3
 
 abbrev pub decreases-called : goal.decreases-called
 decreases-called l = 4 * l.part.0 + 3
+
+abbrev pub decreases-operation : goal.decreases-operation
+decreases-operation l = 4 * max l.left.0 l.right.0 + 1

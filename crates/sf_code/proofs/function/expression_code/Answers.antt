@@ -2,5 +2,5 @@ use Rattle.sf_expr.specs.Arena.{expression}
 use Rattle.sf_code.proofs.Worth.{is_code_of}
 use Rattle.sf_code.proofs.function.expression_code.Goals as goal
 
-pub returns : goal.returns
-returns c = is_code_of (expression c.args.exprs.now c.args.id) _ _ c.around.ensures c.in_ok-around.ensures c.in_ok-code.ensures
+pub returns-clause-code : goal.returns-clause-code
+returns-clause-code c = is_code_of (expression c.args.exprs.now c.args.id) _ _ c.around.ensures c.in_ok-around.ensures.closed c.in_ok-code.ensures

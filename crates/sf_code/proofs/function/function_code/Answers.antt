@@ -11,8 +11,8 @@ use Rattle.sf_code.specs.PlaceView.{patterns_of, around_pattern}
 use Rattle.sf_code.proofs.Worth.{is_code_of_function}
 use Rattle.sf_code.proofs.function.function_code.Goals as goal
 
-pub returns : goal.returns
-returns c =
+pub returns-clause-code : goal.returns-clause-code
+returns-clause-code c =
     let x = c.args.exprs.now in
     let around = c.in_ok-around.around in
     let own = pattern_of (pattern_at x c.args.id) in
@@ -21,6 +21,6 @@ returns c =
     c.within.ensures ∙ ap₂ (λ (p : PlacedPattern) (ps : List Pattern). pattern_of p ∷ ps) c.pattern-pattern.ensures c.around-outside.ensures in
     let closed : is_closed (own ∷ around_pattern around) whole ≡ true =
     subst (λ (p : PlacedPattern). is_closed (pattern_of p ∷ around_pattern around) whole ≡ true) c.pattern-pattern.ensures
-    (subst (λ (i : ExprId). is_closed (pattern_of c.pattern-pattern.result.now ∷ around_pattern around) (expression x i) ≡ true) c.body-body.ensures.value c.in_ok-around.ensures) in
+    (subst (λ (i : ExprId). is_closed (pattern_of c.pattern-pattern.result.now ∷ around_pattern around) (expression x i) ≡ true) c.body-body.ensures.value c.in_ok-around.ensures.closed) in
     let made : code_of c.in_ok-code.code ≡ code_under (patterns_of c.within.result) whole = c.in_ok-code.ensures ∙ ap (λ (i : ExprId). code_under (patterns_of c.within.result) (expression x i)) c.body-body.ensures.value in
     is_code_of_function own whole _ (patterns_of c.within.result) only closed made

@@ -1,4 +1,5 @@
-use Rattle.std.proofs.Common.{◌≡◌, Result, Ok, Err, IfOk, ap, sym, ◌∙◌}
+use Rattle.std.proofs.Common.{◌≡◌, ap, sym, ◌∙◌}
+use Rattle.std.proofs.lemmas.Result.{IfOk-weaker}
 use Rattle.std.specs.Prelude.{unwrap_or, option_map, string_bytes}
 use Rattle.sf_value.specs.Values.{Name, Data}
 use Rattle.sf_func.specs.Registries.{AnswersByName}
@@ -15,17 +16,13 @@ use Rattle.sf_code.proofs.open.+gathered.Goals as goal
 is_gathered : (vs : ValuesByName) (x : Name) (p : Pattern) (d : Data) → p ≡ named x → value_among vs x ≡ d → (f : AnswersByName) → d ≡ pattern_values (scope_with vs f) p
 is_gathered vs x p d is found f = sym found ∙ value_with vs f x ∙ ap (pattern_values (scope_with vs f)) (sym is)
 
-where_ok : {E : Type 0} (r : Result Data E) (P Q : Data → Type 0) → ((d : Data) → P d → Q d) → IfOk r P → IfOk r Q
-where_ok (Ok d) P Q f h = f d h
-where_ok (Err e) P Q f h = tt
-
 pub returns-in-Some : goal.returns-in-Some
 returns-in-Some g t c =
     let x = string_bytes c.in-Name.name in
     let vs = g.N.Names.values c.args.names.now in
     let is : pattern_of c.args.pattern.now ≡ named x = ap pattern_of (sym c.form.ensures ∙ ap placed_of c.in-Name.is) in
     let found : value_among vs x ≡ c.in-Some.value.now = ap (value_among vs) (sym c.as_str.ensures.value) ∙ ap (λ o. unwrap_or o nonsense) (sym c.value.ensures) ∙ ap (λ o. unwrap_or (option_map (λ v. v.now) o) nonsense) c.in-Some.is in
-    where_ok c.clone_in.result _ _ (λ d same. λ f. same ∙ is_gathered vs x (pattern_of c.args.pattern.now) c.in-Some.value.now is found f) c.clone_in.ensures
+    IfOk-weaker c.clone_in.result _ _ (λ d same. λ f. same ∙ is_gathered vs x (pattern_of c.args.pattern.now) c.in-Some.value.now is found f) c.clone_in.ensures
 
 pub returns-in-None : goal.returns-in-None
 returns-in-None g t c =

@@ -9,9 +9,6 @@ use Rattle.sf_code.proofs.running.+run.Given as goal
 abbrev pub decreases-run : goal.decreases-run
 decreases-run g l = 8 * code_size (code_of l.code.now)
 
-abbrev pub decreases-half : goal.decreases-half
-decreases-half g l = 8 * code_size (code_of l.code.now) + 2
-
 abbrev pub decreases-answer : goal.decreases-answer
 decreases-answer g l = 8 * code_size (code_of l.body.now) + 2
 

@@ -1,15 +1,23 @@
-use Rattle.std.proofs.Common.{subst, sym}
-use Rattle.sf_parts.proofs.Arguments.{BindsOne}
+use Rattle.std.proofs.Common.{subst, ap, ◌∙◌}
+use Rattle.sf_expr.specs.Arena.{name_at, placed_at}
+use Rattle.sf_expr.specs.Patterns.{pattern_of}
+use Rattle.sf_law.specs.Arena.{plan_expressions}
+use Rattle.sf_mean.specs.Lives.{bind, known}
+use Rattle.sf_state.specs.Standing.{IsNames}
+use Rattle.sf_parts.proofs.Arguments.{value_inside, process_inside}
+use Rattle.sf_parts.proofs.References.{when_ok}
 use Rattle.sf_parts.proofs.calling.bind.Goals as goal
 
-pub returns-in-Value : goal.returns-in-Value
-returns-in-Value g c = subst (λ v. BindsOne (g.R.Holds.answers c.args.context.now.functions.now) c.args.context.now.plan.now c.args.parameter.now v c.args.names.now c.args.bound.now c.bind_value.result) (sym c.in-Value.is) (c.bind_value.ensures c.in-Value.field-0 (rw c.in-Value.is at c.requires.coded))
+pub returns-in_ok-shared-in-Value : goal.returns-in_ok-shared-in-Value
+returns-in_ok-shared-in-Value g c = when_ok c.inside.result (λ inner h φ d e M G.
+    let p = c.args.context.now.plan.now in
+    let x = plan_expressions p in
+    let w = c.in_ok-shared-in-Value.shared.value in
+    let name = name_at x c.args.parameter.now.name in
+    value_inside φ p name c.args.bound.now inner c.in-Value.value (λ d M.
+    subst (λ b. IsNames φ p inner b) (ap (λ i. bind (pattern_of (placed_at x i)) w d) c.pattern.ensures ∙ ap (λ r. bind r w d) c.requires ∙ ap (λ v. known name v d) c.in_ok-shared-in-Value.ensures.ok) (h φ p c.expressions-expressions.ensures d M)) d e M (rw c.in-Value.is at G)) c.inside.ensures
 
-pub returns-in-Started : goal.returns-in-Started
-returns-in-Started g c = subst (λ v. BindsOne (g.R.Holds.answers c.args.context.now.functions.now) c.args.context.now.plan.now c.args.parameter.now v c.args.names.now c.args.bound.now c.bind_started.result) (sym c.in-Started.is) c.bind_started.ensures
-
-pub returns-in-Closed : goal.returns-in-Closed
-returns-in-Closed g c = subst (λ v. BindsOne (g.R.Holds.answers c.args.context.now.functions.now) c.args.context.now.plan.now c.args.parameter.now v c.args.names.now c.args.bound.now c.bind_closed.result) (sym c.in-Closed.is) c.bind_closed.ensures
-
-pub bind_value-requires : goal.bind_value-requires
-bind_value-requires g c = c.requires.bound
+pub returns-in-Process : goal.returns-in-Process
+returns-in-Process g c = when_ok c.with_process.result (λ inner h φ d e M G.
+    let p = c.args.context.now.plan.now in
+    process_inside φ p (name_at (plan_expressions p) c.args.parameter.now.name) c.args.bound.now inner c.in-Process.handed (λ d P M H. rw c.name.ensures at (h φ p d P M H)) d e M (rw c.in-Process.is at G)) c.with_process.ensures

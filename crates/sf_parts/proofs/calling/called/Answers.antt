@@ -1,54 +1,28 @@
-use Rattle.std.proofs.Common.{◌≡◌, ap, ◌∙◌, inl, inr}
-use Rattle.std.proofs.lemmas.List.Elements.{All-head, All-tail}
-use Rattle.sf_law.specs.Entries.{BindsName, IsCodedArgument, argument_within}
-use Rattle.sf_state.specs.Standing.{is_empty}
-use Rattle.sf_parts.proofs.Arguments.{both_true, none_bound, next_bound, called_so, called_fails, made_failure}
+use Rattle.std.proofs.Common.{Ok, Err, map, subst}
+use Rattle.sf_mean.specs.Lives.{empty}
+use Rattle.sf_mean.specs.Meaning.{argued}
+use Rattle.sf_law.specs.Arena.{header_at, plan_binding, plan_arguments}
+use Rattle.sf_law.specs.Headers.{PlanHeader}
+use Rattle.sf_state.specs.Standing.{IsNames}
+use Rattle.sf_parts.specs.Beginning.{Makes}
+use Rattle.sf_parts.proofs.Arguments.{called_so, called_fails, made_failure}
 use Rattle.sf_parts.proofs.calling.called.Goals as goal
 
-pub loop-parameter-init : goal.loop-parameter-init
-loop-parameter-init g c =
-    let x = c.args.context.now.plan.now.expressions in
-    let second : c.zip-parameter-items.result.b.rest.now ≡ c.args.arguments.now = c.zip-parameter-items.ensures.second.0 in
-    let parameters : c.into_iter-parameter-iterator.result.a.rest.now ≡ c.args.template.now.parameters =
-    ap (λ z. z.a.rest.now) c.into_iter-parameter-iterator.ensures.into_iter_gives ∙ ap (λ z. z.rest.now) c.zip-parameter-items.ensures.first ∙ c.iter.ensures.rest ∙ c.parameters.ensures in
-    let arguments : c.into_iter-parameter-iterator.result.b.rest.now ≡ c.args.arguments.now = ap (λ z. z.b.rest.now) c.into_iter-parameter-iterator.ensures.into_iter_gives ∙ second in
-    record {
-      named = rw parameters c.requires.bound;
-      coded = rw arguments c.requires.coded;
-      within = rw arguments c.requires.within;
-      binds = λ e N. none_bound (g.R.Holds.answers c.args.context.now.functions.now) c.args.context.now.plan.now c.args.template.now.parameters c.args.arguments.now e _ _ _ parameters arguments is_empty;
-    }
-
-pub bind-requires : goal.bind-requires
-bind-requires g c =
-    let x = c.args.context.now.plan.now.expressions in
-    let steps = c.in-Some.ensures.steps in
-    record {
-      bound = All-head (BindsName x) c.in-Some.parameter.now c.next.new.self.a.rest.now (rw steps.0 at c.loop-parameter.invariant.named);
-      coded = All-head (IsCodedArgument x) c.in-Some.argument.now c.next.new.self.b.rest.now (rw steps.1 at c.loop-parameter.invariant.coded);
-      within = (both_true (argument_within c.args.context.now.plan.now.anew c.in-Some.argument.now) _ (rw steps.1 at c.loop-parameter.invariant.within)).0;
-    }
-
-pub loop-parameter-preserved : goal.loop-parameter-preserved
-loop-parameter-preserved g c =
-    let x = c.args.context.now.plan.now.expressions in
-    let steps = c.in-Some.ensures.steps in
-    record {
-      named = All-tail (BindsName x) c.in-Some.parameter.now c.next.new.self.a.rest.now (rw steps.0 at c.loop-parameter.invariant.named);
-      coded = All-tail (IsCodedArgument x) c.in-Some.argument.now c.next.new.self.b.rest.now (rw steps.1 at c.loop-parameter.invariant.coded);
-      within = (both_true (argument_within c.args.context.now.plan.now.anew c.in-Some.argument.now) _ (rw steps.1 at c.loop-parameter.invariant.within)).1;
-      binds = λ e N. next_bound (g.R.Holds.answers c.args.context.now.functions.now) c.args.context.now.plan.now c.args.template.now.parameters c.args.arguments.now e _ _ _ _ c.loop-parameter.bound
-          c.in-Some.parameter.now c.in-Some.argument.now steps.0 steps.1 (c.loop-parameter.invariant.binds e N) c.args.names.now c.in_ok-bound.bound N c.in_ok-bound.ensures;
-    }
-
-pub returns-in_err-bound : goal.returns-in_err-bound
-returns-in_err-bound g c = λ e N.
-    let steps = c.in-Some.ensures.steps in
-    made_failure _ _ _ c.in_err-bound.field-0.0 c.from_residual.ensures.1
-    (called_fails (g.R.Holds.answers c.args.context.now.functions.now) c.args.context.now.plan.now c.args.template.now c.args.arguments.now e _ _ c.loop-parameter.bound (c.loop-parameter.invariant.binds e N) _ _
-    c.in-Some.parameter.now c.in-Some.argument.now steps.0 steps.1 c.args.names.now c.in_err-bound.field-0.0 N c.in_err-bound.ensures)
+pub bound_names-requires : goal.bound_names-requires
+bound_names-requires g c = record { same = c.template-template.ensures.value; bound = c.template-template.ensures.bound; coded = c.requires.coded; within = c.requires.within }
 
 pub returns : goal.returns
 returns g c = λ e N.
-    called_so (g.R.Holds.answers c.args.context.now.functions.now) c.args.context.now.plan.now c.args.template.now c.args.arguments.now e _ _ c.loop-parameter.bound (c.loop-parameter.invariant.binds e N)
-    c.body.result c.body.ensures (elim (c.in-None.ensures.steps) [ inl w ↦ inl w.1.0 | inr w ↦ inr w.1.0 ])
+    let φ = g.R.Holds.answers c.args.context.now.functions.now in
+    let p = c.args.context.now.plan.now in
+    let h = header_at p c.args.id in
+    called_so φ p h c.args.arguments.now e c.body.result c.in_ok-bound.bound (rw c.template-template.ensures.value at c.body.ensures)
+    (subst (λ (h : PlanHeader). Makes (IsNames φ p) (argued φ (map (plan_binding p) h.parameters) (plan_arguments p c.args.arguments.now) e empty) (Ok c.in_ok-bound.bound)) c.template-template.ensures.value (c.in_ok-bound.ensures e N))
+
+pub returns-in_err-bound : goal.returns-in_err-bound
+returns-in_err-bound g c = λ e N.
+    let φ = g.R.Holds.answers c.args.context.now.functions.now in
+    let p = c.args.context.now.plan.now in
+    let h = header_at p c.args.id in
+    made_failure _ _ _ c.in_err-bound.field-0.0 c.from_residual.ensures.1 (called_fails φ p h c.args.arguments.now e c.in_err-bound.field-0.0
+    (subst (λ (h : PlanHeader). Makes (IsNames φ p) (argued φ (map (plan_binding p) h.parameters) (plan_arguments p c.args.arguments.now) e empty) (Err c.in_err-bound.field-0.0)) c.template-template.ensures.value (c.in_err-bound.ensures e N)))

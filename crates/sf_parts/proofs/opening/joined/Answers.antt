@@ -1,5 +1,14 @@
-use Rattle.sf_parts.proofs.Begins.{open_join}
+use Rattle.sf_parts.proofs.Begins.{open_exit, open_join}
 use Rattle.sf_parts.proofs.opening.joined.Goals as goal
+
+pub returns-in_err-one : goal.returns-in_err-one
+returns-in_err-one c = λ φ p e N. open_exit φ p _ e _ c.from_residual.ensures.1
+
+pub returns-in_err-two : goal.returns-in_err-two
+returns-in_err-two c = λ φ p e N. open_exit φ p _ e _ c.from_residual-in_err-two.ensures.1
+
+pub returns-in_err-node : goal.returns-in_err-node
+returns-in_err-node c = λ φ p e N. open_exit φ p _ e _ c.from_residual-in_err-node.ensures.1
 
 pub returns : goal.returns
 returns c = λ φ p.

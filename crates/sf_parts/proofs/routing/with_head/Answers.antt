@@ -2,8 +2,8 @@ use Rattle.sf_mean.specs.Meaning.{no_loop}
 use Rattle.sf_state.specs.Standing.{wraps_loop, wraps_initialized}
 use Rattle.sf_parts.proofs.routing.with_head.Goals as goal
 
-pub returns-in_ok-new-in-LoopPre : goal.returns-in_ok-new-in-LoopPre
-returns-in_ok-new-in-LoopPre c = λ n i t e. rw (c.in-LoopPre.is, c.in_ok-new-in-LoopPre.ensures) (wraps_loop no_loop)
+pub returns-in-LoopPre : goal.returns-in-LoopPre
+returns-in-LoopPre c = λ n i t e. rw (c.in-LoopPre.is, c.new.ensures) (wraps_loop no_loop)
 
 pub returns-in-Initialized : goal.returns-in-Initialized
 returns-in-Initialized c = λ n i t e. rw c.in-Initialized.is wraps_initialized

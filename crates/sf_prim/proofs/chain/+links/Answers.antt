@@ -12,7 +12,7 @@ use Rattle.sf_prim.proofs.chain.+links.Goals as goal
 
 pub add_links-returns-in_ok-push-in-Lone : goal.add_links-returns-in_ok-push-in-Lone
 add_links-returns-in_ok-push-in-Lone g t c = λ y coded φ.
-    rw c.in-Lone.is (adds_one _ _ _ _ _ c.in_ok-push-in-Lone.ensures.items (c.function_link.ensures _ (function_at y c.in-Lone.field-0) (c.in_ok-closure-in-Lone.ensures φ _ (rw c.in-Lone.is at coded))))
+    rw c.in-Lone.is (adds_one _ _ _ _ _ c.in_ok-push-in-Lone.ensures.items (c.function_link.ensures.made _ (function_at y c.in-Lone.field-0) (c.in_ok-closure-in-Lone.ensures.made φ _ (rw c.in-Lone.is at coded))))
 
 pub add_links-returns-in_ok-add_links-in-Chained : goal.add_links-returns-in_ok-add_links-in-Chained
 add_links-returns-in_ok-add_links-in-Chained g t c = λ y coded.

@@ -3,7 +3,8 @@ use Rattle.std.specs.Vec.{with_items}
 use Rattle.std.proofs.lemmas.List.{with_items_is}
 use Rattle.sf_state.specs.declared.state.Wrap.TheVariants.{First, Second, Loop, Initialized}
 use Rattle.sf_term.specs.declared.form.Join.TheVariants.{InSequence, InParallel, FannedOut}
-use Rattle.sf_value.specs.Values.{second_of}
+use Rattle.sf_value.specs.Values.{first_of, second_of}
+use Rattle.sf_value.specs.declared.value.Pair.{Pair}
 use Rattle.sf_mean.specs.Lives.{step, Life, Process}
 use Rattle.sf_state.specs.declared.state.Frozen.{Frozen}
 use Rattle.sf_state.specs.declared.state.State.{State}
@@ -264,17 +265,6 @@ step_pipeline-returns g t c =
     pipeline_steps φ p c.args.stages.now c.args.context.now.dt c.args.value.now c.args.meter.now l.meter c.args.inside (with_items c.args.stages.now l.stage-items) l.value
     (rw whole (subst (λ bs. StagesStep φ p bs c.args.context.now.dt c.args.value.now (Ok (l.stage-items, l.value)) c.args.meter.now l.meter c.args.inside) c.deref_mut-stage-items.ensures.value all))
 
--- ## step_half
-
-pub step_half-returns-in_default : goal.step_half-returns-in_default
-step_half-returns-in_default g t c = first_memory (g.R.Holds.answers c.args.context.now.functions.now) c.args.context.now.plan.now c.stop.ensures.entered c.stop.ensures.height c.stop.ensures.fault
-
-pub step_half-returns-in-None : goal.step_half-returns-in-None
-step_half-returns-in-None g t c = first_memory (g.R.Holds.answers c.args.context.now.functions.now) c.args.context.now.plan.now c.stop-in-None.ensures.entered c.stop-in-None.ensures.height c.stop-in-None.ensures.fault
-
-pub step_half-returns-in-Some : goal.step_half-returns-in-Some
-step_half-returns-in-Some g t c = rw (c.in-Some.ensures.value ∙ c.unshare_half.ensures) at c.step_state.ensures
-
 -- ## step_sequence
 
 pub step_sequence-returns-in_err-step_state : goal.step_sequence-returns-in_err-step_state
@@ -293,22 +283,25 @@ step_sequence-returns g t c =
 pub step_parallel-returns-in_default : goal.step_parallel-returns-in_default
 step_parallel-returns-in_default g t c = λ m depth t P L R. early_memory (g.R.Holds.answers c.args.context.now.functions.now) c.args.context.now.plan.now t c.stop.ensures.entered c.stop.ensures.height c.stop.ensures.fault
 
-pub step_parallel-returns-in_err-step_half : goal.step_parallel-returns-in_err-step_half
-step_parallel-returns-in_err-step_half g t c = λ m depth t P L R.
-    pass_exit _ _ c.from_residual.ensures.0 (join_left_fails (g.R.Holds.answers c.args.context.now.functions.now) c.args.context.now.plan.now InParallel c.args.left.now c.args.right.now c.args.meter.now c.step_half.new.meter c.args.inside c.args.context.now.dt c.args.value.now _ c.in-Ok.ensures.0
-    _ c.in_err-step_half.ensures m depth t P L R)
+pub step_parallel-returns-in_default-get_mut : goal.step_parallel-returns-in_default-get_mut
+step_parallel-returns-in_default-get_mut g t c = λ m depth t P L R. early_memory (g.R.Holds.answers c.args.context.now.functions.now) c.args.context.now.plan.now t c.stop-in_default-get_mut.ensures.entered c.stop-in_default-get_mut.ensures.height c.stop-in_default-get_mut.ensures.fault
 
-pub step_parallel-returns-in_err-step_half-2 : goal.step_parallel-returns-in_err-step_half-2
-step_parallel-returns-in_err-step_half-2 g t c = λ m depth t P L R.
-    pass_exit _ _ c.from_residual-in_err-step_half-2.ensures.0 (join_right_fails (g.R.Holds.answers c.args.context.now.functions.now) c.args.context.now.plan.now InParallel c.args.left.now c.args.right.now c.args.meter.now c.step_half.new.meter c.args.inside c.args.context.now.dt c.args.value.now _ c.in-Ok.ensures.0
-    c.step_half.new.state c.step_half.new.half.value _ c.in-Ok.ensures.1 c.in_ok-step_half.ensures
-    c.step_half-2.new.meter _ c.in_err-step_half-2.ensures m depth t P L R)
+pub step_parallel-returns-in_err-step_state : goal.step_parallel-returns-in_err-step_state
+step_parallel-returns-in_err-step_state g t c = λ m depth t P L R.
+    pass_exit _ _ c.from_residual.ensures.0 (join_left_fails (g.R.Holds.answers c.args.context.now.functions.now) c.args.context.now.plan.now InParallel c.args.left.now c.args.right.now c.args.meter.now c.step_state.new.meter c.args.inside c.args.context.now.dt c.args.value.now _ (ap (λ (p : Pair). p.first) c.in-Some.ensures.value ∙ c.in-Ok.ensures.first ∙ ap first_of c.replace-input.ensures.value)
+    _ c.in_err-step_state.ensures m depth t P L R)
+
+pub step_parallel-returns-in_err-step_state-2 : goal.step_parallel-returns-in_err-step_state-2
+step_parallel-returns-in_err-step_state-2 g t c = λ m depth t P L R.
+    pass_exit _ _ c.from_residual-in_err-step_state-2.ensures.0 (join_right_fails (g.R.Holds.answers c.args.context.now.functions.now) c.args.context.now.plan.now InParallel c.args.left.now c.args.right.now c.args.meter.now c.step_state.new.meter c.args.inside c.args.context.now.dt c.args.value.now _ (ap (λ (p : Pair). p.first) c.in-Some.ensures.value ∙ c.in-Ok.ensures.first ∙ ap first_of c.replace-input.ensures.value)
+    c.step_state.new.state c.step_state.new.value _ (ap (λ (p : Pair). p.second) c.in-Some.ensures.value ∙ c.in-Ok.ensures.second ∙ ap second_of c.replace-input.ensures.value) c.in_ok-step_state.ensures
+    c.step_state-2.new.meter _ c.in_err-step_state-2.ensures m depth t P L R)
 
 pub step_parallel-returns : goal.step_parallel-returns
 step_parallel-returns g t c =
-    join_steps (g.R.Holds.answers c.args.context.now.functions.now) c.args.context.now.plan.now InParallel c.args.left.now c.args.right.now c.args.meter.now c.step_half.new.meter c.args.inside c.args.context.now.dt c.args.value.now _ c.in-Ok.ensures.0
-    c.step_half.new.state c.step_half.new.half.value _ c.in-Ok.ensures.1 c.in_ok-step_half.ensures
-    c.step_half-2.new.meter c.step_half-2.new.state c.step_half-2.new.half.value c.of_halves.result c.of_halves.ensures c.in_ok-step_half-2.ensures
+    join_steps (g.R.Holds.answers c.args.context.now.functions.now) c.args.context.now.plan.now InParallel c.args.left.now c.args.right.now c.args.meter.now c.step_state.new.meter c.args.inside c.args.context.now.dt c.args.value.now _ (ap (λ (p : Pair). p.first) c.in-Some.ensures.value ∙ c.in-Ok.ensures.first ∙ ap first_of c.replace-input.ensures.value)
+    c.step_state.new.state c.step_state.new.value _ (ap (λ (p : Pair). p.second) c.in-Some.ensures.value ∙ c.in-Ok.ensures.second ∙ ap second_of c.replace-input.ensures.value) c.in_ok-step_state.ensures
+    c.step_state-2.new.meter c.step_state-2.new.state c.step_state-2.new.value c.of_pair.result c.of_pair.ensures c.in_ok-step_state-2.ensures
 
 -- ## step_fan
 
@@ -344,30 +337,36 @@ step_fan-returns g t c =
 pub step_first-returns-in_default : goal.step_first-returns-in_default
 step_first-returns-in_default g t c = λ m depth t P L R. early_memory (g.R.Holds.answers c.args.context.now.functions.now) c.args.context.now.plan.now t c.stop.ensures.entered c.stop.ensures.height c.stop.ensures.fault
 
-pub step_first-returns-in_err-step_half : goal.step_first-returns-in_err-step_half
-step_first-returns-in_err-step_half g t c = λ m depth t P L R.
-    pass_exit _ _ c.from_residual.ensures.0 (wrap_fails (g.R.Holds.answers c.args.context.now.functions.now) c.args.context.now.plan.now First c.args.part.now c.args.meter.now c.step_half.new.meter c.args.inside c.args.context.now.dt c.args.value.now _ c.in-Ok.ensures.0
-    _ c.in_err-step_half.ensures m depth t P L R)
+pub step_first-returns-in_default-get_mut : goal.step_first-returns-in_default-get_mut
+step_first-returns-in_default-get_mut g t c = λ m depth t P L R. early_memory (g.R.Holds.answers c.args.context.now.functions.now) c.args.context.now.plan.now t c.stop-in_default-get_mut.ensures.entered c.stop-in_default-get_mut.ensures.height c.stop-in_default-get_mut.ensures.fault
+
+pub step_first-returns-in_err-step_state : goal.step_first-returns-in_err-step_state
+step_first-returns-in_err-step_state g t c = λ m depth t P L R.
+    pass_exit _ _ c.from_residual.ensures.0 (wrap_fails (g.R.Holds.answers c.args.context.now.functions.now) c.args.context.now.plan.now First c.args.part.now c.args.meter.now c.step_state.new.meter c.args.inside c.args.context.now.dt c.args.value.now _ (ap (λ (p : Pair). p.first) c.in-Some.ensures.value ∙ c.in-Ok.ensures.first ∙ ap first_of c.replace-input.ensures.value)
+    _ c.in_err-step_state.ensures m depth t P L R)
 
 pub step_first-returns : goal.step_first-returns
 step_first-returns g t c =
-    wrap_steps (g.R.Holds.answers c.args.context.now.functions.now) c.args.context.now.plan.now First c.args.part.now c.args.meter.now c.step_half.new.meter c.args.inside c.args.context.now.dt c.args.value.now _ c.in-Ok.ensures.0
-    c.step_half.new.state First c.step_half.new.half.value c.of_halves.result refl (rw c.in-Ok.ensures.1 at c.of_halves.ensures) c.in_ok-step_half.ensures
+    wrap_steps (g.R.Holds.answers c.args.context.now.functions.now) c.args.context.now.plan.now First c.args.part.now c.args.meter.now c.step_state.new.meter c.args.inside c.args.context.now.dt c.args.value.now _ (ap (λ (p : Pair). p.first) c.in-Some.ensures.value ∙ c.in-Ok.ensures.first ∙ ap first_of c.replace-input.ensures.value)
+    c.step_state.new.state First c.step_state.new.value c.of_pair.result refl (rw (ap (λ (p : Pair). p.second) c.in-Some.ensures.value ∙ c.in-Ok.ensures.second ∙ ap second_of c.replace-input.ensures.value) at c.of_pair.ensures) c.in_ok-step_state.ensures
 
 -- ## step_second
 
 pub step_second-returns-in_default : goal.step_second-returns-in_default
 step_second-returns-in_default g t c = λ m depth t P L R. early_memory (g.R.Holds.answers c.args.context.now.functions.now) c.args.context.now.plan.now t c.stop.ensures.entered c.stop.ensures.height c.stop.ensures.fault
 
-pub step_second-returns-in_err-step_half : goal.step_second-returns-in_err-step_half
-step_second-returns-in_err-step_half g t c = λ m depth t P L R.
-    pass_exit _ _ c.from_residual.ensures.0 (wrap_fails (g.R.Holds.answers c.args.context.now.functions.now) c.args.context.now.plan.now Second c.args.part.now c.args.meter.now c.step_half.new.meter c.args.inside c.args.context.now.dt c.args.value.now _ c.in-Ok.ensures.1
-    _ c.in_err-step_half.ensures m depth t P L R)
+pub step_second-returns-in_default-get_mut : goal.step_second-returns-in_default-get_mut
+step_second-returns-in_default-get_mut g t c = λ m depth t P L R. early_memory (g.R.Holds.answers c.args.context.now.functions.now) c.args.context.now.plan.now t c.stop-in_default-get_mut.ensures.entered c.stop-in_default-get_mut.ensures.height c.stop-in_default-get_mut.ensures.fault
+
+pub step_second-returns-in_err-step_state : goal.step_second-returns-in_err-step_state
+step_second-returns-in_err-step_state g t c = λ m depth t P L R.
+    pass_exit _ _ c.from_residual.ensures.0 (wrap_fails (g.R.Holds.answers c.args.context.now.functions.now) c.args.context.now.plan.now Second c.args.part.now c.args.meter.now c.step_state.new.meter c.args.inside c.args.context.now.dt c.args.value.now _ (ap (λ (p : Pair). p.second) c.in-Some.ensures.value ∙ c.in-Ok.ensures.second ∙ ap second_of c.replace-input.ensures.value)
+    _ c.in_err-step_state.ensures m depth t P L R)
 
 pub step_second-returns : goal.step_second-returns
 step_second-returns g t c =
-    wrap_steps (g.R.Holds.answers c.args.context.now.functions.now) c.args.context.now.plan.now Second c.args.part.now c.args.meter.now c.step_half.new.meter c.args.inside c.args.context.now.dt c.args.value.now _ c.in-Ok.ensures.1
-    c.step_half.new.state Second c.step_half.new.half.value c.of_halves.result refl (rw c.in-Ok.ensures.0 at c.of_halves.ensures) c.in_ok-step_half.ensures
+    wrap_steps (g.R.Holds.answers c.args.context.now.functions.now) c.args.context.now.plan.now Second c.args.part.now c.args.meter.now c.step_state.new.meter c.args.inside c.args.context.now.dt c.args.value.now _ (ap (λ (p : Pair). p.second) c.in-Some.ensures.value ∙ c.in-Ok.ensures.second ∙ ap second_of c.replace-input.ensures.value)
+    c.step_state.new.state Second c.step_state.new.value c.of_pair.result refl (rw (ap (λ (p : Pair). p.first) c.in-Some.ensures.value ∙ c.in-Ok.ensures.first ∙ ap first_of c.replace-input.ensures.value) at c.of_pair.ensures) c.in_ok-step_state.ensures
 
 -- ## step_loop
 
@@ -379,16 +378,16 @@ step_loop-returns-in_err-step_state g t c = λ m depth t P L R.
     pass_exit _ _ c.from_residual.ensures.0 (wrap_fails (g.R.Holds.answers c.args.context.now.functions.now) c.args.context.now.plan.now (Loop c.args.feedback.now) c.args.part.now c.args.meter.now c.step_state.new.meter c.args.inside c.args.context.now.dt c.args.value.now c.in-Ok.both c.in-Ok.ensures.both
     _ c.in_err-step_state.ensures m depth t P L R)
 
-pub step_loop-returns : goal.step_loop-returns
-step_loop-returns g t c =
+pub step_loop-returns-in-Err : goal.step_loop-returns-in-Err
+step_loop-returns-in-Err g t c =
     late_memory (g.R.Holds.answers c.args.context.now.functions.now) c.args.context.now.plan.now (wrap_steps (g.R.Holds.answers c.args.context.now.functions.now) c.args.context.now.plan.now (Loop c.args.feedback.now) c.args.part.now c.args.meter.now c.step_state.new.meter c.args.inside c.args.context.now.dt c.args.value.now c.in-Ok.both c.in-Ok.ensures.both
     c.step_state.new.state _ c.step_state.new.value _ refl refl c.in_ok-step_state.ensures)
     c.stop-in-Err.ensures.entered c.stop-in-Err.ensures.height c.stop-in-Err.ensures.fault
 
-pub step_loop-returns-in-Ok-feed_back : goal.step_loop-returns-in-Ok-feed_back
-step_loop-returns-in-Ok-feed_back g t c =
+pub step_loop-returns-in-Ok-keep : goal.step_loop-returns-in-Ok-keep
+step_loop-returns-in-Ok-keep g t c =
     wrap_steps (g.R.Holds.answers c.args.context.now.functions.now) c.args.context.now.plan.now (Loop c.args.feedback.now) c.args.part.now c.args.meter.now c.step_state.new.meter c.args.inside c.args.context.now.dt c.args.value.now c.in-Ok.both c.in-Ok.ensures.both
-    c.step_state.new.state (Loop c.feed_back.new.feedback) c.step_state.new.value c.feed_back.new.value (ap Loop c.in-Ok-feed_back.ensures.next) c.in-Ok-feed_back.ensures.output c.in_ok-step_state.ensures
+    c.step_state.new.state (Loop c.keep.new.self) c.step_state.new.value c.keep.new.value (ap Loop c.in-Ok-keep.ensures.next) c.in-Ok-keep.ensures.output c.in_ok-step_state.ensures
 
 -- ## step_initialized
 

@@ -10,9 +10,6 @@ decreases-step_state g l = 10 * (1600 - l.depth) + (if is_frozen l.state.now the
 abbrev pub decreases-step_other : goal.decreases-step_other
 decreases-step_other g l = 10 * (1600 - l.depth) + (if is_frozen l.state.now then 3 else 1)
 
-abbrev pub decreases-step_half : goal.decreases-step_half
-decreases-step_half g l = 10 * (1600 - l.depth) + 5
-
 abbrev pub decreases-step_sequence : goal.decreases-step_sequence
 decreases-step_sequence g l = 10 * (1600 - l.inside) + 6
 

@@ -13,7 +13,7 @@ FormOf unit g = g ≡ Unit
 FormOf (truth b) g = (x : _) × (g ≡ Bool x)
 FormOf (number z) g = (x : _) × (g ≡ Int x)
 FormOf (text s) g = (x : _) × (g ≡ Text x)
-FormOf (pair d e) g = (x : _) × (y : _) × (g ≡ Pair x y)
+FormOf (pair d e) g = (x : _) × (g ≡ Pair x)
 FormOf no_event g = g ≡ NoEvent
 FormOf (event d) g = (x : _) × (g ≡ Event x)
 FormOf (table rs) g = (x : _) × (g ≡ Table x)
@@ -23,7 +23,7 @@ form_of Unit = refl
 form_of (Bool x) = (x, refl)
 form_of (Int x) = (x, refl)
 form_of (Text x) = (x, refl)
-form_of (Pair x y) = (x, y, refl)
+form_of (Pair x) = (x, refl)
 form_of NoEvent = refl
 form_of (Event x) = (x, refl)
 form_of (Table x) = (x, refl)
@@ -51,7 +51,7 @@ pub same-returns-in_default-4 : goal.same-returns-in_default-4
 same-returns-in_default-4 t c = apart_by_form (Text c.in_default.field-0-0) c.b.inside.form (ap data_of (sym c.in_default.is-0) ∙ c.a.view_is) c.b.view_is (λ h. c.in_default.not-Text-1 h.0 h.1)
 
 pub same-returns-in_default-5 : goal.same-returns-in_default-5
-same-returns-in_default-5 t c = apart_by_form (Pair c.in_default.field-0-0 c.in_default.field-1-0) c.b.inside.form (ap data_of (sym c.in_default.is-0) ∙ c.a.view_is) c.b.view_is (λ h. c.in_default.not-Pair-1 h.0 h.1 h.2)
+same-returns-in_default-5 t c = apart_by_form (Pair c.in_default.field-0-0) c.b.inside.form (ap data_of (sym c.in_default.is-0) ∙ c.a.view_is) c.b.view_is (λ h. c.in_default.not-Pair-1 h.0 h.1)
 
 pub same-returns-in_default-6 : goal.same-returns-in_default-6
 same-returns-in_default-6 t c = apart_by_form NoEvent c.b.inside.form (ap data_of (sym c.in_default.is-0) ∙ c.a.view_is) c.b.view_is c.in_default.not-NoEvent-1

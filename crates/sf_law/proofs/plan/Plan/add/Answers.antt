@@ -12,6 +12,7 @@ invariant_of-self-2 c =
       within = subst (λ b. AreWithin b c.push.new.self.items) (sym c.anew_with-anew.ensures) (within_put p.anew p.nodes.items c.push.new.self.items c.args.node _ c.push.ensures.items p.within);
       bound = p.bound;
       numbered = p.numbered;
+      placed = p.placed;
       same = p.same;
       nothing = p.nothing;
     }

@@ -1,5 +1,6 @@
 use Rattle.std.proofs.Common.{false, refl, sym, subst}
 use Rattle.sf_law.specs.Headers.{NumbersFirst}
+use Rattle.sf_law.specs.Places.{ArePlaces}
 use Rattle.sf_law.specs.Entries.{ArePlanNodes, AreWithin}
 use Rattle.sf_law.proofs.Placed.{arena_empty}
 use Rattle.sf_law.proofs.plan.Plan.new.Goals as goal
@@ -10,6 +11,7 @@ invariant_of-result c = record {
   within = subst (λ ns. AreWithin false ns) (sym c.new.ensures.items) (λ i. refl);
   bound = c.requires;
   numbered = subst (λ hs. NumbersFirst c.in_ok-numbers.numbers hs) c.deref.ensures.value c.in_ok-numbers.ensures;
+  placed = subst (λ hs. ArePlaces c.args.expressions hs c.in_ok-places.places.items) c.deref-2.ensures.value c.in_ok-places.ensures;
   same = refl;
   nothing = c.absent.ensures;
 }

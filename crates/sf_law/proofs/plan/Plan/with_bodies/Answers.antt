@@ -1,7 +1,9 @@
 use Rattle.std.proofs.Common.{List, All, sym, subst}
 use Rattle.std.proofs.lemmas.List.Elements.{All-map}
 use Rattle.sf_law.specs.Headers.{PlanHeader, rebodied, NumbersFirst}
+use Rattle.sf_law.specs.Places.{ArePlaces}
 use Rattle.sf_law.specs.Entries.{ArePlanNodes, BindsNames}
+use Rattle.sf_law.proofs.Located.{places_kept}
 use Rattle.sf_law.proofs.Rebodied.{arena_kept, numbers_kept}
 use Rattle.sf_law.proofs.plan.Plan.with_bodies.Goals as goal
 
@@ -16,6 +18,7 @@ invariant_of-plan c =
       within = p.within;
       bound = subst (λ (hs : List PlanHeader). All (BindsNames p.expressions) hs) same (All-map (BindsNames p.expressions) (rebodied ids n) p.templates.items p.bound);
       numbered = subst (λ (hs : List PlanHeader). NumbersFirst p.numbers hs) same (numbers_kept ids n p.numbers p.templates.items p.numbered);
+      placed = subst (λ (hs : List PlanHeader). ArePlaces p.expressions hs p.places.items) same (places_kept ids n p.expressions p.templates.items p.places.items p.placed);
       same = p.same;
       nothing = p.nothing;
     }

@@ -28,7 +28,7 @@ pub returns-in_err-timed-in-Timed : goal.returns-in_err-timed-in-Timed
 returns-in_err-timed-in-Timed g c = λ x h. memory_exit _ _ _ c.from_residual-in_err-timed-in-Timed.ensures.1
 
 pub returns-in_ok-arrow-in-Arrow : goal.returns-in_ok-arrow-in-Arrow
-returns-in_ok-arrow-in-Arrow g c = λ x h. rw c.in-Arrow.is (begins (c.in_ok-arrow-in-Arrow.ensures (g.R.Holds.answers c.args.functions.now) _ (rw c.in-Arrow.is at h)))
+returns-in_ok-arrow-in-Arrow g c = λ x h. rw c.in-Arrow.is (begins (c.in_ok-arrow-in-Arrow.ensures.kept (g.R.Holds.answers c.args.functions.now) _ (rw c.in-Arrow.is at h)))
 
 pub returns-in_err-arrow-in-Arrow : goal.returns-in_err-arrow-in-Arrow
 returns-in_err-arrow-in-Arrow g c = λ x h. memory_exit _ _ _ c.from_residual-in_err-arrow-in-Arrow.ensures.1
@@ -44,7 +44,7 @@ returns-in_err-new-in-Accumulated g c = λ x h. memory_exit _ _ _ c.from_residua
 
 pub returns-in_ok-new-in-Accumulated : goal.returns-in_ok-new-in-Accumulated
 returns-in_ok-new-in-Accumulated g c = λ x h.
-    let code = c.in_ok-closure-in-Accumulated.ensures (g.R.Holds.answers c.args.functions.now) _ (rw c.in-Accumulated.is at h).1 in
+    let code = c.in_ok-closure-in-Accumulated.ensures.made (g.R.Holds.answers c.args.functions.now) _ (rw c.in-Accumulated.is at h).1 in
     let worth = c.in_ok-value-in-Accumulated.ensures _ (rw c.in-Accumulated.is at h).0 in
     rw c.in-Accumulated.is (begins (accumulated_made _ _ _ c.in_ok-new-in-Accumulated.field-0 _ c.in_ok-new-in-Accumulated.ensures.ok code worth))
 

@@ -19,7 +19,7 @@ returns-in-Arrow g c = rw c.in-Arrow.is (arrow_goes_on (g.R.Holds.answers c.args
 
 pub returns-in-Closed : goal.returns-in-Closed
 returns-in-Closed g c =
-    rw c.in-Closed.is (closed_goes_on (g.R.Holds.answers c.args.functions.now) c.in-Closed.closure _ _ _ (rw c.deref-in-Closed.ensures at c.replace_within.ensures))
+    rw c.in-Closed.is (closed_goes_on (g.R.Holds.answers c.args.functions.now) c.in-Closed.closure _ c.args.value.now c.apply_closure.new.value c.apply_closure.result (rw c.deref-in-Closed.ensures at c.apply_closure.ensures))
 
 pub returns-in-Clock : goal.returns-in-Clock
 returns-in-Clock g c = λ q scope L same k. clock_goes_on q scope _ _ L _ _ _ _ c.tell_time.ensures.told c.tell_time.ensures.kept (rw c.in-Clock.is at k)

@@ -1,28 +1,41 @@
 use Rattle.std.proofs.Common.{[], sym, ap, subst, ◌∙◌}
 use Rattle.std.specs.Prelude.{bytes_eq}
 use Rattle.sf_expr.specs.Arena.{name_at, placed_at}
-use Rattle.sf_state.specs.Standing.{IsNames}
-use Rattle.sf_state.proofs.Scopes.{found_value, found_outside, found_further}
+use Rattle.sf_law.specs.Places.{last_parameter}
+use Rattle.sf_mean.specs.Lives.{process_of}
+use Rattle.sf_state.specs.declared.env.Call.{Call}
+use Rattle.sf_state.specs.Names.{handed_of, given_at}
+use Rattle.sf_state.specs.Standing.{IsNames, IsFound}
+use Rattle.sf_state.proofs.Scopes.{found_value, found_outside, found_further, names_called, found_called}
 use Rattle.sf_state.proofs.env.Env.+running.Goals as goal
 
 pub returns-in-Some : goal.returns-in-Some
-returns-in-Some t c = λ φ p e same N.
+returns-in-Some t c = λ φ e N.
+    let p = c.args.plan.now in
     let b = c.in-Bound.binding.value in
-    let pattern = c.placed-pattern.ensures ∙ ap (λ a. placed_at c.args.expressions.now a.pattern) c.deref.ensures ∙ ap (λ x. placed_at x b.pattern) same in
+    let pattern = c.placed-pattern.ensures ∙ ap (λ a. placed_at c.expressions.result.now a.pattern) c.deref.ensures ∙ ap (λ x. placed_at x b.pattern) c.expressions.ensures in
     let value = c.deref-in-Bound-2.ensures ∙ ap (λ a. a.value.value) c.deref-in-Bound.ensures in
     found_value φ p c.args.name.now b.pattern b.value b.around c.in-Some.field-0.now e (rw (sym pattern, sym value) (c.in-Some.ensures [])) (rw c.in-Bound.is at N)
 
 pub returns-in-None : goal.returns-in-None
-returns-in-None t c = λ φ p e same N.
+returns-in-None t c = λ φ e N.
+    let p = c.args.plan.now in
     let b = c.in-Bound.binding.value in
-    let pattern = c.placed-pattern.ensures ∙ ap (λ a. placed_at c.args.expressions.now a.pattern) c.deref.ensures ∙ ap (λ x. placed_at x b.pattern) same in
+    let pattern = c.placed-pattern.ensures ∙ ap (λ a. placed_at c.expressions.result.now a.pattern) c.deref.ensures ∙ ap (λ x. placed_at x b.pattern) c.expressions.ensures in
     let value = c.deref-in-Bound-2.ensures ∙ ap (λ a. a.value.value) c.deref-in-Bound.ensures in
     found_outside φ p c.args.name.now b.pattern b.value b.around _ e (rw (sym pattern, sym value) (c.in-None.ensures []))
-    (λ e M. c.running.ensures φ p e same (subst (λ a. IsNames φ p a.around e) (sym c.deref-in-None.ensures) M)) (rw c.in-Bound.is at N)
+    (λ e M. c.running.ensures φ e (subst (λ a. IsNames φ p a.around e) (sym c.deref-in-None.ensures) M)) (rw c.in-Bound.is at N)
 
 pub returns-else-eq : goal.returns-else-eq
-returns-else-eq t c = λ φ p e same N.
+returns-else-eq t c = λ φ e N.
+    let p = c.args.plan.now in
     let b = c.in-Running.running.value in
-    let name = c.name_of.ensures ∙ ap (λ a. name_at c.args.expressions.now a.name) c.deref-in-Running.ensures ∙ ap (λ x. name_at x b.name) same in
-    found_further φ p c.args.name.now b.name b.process b.base b.around _ e (ap (λ n. bytes_eq c.args.name.now n) (sym name) ∙ sym c.eq.ensures ∙ c.if-eq.false)
-    (λ e M. c.running-else-eq.ensures φ p e same (subst (λ a. IsNames φ p a.around e) (sym c.deref-else-eq.ensures) M)) (rw c.in-Running.is at N)
+    let name = c.name_of.ensures ∙ ap (λ a. name_at c.expressions-in-Running.result.now a.name) c.deref-in-Running.ensures ∙ ap (λ x. name_at x b.name) c.expressions-in-Running.ensures in
+    found_further φ p c.args.name.now b.name b.handed.process b.handed.base b.around _ e (ap (λ n. bytes_eq c.args.name.now n) (sym name) ∙ sym c.eq.ensures ∙ c.if-eq.false)
+    (λ e M. c.running-else-eq.ensures φ e (subst (λ a. IsNames φ p a.around e) (sym c.deref-else-eq.ensures) M)) (rw c.in-Running.is at N)
+
+pub returns-in-Called : goal.returns-in-Called
+returns-in-Called t c = λ φ e N.
+    let p = c.args.plan.now in
+    let given = c.handed.ensures ∙ ap (λ (k : Call). handed_of (given_at (last_parameter c.args.name.now (names_called p k)) k.arguments.items)) c.deref-in-Called.ensures in
+    subst (λ r. IsFound φ p r (process_of c.args.name.now e)) (sym given) (found_called φ p c.args.name.now c.in-Called.call e (rw c.in-Called.is at N))

@@ -1,4 +1,4 @@
-use Rattle.sf_state.proofs.Scopes.{names_follow, running_follows}
+use Rattle.sf_state.proofs.Scopes.{names_follow, running_follows, called_follows}
 use Rattle.sf_state.proofs.env.Env.share.Goals as goal
 
 pub returns-in_ok-shared-in-Bound : goal.returns-in_ok-shared-in-Bound
@@ -6,3 +6,6 @@ returns-in_ok-shared-in-Bound c = λ φ p e N. names_follow φ p c.in-Bound.bind
 
 pub returns-in_ok-same-in-Running : goal.returns-in_ok-same-in-Running
 returns-in_ok-same-in-Running c = λ φ p e N. running_follows φ p c.in-Running.running.value c.in_ok-same-in-Running.same.value c.in_ok-same-in-Running.ensures.cases e (rw c.in-Running.is at N)
+
+pub returns-in_ok-both-in-Called : goal.returns-in_ok-both-in-Called
+returns-in_ok-both-in-Called c = λ φ p e N. called_follows φ p c.in-Called.call c.in_ok-both-in-Called.both c.in_ok-both-in-Called.ensures.cases e (rw c.in-Called.is at N)

@@ -6,7 +6,7 @@ use Rattle.sf_law.specs.Entries.{BindsName, IsCodedArgument, argument_within}
 use Rattle.sf_state.specs.Standing.{IsNames}
 use Rattle.sf_parts.specs.Contexts.{plan_in}
 use Rattle.sf_parts.proofs.Arguments.{Binds}
-use Rattle.sf_parts.proofs.calling.called.Given as goal
+use Rattle.sf_parts.proofs.calling.one_inside_another.Given as goal
 
 abbrev pub invariant-loop-parameter : goal.invariant-loop-parameter
 invariant-loop-parameter g l = record {
@@ -14,5 +14,5 @@ invariant-loop-parameter g l = record {
   coded : All (IsCodedArgument (plan_expressions (plan_in l.context))) l.parameter-iterator.b.rest.now;
   within : IsTrue (list_all (argument_within (plan_anew (plan_in l.context))) l.parameter-iterator.b.rest.now);
   binds : (e : Environment) → IsNames (g.R.Holds.answers l.context.functions.now) (plan_in l.context) l.names e →
-      Binds (g.R.Holds.answers l.context.functions.now) (plan_in l.context) l.template.parameters l.arguments e l.parameter-iterator.a.rest.now l.parameter-iterator.b.rest.now l.bound;
+      Binds (g.R.Holds.answers l.context.functions.now) (plan_in l.context) l.parameters l.arguments e l.parameter-iterator.a.rest.now l.parameter-iterator.b.rest.now l.bound;
 }

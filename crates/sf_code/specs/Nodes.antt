@@ -1,0 +1,21 @@
+-- How code is kept.
+use Rattle.std.specs.Prelude.{Bool, true, false, is_some}
+use Rattle.sf_operator.specs.Operations.{number_in}
+use Rattle.sf_code.specs.declared.code.Code.{Code}
+use Rattle.sf_code.specs.declared.code.Code.TheVariants.{Place, Constant, WithNumber, NumberWith}
+
+-- whether code is a place
+abbrev pub is_place : Code → Bool
+is_place (Place p) = true
+is_place c = false
+
+-- whether code is a number
+abbrev pub is_number : Code → Bool
+is_number (Constant v) = is_some (number_in v)
+is_number c = false
+
+-- whether code is arithmetic between a place and a number, in either order, as one node
+abbrev pub is_one_node : Code → Bool
+is_one_node (WithNumber o p n) = true
+is_one_node (NumberWith o n p) = true
+is_one_node c = false

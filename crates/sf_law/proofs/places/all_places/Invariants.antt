@@ -1,0 +1,8 @@
+use Rattle.std.proofs.Common.{take}
+use Rattle.sf_law.specs.Places.{ArePlaces}
+use Rattle.sf_law.proofs.places.all_places.Given as goal
+
+abbrev pub invariant-loop-template : goal.invariant-loop-template
+invariant-loop-template l = record {
+  placed : ArePlaces l.exprs (take l.template-index l.templates) l.places.items;
+}
