@@ -17,6 +17,8 @@ mod optimised;
 #[cfg(test)]
 mod playing;
 #[cfg(test)]
+mod printing;
+#[cfg(test)]
 mod probing;
 #[cfg(test)]
 mod saving;

@@ -1,0 +1,11 @@
+pub mod Putting
+pub mod Listing
+pub mod Written
+pub mod Needing
+pub mod Breaks
+pub mod Spelt
+pub mod Cut
+pub mod Texts
+pub mod LeftOut
+pub mod Limits
+pub mod Again

@@ -1,0 +1,373 @@
+//! Terms as they are written.
+ghost use Rattle.std.specs.Prelude.{◌≡◌, OnOk, All};
+ghost use Rattle.sf_expr.specs.Arena.{name_at, literal_at};
+ghost use Rattle.sf_expr.specs.Patterns.{pattern_of};
+ghost use Rattle.sf_term.specs.declared.node.Node.TheVariants as nodes;
+ghost use Rattle.sf_term.specs.Entries.{absent_payload};
+ghost use Rattle.sf_term.specs.Trees.{primitive as primitive_of, never as never_of, named_term, joined as joined_of, sided as sided_of, headed as headed_of, switching as switching_of, keeping as keeping_of, reference as reference_of, call as call_of};
+ghost use Rattle.sf_term.specs.Arena.{tree, term_of, term_number, expressions_of, expression_under, function_in, pattern_under, arguments_of, ArgumentBelow};
+ghost use Rattle.sf_grammar.specs.Spelling.{spell_term, spell_mapping, spell_pattern, spell_value, spell_expression, spell_function, spell_listed, spell_further, spell_arguments, stands_initially, value_word, naming_token};
+ghost use Rattle.sf_print.specs.Drafts.{append_token, append_tokens};
+ghost use Rattle.sf_print.specs.Arguments.{spell_argument};
+
+use crate::draft::Draft;
+use crate::expressions::{write_expression, write_function, write_pattern};
+use crate::types::write_type;
+use crate::words::{
+    accumulation_word, bare_word, heading_sign, join_symbol, keeping_word, side_word,
+    stands_initially, switching_word, timing_word, value_word,
+};
+use sf_expr::{Constant, ConstantForm, ExprId, FunctionId, NameId, PatternId};
+use sf_grammar::Version;
+use sf_lex::{Keyword, Symbol};
+use sf_term::{
+    Argument, Heading, Join, Naming, Node, Observation, Primitive, Program, Start, Switching,
+    TermId, WithValue,
+};
+use std::alloc::AllocError;
+
+/// Appends the expression at an id.
+#[tactic(auto, unfolding(sf_term::specs::Arena::expression_under, sf_term::specs::Arena::expressions_of))]
+fn write_value(
+    program: &Program,
+    version: Version,
+    value: ExprId,
+    draft: &mut Draft,
+) -> Result<(), AllocError>
+    ensures { OnOk result (draft.new ≡ append_tokens draft.old (spell_expression version (expression_under program.now value))) }
+{
+    write_expression(program.expressions(), version, value, draft)
+}
+
+/// Appends the function at an id.
+#[tactic(auto, unfolding(sf_term::specs::Arena::expression_under, sf_term::specs::Arena::expressions_of, sf_term::specs::Arena::function_pattern_at, sf_term::specs::Arena::function_body_at))]
+fn write_mapped(
+    program: &Program,
+    version: Version,
+    function: FunctionId,
+    draft: &mut Draft,
+) -> Result<(), AllocError>
+    ensures { OnOk result (draft.new ≡ append_tokens draft.old (spell_function version (function_in program.now function))) }
+{
+    write_function(program.expressions(), version, function, draft)
+}
+
+/// Appends a primitive with a value.
+#[tactic(auto, using(crate::proofs::Putting::tokens_apart))]
+fn write_with_value(
+    program: &Program,
+    version: Version,
+    primitive: WithValue,
+    value: ExprId,
+    draft: &mut Draft,
+) -> Result<(), AllocError>
+    ensures { OnOk result (draft.new ≡ append_tokens draft.old (spell_value (stands_initially primitive) (value_word primitive) (spell_expression version (expression_under program.now value)))) }
+{
+    let word = value_word(primitive);
+    if stands_initially(primitive) {
+        draft.symbol(Symbol::Initially)?;
+        draft.symbol(Symbol::Open)?;
+        write_value(program, version, value, draft)?;
+        draft.symbol(Symbol::Comma)?;
+        draft.keyword(word)?;
+        draft.symbol(Symbol::Close)
+    } else {
+        draft.keyword(word)?;
+        write_value(program, version, value, draft)
+    }
+}
+
+/// Appends `never` and the type of its payloads.
+#[tactic(auto, using(crate::proofs::Putting::tokens_apart))]
+fn write_never(constant: &Constant, version: Version, draft: &mut Draft) -> Result<(), AllocError>
+    ensures { OnOk result (draft.new ≡ append_tokens draft.old (spell_term version (primitive_of (never_of (absent_payload constant.now))))) }
+{
+    draft.keyword(Keyword::Never)?;
+    match constant.form() {
+        ConstantForm::NoEvent(payload) => write_type(payload, version, draft),
+        ConstantForm::Text(_) => draft.keyword(Keyword::Unit),
+    }
+}
+
+/// Appends a primitive.
+#[tactic(auto, using(crate::proofs::Putting::tokens_apart))]
+fn write_primitive(
+    program: &Program,
+    version: Version,
+    primitive: Primitive,
+    draft: &mut Draft,
+) -> Result<(), AllocError>
+    ensures { OnOk result (draft.new ≡ append_tokens draft.old (spell_term version (term_of program.now (nodes.Primitive primitive)))) }
+{
+    match primitive {
+        Primitive::Bare(bare) => draft.keyword(bare_word(bare)),
+        Primitive::Never(payload) => {
+            write_never(program.expressions().constant_at(payload), version, draft)
+        }
+        Primitive::WithValue(kind, value) => {
+            write_with_value(program, version, kind, value, draft)
+        }
+        Primitive::Timed(timing, time, value) => {
+            draft.keyword(timing_word(timing))?;
+            draft.number(time)?;
+            write_value(program, version, value, draft)
+        }
+        Primitive::Arrow(function) => {
+            draft.keyword(Keyword::Arr)?;
+            write_mapped(program, version, function, draft)
+        }
+        Primitive::Accumulated(accumulation, value, function) => {
+            draft.keyword(accumulation_word(accumulation))?;
+            draft.symbol(Symbol::Open)?;
+            write_value(program, version, value, draft)?;
+            draft.symbol(Symbol::Comma)?;
+            write_mapped(program, version, function, draft)?;
+            draft.symbol(Symbol::Close)
+        }
+    }
+}
+
+/// Appends the first token of a form that is a name alone.
+fn write_naming(naming: Naming, draft: &mut Draft) -> Result<(), AllocError>
+    ensures { OnOk result (draft.new ≡ append_token draft.old (naming_token naming)) }
+{
+    match naming {
+        Naming::Process(Start::Run) => draft.keyword(Keyword::Run),
+        Naming::Process(Start::Fresh) => draft.name("fresh"),
+        Naming::Probe => draft.keyword(Keyword::Probe),
+    }
+}
+
+/// Appends a form that is a name alone.
+fn write_named(
+    program: &Program,
+    version: Version,
+    naming: Naming,
+    name: NameId,
+    draft: &mut Draft,
+) -> Result<(), AllocError>
+    ensures { OnOk result (draft.new ≡ append_tokens draft.old (spell_term version (named_term naming (name_at (expressions_of program.now) name)))) }
+{
+    write_naming(naming, draft)?;
+    draft.name(program.expressions().name_of(name))
+}
+
+/// Appends the term at an id.
+#[cycle(term)]
+#[tactic(auto, using(crate::proofs::Putting::tokens_apart))]
+pub(crate) fn write_term(
+    program: &Program,
+    version: Version,
+    id: TermId,
+    draft: &mut Draft,
+) -> Result<(), AllocError>
+    ensures { OnOk result (draft.new ≡ append_tokens draft.old (spell_term version (tree program.now id))) }
+{
+    match program.node(id) {
+        Node::Primitive(primitive) => write_primitive(program, version, primitive, draft),
+        Node::Named(naming, name, _) => write_named(program, version, naming, name, draft),
+        Node::Call(name, arguments) => {
+            let arguments = program.arguments(arguments);
+            write_call(program, version, id, name, arguments, draft)
+        }
+        Node::Joined(join, first, second) => {
+            write_joined(program, version, join, first, second, draft)
+        }
+        Node::Sided(side, part) => {
+            draft.keyword(side_word(side))?;
+            write_term(program, version, part, draft)
+        }
+        Node::Headed(heading, value, part) => {
+            write_headed(program, version, heading, value, part, draft)
+        }
+        Node::Switching(switching, source, pattern, body) => {
+            write_switching(program, version, switching, source, pattern, body, draft)
+        }
+        Node::Keeping(observation, source, observer, name, _, pattern, body) => write_keeping(
+            program,
+            version,
+            observation,
+            source,
+            observer,
+            name,
+            pattern,
+            body,
+            draft,
+        ),
+    }
+}
+
+/// Appends two terms joined.
+#[cycle(term)]
+#[tactic(auto, using(crate::proofs::Putting::tokens_apart))]
+fn write_joined(
+    program: &Program,
+    version: Version,
+    join: Join,
+    first: TermId,
+    second: TermId,
+    draft: &mut Draft,
+) -> Result<(), AllocError>
+    ensures { OnOk result (draft.new ≡ append_tokens draft.old (spell_term version (joined_of join (tree program.now first) (tree program.now second)))) }
+{
+    draft.symbol(Symbol::Open)?;
+    write_term(program, version, first, draft)?;
+    draft.symbol(join_symbol(join))?;
+    write_term(program, version, second, draft)?;
+    draft.symbol(Symbol::Close)
+}
+
+/// Appends a term with an expression at its head.
+#[cycle(term)]
+#[tactic(auto, using(crate::proofs::Putting::tokens_apart))]
+fn write_headed(
+    program: &Program,
+    version: Version,
+    heading: Heading,
+    value: ExprId,
+    part: TermId,
+    draft: &mut Draft,
+) -> Result<(), AllocError>
+    ensures { OnOk result (draft.new ≡ append_tokens draft.old (spell_term version (headed_of heading (expression_under program.now value) (tree program.now part)))) }
+{
+    draft.sign(heading_sign(heading))?;
+    draft.symbol(Symbol::Open)?;
+    write_value(program, version, value, draft)?;
+    draft.symbol(Symbol::Comma)?;
+    write_term(program, version, part, draft)?;
+    draft.symbol(Symbol::Close)
+}
+
+/// Appends a pattern and the term that it binds names for.
+#[cycle(term)]
+#[tactic(auto, using(crate::proofs::Putting::tokens_apart), unfolding(sf_term::specs::Arena::pattern_under, sf_term::specs::Arena::expressions_of))]
+fn write_body(
+    program: &Program,
+    version: Version,
+    pattern: PatternId,
+    body: TermId,
+    draft: &mut Draft,
+) -> Result<(), AllocError>
+    ensures { OnOk result (draft.new ≡ append_tokens draft.old (spell_mapping (spell_pattern (pattern_of (pattern_under program.now pattern))) (spell_term version (tree program.now body)))) }
+{
+    write_pattern(program.expressions().placed(pattern), draft)?;
+    draft.symbol(Symbol::MapsTo)?;
+    write_term(program, version, body, draft)
+}
+
+/// Appends a term that gives way to another.
+#[cycle(term)]
+#[tactic(auto, using(crate::proofs::Putting::tokens_apart))]
+fn write_switching(
+    program: &Program,
+    version: Version,
+    switching: Switching,
+    source: TermId,
+    pattern: PatternId,
+    body: TermId,
+    draft: &mut Draft,
+) -> Result<(), AllocError>
+    ensures { OnOk result (draft.new ≡ append_tokens draft.old (spell_term version (switching_of switching (tree program.now source) (pattern_of (pattern_under program.now pattern)) (tree program.now body)))) }
+{
+    draft.keyword(switching_word(switching))?;
+    draft.symbol(Symbol::Open)?;
+    write_term(program, version, source, draft)?;
+    draft.symbol(Symbol::Comma)?;
+    write_body(program, version, pattern, body, draft)?;
+    draft.symbol(Symbol::Close)
+}
+
+/// Appends a term that gives way to another, which knows it by a name.
+#[cycle(term)]
+#[tactic(auto, using(crate::proofs::Putting::tokens_apart))]
+fn write_keeping(
+    program: &Program,
+    version: Version,
+    observation: Observation,
+    source: TermId,
+    observer: TermId,
+    name: NameId,
+    pattern: PatternId,
+    body: TermId,
+    draft: &mut Draft,
+) -> Result<(), AllocError>
+    ensures { OnOk result (draft.new ≡ append_tokens draft.old (spell_term version (keeping_of observation (tree program.now source) (tree program.now observer) (name_at (expressions_of program.now) name) (pattern_of (pattern_under program.now pattern)) (tree program.now body)))) }
+{
+    draft.keyword(keeping_word(observation))?;
+    draft.symbol(Symbol::Open)?;
+    write_term(program, version, source, draft)?;
+    draft.symbol(Symbol::Comma)?;
+    write_term(program, version, observer, draft)?;
+    draft.symbol(Symbol::Comma)?;
+    draft.name(program.expressions().name_of(name))?;
+    draft.symbol(Symbol::Comma)?;
+    write_body(program, version, pattern, body, draft)?;
+    draft.symbol(Symbol::Close)
+}
+
+/// Appends a call of a template.
+#[cycle(term)]
+#[tactic(auto, using(crate::proofs::Putting::tokens_apart))]
+fn write_call(
+    program: &Program,
+    version: Version,
+    call: TermId,
+    name: NameId,
+    arguments: &[Argument],
+    draft: &mut Draft,
+) -> Result<(), AllocError>
+    requires { All (ArgumentBelow (term_number call)) arguments.now }
+    ensures { OnOk result (draft.new ≡ append_tokens draft.old (spell_term version (reference_of (call_of (name_at (expressions_of program.now) name) (arguments_of program.now arguments.now))))) }
+{
+    draft.name(program.expressions().name_of(name))?;
+    draft.symbol(Symbol::Open)?;
+    match arguments {
+        [] => draft.symbol(Symbol::Close),
+        [first, rest @ ..] => {
+            write_argument(program, version, call, *first, draft)?;
+            write_further(program, version, call, rest, draft)
+        }
+    }
+}
+
+/// Appends further arguments of a call, each behind a comma, and the closing bracket.
+#[cycle(term)]
+#[tactic(auto, using(crate::proofs::Putting::tokens_apart))]
+fn write_further(
+    program: &Program,
+    version: Version,
+    call: TermId,
+    arguments: &[Argument],
+    draft: &mut Draft,
+) -> Result<(), AllocError>
+    requires { All (ArgumentBelow (term_number call)) arguments.now }
+    ensures { OnOk result (draft.new ≡ append_tokens draft.old (spell_further (spell_arguments version (arguments_of program.now arguments.now)))) }
+{
+    for argument in arguments {
+        draft.symbol(Symbol::Comma)?;
+        write_argument(program, version, call, *argument, draft)?;
+    }
+    draft.symbol(Symbol::Close)
+}
+
+/// Appends an argument of a call.
+#[cycle(term)]
+#[tactic(auto, using(crate::proofs::Putting::tokens_apart))]
+fn write_argument(
+    program: &Program,
+    version: Version,
+    call: TermId,
+    argument: Argument,
+    draft: &mut Draft,
+) -> Result<(), AllocError>
+    requires { ArgumentBelow (term_number call) argument }
+    ensures { OnOk result (draft.new ≡ append_tokens draft.old (spell_argument version program.now argument)) }
+{
+    match argument {
+        Argument::Value(value) => write_value(program, version, value, draft),
+        Argument::Process(term) => {
+            draft.keyword(Keyword::SignalFunction)?;
+            write_term(program, version, term, draft)
+        }
+    }
+}
