@@ -3,9 +3,9 @@ enters as its network is written and as it is rewritten.
 
     python3 rows/meters.py --exe PATH [--only NAME] [--timeout SECONDS]
 
-A row whose network is refused, or whose words or files are, is left out, and so is one that has its output only rewritten. Each
-sample with a value has to be counted, and none may enter more nodes rewritten than as its network is written; on LEAST rows at least
-one of them has to enter fewer.
+A row whose network is refused, or whose words or files are, is left out, and so is one that has its output only rewritten, or asks
+for no run. Each sample with a value has to be counted, and none may enter more nodes rewritten than as its network is written; on
+LEAST rows at least one of them has to enter fewer.
 The last line is `N passed, M failed`.
 """
 
@@ -15,7 +15,7 @@ import subprocess
 import sys
 import tempfile
 
-from play import rows_and_examples, text_of
+from play import rows_and_examples, runs, text_of
 
 # (there were 43 when this was written)
 LEAST = 40
@@ -50,7 +50,7 @@ def main():
     with tempfile.TemporaryDirectory() as place:
         network = os.path.join(place, "network")
         for row in rows_and_examples():
-            if row["status"] not in (0, 3, 4) or row.get("plain") is False or options.only and row["name"] != options.only:
+            if row["status"] not in (0, 3, 4) or not runs(row) or row.get("plain") is False or options.only and row["name"] != options.only:
                 continue
             with open(network, "wb") as file:
                 file.write(text_of(row["network"]))

@@ -22,7 +22,7 @@ EXAMPLES = os.path.join(HERE, "..", "examples")
 # The words for the modes in which a row is played, by its key "plain".
 MODES = {None: ([], ["--plain"]), True: (["--plain"],), False: ([],)}
 # A text or a comment, which has no forms, or a word or a symbol.
-TOKEN = re.compile(rb'"[^"\n]*"|#.*|[A-Za-z]\w*|-?\d+|-->|[!=<>]=|~>|=>|>>>|\*{3}|&&&|\S')
+TOKEN = re.compile(rb'"[^"\n]*"|#.*|[A-Za-z]\w*|-?\d+|-->|>--|[!=<>]=|~>|=>|>>>|\*{3}|&&&|\S')
 
 
 def text_of(given):
@@ -52,6 +52,11 @@ def rows_and_examples():
     with open(os.path.join(HERE, "rows.json"), encoding="utf-8") as file:
         rows = json.load(file)
     return rows + [example(name[: -len(".net")]) for name in sorted(os.listdir(EXAMPLES)) if name.endswith(".net")]
+
+
+def runs(row):
+    """Whether a row asks for a run, and not for a check or a text."""
+    return not {"--check", "--dump"} & {*row["arguments"]}
 
 
 def play_live(words, row, timeout):
@@ -124,7 +129,7 @@ def main():
             if row["network"] is not None:
                 with open(network, "wb") as file:
                     file.write(text_of(row["network"]))
-            if row["status"] in (0, 3):
+            if row["status"] in (0, 3) and runs(row):
                 networks.append(text_of(row["network"]))
             for mode in MODES[row.get("plain")]:
                 words = [os.path.abspath(options.exe), network, *row["arguments"], *mode]

@@ -2,13 +2,14 @@
 
 There are a delay of numbers, a loop over pairs, one of texts, events and tables with functions inside, one that calls stored
 functions, one that switches, one that freezes a process and runs it twice, one whose state is saved and returned to, one of templates
-that are given values and processes, and one with a probe in what is begun anew; and then networks that laws rewrite.
+that are given values and processes, one with a probe in what is begun anew, and one of forms that remember; and then networks that
+laws rewrite. Last, a text of all these and of further forms is checked and written anew.
 
     python3 rows/refuse_growths.py --exe PATH
 
 What is written has to be the script of the lines before, then `! T Memory` or `! line N Memory`; or nothing, with the
-network refused for memory or the words or the file not read. Where a later growth is refused, the run has come as far or further. Each
-ends with the first number that refuses nothing.
+network refused for memory or the words or the file not read. Where a later growth is refused, the run has come as far or further. Of a
+check and of a text nothing is written, or all of it. Each ends with the first number that refuses nothing.
 The last line is `N passed, M failed`.
 """
 
@@ -54,6 +55,11 @@ RUNS = [
      samples(["1", "2", "3"], ["1", "180", "220"])),
     ("Int ~> Int = kSwitch((iPre 7 >>> probe before), arr (x, _) => gate(event x, (x > 1)), k, c => ((fresh k &&& run k) >>> arr (u, v) => ((u + v) * c)))",
      [("0 1", "? before 7\n> 0 7"), ("16 2", "? before 1\n? before 7\n? before 1\n> 16 16"), ("16 3", "? before 2\n? before 2\n> 32 8")], "--probes"),
+    # what remembers an event, a payload and an input
+    ('(Event Text, Bool) ~> ((Event Text, Text), ((Event Unit, Event Text), Bool))'
+     ' = ((once &&& dHold "-") *** ((iEdge false &&& edgeTag "up") &&& initially false))',
+     samples(['(event "a",true)', '(event "b",false)', '(none,true)'],
+             ['((event "a","-"),((event (),none),false))', '((none,"a"),((none,none),false))', '((none,"b"),((event (),event "up"),true))'])),
     # functions that are neighbours, of which two share their input
     ("Int ~> (Int, Int) = ((arr x => (x + 1) >>> arr x => (x * 2)) >>> (arr x => (x - 3) &&& arr x => (x + 3)))",
      samples(["1", "2", "3"], ["(1,7)", "(3,9)", "(5,11)"])),
@@ -81,10 +87,29 @@ RUNS = [
 ]
 
 
+# Terms of forms that stand in none of these.
+FURTHER = [
+    "Unit ~> (Int, Event Int) = (-->(9, (localTime >>> integral)) &&& ((after 10 -1 &&& never Int) >>> arr (a, b) => lMerge(a, b)))",
+    "(Bool, Event Int) ~> (Event Int, Int) = rSwitch((edge >>> (arr e => tag(e, 0) >>> (identity &&& hold -1))), n => (now n &&& constant n))",
+]
+
+
+def many():
+    """The canonical text of an accepted network of many forms."""
+    terms = [term for term, *_ in RUNS if "\n" not in term] + FURTHER
+    templates = ["main(): Int ~> Int = identity", *(f"form_{number}(): {term}" for number, term in enumerate(terms))]
+    return "network 2;\n" + "".join(f"template {template};\n" for template in templates)
+
+
+def unread():
+    """The status with the output and the words on standard error where the network is refused for memory, or its file not read."""
+    return {(5, b"", b"sfplay: Memory\n"): 0, (6, b"", b"sfplay: read fault\n"): 0}
+
+
 def allowed(script):
     """Each status with the output and the words on standard error that it may come with, and how far the run has come there: a line's
     sample is behind the line itself."""
-    found = {(5, b"", b"sfplay: Memory\n"): 0, (6, b"", b"sfplay: read fault\n"): 0}
+    found = unread()
     before = b""
     for number, (_, text) in enumerate(script, 1):
         found[4, before + b"! line %d Memory\n" % number, b""] = 2 * number - 1
@@ -95,20 +120,14 @@ def allowed(script):
     return {**found, (0, before, b""): 2 * len(script) + 1}
 
 
-def play(exe, place, shim, network, script, *arguments):
-    """How many refused growths went well and how many didn't."""
-    path = os.path.join(place, "network")
-    with open(path, "w") as file:
-        file.write(f"network 2;\ntemplate main(): {network};\n")
-    lines = "".join(f"{line}\n" for line, _ in script).encode("ascii")
-    wanted = allowed(script)
-    played = " ".join([network, *arguments])
+def refuse(shim, words, lines, wanted, played):
+    """How many refused growths went well and how many didn't, and the statuses that were met."""
     passed = failed = number = furthest = 0
     ends = set()
     while 0 not in ends and number < 1000:
         number += 1
         settings = {**os.environ, "LD_PRELOAD": shim, "REFUSED_GROWTH": str(number)}
-        done = subprocess.run([exe, path, *arguments], input=lines, capture_output=True, env=settings, timeout=60)
+        done = subprocess.run(words, input=lines, capture_output=True, env=settings, timeout=60)
         answer = (done.returncode, done.stdout, done.stderr)
         # (before the network is read, the words themselves may find no memory: status 2 and nothing written)
         come = 0 if done.returncode == 2 and not done.stdout else wanted.get(answer, -1)
@@ -118,13 +137,38 @@ def play(exe, place, shim, network, script, *arguments):
         ends.add(done.returncode)
         if not well:
             print(f"{played}: growth {number} refused: {answer!r}")
+    return passed, failed, ends
+
+
+def unmet(played, ends, due):
+    """How many statuses that are due were not met."""
+    missing = [what for status, what in due if status not in ends]
+    for what in missing:
+        print(f"{played}: never met: {what}")
+    return len(missing)
+
+
+def play(exe, place, shim, network, script, *arguments):
+    """How many refused growths of a run went well and how many didn't."""
+    path = os.path.join(place, "network")
+    with open(path, "w") as file:
+        file.write(f"network 2;\ntemplate main(): {network};\n")
+    lines = "".join(f"{line}\n" for line, _ in script).encode("ascii")
+    played = " ".join([network, *arguments])
+    passed, failed, ends = refuse(shim, [exe, path, *arguments], lines, allowed(script), played)
     due = [(0, "a run with no growth refused"), (5, "a network refused for memory"), (3, "a sample without memory")]
     due += [(4, "a save or a return without memory")] if not all(text for _, text in script) else []
-    for status, what in due:
-        if status not in ends:
-            failed += 1
-            print(f"{played}: never met: {what}")
-    return passed, failed
+    return passed, failed + unmet(played, ends, due)
+
+
+def write(exe, place, shim, flag, output):
+    """The same of a flag that has this written for the text of many forms."""
+    path = os.path.join(place, "network")
+    with open(path, "w") as file:
+        file.write(many())
+    wanted = {**unread(), (0, output.encode("ascii"), b""): 1}
+    passed, failed, ends = refuse(shim, [exe, path, flag], b"", wanted, flag)
+    return passed, failed + unmet(flag, ends, [(0, "no growth refused"), (5, "a network refused for memory")])
 
 
 def main():
@@ -136,6 +180,7 @@ def main():
         subprocess.run(["cc", "-O1", "-shared", "-fPIC", "-o", shim, os.path.join(HERE, "refused_growth.c"), "-ldl"], check=True)
         exe = os.path.abspath(options.exe)
         counts = [play(exe, place, shim, *run, *mode) for run in RUNS for mode in ([], ["--plain"])]
+        counts += [write(exe, place, shim, "--check", "ok\n"), write(exe, place, shim, "--dump", many())]
     passed, failed = (sum(part) for part in zip(*counts))
     print(f"{passed} passed, {failed} failed")
     return 1 if failed else 0

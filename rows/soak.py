@@ -94,6 +94,46 @@ RUNS = [
         makes_chains=True,
     ),
     Run(
+        "hands itself a process that names nothing",
+        f"Int ~> Int = go(sf integral);\ntemplate go(f: Int ~> Int): Int ~> Int = switch((run f &&& {EVENT}), _ => go(sf identity))",
+        ["1"],
+        lambda number: min(number, 1),
+        makes_chains=True,
+    ),
+    Run(
+        "hands itself one of two processes and one that names nothing",
+        f"Int ~> Int = go(sf integral, sf integral);\n"
+        f"template go(f: Int ~> Int, g: Int ~> Int): Int ~> Int = switch((identity &&& {EVENT}), _ => go(sf run g, sf identity))",
+        ["1"],
+        lambda number: 1,
+        makes_chains=True,
+    ),
+    Run(
+        "hands itself what it froze, which names nothing",
+        f"Int ~> Int = go(sf integral);\n"
+        f"template go(f: Int ~> Int): Int ~> Int = kSwitch((identity >>> integral), {EVENT}, k, _ => go(sf run k))",
+        ["1"],
+        lambda number: 0,
+        makes_chains=True,
+    ),
+    Run(
+        "hands itself a process that names what it froze, but not what it was given",
+        f"Int ~> Int = go(sf integral);\n"
+        f"template go(f: Int ~> Int): Int ~> Int = kSwitch(identity, {EVENT}, k, _ => go(sf (identity >>> run k)))",
+        ["1"],
+        lambda number: 1,
+        makes_chains=True,
+    ),
+    Run(
+        "hands itself a process that names the later of two that it froze under one name",
+        f"Int ~> Int = go(sf integral);\n"
+        f"template go(f: Int ~> Int): Int ~> Int ="
+        f" kSwitch(run f, {EVENT}, k, _ => kSwitch(identity, {EVENT}, k, _ => go(sf (identity >>> run k))))",
+        ["1"],
+        lambda number: min(number, 1),
+        makes_chains=True,
+    ),
+    Run(
         "hands itself on, with what it was given, and runs it never",
         f"Int ~> Int = go(sf integral);\ntemplate go(f: Int ~> Int): Int ~> Int = switch((identity &&& {EVENT}), _ => go(sf (identity >>> run f)))",
         ["1"],

@@ -31,10 +31,10 @@ use Rattle.sf_term.specs.declared.node.Node.{Node}
 use Rattle.sf_term.specs.declared.node.Node.TheVariants as terms
 use Rattle.sf_term.specs.declared.program.Program.{Program}
 use Rattle.sf_term.specs.Headers.{Header}
-use Rattle.sf_term.specs.Trees.{Primitive, bare, probe, never, with_value, timed, arrow, accumulated, fused, Term, primitive, Reference, reference, started, call, Arguments, no_arguments, value_argument, process_argument, closed_argument, joined, sided, headed, switching, keeping, staged, Template, Templates}
+use Rattle.sf_term.specs.Trees.{Primitive, bare, probe, never, with_value, timed, selected, arrow, accumulated, fused, Term, primitive, Reference, reference, started, call, Arguments, no_arguments, value_argument, process_argument, closed_argument, joined, sided, headed, switching, keeping, staged, Template, Templates}
 use Rattle.sf_term.specs.Arena.{term_number, tree, term_node_at, term_entry_of, expressions_of, arguments_under, arguments_of, headers_of, template_in, templates_of, ArgumentBelow, TermPartsBelow}
 use Rattle.sf_mean.specs.Contexts.{NameKind, value, process, Bindings, parameters_inside, context_with, bindings_inside, with_name_of, values_in}
-use Rattle.sf_mean.specs.Typing.{PrimitiveTakes, bare_takes, probe_takes, never_takes, value_takes, timed_takes, accumulated_takes, arrow_takes, fused_takes, Takes, takes, FormTakes, primitive_takes, started_takes, call_takes, ArgumentsFit, no_argument_fits, value_fits, process_fits, closed_fits, sequence_takes, parallel_takes, fan_takes, first_takes, second_takes, loop_takes, initialized_takes, switch_takes, recurring_takes, keeping_takes, stages_take, Accepted}
+use Rattle.sf_mean.specs.Typing.{PrimitiveTakes, bare_takes, probe_takes, never_takes, value_takes, timed_takes, selected_takes, accumulated_takes, arrow_takes, fused_takes, Takes, takes, FormTakes, primitive_takes, started_takes, call_takes, ArgumentsFit, no_argument_fits, value_fits, process_fits, closed_fits, sequence_takes, parallel_takes, fan_takes, first_takes, second_takes, loop_takes, initialized_takes, replaced_takes, switch_takes, recurring_takes, keeping_takes, stages_take, Accepted}
 use Rattle.sf_check.specs.Answering.{primitive_in}
 use Rattle.sf_check.specs.Calling.{IsCalledAlike, AreCalledAlike}
 use Rattle.sf_check.proofs.Made.{made, tree_made}
@@ -66,6 +66,7 @@ module _ (fs gs : TypesByName) where
   PrimitiveAlike (with_value k e) = Alike e
   PrimitiveAlike (arrow f) = FunctionAlike f
   PrimitiveAlike (timed k q e) = Alike e
+  PrimitiveAlike (selected k n) = Unit {0}
   PrimitiveAlike (accumulated k e f) = Alike e × FunctionAlike f
   PrimitiveAlike (fused f) = ⊥
 
@@ -147,7 +148,8 @@ module _ (fs gs : TypesByName) where
     primitive_over bs k (probe_takes f) = probe_takes f
     primitive_over bs k (never_takes f) = never_takes f
     primitive_over bs k (value_takes v h f) = value_takes (typed_around bs k v) h f
-    primitive_over bs k (timed_takes v w h f) = timed_takes (typed_around bs k v) w h f
+    primitive_over bs k (timed_takes v m w h f) = timed_takes (typed_around bs k v) m w h f
+    primitive_over bs k (selected_takes h w f) = selected_takes h w f
     primitive_over bs k (accumulated_takes v h q e f) = accumulated_takes (typed_around bs k.0 v) h (function_around bs k.1 q) e f
     primitive_over bs k (arrow_takes h) = arrow_takes (function_around bs k h)
     primitive_over bs k (fused_takes h f) = absurd k
@@ -167,6 +169,7 @@ module _ (fs gs : TypesByName) where
       form_over bs k (second_takes t) = second_takes (takes_over bs k t)
       form_over bs k (loop_takes e t) = loop_takes (typed_around bs k.0 e) (takes_over bs k.1 t)
       form_over bs k (initialized_takes e t) = initialized_takes (typed_around bs k.0 e) (takes_over bs k.1 t)
+      form_over bs k (replaced_takes e t) = replaced_takes (typed_around bs k.0 e) (takes_over bs k.1 t)
       form_over bs k (switch_takes {p = p} {c = c} t h u) = switch_takes (takes_over bs k.0 t) (bound_around bs h) (takes_over (bindings_inside p c bs) k.1 u)
       form_over bs k (recurring_takes {p = p} {c = c} t h u) = recurring_takes (takes_over bs k.0 t) (bound_around bs h) (takes_over (bindings_inside p c bs) k.1 u)
       form_over bs k (keeping_takes {k = x} {p = p} {a = a} {b = b} {c = c} t q h u) =
@@ -214,6 +217,7 @@ module _ (fs gs : TypesByName) where
     node_alike (primitives.WithValue k e) = expression_alike e
     node_alike (primitives.Arrow f) = expression_alike (body_at x f)
     node_alike (primitives.Timed k q e) = expression_alike e
+    node_alike (primitives.Selected k n) = tt
     node_alike (primitives.Accumulated k e f) = (expression_alike e, expression_alike (body_at x f))
 
   -- ## Programs

@@ -24,10 +24,11 @@ use Rattle.sf_term.specs.declared.form.Bare.{Bare}
 use Rattle.sf_term.specs.declared.form.Bare.TheVariants.{Pre}
 use Rattle.sf_term.specs.declared.form.WithValue.{WithValue}
 use Rattle.sf_term.specs.declared.form.Timing.{Timing}
+use Rattle.sf_term.specs.declared.form.Selection.{Selection}
 use Rattle.sf_term.specs.declared.form.Accumulation.{Accumulation}
 use Rattle.sf_term.specs.declared.form.Join.TheVariants.{InSequence, InParallel, FannedOut}
 use Rattle.sf_term.specs.declared.form.Side.TheVariants.{First, Second}
-use Rattle.sf_term.specs.declared.form.Heading.TheVariants.{LoopPre, Initialized}
+use Rattle.sf_term.specs.declared.form.Heading.TheVariants.{LoopPre, Initialized, Replaced}
 use Rattle.sf_term.specs.declared.form.Observation.{Observation}
 use Rattle.sf_term.specs.declared.form.Start.{Start}
 use Rattle.sf_term.specs.declared.form.Naming.TheVariants.{Process, Probe}
@@ -46,11 +47,11 @@ use Rattle.sf_term.specs.Entries.{absent_payload}
 use Rattle.sf_term.specs.Arena.{term_number, tree, term_node_at, term_entry_of, term_spot_at, expressions_of, arguments_under, ArgumentBelow, TermPartsBelow}
 use Rattle.sf_term.proofs.Kept.{parts_below}
 use Rattle.sf_mean.specs.Contexts.{NameKind, value, process, process_named, Bindings, bindings_inside, Signature, signature_named, Context, names_of_values, inside_pattern, inside_process}
-use Rattle.sf_mean.specs.Typing.{bare_kind, value_kind, takes_time, timed_kind, accumulated_argument, accumulated_kind, PrimitiveTakes, bare_takes, probe_takes, never_takes, value_takes, timed_takes, accumulated_takes, arrow_takes, Takes, FormTakes, primitive_takes, started_takes, call_takes, no_argument_fits, ParameterFits, sequence_takes, parallel_takes, fan_takes, first_takes, second_takes, loop_takes, initialized_takes, keeping_takes}
+use Rattle.sf_mean.specs.Typing.{bare_kind, value_kind, takes_input, takes_time, timed_kind, takes_number, selected_kind, accumulated_argument, accumulated_kind, PrimitiveTakes, bare_takes, probe_takes, never_takes, value_takes, timed_takes, selected_takes, accumulated_takes, arrow_takes, Takes, FormTakes, primitive_takes, started_takes, call_takes, no_argument_fits, ParameterFits, sequence_takes, parallel_takes, fan_takes, first_takes, second_takes, loop_takes, initialized_takes, replaced_takes, keeping_takes}
 use Rattle.sf_operator.specs.Kinds.{same_kind, payload_of}
 use Rattle.sf_operator.proofs.SameKinds.{same_is, is_same, payload_is}
 use Rattle.sf_mean.proofs.Inferred.{PartsAre, two_parts, no_parts, parts_are, names_inside, output_fits}
-use Rattle.sf_check.specs.Breaking.{IsNoEventBeside, kind_named, ProcessRefused, pattern_in, name_in, keeping_inside, BindsInside, Exceeds, PrimitiveBreaks, argument_refused, accumulator_refused, made_refused, value_refused, bare_refused, never_refused, given_refused, timed_value_refused, time_outside, timed_refused, start_value_refused, accumulation_breaks, function_refused, FormBreaks, primitive_breaks, no_process, process_differs, value_keeps, process_keeps, argument_refused, process_for_value, CallBreaks, no_template, other_number, argument_breaks, call_differs, call_breaks, parallel_input, parallel_exceeds, fan_exceeds, side_input, first_exceeds, second_exceeds, start_refused, fed_exceeds, loop_differs, initialized_differs, BodyWanted, after_source, beside_input, BodyBreaks, pattern_refused, body_differs, source_differs, recurring_input, switch_body_breaks, observed_exceeds, observer_differs, keeping_body_breaks, Reaches, call_argument, sequence_left, sequence_right, parallel_left, parallel_right, fan_left, fan_right, first_part, second_part, loop_part, initialized_part, switch_source, recurring_first, switch_body, keeping_source, keeping_observer, keeping_body, TermBreaks, itself, within}
+use Rattle.sf_check.specs.Breaking.{IsNoEventBeside, kind_named, ProcessRefused, pattern_in, name_in, keeping_inside, BindsInside, Exceeds, PrimitiveBreaks, argument_refused, accumulator_refused, made_refused, value_refused, bare_refused, never_refused, given_refused, timed_value_refused, input_differs, time_outside, timed_refused, selected_refused, number_outside, start_value_refused, accumulation_breaks, function_refused, FormBreaks, primitive_breaks, no_process, process_differs, value_keeps, process_keeps, argument_refused, process_for_value, CallBreaks, no_template, other_number, argument_breaks, call_differs, call_breaks, parallel_input, parallel_exceeds, fan_exceeds, side_input, first_exceeds, second_exceeds, start_refused, fed_exceeds, loop_differs, initialized_differs, replaced_differs, BodyWanted, after_source, beside_input, BodyBreaks, pattern_refused, body_differs, source_differs, recurring_input, switch_body_breaks, observed_exceeds, observer_differs, keeping_body_breaks, Reaches, call_argument, sequence_left, sequence_right, parallel_left, parallel_right, fan_left, fan_right, first_part, second_part, loop_part, initialized_part, replaced_part, switch_source, recurring_first, switch_body, keeping_source, keeping_observer, keeping_body, TermBreaks, itself, within}
 use Rattle.sf_check.specs.Answering.{primitive_in, ArgumentFits}
 use Rattle.sf_check.proofs.Made.{made}
 use Rattle.sf_check.proofs.Terms.{form_ok, wanted_takes}
@@ -87,9 +88,14 @@ PrimitiveAnswered x Γ q a s = ((b : Kind) × PrimitiveTakes Γ (primitive_in x 
 value_answered : (x : Exprs) (Γ : Context) (k : WithValue) (v : ExprId) (a : Kind) (s : Spot) (b : Kind) → HasType (names_of_values Γ) (expression x v) b → PrimitiveAnswered x Γ (primitives.WithValue k v) a s
 value_answered x Γ k v a s b h = elim (kind_answered (value_kind k b a) s) [ inl t ↦ inl (t.0, value_takes h t.1 t.2) | inr r ↦ inr (r.0, given_refused h r.1) ]
 
-timed_answered : (x : Exprs) (Γ : Context) (k : Timing) (q : ℤ) (v : ExprId) (a : Kind) (s : Spot) (t : Kind) → HasType (names_of_values Γ) (expression x v) t → (b : Bool) → takes_time k q ≡ b → PrimitiveAnswered x Γ (primitives.Timed k q v) a s
-timed_answered x Γ k q v a s t h false e = inr (_, time_outside h e)
-timed_answered x Γ k q v a s t h true e = elim (kind_answered (timed_kind k t) s) [ inl u ↦ inl (u.0, timed_takes h e u.1 u.2) | inr r ↦ inr (r.0, timed_refused h e r.1) ]
+timed_answered : (x : Exprs) (Γ : Context) (k : Timing) (q : ℤ) (v : ExprId) (a : Kind) (s : Spot) (t : Kind) → HasType (names_of_values Γ) (expression x v) t → (i b : Bool) → takes_input k t a ≡ i → takes_time k q ≡ b → PrimitiveAnswered x Γ (primitives.Timed k q v) a s
+timed_answered x Γ k q v a s t h false b m e = inr (_, input_differs h m)
+timed_answered x Γ k q v a s t h true false m e = inr (_, time_outside h m e)
+timed_answered x Γ k q v a s t h true true m e = elim (kind_answered (timed_kind k t) s) [ inl u ↦ inl (u.0, timed_takes h m e u.1 u.2) | inr r ↦ inr (r.0, timed_refused h m e r.1) ]
+
+selected_answered : (x : Exprs) (Γ : Context) (k : Selection) (n : ℤ) (a : Kind) (s : Spot) (b : Kind) → selected_kind a ≡ Some b → Fits b → (t : Bool) → takes_number n ≡ t → PrimitiveAnswered x Γ (primitives.Selected k n) a s
+selected_answered x Γ k n a s b h f false e = inr (_, number_outside h f e)
+selected_answered x Γ k n a s b h f true e = inl (_, selected_takes h e f)
 
 accumulation_answered : (x : Exprs) (Γ : Context) (k : Accumulation) (v : ExprId) (f : FunctionId) (a : Kind) (s : Spot) → NamesFit (names_of_values Γ) → (t : Kind) → HasType (names_of_values Γ) (expression x v) t → PrimitiveAnswered x Γ (primitives.Accumulated k v f) a s
 accumulation_answered x Γ k v f a s fit t h = elim (kind_answered (accumulated_argument k t a) s) [
@@ -111,7 +117,8 @@ primitive_answered : (x : Exprs) (Γ : Context) (q : Primitive) (a : Kind) (s : 
 primitive_answered x Γ (primitives.Bare k) a s fit f = bare_answered x Γ k a s
 primitive_answered x Γ (primitives.Never n) a s fit f = elim (kind_answered (Some (event_kind (absent_payload (literal_at x n)))) s) [ inl t ↦ inl (_, never_takes (subst Fits (sym (same_Some _ _ t.1)) t.2)) | inr r ↦ inr (r.0, never_refused r.1) ]
 primitive_answered x Γ (primitives.WithValue k v) a s fit f = elim (answered x (names_of_values Γ) fit v) [ inl t ↦ value_answered x Γ k v a s t.0 t.1 | inr r ↦ inr (_, value_refused r.1) ]
-primitive_answered x Γ (primitives.Timed k q v) a s fit f = elim (answered x (names_of_values Γ) fit v) [ inl t ↦ timed_answered x Γ k q v a s t.0 t.1 (takes_time k q) refl | inr r ↦ inr (_, timed_value_refused r.1) ]
+primitive_answered x Γ (primitives.Timed k q v) a s fit f = elim (answered x (names_of_values Γ) fit v) [ inl t ↦ timed_answered x Γ k q v a s t.0 t.1 (takes_input k t.0 a) (takes_time k q) refl refl | inr r ↦ inr (_, timed_value_refused r.1) ]
+primitive_answered x Γ (primitives.Selected k n) a s fit f = elim (kind_answered (selected_kind a) s) [ inl t ↦ selected_answered x Γ k n a s t.0 t.1 t.2 (takes_number n) refl | inr r ↦ inr (r.0, selected_refused r.1) ]
 primitive_answered x Γ (primitives.Accumulated k v g) a s fit f = elim (answered x (names_of_values Γ) fit v) [ inl t ↦ accumulation_answered x Γ k v g a s fit t.0 t.1 | inr r ↦ inr (_, start_value_refused r.1) ]
 primitive_answered x Γ (primitives.Arrow g) a s fit f = elim (function_answered x (names_of_values Γ) g a s fit f) [ inl t ↦ inl (t.0, arrow_takes t.1) | inr r ↦ inr (_, function_refused r.1) ]
 
@@ -246,6 +253,18 @@ module _ (p : Program) (Γ : Context) (around : ContextFits Γ) where
       | inl d ↦ elim (kinds_or d.0 c.0) [
         | inr other ↦ broken t _ a is k (initialized_differs c.1 d.1 other)
         | inl e ↦ taken t _ a is k d.0 (output_fits d.1) (initialized_takes (subst (HasType (names_of_values Γ) (expression (expressions_of p) v)) (sym e) c.1) d.1)
+      ]
+    ]
+  ]
+
+  of_replaced : (t : TermId) (v : ExprId) (f : TermId) (a : Kind) → term_node_at p t ≡ nodes.Headed Replaced v f → Fits a → IsAnswered p Γ f a → IsAnswered p Γ t a
+  of_replaced t v f a is k F = elim (answered (expressions_of p) (names_of_values Γ) names v) [
+    | inr r ↦ broken t _ a is k (start_refused r.1)
+    | inl c ↦ elim F [
+      | inr r ↦ in_part t _ a is k (replaced_part c.1) r.1
+      | inl d ↦ elim (kinds_or c.0 a) [
+        | inr other ↦ broken t _ a is k (replaced_differs c.1 d.1 other)
+        | inl e ↦ taken t _ a is k d.0 (output_fits d.1) (replaced_takes (subst (HasType (names_of_values Γ) (expression (expressions_of p) v)) e c.1) d.1)
       ]
     ]
   ]
@@ -414,6 +433,7 @@ answered_within p (suc fuel) Γ around t h a f = by_node (term_node_at p t) refl
     by_node (nodes.Sided Second j) is b parts = of_second p Γ around t j a is f (parts Γ around j b)
     by_node (nodes.Headed LoopPre v j) is b parts = of_loop p Γ around t v j a is f (parts Γ around j b)
     by_node (nodes.Headed Initialized v j) is b parts = of_initialized p Γ around t v j a is f (parts Γ around j b a f)
+    by_node (nodes.Headed Replaced v j) is b parts = of_replaced p Γ around t v j a is f (parts Γ around j b a f)
     by_node (nodes.Switching (Basic w) l q r) is b parts = of_switch p Γ around t w l q r a f is (parts Γ around l b.0 a f) (λ c fit. parts (inside_pattern (pattern_in p q) c Γ) fit r b.1 a f)
     by_node (nodes.Switching (Recurring w) l q r) is b parts = of_recurring p Γ around t w l q r a f is (parts Γ around l b.0) (λ c x h fit. parts (inside_pattern (pattern_in p q) c Γ) fit r b.1 x h)
     by_node (nodes.Keeping w l o k n q r) is b parts =

@@ -39,6 +39,7 @@ tree_made p t n e = node_builds p t n e ∙ by n
     by (nodes.Primitive (primitives.WithValue k v)) = ap (λ e. primitive (with_value k e)) (sym (expression_in p v))
     by (nodes.Primitive (primitives.Arrow f)) = ap (λ f. primitive (arrow f)) (sym (function_at_in p f))
     by (nodes.Primitive (primitives.Timed k q v)) = ap (λ e. primitive (timed k q e)) (sym (expression_in p v))
+    by (nodes.Primitive (primitives.Selected k n)) = refl
     by (nodes.Primitive (primitives.Accumulated k v f)) = ap₂ (λ e g. primitive (accumulated k e g)) (sym (expression_in p v)) (sym (function_at_in p f))
     by (nodes.Named w k s) = refl
     by (nodes.Call k vs) = refl

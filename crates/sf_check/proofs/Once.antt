@@ -1,5 +1,6 @@
 -- A network is refused in one way at most.
-use Rattle.std.proofs.Common.{◌≡◌, ◌<◌, ℕ, List, Option, Some, None, slice_get, refl, sym, ◌∙◌, ap, subst, arith}
+use Rattle.std.proofs.Common.{◌≡◌, ◌<◌, ℕ, true, false, List, Option, Some, None, slice_get, refl, sym, ◌∙◌, ap, subst, arith}
+use Rattle.std.proofs.lemmas.Bool.{false≢true}
 use Rattle.std.proofs.lemmas.Option.{same_Some}
 use mathlib.Core.Path.{subst₂}
 use Rattle.sf_value.specs.Values.{Kind, pair_kind, event_kind}
@@ -27,13 +28,14 @@ use Rattle.sf_term.specs.Headers.{Header}
 use Rattle.sf_term.specs.Arena.{tree, expressions_of, headers_of, template_in}
 use Rattle.sf_term.specs.declared.form.Bare.{Bare}
 use Rattle.sf_term.specs.declared.form.Bare.TheVariants.{Pre}
+use Rattle.sf_term.specs.declared.form.Timing.{Timing}
 use Rattle.sf_term.specs.declared.form.Accumulation.{Accumulation}
 use Rattle.sf_mean.specs.Contexts.{NameKind, value, process, Context, names_of_values, inside_pattern}
-use Rattle.sf_mean.specs.Typing.{bare_kind, value_kind, timed_kind, accumulated_kind, Takes}
+use Rattle.sf_mean.specs.Typing.{bare_kind, value_kind, takes_input, timed_kind, accumulated_kind, Takes}
 use Rattle.sf_value.specs.Values.{Name}
 use Rattle.sf_reach.proofs.Lawful.{endless_once, endless_somewhere}
 use Rattle.sf_check.specs.Names.{IsFirstRepeat, NamesDiffer, HeaderRepeats, name_repeats, parameter_repeats, HeaderDiffers, IsFirstNameAgain}
-use Rattle.sf_check.specs.Breaking.{kind_named, ProcessRefused, BareRefused, pattern_in, name_in, keeping_inside, BindsInside, PrimitiveBreaks, AccumulationBreaks, argument_refused, accumulator_refused, made_refused, value_refused, bare_refused, never_refused, given_refused, timed_value_refused, time_outside, timed_refused, start_value_refused, accumulation_breaks, function_refused, FormBreaks, primitive_breaks, no_process, process_differs, call_breaks, parallel_input, parallel_exceeds, fan_exceeds, side_input, first_exceeds, second_exceeds, start_refused, fed_exceeds, loop_differs, initialized_differs, after_source, beside_input, BodyBreaks, pattern_refused, body_differs, source_differs, recurring_input, switch_body_breaks, observed_exceeds, observer_differs, keeping_body_breaks, ArgumentKeeps, process_keeps, Reaches, call_argument, sequence_left, sequence_right, parallel_left, parallel_right, fan_left, fan_right, first_part, second_part, loop_part, initialized_part, switch_source, recurring_first, switch_body, keeping_source, keeping_observer, keeping_body, TermBreaks, itself, within, TemplateBreaks, breaks_within, breaks_header, AreTyped, IsFirstBreak}
+use Rattle.sf_check.specs.Breaking.{kind_named, ProcessRefused, BareRefused, pattern_in, name_in, keeping_inside, BindsInside, PrimitiveBreaks, AccumulationBreaks, argument_refused, accumulator_refused, made_refused, value_refused, bare_refused, never_refused, given_refused, timed_value_refused, input_differs, time_outside, timed_refused, selected_refused, number_outside, start_value_refused, accumulation_breaks, function_refused, FormBreaks, primitive_breaks, no_process, process_differs, call_breaks, parallel_input, parallel_exceeds, fan_exceeds, side_input, first_exceeds, second_exceeds, start_refused, fed_exceeds, loop_differs, initialized_differs, replaced_differs, after_source, beside_input, BodyBreaks, pattern_refused, body_differs, source_differs, recurring_input, switch_body_breaks, observed_exceeds, observer_differs, keeping_body_breaks, ArgumentKeeps, process_keeps, Reaches, call_argument, sequence_left, sequence_right, parallel_left, parallel_right, fan_left, fan_right, first_part, second_part, loop_part, initialized_part, replaced_part, switch_source, recurring_first, switch_body, keeping_source, keeping_observer, keeping_body, TermBreaks, itself, within, TemplateBreaks, breaks_within, breaks_header, AreTyped, IsFirstBreak}
 use Rattle.sf_check.specs.Refusing.{RefusesNetwork, name_refused, type_refused, endless_refused, main_missing}
 use Rattle.sf_check.proofs.Types.{argument_fits, expression_one, takes_one, input_fits}
 use Rattle.sf_check.proofs.Broken.{answer_one, too_large, pattern_none, wanted_one, seen_one, breaks_untyped, template_untyped}
@@ -57,6 +59,10 @@ bare_once : (k : Bare) (s : Spot) (a : Kind) (e f : Breach) → BareRefused k a 
 bare_once Pre s a e f h k = h ∙ sym k
 bare_once w s a e f h k = kind_once (bare_kind w a) s h k
 
+-- inputs of a type are taken or not
+input_once : (k : Timing) (a : Kind) {t u : Kind} → t ≡ u → takes_input k t a ≡ false → takes_input k u a ≡ true → ⊥
+input_once k a is out i = false≢true (sym out ∙ ap (λ t. takes_input k t a) is ∙ i)
+
 primitive_once : {x : Exprs} {Γ : Context} {s : Spot} {q : Primitive} {a : Kind} {e f : Breach} → PrimitiveBreaks x Γ s q a e → PrimitiveBreaks x Γ s q a f → e ≡ f
 primitive_once (value_refused h) (value_refused k) = refused_once h k
 primitive_once (value_refused h) (given_refused k q) = absurd (refused_untyped h k)
@@ -65,14 +71,25 @@ primitive_once {s = s} {f = f} (given_refused {k = w} {a = a} h q) (given_refuse
 primitive_once {s = s} {e = e} {f = f} (bare_refused {k = w} {a = a} h) (bare_refused k) = bare_once w s a e f h k
 primitive_once (never_refused h) (never_refused k) = h.0 ∙ sym k.0
 primitive_once (timed_value_refused h) (timed_value_refused k) = refused_once h k
-primitive_once (timed_value_refused h) (time_outside k out) = absurd (refused_untyped h k)
-primitive_once (timed_value_refused h) (timed_refused k w q) = absurd (refused_untyped h k)
-primitive_once (time_outside k out) (timed_value_refused h) = absurd (refused_untyped h k)
-primitive_once (time_outside h out) (time_outside k more) = refl
-primitive_once (time_outside h out) (timed_refused k w q) = let z = sym out ∙ w in absurd cc
-primitive_once (timed_refused k w q) (timed_value_refused h) = absurd (refused_untyped h k)
-primitive_once (timed_refused k w q) (time_outside h out) = let z = sym out ∙ w in absurd cc
-primitive_once {s = s} {f = f} (timed_refused {k = w} h u q) (timed_refused k t p) = kind_once _ s q (subst (λ t. KindRefused (timed_kind w t) s f) (expression_one k h) p)
+primitive_once (timed_value_refused h) (input_differs k out) = absurd (refused_untyped h k)
+primitive_once (timed_value_refused h) (time_outside k i out) = absurd (refused_untyped h k)
+primitive_once (timed_value_refused h) (timed_refused k i w q) = absurd (refused_untyped h k)
+primitive_once (input_differs k out) (timed_value_refused h) = absurd (refused_untyped h k)
+primitive_once (input_differs h out) (input_differs k more) = refl
+primitive_once (input_differs {k = w} {a = a} h out) (time_outside k i more) = absurd (input_once w a (expression_one h k) out i)
+primitive_once (input_differs {k = w} {a = a} h out) (timed_refused k i t q) = absurd (input_once w a (expression_one h k) out i)
+primitive_once (time_outside k i out) (timed_value_refused h) = absurd (refused_untyped h k)
+primitive_once (time_outside h i out) (input_differs {k = w} {a = a} k more) = absurd (input_once w a (expression_one k h) more i)
+primitive_once (time_outside h i out) (time_outside k j more) = refl
+primitive_once (time_outside h i out) (timed_refused k j w q) = let z = sym out ∙ w in absurd cc
+primitive_once (timed_refused k i w q) (timed_value_refused h) = absurd (refused_untyped h k)
+primitive_once (timed_refused h i t q) (input_differs {k = w} {a = a} k more) = absurd (input_once w a (expression_one k h) more i)
+primitive_once (timed_refused k i w q) (time_outside h j out) = let z = sym out ∙ w in absurd cc
+primitive_once {s = s} {f = f} (timed_refused {k = w} h i u q) (timed_refused k j t p) = kind_once _ s q (subst (λ t. KindRefused (timed_kind w t) s f) (expression_one k h) p)
+primitive_once {s = s} (selected_refused q) (selected_refused p) = kind_once _ s q p
+primitive_once {s = s} (selected_refused q) (number_outside h f out) = absurd (kind_refused _ s _ q h f)
+primitive_once {s = s} (number_outside h f out) (selected_refused q) = absurd (kind_refused _ s _ q h f)
+primitive_once (number_outside h f out) (number_outside k g more) = refl
 primitive_once (start_value_refused h) (start_value_refused k) = refused_once h k
 primitive_once (start_value_refused h) (accumulation_breaks k q) = absurd (refused_untyped h k)
 primitive_once (accumulation_breaks k q) (start_value_refused h) = absurd (refused_untyped h k)
@@ -129,6 +146,9 @@ module _ {p : Program} {Γ : Context} where
   itself_once (start_refused h) (initialized_differs k l other) = absurd (refused_untyped h k)
   itself_once (initialized_differs k l other) (start_refused h) = absurd (refused_untyped h k)
   itself_once (initialized_differs h k other) (initialized_differs l m more) = refl
+  itself_once (start_refused h) (replaced_differs k l other) = absurd (refused_untyped h k)
+  itself_once (replaced_differs k l other) (start_refused h) = absurd (refused_untyped h k)
+  itself_once (replaced_differs h k other) (replaced_differs l m more) = refl
   itself_once (source_differs f none) (source_differs g more) = refl
   itself_once (source_differs f none) (switch_body_breaks (after_source g) h) = absurd (none _ _ (takes_one f g))
   itself_once (switch_body_breaks (after_source g) h) (source_differs f none) = absurd (none _ _ (takes_one f g))
@@ -178,6 +198,8 @@ module _ {p : Program} {Γ : Context} where
       breaks_untyped broken (subst P (expression_one h k) l)
   itself_parts (start_refused h) (initialized_part k) broken = refused_untyped h k
   itself_parts (initialized_differs h l other) (initialized_part k) broken = breaks_untyped broken l
+  itself_parts (start_refused h) (replaced_part k) broken = refused_untyped h k
+  itself_parts (replaced_differs h l other) (replaced_part k) broken = breaks_untyped broken l
   itself_parts (source_differs f none) switch_source broken = breaks_untyped broken f
   itself_parts (source_differs f none) (switch_body (after_source g) binds) broken = none _ _ (takes_one f g)
   itself_parts (recurring_input none) recurring_first broken = none _ _ refl
@@ -233,6 +255,7 @@ module _ {p : Program} {Γ : Context} where
       let P : Kind → Type 0 = λ c. TermBreaks p Γ t (pair_kind a c) f in
       once f (subst P (expression_one k h) other)
   parts_once (initialized_part h) (initialized_part k) broken once other = once _ other
+  parts_once (replaced_part h) (replaced_part k) broken once other = once _ other
   parts_once switch_source switch_source broken once other = once _ other
   parts_once switch_source (switch_body (after_source h) binds) broken once other = absurd (breaks_untyped broken h)
   parts_once (switch_body (after_source h) binds) switch_source broken once other = absurd (breaks_untyped other h)

@@ -28,12 +28,13 @@ use Rattle.sf_term.specs.declared.form.Bare.{Bare}
 use Rattle.sf_term.specs.declared.form.Bare.TheVariants.{Pre}
 use Rattle.sf_term.specs.declared.form.WithValue.{WithValue}
 use Rattle.sf_term.specs.declared.form.Timing.{Timing}
+use Rattle.sf_term.specs.declared.form.Selection.{Selection}
 use Rattle.sf_term.specs.declared.form.Accumulation.{Accumulation}
 use Rattle.sf_term.specs.declared.form.Accumulation.TheVariants.{AccumBy, AccumHoldBy, Scan}
 use Rattle.sf_term.specs.declared.form.Join.TheVariants.{InSequence, InParallel, FannedOut}
 use Rattle.sf_term.specs.declared.form.Side.{Side}
 use Rattle.sf_term.specs.declared.form.Side.TheVariants.{First, Second}
-use Rattle.sf_term.specs.declared.form.Heading.TheVariants.{LoopPre, Initialized}
+use Rattle.sf_term.specs.declared.form.Heading.TheVariants.{LoopPre, Initialized, Replaced}
 use Rattle.sf_term.specs.declared.form.Observation.{Observation}
 use Rattle.sf_term.specs.declared.form.Start.{Start}
 use Rattle.sf_term.specs.declared.form.Naming.{Naming}
@@ -54,8 +55,8 @@ use Rattle.sf_term.specs.Entries.{absent_payload}
 use Rattle.sf_term.specs.Parameters.{parameters_of}
 use Rattle.sf_term.specs.Arena.{tree, term_node_at, term_spot_at, expressions_of, templates_of}
 use Rattle.sf_mean.specs.Contexts.{process, Context, names_of_values, context_of, inside_pattern}
-use Rattle.sf_mean.specs.Typing.{value_kind, takes_time, timed_kind, accumulated_argument, accumulated_kind, PrimitiveTakes, bare_takes, probe_takes, never_takes, value_takes, timed_takes, accumulated_takes, arrow_takes, Takes, takes, FormTakes, primitive_takes, started_takes, sequence_takes, parallel_takes, fan_takes, first_takes, second_takes, loop_takes, initialized_takes, switch_takes, recurring_takes, keeping_takes}
-use Rattle.sf_check.specs.Breaking.{IsNoPairWith, IsNoEventBeside, kind_named, ProcessRefused, pattern_in, name_in, keeping_inside, BindsInside, Exceeds, PrimitiveBreaks, argument_refused, accumulator_refused, made_refused, value_refused, bare_refused, never_refused, given_refused, timed_value_refused, time_outside, timed_refused, start_value_refused, accumulation_breaks, function_refused, FormBreaks, primitive_breaks, no_process, process_differs, parallel_exceeds, fan_exceeds, first_exceeds, second_exceeds, start_refused, fed_exceeds, loop_differs, initialized_differs, BodyWanted, after_source, beside_input, BodyBreaks, pattern_refused, body_differs, source_differs, recurring_input, switch_body_breaks, observed_exceeds, observer_differs, keeping_body_breaks, Reaches, sequence_right, parallel_left, parallel_right, first_part, second_part, loop_part, recurring_first, switch_body, keeping_observer, keeping_body, TermBreaks, itself, within, TemplateBreaks, breaks_within, breaks_header}
+use Rattle.sf_mean.specs.Typing.{value_kind, takes_input, takes_time, timed_kind, takes_number, selected_kind, accumulated_argument, accumulated_kind, PrimitiveTakes, bare_takes, probe_takes, never_takes, value_takes, timed_takes, selected_takes, accumulated_takes, arrow_takes, Takes, takes, FormTakes, primitive_takes, started_takes, sequence_takes, parallel_takes, fan_takes, first_takes, second_takes, loop_takes, initialized_takes, replaced_takes, switch_takes, recurring_takes, keeping_takes}
+use Rattle.sf_check.specs.Breaking.{IsNoPairWith, IsNoEventBeside, kind_named, ProcessRefused, pattern_in, name_in, keeping_inside, BindsInside, Exceeds, PrimitiveBreaks, argument_refused, accumulator_refused, made_refused, value_refused, bare_refused, never_refused, given_refused, timed_value_refused, input_differs, time_outside, timed_refused, selected_refused, number_outside, start_value_refused, accumulation_breaks, function_refused, FormBreaks, primitive_breaks, no_process, process_differs, parallel_exceeds, fan_exceeds, first_exceeds, second_exceeds, start_refused, fed_exceeds, loop_differs, initialized_differs, replaced_differs, BodyWanted, after_source, beside_input, BodyBreaks, pattern_refused, body_differs, source_differs, recurring_input, switch_body_breaks, observed_exceeds, observer_differs, keeping_body_breaks, Reaches, sequence_right, parallel_left, parallel_right, first_part, second_part, loop_part, recurring_first, switch_body, keeping_observer, keeping_body, TermBreaks, itself, within, TemplateBreaks, breaks_within, breaks_header}
 use Rattle.sf_check.specs.Answering.{primitive_in, AnswersBare, AnswersPrimitive, AnswersTerm, AnswersBody}
 use Rattle.sf_check.proofs.Made.{made, tree_made}
 use Rattle.sf_check.proofs.Types.{primitive_fits, output_fits, no_event}
@@ -193,6 +194,14 @@ module _ (p : Program) (Γ : Context) (t : TermId) (a : Kind) (s : Spot) (at : s
         subst (Takes Γ (tree p t) a) (sym output) (form_ok p Γ t (nodes.Headed Initialized v f) a is d fit (output_fits part) (initialized_takes (subst (HasType (names_of_values Γ) (expression (expressions_of p) v)) (sym (same_is d c same)) typed) part))
     initialized_answers (Err e) fit other output wrong =
         itself_refused p Γ t (nodes.Headed Initialized v f) a is s e at (breaks_at Mismatch wrong refl (initialized_differs typed part (other_kind d c other)))
+
+  -- `>--`
+  module _ (v : ExprId) (f : TermId) (is : term_node_at p t ≡ nodes.Headed Replaced v f) (c : Kind) (typed : HasType (names_of_values Γ) (expression (expressions_of p) v) c) (d : Kind) (part : Takes Γ (tree p f) a d) where
+    pub replaced_answers : Fits a → same_kind c a ≡ true → AnswersTerm p Γ t a (Ok d)
+    replaced_answers fit same = form_ok p Γ t (nodes.Headed Replaced v f) a is d fit (output_fits part) (replaced_takes (subst (HasType (names_of_values Γ) (expression (expressions_of p) v)) (same_is c a same) typed) part)
+
+    pub replaced_refused : (e : Refusal) → same_kind c a ≡ false → e ≡ broken Mismatch s → OrMemory (TermBreaks p Γ t a) e
+    replaced_refused e other wrong = itself_refused p Γ t (nodes.Headed Replaced v f) a is s e at (breaks_at Mismatch wrong refl (replaced_differs typed part (other_kind c a other)))
 
   -- `loopPre`
   module _ (v : ExprId) (f : TermId) (is : term_node_at p t ≡ nodes.Headed LoopPre v f) (x : Exprs) (of : x ≡ expressions_of p) where
@@ -348,12 +357,32 @@ module _ (x : Exprs) (Γ : Context) (k : Timing) (q : ℤ) (v : ExprId) (a : Kin
   timed_value_answers r h = or_memory (λ b w. timed_value_refused w) h
 
   module _ (t : Kind) (typed : HasType (names_of_values Γ) (expression x v) t) where
-    pub outside_answers : (r : Refusal) → takes_time k q ≡ false → r ≡ broken BadConstant s → OrMemory (PrimitiveBreaks x Γ s (primitives.Timed k q v) a) r
-    outside_answers r out is = breaks_at BadConstant is refl (time_outside typed out)
+    pub differing_answers : (r : Refusal) → takes_input k t a ≡ false → r ≡ broken Mismatch s → OrMemory (PrimitiveBreaks x Γ s (primitives.Timed k q v) a) r
+    differing_answers r out is = breaks_at Mismatch is refl (input_differs typed out)
 
-    pub timed_answers : (r : Result Kind Refusal) → takes_time k q ≡ true → AnswersKind (timed_kind k t) s r → AnswersPrimitive x Γ (primitives.Timed k q v) a s r
-    timed_answers (Ok b) in_time h = timed_takes typed in_time h.0 h.1
-    timed_answers (Err e) in_time h = or_memory (λ b w. timed_refused typed in_time w) h
+    pub outside_answers : (r : Refusal) → takes_input k t a ≡ true → takes_time k q ≡ false → r ≡ broken BadConstant s → OrMemory (PrimitiveBreaks x Γ s (primitives.Timed k q v) a) r
+    outside_answers r taken out is = breaks_at BadConstant is refl (time_outside typed taken out)
+
+    pub timed_answers : (r : Result Kind Refusal) → takes_input k t a ≡ true → takes_time k q ≡ true → AnswersKind (timed_kind k t) s r → AnswersPrimitive x Γ (primitives.Timed k q v) a s r
+    timed_answers (Ok b) taken in_time h = timed_takes typed taken in_time h.0 h.1
+    timed_answers (Err e) taken in_time h = or_memory (λ b w. timed_refused typed taken in_time w) h
+
+-- ## A number of events
+
+module _ (x : Exprs) (Γ : Context) (k : Selection) (n : ℤ) (a : Kind) (s : Spot) where
+  pub selected_type_answers : (r : Refusal) → AnswersKind (selected_kind a) s (Err r) → OrMemory (PrimitiveBreaks x Γ s (primitives.Selected k n) a) r
+  selected_type_answers r h = or_memory (λ b q. selected_refused q) h
+
+  module _ (b : Kind) (typed : AnswersKind (selected_kind a) s (Ok b)) where
+    pub number_answers : (r : Refusal) → takes_number n ≡ false → r ≡ broken BadConstant s → OrMemory (PrimitiveBreaks x Γ s (primitives.Selected k n) a) r
+    number_answers r out is = breaks_at BadConstant is refl (number_outside typed.0 typed.1 out)
+
+    pub selected_answers : takes_number n ≡ true → AnswersPrimitive x Γ (primitives.Selected k n) a s (Ok b)
+    selected_answers inside = selected_takes typed.0 inside typed.1
+
+-- the answer for an equal number
+pub count_answers : (x : Exprs) (Γ : Context) (k : Selection) {m n : ℤ} (a : Kind) (s : Spot) (r : Result Kind Refusal) → m ≡ n → AnswersPrimitive x Γ (primitives.Selected k m) a s r → AnswersPrimitive x Γ (primitives.Selected k n) a s r
+count_answers x Γ k a s r is h = subst (λ (n : ℤ). AnswersPrimitive x Γ (primitives.Selected k n) a s r) is h
 
 -- ## An accumulation
 

@@ -8,7 +8,7 @@ use Rattle.sf_expr.specs.Typing.{Names, Fits, HasType, variable_has, literal_has
 pub use Rattle.sf_expr.proofs.Judged.{one_type as expression_one}
 use Rattle.sf_term.specs.Trees.{Primitive, Term}
 use Rattle.sf_mean.specs.Contexts.{Context}
-use Rattle.sf_mean.specs.Typing.{Takes, PrimitiveTakes, bare_takes, probe_takes, never_takes, value_takes, timed_takes, accumulated_takes, arrow_takes, fused_takes}
+use Rattle.sf_mean.specs.Typing.{Takes, PrimitiveTakes, bare_takes, probe_takes, never_takes, value_takes, timed_takes, selected_takes, accumulated_takes, arrow_takes, fused_takes}
 use Rattle.sf_check.specs.Breaking.{IsNoPairWith, IsNoEvent}
 pub use Rattle.sf_mean.proofs.Inferred.{takes_one, input_fits, output_fits, form_of}
 
@@ -35,7 +35,8 @@ primitive_fits f (bare_takes h g) = g
 primitive_fits f (probe_takes g) = g
 primitive_fits f (never_takes g) = g
 primitive_fits f (value_takes v h g) = g
-primitive_fits f (timed_takes v w h g) = g
+primitive_fits f (timed_takes v m w h g) = g
+primitive_fits f (selected_takes h w g) = g
 primitive_fits f (accumulated_takes v h k e g) = g
 primitive_fits f (arrow_takes h) = function_fits h
 primitive_fits f (fused_takes h g) = g

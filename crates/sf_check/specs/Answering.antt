@@ -19,7 +19,7 @@ use Rattle.sf_term.specs.declared.node.Argument.TheVariants as arguments
 use Rattle.sf_term.specs.declared.node.Primitive.{Primitive as PrimitiveNode}
 use Rattle.sf_term.specs.declared.node.Primitive.TheVariants as nodes
 use Rattle.sf_term.specs.declared.program.Program.{Program}
-use Rattle.sf_term.specs.Trees.{Primitive, bare, never, with_value, timed, arrow, accumulated}
+use Rattle.sf_term.specs.Trees.{Primitive, bare, never, with_value, timed, selected, arrow, accumulated}
 use Rattle.sf_term.specs.Entries.{absent_payload}
 use Rattle.sf_term.specs.Arena.{tree, expressions_of}
 use Rattle.sf_mean.specs.Contexts.{NameKind, value, process, Context, names_of_values, inside_pattern}
@@ -32,6 +32,7 @@ primitive_in x (nodes.Bare k) = bare k
 primitive_in x (nodes.Never n) = never (absent_payload (literal_at x n))
 primitive_in x (nodes.WithValue k e) = with_value k (expression x e)
 primitive_in x (nodes.Timed k q e) = timed k q (expression x e)
+primitive_in x (nodes.Selected k n) = selected k n
 primitive_in x (nodes.Arrow f) = arrow (function_at x f)
 primitive_in x (nodes.Accumulated k e f) = accumulated k (expression x e) (function_at x f)
 

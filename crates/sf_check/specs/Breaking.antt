@@ -22,12 +22,13 @@ use Rattle.sf_term.specs.declared.form.Bare.{Bare}
 use Rattle.sf_term.specs.declared.form.Bare.TheVariants.{Pre}
 use Rattle.sf_term.specs.declared.form.WithValue.{WithValue}
 use Rattle.sf_term.specs.declared.form.Timing.{Timing}
+use Rattle.sf_term.specs.declared.form.Selection.{Selection}
 use Rattle.sf_term.specs.declared.form.Accumulation.{Accumulation}
 use Rattle.sf_term.specs.declared.form.Join.TheVariants.{InSequence, InParallel, FannedOut}
 use Rattle.sf_term.specs.declared.form.Side.{Side}
 use Rattle.sf_term.specs.declared.form.Side.TheVariants.{First, Second}
 use Rattle.sf_term.specs.declared.form.Heading.{Heading}
-use Rattle.sf_term.specs.declared.form.Heading.TheVariants.{LoopPre, Initialized}
+use Rattle.sf_term.specs.declared.form.Heading.TheVariants.{LoopPre, Initialized, Replaced}
 use Rattle.sf_term.specs.declared.form.Start.{Start}
 use Rattle.sf_term.specs.declared.form.Naming.TheVariants.{Process}
 use Rattle.sf_term.specs.declared.form.Observation.{Observation}
@@ -48,7 +49,7 @@ use Rattle.sf_term.specs.Parameters.{parameters_of}
 use Rattle.sf_term.specs.Trees.{Template}
 use Rattle.sf_term.specs.Arena.{tree, term_node_at, term_spot_at, expressions_of, arguments_under, arguments_of, headers_of, templates_of}
 use Rattle.sf_mean.specs.Contexts.{NameKind, value, process, Bindings, Signature, signature_named, Context, names_of_values, context_of, inside_pattern, inside_process}
-use Rattle.sf_mean.specs.Typing.{bare_kind, value_kind, takes_time, timed_kind, accumulated_argument, accumulated_kind, Takes, ArgumentsFit, IsTyped}
+use Rattle.sf_mean.specs.Typing.{bare_kind, value_kind, takes_input, takes_time, timed_kind, takes_number, selected_kind, accumulated_argument, accumulated_kind, Takes, ArgumentsFit, IsTyped}
 
 -- a type is none of pairs with this second part
 abbrev pub IsNoPairWith : Kind → Kind → Type 0
@@ -97,9 +98,13 @@ pub data PrimitiveBreaks (x : Exprs) (Γ : Context) (s : Spot) : Primitive → K
   never_refused : {n : ConstantId} {a : Kind} {r : Breach} → KindRefused (Some (event_kind (absent_payload (literal_at x n)))) s r → PrimitiveBreaks x Γ s (primitives.Never n) a r
   given_refused : {k : WithValue} {v : ExprId} {t a : Kind} {r : Breach} → HasType (names_of_values Γ) (expression x v) t → KindRefused (value_kind k t a) s r → PrimitiveBreaks x Γ s (primitives.WithValue k v) a r
   timed_value_refused : {k : Timing} {q : ℤ} {v : ExprId} {a : Kind} {r : Breach} → Refused x (names_of_values Γ) v r → PrimitiveBreaks x Γ s (primitives.Timed k q v) a r
-  time_outside : {k : Timing} {q : ℤ} {v : ExprId} {t a : Kind} → HasType (names_of_values Γ) (expression x v) t → takes_time k q ≡ false → PrimitiveBreaks x Γ s (primitives.Timed k q v) a (breach_of BadConstant s)
+  input_differs : {k : Timing} {q : ℤ} {v : ExprId} {t a : Kind} → HasType (names_of_values Γ) (expression x v) t → takes_input k t a ≡ false → PrimitiveBreaks x Γ s (primitives.Timed k q v) a (breach_of Mismatch s)
+  time_outside : {k : Timing} {q : ℤ} {v : ExprId} {t a : Kind}
+      → HasType (names_of_values Γ) (expression x v) t → IsTrue (takes_input k t a) → takes_time k q ≡ false → PrimitiveBreaks x Γ s (primitives.Timed k q v) a (breach_of BadConstant s)
   timed_refused : {k : Timing} {q : ℤ} {v : ExprId} {t a : Kind} {r : Breach}
-      → HasType (names_of_values Γ) (expression x v) t → IsTrue (takes_time k q) → KindRefused (timed_kind k t) s r → PrimitiveBreaks x Γ s (primitives.Timed k q v) a r
+      → HasType (names_of_values Γ) (expression x v) t → IsTrue (takes_input k t a) → IsTrue (takes_time k q) → KindRefused (timed_kind k t) s r → PrimitiveBreaks x Γ s (primitives.Timed k q v) a r
+  selected_refused : {k : Selection} {n : ℤ} {a : Kind} {r : Breach} → KindRefused (selected_kind a) s r → PrimitiveBreaks x Γ s (primitives.Selected k n) a r
+  number_outside : {k : Selection} {n : ℤ} {a b : Kind} → selected_kind a ≡ Some b → Fits b → takes_number n ≡ false → PrimitiveBreaks x Γ s (primitives.Selected k n) a (breach_of BadConstant s)
   start_value_refused : {k : Accumulation} {v : ExprId} {f : FunctionId} {a : Kind} {r : Breach} → Refused x (names_of_values Γ) v r → PrimitiveBreaks x Γ s (primitives.Accumulated k v f) a r
   accumulation_breaks : {k : Accumulation} {v : ExprId} {f : FunctionId} {t a : Kind} {r : Breach}
       → HasType (names_of_values Γ) (expression x v) t → AccumulationBreaks x (names_of_values Γ) s k f t a r → PrimitiveBreaks x Γ s (primitives.Accumulated k v f) a r
@@ -178,6 +183,7 @@ pub data FormBreaks (p : Program) (Γ : Context) (s : Spot) : Node → Kind → 
   fed_exceeds : {v : ExprId} {t : TermId} {a c : Kind} → HasType (names_of_values Γ) (expression (expressions_of p) v) c → Exceeds (pair_kind a c) → FormBreaks p Γ s (nodes.Headed LoopPre v t) a (breach_of TypeTooLarge s)
   loop_differs : {v : ExprId} {t : TermId} {a c d : Kind} → HasType (names_of_values Γ) (expression (expressions_of p) v) c → Takes Γ (tree p t) (pair_kind a c) d → IsNoPairWith c d → FormBreaks p Γ s (nodes.Headed LoopPre v t) a (breach_of Mismatch s)
   initialized_differs : {v : ExprId} {t : TermId} {a c d : Kind} → HasType (names_of_values Γ) (expression (expressions_of p) v) c → Takes Γ (tree p t) a d → d ≢ c → FormBreaks p Γ s (nodes.Headed Initialized v t) a (breach_of Mismatch s)
+  replaced_differs : {v : ExprId} {t : TermId} {a c d : Kind} → HasType (names_of_values Γ) (expression (expressions_of p) v) c → Takes Γ (tree p t) a d → c ≢ a → FormBreaks p Γ s (nodes.Headed Replaced v t) a (breach_of Mismatch s)
   source_differs : {w : Observation} {t u : TermId} {q : PatternId} {a d : Kind} → Takes Γ (tree p t) a d → IsNoEventBeside d → FormBreaks p Γ s (nodes.Switching (Basic w) t q u) a (breach_of Mismatch s)
   recurring_input : {w : Observation} {t u : TermId} {q : PatternId} {a : Kind} → IsNoEventBeside a → FormBreaks p Γ s (nodes.Switching (Recurring w) t q u) a (breach_of Mismatch s)
   switch_body_breaks : {w : Switching} {t u : TermId} {q : PatternId} {x a b c : Kind} {r : Breach}
@@ -204,6 +210,7 @@ pub data Reaches (p : Program) (Γ : Context) : Node → Kind → Context → Te
   second_part : {t : TermId} {a c : Kind} → Reaches p Γ (nodes.Sided Second t) (pair_kind c a) Γ t a
   loop_part : {v : ExprId} {t : TermId} {a c : Kind} → HasType (names_of_values Γ) (expression (expressions_of p) v) c → Fits (pair_kind a c) → Reaches p Γ (nodes.Headed LoopPre v t) a Γ t (pair_kind a c)
   initialized_part : {v : ExprId} {t : TermId} {a c : Kind} → HasType (names_of_values Γ) (expression (expressions_of p) v) c → Reaches p Γ (nodes.Headed Initialized v t) a Γ t a
+  replaced_part : {v : ExprId} {t : TermId} {a c : Kind} → HasType (names_of_values Γ) (expression (expressions_of p) v) c → Reaches p Γ (nodes.Headed Replaced v t) a Γ t a
   switch_source : {w : Observation} {t u : TermId} {q : PatternId} {a : Kind} → Reaches p Γ (nodes.Switching (Basic w) t q u) a Γ t a
   recurring_first : {w : Observation} {t u : TermId} {q : PatternId} {a c : Kind} → Reaches p Γ (nodes.Switching (Recurring w) t q u) (pair_kind a (event_kind c)) Γ t a
   switch_body : {w : Switching} {t u : TermId} {q : PatternId} {x a b c : Kind}

@@ -1,5 +1,5 @@
 //! The types of terms, under contexts.
-ghost use Rattle.std.specs.Prelude.{◌≡◌, ◌↔◌, ◌<◌, All, IsTrue, is_ok, IfOk, IfErr, OnOk};
+ghost use Rattle.std.specs.Prelude.{◌≡◌, ◌↔◌, ◌<◌, true, false, All, IsTrue, is_ok, IfOk, IfErr, OnOk};
 ghost use Rattle.sf_value.specs.Values.{pair_kind, event_kind, IsNoPair};
 ghost use Rattle.sf_refusal.specs.Refusals.{breach_of, broken, OrMemory};
 ghost use Rattle.sf_refusal.specs.declared.rule.Rule.TheVariants.{Mismatch};
@@ -8,13 +8,15 @@ ghost use Rattle.sf_expr.specs.Refusals.{Judges, JudgesFunction};
 ghost use Rattle.sf_expr.specs.Typing.{Fits};
 ghost use Rattle.sf_term.specs.Arena.{term_number, term_node_at, term_spot_at, expressions_of, arguments_under, ArgumentBelow, template_in, templates_of};
 ghost use Rattle.sf_term.specs.ParameterView.{kind_of_form};
+ghost use Rattle.sf_expr.specs.declared.exprs.Exprs.{Exprs};
 ghost use Rattle.sf_term.specs.declared.form.Start.{Start};
+ghost use Rattle.sf_term.specs.declared.form.Selection.{Selection};
 ghost use Rattle.sf_expr.specs.Scopes.{entries_in};
-ghost use Rattle.sf_mean.specs.Contexts.{value, names_of_values, context_with};
+ghost use Rattle.sf_mean.specs.Contexts.{Context, value, names_of_values, context_with};
 ghost use Rattle.sf_check.specs.Standing.{bindings_from, inside_names};
 ghost use Rattle.sf_operator.specs.Breaches.{AnswersKind};
 ghost use Rattle.sf_operator.specs.Kinds.{same_kind};
-ghost use Rattle.sf_mean.specs.Typing.{value_kind, takes_time as a_time, timed_kind, accumulated_argument, accumulated_kind, IsTyped};
+ghost use Rattle.sf_mean.specs.Typing.{value_kind, takes_input as an_input, takes_time as a_time, timed_kind, takes_number as a_number, selected_kind, accumulated_argument, accumulated_kind, IsTyped};
 ghost use Rattle.sf_check.specs.Contexts.{program_in, context_in};
 ghost use Rattle.sf_check.specs.Answering.{AnswersBare, AnswersPrimitive, AnswersArgument, AnswersTerm, AnswersBody};
 ghost use Rattle.sf_check.specs.Names.{names_of_set, program_names};
@@ -94,6 +96,10 @@ fn bare_output(alloc: Global, kind: Bare, input: &Ty, spot: Spot) -> Result<Ty, 
             payload(input, spot)?;
             Ok(input.clone_in(alloc)?)
         }
+        Bare::Once => {
+            payload(input, spot)?;
+            Ok(input.clone_in(alloc)?)
+        }
         Bare::Count => {
             payload(input, spot)?;
             event_type(alloc, &Ty::int(), spot)
@@ -132,6 +138,10 @@ fn given_output(
 {
     match kind {
         WithValue::Constant => Ok(given),
+        WithValue::Initially => {
+            same(input, &given, spot)?;
+            Ok(given)
+        }
         WithValue::InitialPre => {
             same(input, &given, spot)?;
             Ok(given)
@@ -141,7 +151,20 @@ fn given_output(
             Ok(given)
         }
         WithValue::Now => event_type(alloc, &given, spot),
+        WithValue::InitialEdge => {
+            same(input, &Ty::bool(), spot)?;
+            same(&given, &Ty::bool(), spot)?;
+            event_type(alloc, &Ty::unit(), spot)
+        }
+        WithValue::EdgeTag => {
+            same(input, &Ty::bool(), spot)?;
+            event_type(alloc, &given, spot)
+        }
         WithValue::Hold => {
+            same(payload(input, spot)?, &given, spot)?;
+            Ok(given)
+        }
+        WithValue::DelayedHold => {
             same(payload(input, spot)?, &given, spot)?;
             Ok(given)
         }
@@ -169,16 +192,29 @@ fn takes_time(kind: Timing, time: i64) -> bool
 {
     match kind {
         Timing::After => 0 <= time && time <= 1_000_000_000_000,
+        Timing::Repeatedly | Timing::Delay => 1 <= time && time <= 1_000_000_000_000,
+    }
+}
+
+/// Nothing where a form with a value of a type takes inputs of a type; else refused at the spot with `Mismatch`.
+fn takes_input(kind: Timing, given: &Ty, input: &Ty, spot: Spot) -> Result<(), Refusal>
+    ensures ok { OnOk result (an_input kind given.now input.now ≡ true) }
+    ensures err { IfErr result (λ r. (an_input kind given.now input.now ≡ false) × (r ≡ broken Mismatch spot)) }
+{
+    match kind {
+        Timing::After | Timing::Repeatedly => Ok(()),
+        Timing::Delay => same(input, given, spot),
     }
 }
 
 /// The type of the outputs of a primitive with a time and a value of a type. Refused at the spot with `TypeTooLarge`, and
 /// with `Memory`.
-fn timed_type(alloc: Global, kind: Timing, given: &Ty, spot: Spot) -> Result<Ty, Refusal>
-    ensures { AnswersKind (timed_kind kind given.now) spot result }
+fn timed_type(alloc: Global, kind: Timing, given: Ty, spot: Spot) -> Result<Ty, Refusal>
+    ensures { AnswersKind (timed_kind kind given) spot result }
 {
     match kind {
-        Timing::After => event_type(alloc, given, spot),
+        Timing::After | Timing::Repeatedly => event_type(alloc, &given, spot),
+        Timing::Delay => Ok(given),
     }
 }
 
@@ -195,10 +231,38 @@ fn timed_output(
     ensures { AnswersPrimitive (expressions_of (program_in context.now)) (context_in context.now) (Primitive.Timed kind time value) input.now spot result }
 {
     let given = constant_type(alloc, context, value)?;
+    takes_input(kind, &given, input, spot)?;
     if !takes_time(kind, time) {
         return Err(Refusal::broken(Rule::BadConstant, spot));
     }
-    timed_type(alloc, kind, &given, spot)
+    timed_type(alloc, kind, given, spot)
+}
+
+/// Whether this is a number of events that a form takes.
+fn takes_number(count: i64) -> bool
+    ensures { result ≡ a_number count }
+{
+    0 <= count && count <= 1_000_000_000
+}
+
+/// The type of the outputs of a primitive with a number of events on inputs of a type, whatever the number. Refused at the
+/// spot with `Mismatch` where it is none on such inputs, and with `Memory`.
+fn selected_type(alloc: Global, input: &Ty, spot: Spot) -> Result<Ty, Refusal>
+    ensures { AnswersKind (selected_kind input.now) spot result }
+{
+    payload(input, spot)?;
+    Ok(input.clone_in(alloc)?)
+}
+
+/// The type of the outputs of a primitive with a number of events on inputs of a type.
+fn selected_output(alloc: Global, count: i64, input: &Ty, spot: Spot) -> Result<Ty, Refusal>
+    ensures { (x : Exprs) (Γ : Context) (kind : Selection) → AnswersPrimitive x Γ (Primitive.Selected kind count) input.now spot result }
+{
+    let output = selected_type(alloc, input, spot)?;
+    if !takes_number(count) {
+        return Err(Refusal::broken(Rule::BadConstant, spot));
+    }
+    Ok(output)
 }
 
 /// The type of what a function answers to values of a type.
@@ -295,6 +359,7 @@ fn primitive_output(
         Primitive::Timed(kind, time, value) => {
             timed_output(alloc, context, kind, time, value, input, spot)
         }
+        Primitive::Selected(_, count) => selected_output(alloc, count, input, spot),
         Primitive::Arrow(function) => answer_type(alloc, context, function, input, spot),
         Primitive::Accumulated(kind, value, function) => {
             accumulated_output(alloc, context, kind, value, function, input, spot)
@@ -517,6 +582,28 @@ fn initialized_output(
     let given = constant_type(alloc, context, value)?;
     let output = output_of(alloc, context, part, input)?;
     wanted_output(output, &given, spot)
+}
+
+/// The type of the outputs of a part whose first input another value takes the place of, on inputs of a type.
+#[cycle(output)]
+fn replaced_output(
+    alloc: Global,
+    context: &TypingContext,
+    term: TermId,
+    value: ExprId,
+    part: TermId,
+    input: &Ty,
+) -> Result<Ty, Refusal>
+    requires fits { Fits input.now }
+    requires there { term_node_at (program_in context.now) term ≡ Node.Headed Heading.Replaced value part }
+    requires below { term_number part < term_number term }
+    ensures { AnswersTerm (program_in context.now) (context_in context.now) term input.now result }
+{
+    let spot = context.program.spot(term);
+    let given = constant_type(alloc, context, value)?;
+    let output = output_of(alloc, context, part, input)?;
+    same(&given, input, spot)?;
+    Ok(output)
 }
 
 /// The type of the outputs of a term that gives way to another inside a pattern, on inputs of a type.
@@ -790,6 +877,9 @@ fn output_of(
         }
         Node::Headed(Heading::Initialized, value, part) => {
             initialized_output(alloc, context, term, value, part, input)
+        }
+        Node::Headed(Heading::Replaced, value, part) => {
+            replaced_output(alloc, context, term, value, part, input)
         }
         Node::Switching(form, first, pattern, body) => {
             switching_output(alloc, context, term, form, first, pattern, body, input)

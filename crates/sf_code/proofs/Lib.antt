@@ -1,3 +1,4 @@
+pub mod Indexed
 pub mod Compiled
 pub mod Named
 pub mod Outside

@@ -69,10 +69,12 @@ module _ (o : Option (Box PlacedPattern Global)) (s : Scope) where
 -- code that is made with a frame of the names around it
 pub is_code_of : (e : Expression) (c : OpenCode) (ps : List Pattern) → ps ≡ around_pattern c.around → is_closed (around_pattern c.around) e ≡ true → code_of c.code ≡ code_under ps e → IsCodeOf e c
 is_code_of e c ps only closed made = record {
+  closed = closed;
   worth = λ s. ap (λ (k : Code). run k (frame_around c.around s) (functions_in s)) (made ∙ ap (λ (q : List Pattern). code_under q e) only) ∙ expression_worth c.around s e closed;
 }
 
 pub is_code_of_function : (p : Pattern) (e : Expression) (c : OpenCode) (ps : List Pattern) → ps ≡ p ∷ around_pattern c.around → is_closed (p ∷ around_pattern c.around) e ≡ true → code_of c.code ≡ code_under ps e → IsCodeOfFunction (function p e) c
 is_code_of_function p e c ps only closed made = record {
+  closed = closed;
   worth = λ s d. ap (λ (k : Code). run k (d ∷ frame_around c.around s) (functions_in s)) (made ∙ ap (λ (q : List Pattern). code_under q e) only) ∙ function_worth c.around s p e d closed;
 }

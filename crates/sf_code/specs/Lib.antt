@@ -2,6 +2,7 @@ pub mod Places
 pub mod Codes
 pub mod Running
 pub mod Compiling
+pub mod Indexes
 pub mod Names
 pub mod Laws
 pub mod PlaceView

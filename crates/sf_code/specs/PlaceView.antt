@@ -8,6 +8,7 @@ use Rattle.sf_code.specs.declared.place.Path as paths
 use Rattle.sf_code.specs.declared.place.Path.TheVariants.{Whole, Half'}
 use Rattle.sf_code.specs.declared.place.Place as places
 use Rattle.sf_code.specs.declared.place.Place.TheVariants.{Here, Out'}
+use Rattle.sf_code.specs.declared.pattern.FramePattern.{FramePattern}
 use Rattle.sf_code.specs.declared.place.Patterns.{Patterns}
 use Rattle.sf_code.specs.declared.place.Patterns.TheVariants.{Empty, Only, Within'}
 use Rattle.sf_code.specs.Places.{Place, at_frame, one_out}
@@ -25,10 +26,15 @@ place_of (Out' at place) = one_out (place_of place)
 -- the patterns, the innermost first
 abbrev pub patterns_of : Patterns → List Pattern
 patterns_of Empty = []
-patterns_of (Only pattern) = pattern_of pattern.now ∷ []
-patterns_of (Within' pattern at around) = pattern_of pattern.now ∷ patterns_of around
+patterns_of (Only frame) = pattern_of frame.now.pattern.now ∷ []
+patterns_of (Within' frame at around) = pattern_of frame.now.pattern.now ∷ patterns_of around
 
 -- the pattern of one frame, if there is one
 abbrev pub around_pattern : Option (Box PlacedPattern Global) → List Pattern
 around_pattern None = []
 around_pattern (Some p) = pattern_of p.value ∷ []
+
+-- the same of what is told of one frame, if there is one
+abbrev pub around_frame : Option FramePattern → List Pattern
+around_frame None = []
+around_frame (Some frame) = pattern_of frame.pattern.now ∷ []

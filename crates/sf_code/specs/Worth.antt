@@ -1,14 +1,16 @@
 -- What code is of.
-use Rattle.std.specs.Prelude.{◌≡◌, List, [], ◌∷◌, Option, Some, None, option_to_list, Box}
+use Rattle.std.specs.Prelude.{◌≡◌, Bool, true, List, [], ◌∷◌, Option, Some, None, option_to_list, Box}
 use Rattle.std.specs.declared.alloc.Global.{Global}
 use Rattle.sf_value.specs.Values.{Data, unit, pair}
-use Rattle.sf_expr.specs.Expressions.{Pattern, unnamed, named, both, Expression, Function}
+use Rattle.sf_expr.specs.Expressions.{Pattern, unnamed, named, both, Expression, Function, function}
 use Rattle.sf_expr.specs.Patterns.{PlacedPattern, pattern_of}
 use Rattle.sf_expr.specs.Evaluation.{Scope, value_of, functions_in, eval, apply}
 use Rattle.sf_code.specs.declared.code.Code.{Code}
 use Rattle.sf_code.specs.declared.open.OpenCode.{OpenCode}
 use Rattle.sf_code.specs.declared.open.Closure.{Closure}
 use Rattle.sf_code.specs.CodeView.{code_of}
+use Rattle.sf_code.specs.Compiling.{is_closed}
+use Rattle.sf_code.specs.PlaceView.{around_pattern}
 use Rattle.sf_code.specs.Running.{run}
 
 -- the values of a pattern's names in a scope, in the pattern's shape
@@ -31,12 +33,18 @@ pub record IsCodeOfIn (s : Scope) (e : Expression) (around : List Data) (c : Cod
 pub record IsCodeOfFunctionIn (s : Scope) (g : Function) (around : List Data) (c : Code) : Type 0 where
   pub worth : (d : Data) → run (code_of c) (d ∷ around) (functions_in s) ≡ apply g d s
 
--- Code is that of an expression in every scope, over the values that its names have there.
+-- Code is that of an expression in every scope, over the values that its names have there: the pattern around it binds each of them.
 pub record IsCodeOf (e : Expression) (c : OpenCode) : Type 0 where
+  pub closed : is_closed (around_pattern c.around) e ≡ true
   pub worth : (s : Scope) → run (code_of c.code) (frame_around c.around s) (functions_in s) ≡ eval e s
+
+-- whether patterns bind each name of a function that its own doesn't
+abbrev pub is_closed_within : List Pattern → Function → Bool
+is_closed_within ps (function p e) = is_closed (p ∷ ps) e
 
 -- Code is that of a function in every scope, likewise.
 pub record IsCodeOfFunction (g : Function) (c : OpenCode) : Type 0 where
+  pub closed : is_closed_within (around_pattern c.around) g ≡ true
   pub worth : (s : Scope) (d : Data) → run (code_of c.code) (d ∷ frame_around c.around s) (functions_in s) ≡ apply g d s
 
 -- A closure is that of a function in a scope: its code is, over the value that it has.

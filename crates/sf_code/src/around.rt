@@ -6,6 +6,7 @@ ghost use Rattle.sf_expr.specs.Patterns.{pattern_of};
 ghost use Rattle.sf_code.specs.Compiling.{is_closed, named_each, path_in, place_in, BindAsMany};
 ghost use Rattle.sf_code.specs.PlaceView.{patterns_of, around_pattern};
 
+use crate::pattern::FramePattern;
 use crate::place::Patterns;
 use indexmap::IndexSet;
 use sf_expr::{ExprId, ExprNode, Exprs, Pat, PatternId};
@@ -24,7 +25,7 @@ pub(crate) fn names_around(
     ensures fewest { is_closed (patterns_of patterns.now) (expression exprs.now id) ≡ true → IfOk result (λ around. around ≡ None) }
 {
     let mut names = IndexSet::new(alloc);
-    gather(exprs, id, patterns, &mut names)?;
+    gather(alloc, exprs, id, patterns, &mut names)?;
     pattern_of_names(alloc, names.as_slice())
 }
 
@@ -60,6 +61,7 @@ fn balanced(alloc: Global, names: &[&str]) -> Result<Pat, AllocError>
 // Puts the names behind others that neither these patterns nor those names bind: none where the patterns bind each.
 #[cycle(gather)]
 fn gather<'a>(
+    alloc: Global,
     exprs: &'a Exprs,
     id: ExprId,
     patterns: &Patterns,
@@ -73,22 +75,22 @@ fn gather<'a>(
         ExprNode::Unit | ExprNode::Truth(_) | ExprNode::Int(_) | ExprNode::Constant(_) => Ok(()),
         ExprNode::Name(name) => note(exprs.name_of(name), patterns, names),
         ExprNode::Applied(_, part) | ExprNode::Called(_, _, part) => {
-            gather(exprs, part, patterns, names)
+            gather(alloc, exprs, part, patterns, names)
         }
         ExprNode::Pair(first, second) | ExprNode::Operation(first, _, second) => {
-            gather_both(exprs, first, second, patterns, names)
+            gather_both(alloc, exprs, first, second, patterns, names)
         }
         ExprNode::Conditional(condition, first, second) => {
-            gather(exprs, condition, patterns, names)?;
-            gather_both(exprs, first, second, patterns, names)
+            gather(alloc, exprs, condition, patterns, names)?;
+            gather_both(alloc, exprs, first, second, patterns, names)
         }
         ExprNode::Mapped(part, _, pattern, body) => {
-            gather(exprs, part, patterns, names)?;
-            gather_within(exprs, pattern, body, patterns, names)
+            gather(alloc, exprs, part, patterns, names)?;
+            gather_within(alloc, exprs, pattern, body, patterns, names)
         }
         ExprNode::Folded(first, _, second, pattern, body) => {
-            gather_both(exprs, first, second, patterns, names)?;
-            gather_within(exprs, pattern, body, patterns, names)
+            gather_both(alloc, exprs, first, second, patterns, names)?;
+            gather_within(alloc, exprs, pattern, body, patterns, names)
         }
     }
 }
@@ -96,6 +98,7 @@ fn gather<'a>(
 // The same of two expressions.
 #[cycle(gather)]
 fn gather_both<'a>(
+    alloc: Global,
     exprs: &'a Exprs,
     first: ExprId,
     second: ExprId,
@@ -107,13 +110,14 @@ fn gather_both<'a>(
     ensures second { OnOk result (is_closed (patterns_of patterns.now ++ named_each (names_seen names.new.keys)) (expression exprs.now second) ≡ true) }
     ensures fewest { OnOk result (is_closed (patterns_of patterns.now) (expression exprs.now first) ≡ true → is_closed (patterns_of patterns.now) (expression exprs.now second) ≡ true → names.new.keys ≡ names.old.keys) }
 {
-    gather(exprs, first, patterns, names)?;
-    gather(exprs, second, patterns, names)
+    gather(alloc, exprs, first, patterns, names)?;
+    gather(alloc, exprs, second, patterns, names)
 }
 
 // The same of a function's expression: its pattern is that of a frame inside the others.
 #[cycle(gather)]
 fn gather_within<'a>(
+    alloc: Global,
     exprs: &'a Exprs,
     pattern: PatternId,
     body: ExprId,
@@ -124,8 +128,9 @@ fn gather_within<'a>(
     ensures closed { OnOk result (is_closed (pattern_of (placed_at exprs.now pattern) ∷ (patterns_of patterns.now ++ named_each (names_seen names.new.keys))) (expression exprs.now body) ≡ true) }
     ensures fewest { OnOk result (is_closed (pattern_of (placed_at exprs.now pattern) ∷ patterns_of patterns.now) (expression exprs.now body) ≡ true → names.new.keys ≡ names.old.keys) }
 {
-    let inner = (&*patterns).within((&*exprs).placed(pattern));
-    gather(exprs, body, &inner, names)
+    let frame = FramePattern::new(alloc, (&*exprs).placed(pattern))?;
+    let inner = (&*patterns).within(&frame);
+    gather(alloc, exprs, body, &inner, names)
 }
 
 // The same of a name.

@@ -12,6 +12,7 @@ ghost use Rattle.sf_code.specs.Compiling.{code_under, place_in, name_code as cod
 ghost use Rattle.sf_code.specs.PlaceView.{patterns_of};
 
 use crate::code::Code;
+use crate::pattern::FramePattern;
 use crate::place::Patterns;
 use sf_expr::{Constant, ExprId, ExprNode, Exprs, NameId, PatternId};
 use sf_operator::{Folding, Mapping, Operator, number_in};
@@ -100,7 +101,8 @@ fn within(
 ) -> Result<Box<Code>, AllocError>
     ensures { IfOk result (λ code. code_of code.value ≡ code_under (pattern_of (placed_at exprs.now pattern) ∷ patterns_of patterns.now) (expression exprs.now body)) }
 {
-    let inner = (&*patterns).within((&*exprs).placed(pattern));
+    let frame = FramePattern::new(alloc, (&*exprs).placed(pattern))?;
+    let inner = (&*patterns).within(&frame);
     boxed(alloc, &*exprs, body, &inner)
 }
 

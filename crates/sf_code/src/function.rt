@@ -2,10 +2,12 @@
 ghost use Rattle.std.specs.Prelude.{◌≡◌, true, [], ◌∷◌, IfOk, option_to_list};
 ghost use Rattle.sf_expr.specs.Arena.{expression, function_at};
 ghost use Rattle.sf_expr.specs.Expressions.{Expression, Function};
+ghost use Rattle.sf_expr.specs.Patterns.{pattern_of};
 ghost use Rattle.sf_expr.specs.Evaluation.{Scope, functions_in, eval, apply as applied};
 ghost use Rattle.sf_operator.specs.Answers.{Evaluates, EvaluatesAs};
 ghost use Rattle.sf_code.specs.CodeView.{code_of};
-ghost use Rattle.sf_code.specs.Compiling.{is_closed, is_closed_function};
+ghost use Rattle.sf_code.specs.Compiling.{code_under, is_closed, is_closed_function};
+ghost use Rattle.sf_code.specs.PlaceView.{around_pattern};
 ghost use Rattle.sf_code.specs.Running.{run as worth_of};
 ghost use Rattle.sf_code.specs.Worth.{IsCodeOf, IsCodeOfFunction, IsCodeOfIn, IsCodeOfFunctionIn};
 
@@ -14,10 +16,11 @@ use crate::code::Code;
 use crate::compiler::compile;
 use crate::frames::Frames;
 use crate::open::OpenCode;
+use crate::pattern::FramePattern;
 use crate::place::Patterns;
 use crate::rearranging::{paired_halves, rearranged};
 use crate::running::run;
-use sf_expr::{ExprId, Exprs, FunctionId};
+use sf_expr::{ExprId, Exprs, FunctionId, Pat};
 use sf_func::Holds;
 use sf_operator::EvalFault;
 use sf_value::Value;
@@ -30,7 +33,7 @@ pub fn expression_code(alloc: Global, exprs: &Exprs, id: ExprId) -> Result<OpenC
     ensures bare { is_closed [] (expression exprs.now id) ≡ true → IfOk result (λ code. code.around ≡ None) }
 {
     let around = names_around(alloc, exprs, id, &Patterns::Empty)?;
-    let code = compile(alloc, exprs, id, &Patterns::around(&around))?;
+    let code = code_over(alloc, exprs, id, &around)?;
     Ok(OpenCode { code, around })
 }
 
@@ -41,10 +44,38 @@ pub fn function_code(alloc: Global, exprs: &Exprs, id: FunctionId) -> Result<Ope
 {
     let pattern = exprs.pattern(id);
     let body = exprs.body(id);
-    let around = names_around(alloc, exprs, body, &Patterns::Only(pattern))?;
-    let outside = Patterns::around(&around);
-    let code = compile(alloc, exprs, body, &outside.within(pattern))?;
+    let frame = FramePattern::new(alloc, pattern)?;
+    let around = names_around(alloc, exprs, body, &Patterns::Only(&frame))?;
+    let code = code_within(alloc, exprs, &frame, body, &around)?;
     Ok(OpenCode { code, around })
+}
+
+// The code of an expression over the frame of the names around it, if there is one.
+fn code_over(
+    alloc: Global,
+    exprs: &Exprs,
+    id: ExprId,
+    around: &Option<Box<Pat>>,
+) -> Result<Code, AllocError>
+    ensures { IfOk result (λ code. code_of code ≡ code_under (around_pattern around.now) (expression exprs.now id)) }
+{
+    let outside = FramePattern::around(alloc, around)?;
+    compile(alloc, exprs, id, &Patterns::around(&outside))
+}
+
+// The same of a function's expression, whose own frame stands inside that.
+fn code_within(
+    alloc: Global,
+    exprs: &Exprs,
+    frame: &FramePattern,
+    body: ExprId,
+    around: &Option<Box<Pat>>,
+) -> Result<Code, AllocError>
+    ensures { IfOk result (λ code. code_of code ≡ code_under (pattern_of frame.now.pattern.now ∷ around_pattern around.now) (expression exprs.now body)) }
+{
+    let outside = FramePattern::around(alloc, around)?;
+    let outside = Patterns::around(&outside);
+    compile(alloc, exprs, body, &outside.within(frame))
 }
 
 /// What an expression is worth by its code, over the value of the names around it, or the first fault of its operations:

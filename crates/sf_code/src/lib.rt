@@ -18,6 +18,7 @@ mod function;
 mod laws;
 mod names;
 mod open;
+mod pattern;
 mod place;
 mod rearranging;
 mod running;

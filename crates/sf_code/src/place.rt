@@ -2,8 +2,9 @@
 ghost use Rattle.std.specs.Prelude.{◌≡◌, ◌∷◌, IfOk, is_some, option_map};
 ghost use Rattle.sf_expr.specs.Patterns.{pattern_of};
 ghost use Rattle.sf_code.specs.Compiling.{path_in as path_of_name, place_in as place_of_name};
-ghost use Rattle.sf_code.specs.PlaceView.{path_of, place_of, patterns_of, around_pattern};
+ghost use Rattle.sf_code.specs.PlaceView.{path_of, place_of, patterns_of, around_pattern, around_frame};
 
+use crate::pattern::FramePattern;
 use sf_expr::{Pat, PatForm};
 use std::alloc::{AllocError, Global};
 
@@ -40,15 +41,15 @@ pub(crate) enum Patterns<'a> {
     /// No frame.
     Empty,
     /// That of the only frame.
-    Only(&'a Pat),
+    Only(&'a FramePattern<'a>),
     /// That of the innermost frame, and those around it.
-    Within(&'a Pat, &'a Patterns<'a>),
+    Within(&'a FramePattern<'a>, &'a Patterns<'a>),
 }
 
 impl<'a> Patterns<'a> {
     /// One frame, if there is a pattern.
-    pub(crate) fn around(pattern: &'a Option<Box<Pat>>) -> Patterns<'a>
-        ensures { patterns_of result ≡ around_pattern pattern.now }
+    pub(crate) fn around(pattern: &'a Option<FramePattern<'a>>) -> Patterns<'a>
+        ensures { patterns_of result ≡ around_frame pattern.now }
     {
         match pattern {
             Some(pattern) => Patterns::Only(pattern),
@@ -57,8 +58,8 @@ impl<'a> Patterns<'a> {
     }
 
     /// These patterns, and inside them that of one frame more.
-    pub(crate) fn within<'b>(&'b self, pattern: &'b Pat) -> Patterns<'b>
-        ensures { patterns_of result ≡ pattern_of pattern.now ∷ patterns_of self.now }
+    pub(crate) fn within<'b>(&'b self, pattern: &'b FramePattern<'b>) -> Patterns<'b>
+        ensures { patterns_of result ≡ pattern_of pattern.now.pattern.now ∷ patterns_of self.now }
     {
         Patterns::Within(pattern, self)
     }
@@ -69,11 +70,11 @@ impl<'a> Patterns<'a> {
     {
         match self {
             Patterns::Empty => Ok(None),
-            Patterns::Only(pattern) => match path_in(alloc, pattern, name)? {
+            Patterns::Only(pattern) => match pattern.path(alloc, name)? {
                 Some(path) => Ok(Some(Place::Here(path))),
                 None => Ok(None),
             },
-            Patterns::Within(pattern, around) => match path_in(alloc, pattern, name)? {
+            Patterns::Within(pattern, around) => match pattern.path(alloc, name)? {
                 Some(path) => Ok(Some(Place::Here(path))),
                 None => match around.place(alloc, name)? {
                     Some(place) => Ok(Some(Place::Out(Box::new(alloc, place)?))),
@@ -89,20 +90,34 @@ impl<'a> Patterns<'a> {
     {
         match self {
             Patterns::Empty => false,
-            Patterns::Only(pattern) => binds(pattern, name),
-            Patterns::Within(pattern, around) => binds(pattern, name) || around.binds(name),
+            Patterns::Only(pattern) => pattern.binds(name),
+            Patterns::Within(pattern, around) => pattern.binds(name) || around.binds(name),
         }
     }
 }
 
-/// Whether a pattern binds a name.
-fn binds(pattern: &Pat, name: &str) -> bool
-    ensures { result ≡ is_some (path_of_name name.now (pattern_of pattern.now)) }
-{
-    match pattern.form() {
-        PatForm::Unnamed => false,
-        PatForm::Name(own, _) => own.as_str() == name,
-        PatForm::Both(first, second) => binds(second, name) || binds(first, name),
+impl<'a> FramePattern<'a> {
+    /// The pattern of the one frame around others, if there is one; the error is as that of `new`.
+    pub(crate) fn around(
+        alloc: Global,
+        pattern: &'a Option<Box<Pat>>,
+    ) -> Result<Option<FramePattern<'a>>, AllocError>
+        ensures { IfOk result (λ frame. around_frame frame ≡ around_pattern pattern.now) }
+    {
+        match pattern {
+            Some(pattern) => Ok(Some(FramePattern::new(alloc, pattern)?)),
+            None => Ok(None),
+        }
+    }
+
+    /// The path to a name; none where the pattern does not bind it.
+    pub(crate) fn path(&self, alloc: Global, name: &str) -> Result<Option<Path>, AllocError>
+        ensures { IfOk result (λ path. option_map path_of path ≡ path_of_name name.now (pattern_of self.now.pattern.now)) }
+    {
+        if self.rules_out(name) {
+            return Ok(None);
+        }
+        path_in(alloc, self.pattern, name)
     }
 }
 

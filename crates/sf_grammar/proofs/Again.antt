@@ -17,7 +17,7 @@ use Rattle.sf_term.specs.declared.form.Heading.TheVariants as headings
 use Rattle.sf_term.specs.declared.form.Naming.{Naming}
 use Rattle.sf_term.specs.declared.form.Naming.TheVariants as namings
 use Rattle.sf_term.specs.Parameters.{NameKind, value as value_kind, process as process_kind, Bindings}
-use Rattle.sf_term.specs.Trees.{terms_with_value, bare, probe, never, with_value, timed, arrow, accumulated, fused, Term, primitive, reference, joined, sided, headed, switching, keeping, staged, started, call, named_term, Arguments, no_arguments, value_argument, process_argument, closed_argument, Template, term_depth, arguments_depth, terms_in, terms_in_arguments, expressions_in, expressions_in_arguments}
+use Rattle.sf_term.specs.Trees.{terms_with_value, bare, probe, never, with_value, timed, selected, arrow, accumulated, fused, Term, primitive, reference, joined, sided, headed, switching, keeping, staged, started, call, named_term, Arguments, no_arguments, value_argument, process_argument, closed_argument, Template, term_depth, arguments_depth, terms_in, terms_in_arguments, expressions_in, expressions_in_arguments}
 use Rattle.sf_lex.specs.declared.word.Keyword.TheVariants as words
 use Rattle.sf_lex.specs.declared.symbol.Symbol.TheVariants as symbols
 use Rattle.sf_lex.specs.Tokens.{Tok, keyword, name, number, text, symbol}
@@ -26,8 +26,8 @@ use Rattle.sf_grammar.specs.declared.head.Head.TheVariants as heads
 use Rattle.sf_grammar.specs.declared.head.ExpressionHead.TheVariants as expression_heads
 use Rattle.sf_grammar.specs.declared.head.Link.{Link}
 use Rattle.sf_grammar.specs.declared.head.Link.TheVariants as links
-use Rattle.sf_grammar.specs.Spelling.{stands_initially, head_makes, unary_word, takes_brackets, operator_token, stands_between, mapping_word, maps_in_brackets, folding_word, spell_operand, spell_operands, spell_choice, spell_mapped, spell_folded, spell_called, spell_mapping, spell_keys, spell_type, spell_pattern, spell_literal, spell_expression, spell_function, spell_further, spell_listed, spell_term, spell_arguments, spell_parameter, spell_heading, spell_signature, spell_template, bare_word, value_word, side_word, heading_token, timing_word, accumulation_word, switching_word, keeping_word, naming_token, join_symbol, in_brackets, type_depth, WritesType, WritesExpression, WritesFunction, WritesTerm, WritesArguments, WritesNameKind, HasWrittenTypes}
-use Rattle.sf_grammar.specs.Reading.{parse_never, parse_timed, Read, got, ◌and_then◌, Counts, counts_with, counts_with_expression, parse_symbol, parse_keys, parse_outer_type, parse_inner_type, parse_pair_type, parse_pattern, parse_pattern_pair, parse_link, linked, parse_linked, bracketed_from, parse_none, parse_prefixed, parse_one_in_brackets, parse_two_in_brackets, parse_conditional, parse_mapping, parse_let, parse_one_and_function, parse_two_and_function, parse_called, expression_head, parse_expression, expression_read, parse_function, parse_join, parse_term, term_read, parse_joined, parse_value, parse_arrow, parse_accumulated, parse_sided, parse_headed, parse_body, parse_switching, head_at, parse_named, parse_keeping, Actual, actual_value, actual_process, with_actual, counts_with_actual, parse_argument, parse_arguments, parse_call, behind_leads, parse_further, parse_listed, parse_name_kind, parse_parameter, parse_parameters, parse_heading, parse_signature, parse_template}
+use Rattle.sf_grammar.specs.Spelling.{stands_initially, head_makes, unary_word, takes_brackets, operator_token, stands_between, mapping_word, maps_in_brackets, folding_word, spell_operand, spell_operands, spell_choice, spell_mapped, spell_folded, spell_called, spell_mapping, spell_keys, spell_type, spell_pattern, spell_literal, spell_expression, spell_function, spell_further, spell_listed, spell_term, spell_arguments, spell_parameter, spell_heading, spell_signature, spell_template, bare_word, value_word, side_word, heading_token, timing_word, selection_word, accumulation_word, switching_word, keeping_word, naming_token, join_symbol, in_brackets, type_depth, WritesType, WritesExpression, WritesFunction, WritesTerm, WritesArguments, WritesNameKind, HasWrittenTypes}
+use Rattle.sf_grammar.specs.Reading.{parse_never, parse_timed, parse_selected, Read, got, ◌and_then◌, Counts, counts_with, counts_with_expression, parse_symbol, parse_keys, parse_outer_type, parse_inner_type, parse_pair_type, parse_pattern, parse_pattern_pair, parse_link, linked, parse_linked, bracketed_from, parse_none, parse_prefixed, parse_one_in_brackets, parse_two_in_brackets, parse_conditional, parse_mapping, parse_let, parse_one_and_function, parse_two_and_function, parse_called, expression_head, parse_expression, expression_read, parse_function, parse_join, parse_term, term_read, parse_joined, parse_value, parse_arrow, parse_accumulated, parse_sided, parse_headed, parse_body, parse_switching, head_at, parse_named, parse_keeping, Actual, actual_value, actual_process, with_actual, counts_with_actual, parse_argument, parse_arguments, parse_call, behind_leads, parse_further, parse_listed, parse_name_kind, parse_parameter, parse_parameters, parse_heading, parse_signature, parse_template}
 use Rattle.sf_grammar.proofs.Words.{head_again, heading_begins, start_again, join_again, link_again, link_token, LinksBetween, unary_again, IsInFront, operator_again, folding_again, keys_again, no_close, no_sf}
 use Rattle.sf_grammar.proofs.Parts.{spell_actual, within, type_within, brackets_behind, three_behind, parts_again, no_leads, further_long}
 
@@ -345,7 +345,7 @@ long_enough : (front : List Tok) (xs : List (List Tok)) (rest : List Tok) → le
 long_enough front xs rest = omega (arith, further_long xs, length-append (front ++ spell_further xs) rest, length-append front (spell_further xs))
 
 mutual
-  unfolding parse_term parse_joined parse_never parse_value parse_timed parse_arrow parse_accumulated parse_sided parse_headed parse_switching parse_keeping parse_call
+  unfolding parse_term parse_joined parse_never parse_value parse_timed parse_selected parse_arrow parse_accumulated parse_sided parse_headed parse_switching parse_keeping parse_call
 
   pub term_again : (v : Version) (t : Term) (d : ℕ) (c : Counts) (rest : List Tok) → d ≤ 64 → term_depth t ≤ d → c.terms + terms_in t ≤ 100000 → c.expressions + expressions_in t ≤ 100000 → WritesTerm v d t
       → parse_term d v c (spell_term v t ++ rest) ≡ got t rest
@@ -354,6 +354,7 @@ mutual
   term_again v (primitive (never t)) zero c rest small deep few_terms few_expressions known = absurd (omega arith)
   term_again v (primitive (with_value k e)) zero c rest small deep few_terms few_expressions known = absurd (omega arith)
   term_again v (primitive (timed k q e)) zero c rest small deep few_terms few_expressions known = absurd (omega arith)
+  term_again v (primitive (selected k n)) zero c rest small deep few_terms few_expressions known = absurd (omega arith)
   term_again v (primitive (arrow f)) zero c rest small deep few_terms few_expressions known = absurd (omega arith)
   term_again v (primitive (accumulated k e f)) zero c rest small deep few_terms few_expressions known = absurd (omega arith)
   term_again v (primitive (fused f)) d c rest small deep few_terms few_expressions known = absurd (omega (arith, small, deep))
@@ -372,17 +373,27 @@ mutual
       (within (c.terms + 1) (primitive (never t)) (keyword words.Never ∷ (spell_type v t ++ rest)) rest few_terms)
   term_again v (primitive (with_value values.Constant e)) (suc d) c rest small deep few_terms few_expressions known =
       value_again v values.Constant e d c rest refl (expression_again v e d c rest (omega arith) few_expressions known) few_terms
+  term_again v (primitive (with_value values.Initially e)) (suc d) c rest small deep few_terms few_expressions known =
+      value_again v values.Initially e d c rest refl (expression_again v e d c rest (omega arith) few_expressions known) few_terms
   term_again v (primitive (with_value values.InitialPre e)) (suc d) c rest small deep few_terms few_expressions known =
       value_again v values.InitialPre e d c rest refl (expression_again v e d c rest (omega arith) few_expressions known) few_terms
   term_again v (primitive (with_value values.Now e)) (suc d) c rest small deep few_terms few_expressions known =
       value_again v values.Now e d c rest refl (expression_again v e d c rest (omega arith) few_expressions known) few_terms
+  term_again v (primitive (with_value values.InitialEdge e)) (suc d) c rest small deep few_terms few_expressions known =
+      value_again v values.InitialEdge e d c rest refl (expression_again v e d c rest (omega arith) few_expressions known) few_terms
+  term_again v (primitive (with_value values.EdgeTag e)) (suc d) c rest small deep few_terms few_expressions known =
+      value_again v values.EdgeTag e d c rest refl (expression_again v e d c rest (omega arith) few_expressions known) few_terms
   term_again v (primitive (with_value values.Hold e)) (suc d) c rest small deep few_terms few_expressions known =
       value_again v values.Hold e d c rest refl (expression_again v e d c rest (omega arith) few_expressions known) few_terms
+  term_again v (primitive (with_value values.DelayedHold e)) (suc d) c rest small deep few_terms few_expressions known =
+      value_again v values.DelayedHold e d c rest refl (expression_again v e d c rest (omega arith) few_expressions known) few_terms
   term_again v (primitive (with_value values.InitializedPre e)) (suc d) c rest small deep few_terms few_expressions known =
       initialized_again v e d c rest (λ rest. expression_again v e d c rest (omega arith) few_expressions known) (omega (arith, stands_deep e, deep)) few_terms
   term_again v (primitive (timed k q e)) (suc d) c rest small deep few_terms few_expressions known =
       rw (head_again (heads.Timed k) tt, expression_again v e d c rest (omega arith) few_expressions known)
       (within (c.terms + 1) (primitive (timed k q e)) (keyword (timing_word k) ∷ number q ∷ (spell_expression v e ++ rest)) rest few_terms)
+  term_again v (primitive (selected k n)) (suc d) c rest small deep few_terms few_expressions known =
+      rw (head_again (heads.Selected k) tt) (within (c.terms + 1) (primitive (selected k n)) (keyword (selection_word k) ∷ number n ∷ rest) rest few_terms)
   term_again v (primitive (arrow f)) (suc d) c rest small deep few_terms few_expressions known =
       rw (function_again v f d c rest (omega arith) few_expressions known)
       (within (c.terms + 1) (primitive (arrow f)) (keyword words.Arr ∷ (spell_function v f ++ rest)) rest few_terms)

@@ -13,6 +13,7 @@ use Rattle.sf_term.specs.declared.form.Bare.TheVariants as bares
 use Rattle.sf_term.specs.declared.form.WithValue.{WithValue}
 use Rattle.sf_term.specs.declared.form.WithValue.TheVariants as values
 use Rattle.sf_term.specs.declared.form.Timing.{Timing}
+use Rattle.sf_term.specs.declared.form.Selection.{Selection}
 use Rattle.sf_term.specs.declared.form.Accumulation.{Accumulation}
 use Rattle.sf_term.specs.declared.form.Join.{Join}
 use Rattle.sf_term.specs.declared.form.Side.{Side}
@@ -24,7 +25,7 @@ use Rattle.sf_term.specs.declared.form.Start.TheVariants as starts
 use Rattle.sf_term.specs.declared.form.Naming.{Naming}
 use Rattle.sf_term.specs.declared.form.Naming.TheVariants as namings
 use Rattle.sf_term.specs.Parameters.{NameKind, value as value_kind, process as process_kind, Bindings}
-use Rattle.sf_term.specs.Trees.{Primitive, terms_with_value, bare, never, with_value, timed, arrow, accumulated, Term, primitive, reference, joined, sided, headed, switching, keeping, call, named_term, Arguments, no_arguments, Template, term_depth, arguments_depth, terms_in, expressions_in, expressions_in_arguments}
+use Rattle.sf_term.specs.Trees.{Primitive, terms_with_value, bare, never, with_value, timed, selected, arrow, accumulated, Term, primitive, reference, joined, sided, headed, switching, keeping, call, named_term, Arguments, no_arguments, Template, term_depth, arguments_depth, terms_in, expressions_in, expressions_in_arguments}
 use Rattle.sf_lex.specs.declared.word.Keyword.{Keyword}
 use Rattle.sf_lex.specs.declared.word.Keyword.TheVariants as words
 use Rattle.sf_lex.specs.declared.symbol.Symbol.{Symbol}
@@ -39,8 +40,8 @@ use Rattle.sf_grammar.specs.declared.head.ExpressionHead.{ExpressionHead}
 use Rattle.sf_grammar.specs.declared.head.ExpressionHead.TheVariants as expression_heads
 use Rattle.sf_grammar.specs.declared.head.Link.{Link}
 use Rattle.sf_grammar.specs.declared.head.Link.TheVariants as links
-use Rattle.sf_grammar.specs.Spelling.{stands_initially, spell_value, head_makes, in_brackets, version_number, mapping_word, folding_word, spell_keys, spell_type, spell_mapping, spell_pattern, spell_expression, spell_function, spell_further, spell_listed, spell_term, spell_arguments, spell_name_kind, spell_parameter, spell_heading, spell_signature, spell_template, value_word, side_word, heading_token, timing_word, accumulation_word, switching_word, keeping_word, naming_token, join_symbol, type_depth, WritesType, IsWrittenType, WritesExpression, WritesFunction, WritesTerm, WritesArguments, WritesNameKind, HasWrittenTypes}
-use Rattle.sf_grammar.specs.Reading.{parse_number, parse_never, parse_timed, Read, got, ◌and_then◌, Counts, counts_with, counts_with_expression, begins_type, begins_pattern, begins_expression, begins_term, type_head, word_kind, parse_keys, parse_outer_type, parse_headed_type, type_from, parse_inner_type, parse_pair_type, parse_pattern, parse_pattern_pair, link_of, link_from, parse_link, linked, parse_linked, behind_close, bracketed_from, parse_none, expression_head, parse_prefixed, parse_one_in_brackets, parse_two_in_brackets, parse_conditional, parse_mapping, parse_let, mapped_by, folded_by, parse_one_and_function, parse_two_and_function, parse_called, parse_worded_expression, parse_expression, expression_read, parse_function, parse_term, parse_joined, parse_value, parse_arrow, parse_accumulated, parse_sided, parse_headed, parse_body, parse_switching, parse_named, parse_keeping, Actual, actual_value, actual_process, with_actual, counts_with_actual, behind_sf, argument_from, parse_argument, parse_arguments, parse_call, behind_leads, further_from, parse_further, listed_from, parse_listed, parameter_kind_from, parse_name_kind, parse_parameter, parse_parameters, parse_separator, parse_behind_head, begins_fresh, head_of, join_of, parse_join, join_from, term_read, parse_parts, parse_opening, parse_heading, parse_signature, parse_template, template_of, parse_symbol, parse_name, parse_type, parse_keyword, parse_version}
+use Rattle.sf_grammar.specs.Spelling.{stands_initially, spell_value, head_makes, in_brackets, version_number, mapping_word, folding_word, spell_keys, spell_type, spell_mapping, spell_pattern, spell_expression, spell_function, spell_further, spell_listed, spell_term, spell_arguments, spell_name_kind, spell_parameter, spell_heading, spell_signature, spell_template, value_word, side_word, heading_token, timing_word, selection_word, accumulation_word, switching_word, keeping_word, naming_token, join_symbol, type_depth, WritesType, IsWrittenType, WritesExpression, WritesFunction, WritesTerm, WritesArguments, WritesNameKind, HasWrittenTypes}
+use Rattle.sf_grammar.specs.Reading.{parse_number, parse_never, parse_timed, parse_selected, Read, got, ◌and_then◌, Counts, counts_with, counts_with_expression, begins_type, begins_pattern, begins_expression, begins_term, type_head, word_kind, parse_keys, parse_outer_type, parse_headed_type, type_from, parse_inner_type, parse_pair_type, parse_pattern, parse_pattern_pair, link_of, link_from, parse_link, linked, parse_linked, behind_close, bracketed_from, parse_none, expression_head, parse_prefixed, parse_one_in_brackets, parse_two_in_brackets, parse_conditional, parse_mapping, parse_let, mapped_by, folded_by, parse_one_and_function, parse_two_and_function, parse_called, parse_worded_expression, parse_expression, expression_read, parse_function, parse_term, parse_joined, parse_value, parse_arrow, parse_accumulated, parse_sided, parse_headed, parse_body, parse_switching, parse_named, parse_keeping, Actual, actual_value, actual_process, with_actual, counts_with_actual, behind_sf, argument_from, parse_argument, parse_arguments, parse_call, behind_leads, further_from, parse_further, listed_from, parse_listed, parameter_kind_from, parse_name_kind, parse_parameter, parse_parameters, parse_separator, parse_behind_head, begins_fresh, head_of, join_of, parse_join, join_from, term_read, parse_parts, parse_opening, parse_heading, parse_signature, parse_template, template_of, parse_symbol, parse_name, parse_type, parse_keyword, parse_version}
 use Rattle.sf_grammar.proofs.Words.{IsHeadToken, head_takes, IsFresh, fresh_takes, IsLone, named_alone, keyword_written, join_takes, link_token, LinksBetween, IsLinkToken, link_takes, BeginsWith, expression_head_takes, type_word, type_token, type_head_takes, IsWordKind, word_kind_is, close_takes, leads_takes, sf_takes}
 use Rattle.sf_grammar.proofs.Parts.{spell_actual, separator_token, separator_takes, Same, bind_got, got_same, within_takes, deep_takes, met_takes, parts_takes, brackets_took, three_behind, symbol_takes, keyword_takes, name_takes, version_takes, TookKeys, keys_takes}
 
@@ -562,6 +563,16 @@ timed_takes v d c k tokens t rest is =
     took_as v (suc d) c start (primitive (timed k q e)) t behind rest same
     (record { spelled = ap (λ r. keyword (timing_word k) ∷ r) (number_takes tokens q r at_q ∙ ap (λ r. number q ∷ r) took.spelled); shallow = omega (arith, took.shallow); few_terms = few_terms; few_expressions = took.few; known = took.known }))))
 
+selected_takes : (v : Version) (d : ℕ) (c : Counts) (k : Selection) (tokens : List Tok) (t : Term) (rest : List Tok) → c.expressions ≤ 100000
+    → parse_selected c k (keyword (selection_word k) ∷ tokens) tokens ≡ got t rest → Took v (suc d) c (keyword (selection_word k) ∷ tokens) t rest
+unfolding parse_selected
+selected_takes v d c k tokens t rest few is =
+    let start : List Tok = keyword (selection_word k) ∷ tokens in
+    bind_got (λ n r. term_read c (primitive (selected k n)) start r) (parse_number tokens) t rest is (λ n behind at_n is_n.
+    within_takes (c.terms + 1) (primitive (selected k n)) t start behind rest is_n (λ few_terms same.
+    took_as v (suc d) c start (primitive (selected k n)) t behind rest same
+    (record { spelled = ap (λ r. keyword (selection_word k) ∷ r) (number_takes tokens n behind at_n); shallow = omega arith; few_terms = few_terms; few_expressions = omega arith; known = tt })))
+
 arrow_takes : (v : Version) (d : ℕ) (c : Counts) (tokens : List Tok) (t : Term) (rest : List Tok)
     → parse_arrow d v c (keyword words.Arr ∷ tokens) tokens ≡ got t rest → Took v (suc d) c (keyword words.Arr ∷ tokens) t rest
 unfolding parse_arrow
@@ -939,6 +950,8 @@ behind_head_takes v d c (Some (heads.WithValue w)) k tokens t rest part found fe
     by_token v d c k (keyword (value_word w)) tokens t rest (λ start. parse_value d v c w start tokens) head.token is (value_takes v d c w tokens t rest head.begins)
 behind_head_takes v d c (Some (heads.Timed w)) k tokens t rest part found few is =
     by_token v d c k (keyword (timing_word w)) tokens t rest (λ start. parse_timed d v c w start tokens) (head_takes k (heads.Timed w) tt found).token is (timed_takes v d c w tokens t rest)
+behind_head_takes v d c (Some (heads.Selected w)) k tokens t rest part found few is =
+    by_token v d c k (keyword (selection_word w)) tokens t rest (λ start. parse_selected c w start tokens) (head_takes k (heads.Selected w) tt found).token is (selected_takes v d c w tokens t rest few)
 behind_head_takes v d c (Some heads.Never) k tokens t rest part found few is =
     by_token v d c k (keyword words.Never) tokens t rest (λ start. parse_never d v c start tokens) (head_takes k heads.Never tt found).token is (never_takes v d c tokens t rest few)
 behind_head_takes v d c (Some heads.Arrow) k tokens t rest part found few is =

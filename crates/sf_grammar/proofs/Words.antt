@@ -5,6 +5,7 @@ use Rattle.std.proofs.lemmas.Slice.Eq.{bytes_eq-Decides}
 use Rattle.sf_term.specs.declared.form.Bare.TheVariants as bares
 use Rattle.sf_term.specs.declared.form.WithValue.TheVariants as values
 use Rattle.sf_term.specs.declared.form.Timing.TheVariants as timings
+use Rattle.sf_term.specs.declared.form.Selection.TheVariants as selections
 use Rattle.sf_term.specs.declared.form.Accumulation.TheVariants as accumulations
 use Rattle.sf_term.specs.declared.form.Join.{Join}
 use Rattle.sf_term.specs.declared.form.Join.TheVariants as joins
@@ -50,7 +51,7 @@ use Rattle.sf_grammar.specs.declared.head.ExpressionHead.{ExpressionHead}
 use Rattle.sf_grammar.specs.declared.head.ExpressionHead.TheVariants as expression_heads
 use Rattle.sf_grammar.specs.declared.head.Link.{Link}
 use Rattle.sf_grammar.specs.declared.head.Link.TheVariants as links
-use Rattle.sf_grammar.specs.Spelling.{bare_word, value_word, stands_initially, timing_word, accumulation_word, side_word, heading_token, switching_word, keeping_word, naming_token, spell_term, has_fresh, WritesStart, WritesTerm, join_symbol, unary_word, takes_brackets, operator_token, stands_between, mapping_word, maps_in_brackets, folding_word, in_brackets, spell_operand, spell_operands, spell_mapping, spell_mapped_so, spell_pattern, spell_type, spell_keys, type_depth, WritesKeys, WritesType, spell_expression}
+use Rattle.sf_grammar.specs.Spelling.{bare_word, value_word, stands_initially, timing_word, selection_word, accumulation_word, side_word, heading_token, switching_word, keeping_word, naming_token, spell_term, has_fresh, WritesStart, WritesTerm, join_symbol, unary_word, takes_brackets, operator_token, stands_between, mapping_word, maps_in_brackets, folding_word, in_brackets, spell_operand, spell_operands, spell_mapping, spell_mapped_so, spell_pattern, spell_type, spell_keys, type_depth, WritesKeys, WritesType, spell_expression}
 use Rattle.sf_grammar.specs.Reading.{head_of, begins_fresh, head_at, join_of, operator_of, link_of, expression_head, type_head, word_kind, got, parse_keys, behind_close, behind_leads, behind_sf}
 
 -- the first token of a form; a call begins with any name, of which this is one
@@ -58,6 +59,7 @@ abbrev pub head_token : Head → Tok
 head_token (heads.Bare b) = keyword (bare_word b)
 head_token (heads.WithValue v) = keyword (value_word v)
 head_token (heads.Timed k) = keyword (timing_word k)
+head_token (heads.Selected k) = keyword (selection_word k)
 head_token heads.Never = keyword words.Never
 head_token heads.Arrow = keyword words.Arr
 head_token (heads.Accumulated k) = keyword (accumulation_word k)
@@ -86,14 +88,23 @@ head_again (heads.Bare bares.LocalTime) begins = refl
 head_again (heads.Bare bares.Integral) begins = refl
 head_again (heads.Bare bares.Edge) begins = refl
 head_again (heads.Bare bares.NotYet) begins = refl
+head_again (heads.Bare bares.Once) begins = refl
 head_again (heads.Bare bares.Count) begins = refl
 head_again (heads.Bare bares.Pre) begins = refl
 head_again (heads.WithValue values.Constant) begins = refl
+head_again (heads.WithValue values.Initially) begins = refl
 head_again (heads.WithValue values.InitialPre) begins = refl
 head_again (heads.WithValue values.InitializedPre) begins = cc
 head_again (heads.WithValue values.Now) begins = refl
+head_again (heads.WithValue values.InitialEdge) begins = refl
+head_again (heads.WithValue values.EdgeTag) begins = refl
 head_again (heads.WithValue values.Hold) begins = refl
+head_again (heads.WithValue values.DelayedHold) begins = refl
 head_again (heads.Timed timings.After) begins = refl
+head_again (heads.Timed timings.Repeatedly) begins = refl
+head_again (heads.Timed timings.Delay) begins = refl
+head_again (heads.Selected selections.TakeEvents) begins = refl
+head_again (heads.Selected selections.DropEvents) begins = refl
 head_again heads.Never begins = refl
 head_again heads.Arrow begins = refl
 head_again (heads.Accumulated accumulations.AccumBy) begins = refl
@@ -104,6 +115,7 @@ head_again (heads.Sided sides.First) begins = refl
 head_again (heads.Sided sides.Second) begins = refl
 head_again (heads.Headed headings.LoopPre) begins = refl
 head_again (heads.Headed headings.Initialized) begins = refl
+head_again (heads.Headed headings.Replaced) begins = refl
 head_again (heads.Switching (switches.Basic observations.Immediate)) begins = refl
 head_again (heads.Switching (switches.Basic observations.Delayed)) begins = refl
 head_again (heads.Switching (switches.Recurring observations.Immediate)) begins = refl
@@ -134,13 +146,22 @@ head_takes (keyword words.LocalTime) h own e = head_as (keyword words.LocalTime)
 head_takes (keyword words.Integral) h own e = head_as (keyword words.Integral) (heads.Bare bares.Integral) h e refl tt
 head_takes (keyword words.Edge) h own e = head_as (keyword words.Edge) (heads.Bare bares.Edge) h e refl tt
 head_takes (keyword words.NotYet) h own e = head_as (keyword words.NotYet) (heads.Bare bares.NotYet) h e refl tt
+head_takes (keyword words.Once) h own e = head_as (keyword words.Once) (heads.Bare bares.Once) h e refl tt
 head_takes (keyword words.Count) h own e = head_as (keyword words.Count) (heads.Bare bares.Count) h e refl tt
 head_takes (keyword words.Pre) h own e = head_as (keyword words.Pre) (heads.Bare bares.Pre) h e refl tt
 head_takes (keyword words.Constant) h own e = head_as (keyword words.Constant) (heads.WithValue values.Constant) h e refl refl
+head_takes (keyword words.Initially) h own e = head_as (keyword words.Initially) (heads.WithValue values.Initially) h e refl refl
 head_takes (keyword words.IPre) h own e = head_as (keyword words.IPre) (heads.WithValue values.InitialPre) h e refl refl
 head_takes (keyword words.Now) h own e = head_as (keyword words.Now) (heads.WithValue values.Now) h e refl refl
+head_takes (keyword words.IEdge) h own e = head_as (keyword words.IEdge) (heads.WithValue values.InitialEdge) h e refl refl
+head_takes (keyword words.EdgeTag) h own e = head_as (keyword words.EdgeTag) (heads.WithValue values.EdgeTag) h e refl refl
 head_takes (keyword words.Hold) h own e = head_as (keyword words.Hold) (heads.WithValue values.Hold) h e refl refl
+head_takes (keyword words.DHold) h own e = head_as (keyword words.DHold) (heads.WithValue values.DelayedHold) h e refl refl
 head_takes (keyword words.After) h own e = head_as (keyword words.After) (heads.Timed timings.After) h e refl tt
+head_takes (keyword words.Repeatedly) h own e = head_as (keyword words.Repeatedly) (heads.Timed timings.Repeatedly) h e refl tt
+head_takes (keyword words.Delay) h own e = head_as (keyword words.Delay) (heads.Timed timings.Delay) h e refl tt
+head_takes (keyword words.TakeEvents) h own e = head_as (keyword words.TakeEvents) (heads.Selected selections.TakeEvents) h e refl tt
+head_takes (keyword words.DropEvents) h own e = head_as (keyword words.DropEvents) (heads.Selected selections.DropEvents) h e refl tt
 head_takes (keyword words.Never) h own e = head_as (keyword words.Never) heads.Never h e refl tt
 head_takes (keyword words.Arr) h own e = head_as (keyword words.Arr) heads.Arrow h e refl tt
 head_takes (keyword words.AccumBy) h own e = head_as (keyword words.AccumBy) (heads.Accumulated accumulations.AccumBy) h e refl tt
@@ -151,6 +172,7 @@ head_takes (keyword words.First) h own e = head_as (keyword words.First) (heads.
 head_takes (keyword words.Second) h own e = head_as (keyword words.Second) (heads.Sided sides.Second) h e refl tt
 head_takes (keyword words.LoopPre) h own e = head_as (keyword words.LoopPre) (heads.Headed headings.LoopPre) h e refl tt
 head_takes (symbol symbols.Initially) h own e = head_as (symbol symbols.Initially) (heads.Headed headings.Initialized) h e refl tt
+head_takes (symbol symbols.OnFirstInput) h own e = head_as (symbol symbols.OnFirstInput) (heads.Headed headings.Replaced) h e refl tt
 head_takes (keyword words.Switch) h own e = head_as (keyword words.Switch) (heads.Switching (switches.Basic observations.Immediate)) h e refl tt
 head_takes (keyword words.DSwitch) h own e = head_as (keyword words.DSwitch) (heads.Switching (switches.Basic observations.Delayed)) h e refl tt
 head_takes (keyword words.RSwitch) h own e = head_as (keyword words.RSwitch) (heads.Switching (switches.Recurring observations.Immediate)) h e refl tt
@@ -166,6 +188,7 @@ head_takes _ h own e = cc
 pub heading_begins : (v : Version) (h : Heading) (rest : List Tok) → head_at v (heading_token h ∷ rest) ≡ Some (heads.Headed h)
 heading_begins v headings.LoopPre rest = refl
 heading_begins v headings.Initialized rest = refl
+heading_begins v headings.Replaced rest = refl
 
 -- a process begins again where it is written to begin
 pub start_again : (v : Version) (w : Start) (k : Name) (rest : List Tok) → WritesStart v w → head_at v (naming_token (namings.Process w) ∷ name k ∷ rest) ≡ Some (heads.Named (namings.Process w))

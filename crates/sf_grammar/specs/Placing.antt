@@ -18,6 +18,7 @@ use Rattle.sf_expr.specs.Patterns.{PlacedPattern, placed_unnamed, placed_name, p
 use Rattle.sf_term.specs.declared.form.Bare.{Bare}
 use Rattle.sf_term.specs.declared.form.WithValue.{WithValue}
 use Rattle.sf_term.specs.declared.form.Timing.{Timing}
+use Rattle.sf_term.specs.declared.form.Selection.{Selection}
 use Rattle.sf_term.specs.declared.form.Accumulation.{Accumulation}
 use Rattle.sf_term.specs.declared.form.Join.{Join}
 use Rattle.sf_term.specs.declared.form.Side.{Side}
@@ -113,6 +114,7 @@ mutual
         → ExpressionPlaced v p e xs → TermPlaced v p id (at ∷ around opening xs comma (word ∷ []) closing)
     timed_placed : {id : TermId} {k : Timing} {q : ℤ} {e : ExprId} {xs : List Spot} {at : Spot} (time : Spot) → TermStands p id (nodes.Primitive (primitives.Timed k q e)) at
         → ExpressionPlaced v p e xs → TermPlaced v p id (at ∷ time ∷ xs)
+    selected_placed : {id : TermId} {k : Selection} {n : ℤ} {at : Spot} (number : Spot) → TermStands p id (nodes.Primitive (primitives.Selected k n)) at → TermPlaced v p id (at ∷ number ∷ [])
     arrow_placed : {id : TermId} {f : FunctionId} {xs : List Spot} {at : Spot} → TermStands p id (nodes.Primitive (primitives.Arrow f)) at
         → FunctionPlaced v p f xs → TermPlaced v p id (at ∷ xs)
     accumulated_placed : {id : TermId} {k : Accumulation} {e : ExprId} {f : FunctionId} {xs ys : List Spot} {at : Spot} (opening comma closing : Spot) → TermStands p id (nodes.Primitive (primitives.Accumulated k e f)) at

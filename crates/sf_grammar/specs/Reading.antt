@@ -22,6 +22,8 @@ use Rattle.sf_term.specs.declared.form.WithValue.{WithValue}
 use Rattle.sf_term.specs.declared.form.WithValue.TheVariants as values
 use Rattle.sf_term.specs.declared.form.Timing.{Timing}
 use Rattle.sf_term.specs.declared.form.Timing.TheVariants as timings
+use Rattle.sf_term.specs.declared.form.Selection.{Selection}
+use Rattle.sf_term.specs.declared.form.Selection.TheVariants as selections
 use Rattle.sf_term.specs.declared.form.Accumulation.{Accumulation}
 use Rattle.sf_term.specs.declared.form.Accumulation.TheVariants as accumulations
 use Rattle.sf_term.specs.declared.form.Join.{Join}
@@ -38,7 +40,7 @@ use Rattle.sf_term.specs.declared.form.Start.TheVariants as starts
 use Rattle.sf_term.specs.declared.form.Naming.{Naming}
 use Rattle.sf_term.specs.declared.form.Naming.TheVariants as namings
 use Rattle.sf_term.specs.Parameters.{NameKind, value as value_kind, process as process_kind, Bindings}
-use Rattle.sf_term.specs.Trees.{Term, primitive, reference, joined, sided, switching, keeping, call, named_term, Arguments, no_arguments, value_argument, process_argument, bare, never, with_value, timed, arrow, accumulated, Template, terms_in, expressions_in}
+use Rattle.sf_term.specs.Trees.{Term, primitive, reference, joined, sided, switching, keeping, call, named_term, Arguments, no_arguments, value_argument, process_argument, bare, never, with_value, timed, selected, arrow, accumulated, Template, terms_in, expressions_in}
 use Rattle.sf_lex.specs.declared.word.Keyword.{Keyword}
 use Rattle.sf_lex.specs.declared.word.Keyword.TheVariants as words
 use Rattle.sf_lex.specs.declared.symbol.Symbol.{Symbol}
@@ -480,13 +482,22 @@ head_of (keyword words.LocalTime) = Some (heads.Bare bares.LocalTime)
 head_of (keyword words.Integral) = Some (heads.Bare bares.Integral)
 head_of (keyword words.Edge) = Some (heads.Bare bares.Edge)
 head_of (keyword words.NotYet) = Some (heads.Bare bares.NotYet)
+head_of (keyword words.Once) = Some (heads.Bare bares.Once)
 head_of (keyword words.Count) = Some (heads.Bare bares.Count)
 head_of (keyword words.Pre) = Some (heads.Bare bares.Pre)
 head_of (keyword words.Constant) = Some (heads.WithValue values.Constant)
+head_of (keyword words.Initially) = Some (heads.WithValue values.Initially)
 head_of (keyword words.IPre) = Some (heads.WithValue values.InitialPre)
 head_of (keyword words.Now) = Some (heads.WithValue values.Now)
+head_of (keyword words.IEdge) = Some (heads.WithValue values.InitialEdge)
+head_of (keyword words.EdgeTag) = Some (heads.WithValue values.EdgeTag)
 head_of (keyword words.Hold) = Some (heads.WithValue values.Hold)
+head_of (keyword words.DHold) = Some (heads.WithValue values.DelayedHold)
 head_of (keyword words.After) = Some (heads.Timed timings.After)
+head_of (keyword words.Repeatedly) = Some (heads.Timed timings.Repeatedly)
+head_of (keyword words.Delay) = Some (heads.Timed timings.Delay)
+head_of (keyword words.TakeEvents) = Some (heads.Selected selections.TakeEvents)
+head_of (keyword words.DropEvents) = Some (heads.Selected selections.DropEvents)
 head_of (keyword words.Never) = Some heads.Never
 head_of (keyword words.Arr) = Some heads.Arrow
 head_of (keyword words.AccumBy) = Some (heads.Accumulated accumulations.AccumBy)
@@ -497,6 +508,7 @@ head_of (keyword words.Second) = Some (heads.Sided sides.Second)
 head_of (keyword words.LoopPre) = Some (heads.Headed headings.LoopPre)
 head_of (symbol symbols.Open) = Some heads.Joined
 head_of (symbol symbols.Initially) = Some (heads.Headed headings.Initialized)
+head_of (symbol symbols.OnFirstInput) = Some (heads.Headed headings.Replaced)
 head_of (keyword words.Switch) = Some (heads.Switching (switches.Basic observations.Immediate))
 head_of (keyword words.DSwitch) = Some (heads.Switching (switches.Basic observations.Delayed))
 head_of (keyword words.RSwitch) = Some (heads.Switching (switches.Recurring observations.Immediate))
@@ -540,6 +552,10 @@ parse_never left v c start tokens = parse_inner_type left v tokens 0 tokens and_
 -- behind the word of a primitive with a time and a value
 unfoldable pub parse_timed : ℕ → Version → Counts → Timing → List Tok → List Tok → Read Term
 parse_timed left v c k start tokens = parse_number tokens and_then λ q rest. parse_expression left v c rest and_then λ e behind. term_read c (primitive (timed k q e)) start behind
+
+-- behind the word of a primitive with a number of events
+unfoldable pub parse_selected : Counts → Selection → List Tok → List Tok → Read Term
+parse_selected c k start tokens = parse_number tokens and_then λ n rest. term_read c (primitive (selected k n)) start rest
 
 -- behind `arr`
 unfoldable pub parse_arrow : ℕ → Version → Counts → List Tok → List Tok → Read Term
@@ -650,6 +666,7 @@ abbrev pub parse_behind_head : ℕ → Version → (Counts → List Tok → Read
 parse_behind_head left v part c (Some (heads.Bare b)) start tokens = term_read c (primitive (bare b)) start tokens
 parse_behind_head left v part c (Some (heads.WithValue k)) start tokens = parse_value left v c k start tokens
 parse_behind_head left v part c (Some (heads.Timed k)) start tokens = parse_timed left v c k start tokens
+parse_behind_head left v part c (Some (heads.Selected k)) start tokens = parse_selected c k start tokens
 parse_behind_head left v part c (Some heads.Never) start tokens = parse_never left v c start tokens
 parse_behind_head left v part c (Some heads.Arrow) start tokens = parse_arrow left v c start tokens
 parse_behind_head left v part c (Some (heads.Accumulated k)) start tokens = parse_accumulated left v c k start tokens

@@ -22,6 +22,8 @@ use Rattle.sf_term.specs.declared.form.WithValue.{WithValue}
 use Rattle.sf_term.specs.declared.form.WithValue.TheVariants as values
 use Rattle.sf_term.specs.declared.form.Timing.{Timing}
 use Rattle.sf_term.specs.declared.form.Timing.TheVariants as timings
+use Rattle.sf_term.specs.declared.form.Selection.{Selection}
+use Rattle.sf_term.specs.declared.form.Selection.TheVariants as selections
 use Rattle.sf_term.specs.declared.form.Accumulation.{Accumulation}
 use Rattle.sf_term.specs.declared.form.Accumulation.TheVariants as accumulations
 use Rattle.sf_term.specs.declared.form.Join.{Join}
@@ -39,7 +41,7 @@ use Rattle.sf_term.specs.declared.form.Start.TheVariants as starts
 use Rattle.sf_term.specs.declared.form.Naming.{Naming}
 use Rattle.sf_term.specs.declared.form.Naming.TheVariants as namings
 use Rattle.sf_term.specs.Parameters.{NameKind, value as value_kind, process as process_kind}
-use Rattle.sf_term.specs.Trees.{bare, probe, never, with_value, timed, arrow, accumulated, fused, Term, primitive, reference, joined, sided, headed, switching, keeping, staged, Reference, started, call, Arguments, no_arguments, value_argument, process_argument, closed_argument, Template, Templates, term_depth, terms_in, expressions_in}
+use Rattle.sf_term.specs.Trees.{bare, probe, never, with_value, timed, selected, arrow, accumulated, fused, Term, primitive, reference, joined, sided, headed, switching, keeping, staged, Reference, started, call, Arguments, no_arguments, value_argument, process_argument, closed_argument, Template, Templates, term_depth, terms_in, expressions_in}
 use Rattle.sf_lex.specs.declared.word.Keyword.{Keyword}
 use Rattle.sf_lex.specs.declared.word.Keyword.TheVariants as words
 use Rattle.sf_lex.specs.declared.symbol.Symbol.{Symbol}
@@ -56,28 +58,44 @@ bare_word bares.LocalTime = words.LocalTime
 bare_word bares.Integral = words.Integral
 bare_word bares.Edge = words.Edge
 bare_word bares.NotYet = words.NotYet
+bare_word bares.Once = words.Once
 bare_word bares.Count = words.Count
 bare_word bares.Pre = words.Pre
 
 -- the word of a primitive with a value
 abbrev pub value_word : WithValue → Keyword
 value_word values.Constant = words.Constant
+value_word values.Initially = words.Initially
 value_word values.InitialPre = words.IPre
 value_word values.InitializedPre = words.Pre
 value_word values.Now = words.Now
+value_word values.InitialEdge = words.IEdge
+value_word values.EdgeTag = words.EdgeTag
 value_word values.Hold = words.Hold
+value_word values.DelayedHold = words.DHold
 
 -- whether the value stands in front of that word, in brackets behind `-->`; else it stands behind the word
 abbrev pub stands_initially : WithValue → Bool
 stands_initially values.Constant = false
+stands_initially values.Initially = false
 stands_initially values.InitialPre = false
 stands_initially values.InitializedPre = true
 stands_initially values.Now = false
+stands_initially values.InitialEdge = false
+stands_initially values.EdgeTag = false
 stands_initially values.Hold = false
+stands_initially values.DelayedHold = false
 
 -- the word of a primitive with a time and a value
 abbrev pub timing_word : Timing → Keyword
 timing_word timings.After = words.After
+timing_word timings.Repeatedly = words.Repeatedly
+timing_word timings.Delay = words.Delay
+
+-- the word of a primitive with a number of events
+abbrev pub selection_word : Selection → Keyword
+selection_word selections.TakeEvents = words.TakeEvents
+selection_word selections.DropEvents = words.DropEvents
 
 -- the word of a primitive with a value and a function
 abbrev pub accumulation_word : Accumulation → Keyword
@@ -100,6 +118,7 @@ side_word sides.Second = words.Second
 abbrev pub heading_token : Heading → Tok
 heading_token headings.LoopPre = keyword words.LoopPre
 heading_token headings.Initialized = symbol symbols.Initially
+heading_token headings.Replaced = symbol symbols.OnFirstInput
 
 -- the word of a term that gives way to another
 abbrev pub switching_word : Switching → Keyword
@@ -301,6 +320,7 @@ abbrev mutual
   spell_term v (primitive (never t)) = keyword words.Never ∷ spell_type v t
   spell_term v (primitive (with_value k e)) = spell_value (stands_initially k) (value_word k) (spell_expression v e)
   spell_term v (primitive (timed k q e)) = keyword (timing_word k) ∷ number q ∷ spell_expression v e
+  spell_term v (primitive (selected k n)) = keyword (selection_word k) ∷ number n ∷ []
   spell_term v (primitive (arrow f)) = keyword words.Arr ∷ spell_function v f
   spell_term v (primitive (accumulated k e f)) = keyword (accumulation_word k) ∷ in_brackets (spell_expression v e) (symbol symbols.Comma) (spell_function v f)
   spell_term v (primitive (fused f)) = []

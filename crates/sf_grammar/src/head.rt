@@ -6,8 +6,8 @@ ghost use Rattle.sf_grammar.specs.Reading.{expression_head, head_of, join_of, li
 use sf_expr::{Arithmetic, Comparison, Equality, Folding, Logic, Mapping, Merge, Operator, Unary};
 use sf_lex::{Keyword, Symbol, Token};
 use sf_term::{
-    Accumulation, Bare, Heading, Join, Naming, Observation, Side, Start, Switching, Timing,
-    WithValue,
+    Accumulation, Bare, Heading, Join, Naming, Observation, Selection, Side, Start, Switching,
+    Timing, WithValue,
 };
 
 /// A form by its first token, by its shape.
@@ -19,6 +19,8 @@ pub enum Head {
     WithValue(WithValue),
     /// A word, and behind it a number and an expression.
     Timed(Timing),
+    /// A word, and a number behind it.
+    Selected(Selection),
     /// `never`, and a type behind it.
     Never,
     /// A word, and a function behind it.
@@ -85,13 +87,22 @@ pub fn head_of(token: &Token) -> Option<Head>
         Token::Keyword(Keyword::Integral) => Some(Head::Bare(Bare::Integral)),
         Token::Keyword(Keyword::Edge) => Some(Head::Bare(Bare::Edge)),
         Token::Keyword(Keyword::NotYet) => Some(Head::Bare(Bare::NotYet)),
+        Token::Keyword(Keyword::Once) => Some(Head::Bare(Bare::Once)),
         Token::Keyword(Keyword::Count) => Some(Head::Bare(Bare::Count)),
         Token::Keyword(Keyword::Pre) => Some(Head::Bare(Bare::Pre)),
         Token::Keyword(Keyword::Constant) => Some(Head::WithValue(WithValue::Constant)),
+        Token::Keyword(Keyword::Initially) => Some(Head::WithValue(WithValue::Initially)),
         Token::Keyword(Keyword::IPre) => Some(Head::WithValue(WithValue::InitialPre)),
         Token::Keyword(Keyword::Now) => Some(Head::WithValue(WithValue::Now)),
+        Token::Keyword(Keyword::IEdge) => Some(Head::WithValue(WithValue::InitialEdge)),
+        Token::Keyword(Keyword::EdgeTag) => Some(Head::WithValue(WithValue::EdgeTag)),
         Token::Keyword(Keyword::Hold) => Some(Head::WithValue(WithValue::Hold)),
+        Token::Keyword(Keyword::DHold) => Some(Head::WithValue(WithValue::DelayedHold)),
         Token::Keyword(Keyword::After) => Some(Head::Timed(Timing::After)),
+        Token::Keyword(Keyword::Repeatedly) => Some(Head::Timed(Timing::Repeatedly)),
+        Token::Keyword(Keyword::Delay) => Some(Head::Timed(Timing::Delay)),
+        Token::Keyword(Keyword::TakeEvents) => Some(Head::Selected(Selection::TakeEvents)),
+        Token::Keyword(Keyword::DropEvents) => Some(Head::Selected(Selection::DropEvents)),
         Token::Keyword(Keyword::Never) => Some(Head::Never),
         Token::Keyword(Keyword::Arr) => Some(Head::Arrow),
         Token::Keyword(Keyword::AccumBy) => Some(Head::Accumulated(Accumulation::AccumBy)),
@@ -102,6 +113,7 @@ pub fn head_of(token: &Token) -> Option<Head>
         Token::Keyword(Keyword::Second) => Some(Head::Sided(Side::Second)),
         Token::Keyword(Keyword::LoopPre) => Some(Head::Headed(Heading::LoopPre)),
         Token::Symbol(Symbol::Initially) => Some(Head::Headed(Heading::Initialized)),
+        Token::Symbol(Symbol::OnFirstInput) => Some(Head::Headed(Heading::Replaced)),
         Token::Keyword(Keyword::Switch) => Some(Head::Switching(Switching::Basic(
             Observation::Immediate,
         ))),

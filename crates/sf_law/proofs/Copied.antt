@@ -21,6 +21,7 @@ use Rattle.sf_term.specs.declared.node.Node.TheVariants as ast
 use Rattle.sf_term.specs.declared.node.Primitive.{Primitive}
 use Rattle.sf_term.specs.declared.node.Primitive.TheVariants as ast_primitives
 use Rattle.sf_term.specs.declared.form.Timing.{Timing}
+use Rattle.sf_term.specs.declared.form.Selection.{Selection}
 use Rattle.sf_code.specs.declared.open.OpenCode.{OpenCode}
 use Rattle.sf_term.specs.declared.program.Program.{Program}
 use Rattle.sf_term.specs.Trees.{Term, Template, Templates, Arguments, value_argument, process_argument, primitive, reference, started, call, probe, joined, sided, headed, never, switching, keeping, with_value, timed, arrow, accumulated}
@@ -39,12 +40,15 @@ use Rattle.sf_law.specs.declared.plan.Plan.{Plan}
 use Rattle.sf_law.specs.Headers.{ParameterHeader, PlanHeader}
 use Rattle.sf_law.specs.Entries.{primitive_over, closed_before, arguments_end, parts_end, is_whole}
 use Rattle.sf_law.specs.Arena.{plan_expressions, node_count, plan_tree, plan_headers, plan_binding, plan_template, plan_arguments, network_of_plan, BuildsPlan, builds_primitive, builds_started, builds_probe, builds_call, builds_joined, builds_sided, builds_headed, builds_switching, builds_keeping, KeepsPlan, AddsNode}
-use Rattle.sf_law.specs.Copies.{plan_id, named_process, CopiesArgument, copies_value, copies_started, copies_closed, CopiesPrimitive, copies_bare, copies_never, copies_with_value, copies_timed, copies_accumulated, copies_arrow, CopiesNode, copies_primitive, copies_process, copies_probe, copies_call, copies_joined, copies_sided, copies_headed, copies_switching, copies_keeping, CopiesParameter, CopiesTemplate, ShowsTerms}
+use Rattle.sf_law.specs.Copies.{plan_id, named_process, CopiesArgument, copies_value, copies_started, copies_closed, CopiesPrimitive, copies_bare, copies_never, copies_with_value, copies_timed, copies_selected, copies_accumulated, copies_arrow, CopiesNode, copies_primitive, copies_process, copies_probe, copies_call, copies_joined, copies_sided, copies_headed, copies_switching, copies_keeping, CopiesParameter, CopiesTemplate, ShowsTerms}
 use Rattle.sf_law.proofs.Kept.{tree_past}
 
 -- a primitive with an equal time is copied
 pub timed_copied : {k : Timing} {q z : ℤ} {e : ExprId} {c : OpenCode} → z ≡ q → CopiesPrimitive (ast_primitives.Timed k q e) (plan_primitives.Timed k z e c)
 timed_copied {k} {q} {z} {e} {c} is = subst (λ (z : ℤ). CopiesPrimitive (ast_primitives.Timed k q e) (plan_primitives.Timed k z e c)) (sym is) copies_timed
+
+pub selected_copied : {k : Selection} {n z : ℤ} → z ≡ n → CopiesPrimitive (ast_primitives.Selected k n) (plan_primitives.Selected k z)
+selected_copied {k} {n} {z} is = subst (λ (z : ℤ). CopiesPrimitive (ast_primitives.Selected k n) (plan_primitives.Selected k z)) (sym is) copies_selected
 
 -- a plan shows a program's terms below a number
 abbrev pub ShowsBelow : Program → Plan → ℕ → Type 0
@@ -106,6 +110,7 @@ module _ (p : Program) where
   closed_node (ast.Primitive (ast_primitives.Never n)) vs h = refl
   closed_node (ast.Primitive (ast_primitives.WithValue k e)) vs h = refl
   closed_node (ast.Primitive (ast_primitives.Timed k q e)) vs h = refl
+  closed_node (ast.Primitive (ast_primitives.Selected k n)) vs h = refl
   closed_node (ast.Primitive (ast_primitives.Arrow f)) vs h = refl
   closed_node (ast.Primitive (ast_primitives.Accumulated k e f)) vs h = refl
   closed_node (ast.Named (Process w) j s) vs h = absurd cc
@@ -141,6 +146,7 @@ module _ (p : Program) (q : Plan) (kept : Keeps (program_expressions p) (plan_ex
   same_primitive _ _ (copies_never {n}) h = ap (λ l. primitive (never (absent_payload l))) (kept.constants n h)
   same_primitive _ _ (copies_with_value {k} {e}) h = ap (λ v. primitive (with_value k v)) (value_same e h)
   same_primitive _ _ (copies_timed {k} {q} {e}) h = ap (λ v. primitive (timed k q v)) (value_same e h)
+  same_primitive _ _ copies_selected h = refl
   same_primitive _ _ (copies_accumulated {k} {e} {f = f}) h = ap₂ (λ v g. primitive (accumulated k v g)) (value_same e h.0) (function_same f h.1)
   same_primitive _ _ (copies_arrow {f}) h = ap (λ v. primitive (arrow v)) (function_same f h)
 

@@ -6,3 +6,5 @@ pub mod Called
 pub mod Rebodied
 mod Numbers
 mod Located
+pub mod Naming
+mod Covering

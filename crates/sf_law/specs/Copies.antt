@@ -14,6 +14,7 @@ use Rattle.sf_expr.specs.Arena.{HoldsName, HoldsPattern, name_at, placed_at}
 use Rattle.sf_term.specs.declared.form.Bare.{Bare}
 use Rattle.sf_term.specs.declared.form.WithValue.{WithValue}
 use Rattle.sf_term.specs.declared.form.Timing.{Timing}
+use Rattle.sf_term.specs.declared.form.Selection.{Selection}
 use Rattle.sf_term.specs.declared.form.Accumulation.{Accumulation}
 use Rattle.sf_term.specs.declared.form.Join.{Join}
 use Rattle.sf_term.specs.declared.form.Side.{Side}
@@ -57,6 +58,7 @@ pub data CopiesPrimitive : Primitive → PlanPrimitive → Type 0 where
   copies_never : {n : ConstantId} → CopiesPrimitive (primitives.Never n) (plan_primitives.Never n)
   copies_with_value : {k : WithValue} {e : ExprId} {c : OpenCode} → CopiesPrimitive (primitives.WithValue k e) (plan_primitives.WithValue k e c)
   copies_timed : {k : Timing} {q : ℤ} {e : ExprId} {c : OpenCode} → CopiesPrimitive (primitives.Timed k q e) (plan_primitives.Timed k q e c)
+  copies_selected : {k : Selection} {n : ℤ} → CopiesPrimitive (primitives.Selected k n) (plan_primitives.Selected k n)
   copies_accumulated : {k : Accumulation} {e : ExprId} {d : OpenCode} {f : FunctionId} {c : Rc OpenCode Global} → CopiesPrimitive (primitives.Accumulated k e f) (plan_primitives.Accumulated k e d f c)
   copies_arrow : {f : FunctionId} {c : Rc OpenCode Global} → CopiesPrimitive (primitives.Arrow f) (plan_primitives.Arrow f c)
 

@@ -13,7 +13,7 @@ use Rattle.sf_term.specs.declared.form.Start.TheVariants.{Run, Fresh}
 use Rattle.sf_code.specs.declared.open.OpenCode.{OpenCode}
 use Rattle.sf_code.specs.Worth.{IsCodeOf, IsCodeOfFunction}
 use Rattle.sf_term.specs.Entries.{identity_term, absent_payload, term_among}
-use Rattle.sf_term.specs.Trees.{Chain, lone, chained, on_side, on_both, fanned, fused, Extent, whole, rest, Primitive, Term, primitive, reference, started, call, probe, Arguments, no_arguments, value_argument, process_argument, closed_argument, joined, sided, headed, switching, keeping, staged, bare, never, with_value, timed, arrow, accumulated}
+use Rattle.sf_term.specs.Trees.{Chain, lone, chained, on_side, on_both, fanned, fused, Extent, whole, rest, Primitive, Term, primitive, reference, started, call, probe, Arguments, no_arguments, value_argument, process_argument, closed_argument, joined, sided, headed, switching, keeping, staged, bare, never, with_value, timed, selected, arrow, accumulated}
 use Rattle.sf_law.specs.declared.node.PlanId.{PlanId}
 use Rattle.sf_law.specs.declared.node.PlanArgument.{PlanArgument}
 use Rattle.sf_law.specs.declared.node.PlanArgument.TheVariants as arguments
@@ -57,6 +57,7 @@ primitive_over x (primitives.Bare k) = bare k
 primitive_over x (primitives.Never n) = never (absent_payload (literal_at x n))
 primitive_over x (primitives.WithValue k e c) = with_value k (expression x e)
 primitive_over x (primitives.Timed k q e c) = timed k q (expression x e)
+primitive_over x (primitives.Selected k n) = selected k n
 primitive_over x (primitives.Arrow f c) = arrow (function_at x f)
 primitive_over x (primitives.Fused r) = fused (chain_over x r.value)
 primitive_over x (primitives.Accumulated k e d f c) = accumulated k (expression x e) (function_at x f)
@@ -67,6 +68,7 @@ IsCodedPrimitive x (primitives.Bare k) = ⊤
 IsCodedPrimitive x (primitives.Never n) = ⊤
 IsCodedPrimitive x (primitives.WithValue k e c) = IsCodeOf (expression x e) c
 IsCodedPrimitive x (primitives.Timed k q e c) = IsCodeOf (expression x e) c
+IsCodedPrimitive x (primitives.Selected k n) = ⊤
 IsCodedPrimitive x (primitives.Arrow f c) = IsCodeOfFunction (function_at x f) c.value
 IsCodedPrimitive x (primitives.Fused r) = IsCodedChain x r.value
 IsCodedPrimitive x (primitives.Accumulated k e d f c) = IsCodeOf (expression x e) d × IsCodeOfFunction (function_at x f) c.value

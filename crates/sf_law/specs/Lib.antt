@@ -5,3 +5,5 @@ pub mod Unique
 pub mod Arena
 pub mod Copies
 pub mod Plans
+pub mod Mentioned
+pub mod Mentioning

@@ -1,5 +1,5 @@
 -- That a node is coded has one proof at most, so a plan can keep it.
-use Rattle.std.specs.Prelude.{◌≡◌, ℕ, refl, Result, Ok, Err, Option, List, [], ◌∷◌, slice_index_or}
+use Rattle.std.specs.Prelude.{◌≡◌, ℕ, Bool, true, refl, Result, Ok, Err, Option, List, [], ◌∷◌, slice_index_or}
 use Rattle.std.specs.BTreeMap.{BTreeMap, get_by_text}
 use Rattle.std.specs.declared.alloc.Global.{Global}
 use Rattle.std.specs.declared.string.String.{String}
@@ -18,7 +18,9 @@ use Rattle.sf_expr.specs.declared.exprs.Exprs.{Exprs}
 use Rattle.sf_code.specs.declared.open.OpenCode.{OpenCode}
 use Rattle.sf_code.specs.CodeView.{code_of}
 use Rattle.sf_code.specs.Running.{run}
-use Rattle.sf_code.specs.Worth.{frame_around, IsCodeOf, IsCodeOfFunction}
+use Rattle.sf_code.specs.Compiling.{is_closed}
+use Rattle.sf_code.specs.PlaceView.{around_pattern}
+use Rattle.sf_code.specs.Worth.{frame_around, is_closed_within, IsCodeOf, IsCodeOfFunction}
 use Rattle.sf_law.specs.declared.node.PlanArgument.{PlanArgument}
 use Rattle.sf_law.specs.declared.node.PlanArgument.TheVariants as arguments
 use Rattle.sf_law.specs.declared.node.PlanChain.{PlanChain}
@@ -64,11 +66,14 @@ pattern-set = Coded-set (code_by PlacedPattern placed.the_row.coded placed_nowhe
 pub BindsNames-prop : (x : Exprs) (h : PlanHeader) → IsProp (BindsNames x h)
 BindsNames-prop x h = λ a b i n d l. let q : ParameterHeader = slice_index_or h.parameters n d in pattern-set (pattern_of (placed_at x q.pattern)) (named (name_at x q.name)) (a n d l) (b n d l) i
 
+truth-set : (a b : Bool) → IsProp (a ≡ b)
+truth-set = Coded-set (Prim.hlevel codes)
+
 IsCodeOf-prop : (e : Expression) (c : OpenCode) → IsProp (IsCodeOf e c)
-IsCodeOf-prop e c a b = λ i. record { worth = λ s. evaluated-set (run (code_of c.code) (frame_around c.around s) (functions_in s)) (eval e s) (a.worth s) (b.worth s) i }
+IsCodeOf-prop e c a b = λ i. record { closed = truth-set (is_closed (around_pattern c.around) e) true a.closed b.closed i; worth = λ s. evaluated-set (run (code_of c.code) (frame_around c.around s) (functions_in s)) (eval e s) (a.worth s) (b.worth s) i }
 
 IsCodeOfFunction-prop : (g : Function) (c : OpenCode) → IsProp (IsCodeOfFunction g c)
-IsCodeOfFunction-prop g c a b = λ i. record { worth = λ s d. evaluated-set (run (code_of c.code) (d ∷ frame_around c.around s) (functions_in s)) (apply g d s) (a.worth s d) (b.worth s d) i }
+IsCodeOfFunction-prop g c a b = λ i. record { closed = truth-set (is_closed_within (around_pattern c.around) g) true a.closed b.closed i; worth = λ s d. evaluated-set (run (code_of c.code) (d ∷ frame_around c.around s) (functions_in s)) (apply g d s) (a.worth s d) (b.worth s d) i }
 
 IsCodedChain-prop : (x : Exprs) (c : PlanChain) → IsProp (IsCodedChain x c)
 IsCodedChain-prop x (chains.Lone f c) = IsCodeOfFunction-prop (function_at x f) c.value
@@ -82,6 +87,7 @@ IsCodedPrimitive-prop x (primitives.Bare k) = Unit-prop
 IsCodedPrimitive-prop x (primitives.Never n) = Unit-prop
 IsCodedPrimitive-prop x (primitives.WithValue k e c) = IsCodeOf-prop (expression x e) c
 IsCodedPrimitive-prop x (primitives.Timed k q e c) = IsCodeOf-prop (expression x e) c
+IsCodedPrimitive-prop x (primitives.Selected k n) = Unit-prop
 IsCodedPrimitive-prop x (primitives.Arrow f c) = IsCodeOfFunction-prop (function_at x f) c.value
 IsCodedPrimitive-prop x (primitives.Fused r) = IsCodedChain-prop x r.value
 IsCodedPrimitive-prop x (primitives.Accumulated k e d f c) = λ a b i. (IsCodeOf-prop (expression x e) d a.0 b.0 i, IsCodeOfFunction-prop (function_at x f) c.value a.1 b.1 i)

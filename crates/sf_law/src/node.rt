@@ -6,7 +6,8 @@ ghost use Rattle.sf_law.specs.Entries.{argument_within, is_within};
 use sf_code::OpenCode;
 use sf_expr::{ConstantId, ExprId, FunctionId, NameId, PatternId};
 use sf_term::{
-    Accumulation, Bare, Heading, Join, Observation, Side, Start, Switching, Timing, WithValue,
+    Accumulation, Bare, Heading, Join, Observation, Selection, Side, Start, Switching, Timing,
+    WithValue,
 };
 use std::rc::Rc;
 
@@ -77,6 +78,8 @@ pub enum PlanPrimitive {
     WithValue(WithValue, ExprId, OpenCode),
     /// One with a time and an expression.
     Timed(Timing, i64, ExprId, OpenCode),
+    /// One with a number of events.
+    Selected(Selection, i64),
     /// `arr`, with its function. Whatever lives by it shares the code.
     Arrow(FunctionId, Rc<OpenCode>),
     /// `arr`, with functions that are made into one.

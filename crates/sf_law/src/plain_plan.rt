@@ -32,7 +32,10 @@ pub fn plain(alloc: Global, checked: &Checked) -> Result<Plan, AllocError>
     let program = checked.program();
     let empty = empty_plan(alloc, program)?;
     let plan = with_terms(alloc, empty, program)?;
-    Ok(plan.with_main(plan_id(checked.main())))
+    let listed = plan
+        .with_main(plan_id(checked.main()))
+        .with_mentions(alloc)?;
+    Ok(listed)
 }
 
 /// A plan with the expressions and the templates of a program, and no term yet.
@@ -294,6 +297,7 @@ pub fn plan_primitive(
             let code = expression_code(alloc, exprs, value)?;
             Ok(PlanPrimitive::Timed(form, time, value, code))
         }
+        Primitive::Selected(form, count) => Ok(PlanPrimitive::Selected(form, count)),
         Primitive::Arrow(function) => {
             let code = shared_code(alloc, exprs, function)?;
             Ok(PlanPrimitive::Arrow(function, code))

@@ -4,13 +4,16 @@ ghost use Rattle.sf_term.specs.declared.form.Bare.TheVariants.{Identity as ident
 ghost use Rattle.sf_law.specs.declared.node.PlanPrimitive.TheVariants.{Bare as bare_node};
 ghost use Rattle.sf_law.specs.declared.node.PlanNode.TheVariants.{Primitive as primitive_node};
 ghost use Rattle.sf_term.specs.Trees.{primitive, bare};
-ghost use Rattle.std.specs.Prelude.{map};
+ghost use Rattle.std.specs.Prelude.{map, length, option_map};
 ghost use Rattle.sf_law.specs.Headers.{place_named, rebodied, NumbersFirst, no_header};
 ghost use Rattle.sf_law.specs.Places.{last_parameter, names_of_parameters, ArePlaces};
+ghost use Rattle.sf_law.specs.Mentioned.{AreCovered, MayCover};
 ghost use Rattle.sf_law.specs.Entries.{ArePlanNodes, AreWithin, BindsNames, IsCoded, is_whole, is_within, calls_first, parts_end};
 ghost use Rattle.sf_law.specs.Unique.{IsCoded-prop, BindsNames-prop, ArePlaces-prop};
 ghost use Rattle.std.proofs.Props.{props};
 
+use crate::mentioned::Mentioned;
+use crate::mentions::mentions_of;
 use crate::node::{PlanId, PlanNode, PlanPrimitive, TemplateId};
 use crate::places::{all_places, place_in};
 use crate::template::{PlanTemplate, first_templates, put_bodies};
@@ -30,10 +33,13 @@ pub struct Plan {
     places: Vec<BTreeMap<String, usize>>,
     main: PlanId,
     anew: bool,
+    mentions: Vec<Mentioned>,
     identity: PlanNode,
     absent: PlanTemplate,
     ghost arena: { ArePlanNodes expressions templates.items nodes.items } by { Prim.hlevel (props, IsCoded-prop) },
     ghost within: { AreWithin anew nodes.items },
+    ghost few: { length mentions.items ≤ length nodes.items },
+    ghost covered: { AreCovered expressions nodes.items mentions.items },
     ghost bound: { All (BindsNames expressions) templates.items } by { Prim.hlevel (props, BindsNames-prop) },
     ghost numbered: { NumbersFirst numbers templates.items },
     ghost placed: { ArePlaces expressions templates.items places.items } by { Prim.hlevel (props, ArePlaces-prop) },
@@ -51,6 +57,7 @@ impl Drop for Plan {
             places,
             main: _,
             anew: _,
+            mentions,
             identity,
             absent,
         } = self;
@@ -59,6 +66,7 @@ impl Drop for Plan {
         drop(templates);
         drop(numbers);
         drop(places);
+        drop(mentions);
         drop(identity);
         drop(absent);
     }
@@ -91,6 +99,7 @@ impl Plan {
             places,
             main: PlanId(0),
             anew: false,
+            mentions: Vec::new(alloc),
             identity: PlanNode::Primitive(PlanPrimitive::Bare(Bare::Identity)),
             absent: PlanTemplate::absent(alloc),
         })
@@ -162,6 +171,38 @@ impl Plan {
         let mut plan = self;
         put_bodies(&mut plan.templates, bodies, passing);
         plan
+    }
+
+    /// The plan with lists of what its terms mention. The error is a want of memory.
+    #[tactic(auto, unfolding(crate::specs::Arena::plan_tree))]
+    pub fn with_mentions(self, alloc: Global) -> Result<Plan, AllocError>
+        ensures main { IfOk result (λ plan. plan_main plan ≡ plan_main self) }
+        ensures anew { IfOk result (λ plan. plan_anew plan ≡ plan_anew self) }
+        ensures trees { IfOk result (λ plan. (a : PlanIdOf) → plan_tree plan a ≡ plan_tree self a) }
+        ensures templates { IfOk result (λ plan. plan_headers plan ≡ plan_headers self) }
+        ensures expressions { IfOk result (λ plan. plan_expressions plan ≡ plan_expressions self) }
+    {
+        let mentions = mentions_of(alloc, &self)?;
+        let mut plan = self;
+        plan.mentions = mentions;
+        Ok(plan)
+    }
+
+    /// Names that a term mentions, with each that it does, where the plan lists them.
+    pub fn mentioned(&self, term: PlanId) -> Option<&Mentioned>
+        ensures { MayCover (option_map (λ m. m.now) result) (plan_tree self.now term) }
+    {
+        match self.mentions.get(term.0) {
+            Some(mentioned) => Some(mentioned),
+            None => None,
+        }
+    }
+
+    /// How many terms it holds.
+    pub(crate) fn count(&self) -> usize
+        ensures { result ≡ node_count self.now }
+    {
+        self.nodes.len()
     }
 
     /// The node at an id, with the ids of its parts; the identity at an id that the plan does not hold.

@@ -11,18 +11,19 @@ use Rattle.sf_expr.specs.Typing.{Names, typed_name, Fits, HasType, AddsNames, ad
 use Rattle.sf_expr.specs.Inference.{found_then, fitting, names_bound, expression_type, function_output}
 use Rattle.sf_expr.proofs.Inferred.{test_fits, fits_test, bound_found, found_bound, fitting_is, fitting_found, found_typed, typed_found, output_takes, takes_output}
 use Rattle.sf_term.specs.declared.form.Timing.{Timing}
+use Rattle.sf_term.specs.declared.form.Selection.{Selection}
 use Rattle.sf_term.specs.declared.form.Join.{Join}
 use Rattle.sf_term.specs.declared.form.Join.TheVariants.{InSequence, InParallel, FannedOut}
 use Rattle.sf_term.specs.declared.form.Side.{Side}
 use Rattle.sf_term.specs.declared.form.Side.TheVariants.{First, Second}
-use Rattle.sf_term.specs.declared.form.Heading.TheVariants.{LoopPre, Initialized}
-use Rattle.sf_term.specs.Trees.{Chain, lone, chained, on_side, on_both, fanned, Primitive, bare, probe, never, with_value, timed, arrow, accumulated, fused, Extent, Term, primitive, Reference, reference, started, call, Arguments, no_arguments, value_argument, process_argument, closed_argument, joined, sided, headed, switching, keeping, staged}
+use Rattle.sf_term.specs.declared.form.Heading.TheVariants.{LoopPre, Initialized, Replaced}
+use Rattle.sf_term.specs.Trees.{Chain, lone, chained, on_side, on_both, fanned, Primitive, bare, probe, never, with_value, timed, selected, arrow, accumulated, fused, Extent, Term, primitive, Reference, reference, started, call, Arguments, no_arguments, value_argument, process_argument, closed_argument, joined, sided, headed, switching, keeping, staged}
 use Rattle.sf_term.specs.Parameters.{NameKind, value, process, Bindings}
 use Rattle.sf_term.specs.declared.form.Observation.{Observation}
 use Rattle.sf_term.specs.declared.form.Start.{Start}
 use Rattle.sf_term.specs.declared.form.Switching.TheVariants.{Basic, Recurring}
 use Rattle.sf_mean.specs.Contexts.{Signature, signature_named, values_in, bindings_inside, Context, names_of_values, inside_pattern, inside_process, process_named}
-use Rattle.sf_mean.specs.Typing.{ChainTakes, lone_takes, chained_takes, on_first_takes, on_second_takes, on_both_takes, fanned_takes, bare_kind, value_kind, accumulated_argument, accumulated_kind, takes_time, timed_kind, PrimitiveTakes, bare_takes, probe_takes, never_takes, value_takes, timed_takes, accumulated_takes, arrow_takes, fused_takes, Takes, takes, FormTakes, primitive_takes, started_takes, call_takes, ArgumentsFit, no_argument_fits, value_fits, process_fits, closed_fits, sequence_takes, parallel_takes, fan_takes, first_takes, second_takes, loop_takes, initialized_takes, switch_takes, keeping_takes, recurring_takes, stages_take}
+use Rattle.sf_mean.specs.Typing.{ChainTakes, lone_takes, chained_takes, on_first_takes, on_second_takes, on_both_takes, fanned_takes, bare_kind, value_kind, accumulated_argument, accumulated_kind, takes_input, takes_time, timed_kind, takes_number, selected_kind, PrimitiveTakes, bare_takes, probe_takes, never_takes, value_takes, timed_takes, selected_takes, accumulated_takes, arrow_takes, fused_takes, Takes, takes, FormTakes, primitive_takes, started_takes, call_takes, ArgumentsFit, no_argument_fits, value_fits, process_fits, closed_fits, sequence_takes, parallel_takes, fan_takes, first_takes, second_takes, loop_takes, initialized_takes, replaced_takes, switch_takes, keeping_takes, recurring_takes, stages_take}
 use Rattle.sf_mean.specs.Inference.{Finds, both_outputs, join_output, side_output, first_beside, heading_output, body_output, switch_output, keeping_output, process_output, chain_output, primitive_output, with_fitting, is_found, value_is_argument, process_is_argument, call_output, form_output, reference_output, arguments_fit, term_output}
 
 -- ## Types of pairs
@@ -150,12 +151,19 @@ module _ {Γ : Context} where
 
   -- ## Primitives
 
-  timed_found : (k : Timing) (q : ℤ) (e : Expression) (v a b : Kind) → HasType (names_of_values Γ) e v → (t : Bool) → takes_time k q ≡ t → cond t (found_then (timed_kind k v) fitting) None ≡ Some b → PrimitiveTakes Γ (timed k q e) a b
-  timed_found k q e v a b E true h g =
+  timed_found : (k : Timing) (q : ℤ) (e : Expression) (v a b : Kind) → HasType (names_of_values Γ) e v → (i t : Bool) → takes_input k v a ≡ i → takes_time k q ≡ t → cond (i && t) (found_then (timed_kind k v) fitting) None ≡ Some b → PrimitiveTakes Γ (timed k q e) a b
+  timed_found k q e v a b E true true m h g =
       let made = found_is (timed_kind k v) fitting g in
       let fit = fitting_found made.0 b made.2 in
-      timed_takes E h (made.1 ∙ ap Some fit.is) (subst Fits fit.is fit.fits)
-  timed_found k q e v a b E false h g = absurd cc
+      timed_takes E m h (made.1 ∙ ap Some fit.is) (subst Fits fit.is fit.fits)
+  timed_found k q e v a b E true false m h g = absurd cc
+  timed_found k q e v a b E false t m h g = absurd cc
+
+  selected_found : (k : Selection) (n : ℤ) (a c b : Kind) → selected_kind a ≡ Some c → (t : Bool) → takes_number n ≡ t → cond t (fitting c) None ≡ Some b → PrimitiveTakes Γ (selected k n) a b
+  selected_found k n a c b h true g f =
+      let fit = fitting_found c b f in
+      selected_takes (h ∙ ap Some fit.is) g (subst Fits fit.is fit.fits)
+  selected_found k n a c b h false g f = absurd cc
 
   pub primitive_found : (p : Primitive) (a b : Kind) → primitive_output Γ p a ≡ Some b → PrimitiveTakes Γ p a b
   primitive_found (bare k) a b h =
@@ -175,8 +183,11 @@ module _ {Γ : Context} where
       value_takes (found_typed (names_of_values Γ) e given.0 given.1) (given.2 ∙ ap Some fit.is) (subst Fits fit.is fit.fits)
   primitive_found (arrow f) a b h = arrow_takes (output_takes (names_of_values Γ) f a b h)
   primitive_found (timed k q e) a b h =
-      let given = found_is (expression_type (names_of_values Γ) e) (λ v. cond (takes_time k q) (found_then (timed_kind k v) fitting) None) h in
-      timed_found k q e given.0 a b (found_typed (names_of_values Γ) e given.0 given.1) (takes_time k q) refl given.2
+      let given = found_is (expression_type (names_of_values Γ) e) (λ v. cond (takes_input k v a && takes_time k q) (found_then (timed_kind k v) fitting) None) h in
+      timed_found k q e given.0 a b (found_typed (names_of_values Γ) e given.0 given.1) (takes_input k given.0 a) (takes_time k q) refl refl given.2
+  primitive_found (selected k n) a b h =
+      let made = found_is (selected_kind a) (λ b. cond (takes_number n) (fitting b) None) h in
+      selected_found k n a made.0 b made.1 (takes_number n) refl made.2
   primitive_found (accumulated k e f) a b h =
       let R = names_of_values Γ in
       let given = found_is (expression_type R e) (λ v. found_then (accumulated_argument k v a) (λ c. found_then (function_output R f c) (λ u. found_then (accumulated_kind k v u) fitting))) h in
@@ -197,9 +208,11 @@ module _ {Γ : Context} where
   primitive_is (bare_takes {b = b} h f) = ap (λ o. found_then o fitting) h ∙ fitting_is b f
   primitive_is (value_takes {k = k} {a = a} {b = b} E h f) = ap (λ o. found_then (found_then o (λ v. value_kind k v a)) fitting) (typed_found E) ∙ ap (λ o. found_then o fitting) h ∙ fitting_is b f
   primitive_is (arrow_takes F) = takes_output F
-  primitive_is (timed_takes {k = k} {q = q} {v = v} {b = b} E h g f) =
-      ap (λ o. found_then o (λ v. cond (takes_time k q) (found_then (timed_kind k v) fitting) None)) (typed_found E)
-      ∙ ap (λ t. cond t (found_then (timed_kind k v) fitting) None) h ∙ ap (λ o. found_then o fitting) g ∙ fitting_is b f
+  primitive_is (timed_takes {k = k} {q = q} {v = v} {a = a} {b = b} E m h g f) =
+      ap (λ o. found_then o (λ v. cond (takes_input k v a && takes_time k q) (found_then (timed_kind k v) fitting) None)) (typed_found E)
+      ∙ ap₂ (λ i t. cond (i && t) (found_then (timed_kind k v) fitting) None) m h ∙ ap (λ o. found_then o fitting) g ∙ fitting_is b f
+  primitive_is (selected_takes {n = n} {b = b} h g f) =
+      ap (λ o. found_then o (λ b. cond (takes_number n) (fitting b) None)) h ∙ ap (λ t. cond t (fitting b) None) g ∙ fitting_is b f
   primitive_is (accumulated_takes {k = k} {f = f} {v = v} {a = a} {c = c} {b = b} E q F h g) =
       let R = names_of_values Γ in
       ap (λ o. found_then o (λ v. found_then (accumulated_argument k v a) (λ c. found_then (function_output R f c) (λ u. found_then (accumulated_kind k v u) fitting)))) (typed_found E)
@@ -246,6 +259,12 @@ initialized Γ e t F a b (Some c) h k =
     let is : made.0 ≡ b = same_some same.1 in
     initialized_takes (subst (HasType (names_of_values Γ) e) (sym same.0 ∙ is) (found_typed (names_of_values Γ) e c h)) (F a b (made.1 ∙ ap Some is))
 initialized Γ e t F a b None h k = absurd cc
+
+replaced : (Γ : Context) (e : Expression) (t : Term) → ((a b : Kind) → term_output Γ t a ≡ Some b → Takes Γ t a b) → (a b : Kind) (o : Option Kind) → expression_type (names_of_values Γ) e ≡ o → heading_output Replaced o (term_output Γ t) a ≡ Some b → FormTakes Γ (headed Replaced e t) a b
+replaced Γ e t F a b (Some c) h k =
+    let same = only_is c a (term_output Γ t a) k in
+    replaced_takes (subst (HasType (names_of_values Γ) e) same.0 (found_typed (names_of_values Γ) e c h)) (F a b same.1)
+replaced Γ e t F a b None h k = absurd cc
 
 stages : (Γ : Context) (x : Extent) (f g : Term) {a b : Kind} → ((a b : Kind) → term_output Γ f a ≡ Some b → Takes Γ f a b) → ((a b : Kind) → term_output Γ g a ≡ Some b → Takes Γ g a b) → Went (term_output Γ f) (term_output Γ g) a b → FormTakes Γ (staged x f g) a b
 stages Γ x f g F G (went h k) = stages_take (F _ _ h) (G _ _ k)
@@ -369,6 +388,7 @@ mutual
   form_found Γ (sided d t) a b h = sides Γ d t (within Γ t (form_found Γ t)) (side_found d (term_output Γ t) a b h)
   form_found Γ (headed LoopPre e t) a b h = looped Γ e t (within Γ t (form_found Γ t)) a b (expression_type (names_of_values Γ) e) refl h
   form_found Γ (headed Initialized e t) a b h = initialized Γ e t (within Γ t (form_found Γ t)) a b (expression_type (names_of_values Γ) e) refl h
+  form_found Γ (headed Replaced e t) a b h = replaced Γ e t (within Γ t (form_found Γ t)) a b (expression_type (names_of_values Γ) e) refl h
   form_found Γ (switching (Basic w) t p u) a b h = switches Γ w t p u (within Γ t (form_found Γ t)) (λ Δ. within Δ u (form_found Δ u)) a b h
   form_found Γ (switching (Recurring w) t p u) a b h = recurs Γ w t p u (within Γ t (form_found Γ t)) (λ Δ. within Δ u (form_found Δ u)) a b h
   form_found Γ (keeping w t q k p u) a b h = keepings Γ w t q k p u (within Γ t (form_found Γ t)) (within Γ q (form_found Γ q)) (λ Δ. within Δ u (form_found Δ u)) a b h
@@ -427,6 +447,8 @@ mutual
       ap (λ o. heading_output LoopPre o (term_output Γ t) a) (typed_found E) ∙ ap (λ o. found_then o (first_beside c)) (takes_found F) ∙ ap (λ s. cond s (Some b) None) (is_same c)
   form_is {Γ} f (initialized_takes {t = t} {a = a} {b = b} E F) =
       ap (λ o. heading_output Initialized o (term_output Γ t) a) (typed_found E) ∙ ap (λ o. found_then o (λ d. only d b (Some d))) (takes_found F) ∙ ap (λ s. cond s (Some b) None) (is_same b)
+  form_is {Γ} f (replaced_takes {t = t} {a = a} E F) =
+      ap (λ o. heading_output Replaced o (term_output Γ t) a) (typed_found E) ∙ ap (λ s. cond s (term_output Γ t a) None) (is_same a) ∙ takes_found F
   form_is {Γ} f (switch_takes {u = u} {p = p} {a = a} {b = b} {c = c} F B G) =
       ap (λ o. found_then (found_then o parts_of) (λ k. found_then (payload_of k.1) (λ c. body_output Γ p (λ Δ. term_output Δ u) c a k.0))) (takes_found F)
       ∙ body_found Γ u a (part_fits b c (output_fits F)) B (takes_found G)

@@ -8,7 +8,7 @@ use Rattle.sf_expr.specs.Evaluation.{Evaluated, answer, failed, ◌>>=◌, eval}
 use Rattle.sf_term.specs.declared.form.Join.{Join}
 use Rattle.sf_term.specs.declared.form.Join.TheVariants.{InSequence, InParallel, FannedOut}
 use Rattle.sf_term.specs.declared.form.Side.{Side}
-use Rattle.sf_term.specs.declared.form.Heading.TheVariants.{LoopPre, Initialized}
+use Rattle.sf_term.specs.declared.form.Heading.TheVariants.{LoopPre, Initialized, Replaced}
 use Rattle.sf_term.specs.declared.form.Observation.{Observation}
 use Rattle.sf_term.specs.declared.form.Start.{Start}
 use Rattle.sf_term.specs.declared.form.Start.TheVariants.{Run, Fresh}
@@ -16,9 +16,9 @@ use Rattle.sf_term.specs.declared.form.Switching.TheVariants.{Basic, Recurring}
 use Rattle.sf_term.specs.declared.form.Heading.{Heading}
 use Rattle.sf_term.specs.Trees.{Extent, Term, primitive, reference, started, call, joined, sided, headed, switching, keeping, staged}
 use Rattle.sf_mean.specs.Lives.{Step, step, wait_of, input_of, Life, Process, closure, resumed, Environment, empty, known as known_name, running, process_of, base, process_started, passing, scope_around, bind, after, frozen, with_inputs, observed_life, fed, fed_back, older}
-use Rattle.sf_mean.specs.Formulas.{occurring, side_of}
+use Rattle.sf_mean.specs.Formulas.{occurring, at_first, side_of, with_first}
 use Rattle.sf_mean.proofs.Refrozen.{frozen_base}
-use Rattle.sf_mean.specs.Meaning.{Network, Outcome, gave, faulted, Cost, Made, value_made, process_made, left_life, right_life, Watched, itself, observed, Takeover, Standing, waits, fired, stands_after, body_of, whenever, body_with, event_beside, or_earlier, last_event, kept_before, since_event, what_runs, unless_faulted, without_event, Gives, gives, Outputs, not_begun, and_gave, Sample, of_constants, of_form, of_resumed, Form, of_primitive, of_reference, of_join, of_side, of_loop, of_initialized, of_switch, of_keeping, of_recurring, of_stages, goes_on, stops, Loops, no_loop, and_looped, Sees, beside_values, by_observer, Since, at_start, watched, had_fired, SwitchTurn, while_waiting, as_body, after_fault, after_value, Fires, no_event_yet, event_now}
+use Rattle.sf_mean.specs.Meaning.{Network, Outcome, gave, faulted, Cost, Made, value_made, process_made, left_life, right_life, Watched, itself, observed, Takeover, Standing, waits, fired, stands_after, body_of, whenever, body_with, event_beside, or_earlier, last_event, kept_before, since_event, what_runs, unless_faulted, without_event, Gives, gives, Outputs, not_begun, and_gave, Sample, of_constants, of_form, of_resumed, Form, of_primitive, of_reference, of_join, of_side, of_loop, of_initialized, of_replaced, of_switch, of_keeping, of_recurring, of_stages, goes_on, stops, Loops, no_loop, and_looped, Sees, beside_values, by_observer, Since, at_start, watched, had_fired, SwitchTurn, while_waiting, as_body, after_fault, after_value, Fires, no_event_yet, event_now}
 use Rattle.sf_mean.specs.Soundness.{is_without_calls, HasNoCalls, closed_without_calls, frozen_without_calls, HaveNoCalls, none_calls, value_without_calls, process_without_calls, HasLived, closed, was_frozen, HaveLived, none_lived, value_beside, process_lived}
 use Rattle.sf_mean.proofs.TypedProcesses.{made_in}
 use Rattle.sf_mean.proofs.Once.{not_both}
@@ -209,6 +209,24 @@ module _ (n : Network) where
   with_initial : {i : Expression} {t : Term} {e : Environment} {v : Data} {s : Step} {L : Life} {us : List Data}
       → eval i (scope_around n.functions e) ≡ answer v → Outputs n (closure t e) L us → Has (closure t e) s L → Has (closure (headed Initialized i t) e) s L
   with_initial k A (has S) = has (of_form (ap opened k) (of_initialized (gives A S)))
+
+  from_replaced : {i : Expression} {t : Term} {e : Environment} {v : Data} {m : Made} {s : Step} {L : Life} {q : Outcome} {c : Cost} → m ≡ value_made v → Form n (headed Replaced i t) e m s L q c → IsGave q → Lived (closure t e) (with_first v (s ∷ L))
+  from_replaced {t = t} {e = e} {v = v} k (of_replaced {v = w} {s = s} {L = L} {o = gave y r} B) h =
+      let N : Data → Type 0 = λ x. Lived (closure t e) (with_first x (s ∷ L)) in
+      subst N (ap (λ m. made_in v (answer m)) k) (whole B tt)
+  from_replaced k (of_replaced {o = faulted x} B) h = absurd h
+
+  replaced_at : {i : Expression} {t : Term} {e : Environment} {v : Data} {s : Step} {L : Life} {q : Outcome} {c : Cost} → eval i (scope_around n.functions e) ≡ answer v → Sample n (closure (headed Replaced i t) e) s L q c → IsGave q → Lived (closure t e) (with_first v (s ∷ L))
+  replaced_at k (of_constants h) z = absurd z
+  replaced_at {v = v} k (of_form {m = m} h F) z = from_replaced (ap (λ q. made_of q m) (sym h ∙ ap opened k)) F z
+
+  replaced_lived : {i : Expression} {t : Term} {e : Environment} {v : Data} {L : Life} {ws : List Data} → eval i (scope_around n.functions e) ≡ answer v → Outputs n (closure (headed Replaced i t) e) L ws → Lived (closure t e) (with_first v L)
+  replaced_lived k not_begun = lived not_begun
+  replaced_lived k (and_gave A B) = replaced_at k B tt
+
+  with_replaced : {i : Expression} {t : Term} {e : Environment} {v : Data} {s : Step} {L : Life} {us : List Data}
+      → eval i (scope_around n.functions e) ≡ answer v → Outputs n (closure t e) (with_first v L) us → Has (closure t e) (step (wait_of s) (at_first L v (input_of s))) (with_first v L) → Has (closure (headed Replaced i t) e) s L
+  with_replaced k A (has S) = has (of_form (ap opened k) (of_replaced (gives A S)))
 
   -- ## Switches
 
@@ -446,6 +464,11 @@ module _ (n : Network) where
       elim (known (eval i (scope_around n.functions e))) [
         | refused x k ↦ constants_fail s k O
         | answered v k ↦ elim (initialized_lived O) [ lived A ↦ with_initial k A (total t e h E s L _ A) ]
+      ]
+  total (headed Replaced i t) e h E s L ws O =
+      elim (known (eval i (scope_around n.functions e))) [
+        | refused x k ↦ constants_fail s k O
+        | answered v k ↦ elim (replaced_lived k O) [ lived A ↦ with_replaced k A (total t e h E _ _ _ A) ]
       ]
   total (switching (Basic w) t p u) e h E s L ws O =
       let c = both_without (is_without_calls t) (is_without_calls u) h in

@@ -5,8 +5,10 @@ use Rattle.sf_value.specs.Values.{Kind, pair_kind, Data, pair, HasKind, has_pair
 use Rattle.sf_expr.specs.Evaluation.{Evaluated}
 use Rattle.sf_expr.specs.Soundness.{Yields, yields, fails}
 use Rattle.sf_mean.specs.Lives.{Step, step, wait_of, input_of, Life, after, with_inputs, relay, observed_life, fed_back, older, fed, first_input}
+use Rattle.sf_mean.specs.Formulas.{at_first, with_first}
 use Rattle.sf_mean.specs.Meaning.{Readings, Outcome, gave, faulted, changed, combined, value_in, as_outcome}
 use Rattle.sf_mean.specs.Soundness.{Have, have_nothing, have_more, LifeHas, no_steps, more_steps, OutcomeHas}
+use Rattle.sf_mean.proofs.TypedPrimitives.{first_has}
 
 pub first_is : {v : Data} {a b : Kind} → HasKind v (pair_kind a b) → HasKind (first_of v) a
 first_is (has_pair h k) = h
@@ -17,6 +19,10 @@ second_is (has_pair h k) = k
 pub with_inputs_has : {a b : Kind} {L : Life} (f : Data → Data) → ((v : Data) → HasKind v a → HasKind (f v) b) → LifeHas L a → LifeHas (with_inputs f L) b
 with_inputs_has f m no_steps = no_steps
 with_inputs_has f m (more_steps {s = s} h l) = more_steps {s = step (wait_of s) (f (input_of s))} (m _ h) (with_inputs_has f m l)
+
+pub with_first_has : {a : Kind} {v : Data} {L : Life} → HasKind v a → LifeHas L a → LifeHas (with_first v L) a
+with_first_has i no_steps = no_steps
+with_first_has {v = v} i (more_steps {s = s} {L = L} h l) = more_steps {s = step (wait_of s) (at_first L v (input_of s))} (first_has L i h) (with_first_has i l)
 
 pub relay_has : {a b : Kind} {L : Life} {ys : List Data} → LifeHas L a → Have ys b → LifeHas (relay L ys) b
 relay_has no_steps y = no_steps

@@ -17,13 +17,13 @@ use Rattle.sf_term.specs.declared.form.Start.TheVariants.{Run, Fresh}
 use Rattle.sf_term.specs.declared.form.Observation.TheVariants.{Immediate, Delayed}
 use Rattle.sf_term.specs.Trees.{Chain, Primitive, Term, primitive, reference, started, call, Arguments, joined, sided, headed, switching, keeping, staged, Template, Templates, template_named}
 use Rattle.sf_mean.specs.Lives.{Step, wait_of, input_of, Life, Environment, scope_around, bind, Process, process_of, base, process_started, passing, closure, empty, known, frozen, first_input as input_at_first}
-use Rattle.sf_mean.specs.Formulas.{timed_formula, coming, next_value, accumulation, displayed, value_formula, with_side, apply_chain, formula}
-use Rattle.sf_mean.specs.Meaning.{Network, Outcome, gave, faulted, recorded, Cost, Made, value_made, process_made, argument_process, argued, process_called, referred, make, Watched, itself, observed, Takeover, Standing, waits, fired, stands_after, switched_value, body_of, event_beside, or_earlier, last_event, kept_before, since_event, what_runs, unless_faulted, Gives, gives, Outputs, not_begun, and_gave, Sample, of_constants, of_form, of_resumed, Form, of_primitive, of_reference, of_join, of_side, of_loop, of_initialized, of_switch, of_keeping, of_recurring, of_stages, Next, goes_on, stops, Loops, no_loop, and_looped, Sees, beside_values, by_observer, Since, at_start, watched, had_fired, SwitchTurn, while_waiting, as_body, Switched, after_fault, after_value, Fires, no_event_yet, event_now}
+use Rattle.sf_mean.specs.Formulas.{timed_formula, selected_formula, coming, next_value, accumulation, displayed, value_formula, with_side, apply_chain, formula}
+use Rattle.sf_mean.specs.Meaning.{Network, Outcome, gave, faulted, recorded, Cost, Made, value_made, process_made, argument_process, argued, process_called, referred, make, Watched, itself, observed, Takeover, Standing, waits, fired, stands_after, switched_value, body_of, event_beside, or_earlier, last_event, kept_before, since_event, what_runs, unless_faulted, Gives, gives, Outputs, not_begun, and_gave, Sample, of_constants, of_form, of_resumed, Form, of_primitive, of_reference, of_join, of_side, of_loop, of_initialized, of_replaced, of_switch, of_keeping, of_recurring, of_stages, Next, goes_on, stops, Loops, no_loop, and_looped, Sees, beside_values, by_observer, Since, at_start, watched, had_fired, SwitchTurn, while_waiting, as_body, Switched, after_fault, after_value, Fires, no_event_yet, event_now}
 use Rattle.sf_mean.specs.Contexts.{Signature, signature_of, signature_named, parameters_inside, value, process, Bindings, bindings_inside, values_in, types_of_process, process_named, context_with, Context, names_of_values}
-use Rattle.sf_mean.specs.Typing.{ChainTakes, lone_takes, chained_takes, on_first_takes, on_second_takes, on_both_takes, fanned_takes, PrimitiveTakes, bare_takes, probe_takes, never_takes, value_takes, timed_takes, accumulated_takes, arrow_takes, fused_takes, Takes, takes, FormTakes, primitive_takes, started_takes, call_takes, ArgumentsFit, no_argument_fits, value_fits, process_fits, closed_fits, sequence_takes, parallel_takes, fan_takes, first_takes, second_takes, loop_takes, initialized_takes, switch_takes, keeping_takes, recurring_takes, stages_take}
+use Rattle.sf_mean.specs.Typing.{ChainTakes, lone_takes, chained_takes, on_first_takes, on_second_takes, on_both_takes, fanned_takes, PrimitiveTakes, bare_takes, probe_takes, never_takes, value_takes, timed_takes, selected_takes, accumulated_takes, arrow_takes, fused_takes, Takes, takes, FormTakes, primitive_takes, started_takes, call_takes, ArgumentsFit, no_argument_fits, value_fits, process_fits, closed_fits, sequence_takes, parallel_takes, fan_takes, first_takes, second_takes, loop_takes, initialized_takes, replaced_takes, switch_takes, keeping_takes, recurring_takes, stages_take}
 use Rattle.sf_mean.specs.Soundness.{NetworkIsTyped, Have, have_nothing, have_more, LifeHas, no_steps, more_steps, EnvironmentHas, has_nothing, has_value, has_process, ProcessTakes, closure_takes, resumed_takes, OutcomeHas}
-use Rattle.sf_mean.proofs.TypedPrimitives.{first_has, bare_typed, value_typed, timed_typed, event_comes, Comes, comes_none, comes_some, coming_typed, made_typed, shown_typed}
-use Rattle.sf_mean.proofs.TypedLives.{first_is, second_is, with_inputs_has, after_has, fed_has, outcome_is, changed_has, combined_has, LifeIf, life_if, beside_if, relay_if}
+use Rattle.sf_mean.proofs.TypedPrimitives.{first_has, bare_typed, value_typed, timed_typed, selected_typed, event_comes, Comes, comes_none, comes_some, coming_typed, made_typed, shown_typed}
+use Rattle.sf_mean.proofs.TypedLives.{first_is, second_is, with_inputs_has, with_first_has, after_has, fed_has, outcome_is, changed_has, combined_has, LifeIf, life_if, beside_if, relay_if}
 
 -- expressions and functions have values of their types, or faults
 abbrev pub EvalsTyped : Type 0
@@ -223,7 +223,8 @@ module _ (n : Network) (eval_is : EvalsTyped) (apply_is : AppliesTyped) where
     formula_is s (never_takes f) h l = yields has_no_event
     formula_is s {L = L} (value_takes {k = k} I B f) h l = changed_yields (λ v. value_formula k v s L) (λ v i. value_typed k s L B i h l) (eval_is _ _ _ _ I in_scope)
     formula_is s (arrow_takes F) h l = apply_is _ _ _ _ _ _ F h in_scope
-    formula_is s {L = L} (timed_takes {k = k} {q = q} I w B f) h l = changed_yields (λ v. timed_formula k q v s L) (λ v i. timed_typed k q s L B i) (eval_is _ _ _ _ I in_scope)
+    formula_is s {L = L} (timed_takes {k = k} {q = q} I m w B f) h l = changed_yields (λ v. timed_formula k q v s L) (λ v i. timed_typed k q s L m B i h l) (eval_is _ _ _ _ I in_scope)
+    formula_is s {L = L} (selected_takes {k = k} {n = n} e B f) h l = yields (selected_typed k n s L e h)
     formula_is s {L = L} (accumulated_takes {k = k} {f = f} {v = t} {a = a} {u = u} I q F e B) h l =
         let part = coming_typed k a q in
         let same = made_typed k e in
@@ -309,6 +310,9 @@ module _ (n : Network) (eval_is : EvalsTyped) (apply_is : AppliesTyped) where
         let i : HasKind v b = made_has (eval_is _ _ _ _ I (environment_scope n.functions fs K.functions E)) q in
         let h : OutcomeHas o b = gives_has A (closure_takes K E T) l in
         changed_has o (λ y k. first_has L i k) h
+    form_has {fs = fs} {a = a} (of_replaced {v = v} A) q K E (replaced_takes I T) l =
+        let i : HasKind v a = made_has (eval_is _ _ _ _ I (environment_scope n.functions fs K.functions E)) q in
+        gives_has A (closure_takes K E T) (with_first_has i l)
     form_has (of_switch S T) q K E (switch_takes A B U) (more_steps {s = s} i l) =
         let body : TakeoverHas n _ _ _ _ = λ s M v m h. closure_takes K (bind_has B.adds h E) U in
         turn_has T (itself_takes (closure_takes K E A)) body (more_steps {s = s} i l) (since_has S (itself_takes (closure_takes K E A)) body l)

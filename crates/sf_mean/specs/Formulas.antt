@@ -1,22 +1,24 @@
 -- What primitives give, by formulas over their whole life.
-use Rattle.std.specs.Prelude.{ℕ, suc, [], ◌∷◌, Bool, true, false, not, ◌&&◌, cond, ℤ, pos, ◌+ℤ◌, ◌*ℤ◌, int_le, Option, Some, None, unwrap_or}
+use Rattle.std.specs.Prelude.{ℕ, suc, nat_le, [], ◌∷◌, Bool, true, false, not, ◌&&◌, cond, ℤ, pos, ◌+ℤ◌, negsuc, ◌*ℤ◌, int_le, ◌-◌, ◌/◌, nat_lt, Option, Some, None, unwrap_or}
 use Rattle.sf_value.specs.Values.{Data, unit, truth, number, pair, no_event, event, first_of, second_of}
 use Rattle.sf_operator.specs.Outcomes.{tested}
 use Rattle.sf_operator.specs.Operations.{truth_in, number_in, payload_in, payload_or}
 use Rattle.sf_expr.specs.Expressions.{Function}
 use Rattle.sf_expr.specs.Evaluation.{Evaluated, answer, ◌>>=◌, Scope, eval, apply}
 use Rattle.sf_term.specs.declared.form.Bare.{Bare}
-use Rattle.sf_term.specs.declared.form.Bare.TheVariants.{Identity, LocalTime, Integral, Edge, NotYet, Count, Pre}
+use Rattle.sf_term.specs.declared.form.Bare.TheVariants.{Identity, LocalTime, Integral, Edge, NotYet, Once, Count, Pre}
 use Rattle.sf_term.specs.declared.form.WithValue.{WithValue}
-use Rattle.sf_term.specs.declared.form.WithValue.TheVariants.{Constant, InitialPre, InitializedPre, Now, Hold}
+use Rattle.sf_term.specs.declared.form.WithValue.TheVariants.{Constant, Initially, InitialPre, InitializedPre, Now, InitialEdge, EdgeTag, Hold, DelayedHold}
 use Rattle.sf_term.specs.declared.form.Timing.{Timing}
-use Rattle.sf_term.specs.declared.form.Timing.TheVariants.{After}
+use Rattle.sf_term.specs.declared.form.Timing.TheVariants.{After, Repeatedly, Delay}
+use Rattle.sf_term.specs.declared.form.Selection.{Selection}
+use Rattle.sf_term.specs.declared.form.Selection.TheVariants.{TakeEvents, DropEvents}
 use Rattle.sf_term.specs.declared.form.Accumulation.{Accumulation}
 use Rattle.sf_term.specs.declared.form.Accumulation.TheVariants.{AccumBy, AccumHoldBy, Scan}
 use Rattle.sf_term.specs.declared.form.Side.{Side}
 use Rattle.sf_term.specs.declared.form.Side.TheVariants.{First, Second}
-use Rattle.sf_term.specs.Trees.{Chain, lone, chained, on_side, on_both, fanned, Primitive, bare, probe, never, with_value, timed, arrow, accumulated, fused}
-use Rattle.sf_mean.specs.Lives.{Step, wait_of, input_of, Life, time}
+use Rattle.sf_term.specs.Trees.{Chain, lone, chained, on_side, on_both, fanned, Primitive, bare, probe, never, with_value, timed, selected, arrow, accumulated, fused}
+use Rattle.sf_mean.specs.Lives.{Step, step, wait_of, input_of, Life, time}
 
 -- In all of these, s is the newest step and L the steps before it.
 
@@ -29,6 +31,11 @@ before v (s ∷ L) = input_of s
 abbrev pub at_first : {A : Type 0} → Life → A → A → A
 at_first [] a b = a
 at_first (s ∷ L) a b = b
+
+-- a life with this input at the first step in the place of its own
+abbrev pub with_first : Data → Life → Life
+with_first v [] = []
+with_first v (s ∷ L) = step (wait_of s) (at_first L v (input_of s)) ∷ with_first v L
 
 -- the number that an input is
 abbrev pub level : Data → ℤ
@@ -50,9 +57,13 @@ is_low d = not (unwrap_or (truth_in d) true)
 abbrev pub event_if : Bool → Data
 event_if b = cond b (event unit) no_event
 
--- an event where an input is true and the one before was false
+-- whether an input is true and the one before was false
+abbrev pub rises : Data → Data → Bool
+rises x y = is_high x && is_low y
+
+-- an event where it does
 abbrev pub risen : Data → Data → Data
-risen x y = event_if (is_high x && is_low y)
+risen x y = event_if (rises x y)
 
 -- the payload of a value, if it is an event that occurs
 abbrev pub occurring : Data → Option Data
@@ -78,6 +89,15 @@ abbrev pub last_payload : Data → Life → Data
 last_payload v [] = v
 last_payload v (s ∷ L) = payload_or (occurring (input_of s)) (last_payload v L)
 
+-- whether so many events occurred in a life
+abbrev pub has_occurred : ℤ → Life → Bool
+has_occurred n L = int_le n (pos (occurrences L))
+
+-- primitives with a number of events
+abbrev pub selected_formula : Selection → ℤ → Step → Life → Data
+selected_formula TakeEvents n s L = cond (has_occurred n L) no_event (input_of s)
+selected_formula DropEvents n s L = cond (has_occurred n L) (input_of s) no_event
+
 -- primitives without constants; `pre` alone has no value at the first step, and makes no sense there
 abbrev pub bare_formula : Bare → Step → Life → Evaluated Data
 bare_formula Identity s L = answer (input_of s)
@@ -85,25 +105,51 @@ bare_formula LocalTime s L = tested (pos (time (s ∷ L)))
 bare_formula Integral s L = tested (area (s ∷ L))
 bare_formula Edge s L = answer (risen (input_of s) (before (truth true) L))
 bare_formula NotYet s L = answer (at_first L no_event (input_of s))
+bare_formula Once s L = answer (selected_formula TakeEvents (pos 1) s L)
 bare_formula Count s L = counted (occurring (input_of s)) (occurrences (s ∷ L))
 bare_formula Pre s L = answer (before (number (pos 0)) L)
 
 -- primitives with the value v
 abbrev pub value_formula : WithValue → Data → Step → Life → Data
 value_formula Constant v s L = v
+value_formula Initially v s L = at_first L v (input_of s)
 value_formula InitialPre v s L = before v L
 value_formula InitializedPre v s L = before v L
 value_formula Now v s L = at_first L (event v) no_event
+value_formula InitialEdge v s L = risen (input_of s) (before v L)
+value_formula EdgeTag v s L = cond (rises (input_of s) (before (truth true) L)) (event v) no_event
 value_formula Hold v s L = last_payload v (s ∷ L)
+value_formula DelayedHold v s L = last_payload v L
 
 -- whether a life has come to a step at which so much time has passed since the first
 abbrev pub has_passed : ℤ → Life → Bool
 has_passed q [] = false
 has_passed q (s ∷ L) = int_le q (pos (time (s ∷ L)))
 
+-- how many a number says, of milliseconds or of events; none where it is below 0
+abbrev pub span : ℤ → ℕ
+span (pos n) = n
+span (negsuc n) = 0
+
+-- an event of v at each later step where a multiple of q milliseconds lies above the time at the step before, and not above
+-- the time at the newest: one at most, whatever many multiples lie there
+abbrev pub repeated_formula : ℤ → Data → Step → Life → Data
+repeated_formula q v s L = cond (nat_lt (time L / span q) (time (s ∷ L) / span q)) (event v) no_event
+
+-- the newest input of a life that is at least q milliseconds old at a time, or v where none is
+abbrev pub aged : ℕ → Data → ℕ → Life → Data
+aged q v now [] = v
+aged q v now (s ∷ L) = cond (nat_le q (now - time (s ∷ L))) (input_of s) (aged q v now L)
+
+-- the newest input that is at least q milliseconds old at the newest step
+abbrev pub delayed_formula : ℤ → Data → Step → Life → Data
+delayed_formula q v s L = aged (span q) v (time (s ∷ L)) (s ∷ L)
+
 -- primitives with a time and the value v
 abbrev pub timed_formula : Timing → ℤ → Data → Step → Life → Data
 timed_formula After q v s L = cond (has_passed q (s ∷ L) && not (has_passed q L)) (event v) no_event
+timed_formula Repeatedly q v s L = repeated_formula q v s L
+timed_formula Delay q v s L = delayed_formula q v s L
 
 -- what an accumulation goes on with: the payload of an event that occurs, or each input
 abbrev pub coming : Accumulation → Data → Option Data
@@ -154,5 +200,6 @@ formula (never t) scope s L = answer no_event
 formula (with_value k e) scope s L = eval e scope >>= λ v. answer (value_formula k v s L)
 formula (arrow f) scope s L = apply f (input_of s) scope
 formula (timed k q e) scope s L = eval e scope >>= λ v. answer (timed_formula k q v s L)
+formula (selected k n) scope s L = answer (selected_formula k n s L)
 formula (accumulated k e f) scope s L = eval e scope >>= λ v. accumulation k f scope v (s ∷ L) >>= λ w. answer (displayed k (coming k (input_of s)) w)
 formula (fused f) scope s L = apply_chain f (input_of s) scope

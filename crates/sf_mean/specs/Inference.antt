@@ -9,13 +9,13 @@ use Rattle.sf_term.specs.declared.form.Join.TheVariants.{InSequence, InParallel,
 use Rattle.sf_term.specs.declared.form.Side.{Side}
 use Rattle.sf_term.specs.declared.form.Side.TheVariants.{First, Second}
 use Rattle.sf_term.specs.declared.form.Heading.{Heading}
-use Rattle.sf_term.specs.declared.form.Heading.TheVariants.{LoopPre, Initialized}
-use Rattle.sf_term.specs.Trees.{Chain, lone, chained, on_side, on_both, fanned, Primitive, bare, probe, never, with_value, timed, arrow, accumulated, fused, Term, primitive, Reference, reference, started, call, Arguments, no_arguments, value_argument, process_argument, closed_argument, joined, sided, headed, switching, keeping, staged}
+use Rattle.sf_term.specs.declared.form.Heading.TheVariants.{LoopPre, Initialized, Replaced}
+use Rattle.sf_term.specs.Trees.{Chain, lone, chained, on_side, on_both, fanned, Primitive, bare, probe, never, with_value, timed, selected, arrow, accumulated, fused, Term, primitive, Reference, reference, started, call, Arguments, no_arguments, value_argument, process_argument, closed_argument, joined, sided, headed, switching, keeping, staged}
 use Rattle.sf_term.specs.declared.form.Switching.{Switching}
 use Rattle.sf_term.specs.declared.form.Switching.TheVariants.{Basic, Recurring}
 use Rattle.sf_term.specs.Parameters.{NameKind, value, process, Bindings}
 use Rattle.sf_mean.specs.Contexts.{Context, Signature, signature_named, names_of_values, inside_pattern, inside_process, process_named}
-use Rattle.sf_mean.specs.Typing.{bare_kind, value_kind, takes_time, timed_kind, accumulated_argument, accumulated_kind}
+use Rattle.sf_mean.specs.Typing.{bare_kind, value_kind, takes_input, takes_time, timed_kind, takes_number, selected_kind, accumulated_argument, accumulated_kind}
 
 -- What finds an output type for an input type, if inputs of that type are taken.
 abbrev pub Finds : Type 0
@@ -42,13 +42,15 @@ side_output Second f a = found_then (parts_of a) (λ p. both_outputs (Some p.0) 
 abbrev pub first_beside : Kind → Finds
 first_beside c a = found_then (parts_of a) (λ p. cond (same_kind c p.1) (Some p.0) None)
 
--- the output of a part with a value of the type that was found: of one whose second output is fed back, or of one whose
--- first value this one replaces
+-- the output of a part with a value of the type that was found: of one whose second output is fed back, of one whose first
+-- value this one replaces, or of one whose first input it replaces
 abbrev pub heading_output : Heading → Option Kind → Finds → Finds
 heading_output LoopPre None f a = None
 heading_output LoopPre (Some c) f a = found_then (f (pair_kind a c)) (first_beside c)
 heading_output Initialized None f a = None
 heading_output Initialized (Some c) f a = found_then (f a) (λ b. only b c (Some b))
+heading_output Replaced None f a = None
+heading_output Replaced (Some c) f a = only c a (f a)
 
 -- the output of a switch's body, which is found under what its pattern binds for a payload, and has to be this one
 abbrev pub body_output : Context → Pattern → (Context → Finds) → (payload input output : Kind) → Option Kind
@@ -83,7 +85,8 @@ primitive_output Γ (probe k) a = fitting a
 primitive_output Γ (never t) a = fitting (event_kind t)
 primitive_output Γ (with_value k e) a = found_then (found_then (expression_type (names_of_values Γ) e) (λ v. value_kind k v a)) fitting
 primitive_output Γ (arrow f) a = function_output (names_of_values Γ) f a
-primitive_output Γ (timed k q e) a = found_then (expression_type (names_of_values Γ) e) (λ v. cond (takes_time k q) (found_then (timed_kind k v) fitting) None)
+primitive_output Γ (timed k q e) a = found_then (expression_type (names_of_values Γ) e) (λ v. cond (takes_input k v a && takes_time k q) (found_then (timed_kind k v) fitting) None)
+primitive_output Γ (selected k n) a = found_then (selected_kind a) (λ b. cond (takes_number n) (fitting b) None)
 primitive_output Γ (accumulated k e f) a =
     found_then (expression_type (names_of_values Γ) e) (λ v. found_then (accumulated_argument k v a) (λ c. found_then (function_output (names_of_values Γ) f c) (λ u. found_then (accumulated_kind k v u) fitting)))
 primitive_output Γ (fused f) a = found_then (chain_output Γ f a) fitting

@@ -8,14 +8,14 @@ use Rattle.sf_expr.specs.Evaluation.{Evaluated, answer, failed, ◌>>=◌, eval}
 use Rattle.sf_term.specs.declared.form.Join.{Join}
 use Rattle.sf_term.specs.declared.form.Join.TheVariants.{InSequence, InParallel, FannedOut}
 use Rattle.sf_term.specs.declared.form.Side.{Side}
-use Rattle.sf_term.specs.declared.form.Heading.TheVariants.{LoopPre, Initialized}
+use Rattle.sf_term.specs.declared.form.Heading.TheVariants.{LoopPre, Initialized, Replaced}
 use Rattle.sf_term.specs.declared.form.Observation.{Observation}
 use Rattle.sf_term.specs.declared.form.Observation.TheVariants.{Immediate, Delayed}
 use Rattle.sf_term.specs.declared.form.Switching.TheVariants.{Basic, Recurring}
-use Rattle.sf_term.specs.Trees.{Primitive, bare, probe, never, with_value, timed, arrow, accumulated, fused, Extent, whole, rest, Term, primitive, Reference, reference, started, call, Arguments, no_arguments, value_argument, process_argument, closed_argument, joined, sided, headed, switching, keeping, staged, Template, Templates, template_named}
+use Rattle.sf_term.specs.Trees.{Primitive, bare, probe, never, with_value, timed, selected, arrow, accumulated, fused, Extent, whole, rest, Term, primitive, Reference, reference, started, call, Arguments, no_arguments, value_argument, process_argument, closed_argument, joined, sided, headed, switching, keeping, staged, Template, Templates, template_named}
 use Rattle.sf_term.specs.Parameters.{Bindings}
 use Rattle.sf_mean.specs.Lives.{Step, step, wait_of, input_of, Life, Process, closure, resumed, passing, Environment, empty, known, running, process_started, scope_around, bind, after, frozen, with_inputs, relay, observed_life, fed, first_input as input_at_first}
-use Rattle.sf_mean.specs.Formulas.{at_first, occurring, side_of, with_side, formula}
+use Rattle.sf_mean.specs.Formulas.{at_first, with_first, occurring, side_of, with_side, formula}
 
 -- A network: its templates, and what its stored functions answer.
 pub record Network : Type 0 where
@@ -61,6 +61,7 @@ recorded (probe x) s = (x, input_of s) ∷ []
 recorded (never t) s = []
 recorded (with_value k e) s = []
 recorded (timed k q e) s = []
+recorded (selected k n) s = []
 recorded (arrow f) s = []
 recorded (accumulated k e f) s = []
 recorded (fused f) s = []
@@ -340,6 +341,10 @@ mutual
     of_initialized : {i : Expression} {t : Term} {e : Environment} {v : Data} {s : Step} {L : Life} {o : Outcome} {c : Cost}
         → Gives n (closure t e) (s ∷ L) o c
         → Form n (headed Initialized i t) e (value_made v) s L (changed (at_first L v) o) (over c)
+    -- `>--`: the part's values, where the constant stands in the place of its first input
+    of_replaced : {i : Expression} {t : Term} {e : Environment} {v : Data} {s : Step} {L : Life} {o : Outcome} {c : Cost}
+        → Gives n (closure t e) (with_first v (s ∷ L)) o c
+        → Form n (headed Replaced i t) e (value_made v) s L o (over c)
     -- a switch gives what its standing says
     of_switch : {w : Observation} {t u : Term} {p : Pattern} {e : Environment} {m : Made} {s : Step} {L : Life} {st : Standing} {o : Outcome} {c : Cost}
         → Since n (itself (closure t e)) (whenever (body_of p u e)) L st

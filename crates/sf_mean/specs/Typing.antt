@@ -1,22 +1,23 @@
 -- The types of terms under a context, and the networks that are accepted.
-use Rattle.std.specs.Prelude.{◌≡◌, ◌≢◌, ℕ, ◌<◌, [], ◌∷◌, All, Bool, ◌&&◌, IsTrue, ℤ, pos, int_le, Option, Some, None, slice_get}
+use Rattle.std.specs.Prelude.{◌≡◌, ◌≢◌, ℕ, ◌<◌, [], ◌∷◌, All, Bool, true, ◌&&◌, IsTrue, ℤ, pos, int_le, Option, Some, None, slice_get}
 use Rattle.sf_value.specs.Values.{Name, Kind, unit_kind, bool_kind, int_kind, pair_kind, event_kind}
-use Rattle.sf_operator.specs.Kinds.{found_then, only, payload_of}
+use Rattle.sf_operator.specs.Kinds.{found_then, only, same_kind, payload_of}
 use Rattle.sf_func.specs.Registries.{TypesByName}
 use Rattle.sf_expr.specs.Expressions.{Pattern, Expression, Function}
 use Rattle.sf_expr.specs.Typing.{Fits, Binds, HasType, FunctionTakes}
 use Rattle.sf_term.specs.declared.form.Bare.{Bare}
-use Rattle.sf_term.specs.declared.form.Bare.TheVariants.{Identity, LocalTime, Integral, Edge, NotYet, Count, Pre}
+use Rattle.sf_term.specs.declared.form.Bare.TheVariants.{Identity, LocalTime, Integral, Edge, NotYet, Once, Count, Pre}
 use Rattle.sf_term.specs.declared.form.WithValue.{WithValue}
-use Rattle.sf_term.specs.declared.form.WithValue.TheVariants.{Constant, InitialPre, InitializedPre, Now, Hold}
+use Rattle.sf_term.specs.declared.form.WithValue.TheVariants.{Constant, Initially, InitialPre, InitializedPre, Now, InitialEdge, EdgeTag, Hold, DelayedHold}
 use Rattle.sf_term.specs.declared.form.Timing.{Timing}
-use Rattle.sf_term.specs.declared.form.Timing.TheVariants.{After}
+use Rattle.sf_term.specs.declared.form.Timing.TheVariants.{After, Repeatedly, Delay}
+use Rattle.sf_term.specs.declared.form.Selection.{Selection}
 use Rattle.sf_term.specs.declared.form.Accumulation.{Accumulation}
 use Rattle.sf_term.specs.declared.form.Accumulation.TheVariants.{AccumBy, AccumHoldBy, Scan}
 use Rattle.sf_term.specs.declared.form.Join.TheVariants.{InSequence, InParallel, FannedOut}
 use Rattle.sf_term.specs.declared.form.Side.TheVariants.{First, Second}
-use Rattle.sf_term.specs.declared.form.Heading.TheVariants.{LoopPre, Initialized}
-use Rattle.sf_term.specs.Trees.{Chain, lone, chained, on_side, on_both, fanned, Primitive, bare, probe, never, with_value, timed, arrow, accumulated, fused, Extent, Term, primitive, reference, started, call, Arguments, no_arguments, value_argument, process_argument, closed_argument, joined, sided, headed, switching, keeping, staged, Template, Templates}
+use Rattle.sf_term.specs.declared.form.Heading.TheVariants.{LoopPre, Initialized, Replaced}
+use Rattle.sf_term.specs.Trees.{Chain, lone, chained, on_side, on_both, fanned, Primitive, bare, probe, never, with_value, timed, selected, arrow, accumulated, fused, Extent, Term, primitive, reference, started, call, Arguments, no_arguments, value_argument, process_argument, closed_argument, joined, sided, headed, switching, keeping, staged, Template, Templates}
 use Rattle.sf_term.specs.Parameters.{NameKind, value, process, Bindings}
 use Rattle.sf_term.specs.declared.form.Observation.{Observation}
 use Rattle.sf_term.specs.declared.form.Start.{Start}
@@ -42,24 +43,47 @@ bare_kind LocalTime a = Some int_kind
 bare_kind Integral a = only a int_kind (Some int_kind)
 bare_kind Edge a = only a bool_kind (Some (event_kind unit_kind))
 bare_kind NotYet a = found_then (payload_of a) (λ p. Some a)
+bare_kind Once a = found_then (payload_of a) (λ p. Some a)
 bare_kind Count a = found_then (payload_of a) (λ p. Some (event_kind int_kind))
 bare_kind Pre a = None
 
 -- the type of the outputs of a primitive with a value of a type on inputs of a type, if it is one on such inputs
 abbrev pub value_kind : WithValue → Kind → Kind → Option Kind
 value_kind Constant v a = Some v
+value_kind Initially v a = only a v (Some v)
 value_kind InitialPre v a = only a v (Some v)
 value_kind InitializedPre v a = only a v (Some v)
 value_kind Now v a = Some (event_kind v)
+value_kind InitialEdge v a = only a bool_kind (only v bool_kind (Some (event_kind unit_kind)))
+value_kind EdgeTag v a = only a bool_kind (Some (event_kind v))
 value_kind Hold v a = found_then (payload_of a) (λ p. only p v (Some v))
+value_kind DelayedHold v a = found_then (payload_of a) (λ p. only p v (Some v))
 
 -- whether a form takes a time, in milliseconds
 abbrev pub takes_time : Timing → ℤ → Bool
 takes_time After q = int_le (pos 0) q && int_le q (pos 1000000000000)
+takes_time Repeatedly q = int_le (pos 1) q && int_le q (pos 1000000000000)
+takes_time Delay q = int_le (pos 1) q && int_le q (pos 1000000000000)
+
+-- whether a form with a value of a type takes inputs of a type
+abbrev pub takes_input : Timing → (value input : Kind) → Bool
+takes_input After v a = true
+takes_input Repeatedly v a = true
+takes_input Delay v a = same_kind a v
 
 -- the type of the outputs of a primitive with a time and a value of a type
 abbrev pub timed_kind : Timing → Kind → Option Kind
 timed_kind After v = Some (event_kind v)
+timed_kind Repeatedly v = Some (event_kind v)
+timed_kind Delay v = Some v
+
+-- whether this is a number of events that a form takes
+abbrev pub takes_number : ℤ → Bool
+takes_number n = int_le (pos 0) n && int_le n (pos 1000000000)
+
+-- the type of the outputs of a primitive with a number of events on inputs of a type, if it is one on such inputs
+abbrev pub selected_kind : Kind → Option Kind
+selected_kind a = found_then (payload_of a) (λ p. Some a)
 
 -- the type of what the function of an accumulation takes, with a value of a type, on inputs of a type: pairs of the value
 -- so far and what comes
@@ -81,7 +105,8 @@ pub data PrimitiveTakes (Γ : Context) : Primitive → Kind → Kind → Type 0 
   never_takes : {t a : Kind} → Fits (event_kind t) → PrimitiveTakes Γ (never t) a (event_kind t)
   value_takes : {k : WithValue} {e : Expression} {v a b : Kind} → HasType (names_of_values Γ) e v → value_kind k v a ≡ Some b → Fits b → PrimitiveTakes Γ (with_value k e) a b
   arrow_takes : {f : Function} {a b : Kind} → FunctionTakes (names_of_values Γ) f a b → PrimitiveTakes Γ (arrow f) a b
-  timed_takes : {k : Timing} {q : ℤ} {e : Expression} {v a b : Kind} → HasType (names_of_values Γ) e v → IsTrue (takes_time k q) → timed_kind k v ≡ Some b → Fits b → PrimitiveTakes Γ (timed k q e) a b
+  timed_takes : {k : Timing} {q : ℤ} {e : Expression} {v a b : Kind} → HasType (names_of_values Γ) e v → IsTrue (takes_input k v a) → IsTrue (takes_time k q) → timed_kind k v ≡ Some b → Fits b → PrimitiveTakes Γ (timed k q e) a b
+  selected_takes : {k : Selection} {n : ℤ} {a b : Kind} → selected_kind a ≡ Some b → IsTrue (takes_number n) → Fits b → PrimitiveTakes Γ (selected k n) a b
   accumulated_takes : {k : Accumulation} {e : Expression} {f : Function} {v a c u b : Kind}
       → HasType (names_of_values Γ) e v → accumulated_argument k v a ≡ Some c → FunctionTakes (names_of_values Γ) f c u → accumulated_kind k v u ≡ Some b → Fits b → PrimitiveTakes Γ (accumulated k e f) a b
   fused_takes : {f : Chain} {a b : Kind} → ChainTakes Γ f a b → Fits b → PrimitiveTakes Γ (fused f) a b
@@ -103,6 +128,7 @@ mutual
     second_takes : {Γ : Context} {t : Term} {a b c : Kind} → Takes Γ t a b → FormTakes Γ (sided Second t) (pair_kind c a) (pair_kind c b)
     loop_takes : {Γ : Context} {e : Expression} {t : Term} {a b c : Kind} → HasType (names_of_values Γ) e c → Takes Γ t (pair_kind a c) (pair_kind b c) → FormTakes Γ (headed LoopPre e t) a b
     initialized_takes : {Γ : Context} {e : Expression} {t : Term} {a b : Kind} → HasType (names_of_values Γ) e b → Takes Γ t a b → FormTakes Γ (headed Initialized e t) a b
+    replaced_takes : {Γ : Context} {e : Expression} {t : Term} {a b : Kind} → HasType (names_of_values Γ) e a → Takes Γ t a b → FormTakes Γ (headed Replaced e t) a b
     switch_takes : {Γ : Context} {w : Observation} {t u : Term} {p : Pattern} {a b c : Kind}
         → Takes Γ t a (pair_kind b (event_kind c)) → Binds p c (names_of_values Γ) (names_of_values (inside_pattern p c Γ)) → Takes (inside_pattern p c Γ) u a b → FormTakes Γ (switching (Basic w) t p u) a b
     recurring_takes : {Γ : Context} {w : Observation} {t u : Term} {p : Pattern} {a b c : Kind}

@@ -11,7 +11,7 @@ use Rattle.sf_term.specs.declared.form.Join.{Join}
 use Rattle.sf_term.specs.declared.form.Side.{Side}
 use Rattle.sf_term.specs.Trees.{Extent, whole, rest, bare, arrow, Term, primitive, reference, joined, sided, headed, switching, keeping, staged}
 use Rattle.sf_term.specs.declared.form.Bare.{Bare}
-use Rattle.sf_term.specs.declared.form.Bare.TheVariants.{Identity, LocalTime, Integral, Edge, NotYet, Count, Pre}
+use Rattle.sf_term.specs.declared.form.Bare.TheVariants.{Identity, LocalTime, Integral, Edge, NotYet, Once, Count, Pre}
 use Rattle.sf_law.specs.declared.node.PlanId.{PlanId}
 use Rattle.sf_law.specs.declared.node.PlanNode.{PlanNode}
 use Rattle.sf_law.specs.declared.node.PlanNode.TheVariants as nodes
@@ -151,6 +151,7 @@ form_stage LocalTime h = refl
 form_stage Integral h = refl
 form_stage Edge h = refl
 form_stage NotYet h = refl
+form_stage Once h = refl
 form_stage Count h = refl
 form_stage Pre h = refl
 
@@ -159,6 +160,7 @@ primitive_stage (builds_primitive {q = primitives.Bare k} c) h = form_stage k h
 primitive_stage (builds_primitive {q = primitives.Never n} c) h = refl
 primitive_stage (builds_primitive {q = primitives.WithValue k e d} c) h = refl
 primitive_stage (builds_primitive {q = primitives.Timed k q e d} c) h = refl
+primitive_stage (builds_primitive {q = primitives.Selected k n} c) h = refl
 primitive_stage (builds_primitive {q = primitives.Arrow f d} c) h = refl
 primitive_stage (builds_primitive {q = primitives.Fused r} c) h = refl
 primitive_stage (builds_primitive {q = primitives.Accumulated k e d f g} c) h = refl

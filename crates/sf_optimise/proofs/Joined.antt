@@ -1,7 +1,7 @@
 -- A term behind another.
 use Rattle.std.proofs.Common.{◌≡◌, ◌<◌, ◌≤◌, List, [], ◌∷◌, ◌++◌, length, slice_index_or, drop, true, true≢false, IsTrue, refl, sym, ◌∙◌, ap, subst, append_assoc, arith}
-use Rattle.sf_term.specs.declared.form.Bare.TheVariants.{Identity, LocalTime, Integral, Edge, NotYet, Count, Pre}
-use Rattle.sf_term.specs.Trees.{whole, bare, probe, never, with_value, timed, arrow, accumulated, fused, Term, primitive, reference, joined, sided, headed, switching, keeping, staged}
+use Rattle.sf_term.specs.declared.form.Bare.TheVariants.{Identity, LocalTime, Integral, Edge, NotYet, Once, Count, Pre}
+use Rattle.sf_term.specs.Trees.{whole, bare, probe, never, with_value, timed, selected, arrow, accumulated, fused, Term, primitive, reference, joined, sided, headed, switching, keeping, staged}
 use Rattle.sf_law.specs.declared.node.PlanId.{PlanId}
 use Rattle.sf_law.specs.declared.plan.Plan.{Plan}
 use Rattle.sf_law.specs.Entries.{pipeline, ids_end}
@@ -22,6 +22,7 @@ identity_is (primitive (bare LocalTime)) h = absurd (true≢false (sym h))
 identity_is (primitive (bare Integral)) h = absurd (true≢false (sym h))
 identity_is (primitive (bare Edge)) h = absurd (true≢false (sym h))
 identity_is (primitive (bare NotYet)) h = absurd (true≢false (sym h))
+identity_is (primitive (bare Once)) h = absurd (true≢false (sym h))
 identity_is (primitive (bare Count)) h = absurd (true≢false (sym h))
 identity_is (primitive (bare Pre)) h = absurd (true≢false (sym h))
 identity_is (primitive (probe k)) h = absurd (true≢false (sym h))
@@ -29,6 +30,7 @@ identity_is (primitive (never t)) h = absurd (true≢false (sym h))
 identity_is (primitive (with_value k i)) h = absurd (true≢false (sym h))
 identity_is (primitive (arrow f)) h = absurd (true≢false (sym h))
 identity_is (primitive (timed k q i)) h = absurd (true≢false (sym h))
+identity_is (primitive (selected k n)) h = absurd (true≢false (sym h))
 identity_is (primitive (accumulated k i f)) h = absurd (true≢false (sym h))
 identity_is (primitive (fused f)) h = absurd (true≢false (sym h))
 identity_is (reference r) h = absurd (true≢false (sym h))

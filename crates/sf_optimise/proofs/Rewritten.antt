@@ -132,6 +132,7 @@ not_started p (ast.Primitive (ast_primitives.Bare k)) h = refl
 not_started p (ast.Primitive (ast_primitives.Never n)) h = refl
 not_started p (ast.Primitive (ast_primitives.WithValue k e)) h = refl
 not_started p (ast.Primitive (ast_primitives.Timed k q e)) h = refl
+not_started p (ast.Primitive (ast_primitives.Selected k n)) h = refl
 not_started p (ast.Primitive (ast_primitives.Arrow f)) h = refl
 not_started p (ast.Primitive (ast_primitives.Accumulated k e f)) h = refl
 not_started p (ast.Named (Process w) j s) h = absurd cc

@@ -1,8 +1,8 @@
 -- Terms that stand one after another.
 use Rattle.std.specs.Prelude.{List, [], ◌∷◌, Bool, true, false, ◌&&◌, IsTrue}
 use Rattle.sf_term.specs.declared.form.Bare.{Bare}
-use Rattle.sf_term.specs.declared.form.Bare.TheVariants.{Identity, LocalTime, Integral, Edge, NotYet, Count, Pre}
-use Rattle.sf_term.specs.Trees.{bare, probe, never, with_value, timed, arrow, accumulated, fused, Term, primitive, reference, joined, sided, headed, switching, keeping, staged}
+use Rattle.sf_term.specs.declared.form.Bare.TheVariants.{Identity, LocalTime, Integral, Edge, NotYet, Once, Count, Pre}
+use Rattle.sf_term.specs.Trees.{bare, probe, never, with_value, timed, selected, arrow, accumulated, fused, Term, primitive, reference, joined, sided, headed, switching, keeping, staged}
 use Rattle.sf_rewrite.specs.Quiet.{is_quiet}
 use Rattle.sf_rewrite.specs.Normal.{IsPlan, is_stage, is_arr, may_meet}
 
@@ -13,6 +13,7 @@ is_identity_form LocalTime = false
 is_identity_form Integral = false
 is_identity_form Edge = false
 is_identity_form NotYet = false
+is_identity_form Once = false
 is_identity_form Count = false
 is_identity_form Pre = false
 
@@ -24,6 +25,7 @@ is_identity_term (primitive (never t)) = false
 is_identity_term (primitive (with_value k i)) = false
 is_identity_term (primitive (arrow f)) = false
 is_identity_term (primitive (timed k q i)) = false
+is_identity_term (primitive (selected k n)) = false
 is_identity_term (primitive (accumulated k i f)) = false
 is_identity_term (primitive (fused f)) = false
 is_identity_term (reference r) = false

@@ -115,6 +115,7 @@ fn chain_of(alloc: Global, primitive: &PlanPrimitive) -> Result<Option<Rc<PlanCh
         }
         PlanPrimitive::Fused(chain) => Ok(Some(chain.clone()?)),
         PlanPrimitive::Bare(_) | PlanPrimitive::Never(_) => Ok(None),
+        PlanPrimitive::Selected(_, _) => Ok(None),
         PlanPrimitive::WithValue(_, _, _) | PlanPrimitive::Timed(_, _, _, _) => Ok(None),
         PlanPrimitive::Accumulated(_, _, _, _, _) => Ok(None),
     }
@@ -184,7 +185,7 @@ pub(crate) fn is_identity(plan: &Plan, id: PlanId) -> bool
     ensures { result ≡ is_identity_term (plan_tree plan.now id) }
 {
     match plan.node(id) {
-        PlanNode::Primitive(PlanPrimitive::Bare(form)) => *form == Bare::Identity,
+        PlanNode::Primitive(PlanPrimitive::Bare(form)) => matches!(*form, Bare::Identity),
         PlanNode::Primitive(_) | PlanNode::Probe(_) => false,
         PlanNode::Started(_, _) | PlanNode::Call(_, _, _) => false,
         PlanNode::Joined(_, _, _) | PlanNode::Sided(_, _) => false,

@@ -32,7 +32,9 @@ pub fn optimise(alloc: Global, checked: &Checked) -> Result<Plan, AllocError>
     let mut plan = empty_plan(alloc, program)?;
     let plans = rewritten_terms(alloc, &mut plan, program)?;
     let main = plan_or_passing(&plan, &plans, checked.main());
-    Ok(plan.with_bodies(&plans).with_main(main))
+    let whole = plan.with_bodies(&plans).with_main(main);
+    let listed = whole.with_mentions(alloc)?;
+    Ok(listed)
 }
 
 // The plan of a term; where there is none, one that passes its inputs on.
@@ -160,7 +162,7 @@ fn with_head(
 {
     match heading {
         Heading::LoopPre => in_loop(alloc, plan, value, part),
-        Heading::Initialized => headed(alloc, plan, Heading::Initialized, value, part),
+        Heading::Initialized | Heading::Replaced => headed(alloc, plan, heading, value, part),
     }
 }
 

@@ -39,7 +39,7 @@ fn is_quiet_form(program: &Program, primitive: Primitive) -> bool
     let exprs = program.expressions();
     match primitive {
         Primitive::Bare(form) => is_quiet_bare(form),
-        Primitive::Never(_) => true,
+        Primitive::Never(_) | Primitive::Selected(_, _) => true,
         Primitive::WithValue(_, value) | Primitive::Timed(_, _, value) => {
             is_quiet_expression(exprs, value)
         }
@@ -88,7 +88,7 @@ fn is_quiet_primitive(exprs: &Exprs, primitive: &PlanPrimitive) -> bool
 {
     match primitive {
         PlanPrimitive::Bare(form) => is_quiet_bare(*form),
-        PlanPrimitive::Never(_) => true,
+        PlanPrimitive::Never(_) | PlanPrimitive::Selected(_, _) => true,
         PlanPrimitive::WithValue(_, value, _) | PlanPrimitive::Timed(_, _, value, _) => {
             is_quiet_expression(exprs, *value)
         }
@@ -120,7 +120,7 @@ fn is_quiet_bare(form: Bare) -> bool
     ensures { result ≡ quiet_bare form }
 {
     match form {
-        Bare::Identity | Bare::Edge | Bare::NotYet | Bare::Pre => true,
+        Bare::Identity | Bare::Edge | Bare::NotYet | Bare::Once | Bare::Pre => true,
         Bare::LocalTime | Bare::Integral | Bare::Count => false,
     }
 }

@@ -2,6 +2,7 @@
 use Rattle.std.proofs.Common.{◌≡◌, Bool, true, false, ◌&&◌, IsTrue, List, [], ◌∷◌, ◌++◌, map, length, append_assoc, Result, Ok, Err, refl, sym, ap, ◌∙◌, subst, arith, ◌⊎◌, inl, inr}
 use Rattle.std.specs.Prelude.{Some, IsErrAnd}
 use Rattle.std.proofs.lemmas.List.{append-nil}
+use Rattle.sf_coincidence.proofs.Same.{alike_itself}
 use Rattle.sf_value.specs.Values.{Name, Data}
 use Rattle.sf_value.specs.declared.fault.ValueFault.{ValueFault}
 use Rattle.sf_value.specs.declared.fault.Fault.{Fault}
@@ -231,7 +232,7 @@ module _ (φ : AnswersByName) (p : Plan) (h : PlanHeader) (vs : List PlanArgumen
   pub called_so : (body : PlanId) (bound : Env) → body ≡ h.body → Makes (IsNames φ p) parameters_argued (Ok bound) → StandsCalled (Ok (Unborn (closed_over body bound)))
   called_so body bound same (makes {b = d} w N) =
       makes (ap (λ w. w >>= body_in) w)
-      (subst (λ t. Stands φ p (Unborn (closed_over t bound)) (closure (plan_tree p h.body) d) []) (sym same) (itself (unborn (is_closure N))))
+      (subst (λ t. Stands φ p (Unborn (closed_over t bound)) (closure (plan_tree p h.body) d) []) (sym same) (itself (unborn (is_closure (alike_itself _) N))))
 
   pub called_fails : (f : Fault) → Makes (IsNames φ p) parameters_argued (Err f) → StandsCalled (Err f)
   called_fails f (makes_fault w) = makes_fault (ap (λ w. w >>= body_in) w)

@@ -4,6 +4,7 @@ use Rattle.std.specs.Prelude.{nat_le, IsErrAnd, All, Vec, String, string_bytes}
 use Rattle.std.specs.declared.rc.Rc.{Rc}
 use Rattle.std.specs.declared.alloc.Global.{Global}
 use Rattle.std.proofs.Math.Seq.{take-suc}
+use Rattle.sf_coincidence.proofs.Same.{alike_itself}
 use Rattle.sf_value.specs.Values.{Data}
 use Rattle.sf_value.specs.declared.fault.Fault.{Fault}
 use Rattle.sf_value.specs.declared.fault.Fault.TheVariants.{Memory}
@@ -51,7 +52,8 @@ use Rattle.sf_state.specs.declared.state.Keeping.{Keeping}
 use Rattle.sf_state.specs.declared.state.Wrap.{Wrap}
 use Rattle.sf_state.specs.declared.env.Env.{Env}
 use Rattle.sf_state.specs.Names.{values_around}
-use Rattle.sf_state.specs.Standing.{closed_over as SClosure, Stands, itself, unborn, recalls, waits_so, recurs_so, keeps_so, ready, lives_probe, lives_join, lives_wrap, Wraps, StagesStand, last_stands, stage_stands, is_closure, IsNames}
+use Rattle.sf_state.specs.Standing.{closed_over as SClosure, Stands, itself, unborn, recalls, waits_so, recurs_so, keeps_so, ready, lives_probe, lives_join, lives_wrap, Wraps, StagesStand, last_stands, stage_stands, is_closure, IsNames, IsProcess}
+use Rattle.sf_state.specs.declared.state.Process.{Process as SProcess}
 use Rattle.sf_state.proofs.Scopes.{scope_is}
 use Rattle.sf_state.proofs.Copies.{pipeline_lives}
 use Rattle.sf_parts.specs.declared.opening.Opened.{Opened}
@@ -108,8 +110,8 @@ module _ (φ : AnswersByName) (p : Plan) where
   pub open_join : (j : Join) (a b : PlanId) (names one two : Env) (l : Rc Live Global) → l.value ≡ LJoin j (Unborn (SClosure a one)) (Unborn (SClosure b two))
       → ((e : Environment) → IsNames φ p names e → IsNames φ p one e) → ((e : Environment) → IsNames φ p names e → IsNames φ p two e) → (e : Environment) → IsNames φ p names e → Opens φ p (joined j (plan_tree p a) (plan_tree p b)) e (Ok (opened.Live l))
   open_join j a b names one two l same h g e N =
-      let A = subst (λ (K : Life). Stands φ p (Unborn (SClosure a one)) (closure (plan_tree p a) e) K) (sym (left_none j)) (itself (unborn (is_closure (h e N)))) in
-      let B = subst (λ (K : Life). Stands φ p (Unborn (SClosure b two)) (closure (plan_tree p b) e) K) (sym (right_none j)) (itself (unborn (is_closure (g e N)))) in
+      let A = subst (λ (K : Life). Stands φ p (Unborn (SClosure a one)) (closure (plan_tree p a) e) K) (sym (left_none j)) (itself (unborn (is_closure (alike_itself _) (h e N)))) in
+      let B = subst (λ (K : Life). Stands φ p (Unborn (SClosure b two)) (closure (plan_tree p b) e) K) (sym (right_none j)) (itself (unborn (is_closure (alike_itself _) (g e N)))) in
       let O = subst (λ (K : Life). Outputs net (closure (plan_tree p a) e) K []) (sym (left_none j)) not_begun in
       opens same (λ x. ready refl not_begun (lives_join O A B))
 
@@ -121,7 +123,7 @@ module _ (φ : AnswersByName) (p : Plan) where
 
   pub open_wrap : (w : Wrap) (a : PlanId) (names inner : Env) (l : Rc Live Global) → l.value ≡ LWrap w (Unborn (SClosure a inner)) → ((e : Environment) → IsNames φ p names e → IsNames φ p inner e)
       → (t : Term) (e : Environment) (m : Made) → IsNames φ p names e → ((x : Data) → make net t e x ≡ answer m) → Wraps net w t e m [] (plan_tree p a) [] → Opens φ p t e (Ok (opened.Live l))
-  open_wrap w a names inner l same g t e m N h W = opens same (λ x. ready (h x) not_begun (lives_wrap W (itself (unborn (is_closure (g e N))))))
+  open_wrap w a names inner l same g t e m N h W = opens same (λ x. ready (h x) not_begun (lives_wrap W (itself (unborn (is_closure (alike_itself _) (g e N))))))
 
   pub open_sided : (d : Side) (a : PlanId) (t : Term) (names : Env) (w : Wrap) (r : Result Opened Fault) → BuildsPlan p (NSided d a) t
       → ((n : Network) (t : Term) (e : Environment) (m : Made) → Wraps n w (sided d t) e m [] t [])
@@ -152,15 +154,15 @@ module _ (φ : AnswersByName) (p : Plan) where
   -- a switch waits at first, and its first term isn't born
   pub open_switch : (w : Switching) (a b : PlanId) (q : PatternId) (names around : Env) (l : Rc Switch Global) → l.value ≡ (record { form = w; running = Unborn (SClosure a around); pattern = q; body = b }) → ((e : Environment) → IsNames φ p names e → IsNames φ p around e)
       → (e : Environment) → IsNames φ p names e → Opens φ p (switching w (plan_tree p a) (pattern_of (placed_at (plan_expressions p) q)) (plan_tree p b)) e (Ok (opened.Switch l))
-  open_switch (Basic w) a b q names around l same g e N = opens_watching same (waits_so refl at_start not_begun (itself (unborn (is_closure (g e N)))))
-  open_switch (Recurring w) a b q names around l same g e N = opens_watching same (recurs_so refl not_begun (itself (unborn (is_closure (g e N)))))
+  open_switch (Basic w) a b q names around l same g e N = opens_watching same (waits_so refl at_start not_begun (itself (unborn (is_closure (alike_itself _) (g e N)))))
+  open_switch (Recurring w) a b q names around l same g e N = opens_watching same (recurs_so refl not_begun (itself (unborn (is_closure (alike_itself _) (g e N)))))
 
   -- and so does one that keeps its source, whose observer isn't born either
-  pub open_keeping : (w : Observation) (a b c : PlanId) (k : NameId) (q : PatternId) (names one two : Env) (x : State) (l : Rc Keeping Global) → l.value ≡ (record { shown = w; first = a; source = Unborn (SClosure a one); before = x; observer = Unborn (SClosure b two); name = k; pattern = q; body = c })
-      → ((e : Environment) → IsNames φ p names e → IsNames φ p one e) → ((e : Environment) → IsNames φ p names e → IsNames φ p two e)
+  pub open_keeping : (w : Observation) (a b c : PlanId) (k : NameId) (q : PatternId) (names two : Env) (one : SProcess) (x : State) (l : Rc Keeping Global) → l.value ≡ (record { shown = w; first = a; source = Unborn one; before = x; observer = Unborn (SClosure b two); name = k; pattern = q; body = c })
+      → ((e : Environment) → IsNames φ p names e → IsProcess φ p one (closure (plan_tree p a) e)) → ((e : Environment) → IsNames φ p names e → IsNames φ p two e)
       → (e : Environment) → IsNames φ p names e → Opens φ p (keeping w (plan_tree p a) (plan_tree p b) (name_at (plan_expressions p) k) (pattern_of (placed_at (plan_expressions p) q)) (plan_tree p c)) e (Ok (opened.Keeping l))
-  open_keeping w a b c k q names one two x l same f g e N =
-      opens_keeping same (keeps_so at_start not_begun not_begun (itself (unborn (is_closure (f e N)))) (itself (unborn (is_closure (g e N)))))
+  open_keeping w a b c k q names two one x l same f g e N =
+      opens_keeping same (keeps_so at_start not_begun not_begun (itself (unborn (f e N))) (itself (unborn (is_closure (alike_itself _) (g e N)))))
 
   -- nodes of switches open as their terms do
   pub open_builds_switch : (w : Switching) (a b : PlanId) (q : PatternId) (t : Term) (names : Env) (r : Result Opened Fault) → BuildsPlan p (NSwitching w a q b) t
@@ -265,4 +267,4 @@ module _ (φ : AnswersByName) (p : Plan) where
   pub begin_next : (ids : List PlanId) (k : ℕ) (names : Env) (bs cs : List State) (e : Environment) (d : PlanId) → AllBegin φ p e (take k ids) bs → k < length ids → IsNames φ p names e → cs ≡ bs ++ Unborn (SClosure (get_or ids k d) names) ∷ [] → AllBegin φ p e (take (k + 1) ids) cs
   begin_next ids k names bs cs e d B short N same =
       let more : k + 1 ≡ suc k = omega arith in
-      rw (ap (λ j. take j ids) more ∙ take-suc ids k d short, same) (begin_push _ _ _ _ e B (itself (unborn (is_closure N))))
+      rw (ap (λ j. take j ids) more ∙ take-suc ids k d short, same) (begin_push _ _ _ _ e B (itself (unborn (is_closure (alike_itself _) N))))

@@ -10,7 +10,7 @@ use Rattle.sf_func.specs.Registries.{AnswersByName}
 use Rattle.sf_term.specs.declared.form.Observation.{Observation}
 use Rattle.sf_term.specs.Trees.{Extent, whole, rest, Term, primitive, reference, joined, sided, headed, switching, keeping, staged}
 use Rattle.sf_mean.specs.Lives.{Step, Life, Process, closure, Environment}
-use Rattle.sf_mean.specs.Meaning.{Network, Readings, Outcome, Cost, count, height, no_cost, both_costs, over, over_first, over_stages, text_cost, entered_cost, Made, Gives, gives, Sample, of_constants, of_form, of_resumed, Form, of_primitive, of_join, of_side, of_loop, of_initialized, of_reference, of_switch, of_keeping, of_recurring, of_stages, Watched, Takeover, Standing, SwitchTurn, while_waiting, as_body}
+use Rattle.sf_mean.specs.Meaning.{Network, Readings, Outcome, Cost, count, height, no_cost, both_costs, over, over_first, over_stages, text_cost, entered_cost, Made, Gives, gives, Sample, of_constants, of_form, of_resumed, Form, of_primitive, of_join, of_side, of_loop, of_initialized, of_replaced, of_reference, of_switch, of_keeping, of_recurring, of_stages, Watched, Takeover, Standing, SwitchTurn, while_waiting, as_body}
 use Rattle.sf_law.specs.declared.plan.Plan.{Plan}
 use Rattle.sf_law.specs.Arena.{network_of_plan}
 use Rattle.sf_state.specs.declared.state.State.{State}
@@ -75,6 +75,7 @@ module _ (n : Network) where
     form_counts (of_side G) = (omega arith, omega arith)
     form_counts (of_loop O G) = (omega arith, omega arith)
     form_counts (of_initialized G) = (omega arith, omega arith)
+    form_counts (of_replaced G) = (omega arith, omega arith)
     form_counts (of_switch S T) = turn_counts T
     form_counts (of_keeping S T) = turn_counts T
     form_counts (of_recurring G F) = (omega arith, omega arith)

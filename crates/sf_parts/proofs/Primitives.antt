@@ -11,7 +11,7 @@ use Rattle.sf_func.specs.Registries.{AnswersByName}
 use Rattle.sf_expr.specs.Evaluation.{Scope, functions_in, answer, failed as no_answer}
 use Rattle.sf_operator.specs.declared.fault.EvalFault.{EvalFault}
 use Rattle.sf_operator.specs.declared.fault.EvalFault.TheVariants.{Value as EValue, Memory as EMemory}
-use Rattle.sf_term.specs.Trees.{Primitive, bare, probe, never, with_value, timed, arrow, accumulated, fused, primitive}
+use Rattle.sf_term.specs.Trees.{Primitive, bare, probe, never, with_value, timed, selected, arrow, accumulated, fused, primitive}
 use Rattle.sf_mean.specs.Lives.{Step, step, Life, closure, scope_around}
 use Rattle.sf_mean.specs.Formulas.{formula}
 use Rattle.sf_mean.specs.Meaning.{Network, gave, faulted, recorded, as_outcome, one_term, nothing_made, Gives, gives, and_gave, of_form, Form, of_primitive}
@@ -53,6 +53,7 @@ module _ (φ : AnswersByName) (p : Plan) where
   unrecorded (never t) s K = refl
   unrecorded (with_value k e) s K = refl
   unrecorded (timed k q e) s K = refl
+  unrecorded (selected k n) s K = refl
   unrecorded (arrow f) s K = refl
   unrecorded (accumulated k e f) s K = refl
   unrecorded (fused f) s K = refl

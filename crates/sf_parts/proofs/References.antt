@@ -1,6 +1,7 @@
 -- What stands under a name.
 use Rattle.std.proofs.Common.{◌≡◌, [], Option, None, Result, Ok, Err, sym, ap, ◌∙◌, subst}
 use Rattle.std.specs.Prelude.{IfOk}
+use Rattle.sf_coincidence.proofs.Same.{alike_itself}
 use Rattle.sf_func.specs.Registries.{AnswersByName}
 use Rattle.sf_term.specs.declared.form.Bare.TheVariants.{Identity}
 use Rattle.sf_term.specs.Trees.{bare, primitive}
@@ -29,4 +30,4 @@ module _ (φ : AnswersByName) (p : Plan) where
   pub passing_base : (r : Option Handed) (i : PlanId) (P : Process) → r ≡ None → plan_tree p i ≡ primitive (bare Identity) → IsFound φ p r P → IsProcess φ p (SClosure i SEmpty) (base P)
   passing_base r i P is same h =
       let none : P ≡ passing = subst (λ r. IsFound φ p r P) is h in
-      subst (λ P. IsProcess φ p (SClosure i SEmpty) P) (ap (λ t. closure t empty) same ∙ ap base (sym none)) (is_closure is_empty)
+      subst (λ P. IsProcess φ p (SClosure i SEmpty) P) (ap (λ t. closure t empty) same ∙ ap base (sym none)) (is_closure (alike_itself _) is_empty)

@@ -213,7 +213,7 @@ fn given_by<R: Holds>(
             Ok(Given::Process(handed))
         }
         PlanArgument::Closed(term) => {
-            let handed = closed(context.plan, *term, names)?;
+            let handed = closed(context.alloc, context.plan, *term, names)?;
             Ok(Given::Process(handed))
         }
     }
@@ -235,15 +235,11 @@ fn handed_on<R: Holds>(
     Ok(Handed { process, base })
 }
 
-// The process of a term in the names around it, which began as itself.
-fn closed(plan: &Plan, term: PlanId, names: &Env) -> Result<Handed, AllocError>
+// The process of a term in the names around it that it mentions, which began as itself.
+fn closed(alloc: Global, plan: &Plan, term: PlanId, names: &Env) -> Result<Handed, AllocError>
     ensures { IfOk result (λ handed. (φ : AnswersByName) (e : Environment) → IsNames φ plan.now names.now e → IsHanded φ plan.now handed (closure (plan_tree plan.now term) e)) }
 {
-    let around = names.share()?;
-    let process = Process {
-        term,
-        names: around,
-    };
+    let process = Process::within(alloc, plan, term, names)?;
     let base = kept(plan, &process)?;
     let process = State::Unborn(process);
     Ok(Handed { process, base })

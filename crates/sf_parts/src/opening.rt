@@ -27,7 +27,7 @@ use crate::routing::{on_side, with_head};
 use sf_code::OpenCode;
 use sf_expr::{NameId, PatternId};
 use sf_func::Holds;
-use sf_law::{PlanArgument, PlanId, PlanNode, PlanPrimitive, TemplateId};
+use sf_law::{Plan, PlanArgument, PlanId, PlanNode, PlanPrimitive, TemplateId};
 use sf_prim::PrimState;
 use sf_state::{Env, Keeping, Live, NamesIn, Process, State, Switch, Wrap};
 use sf_term::{Heading, Join, Observation, Start, Switching};
@@ -119,6 +119,7 @@ fn open<R: Holds>(context: &SampleContext<R>, term: PlanId, names: &Env) -> Resu
         PlanNode::Pipeline(stages) => pipeline(context.alloc, stages, names),
         PlanNode::Keeping(shown, source, observer, name, pattern, body) => keeping(
             context.alloc,
+            context.plan,
             *shown,
             *source,
             *observer,
@@ -279,10 +280,11 @@ fn switching(
     Ok(Opened::Switch(node))
 }
 
-// A switch that keeps its source, likewise.
+// A switch that keeps its source, likewise. What it keeps has the names that its term mentions alone.
 #[inline(never)]
 fn keeping(
     alloc: Global,
+    plan: &Plan,
     shown: Observation,
     source: PlanId,
     observer: PlanId,
@@ -291,23 +293,20 @@ fn keeping(
     body: PlanId,
     names: &Env,
 ) -> Result<Opened, Fault>
-    ensures { (φ : AnswersByName) (p : PlanOf) (e : Environment) → IsNames φ p names.now e →
+    ensures { let p = plan.now in (φ : AnswersByName) (e : Environment) → IsNames φ p names.now e →
         Opens φ p (keeping_term shown (plan_tree p source) (plan_tree p observer) (name_at (plan_expressions p) name) (pattern_of (placed_at (plan_expressions p) pattern)) (plan_tree p body))
         e result }
 {
-    let one = names.share()?;
-    let two = names.share()?;
+    let running = Process::within(alloc, plan, source, names)?;
+    let around = names.share()?;
     let keeping = Keeping {
         shown,
         first: source,
-        source: State::Unborn(Process {
-            term: source,
-            names: one,
-        }),
+        source: State::Unborn(running),
         before: State::unborn(source),
         observer: State::Unborn(Process {
             term: observer,
-            names: two,
+            names: around,
         }),
         name,
         pattern,

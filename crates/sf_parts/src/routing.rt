@@ -80,6 +80,7 @@ pub(crate) fn with_head(heading: Heading, value: Value) -> Wrap
     match heading {
         Heading::LoopPre => Wrap::Loop(Feedback::new(value)),
         Heading::Initialized => Wrap::Initialized(Some(value)),
+        Heading::Replaced => Wrap::Replaced(Some(value)),
     }
 }
 

@@ -1,6 +1,7 @@
 pub mod Counting
 pub mod Statuses
-pub mod Refusals
+pub use Rattle.sf_accept.specs.Refusals
+pub use Rattle.sf_accept.specs.Dumps
 pub mod Scripts
 pub mod Stops
 pub mod Telling

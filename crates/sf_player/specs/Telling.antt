@@ -21,7 +21,7 @@ use Rattle.sf_lines.specs.declared.refusal.LineRefusal.TheVariants.{Memory as Me
 use Rattle.sf_player.specs.Scripts.{Moment, at_start, has_begun, life_after, IsSample, input_ended, sample_faulted, line_refused, Asks, LeadsTo, Script}
 use Rattle.sf_player.specs.declared.end.PlayEnd.{PlayEnd}
 use Rattle.sf_player.specs.declared.end.PlayEnd.TheVariants.{Done, Fault, BadLine, Network as NetworkRefused, ReadFault, WriteFault}
-use Rattle.sf_player.specs.Refusals.{IsRefusedFor}
+use Rattle.sf_accept.specs.Refusals.{IsRefusedFor}
 
 -- whether a line asks for a copy of a life: to keep one that may be kept, or to return to one that is kept
 abbrev pub CopiesLife : Asked → Saves → Type 0

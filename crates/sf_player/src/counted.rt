@@ -107,7 +107,7 @@ impl<W: Write> Counted<W> {
     }
 
     /// Writes all of the text and flushes it. After a failure a front of it was written.
-    pub(crate) fn put(&mut self, text: &[u8]) -> bool
+    pub fn put(&mut self, text: &[u8]) -> bool
         ensures written { OnTrue result (Appends (W.contents (inner_of self.old))
             (W.contents (inner_of self.new)) text.now) }
         ensures front { OnFalse result (WritesFront (W.contents (inner_of self.old))

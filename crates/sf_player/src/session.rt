@@ -13,9 +13,9 @@ ghost use Rattle.sf_player.specs.Playing.{Played, IsFresh};
 
 use crate::counted::Counted;
 use crate::end::PlayEnd;
-use crate::network::read_accepted;
 use crate::options::Options;
 use crate::player::Player;
+use sf_accept::read_accepted;
 use sf_check::Checked;
 use sf_engine::{Engine, Mode};
 use sf_func::{Holds, Registry};

@@ -20,7 +20,7 @@ use Rattle.sf_prim.specs.declared.chain.Link.TheVariants as links
 use Rattle.sf_prim.specs.declared.chain.Link.TheOpen.{Link-F}
 use Rattle.sf_prim.specs.declared.chain.Link.TheFolds.{fold-roll-Link}
 use Rattle.sf_prim.specs.declared.prim_state.PrimState.TheVariants.{Fused}
-use Rattle.sf_prim.specs.Gifts.{gift}
+use Rattle.sf_delay.specs.Gifts.{gift}
 use Rattle.sf_prim.specs.Links.{Worker, Work, in_turn, link_step, link_worth, links_worth, IsLinkOf, AreLinksOf, AddsLinks}
 use Rattle.sf_prim.specs.Keeping.{Remembers, keeps_chain, GoesOn, goes_on, goes_on_with_fault, goes_on_without_memory}
 

@@ -1,8 +1,8 @@
 -- Samples of primitives.
-use Rattle.std.proofs.Common.{Box, ◌≡◌, ℕ, suc, ◌+◌, ◌-◌, arith, inl, inr, [], ◌∷◌, Bool, true, false, true≢false, cond, ℤ, pos, negsuc, Option, Some, None, Result, Ok, Err, refl, sym, ap, ◌∙◌, subst}
-use mathlib.Core.Path.{ap₂}
-use Rattle.std.proofs.lemmas.Bool.{cases_lt, le-leb, lt-leb, leb-true}
-use Rattle.std.specs.Prelude.{nat_le, not, ◌&&◌, ◌+ℤ◌, ◌*ℤ◌, IsErrAnd, OnOk, IfErr}
+use Rattle.std.proofs.Common.{Box, ◌≡◌, ℕ, zero, suc, ◌+◌, ◌-◌, arith, inl, inr, [], ◌∷◌, Bool, true, cond, ℤ, pos, negsuc, Option, Some, None, Result, Ok, Err, refl, sym, ap, ◌∙◌, subst}
+use Rattle.std.proofs.lemmas.Bool.{cases_lt, le-leb, lt-leb}
+use Rattle.std.specs.Prelude.{nat_eq, nat_le, ◌&&◌, IsErrAnd, OnOk, IfErr}
+use Rattle.std.proofs.Math.Dec.{eqb-suc-zero, leb-suc-zero}
 use Rattle.std.specs.declared.alloc.Global.{Global}
 use Rattle.std.specs.declared.rc.Rc.{Rc}
 use Rattle.sf_value.specs.Values.{Data, no_event, event}
@@ -13,27 +13,34 @@ use Rattle.sf_code.specs.declared.open.OpenCode.{OpenCode}
 use Rattle.sf_code.specs.declared.open.Closure.{Closure}
 use Rattle.sf_code.specs.Worth.{IsCodeOfFunctionIn, IsClosureOf}
 use Rattle.sf_operator.specs.Outcomes.{tested}
-use Rattle.sf_operator.specs.Operations.{event_of, payload_or}
+use Rattle.sf_operator.specs.Operations.{payload_or}
 use Rattle.sf_operator.specs.Answers.{Evaluates, EvaluatesAs}
 use Rattle.sf_operator.specs.declared.fault.EvalFault.{EvalFault}
 use Rattle.sf_operator.specs.declared.fault.EvalFault.TheVariants.{Value, Memory}
 use Rattle.sf_term.specs.declared.form.WithValue.{WithValue}
-use Rattle.sf_term.specs.declared.form.WithValue.TheVariants.{Constant as VConstant, InitialPre, InitializedPre, Now as VNow, Hold as VHold}
+use Rattle.sf_term.specs.declared.form.WithValue.TheVariants.{Constant as VConstant, Initially as VInitially, InitialPre, InitializedPre, Now as VNow, InitialEdge, EdgeTag, Hold as VHold, DelayedHold as VDelayedHold}
 use Rattle.sf_term.specs.declared.form.Timing.{Timing}
-use Rattle.sf_term.specs.declared.form.Timing.TheVariants.{After}
+use Rattle.sf_term.specs.declared.form.Timing.TheVariants.{After, Repeatedly, Delay}
+use Rattle.sf_term.specs.declared.form.Selection.{Selection}
+use Rattle.sf_term.specs.declared.form.Selection.TheVariants.{TakeEvents, DropEvents}
 use Rattle.sf_term.specs.declared.form.Accumulation.{Accumulation}
-use Rattle.sf_term.specs.Trees.{Primitive, with_value, timed, accumulated}
+use Rattle.sf_term.specs.Trees.{Primitive, with_value, timed, selected, accumulated}
 use Rattle.sf_mean.specs.Lives.{Step, step, input_of, Life, time}
-use Rattle.sf_mean.specs.Formulas.{coming, next_value, accumulation, displayed, at_first, level, area, is_high, is_low, event_if, occurring, count_up, occurrences, counted, last_payload, value_formula, has_passed, timed_formula, formula}
-use Rattle.sf_prim.specs.declared.time.Area.{Area as Sum}
-use Rattle.sf_prim.specs.declared.time.Timer.{Timer}
+use Rattle.sf_mean.specs.Formulas.{span, coming, next_value, accumulation, displayed, at_first, area, is_high, is_low, event_if, occurring, count_up, occurrences, counted, last_payload, value_formula, timed_formula, has_occurred, selected_formula, formula}
+use Rattle.sf_delay.specs.Lately.{has_steps}
+use Rattle.sf_delay.specs.Waits.{Sums, RunsDown, TicksOn}
+use Rattle.sf_delay.specs.Delays.{Delays}
+use Rattle.sf_delay.specs.declared.sum.Sum.{Sum}
+use Rattle.sf_delay.specs.declared.timer.Timer.{Timer}
+use Rattle.sf_delay.specs.declared.ticker.Ticker.{Ticker}
+use Rattle.sf_delay.specs.declared.line.Line.{Line}
 use Rattle.sf_prim.specs.declared.accumulator.Accumulator.{Accumulator}
 use Rattle.sf_prim.specs.declared.prim_state.PrimState.{PrimState}
-use Rattle.sf_prim.specs.declared.prim_state.PrimState.TheVariants.{Identity, Never, Constant, Previous, Arrow, Closed, Accumulated, Clock, Area, Timed, Edge, NotYet, Count, Now, Hold}
-use Rattle.sf_prim.specs.Gifts.{gift}
+use Rattle.sf_prim.specs.declared.prim_state.PrimState.TheVariants.{Identity, Never, Constant, Previous, Arrow, Closed, Accumulated, Clock, Area, Timed, Ticked, Delayed, Selected, Edge, Tagged, NotYet, Count, Now, Initially, Hold, DelayedHold}
+use Rattle.sf_delay.specs.Gifts.{gift}
 use Rattle.sf_prim.specs.Links.{closure_worth}
 use Rattle.std.proofs.lemmas.Result.{on_ok_weaker}
-use Rattle.sf_prim.specs.Keeping.{shown_after, time_after, last_time, has_steps, span, waited, is_up, count_after, counted_after, Remembers, keeps_nothing, keeps_no_event, keeps_value, keeps_previous, keeps_initialized, keeps_pre, keeps_function, keeps_closure, keeps_accumulation, keeps_time, keeps_area, keeps_timer, keeps_low, keeps_begun, keeps_count, keeps_first, keeps_passed, keeps_last, Begins, begins_with_fault, begins_without_memory, GoesOn, goes_on, goes_on_with_fault, goes_on_without_memory}
+use Rattle.sf_prim.specs.Keeping.{shown_after, time_after, last_time, count_after, counted_after, left_after, passed_on, Remembers, keeps_nothing, keeps_no_event, keeps_value, keeps_previous, keeps_initialized, keeps_pre, keeps_function, keeps_closure, keeps_accumulation, keeps_time, keeps_area, keeps_timer, keeps_ticker, keeps_line, keeps_left, keeps_low, keeps_first_low, keeps_tag, keeps_begun, keeps_first_left, keeps_count, keeps_first, keeps_passed, keeps_initial, keeps_later, keeps_last, keeps_last_before, Begins, begins_with_fault, begins_without_memory, GoesOn, goes_on, goes_on_with_fault, goes_on_without_memory}
 
 -- a primitive with a value gives what its formula makes of it
 value_gives : (k : WithValue) (e : Expression) (scope : Scope) (v : Data) (s : Step) (L : Life)
@@ -69,6 +76,10 @@ memory_exit sc q r h = exit_so sc q Memory r h begins_without_memory
 pub identity_goes_on : (q : Primitive) (scope : Scope) (d : _) (x : Data) (L : Life)
     → Remembers Identity q scope L → GoesOn q scope (step d x) L Identity (Ok x)
 identity_goes_on q scope d x L keeps_nothing = goes_on refl keeps_nothing
+identity_goes_on q scope d x L (keeps_later {e = e} {v = v} h) = goes_on (value_gives VInitially e scope v (step d x) L h) (keeps_later h)
+
+pub initially_goes_on : (q : Primitive) (scope : Scope) (d : _) (x : Data) (L : Life) (v : Data) → Remembers (Initially v) q scope L → GoesOn q scope (step d x) L Identity (Ok v)
+initially_goes_on q scope d x L v (keeps_initial {e = e} h) = goes_on (value_gives VInitially e scope v (step d x) L h) (keeps_later h)
 
 pub never_goes_on : (q : Primitive) (scope : Scope) (s : Step) (L : Life) (v : Data) → v ≡ no_event → Remembers Never q scope L → GoesOn q scope s L Never (Ok v)
 never_goes_on q scope s L v is keeps_no_event = goes_on (ap answer (sym is)) keeps_no_event
@@ -121,83 +132,95 @@ clock_goes_on q scope d x L t u w r told kept (keeps_time is) =
     goes_with r w (ap tested (sym now)) told (on_ok_weaker r (λ h. keeps_time (h ∙ ap Some now)) kept)
 
 pub area_goes_on : {A : Type 0} (q : Primitive) (scope : Scope) (d : ℕ) (x : Data) (L : Life) (b c : Sum) (w : Data) (r : Result A EvalFault)
-    → Evaluates (gift r w) (tested (b.sum +ℤ (pos d *ℤ b.level))) → OnOk r ((c.sum ≡ b.sum +ℤ (pos d *ℤ b.level)) × (c.level ≡ level x)) → Remembers (Area b) q scope L → GoesOn q scope (step d x) L (Area c) (gift r w)
-area_goes_on q scope d x L b c w r told kept (keeps_area sum last) =
-    let now : b.sum +ℤ (pos d *ℤ b.level) ≡ area (step d x ∷ L) = ap₂ (λ z h. z +ℤ (pos d *ℤ h)) sum last in
-    goes_with r w (ap tested (sym now)) told (on_ok_weaker r (λ k. keeps_area (k.0 ∙ now) k.1) kept)
-
--- how much of a time is left, and whether all of it has passed
-le_moved : (n a w : ℕ) → nat_le (n - a) w ≡ nat_le n (a + w)
-le_moved n a w = elim (cases_lt (a + w) n) [
-  | inl h ↦ lt-leb (n - a) w (omega arith) ∙ sym (lt-leb n (a + w) h)
-  | inr h ↦ le-leb (n - a) w (omega arith) ∙ sym (le-leb n (a + w) h)
-]
-
-taken_off : (n a w : ℕ) → (n - a) - w ≡ n - (a + w)
-taken_off n a w = omega arith
-
-all_left : (n : ℕ) → n ≡ n - 0
-all_left n = omega arith
-
-time_grows : (d : ℕ) (x : Data) (L : Life) → time L + waited (has_steps L) d ≡ time (step d x ∷ L)
-time_grows d x [] = refl
-time_grows d x (s ∷ L) = refl
-
-reached_is : (q : ℤ) (s : Step) (L : Life) → nat_le (span q) (time (s ∷ L)) ≡ has_passed q (s ∷ L)
-reached_is (pos n) s L = refl
-reached_is (negsuc n) s L = le-leb 0 (time (s ∷ L)) (omega arith)
-
-stays_passed : (q : ℤ) (s : Step) (L : Life) → has_passed q L ≡ true → has_passed q (s ∷ L) ≡ true
-stays_passed q s [] h = absurd (true≢false (sym h))
-stays_passed q s (r ∷ L) h = sym (reached_is q s (r ∷ L)) ∙ le-leb (span q) (time (s ∷ r ∷ L)) (omega (arith, leb-true (span q) (time (r ∷ L)) (reached_is q r L ∙ h)))
-
--- by whether the time had passed before, and whether it has now
-rung_is : (before now : Bool) (v : Data) → cond now (event_of (cond before None (Some v))) no_event ≡ cond (now && not before) (event v) no_event
-rung_is true true v = refl
-rung_is true false v = refl
-rung_is false true v = refl
-rung_is false false v = refl
-
-due_is : (before now : Bool) (v : Data) → (before ≡ true → now ≡ true) → cond now None (cond before None (Some v)) ≡ cond now None (Some v)
-due_is before true v h = refl
-due_is false false v h = refl
-due_is true false v h = absurd (true≢false (sym (h refl)))
-
-pub timer_keeps : (sc : Scope) (k : Timing) (q : ℤ) (e : Expression) (t : Box Timer Global) (v : Data) → t.value.due ≡ Some v → t.value.begun ≡ false → t.value.left ≡ span q
-    → eval e sc ≡ answer v → Remembers (Timed t) (timed k q e) sc []
-timer_keeps sc After q e t v due begun left h = keeps_timer h due begun (left ∙ all_left (span q))
+    → ((L : Life) → Sums b L → Evaluates (gift r w) (tested (area (step d x ∷ L)))) → ((L : Life) → Sums b L → OnOk r (Sums c (step d x ∷ L))) → Remembers (Area b) q scope L → GoesOn q scope (step d x) L (Area c) (gift r w)
+area_goes_on q scope d x L b c w r told kept (keeps_area is) = goes_with r w refl (told L is) (on_ok_weaker r keeps_area (kept L is))
 
 -- of an equal time it keeps the same
 pub timed_as : (sc : Scope) (i : PrimState) (k : Timing) (e : Expression) {y z : ℤ} → y ≡ z → Remembers i (timed k y e) sc [] → Remembers i (timed k z e) sc []
 timed_as sc i k e is h = subst (λ (z : ℤ). Remembers i (timed k z e) sc []) is h
 
--- a copy of a timer keeps the same
-pub timer_follows : (t u : Box Timer Global) → u.value.due ≡ t.value.due → u.value.begun ≡ t.value.begun → u.value.left ≡ t.value.left → (q : Primitive) (scope : Scope) (L : Life) → Remembers (Timed t) q scope L → Remembers (Timed u) q scope L
-timer_follows t u due begun left q scope L (keeps_timer h is_due is_begun is_left) = keeps_timer h (due ∙ is_due) (begun ∙ is_begun) (left ∙ is_left)
+-- copies of what has a time keep the same
+pub timer_follows : (t u : Box Timer Global) → ((q : ℤ) (v : Data) (L : Life) → RunsDown t.value q v L → RunsDown u.value q v L) → (q : Primitive) (scope : Scope) (L : Life) → Remembers (Timed t) q scope L → Remembers (Timed u) q scope L
+timer_follows t u same q scope L (keeps_timer h is) = keeps_timer h (same _ _ L is)
 
-pub timer_goes_on : {A : Type 0} (q : Primitive) (scope : Scope) (d : ℕ) (x : Data) (L : Life) (t u : Box Timer Global) (w : Data) (r : Result A EvalFault)
-    → Evaluates (gift r w) (answer (cond (is_up t.value d) (event_of t.value.due) no_event)) → OnOk r (u.value.due ≡ cond (is_up t.value d) None t.value.due) → OnOk r (u.value.begun ≡ true) → OnOk r (u.value.left ≡ t.value.left - waited t.value.begun d)
-    → Remembers (Timed t) q scope L → GoesOn q scope (step d x) L (Timed u) (gift r w)
-timer_goes_on q scope d x L t u w r told due begun left (keeps_timer {q = m} {e = e} {v = v} h is_due is_begun is_left) =
-    let s = step d x in
-    let before = has_passed m L in
-    let now = has_passed m (s ∷ L) in
-    let up : is_up t.value d ≡ now =
-    ap₂ (λ l b. nat_le l (waited b d)) is_left is_begun ∙ le_moved (span m) (time L) (waited (has_steps L) d) ∙ ap (nat_le (span m)) (time_grows d x L) ∙ reached_is m s L in
-    let given : cond (is_up t.value d) (event_of t.value.due) no_event ≡ timed_formula After m v s L = ap₂ (λ b o. cond b (event_of o) no_event) up is_due ∙ rung_is before now v in
-    let due_now : cond (is_up t.value d) None t.value.due ≡ cond now None (Some v) = ap₂ (λ b o. cond b None o) up is_due ∙ due_is before now v (stays_passed m s L) in
-    let left_now : t.value.left - waited t.value.begun d ≡ span m - time (s ∷ L) =
-    ap₂ (λ l b. l - waited b d) is_left is_begun ∙ taken_off (span m) (time L) (waited (has_steps L) d) ∙ ap (λ z. span m - z) (time_grows d x L) in
-    goes_with r w (ap (λ r. r >>= λ v. answer (timed_formula After m v s L)) h ∙ ap answer (sym given)) told (kept_so r (λ a b c. keeps_timer h (a ∙ due_now) b (c ∙ left_now)) due begun left)
-  where
-    kept_so : {A P Q R S : Type 0} (r : Result A EvalFault) → (P → Q → R → S) → OnOk r P → OnOk r Q → OnOk r R → OnOk r S
-    kept_so (Ok a) f p q r = f p q r
-    kept_so (Err e) f p q r = p
+pub ticker_follows : (t u : Box Ticker Global) → ((q : ℤ) (v : Data) (L : Life) → TicksOn t.value q v L → TicksOn u.value q v L) → (q : Primitive) (scope : Scope) (L : Life) → Remembers (Ticked t) q scope L → Remembers (Ticked u) q scope L
+ticker_follows t u same q scope L (keeps_ticker h is) = keeps_ticker h (same _ _ L is)
+
+pub line_follows : (l m : Box Line Global) → ((q : ℤ) (v : Data) (L : Life) → Delays l.value q v L → Delays m.value q v L) → (q : Primitive) (scope : Scope) (L : Life) → Remembers (Delayed l) q scope L → Remembers (Delayed m) q scope L
+line_follows l m same q scope L (keeps_line h is) = keeps_line h (same _ _ L is)
+
+timed_goes_on : {A : Type 0} (k : Timing) (m : ℤ) (e : Expression) (v : Data) (scope : Scope) (s : Step) (L : Life) (i : PrimState) (w : Data) (r : Result A EvalFault)
+    → eval e scope ≡ answer v → Evaluates (gift r w) (answer (timed_formula k m v s L)) → OnOk r (Remembers i (timed k m e) scope (s ∷ L)) → GoesOn (timed k m e) scope s L i (gift r w)
+timed_goes_on k m e v scope s L i w r h told kept = goes_with r w (ap (λ r. r >>= λ v. answer (timed_formula k m v s L)) h) told kept
+
+pub timer_goes_on : {A : Type 0} (q : Primitive) (scope : Scope) (s : Step) (L : Life) (t u : Box Timer Global) (w : Data) (r : Result A EvalFault)
+    → ((m : ℤ) (v : Data) (L : Life) → RunsDown t.value m v L → Evaluates (gift r w) (answer (timed_formula After m v s L))) → ((m : ℤ) (v : Data) (L : Life) → RunsDown t.value m v L → OnOk r (RunsDown u.value m v (s ∷ L)))
+    → Remembers (Timed t) q scope L → GoesOn q scope s L (Timed u) (gift r w)
+timer_goes_on q scope s L t u w r told kept (keeps_timer {q = m} {e = e} {v = v} h is) = timed_goes_on After m e v scope s L (Timed u) w r h (told m v L is) (on_ok_weaker r (keeps_timer h) (kept m v L is))
+
+pub ticker_goes_on : {A : Type 0} (q : Primitive) (scope : Scope) (s : Step) (L : Life) (t u : Box Ticker Global) (w : Data) (r : Result A EvalFault)
+    → ((m : ℤ) (v : Data) (L : Life) → TicksOn t.value m v L → Evaluates (gift r w) (answer (timed_formula Repeatedly m v s L))) → ((m : ℤ) (v : Data) (L : Life) → TicksOn t.value m v L → OnOk r (TicksOn u.value m v (s ∷ L)))
+    → Remembers (Ticked t) q scope L → GoesOn q scope s L (Ticked u) (gift r w)
+ticker_goes_on q scope s L t u w r told kept (keeps_ticker {q = m} {e = e} {v = v} h is) = timed_goes_on Repeatedly m e v scope s L (Ticked u) w r h (told m v L is) (on_ok_weaker r (keeps_ticker h) (kept m v L is))
+
+pub line_goes_on : {A : Type 0} (q : Primitive) (scope : Scope) (s : Step) (L : Life) (l k : Box Line Global) (w : Data) (r : Result A EvalFault)
+    → ((m : ℤ) (v : Data) (L : Life) → Delays l.value m v L → Evaluates (gift r w) (answer (timed_formula Delay m v s L))) → ((m : ℤ) (v : Data) (L : Life) → Delays l.value m v L → OnOk r (Delays k.value m v (s ∷ L)))
+    → Remembers (Delayed l) q scope L → GoesOn q scope s L (Delayed k) (gift r w)
+line_goes_on q scope s L l k w r told kept (keeps_line {q = m} {e = e} {v = v} h is) = timed_goes_on Delay m e v scope s L (Delayed k) w r h (told m v L is) (on_ok_weaker r (keeps_line h) (kept m v L is))
+
+-- whether no event of a number is left
+zero_le : (n : ℕ) → nat_eq n 0 ≡ nat_le n 0
+zero_le zero = refl
+zero_le (suc n) = eqb-suc-zero n ∙ sym (leb-suc-zero n)
+
+none_left : (n o : ℕ) → nat_eq (n - o) 0 ≡ nat_le n o
+none_left n o = zero_le (n - o) ∙ elim (cases_lt o n) [
+  | inl h ↦ lt-leb (n - o) 0 (omega arith) ∙ sym (lt-leb n o h)
+  | inr h ↦ le-leb (n - o) 0 (omega arith) ∙ sym (le-leb n o h)
+]
+
+over_is : (n : ℤ) (L : Life) → nat_eq (span n - occurrences L) 0 ≡ has_occurred n L
+over_is (pos n) L = none_left n (occurrences L)
+over_is (negsuc n) L = zero_le (0 - occurrences L) ∙ le-leb (0 - occurrences L) 0 (omega arith)
+
+passed_on_is : (k : Selection) (n : ℤ) (d : ℕ) (x : Data) (L : Life) → passed_on k (span n - occurrences L) x ≡ selected_formula k n (step d x) L
+passed_on_is TakeEvents n d x L = ap (λ b. cond b no_event x) (over_is n L)
+passed_on_is DropEvents n d x L = ap (λ b. cond b x no_event) (over_is n L)
+
+one_fewer : (n m : ℕ) → (n - m) - 1 ≡ n - suc m
+one_fewer n m = omega arith
+
+left_is : (o : Option Data) (n m : ℕ) → left_after o (n - m) ≡ n - count_up o m
+left_is None n m = refl
+left_is (Some x) n m = one_fewer n m
+
+all_left : (n : ℕ) → n ≡ n - 0
+all_left n = omega arith
+
+pub selected_keeps : (sc : Scope) (k : Selection) (n z : ℤ) (left : ℕ) → left ≡ span z → z ≡ n → Remembers (Selected k left) (selected k n) sc []
+selected_keeps sc k n z left is same = keeps_left (is ∙ ap span same ∙ all_left (span n))
+
+selected_next : (d : ℕ) (x : Data) (L : Life) (k : Selection) (n : ℤ) (left after : ℕ) (w : Data) → w ≡ passed_on k left x → after ≡ left_after (occurring x) left → left ≡ span n - occurrences L
+    → (selected_formula k n (step d x) L ≡ w) × (after ≡ span n - occurrences (step d x ∷ L))
+selected_next d x L k n left after w told kept is =
+    (sym (told ∙ ap (λ l. passed_on k l x) is ∙ passed_on_is k n d x L), kept ∙ ap (left_after (occurring x)) is ∙ left_is (occurring x) (span n) (occurrences L))
+
+pub selected_goes_on : (q : Primitive) (scope : Scope) (d : ℕ) (x : Data) (L : Life) (k : Selection) (left after : ℕ) (w : Data)
+    → w ≡ passed_on k left x → after ≡ left_after (occurring x) left → Remembers (Selected k left) q scope L → GoesOn q scope (step d x) L (Selected k after) (Ok w)
+selected_goes_on q scope d x L k left after w told kept (keeps_left {n = n} is) = let next = selected_next d x L k n left after w told kept is in goes_on (ap answer next.0) (keeps_left next.1)
+selected_goes_on q scope d x L k left after w told kept (keeps_first_left is) = let next = selected_next d x L k (pos 1) left after w told kept is in goes_on (ap answer next.0) (keeps_first_left next.1)
 
 pub edge_goes_on : {A : Type 0} (q : Primitive) (scope : Scope) (d : ℕ) (x : Data) (L : Life) (b c : Bool) (w : Data) (r : Result A EvalFault)
     → Evaluates (gift r w) (answer (event_if (is_high x && b))) → OnOk r (c ≡ is_low x) → Remembers (Edge b) q scope L → GoesOn q scope (step d x) L (Edge c) (gift r w)
 edge_goes_on q scope d x L b c w r told kept (keeps_low is) =
     goes_with r w (ap (λ b. answer (event_if (is_high x && b))) (sym is)) told (on_ok_weaker r keeps_low kept)
+edge_goes_on q scope d x L b c w r told kept (keeps_first_low {e = e} {v = v} h is) =
+    goes_with r w (value_gives InitialEdge e scope v (step d x) L h ∙ ap (λ b. answer (event_if (is_high x && b))) (sym is)) told (on_ok_weaker r (keeps_first_low h) kept)
+
+pub tagged_goes_on : {A : Type 0} (q : Primitive) (scope : Scope) (d : ℕ) (x : Data) (L : Life) (b c : Bool) (v w : Data) (r : Result A EvalFault)
+    → Evaluates (gift r w) (answer (cond (is_high x && b) (event v) no_event)) → OnOk r (c ≡ is_low x) → Remembers (Tagged b v) q scope L → GoesOn q scope (step d x) L (Tagged c v) (gift r w)
+tagged_goes_on q scope d x L b c v w r told kept (keeps_tag {e = e} h is) =
+    goes_with r w (value_gives EdgeTag e scope v (step d x) L h ∙ ap (λ b. answer (cond (is_high x && b) (event v) no_event)) (sym is)) told (on_ok_weaker r (keeps_tag h) kept)
 
 passed_is : (x : Data) (L : Life) → cond (has_steps L) x no_event ≡ at_first L no_event x
 passed_is x [] = refl
@@ -233,6 +256,11 @@ pub hold_goes_on : {A : Type 0} (q : Primitive) (scope : Scope) (d : ℕ) (x : D
 hold_goes_on q scope d x L v u w r told kept (keeps_last {e = e} {v = given} h is) =
     let now : payload_or (occurring x) v ≡ last_payload given (step d x ∷ L) = ap (payload_or (occurring x)) is in
     goes_with r w (value_gives VHold e scope given (step d x) L h ∙ ap answer (sym now)) told (on_ok_weaker r (λ k. keeps_last h (k ∙ now)) kept)
+
+pub hold_before_goes_on : {A : Type 0} (q : Primitive) (scope : Scope) (d : ℕ) (x : Data) (L : Life) (v u w : Data) (r : Result A EvalFault)
+    → Evaluates (gift r w) (answer v) → OnOk r (u ≡ payload_or (occurring x) v) → Remembers (DelayedHold v) q scope L → GoesOn q scope (step d x) L (DelayedHold u) (gift r w)
+hold_before_goes_on q scope d x L v u w r told kept (keeps_last_before {e = e} {v = given} h is) =
+    goes_with r w (value_gives VDelayedHold e scope given (step d x) L h ∙ ap answer (sym is)) told (on_ok_weaker r (λ k. keeps_last_before h (k ∙ ap (payload_or (occurring x)) is)) kept)
 
 -- an accumulation on a longer life
 accumulation_gives : (a : Accumulator) (e : Expression) (f : Function) (v : Data) (sc : Scope) (d : ℕ) (x : Data) (L : Life)

@@ -1,5 +1,5 @@
 -- What the states of primitives keep of their lives.
-use Rattle.std.specs.Prelude.{◌≡◌, ℕ, ◌-◌, nat_le, [], ◌∷◌, Bool, true, false, cond, ℤ, pos, negsuc, ◌+ℤ◌, Option, Some, None, Result, Ok, Err}
+use Rattle.std.specs.Prelude.{◌≡◌, ℕ, ◌-◌, nat_eq, [], ◌∷◌, Bool, true, cond, ℤ, pos, ◌+ℤ◌, Option, Some, None, Result, Ok, Err}
 use Rattle.std.specs.declared.alloc.Global.{Global}
 use Rattle.std.specs.Prelude.{Box}
 use Rattle.std.specs.declared.rc.Rc.{Rc}
@@ -13,20 +13,27 @@ use Rattle.sf_code.specs.declared.open.Closure.{Closure}
 use Rattle.sf_code.specs.Worth.{IsCodeOfFunctionIn, IsClosureOf}
 use Rattle.sf_operator.specs.declared.fault.EvalFault.{EvalFault}
 use Rattle.sf_operator.specs.declared.fault.EvalFault.TheVariants.{Value, Memory}
-use Rattle.sf_term.specs.declared.form.Bare.TheVariants.{Identity as BIdentity, LocalTime, Integral, Edge as BEdge, NotYet as BNotYet, Count as BCount, Pre}
-use Rattle.sf_term.specs.declared.form.WithValue.TheVariants.{Constant as VConstant, InitialPre, InitializedPre, Now as VNow, Hold as VHold}
-use Rattle.sf_term.specs.declared.form.Timing.TheVariants.{After}
-use Rattle.sf_term.specs.Trees.{Chain, Primitive, bare, never, with_value, timed, arrow, accumulated, fused}
+use Rattle.sf_term.specs.declared.form.Bare.TheVariants.{Identity as BIdentity, LocalTime, Integral, Edge as BEdge, NotYet as BNotYet, Once as BOnce, Count as BCount, Pre}
+use Rattle.sf_term.specs.declared.form.WithValue.TheVariants.{Constant as VConstant, Initially as VInitially, InitialPre, InitializedPre, Now as VNow, InitialEdge, EdgeTag, Hold as VHold, DelayedHold as VDelayedHold}
+use Rattle.sf_term.specs.declared.form.Timing.TheVariants.{After, Repeatedly, Delay}
+use Rattle.sf_term.specs.declared.form.Selection.{Selection}
+use Rattle.sf_term.specs.declared.form.Selection.TheVariants.{TakeEvents, DropEvents}
+use Rattle.sf_term.specs.Trees.{Chain, Primitive, bare, never, with_value, timed, selected, arrow, accumulated, fused}
 use Rattle.sf_mean.specs.Lives.{Step, Life, time}
-use Rattle.sf_mean.specs.Formulas.{coming, next_value, accumulation, displayed, before, at_first, level, area, is_low, occurrences, last_payload, has_passed, formula}
-use Rattle.sf_prim.specs.declared.time.Area.{Area as Sum}
-use Rattle.sf_prim.specs.declared.time.Timer.{Timer}
+use Rattle.sf_mean.specs.Formulas.{span, coming, next_value, accumulation, displayed, before, is_low, occurrences, last_payload, formula}
+use Rattle.sf_delay.specs.Lately.{has_steps}
+use Rattle.sf_delay.specs.Waits.{Sums, RunsDown, TicksOn}
+use Rattle.sf_delay.specs.Delays.{Delays}
+use Rattle.sf_delay.specs.declared.sum.Sum.{Sum}
+use Rattle.sf_delay.specs.declared.timer.Timer.{Timer}
+use Rattle.sf_delay.specs.declared.ticker.Ticker.{Ticker}
+use Rattle.sf_delay.specs.declared.line.Line.{Line}
 use Rattle.sf_prim.specs.declared.accumulator.Accumulator.{Accumulator}
 use Rattle.std.specs.Prelude.{Vec}
 use Rattle.sf_prim.specs.declared.chain.Link.{Link}
 use Rattle.sf_prim.specs.Links.{AreLinksOf}
 use Rattle.sf_prim.specs.declared.prim_state.PrimState.{PrimState}
-use Rattle.sf_prim.specs.declared.prim_state.PrimState.TheVariants.{Identity, Never, Constant, Previous, Arrow, Closed, Fused, Accumulated, Clock, Area, Timed, Edge, NotYet, Count, Now, Hold}
+use Rattle.sf_prim.specs.declared.prim_state.PrimState.TheVariants.{Identity, Never, Constant, Previous, Arrow, Closed, Fused, Accumulated, Clock, Area, Timed, Ticked, Delayed, Selected, Edge, Tagged, NotYet, Count, Now, Initially, Hold, DelayedHold}
 
 -- the time at a sample, by that at the one before, if there was one
 abbrev pub time_after : Option ℤ → ℕ → ℤ
@@ -38,27 +45,20 @@ abbrev pub last_time : Life → Option ℤ
 last_time [] = None
 last_time (s ∷ L) = Some (pos (time (s ∷ L)))
 
--- whether there is a step
-abbrev pub has_steps : Life → Bool
-has_steps L = at_first L false true
-
--- how many milliseconds a time has; none where it is below 0
-abbrev pub span : ℤ → ℕ
-span (pos n) = n
-span (negsuc n) = 0
-
--- the milliseconds since the sample before; none where there was none
-abbrev pub waited : Bool → ℕ → ℕ
-waited b d = cond b d 0
-
--- whether nothing is left of a timer's time at a sample, so long after the one before
-abbrev pub is_up : Timer → ℕ → Bool
-is_up t d = nat_le t.left (waited t.begun d)
-
 -- how many events there were, by how many there were before
 abbrev pub count_after : Option Data → ℤ → ℤ
 count_after None z = z
 count_after (Some x) z = pos 1 +ℤ z
+
+-- how many events of a number are left, by how many were before
+abbrev pub left_after : Option Data → ℕ → ℕ
+left_after None n = n
+left_after (Some x) n = n - 1
+
+-- the input or no event, by how many events of a number were left before it
+abbrev pub passed_on : Selection → ℕ → Data → Data
+passed_on TakeEvents n x = cond (nat_eq n 0) no_event x
+passed_on DropEvents n x = cond (nat_eq n 0) x no_event
 
 -- at an event, one of that
 abbrev pub counted_after : Option Data → ℤ → Evaluated Data
@@ -91,17 +91,30 @@ pub data Remembers : PrimState → Primitive → Scope → Life → Type 0 where
       → Remembers (Accumulated a) (accumulated a.value.form e f) scope L
   keeps_time : {t : Option ℤ} {scope : Scope} {L : Life} → t ≡ last_time L → Remembers (Clock t) (bare LocalTime) scope L
   keeps_area : {r : Sum} {scope : Scope} {L : Life}
-      → r.sum ≡ area L → r.level ≡ level (before (number (pos 0)) L) → Remembers (Area r) (bare Integral) scope L
+      → Sums r L → Remembers (Area r) (bare Integral) scope L
   keeps_timer : {t : Box Timer Global} {q : ℤ} {e : Expression} {scope : Scope} {v : Data} {L : Life}
-      → eval e scope ≡ answer v → t.value.due ≡ cond (has_passed q L) None (Some v) → t.value.begun ≡ has_steps L → t.value.left ≡ span q - time L
-      → Remembers (Timed t) (timed After q e) scope L
+      → eval e scope ≡ answer v → RunsDown t.value q v L → Remembers (Timed t) (timed After q e) scope L
+  keeps_ticker : {t : Box Ticker Global} {q : ℤ} {e : Expression} {scope : Scope} {v : Data} {L : Life}
+      → eval e scope ≡ answer v → TicksOn t.value q v L → Remembers (Ticked t) (timed Repeatedly q e) scope L
+  keeps_line : {l : Box Line Global} {q : ℤ} {e : Expression} {scope : Scope} {v : Data} {L : Life}
+      → eval e scope ≡ answer v → Delays l.value q v L → Remembers (Delayed l) (timed Delay q e) scope L
+  keeps_left : {k : Selection} {left : ℕ} {n : ℤ} {scope : Scope} {L : Life} → left ≡ span n - occurrences L → Remembers (Selected k left) (selected k n) scope L
   keeps_low : {b : Bool} {scope : Scope} {L : Life} → b ≡ is_low (before (truth true) L) → Remembers (Edge b) (bare BEdge) scope L
+  keeps_first_low : {b : Bool} {e : Expression} {scope : Scope} {v : Data} {L : Life}
+      → eval e scope ≡ answer v → b ≡ is_low (before v L) → Remembers (Edge b) (with_value InitialEdge e) scope L
+  keeps_tag : {b : Bool} {e : Expression} {scope : Scope} {v : Data} {L : Life}
+      → eval e scope ≡ answer v → b ≡ is_low (before (truth true) L) → Remembers (Tagged b v) (with_value EdgeTag e) scope L
   keeps_begun : {b : Bool} {scope : Scope} {L : Life} → b ≡ has_steps L → Remembers (NotYet b) (bare BNotYet) scope L
+  keeps_first_left : {left : ℕ} {scope : Scope} {L : Life} → left ≡ 1 - occurrences L → Remembers (Selected TakeEvents left) (bare BOnce) scope L
   keeps_count : {z : ℤ} {scope : Scope} {L : Life} → z ≡ pos (occurrences L) → Remembers (Count z) (bare BCount) scope L
   keeps_first : {e : Expression} {scope : Scope} {v : Data} → eval e scope ≡ answer v → Remembers (Now v) (with_value VNow e) scope []
   keeps_passed : {e : Expression} {scope : Scope} {v : Data} {s : Step} {L : Life} → eval e scope ≡ answer v → Remembers Never (with_value VNow e) scope (s ∷ L)
+  keeps_initial : {e : Expression} {scope : Scope} {v : Data} → eval e scope ≡ answer v → Remembers (Initially v) (with_value VInitially e) scope []
+  keeps_later : {e : Expression} {scope : Scope} {v : Data} {s : Step} {L : Life} → eval e scope ≡ answer v → Remembers Identity (with_value VInitially e) scope (s ∷ L)
   keeps_last : {e : Expression} {scope : Scope} {v w : Data} {L : Life}
       → eval e scope ≡ answer v → w ≡ last_payload v L → Remembers (Hold w) (with_value VHold e) scope L
+  keeps_last_before : {e : Expression} {scope : Scope} {v w : Data} {L : Life}
+      → eval e scope ≡ answer v → w ≡ last_payload v L → Remembers (DelayedHold w) (with_value VDelayedHold e) scope L
 
 -- A primitive before its first sample in a scope, or the fault of its constants, which is that of the first sample.
 pub data Begins (scope : Scope) (q : Primitive) : Result PrimState EvalFault → Type 0 where

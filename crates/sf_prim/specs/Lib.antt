@@ -1,3 +1,2 @@
-pub mod Gifts
 pub mod Links
 pub mod Keeping

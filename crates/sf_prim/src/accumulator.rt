@@ -6,7 +6,7 @@ ghost use Rattle.sf_expr.specs.Expressions.{Function};
 ghost use Rattle.sf_expr.specs.Evaluation.{Scope, functions_in};
 ghost use Rattle.sf_code.specs.Worth.{IsClosureOf};
 ghost use Rattle.sf_mean.specs.Formulas.{coming as what_comes, next_value, displayed as what_is_shown};
-ghost use Rattle.sf_prim.specs.Gifts.{gift};
+ghost use Rattle.sf_delay.specs.Gifts.{gift};
 
 use crate::events::occurs;
 use sf_code::{Closure, apply};

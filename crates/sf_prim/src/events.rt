@@ -1,18 +1,37 @@
 //! Samples of primitives that take or give events.
-ghost use Rattle.std.specs.Prelude.{◌≡◌, ◌&&◌, ◌+ℤ◌, pos, None, true, cond, OnOk};
+ghost use Rattle.std.specs.Prelude.{◌≡◌, ◌&&◌, ◌+ℤ◌, pos, true, cond, OnOk};
 ghost use Rattle.std.specs.Option.{option_map};
 ghost use Rattle.sf_value.specs.Values.{event, no_event};
 ghost use Rattle.sf_operator.specs.Outcomes.{answer, tested};
-ghost use Rattle.sf_operator.specs.Operations.{event_of, payload_or};
+ghost use Rattle.sf_operator.specs.Operations.{payload_or};
 ghost use Rattle.sf_operator.specs.Answers.{Computes, Evaluates};
-ghost use Rattle.sf_mean.specs.Formulas.{is_high, is_low, event_if, occurring};
-ghost use Rattle.sf_prim.specs.Gifts.{gift};
-ghost use Rattle.sf_prim.specs.Keeping.{counted_after, count_after};
+ghost use Rattle.sf_mean.specs.Formulas.{span, is_high, is_low, event_if, occurring};
+ghost use Rattle.sf_delay.specs.Gifts.{gift};
+ghost use Rattle.sf_prim.specs.Keeping.{counted_after, count_after, passed_on, left_after};
 
 use sf_operator::{EvalFault, is_true, narrow, payload_in};
+use sf_term::Selection;
 use sf_value::{Value, ValueFault};
 use std::alloc::Global;
+use std::mem;
 use std::rc::Rc;
+
+/// Whether a value is the truth false.
+pub(crate) fn is_low(value: &Value) -> bool
+    ensures { result ≡ is_low value.now }
+{
+    !is_true(value).unwrap_or(true)
+}
+
+/// Whether a value is true and the one before was low; then whether this one is.
+fn rises(low: &mut bool, value: &Value) -> bool
+    ensures told { result ≡ (is_high value.now && low.old) }
+    ensures kept { low.new ≡ is_low value.now }
+{
+    let rose = is_true(value).unwrap_or(false) && *low;
+    *low = is_low(value);
+    rose
+}
 
 /// An event in place of the input, where it is true and the one before was false. The error is `Memory`.
 #[inline(never)]
@@ -20,14 +39,30 @@ pub(crate) fn rise(alloc: Global, low: &mut bool, value: &mut Value) -> Result<(
     ensures told { Evaluates (gift result value.new) (answer (event_if (is_high value.old && low.old))) }
     ensures kept { OnOk result (low.new ≡ is_low value.old) }
 {
-    let rises = is_true(value).unwrap_or(false) && *low;
-    let falls = !is_true(value).unwrap_or(true);
-    *value = if rises {
+    *value = if rises(low, value) {
         Value::event(alloc, Value::unit())?
     } else {
         Value::no_event()
     };
-    *low = falls;
+    Ok(())
+}
+
+/// An event of the tag in place of the input, where it is true and the one before was false. The error is `Memory`.
+#[inline(never)]
+pub(crate) fn rise_with(
+    alloc: Global,
+    low: &mut bool,
+    tag: &Value,
+    value: &mut Value,
+) -> Result<(), EvalFault>
+    ensures told { Evaluates (gift result value.new) (answer (cond (is_high value.old && low.old) (event tag.now) no_event)) }
+    ensures kept { OnOk result (low.new ≡ is_low value.old) }
+{
+    *value = if rises(low, value) {
+        Value::event(alloc, tag.clone_in(alloc)?)?
+    } else {
+        Value::no_event()
+    };
     Ok(())
 }
 
@@ -79,6 +114,32 @@ pub(crate) fn count_event(
     Ok(())
 }
 
+/// How many events a number says: none where it is below 0.
+pub(crate) fn events_in(number: i64) -> u64
+    ensures { result ≡ span number }
+{
+    if number < 0 { 0 } else { number.unsigned_abs() }
+}
+
+/// The input stays, or there is no event in its place, by whether events of a number are left: of the first ones, which
+/// `takeEvents` gives, or of those that `dropEvents` leaves out. Each event is one fewer, and none is left for good.
+pub(crate) fn select(form: Selection, left: &mut u64, value: &mut Value)
+    ensures told { value.new ≡ passed_on form left.old value.old }
+    ensures kept { left.new ≡ left_after (occurring value.old) left.old }
+{
+    let over = *left == 0;
+    if !over && occurs(value).is_some() {
+        *left -= 1;
+    }
+    let passes = match form {
+        Selection::TakeEvents => !over,
+        Selection::DropEvents => over,
+    };
+    if !passes {
+        *value = Value::no_event();
+    }
+}
+
 /// An event of a value in place of the input. The error is `Memory`.
 #[cold]
 #[inline(never)]
@@ -86,24 +147,6 @@ pub(crate) fn announce(alloc: Global, given: Value, value: &mut Value) -> Result
     ensures { Evaluates (gift result value.new) (answer (event given)) }
 {
     *value = Value::event(alloc, given)?;
-    Ok(())
-}
-
-/// An event of the value in place of the input where there is one, which is gone then; none without one. The error is
-/// `Memory`.
-#[inline(never)]
-pub(crate) fn occur(
-    alloc: Global,
-    due: &mut Option<Value>,
-    value: &mut Value,
-) -> Result<(), EvalFault>
-    ensures told { Evaluates (gift result value.new) (answer (event_of due.old)) }
-    ensures kept { OnOk result (due.new ≡ None) }
-{
-    *value = match due.take() {
-        Some(given) => Value::event(alloc, given)?,
-        None => Value::no_event(),
-    };
     Ok(())
 }
 
@@ -117,5 +160,23 @@ pub(crate) fn hold(alloc: Global, last: &mut Value, value: &mut Value) -> Result
         *last = payload.clone_in(alloc)?;
     }
     *value = last.clone_in(alloc)?;
+    Ok(())
+}
+
+/// The last payload before this sample in place of the input. The error is `Memory`.
+#[inline(never)]
+pub(crate) fn hold_before(
+    alloc: Global,
+    last: &mut Value,
+    value: &mut Value,
+) -> Result<(), EvalFault>
+    ensures told { Evaluates (gift result value.new) (answer last.old) }
+    ensures kept { OnOk result (last.new ≡ payload_or (occurring value.old) last.old) }
+{
+    let next = match occurs(value) {
+        Some(payload) => payload.clone_in(alloc)?,
+        None => last.clone_in(alloc)?,
+    };
+    *value = mem::replace(last, next);
     Ok(())
 }

@@ -10,4 +10,3 @@ mod time;
 pub use accumulator::Accumulator;
 pub use chain::Link;
 pub use prim_state::{PrimState, constant};
-pub use time::{Area, Timer};

@@ -7,17 +7,21 @@ ghost use Rattle.sf_code.specs.Names.{scope_with};
 ghost use Rattle.sf_code.specs.Worth.{IsCodeOf, IsCodeOfFunction, IsCodeOfFunctionIn};
 ghost use Rattle.sf_operator.specs.Answers.{Evaluates};
 ghost use Rattle.sf_operator.specs.declared.fault.EvalFault.TheVariants.{Memory};
-ghost use Rattle.sf_prim.specs.Gifts.{gift};
+ghost use Rattle.sf_delay.specs.Gifts.{gift};
 
 use crate::accumulator::{Accumulator, accumulate};
 use crate::chain::{Link, apply_closure, links_of, run_links};
-use crate::events::{announce, count_event, hold, pass_later, rise};
-use crate::time::{Area, Timer, integrate, run_down, tell_time};
+use crate::events::{
+    announce, count_event, events_in, hold, hold_before, is_low, pass_later, rise, rise_with,
+    select,
+};
+use crate::time::tell_time;
 use sf_code::{Closure, Names, OpenCode, apply_in_place, evaluate};
+use sf_delay::{Line, Sum, Ticker, Timer};
 use sf_func::Holds;
 use sf_law::PlanPrimitive;
 use sf_operator::EvalFault;
-use sf_term::{Bare, Timing, WithValue};
+use sf_term::{Bare, Selection, Timing, WithValue};
 use sf_value::Value;
 use std::alloc::{AllocError, Global};
 use std::mem;
@@ -25,7 +29,7 @@ use std::rc::Rc;
 
 /// A primitive that has lived through some samples.
 pub enum PrimState {
-    /// `identity`.
+    /// `identity`, or `initially e` after its first sample.
     Identity,
     /// `never`, or `now e` after its first sample.
     Never,
@@ -44,19 +48,31 @@ pub enum PrimState {
     /// `localTime`, with the milliseconds at the sample before, if there was one.
     Clock(Option<i64>),
     /// `integral`, with what is under its input so far.
-    Area(Area),
+    Area(Sum),
     /// `after q e`.
     Timed(Box<Timer>),
-    /// `edge`; whether the input before was false.
+    /// `repeatedly q e`.
+    Ticked(Box<Ticker>),
+    /// `delay q e`.
+    Delayed(Box<Line>),
+    /// `takeEvents n` or `dropEvents n`, with how many of the first n events are left; `once` is `takeEvents 1`.
+    Selected(Selection, u64),
+    /// `edge` or `iEdge e`; whether the input before was false.
     Edge(bool),
+    /// `edgeTag e`; whether the input before was false, with the value of `e`.
+    Tagged(bool, Value),
     /// `notYet`; whether there was a sample before.
     NotYet(bool),
     /// `count`, with how many events there were.
     Count(i64),
     /// `now e` before its first sample, with the value of `e`.
     Now(Value),
+    /// `initially e` before its first sample, with the value of `e`.
+    Initially(Value),
     /// `hold e`, with the last payload, or the value of `e` where there was none.
     Hold(Value),
+    /// `dHold e`, with the same.
+    DelayedHold(Value),
 }
 
 impl Drop for PrimState {
@@ -74,11 +90,17 @@ impl Drop for PrimState {
             PrimState::Clock(_) => {}
             PrimState::Area(_) => {}
             PrimState::Timed(timer) => drop(timer),
+            PrimState::Ticked(ticker) => drop(ticker),
+            PrimState::Delayed(line) => drop(line),
+            PrimState::Selected(_, _) => {}
             PrimState::Edge(_) => {}
+            PrimState::Tagged(_, tag) => drop(tag),
             PrimState::NotYet(_) => {}
             PrimState::Count(_) => {}
             PrimState::Now(value) => drop(value),
+            PrimState::Initially(value) => drop(value),
             PrimState::Hold(value) => drop(value),
+            PrimState::DelayedHold(value) => drop(value),
         }
     }
 }
@@ -117,6 +139,10 @@ impl PrimState {
                 let value = constant(alloc, code, functions, names)?;
                 Ok(PrimState::timed(alloc, *form, *time, value)?)
             }
+            PlanPrimitive::Selected(form, count) => Ok(PrimState::Selected(
+                *form,
+                events_in(*count),
+            )),
             PlanPrimitive::Arrow(_, code) => Ok(PrimState::arrow(alloc, code, names)?),
             PlanPrimitive::Fused(chain) => {
                 let links = links_of(alloc, chain, names)?;
@@ -158,9 +184,10 @@ impl PrimState {
         match form {
             Bare::Identity => PrimState::Identity,
             Bare::LocalTime => PrimState::Clock(None),
-            Bare::Integral => PrimState::Area(Area { sum: 0, level: 0 }),
+            Bare::Integral => PrimState::Area(Sum::born()),
             Bare::Edge => PrimState::Edge(false),
             Bare::NotYet => PrimState::NotYet(false),
+            Bare::Once => PrimState::Selected(Selection::TakeEvents, 1),
             Bare::Count => PrimState::Count(0),
             // it makes no sense at the first sample
             Bare::Pre => PrimState::Previous(Value::int(0)),
@@ -173,10 +200,14 @@ impl PrimState {
     {
         match form {
             WithValue::Constant => PrimState::Constant(value),
+            WithValue::Initially => PrimState::Initially(value),
             WithValue::InitialPre => PrimState::Previous(value),
             WithValue::InitializedPre => PrimState::Previous(value),
             WithValue::Now => PrimState::Now(value),
+            WithValue::InitialEdge => PrimState::Edge(is_low(&value)),
+            WithValue::EdgeTag => PrimState::Tagged(false, value),
             WithValue::Hold => PrimState::Hold(value),
+            WithValue::DelayedHold => PrimState::DelayedHold(value),
         }
     }
 
@@ -188,6 +219,14 @@ impl PrimState {
             Timing::After => {
                 let timer = Box::new(alloc, Timer::born(time, value))?;
                 Ok(PrimState::Timed(timer))
+            }
+            Timing::Repeatedly => {
+                let ticker = Box::new(alloc, Ticker::born(time, value))?;
+                Ok(PrimState::Ticked(ticker))
+            }
+            Timing::Delay => {
+                let line = Box::new(alloc, Line::born(alloc, time, value))?;
+                Ok(PrimState::Delayed(line))
             }
         }
     }
@@ -221,9 +260,16 @@ impl PrimState {
             PrimState::Fused(links) => run_links(alloc, links, functions, value),
             PrimState::Accumulated(accumulator) => accumulate(alloc, accumulator, functions, value),
             PrimState::Clock(clock) => tell_time(clock, dt, value),
-            PrimState::Area(area) => integrate(area, dt, value),
-            PrimState::Timed(timer) => run_down(alloc, timer, dt, value),
+            PrimState::Area(sum) => sum.step(dt, value),
+            PrimState::Timed(timer) => timer.step(alloc, dt, value),
+            PrimState::Ticked(ticker) => ticker.step(alloc, dt, value),
+            PrimState::Delayed(line) => line.step(alloc, dt, value),
+            PrimState::Selected(form, left) => {
+                select(*form, left, value);
+                Ok(())
+            }
             PrimState::Edge(low) => rise(alloc, low, value),
+            PrimState::Tagged(low, tag) => rise_with(alloc, low, tag, value),
             PrimState::NotYet(begun) => {
                 pass_later(begun, value);
                 Ok(())
@@ -234,7 +280,13 @@ impl PrimState {
                 *self = PrimState::Never;
                 announce(alloc, given, value)
             }
+            PrimState::Initially(first) => {
+                *value = mem::replace(first, Value::int(0));
+                *self = PrimState::Identity;
+                Ok(())
+            }
             PrimState::Hold(last) => hold(alloc, last, value),
+            PrimState::DelayedHold(last) => hold_before(alloc, last, value),
         }
     }
 
@@ -267,17 +319,31 @@ impl PrimState {
                 Ok(PrimState::Accumulated(copy))
             }
             PrimState::Clock(clock) => Ok(PrimState::Clock(*clock)),
-            PrimState::Area(area) => Ok(PrimState::Area(*area)),
+            PrimState::Area(sum) => Ok(PrimState::Area(*sum)),
             PrimState::Timed(timer) => {
                 let kept = timer.clone_in(alloc)?;
                 let copy = Box::new(alloc, kept)?;
                 Ok(PrimState::Timed(copy))
             }
+            PrimState::Ticked(ticker) => {
+                let kept = ticker.clone_in(alloc)?;
+                let copy = Box::new(alloc, kept)?;
+                Ok(PrimState::Ticked(copy))
+            }
+            PrimState::Delayed(line) => {
+                let kept = line.clone_in(alloc)?;
+                let copy = Box::new(alloc, kept)?;
+                Ok(PrimState::Delayed(copy))
+            }
+            PrimState::Selected(form, left) => Ok(PrimState::Selected(*form, *left)),
             PrimState::Edge(low) => Ok(PrimState::Edge(*low)),
+            PrimState::Tagged(low, tag) => Ok(PrimState::Tagged(*low, tag.clone_in(alloc)?)),
             PrimState::NotYet(begun) => Ok(PrimState::NotYet(*begun)),
             PrimState::Count(count) => Ok(PrimState::Count(*count)),
             PrimState::Now(value) => Ok(PrimState::Now(value.clone_in(alloc)?)),
+            PrimState::Initially(value) => Ok(PrimState::Initially(value.clone_in(alloc)?)),
             PrimState::Hold(value) => Ok(PrimState::Hold(value.clone_in(alloc)?)),
+            PrimState::DelayedHold(value) => Ok(PrimState::DelayedHold(value.clone_in(alloc)?)),
         }
     }
 }

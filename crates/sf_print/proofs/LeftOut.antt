@@ -5,7 +5,7 @@ use Rattle.std.proofs.lemmas.List.Elements.{All-nil, All-cons, All-head, All-tai
 use Rattle.sf_value.specs.Values.{Name, int_keys, text_keys, Kind, unit_kind, bool_kind, int_kind, text_kind, pair_kind, event_kind, table_kind}
 use Rattle.sf_expr.specs.Expressions.{Literal, unit_literal, truth_literal, int_literal, text_literal, none_literal, Expression, variable, literal, paired, applied, operation, conditional, mapped, folded, called, Function, function}
 use Rattle.sf_term.specs.Parameters.{NameKind, value as value_kind, process as process_kind}
-use Rattle.sf_term.specs.Trees.{Primitive, bare, probe, never, with_value, timed, arrow, accumulated, fused, Term, primitive, reference, joined, sided, headed, switching, keeping, staged, Reference, started, call, Arguments, no_arguments, value_argument, process_argument, closed_argument, Template, Templates}
+use Rattle.sf_term.specs.Trees.{Primitive, bare, probe, never, with_value, timed, selected, arrow, accumulated, fused, Term, primitive, reference, joined, sided, headed, switching, keeping, staged, Reference, started, call, Arguments, no_arguments, value_argument, process_argument, closed_argument, Template, Templates}
 use Rattle.sf_lex.specs.declared.word.Keyword.{Keyword}
 use Rattle.sf_lex.specs.declared.word.Keyword.TheVariants as words
 use Rattle.sf_lex.specs.declared.symbol.Symbol.TheVariants as symbols
@@ -107,6 +107,7 @@ primitive_shorter (probe k) = same _
 primitive_shorter (never t) = keeps (type_shorter t)
 primitive_shorter (with_value k e) = with_word (stands_initially k) (value_word k) _ _ (expression_shorter e)
 primitive_shorter (timed k q e) = keeps (keeps (expression_shorter e))
+primitive_shorter (selected k n) = same _
 primitive_shorter (arrow f) = keeps (function_shorter f)
 primitive_shorter (accumulated k e f) = keeps (brackets _ _ _ _ _ (expression_shorter e) (function_shorter f))
 primitive_shorter (fused f) = none

@@ -7,7 +7,7 @@ use Rattle.sf_expr.specs.Expressions.{Literal, unit_literal, truth_literal, int_
 use Rattle.sf_term.specs.declared.form.Start.{Start}
 use Rattle.sf_term.specs.declared.form.Start.TheVariants as starts
 use Rattle.sf_term.specs.Parameters.{NameKind, value as value_kind, process as process_kind}
-use Rattle.sf_term.specs.Trees.{Primitive, bare, probe, never, with_value, timed, arrow, accumulated, fused, Term, primitive, reference, joined, sided, headed, switching, keeping, staged, Reference, started, call, Arguments, no_arguments, value_argument, process_argument, closed_argument, Template, Templates}
+use Rattle.sf_term.specs.Trees.{Primitive, bare, probe, never, with_value, timed, selected, arrow, accumulated, fused, Term, primitive, reference, joined, sided, headed, switching, keeping, staged, Reference, started, call, Arguments, no_arguments, value_argument, process_argument, closed_argument, Template, Templates}
 use Rattle.sf_grammar.specs.declared.ty.Version.{Version}
 use Rattle.sf_grammar.specs.declared.ty.Version.TheVariants as versions
 use Rattle.sf_grammar.specs.Spelling.{WritesKeys, WritesType, IsWrittenType, WritesExpression, WritesFunction, WritesStart, WritesTerm, WritesReference, WritesArguments, WritesNameKind, HasWrittenTypes, IsWithinLimits}
@@ -86,6 +86,7 @@ primitive_moves v w d (probe k) h s = tt
 primitive_moves v w d (never t) h s = written_moves v w d t h s
 primitive_moves v w d (with_value k e) h s = expression_moves v w d e h s
 primitive_moves v w d (timed k q e) h s = expression_moves v w d e h s
+primitive_moves v w d (selected k n) h s = tt
 primitive_moves v w d (arrow f) h s = function_moves v w d f h s
 primitive_moves v w d (accumulated k e f) h s =
     let both = parts w (expression_needs_two e) (function_needs_two f) s in (expression_moves v w d e h.0 both.0, function_moves v w d f h.1 both.1)

@@ -6,7 +6,7 @@ use Rattle.sf_expr.specs.Expressions.{Literal, unit_literal, truth_literal, int_
 use Rattle.sf_term.specs.declared.form.Start.{Start}
 use Rattle.sf_term.specs.declared.form.Start.TheVariants as starts
 use Rattle.sf_term.specs.Parameters.{PlacedParameter, NameKind, value as value_kind, process as process_kind}
-use Rattle.sf_term.specs.Trees.{Primitive, bare, probe, never, with_value, timed, arrow, accumulated, fused, Term, primitive, reference, joined, sided, headed, switching, keeping, staged, Reference, started, call, Arguments, no_arguments, value_argument, process_argument, closed_argument, Template, Templates}
+use Rattle.sf_term.specs.Trees.{Primitive, bare, probe, never, with_value, timed, selected, arrow, accumulated, fused, Term, primitive, reference, joined, sided, headed, switching, keeping, staged, Reference, started, call, Arguments, no_arguments, value_argument, process_argument, closed_argument, Template, Templates}
 use Rattle.sf_grammar.specs.declared.ty.Version.{Version}
 use Rattle.sf_grammar.specs.declared.ty.Version.TheVariants as versions
 
@@ -57,6 +57,7 @@ primitive_needs_two (probe k) = false
 primitive_needs_two (never t) = type_needs_two t
 primitive_needs_two (with_value k e) = expression_needs_two e
 primitive_needs_two (timed k q e) = expression_needs_two e
+primitive_needs_two (selected k n) = false
 primitive_needs_two (arrow f) = function_needs_two f
 primitive_needs_two (accumulated k e f) = expression_needs_two e || function_needs_two f
 primitive_needs_two (fused f) = false

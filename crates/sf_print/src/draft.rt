@@ -253,7 +253,7 @@ fn last_of_symbol(symbol: Symbol) -> Last
 {
     match symbol {
         Symbol::Semicolon | Symbol::Open | Symbol::OpenBracket => Last::Opening,
-        Symbol::Initially => Last::Head,
+        Symbol::Initially | Symbol::OnFirstInput => Last::Head,
         _ => Last::Other,
     }
 }

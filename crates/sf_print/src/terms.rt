@@ -14,8 +14,8 @@ use crate::draft::Draft;
 use crate::expressions::{write_expression, write_function, write_pattern};
 use crate::types::write_type;
 use crate::words::{
-    accumulation_word, bare_word, heading_sign, join_symbol, keeping_word, side_word,
-    stands_initially, switching_word, timing_word, value_word,
+    accumulation_word, bare_word, heading_sign, join_symbol, keeping_word, selection_word,
+    side_word, stands_initially, switching_word, timing_word, value_word,
 };
 use sf_expr::{Constant, ConstantForm, ExprId, FunctionId, NameId, PatternId};
 use sf_grammar::Version;
@@ -111,6 +111,10 @@ fn write_primitive(
             draft.keyword(timing_word(timing))?;
             draft.number(time)?;
             write_value(program, version, value, draft)
+        }
+        Primitive::Selected(selection, count) => {
+            draft.keyword(selection_word(selection))?;
+            draft.number(count)
         }
         Primitive::Arrow(function) => {
             draft.keyword(Keyword::Arr)?;

@@ -96,6 +96,7 @@ fn primitive_needs_two(program: &Program, primitive: Primitive) -> bool
         Primitive::Never(payload) => constant_needs_two(program.expressions().constant_at(payload)),
         Primitive::WithValue(_, value) => value_needs_two(program, value),
         Primitive::Timed(_, _, value) => value_needs_two(program, value),
+        Primitive::Selected(_, _) => false,
         Primitive::Arrow(function) => function_needs_two(program, function),
         Primitive::Accumulated(_, value, function) => {
             value_needs_two(program, value) || function_needs_two(program, function)

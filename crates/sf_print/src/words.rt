@@ -1,11 +1,13 @@
 //! The words and symbols of forms.
 ghost use Rattle.std.specs.Prelude.{◌≡◌};
 ghost use Rattle.sf_print.specs.Signs.{sign_token};
-ghost use Rattle.sf_grammar.specs.Spelling.{bare_word, value_word, stands_initially, timing_word, accumulation_word, join_symbol, side_word, heading_token, switching_word, keeping_word, unary_word, takes_brackets, operator_token, stands_between, mapping_word, folding_word};
+ghost use Rattle.sf_grammar.specs.Spelling.{bare_word, value_word, stands_initially, timing_word, selection_word, accumulation_word, join_symbol, side_word, heading_token, switching_word, keeping_word, unary_word, takes_brackets, operator_token, stands_between, mapping_word, folding_word};
 
 use sf_expr::{Arithmetic, Comparison, Equality, Folding, Logic, Mapping, Merge, Operator, Unary};
 use sf_lex::{Keyword, Symbol};
-use sf_term::{Accumulation, Bare, Heading, Join, Observation, Side, Switching, Timing, WithValue};
+use sf_term::{
+    Accumulation, Bare, Heading, Join, Observation, Selection, Side, Switching, Timing, WithValue,
+};
 
 /// A token that is the same in each text.
 #[derive(Clone, Copy, Debug, PartialEq, Eq)]
@@ -26,6 +28,7 @@ pub(crate) fn bare_word(bare: Bare) -> Keyword
         Bare::Integral => Keyword::Integral,
         Bare::Edge => Keyword::Edge,
         Bare::NotYet => Keyword::NotYet,
+        Bare::Once => Keyword::Once,
         Bare::Count => Keyword::Count,
         Bare::Pre => Keyword::Pre,
     }
@@ -37,10 +40,14 @@ pub(crate) fn value_word(primitive: WithValue) -> Keyword
 {
     match primitive {
         WithValue::Constant => Keyword::Constant,
+        WithValue::Initially => Keyword::Initially,
         WithValue::InitialPre => Keyword::IPre,
         WithValue::InitializedPre => Keyword::Pre,
         WithValue::Now => Keyword::Now,
+        WithValue::InitialEdge => Keyword::IEdge,
+        WithValue::EdgeTag => Keyword::EdgeTag,
         WithValue::Hold => Keyword::Hold,
+        WithValue::DelayedHold => Keyword::DHold,
     }
 }
 
@@ -50,7 +57,14 @@ pub(crate) fn stands_initially(primitive: WithValue) -> bool
 {
     match primitive {
         WithValue::InitializedPre => true,
-        WithValue::Constant | WithValue::InitialPre | WithValue::Now | WithValue::Hold => false,
+        WithValue::Constant
+        | WithValue::Initially
+        | WithValue::InitialPre
+        | WithValue::Now
+        | WithValue::InitialEdge
+        | WithValue::EdgeTag
+        | WithValue::Hold
+        | WithValue::DelayedHold => false,
     }
 }
 
@@ -60,6 +74,18 @@ pub(crate) fn timing_word(timing: Timing) -> Keyword
 {
     match timing {
         Timing::After => Keyword::After,
+        Timing::Repeatedly => Keyword::Repeatedly,
+        Timing::Delay => Keyword::Delay,
+    }
+}
+
+/// The word of a primitive with a number of events.
+pub(crate) fn selection_word(selection: Selection) -> Keyword
+    ensures { result ≡ selection_word selection }
+{
+    match selection {
+        Selection::TakeEvents => Keyword::TakeEvents,
+        Selection::DropEvents => Keyword::DropEvents,
     }
 }
 
@@ -102,6 +128,7 @@ pub(crate) fn heading_sign(heading: Heading) -> Sign
     match heading {
         Heading::LoopPre => Sign::Word(Keyword::LoopPre),
         Heading::Initialized => Sign::Symbol(Symbol::Initially),
+        Heading::Replaced => Sign::Symbol(Symbol::OnFirstInput),
     }
 }
 

@@ -109,6 +109,7 @@ primitive_calls p (primitives.Bare k) x h = elim h [ ]
 primitive_calls p (primitives.Never n) x h = elim h [ ]
 primitive_calls p (primitives.WithValue k e) x h = elim h [ ]
 primitive_calls p (primitives.Timed k q e) x h = elim h [ ]
+primitive_calls p (primitives.Selected k n) x h = elim h [ ]
 primitive_calls p (primitives.Arrow f) x h = elim h [ ]
 primitive_calls p (primitives.Accumulated k e f) x h = elim h [ ]
 

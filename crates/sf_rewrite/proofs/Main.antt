@@ -17,11 +17,11 @@ use Rattle.sf_term.specs.declared.form.Switching.{Switching}
 use Rattle.sf_term.specs.Trees.{Primitive, Term, primitive, Reference, reference, started, call, Arguments, no_arguments, value_argument, process_argument, closed_argument, template_named, joined, sided, headed, switching, keeping, staged, Template, Templates}
 use Rattle.sf_mean.specs.Lives.{Step, wait_of, input_of, Life, Process, closure, resumed, Environment, empty, known, running, passing, process_of, base, process_started, scope_around, bind, after, frozen, first_input}
 use Rattle.sf_mean.specs.Formulas.{occurring, formula}
-use Rattle.sf_mean.specs.Meaning.{Network, Readings, Outcome, gave, faulted, as_outcome, recorded, Cost, no_cost, over_first, one_term, text_cost, last_event, Made, process_made, argument_process, argued, process_called, referred, make, entered_cost, arguments_cost, Watched, itself, observed, Takeover, Standing, waits, fired, stands_after, whenever, body_of, body_with, Gives, gives, Outputs, not_begun, and_gave, Sample, of_constants, of_form, of_resumed, Form, of_primitive, of_reference, of_join, of_side, of_loop, of_initialized, of_switch, of_keeping, of_recurring, of_stages, what_runs, Next, goes_on, stops, Loops, no_loop, and_looped, Sees, beside_values, by_observer, Since, at_start, watched, had_fired, SwitchTurn, while_waiting, as_body, Switched, after_fault, after_value, Fires, no_event_yet, event_now}
+use Rattle.sf_mean.specs.Meaning.{Network, Readings, Outcome, gave, faulted, as_outcome, recorded, Cost, no_cost, over_first, one_term, text_cost, last_event, Made, process_made, argument_process, argued, process_called, referred, make, entered_cost, arguments_cost, Watched, itself, observed, Takeover, Standing, waits, fired, stands_after, whenever, body_of, body_with, Gives, gives, Outputs, not_begun, and_gave, Sample, of_constants, of_form, of_resumed, Form, of_primitive, of_reference, of_join, of_side, of_loop, of_initialized, of_replaced, of_switch, of_keeping, of_recurring, of_stages, what_runs, Next, goes_on, stops, Loops, no_loop, and_looped, Sees, beside_values, by_observer, Since, at_start, watched, had_fired, SwitchTurn, while_waiting, as_body, Switched, after_fault, after_value, Fires, no_event_yet, event_now}
 use Rattle.sf_term.specs.Parameters.{Bindings}
 use Rattle.sf_rewrite.specs.Laws.{Laws, unchanged}
 use Rattle.sf_rewrite.specs.Plans.{is_started}
-use Rattle.sf_rewrite.proofs.Parts.{Leaves, Stand, waiting, began, later_stand, stand_after, Part, part, Parts, begins, then_gave, At, at_leaf, at_primitive, at_join, at_stages, at_side, at_loop, at_initialized, at_constant, at_switch, at_recurring, Then, then_part, then_stops, Rounds, no_round, one_round, Watches, watch_begins, then_watched, fired_before, Turns, turn_waits, turn_body, Switches, switch_stops, switch_goes, Runs, runs_first, runs_body, Bodies, no_body, body_begins, is_leaf, no_truth, OneLeaf}
+use Rattle.sf_rewrite.proofs.Parts.{Leaves, Stand, waiting, began, later_stand, stand_after, Part, part, Parts, begins, then_gave, At, at_leaf, at_primitive, at_join, at_stages, at_side, at_loop, at_initialized, at_replaced, at_constant, at_switch, at_recurring, Then, then_part, then_stops, Rounds, no_round, one_round, Watches, watch_begins, then_watched, fired_before, Turns, turn_waits, turn_body, Switches, switch_stops, switch_goes, Runs, runs_first, runs_body, Bodies, no_body, body_begins, is_leaf, no_truth, OneLeaf}
 use Rattle.sf_rewrite.proofs.Lowered.{Below, Lowered, lowered, below_same, below_any, below_trans, below_over, below_both, below_first}
 use Rattle.sf_rewrite.proofs.Along.{Sound, parts_along}
 use Rattle.sf_rewrite.proofs.Sound.{texts, onward, back}
@@ -357,6 +357,7 @@ module _ (d : Bool) (n n' : Network) (all : AlikeAll d n.templates n'.templates)
   go_heading S b e e' E s L ys o c P (at_leaf h B) = absurd (no_truth h)
   go_heading {i = i} S b e e' E s L ys o c P (at_loop h A B) = elim (goes_part S e e' E B) [ lowered B' k ↦ lowered (at_loop (ap (eval i) (sym (scopes same E)) ∙ h) (goes_rounds S e e' E A) B') (below_over _ _ k) ]
   go_heading {i = i} S b e e' E s L ys o c P (at_initialized h A) = elim (goes_part S e e' E A) [ lowered A' k ↦ lowered (at_initialized (ap (eval i) (sym (scopes same E)) ∙ h) A') (below_over _ _ k) ]
+  go_heading {i = i} S b e e' E s L ys o c P (at_replaced h A) = elim (goes_part S e e' E A) [ lowered A' k ↦ lowered (at_replaced (ap (eval i) (sym (scopes same E)) ∙ h) A') (below_over _ _ k) ]
   go_heading {i = i} S b e e' E s L ys o c P (at_constant h) = lowered (at_constant (ap (eval i) (sym (scopes same E)) ∙ h)) (below_over _ _ b)
 
   go_switch : {w : Switching} {t t' u u' : Term} {p : Pattern} → Goes t t' → Goes u u' → Goes (switching w t p u) (switching w t' p u')
@@ -521,6 +522,7 @@ module _ (d : Bool) (n n' : Network) (all : AlikeAll d n.templates n'.templates)
     ready_form (of_side A) k = at_side (opened_part (ready_gives A))
     ready_form (of_loop {i = i} {e = e} A B) k = at_loop (made_answer (eval i (scope_around n.functions e)) k) (ready_loops A) (opened_part (ready_gives B))
     ready_form (of_initialized {i = i} {e = e} A) k = at_initialized (made_answer (eval i (scope_around n.functions e)) k) (opened_part (ready_gives A))
+    ready_form (of_replaced {i = i} {e = e} A) k = at_replaced (made_answer (eval i (scope_around n.functions e)) k) (opened_part (ready_gives A))
     ready_form (of_switch {u = u} {p = p} {e = e} A B) k =
         let st = ready_watches (body_of p u e) A refl in
         at_switch st.1 (ready_turns st.0 B refl st.2)

@@ -8,10 +8,10 @@ use Rattle.sf_term.specs.declared.form.Observation.{Observation}
 use Rattle.sf_term.specs.Trees.{Term}
 use Rattle.sf_mean.specs.Formulas.{occurring}
 use Rattle.sf_mean.specs.Lives.{Step, Life, Process, closure, Environment}
-use Rattle.sf_mean.specs.Meaning.{Network, Outcome, Cost, Made, value_made, itself, Standing, waits, fired, stands_after, whenever, body_of, Gives, gives, Outputs, not_begun, and_gave, Sample, of_constants, of_form, of_primitive, of_join, of_side, of_loop, of_initialized, of_switch, of_recurring, of_stages, what_runs, Next, goes_on, stops, Loops, no_loop, and_looped, beside_values, Since, at_start, watched, had_fired, SwitchTurn, while_waiting, as_body, Switched, after_fault, after_value, Fires, no_event_yet, event_now}
+use Rattle.sf_mean.specs.Meaning.{Network, Outcome, Cost, Made, value_made, itself, Standing, waits, fired, stands_after, whenever, body_of, Gives, gives, Outputs, not_begun, and_gave, Sample, of_constants, of_form, of_primitive, of_join, of_side, of_loop, of_initialized, of_replaced, of_switch, of_recurring, of_stages, what_runs, Next, goes_on, stops, Loops, no_loop, and_looped, beside_values, Since, at_start, watched, had_fired, SwitchTurn, while_waiting, as_body, Switched, after_fault, after_value, Fires, no_event_yet, event_now}
 use Rattle.sf_mean.proofs.Once.{fault_of}
 use Rattle.sf_mean.proofs.TypedProcesses.{made_in}
-use Rattle.sf_rewrite.proofs.Parts.{Leaves, Stand, waiting, began, stand_after, Part, part, Parts, begins, then_gave, At, at_leaf, at_primitive, at_join, at_stages, at_side, at_loop, at_initialized, at_constant, at_switch, at_recurring, Then, then_part, then_stops, Rounds, no_round, one_round, Watches, watch_begins, then_watched, fired_before, Turns, turn_waits, turn_body, Switches, switch_stops, switch_goes, Runs, runs_first, runs_body, Bodies, no_body, body_begins}
+use Rattle.sf_rewrite.proofs.Parts.{Leaves, Stand, waiting, began, stand_after, Part, part, Parts, begins, then_gave, At, at_leaf, at_primitive, at_join, at_stages, at_side, at_loop, at_initialized, at_replaced, at_constant, at_switch, at_recurring, Then, then_part, then_stops, Rounds, no_round, one_round, Watches, watch_begins, then_watched, fired_before, Turns, turn_waits, turn_body, Switches, switch_stops, switch_goes, Runs, runs_first, runs_body, Bodies, no_body, body_begins}
 
 -- a head's value, from what a form is made with
 abbrev made : Evaluated Data → Evaluated Made
@@ -48,6 +48,7 @@ module _ (n : Network) where
     closed (at_side A) = of_form refl (of_side (closed_part A))
     closed (at_loop h A B) = of_form (ap made h) (of_loop (closed_rounds A) (closed_part B))
     closed (at_initialized h A) = of_form (ap made h) (of_initialized (closed_part A))
+    closed (at_replaced h A) = of_form (ap made h) (of_replaced (closed_part A))
     closed (at_constant h) = of_constants (ap made h)
     closed (at_switch {u = u} {p = p} {e = e} A B) = of_form refl (of_switch (closed_watches (body_of p u e) A) (closed_turns B))
     closed (at_recurring A B) = of_form refl (of_recurring (closed_runs A) (closed_bodies B))

@@ -3,14 +3,14 @@ use Rattle.std.proofs.Common.{pos, ◌≡◌, [], Bool, true, false, ◌&&◌, I
 use Rattle.sf_operator.specs.declared.operator.Operator.TheVariants.{Arithmetic}
 use Rattle.sf_operator.specs.declared.operator.Arithmetic.TheVariants.{Divide}
 use Rattle.sf_expr.specs.Expressions.{Expression, unnamed, literal, int_literal, operation, Function, function}
-use Rattle.sf_term.specs.declared.form.Bare.TheVariants.{Identity, LocalTime, Integral, Edge, NotYet, Count, Pre}
-use Rattle.sf_term.specs.declared.form.WithValue.TheVariants.{Constant, InitialPre, InitializedPre, Now, Hold}
+use Rattle.sf_term.specs.declared.form.Bare.TheVariants.{Identity, LocalTime, Integral, Edge, NotYet, Once, Count, Pre}
+use Rattle.sf_term.specs.declared.form.WithValue.TheVariants.{Constant, Initially, InitialPre, InitializedPre, Now, InitialEdge, EdgeTag, Hold, DelayedHold}
 use Rattle.sf_term.specs.declared.form.Join.TheVariants.{InSequence, InParallel, FannedOut}
 use Rattle.sf_term.specs.declared.form.Side.{Side}
 use Rattle.sf_term.specs.declared.form.Side.TheVariants.{First, Second}
-use Rattle.sf_term.specs.declared.form.Heading.TheVariants.{LoopPre, Initialized}
+use Rattle.sf_term.specs.declared.form.Heading.TheVariants.{LoopPre, Initialized, Replaced}
 use Rattle.sf_term.specs.declared.form.Switching.TheVariants.{Basic, Recurring}
-use Rattle.sf_term.specs.Trees.{Chain, lone, chained, on_side, on_both, fanned, bare, probe, never, with_value, timed, arrow, accumulated, fused, Extent, whole, rest, Term, primitive, reference, started, call, Arguments, no_arguments, value_argument, process_argument, closed_argument, joined, sided, headed, switching, keeping, staged}
+use Rattle.sf_term.specs.Trees.{Chain, lone, chained, on_side, on_both, fanned, bare, probe, never, with_value, timed, selected, arrow, accumulated, fused, Extent, whole, rest, Term, primitive, reference, started, call, Arguments, no_arguments, value_argument, process_argument, closed_argument, joined, sided, headed, switching, keeping, staged}
 use Rattle.sf_term.specs.declared.form.Observation.TheVariants.{Immediate, Delayed}
 use Rattle.sf_term.specs.declared.form.Start.TheVariants.{Run, Fresh}
 use Rattle.sf_rewrite.specs.Quiet.{is_quiet_expression, is_quiet}
@@ -43,6 +43,7 @@ arr_view (primitive (never t)) = no_arr refl
 arr_view (primitive (with_value k i)) = no_arr refl
 arr_view (primitive (arrow f)) = an_arr (lone f) arr_as_chain refl
 arr_view (primitive (timed k q i)) = no_arr refl
+arr_view (primitive (selected k n)) = no_arr refl
 arr_view (primitive (accumulated k i f)) = no_arr refl
 arr_view (primitive (fused f)) = an_arr f unchanged refl
 arr_view (reference r) = no_arr refl
@@ -62,12 +63,17 @@ constant_view (primitive (bare k)) = no_constant
 constant_view (primitive (probe k)) = no_constant
 constant_view (primitive (never t)) = no_constant
 constant_view (primitive (with_value Constant i)) = a_constant i refl
+constant_view (primitive (with_value Initially i)) = no_constant
 constant_view (primitive (with_value InitialPre i)) = no_constant
 constant_view (primitive (with_value InitializedPre i)) = no_constant
 constant_view (primitive (with_value Now i)) = no_constant
+constant_view (primitive (with_value InitialEdge i)) = no_constant
+constant_view (primitive (with_value EdgeTag i)) = no_constant
 constant_view (primitive (with_value Hold i)) = no_constant
+constant_view (primitive (with_value DelayedHold i)) = no_constant
 constant_view (primitive (arrow f)) = no_constant
 constant_view (primitive (timed k q i)) = no_constant
+constant_view (primitive (selected k n)) = no_constant
 constant_view (primitive (accumulated k i f)) = no_constant
 constant_view (primitive (fused f)) = no_constant
 constant_view (reference r) = no_constant
@@ -172,12 +178,14 @@ stages (plan_primitive {p = bare LocalTime}) = one_stage refl
 stages (plan_primitive {p = bare Integral}) = one_stage refl
 stages (plan_primitive {p = bare Edge}) = one_stage refl
 stages (plan_primitive {p = bare NotYet}) = one_stage refl
+stages (plan_primitive {p = bare Once}) = one_stage refl
 stages (plan_primitive {p = bare Count}) = one_stage refl
 stages (plan_primitive {p = bare Pre}) = one_stage refl
 stages (plan_primitive {p = probe k}) = one_stage refl
 stages (plan_primitive {p = with_value k i}) = one_stage refl
 stages (plan_primitive {p = arrow f}) = one_stage refl
 stages (plan_primitive {p = timed k q i}) = one_stage refl
+stages (plan_primitive {p = selected k n}) = one_stage refl
 stages (plan_primitive {p = never t}) = one_stage refl
 stages (plan_primitive {p = accumulated k i f}) = one_stage refl
 stages (plan_primitive {p = fused f}) = one_stage refl
@@ -343,6 +351,9 @@ mutual
   optimised (headed Initialized i t) h =
       let p = optimised t h in
       record { term = headed Initialized i p.term; plans = plans (of_heading p.plans) unchanged; is = plan_heading p.is }
+  optimised (headed Replaced i t) h =
+      let p = optimised t h in
+      record { term = headed Replaced i p.term; plans = plans (of_heading p.plans) unchanged; is = plan_heading p.is }
   optimised (switching w t p u) h =
       let k = both_true (is_written t) (is_written u) h in
       let a = optimised t k.0 in

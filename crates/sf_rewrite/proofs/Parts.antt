@@ -11,12 +11,12 @@ use Rattle.sf_term.specs.declared.form.Join.{Join}
 use Rattle.sf_term.specs.declared.form.Join.TheVariants.{InSequence}
 use Rattle.sf_term.specs.declared.form.Side.{Side}
 use Rattle.sf_term.specs.declared.form.Heading.{Heading}
-use Rattle.sf_term.specs.declared.form.Heading.TheVariants.{LoopPre, Initialized}
+use Rattle.sf_term.specs.declared.form.Heading.TheVariants.{LoopPre, Initialized, Replaced}
 use Rattle.sf_term.specs.declared.form.Observation.{Observation}
 use Rattle.sf_term.specs.declared.form.Switching.TheVariants.{Basic, Recurring}
 use Rattle.sf_term.specs.Trees.{Primitive, Extent, Term, primitive, reference, joined, sided, headed, switching, keeping, staged}
 use Rattle.sf_mean.specs.Lives.{Step, input_of, Life, Environment, scope_around, bind, with_inputs, relay, fed}
-use Rattle.sf_mean.specs.Formulas.{at_first, occurring, side_of, with_side, formula}
+use Rattle.sf_mean.specs.Formulas.{at_first, with_first, occurring, side_of, with_side, formula}
 use Rattle.sf_mean.specs.Meaning.{Readings, Outcome, gave, faulted, changed, combined, value_in, as_outcome, recorded, Cost, no_cost, both_costs, over, over_stages, one_term, text_cost, left_life, right_life, join_value, switched_value, event_beside, last_event, since_event, unless_faulted, without_event}
 
 -- what stored functions answer, and what a form that no law looks into gives at a step
@@ -81,6 +81,10 @@ mutual
         → eval i (scope_around Q.functions e) ≡ answer v
         → Part Q t e (s ∷ L) o c
         → At Q (headed Initialized i t) e s L (changed (at_first L v) o) (over c)
+    at_replaced : {i : Expression} {t : Term} {e : Environment} {v : Data} {s : Step} {L : Life} {o : Outcome} {c : Cost}
+        → eval i (scope_around Q.functions e) ≡ answer v
+        → Part Q t e (with_first v (s ∷ L)) o c
+        → At Q (headed Replaced i t) e s L o (over c)
     at_constant : {h : Heading} {i : Expression} {t : Term} {e : Environment} {x : ValueFault} {s : Step}
         → eval i (scope_around Q.functions e) ≡ failed x
         → At Q (headed h i t) e s [] (faulted x) (over (text_cost t))
@@ -192,6 +196,7 @@ module _ (Q : Leaves) (one : OneLeaf Q) where
     once_at (at_leaf h A) (at_side B) = absurd (no_truth h)
     once_at (at_leaf h A) (at_loop B C D) = absurd (no_truth h)
     once_at (at_leaf h A) (at_initialized B C) = absurd (no_truth h)
+    once_at (at_leaf h A) (at_replaced B C) = absurd (no_truth h)
     once_at (at_leaf h A) (at_constant B) = absurd (no_truth h)
     once_at (at_leaf h A) (at_switch B C) = absurd (no_truth h)
     once_at (at_leaf h A) (at_recurring B C) = absurd (no_truth h)
@@ -201,6 +206,7 @@ module _ (Q : Leaves) (one : OneLeaf Q) where
     once_at (at_side B) (at_leaf h A) = absurd (no_truth h)
     once_at (at_loop B C D) (at_leaf h A) = absurd (no_truth h)
     once_at (at_initialized B C) (at_leaf h A) = absurd (no_truth h)
+    once_at (at_replaced B C) (at_leaf h A) = absurd (no_truth h)
     once_at (at_constant B) (at_leaf h A) = absurd (no_truth h)
     once_at (at_switch B C) (at_leaf h A) = absurd (no_truth h)
     once_at (at_recurring B C) (at_leaf h A) = absurd (no_truth h)
@@ -230,6 +236,13 @@ module _ (Q : Leaves) (one : OneLeaf Q) where
         (ap₂ (λ x o. changed (at_first L x) o) (ap the_answer (sym h ∙ h')) q.0, ap over q.1)
     once_at (at_initialized h A) (at_constant h') = absurd (no_fault (sym h ∙ h'))
     once_at (at_constant h) (at_initialized h' A) = absurd (no_fault (sym h' ∙ h))
+    once_at (at_replaced {t = t} {e = e} {v = v} {s = s} {L = L} h A) (at_replaced {v = w} {o = b} {c = d} h' B) =
+        let ev : w ≡ v = ap the_answer (sym h' ∙ h) in
+        let N : Data → Type 0 = λ x. Part Q t e (with_first x (s ∷ L)) b d in
+        let q = once A (subst N ev B) in
+        (q.0, ap over q.1)
+    once_at (at_replaced h A) (at_constant h') = absurd (no_fault (sym h ∙ h'))
+    once_at (at_constant h) (at_replaced h' A) = absurd (no_fault (sym h' ∙ h))
     once_at (at_loop h A B) (at_constant h') = absurd (no_fault (sym h ∙ h'))
     once_at (at_constant h) (at_loop h' A B) = absurd (no_fault (sym h' ∙ h))
     once_at (at_constant {x = x} h) (at_constant h') = (ap (λ v. faulted (the_fault x v)) (sym h ∙ h'), refl)

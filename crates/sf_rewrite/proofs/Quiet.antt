@@ -17,17 +17,17 @@ use Rattle.sf_operator.specs.declared.operator.Folding.TheVariants as folding
 use Rattle.sf_operator.specs.FunctionForms.{kept_payload, mapped_payload, mapped_value, matched_payload, merged_by, value_of_key, folded_rows, folded_value}
 use Rattle.sf_operator.specs.Operations.{truth_in, halves_in, payload_in, rows_in, key_in, order_of, merged, unary_value, decided, operated}
 use Rattle.sf_expr.specs.Evaluation.{Evaluated, answer, ◌>>=◌, known, Scope, bound_in, unless_decided, eval, apply}
-use Rattle.sf_term.specs.declared.form.Bare.TheVariants.{Identity, LocalTime, Integral, Edge, NotYet, Count, Pre}
+use Rattle.sf_term.specs.declared.form.Bare.TheVariants.{Identity, LocalTime, Integral, Edge, NotYet, Once, Count, Pre}
 use Rattle.sf_term.specs.declared.form.Accumulation.{Accumulation}
 use Rattle.sf_term.specs.declared.form.Join.{Join}
 use Rattle.sf_term.specs.declared.form.Join.TheVariants.{InSequence, InParallel, FannedOut}
-use Rattle.sf_term.specs.declared.form.Heading.TheVariants.{LoopPre, Initialized}
-use Rattle.sf_term.specs.Trees.{Chain, lone, chained as chained_functions, on_side, on_both, fanned, Primitive, bare, probe, never, with_value, timed, arrow, accumulated, fused, Extent, Term, primitive, reference, joined, sided, headed, switching, keeping, staged}
+use Rattle.sf_term.specs.declared.form.Heading.TheVariants.{LoopPre, Initialized, Replaced}
+use Rattle.sf_term.specs.Trees.{Chain, lone, chained as chained_functions, on_side, on_both, fanned, Primitive, bare, probe, never, with_value, timed, selected, arrow, accumulated, fused, Extent, Term, primitive, reference, joined, sided, headed, switching, keeping, staged}
 use Rattle.sf_mean.specs.Lives.{Step, step, wait_of, input_of, Life, Environment, scope_around, with_inputs, relay, fed}
-use Rattle.sf_mean.specs.Formulas.{at_first, timed_formula, coming, next_value, accumulation, displayed, side_of, with_side, apply_chain, value_formula, formula}
+use Rattle.sf_mean.specs.Formulas.{at_first, with_first, timed_formula, coming, next_value, accumulation, displayed, side_of, with_side, apply_chain, value_formula, formula}
 use Rattle.sf_mean.specs.Meaning.{Readings, Outcome, gave, as_outcome, recorded, Cost, one_term, text_cost}
 use Rattle.sf_rewrite.specs.Quiet.{is_quiet_unary, is_quiet_operator, is_quiet_expression, is_quiet_function, is_quiet_chain, is_quiet_primitive, is_quiet}
-use Rattle.sf_rewrite.proofs.Parts.{Leaves, Part, part, Parts, begins, then_gave, At, at_primitive, at_join, at_stages, at_side, at_loop, at_initialized, then_part, Rounds, no_round, one_round, no_truth, OneLeaf, once_at}
+use Rattle.sf_rewrite.proofs.Parts.{Leaves, Part, part, Parts, begins, then_gave, At, at_primitive, at_join, at_stages, at_side, at_loop, at_initialized, at_replaced, then_part, Rounds, no_round, one_round, no_truth, OneLeaf, once_at}
 
 pub both_true : (a b : Bool) → a && b ≡ true → (a ≡ true) × (b ≡ true)
 both_true true b h = (refl, h)
@@ -178,6 +178,7 @@ quiet_formula (bare LocalTime) h sc s L = absurd (no_truth h)
 quiet_formula (bare Integral) h sc s L = absurd (no_truth h)
 quiet_formula (bare Edge) h sc s L = (_, refl)
 quiet_formula (bare NotYet) h sc s L = (_, refl)
+quiet_formula (bare Once) h sc s L = (_, refl)
 quiet_formula (bare Count) h sc s L = absurd (no_truth h)
 quiet_formula (bare Pre) h sc s L = (_, refl)
 quiet_formula (probe k) h sc s L = absurd (no_truth h)
@@ -185,6 +186,7 @@ quiet_formula (never t) h sc s L = (_, refl)
 quiet_formula (with_value k i) h sc s L = next (eval i sc) (λ v. answer (value_formula k v s L)) (quiet_eval i h sc) (λ v. (value_formula k v s L, refl))
 quiet_formula (arrow f) h sc s L = quiet_apply f h (input_of s) sc
 quiet_formula (timed k q i) h sc s L = next (eval i sc) (λ v. answer (timed_formula k q v s L)) (quiet_eval i h sc) (λ v. (_, refl))
+quiet_formula (selected k n) h sc s L = (_, refl)
 quiet_formula (accumulated k i f) h sc s L =
     let both = both_true (is_quiet_expression i) (is_quiet_function f) h in
     next (eval i sc) (λ v. accumulation k f sc v (s ∷ L) >>= λ w. answer (displayed k (coming k (input_of s)) w)) (quiet_eval i both.0 sc) (λ v.
@@ -198,6 +200,7 @@ no_readings (probe k) h s = absurd (no_truth h)
 no_readings (never t) h s = refl
 no_readings (with_value k i) h s = refl
 no_readings (timed k q i) h s = refl
+no_readings (selected k n) h s = refl
 no_readings (arrow f) h s = refl
 no_readings (accumulated k i f) h s = refl
 no_readings (fused f) h s = refl
@@ -268,6 +271,12 @@ module _ (Q : Leaves) (one : OneLeaf Q) where
       let r = last_step S e s L in
       (at_first L v.0 r.0, at_initialized v.1 r.1)
 
+  steps_replaced : (i : Expression) {t : Term} → IsTrue (is_quiet_expression i) → Steps t → Steps (headed Replaced i t)
+  steps_replaced i h S e s L ys P =
+      let v = quiet_eval i h (scope_around Q.functions e) in
+      let r = last_step S e (step (wait_of s) (at_first L v.0 (input_of s))) (with_first v.0 L) in
+      (r.0, at_replaced v.1 r.1)
+
   pub quiet_steps : (t : Term) → IsTrue (is_quiet t) → Steps t
   quiet_steps (primitive p) h = λ e s L ys P.
       let r = quiet_formula p h (scope_around Q.functions e) s L in
@@ -279,6 +288,7 @@ module _ (Q : Leaves) (one : OneLeaf Q) where
       (with_side d (input_of s) r.0, at_side r.1)
   quiet_steps (headed LoopPre i t) h = let k = both_true (is_quiet_expression i) (is_quiet t) h in steps_loop i k.0 (quiet_steps t k.1)
   quiet_steps (headed Initialized i t) h = let k = both_true (is_quiet_expression i) (is_quiet t) h in steps_initialized i k.0 (quiet_steps t k.1)
+  quiet_steps (headed Replaced i t) h = let k = both_true (is_quiet_expression i) (is_quiet t) h in steps_replaced i k.0 (quiet_steps t k.1)
   quiet_steps (switching w t p u) h = absurd (no_truth h)
   quiet_steps (reference r) h = absurd (no_truth h)
   quiet_steps (keeping w t q k p u) h = absurd (no_truth h)

@@ -12,7 +12,7 @@ use Rattle.sf_term.specs.declared.form.Observation.{Observation}
 use Rattle.sf_term.specs.declared.form.Switching.{Switching}
 use Rattle.sf_term.specs.Trees.{Chain, Extent, Term, Arguments, joined, sided, headed, switching, keeping, staged, Template, Templates}
 use Rattle.sf_mean.specs.Contexts.{Context, Bindings, Signature, signature_of, context_with, inside_pattern, inside_process}
-use Rattle.sf_mean.specs.Typing.{ChainTakes, lone_takes, chained_takes, on_first_takes, on_second_takes, on_both_takes, fanned_takes, bare_takes, value_takes, arrow_takes, fused_takes, Takes, takes, primitive_takes, call_takes, ArgumentsFit, value_fits, process_fits, closed_fits, sequence_takes, parallel_takes, fan_takes, first_takes, second_takes, loop_takes, initialized_takes, switch_takes, keeping_takes, recurring_takes, stages_take}
+use Rattle.sf_mean.specs.Typing.{ChainTakes, lone_takes, chained_takes, on_first_takes, on_second_takes, on_both_takes, fanned_takes, bare_takes, value_takes, arrow_takes, fused_takes, Takes, takes, primitive_takes, call_takes, ArgumentsFit, value_fits, process_fits, closed_fits, sequence_takes, parallel_takes, fan_takes, first_takes, second_takes, loop_takes, initialized_takes, replaced_takes, switch_takes, keeping_takes, recurring_takes, stages_take}
 use Rattle.sf_mean.proofs.Inferred.{input_fits, output_fits}
 use Rattle.sf_rewrite.specs.Laws.{arr, Laws, unchanged, in_turn, in_join, in_stages, in_side, in_heading, in_switch, as_pipeline, within_pipeline, associate_right, associate_left, identity_before, identity_after, arr_as_chain, chain_as_arr, arr_composed, arr_on_side, arr_in_parallel, arr_fanned_out, sides_composed, exchanged, constant_after, left_tightened, right_tightened}
 use Rattle.sf_rewrite.specs.Plans.{Plans, plans, PlansParts, of_primitive, of_started, of_call, PlansArguments, of_no_arguments, of_value_argument, of_named_argument, of_closed_argument, of_term_argument, of_join, of_side, of_heading, of_switch, of_keeping, PlansTemplate, PlansAll, no_templates, one_more}
@@ -36,6 +36,7 @@ module _ {Γ : Context} where
   keeps_heading : {h : Heading} {i : Expression} {t t' : Term} → Keeps Γ t t' → Keeps Γ (headed h i t) (headed h i t')
   keeps_heading F a b (takes p q (loop_takes e f)) = takes p q (loop_takes e (F _ _ f))
   keeps_heading F a b (takes p q (initialized_takes e f)) = takes p q (initialized_takes e (F _ _ f))
+  keeps_heading F a b (takes p q (replaced_takes e f)) = takes p q (replaced_takes e (F _ _ f))
 
   keeps_switch : {w : Switching} {t t' u u' : Term} {p : Pattern} → Keeps Γ t t' → ((c : Kind) → Keeps (inside_pattern p c Γ) u u') → Keeps Γ (switching w t p u) (switching w t' p u')
   keeps_switch F G a b (takes x y (switch_takes f h g)) = takes x y (switch_takes (F _ _ f) h (G _ _ _ g))

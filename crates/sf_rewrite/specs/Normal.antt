@@ -2,7 +2,7 @@
 use Rattle.std.specs.Prelude.{Bool, true, false, ◌&&◌, IsTrue}
 use Rattle.sf_value.specs.Values.{Name}
 use Rattle.sf_expr.specs.Expressions.{Pattern, Expression}
-use Rattle.sf_term.specs.declared.form.Bare.TheVariants.{Identity, LocalTime, Integral, Edge, NotYet, Count, Pre}
+use Rattle.sf_term.specs.declared.form.Bare.TheVariants.{Identity, LocalTime, Integral, Edge, NotYet, Once, Count, Pre}
 use Rattle.sf_term.specs.declared.form.Join.{Join}
 use Rattle.sf_term.specs.declared.form.Join.TheVariants.{InSequence, InParallel, FannedOut}
 use Rattle.sf_term.specs.declared.form.Side.{Side}
@@ -10,7 +10,7 @@ use Rattle.sf_term.specs.declared.form.Heading.{Heading}
 use Rattle.sf_term.specs.declared.form.Observation.{Observation}
 use Rattle.sf_term.specs.declared.form.Start.{Start}
 use Rattle.sf_term.specs.declared.form.Switching.{Switching}
-use Rattle.sf_term.specs.Trees.{Primitive, bare, probe, never, with_value, timed, arrow, accumulated, fused, whole, rest, Term, primitive, Reference, reference, started, call, Arguments, no_arguments, value_argument, process_argument, closed_argument, joined, sided, headed, switching, keeping, staged}
+use Rattle.sf_term.specs.Trees.{Primitive, bare, probe, never, with_value, timed, selected, arrow, accumulated, fused, whole, rest, Term, primitive, Reference, reference, started, call, Arguments, no_arguments, value_argument, process_argument, closed_argument, joined, sided, headed, switching, keeping, staged}
 
 -- `arr`, of one function or of functions made into one
 abbrev pub is_arr : Term → Bool
@@ -20,6 +20,7 @@ is_arr (primitive (never t)) = false
 is_arr (primitive (with_value k i)) = false
 is_arr (primitive (arrow f)) = true
 is_arr (primitive (timed k q i)) = false
+is_arr (primitive (selected k n)) = false
 is_arr (primitive (accumulated k i f)) = false
 is_arr (primitive (fused f)) = true
 is_arr (reference r) = false
@@ -43,6 +44,7 @@ is_stage (primitive (bare LocalTime)) = true
 is_stage (primitive (bare Integral)) = true
 is_stage (primitive (bare Edge)) = true
 is_stage (primitive (bare NotYet)) = true
+is_stage (primitive (bare Once)) = true
 is_stage (primitive (bare Count)) = true
 is_stage (primitive (bare Pre)) = true
 is_stage (primitive (probe k)) = true
@@ -50,6 +52,7 @@ is_stage (primitive (never t)) = true
 is_stage (primitive (with_value k i)) = true
 is_stage (primitive (arrow f)) = true
 is_stage (primitive (timed k q i)) = true
+is_stage (primitive (selected k n)) = true
 is_stage (primitive (accumulated k i f)) = true
 is_stage (primitive (fused f)) = true
 is_stage (reference r) = true
@@ -99,6 +102,7 @@ is_written_primitive (never t) = true
 is_written_primitive (with_value k i) = true
 is_written_primitive (arrow f) = true
 is_written_primitive (timed k q i) = true
+is_written_primitive (selected k n) = true
 is_written_primitive (accumulated k i f) = true
 is_written_primitive (fused f) = false
 

@@ -8,8 +8,8 @@ use Rattle.sf_operator.specs.declared.operator.Operator.TheVariants.{Arithmetic,
 use Rattle.sf_operator.specs.declared.operator.Merge.TheVariants.{Exclusive}
 use Rattle.sf_expr.specs.Expressions.{Expression, variable, literal, paired, applied, operation, conditional, mapped, folded, called, Function, function}
 use Rattle.sf_term.specs.declared.form.Bare.{Bare}
-use Rattle.sf_term.specs.declared.form.Bare.TheVariants.{Identity, LocalTime, Integral, Edge, NotYet, Count, Pre}
-use Rattle.sf_term.specs.Trees.{Chain, lone, chained, on_side, on_both, fanned, Primitive, bare, probe, never, with_value, timed, arrow, accumulated, fused, Term, primitive, reference, joined, sided, headed, switching, keeping, staged}
+use Rattle.sf_term.specs.declared.form.Bare.TheVariants.{Identity, LocalTime, Integral, Edge, NotYet, Once, Count, Pre}
+use Rattle.sf_term.specs.Trees.{Chain, lone, chained, on_side, on_both, fanned, Primitive, bare, probe, never, with_value, timed, selected, arrow, accumulated, fused, Term, primitive, reference, joined, sided, headed, switching, keeping, staged}
 
 -- an operator on a value that always makes one; a table may have more keys than there are numbers
 abbrev pub is_quiet_unary : Unary → Bool
@@ -54,6 +54,7 @@ is_quiet_bare LocalTime = false
 is_quiet_bare Integral = false
 is_quiet_bare Edge = true
 is_quiet_bare NotYet = true
+is_quiet_bare Once = true
 is_quiet_bare Count = false
 is_quiet_bare Pre = true
 
@@ -65,6 +66,7 @@ is_quiet_primitive (never t) = true
 is_quiet_primitive (with_value k i) = is_quiet_expression i
 is_quiet_primitive (arrow f) = is_quiet_function f
 is_quiet_primitive (timed k q i) = is_quiet_expression i
+is_quiet_primitive (selected k n) = true
 is_quiet_primitive (accumulated k i f) = is_quiet_expression i && is_quiet_function f
 is_quiet_primitive (fused f) = is_quiet_chain f
 

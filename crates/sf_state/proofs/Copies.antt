@@ -1,5 +1,5 @@
 -- A copy of a node stands for the same.
-use Rattle.std.proofs.Common.{◌≡◌, ℕ, suc, ◌+◌, ◌<◌, Bool, true, false, List, [], ◌∷◌, ◌++◌, length, get_or, take, String, string_bytes, Vec, Option, Some, None, Result, Ok, Err, IfOk, OnOk, refl, subst, sym, ◌∙◌, ap, arith}
+use Rattle.std.proofs.Common.{◌≡◌, ℕ, suc, ◌+◌, ◌<◌, Bool, true, false, List, [], ◌∷◌, ◌++◌, length, get_or, take, String, string_bytes, Vec, Option, Some, None, Result, Ok, Err, IfOk, refl, subst, sym, ◌∙◌, ap, arith}
 use Rattle.std.proofs.Math.Seq.{take-suc}
 use Rattle.std.specs.declared.alloc.Global.{Global}
 use Rattle.std.specs.declared.rc.Rc.{Rc}
@@ -26,7 +26,7 @@ use Rattle.sf_state.specs.declared.state.Frozen.{Frozen}
 use Rattle.sf_state.specs.declared.state.Kept.{Kept}
 use Rattle.sf_state.specs.declared.state.Kept.TheVariants.{Primitive as KPrimitive, Live' as KLive', Switch' as KSwitch', Keeping' as KKeeping'}
 use Rattle.sf_state.specs.declared.env.Env.{Env}
-use Rattle.sf_state.specs.Standing.{Wraps, kept_state, Turned, fired_to, kept_to, ran, went_on, Stands, itself, took_over, StandsItself, unborn, recalling, recalls, alive, watching, keeping_on, was_frozen, Waits, waits_so, recurs_so, WaitsKeeping, keeps_so, Settles, settles, Ready, ready, Lives, lives_probe, lives_join, lives_pipeline, lives_wrap, StagesStand, last_stands, stage_stands, IsProcess, is_closure, IsNames, AllFollow, none_follow, more_follow}
+use Rattle.sf_state.specs.Standing.{Wraps, kept_state, Turned, fired_to, kept_to, ran, went_on, was_alike, Stands, itself, took_over, StandsItself, unborn, recalling, recalls, alive, watching, keeping_on, was_frozen, Waits, waits_so, recurs_so, WaitsKeeping, keeps_so, Settles, settles, Ready, ready, Lives, lives_probe, lives_join, lives_pipeline, lives_wrap, StagesStand, last_stands, stage_stands, IsProcess, is_closure, IsNames, AllFollow, none_follow, more_follow}
 
 -- whether a life has a step
 abbrev pub has_step : Life → Bool
@@ -38,20 +38,21 @@ begun_at : (B : Takeover) (s : Step) (L : Life) {M : Life} {Q : Process} (o : Op
 begun_at B s L None e = absurd cc
 begun_at B s L {M} (Some v) e = let one : s ∷ [] ≡ M = cc in sym (ap has_step one)
 
-since_begun : {n : Network} {W : Watched} {B : Takeover} {L M : Life} {Q : Process} → Since n W B L (fired Q M) → (has_step L ≡ true) × (has_step M ≡ true)
-since_begun (was_watched {B = B} {s = s} {L = L} S A e) = (refl, begun_at B s L _ e)
-since_begun (had_fired S) = (refl, refl)
+since_begun : {n : Network} {W : Watched} {B : Takeover} {L M : Life} {Q : Process} → Since n W B L (fired Q M) → has_step L ≡ has_step M
+since_begun (was_watched {B = B} {s = s} {L = L} S A e) = sym (begun_at B s L _ e)
+since_begun (had_fired S) = refl
 
 after_begun : (h : Life) (d : ℕ) (s : Step) (L : Life) → has_step (after h d (s ∷ L)) ≡ true
 after_begun h d s [] = refl
 after_begun h d s (r ∷ L) = refl
 
--- one gives way to another only once both have lived a step
-turned_begun : {n : Network} {P Q : Process} {L M : Life} → Turned n P L Q M → (has_step L ≡ true) × (has_step M ≡ true)
+-- one gives way to another where both have lived a step, or neither
+turned_begun : {n : Network} {P Q : Process} {L M : Life} → Turned n P L Q M → has_step L ≡ has_step M
 turned_begun (fired_to S O) = since_begun S
 turned_begun (kept_to S O) = since_begun S
-turned_begun (ran h O) = (refl, refl)
-turned_begun (went_on {h = h} {d = d} {s = s} {L = L} O) = (refl, after_begun h d s L)
+turned_begun (ran h O) = refl
+turned_begun (went_on {h = h} {d = d} {s = s} {L = L} O) = sym (after_begun h d s L)
+turned_begun (was_alike A O) = refl
 
 module _ (φ : AnswersByName) (p : Plan) where
   -- names stand for all that others stand for
@@ -60,7 +61,7 @@ module _ (φ : AnswersByName) (p : Plan) where
 
   -- a process with the same names, shared
   pub process_follows : (q : SProcess) (names : Env) → NamesFollow q.names names → (P : Process) → IsProcess φ p q P → IsProcess φ p (record { term = q.term; names = names }) P
-  process_follows q names f P (is_closure N) = is_closure (f _ N)
+  process_follows q names f P (is_closure A N) = is_closure A (f _ N)
 
   -- b stands for all that a stands for
   abbrev pub Follows : State → State → Type 0
@@ -188,11 +189,11 @@ module _ (φ : AnswersByName) (p : Plan) where
   -- where it does so itself, it does
   itself_fresh : (a : State) → ((P : Process) (L : Life) → StandsItself φ p a P L → has_step L ≡ false) → IsFresh a
   itself_fresh a f P L (itself A) = f P L A
-  itself_fresh a f P L (took_over T A) = let none = itself_fresh a f _ _ A in let one = (turned_begun T).1 in absurd cc
+  itself_fresh a f P L (took_over T A) = turned_begun T ∙ itself_fresh a f _ _ A
 
   itself_lived : (a : State) → ((P : Process) (L : Life) → StandsItself φ p a P L → has_step L ≡ true) → HasLived a
   itself_lived a f P L (itself A) = f P L A
-  itself_lived a f P L (took_over T A) = (turned_begun T).0
+  itself_lived a f P L (took_over T A) = turned_begun T ∙ itself_lived a f _ _ A
 
   pub unborn_fresh : (q : SProcess) → IsFresh (Unborn q)
   unborn_fresh q = itself_fresh (Unborn q) step
@@ -255,11 +256,6 @@ module _ (φ : AnswersByName) (p : Plan) where
   pub node_freezes : {at : _} (d : ℕ) (names around : Env) (k : Kept) (f : Frozen) → NamesFollow names around → f ≡ record { wait = d; names = around; node = k }
       → (P : Process) (s : Step) (h : Life) → Stands φ p (kept_state names k) P (s ∷ h) → Stands φ p (Frozen' at f.wait f.names f.node) (resumed P (s ∷ h) d) []
   node_freezes {at} d names around k f N same P s h A = subst (λ (f : Frozen). Stands φ p (Frozen' at f.wait f.names f.node) (resumed P (s ∷ h) d) []) (sym same) (itself (was_frozen (kept_around names around k N P (s ∷ h) A)))
-
--- what holds of a success leads to what is asked of it
-pub where_ok : {A E : Type 0} {P Q : Type 0} (r : Result A E) → (P → Q) → OnOk r P → OnOk r Q
-where_ok (Ok a) f h = f h
-where_ok (Err e) f h = h
 
 -- a state that lived, frozen through one that follows it
 pub lived_frozen : {E : Type 0} (a b : State) (d : ℕ) (r : Result State E) → ((φ : AnswersByName) (p : Plan) → HasLived φ p a) → ((φ : AnswersByName) (p : Plan) → Follows φ p a b)

@@ -1,2 +1,3 @@
 pub mod Copies
 pub mod Scopes
+pub mod Fewer

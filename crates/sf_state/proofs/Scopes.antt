@@ -15,7 +15,7 @@ use Rattle.sf_expr.specs.declared.exprs.NameId.{NameId}
 use Rattle.sf_expr.specs.declared.exprs.PatternId.{PatternId}
 use Rattle.sf_expr.specs.Arena.{name_at, placed_at}
 use Rattle.sf_code.specs.Names.{ValuesByName, value_named, scope_with}
-use Rattle.sf_mean.specs.Lives.{Process, Environment, empty, known, running, base, bind, passing, process_of, scope_around}
+use Rattle.sf_mean.specs.Lives.{Process, Environment, empty, known, running, bind, passing, process_of, scope_around}
 use Rattle.sf_law.specs.declared.plan.Plan.{Plan}
 use Rattle.sf_law.specs.Arena.{plan_expressions, header_at}
 use Rattle.sf_law.specs.Places.{names_of_parameters, last_parameter}

@@ -13,16 +13,19 @@ use Rattle.sf_expr.specs.Arena.{placed_at, name_at}
 use Rattle.sf_expr.specs.Evaluation.{answer}
 use Rattle.sf_term.specs.declared.form.Join.{Join}
 use Rattle.sf_term.specs.declared.form.Side.TheVariants.{First as OnFirst, Second as OnSecond}
-use Rattle.sf_term.specs.declared.form.Heading.TheVariants.{LoopPre, Initialized as WithInitial}
+use Rattle.sf_term.specs.declared.form.Heading.TheVariants.{LoopPre, Initialized as WithInitial, Replaced as WithReplaced}
 use Rattle.sf_term.specs.declared.form.Observation.{Observation}
 use Rattle.sf_term.specs.declared.form.Switching.{Switching}
 use Rattle.sf_term.specs.declared.form.Switching.TheVariants.{Basic, Recurring}
 use Rattle.sf_term.specs.Trees.{Primitive, probe, whole, rest, Term, primitive, Reference, reference, joined, sided, headed, switching, keeping, staged}
 use Rattle.sf_mean.specs.Lives.{Step, Life, Process, closure, resumed, Environment, empty, known, running, base, bind, passing, scope_around, first_input, with_inputs, relay, observed_life, after, fed_back, older, fed}
-use Rattle.sf_mean.specs.Formulas.{at_first, side_of}
+use Rattle.sf_mean.specs.Formulas.{at_first, with_first, side_of}
 use Rattle.sf_mean.specs.Meaning.{Network, Made, value_made, referred, make, left_life, right_life, itself as watched_itself, observed, waits, fired, body_of, body_with, whenever, last_event, since_event, what_runs, Outputs, Loops, Since}
+use Rattle.sf_coincidence.specs.Alike.{Alike, AlikeAt}
 use Rattle.sf_law.specs.declared.node.PlanId.{PlanId}
 use Rattle.sf_law.specs.declared.node.TemplateId.{TemplateId}
+use Rattle.sf_law.specs.declared.mentioned.Mentioned.{Mentioned}
+use Rattle.sf_law.specs.Mentioned.{is_mentioned}
 use Rattle.sf_law.specs.Places.{names_of_parameters}
 use Rattle.sf_law.specs.declared.plan.Plan.{Plan}
 use Rattle.sf_law.specs.Arena.{plan_tree, plan_expressions, plan_anew, header_at, network_of_plan}
@@ -34,7 +37,7 @@ use Rattle.sf_state.specs.declared.state.Live.{Live}
 use Rattle.sf_state.specs.declared.state.Live.TheVariants.{Probe as LProbe, Join as LJoin, Pipeline' as LPipeline', Wrap as LWrap}
 use Rattle.sf_state.specs.declared.state.Live.{items-the_row-State}
 use Rattle.sf_state.specs.declared.state.Wrap.{Wrap}
-use Rattle.sf_state.specs.declared.state.Wrap.TheVariants.{First, Second, Loop, Initialized}
+use Rattle.sf_state.specs.declared.state.Wrap.TheVariants.{First, Second, Loop, Initialized, Replaced}
 use Rattle.sf_state.specs.declared.state.Process.{Process as SProcess}
 use Rattle.sf_state.specs.declared.state.Switch.{Switch}
 use Rattle.sf_state.specs.declared.state.Keeping.{Keeping}
@@ -60,6 +63,8 @@ pub data Wraps (n : Network) : Wrap → Term → Environment → Made → Life �
   -- it keeps the value before the first step alone
   wraps_initialized : {i : Expression} {t : Term} {e : Environment} {v : Data} {L : Life}
       → Wraps n (Initialized (at_first L (Some v) None)) (headed WithInitial i t) e (value_made v) L t L
+  wraps_replaced : {i : Expression} {t : Term} {e : Environment} {v : Data} {L : Life}
+      → Wraps n (Replaced (at_first L (Some v) None)) (headed WithReplaced i t) e (value_made v) L t (with_first v L)
 
 -- a term with the names around it
 abbrev pub closed_over : PlanId → Env → SProcess
@@ -102,6 +107,8 @@ pub data Turned (n : Network) : Process → Life → Process → Life → Type 0
   -- a frozen process, once it has gone on
   went_on : {P : Process} {h : Life} {d : ℕ} {s : Step} {L : Life} {ys : List Data}
       → Outputs n (resumed P h d) (s ∷ L) ys → Turned n (resumed P h d) (s ∷ L) P (after h d (s ∷ L))
+  -- a process that is alike, whatever the other names around it stand for
+  was_alike : {P Q : Process} {L : Life} {ys : List Data} → Alike P Q → Outputs n P L ys → Turned n P L Q L
 
 mutual
   -- Where functions answer this, names stand for these values and processes.
@@ -125,7 +132,7 @@ mutual
 
   -- what can be run
   pub data IsProcess (φ : AnswersByName) (p : Plan) : SProcess → Process → Type 0 where
-    is_closure : {q : SProcess} {e : Environment} → IsNames φ p q.names e → IsProcess φ p q (closure (plan_tree p q.term) e)
+    is_closure : {q : SProcess} {P : Process} {e : Environment} → Alike P (closure (plan_tree p q.term) e) → IsNames φ p q.names e → IsProcess φ p q P
 
   -- Where functions answer this, a part of a network stands for a process and the life that it has led. No state stores
   -- the life.
@@ -215,6 +222,10 @@ mutual
     stage_stands : {a : State} {bs : List State} {f g : Term} {e : Environment} {L : Life} {ys : List Data}
         → Outputs (network_of_plan φ p) (closure f e) L ys → Stands φ p a (closure f e) L → StagesStand φ p bs g e (relay L ys)
         → StagesStand φ p (a ∷ bs) (staged rest f g) e L
+
+-- names for an environment in which each name that is mentioned stands for alike
+pub data HasMentioned (φ : AnswersByName) (p : Plan) : Mentioned → Env → Environment → Type 0 where
+  has_mentioned : {m : Mentioned} {names : Env} {d e : Environment} → IsNames φ p names d → ((x : Name) → IsTrue (is_mentioned m x) → AlikeAt x d e) → HasMentioned φ p m names e
 
 -- what stands under a name for a process, beside what that began as, where processes may begin anew
 abbrev pub IsHanded : AnswersByName → Plan → Handed → Process → Type 0

@@ -1,13 +1,14 @@
 //! What names stand for.
-ghost use Rattle.std.specs.Prelude.{◌≡◌, ◌<◌, ◌≤◌, bytes_eq, option_map, IsTrue, IfOk};
+ghost use Rattle.std.specs.Prelude.{◌≡◌, ◌<◌, ◌≤◌, bytes_eq, option_map, IsTrue, IfOk, IfSome};
 ghost use Rattle.std.specs.Map.{lookup};
 ghost use Rattle.sf_func.specs.Registries.{AnswersByName};
 ghost use Rattle.sf_expr.specs.Arena.{placed_at, name_at};
-ghost use Rattle.sf_expr.specs.Expressions.{unnamed};
+ghost use Rattle.sf_expr.specs.Expressions.{unnamed, named};
 ghost use Rattle.sf_expr.specs.Patterns.{pattern_of};
-ghost use Rattle.sf_mean.specs.Lives.{Environment, Process as ProcessOf, empty, bind, running, process_of};
+ghost use Rattle.sf_value.specs.Values.{Name};
+ghost use Rattle.sf_mean.specs.Lives.{Environment, closure, Process as ProcessOf, empty, bind, running, process_of};
 ghost use Rattle.sf_law.specs.declared.plan.Plan.{Plan as PlanOf};
-ghost use Rattle.sf_law.specs.Arena.{plan_expressions, plan_anew, header_at};
+ghost use Rattle.sf_law.specs.Arena.{plan_expressions, plan_anew, plan_tree, header_at};
 ghost use Rattle.sf_law.specs.Places.{last_parameter, names_of_parameters};
 ghost use Rattle.sf_code.specs.Names.{ValuesByName, value_named};
 ghost use Rattle.sf_state.specs.declared.env.Env.{size-Env};
@@ -16,12 +17,15 @@ ghost use Rattle.sf_state.specs.declared.env.Running.{size-Running};
 ghost use Rattle.sf_state.specs.declared.env.Handed.{size-Handed};
 ghost use Rattle.sf_state.specs.declared.env.Call.{size-Call};
 ghost use Rattle.sf_state.specs.Names.{found_or, given_at, handed_of, given_value, values_inside, values_around};
-ghost use Rattle.sf_state.specs.Standing.{IsNames, AreGiven, IsHanded, IsFound};
+ghost use Rattle.sf_coincidence.specs.Mentions.{BindsOthers};
+ghost use Rattle.sf_law.specs.declared.mentioned.Mentioned.{Mentioned as MentionedOf};
+ghost use Rattle.sf_law.specs.Mentioned.{is_mentioned};
+ghost use Rattle.sf_state.specs.Standing.{closed_over, HasMentioned, IsNames, AreGiven, IsHanded, IsFound, IsProcess};
 
 use crate::state::{Process, State};
 use sf_code::Names;
 use sf_expr::{Exprs, NameId, Pat, PatForm, PatternId};
-use sf_law::{Plan, TemplateId};
+use sf_law::{Binder, Mentioned, Plan, PlanId, TemplateId};
 use sf_value::{Form, Value};
 use std::alloc::{AllocError, Global};
 use std::rc::Rc;
@@ -99,6 +103,66 @@ impl Binding {
         } = self;
         drop(value);
         around
+    }
+}
+
+impl Binding {
+    // The same names of the pattern, with fewer around it, if there are fewer. The error is a want of memory, or too many owners.
+    fn over(&self, alloc: Global, fewer: Option<Env>) -> Result<Option<Env>, AllocError>
+        ensures { IfOk result (λ names. (φ : AnswersByName) (p : PlanOf) (m l : MentionedOf) (e : Environment) →
+            ((x : Name) → IsTrue (is_mentioned m x) → BindsOthers (pattern_of (placed_at (plan_expressions p) self.now.pattern)) x → IsTrue (is_mentioned l x)) →
+            IfSome fewer (λ names. HasMentioned φ p l names e) → IfSome names (λ names. HasMentioned φ p m names (bind (pattern_of (placed_at (plan_expressions p) self.now.pattern)) self.now.value.value e))) }
+    {
+        let around = match fewer {
+            Some(around) => around,
+            None => return Ok(None),
+        };
+        let value = self.value.clone()?;
+        let binding = Rc::new(
+            alloc,
+            Binding {
+                pattern: self.pattern,
+                value,
+                around,
+            },
+        )?;
+        Ok(Some(Env::Bound(binding)))
+    }
+}
+
+impl Running {
+    // The same process under its name, with fewer names around it, if there are fewer. The error is a want of memory, or too many
+    // owners.
+    fn over(&self, alloc: Global, fewer: Option<Env>) -> Result<Option<Env>, AllocError>
+        ensures { IfOk result (λ names. (φ : AnswersByName) (p : PlanOf) (m l : MentionedOf) (e : Environment) (P : ProcessOf) →
+            ((x : Name) → IsTrue (is_mentioned m x) → BindsOthers (named (name_at (plan_expressions p) self.now.name)) x → IsTrue (is_mentioned l x)) →
+            IsHanded φ p self.now.handed P → IfSome fewer (λ names. HasMentioned φ p l names e) → IfSome names (λ names. HasMentioned φ p m names (running (name_at (plan_expressions p) self.now.name) P e))) }
+    {
+        let around = match fewer {
+            Some(around) => around,
+            None => return Ok(None),
+        };
+        let handed = self.handed.share(alloc)?;
+        let running = Rc::new(
+            alloc,
+            Running {
+                name: self.name,
+                handed,
+                around,
+            },
+        )?;
+        Ok(Some(Env::Running(running)))
+    }
+}
+
+impl Handed {
+    // The same process, shared. The error is a want of memory, or too many owners.
+    fn share(&self, alloc: Global) -> Result<Handed, AllocError>
+        ensures { IfOk result (λ same. (φ : AnswersByName) (p : PlanOf) (P : ProcessOf) → IsHanded φ p self.now P → IsHanded φ p same P) }
+    {
+        let process = self.process.share(alloc)?;
+        let base = self.base.share()?;
+        Ok(Handed { process, base })
     }
 }
 
@@ -266,11 +330,82 @@ impl Env {
         }
     }
 
-    // The same names where they are asked for, else none. The error is too many owners of one name.
-    pub(crate) fn share_where(&self, asked: bool) -> Result<Env, AllocError>
-        ensures { IfOk result (λ names. IsTrue asked → (φ : AnswersByName) (p : PlanOf) (e : Environment) → IsNames φ p self.now e → IsNames φ p names e) }
+    /// The names that a term mentions, of these, shared: those of one pattern or of one call stay together, and of the same
+    /// names the innermost stays. Where the plan doesn't list them, these names. The error is a want of memory, or too many owners
+    /// of one name.
+    pub fn mentioned_in(&self, alloc: Global, plan: &Plan, term: PlanId) -> Result<Env, AllocError>
+        ensures { IfOk result (λ names. (φ : AnswersByName) (e : Environment) → IsNames φ plan.now self.now e → IsProcess φ plan.now (closed_over term names) (closure (plan_tree plan.now term) e)) }
     {
-        if asked { self.share() } else { Ok(Env::Empty) }
+        let mentioned = match plan.mentioned(term) {
+            Some(mentioned) => mentioned,
+            None => return self.share(),
+        };
+        match self.fewer(alloc, plan, mentioned)? {
+            Some(names) => Ok(names),
+            None => self.share(),
+        }
+    }
+
+    // Those of the names that are mentioned; none where that is all of them.
+    fn fewer(
+        &self,
+        alloc: Global,
+        plan: &Plan,
+        mentioned: &Mentioned,
+    ) -> Result<Option<Env>, AllocError>
+        ensures { IfOk result (λ fewer. (φ : AnswersByName) (e : Environment) → IsNames φ plan.now self.now e → IfSome fewer (λ names. HasMentioned φ plan.now mentioned.now names e)) }
+    {
+        if mentioned.is_empty() {
+            return Ok(self.emptied());
+        }
+        match self {
+            Env::Empty | Env::Called(_) => Ok(None),
+            Env::Bound(binding) => {
+                let pattern = plan.expressions().placed(binding.pattern);
+                let binder = Binder::Pattern(pattern);
+                if mentioned.is_bound_by(binder) {
+                    let left = mentioned.outside(alloc, binder)?;
+                    let around = binding.around.fewer(alloc, plan, &left)?;
+                    binding.over(alloc, around)
+                } else {
+                    let around = binding.around.fewer(alloc, plan, mentioned)?;
+                    binding.around.or_shared(around)
+                }
+            }
+            Env::Running(running) => {
+                let name = plan.expressions().name_of(running.name);
+                let binder = Binder::Name(name);
+                if mentioned.is_bound_by(binder) {
+                    let left = mentioned.outside(alloc, binder)?;
+                    let around = running.around.fewer(alloc, plan, &left)?;
+                    running.over(alloc, around)
+                } else {
+                    let around = running.around.fewer(alloc, plan, mentioned)?;
+                    running.around.or_shared(around)
+                }
+            }
+        }
+    }
+
+    // No names; none where these are none already.
+    fn emptied(&self) -> Option<Env>
+        ensures { IfSome result (λ names. names ≡ Env.Empty) }
+    {
+        match self {
+            Env::Empty => None,
+            _ => Some(Env::Empty),
+        }
+    }
+
+    // Fewer names, or these, shared. The error is too many owners of one name.
+    fn or_shared(&self, fewer: Option<Env>) -> Result<Option<Env>, AllocError>
+        ensures { IfOk result (λ names. (φ : AnswersByName) (p : PlanOf) (m : MentionedOf) (e : Environment) → IsNames φ p self.now e → IfSome fewer (λ names. HasMentioned φ p m names e) →
+            IfSome names (λ names. HasMentioned φ p m names e)) }
+    {
+        match fewer {
+            Some(names) => Ok(Some(names)),
+            None => Ok(Some(self.share()?)),
+        }
     }
 
     /// These names, and inside them those of a pattern of these expressions that is bound to a value. It takes no memory

@@ -1,11 +1,11 @@
 //! The states of networks.
-ghost use Rattle.std.specs.Prelude.{◌≡◌, [], ◌∷◌, false, IfOk, OnOk};
+ghost use Rattle.std.specs.Prelude.{◌≡◌, [], ◌∷◌, false, IfOk, OnOk, IsTrue};
 ghost use Rattle.sf_value.specs.Values.{Data};
 ghost use Rattle.sf_func.specs.Registries.{AnswersByName};
 ghost use Rattle.sf_law.specs.declared.plan.Plan.{Plan};
 ghost use Rattle.sf_expr.specs.Arena.{placed_at, name_at};
 ghost use Rattle.sf_expr.specs.Patterns.{pattern_of};
-ghost use Rattle.sf_law.specs.Arena.{plan_expressions, plan_tree};
+ghost use Rattle.sf_law.specs.Arena.{plan_expressions, plan_tree, plan_anew};
 ghost use Rattle.sf_mean.specs.Lives.{base, bind, closure, resumed, empty, running, frozen as frozen_process, Environment, Step, Life, Process as ProcessOf};
 ghost use Rattle.sf_mean.specs.Meaning.{body_of};
 ghost use Rattle.sf_state.specs.declared.env.Env.{Env as EnvOf};
@@ -239,6 +239,8 @@ pub enum Wrap {
     Loop(Feedback),
     /// `-->`, with the value of its head before the first sample.
     Initialized(Option<Value>),
+    /// `>--`, with the value of its head before the first sample.
+    Replaced(Option<Value>),
 }
 
 impl Drop for Wrap {
@@ -248,6 +250,7 @@ impl Drop for Wrap {
             Wrap::Second => {}
             Wrap::Loop(feedback) => drop(feedback),
             Wrap::Initialized(first) => drop(first),
+            Wrap::Replaced(first) => drop(first),
         }
     }
 }
@@ -509,11 +512,7 @@ impl Keeping {
             (bind (pattern_of (placed_at (plan_expressions p) self.now.pattern)) payload.value (running (name_at (plan_expressions p) self.now.name) (frozen_process P L wait) e))) []) }
     {
         let frozen = self.before.freeze(alloc, wait)?;
-        let outer = names.share_where(plan.begins_anew())?;
-        let base = Process {
-            term: self.first,
-            names: outer,
-        };
+        let base = Process::where_asked(alloc, plan, self.first, names)?;
         let handed = Handed {
             process: frozen,
             base,
@@ -647,6 +646,8 @@ impl Wrap {
             Wrap::Loop(feedback) => Ok(Wrap::Loop(feedback.clone_in(alloc)?)),
             Wrap::Initialized(None) => Ok(Wrap::Initialized(None)),
             Wrap::Initialized(Some(value)) => Ok(Wrap::Initialized(Some(value.clone_in(alloc)?))),
+            Wrap::Replaced(None) => Ok(Wrap::Replaced(None)),
+            Wrap::Replaced(Some(value)) => Ok(Wrap::Replaced(Some(value.clone_in(alloc)?))),
         }
     }
 }
@@ -662,6 +663,38 @@ impl Process {
     {
         let Process { term: _, names } = self;
         names
+    }
+
+    /// A term in the names around it, of which it has those that it mentions. The error is a want of memory, or too many owners of
+    /// one name.
+    pub fn within(
+        alloc: Global,
+        plan: &Plan,
+        term: PlanId,
+        names: &Env,
+    ) -> Result<Process, AllocError>
+        ensures { IfOk result (λ process. (φ : AnswersByName) (e : Environment) → IsNames φ plan.now names.now e → IsProcess φ plan.now process (closure (plan_tree plan.now term) e)) }
+    {
+        let names = names.mentioned_in(alloc, plan, term)?;
+        Ok(Process { term, names })
+    }
+
+    // The same where a process may begin anew; else the term without names.
+    fn where_asked(
+        alloc: Global,
+        plan: &Plan,
+        term: PlanId,
+        names: &Env,
+    ) -> Result<Process, AllocError>
+        ensures { IfOk result (λ process. IsTrue (plan_anew plan.now) → (φ : AnswersByName) (e : Environment) → IsNames φ plan.now names.now e → IsProcess φ plan.now process (closure (plan_tree plan.now term) e)) }
+    {
+        if plan.begins_anew() {
+            return Process::within(alloc, plan, term, names);
+        }
+        Ok(Process {
+            term,
+            names: Env::Empty,
+        })
     }
 
     /// The same process, which shares its names. The error is too many owners of one name.

@@ -10,7 +10,7 @@ use Rattle.sf_law.specs.declared.plan.Plan.{Plan}
 use Rattle.sf_term.specs.Trees.{Term, joined}
 use Rattle.sf_law.specs.Arena.{plan_tree}
 use Rattle.sf_mean.specs.Lives.{Step, step, Life, Process, closure, Environment, first_input}
-use Rattle.sf_mean.specs.Meaning.{Network, Readings, Outcome, gave, Cost, count, height, both_costs, over, left_life, right_life, join_value, Gives, gives, Outputs, and_gave, of_form, Form, of_join, goes_on}
+use Rattle.sf_mean.specs.Meaning.{Network, Readings, Outcome, gave, Cost, count, height, both_costs, over, left_life, right_life, join_value, Gives, gives, Outputs, not_begun, and_gave, of_form, Form, of_join, goes_on}
 use Rattle.sf_law.specs.Arena.{network_of_plan}
 use Rattle.sf_prim.specs.declared.prim_state.PrimState.{PrimState}
 use Rattle.sf_state.specs.declared.state.State.{State}
@@ -22,7 +22,7 @@ use Rattle.sf_state.specs.declared.state.Live.TheVariants.{Join as LJoin, Wrap a
 use Rattle.sf_state.specs.declared.state.Wrap.{Wrap}
 use Rattle.sf_state.specs.Standing.{closed_over as SClosure}
 use Rattle.sf_state.specs.declared.env.Env.{Env}
-use Rattle.sf_state.specs.Standing.{Stands, itself, StandsItself, unborn, Recalls, recalling, alive, watching, keeping_on, Settles, settles, Ready, ready, lives_join, lives_wrap, is_closure, IsNames}
+use Rattle.sf_state.specs.Standing.{was_alike, Stands, itself, StandsItself, unborn, Recalls, recalling, alive, watching, keeping_on, Settles, settles, Ready, ready, lives_join, lives_wrap, is_closure, IsNames}
 use Rattle.sf_parts.specs.declared.opening.Begun.TheVariants as begun
 use Rattle.sf_parts.specs.declared.meter.Meter.{Meter}
 use Rattle.sf_parts.specs.Meters.{entered_of, height_of, readings}
@@ -34,7 +34,7 @@ use Rattle.sf_step.proofs.Parts.{counted, with_change, over_spent, both_spent, f
 use Rattle.sf_step.proofs.Forms.{left_and, right_and, single_gives, gave_outputs, form_alike, join_alike, wrap_alike, wraps_on}
 use Rattle.sf_step.specs.Routing.{left_input, right_input, part_input, wrap_value, kept_after}
 use Rattle.sf_step.specs.Stepping.{EachCostsAtLeast, Steps, stepped, faulted_so, too_large, no_memory}
-use Rattle.sf_step.proofs.Turning.{lift_steps, referred_begins}
+use Rattle.sf_step.proofs.Turning.{lift_steps, took_answers, referred_begins}
 
 -- a tick that went well
 pub ticked_by : {m n : Meter} {depth inside : ℕ} → Ticked m n depth (Ok inside) → Ticks m n depth inside
@@ -132,6 +132,12 @@ module _ (φ : AnswersByName) (p : Plan) where
         let F' = subst (λ (v : Data). Form net form e made (step d x) L (gave v one.r) (over one.k)) (sym ev) F in
         answers (gives O (of_form h F')) (over_spent t one.spent) (settles (ready h (and_gave O (of_form h F')) (lives_wrap (rw ew (wraps_on net d x W G)) A')))
 
+    -- the part's result is the form's
+    pub wrap_last : {A E : Type 0} (a' : State) (w' : Wrap) (y v : Data) (r : Result A E) (f : Fault) → w' ≡ kept_after w y → v ≡ wrap_value w x y → StateSteps φ p a (step d u) (left_or r (a', y) f) n n' inside
+        → LiveSteps φ p (LWrap w a) (step d x) (left_or r (LWrap w' a', v) f) n n' inside
+    wrap_last a' w' y v (Ok u) f ew ev hs = wrap_steps a' w' y v ew ev hs
+    wrap_last a' w' y v (Err e) f ew ev hs = λ m depth t P L R. fails (wrap_fails f hs m depth t P L R)
+
   -- a primitive's answer is its state's
   recalled : {A E : Type 0} {P : Process} {s : Step} {L : Life} {R : Rel} {m n : Meter} {depth : ℕ} (i : PrimState) (v : Data) (r : Result A E) (f : Fault)
       → Answers {A = PrimState × Data} (λ y. y.1) (λ y. Recalls φ p y.0 P (s ∷ L)) R (left_or r (i, v) f) m n depth
@@ -194,7 +200,7 @@ module _ (φ : AnswersByName) (p : Plan) where
     starts {n' = n'} r h = lift_steps φ p (Unborn (SClosure term names)) (step d x) r m n' depth go
       where
         go : (P : Process) (L : Life) → StandsItself φ p (Unborn (SClosure term names)) P L → PartSteps φ p P L (step d x) r m n' depth
-        go P L (unborn (is_closure {e = e} N)) = h e N
+        go P L (unborn (is_closure {e = e} A N)) = took_answers φ p (was_alike A not_begun) (h e N)
 
     -- it counts, and steps as what it has become
     pub begun_steps : {n' : Meter} (a : State) (r : Result (State × Data) Fault) → ((e : Environment) → IsNames φ p names e → BeginsAs φ p (plan_tree p term) e a (Ok begun.Itself)) → CountedSteps φ p a (step d x) r n n' inside

@@ -6,10 +6,10 @@ use Rattle.sf_term.specs.declared.form.Join.{Join}
 use Rattle.sf_term.specs.declared.form.Join.TheVariants.{InSequence, InParallel, FannedOut}
 use Rattle.sf_term.specs.Trees.{Term, joined}
 use Rattle.sf_mean.specs.Lives.{Step, step, Life, Process, closure, Environment, first_input, fed}
-use Rattle.sf_mean.specs.Meaning.{Network, Readings, Outcome, gave, faulted, combined, value_in, Cost, both_costs, text_cost, Made, make, left_life, right_life, join_value, Gives, gives, Outputs, and_gave, Sample, of_constants, of_form, Form, of_join, of_side, of_loop, of_initialized, Next, goes_on, stops, and_looped}
+use Rattle.sf_mean.specs.Meaning.{Network, Readings, Outcome, gave, faulted, combined, value_in, Cost, both_costs, text_cost, Made, make, left_life, right_life, join_value, Gives, gives, Outputs, and_gave, Sample, of_constants, of_form, Form, of_join, of_side, of_loop, of_initialized, of_replaced, Next, goes_on, stops, and_looped}
 use Rattle.sf_mean.proofs.Once.{once, onces, once_loops}
 use Rattle.sf_state.specs.declared.state.Wrap.{Wrap}
-use Rattle.sf_state.specs.Standing.{Wraps, wraps_first, wraps_second, wraps_loop, wraps_initialized}
+use Rattle.sf_state.specs.Standing.{Wraps, wraps_first, wraps_second, wraps_loop, wraps_initialized, wraps_replaced}
 use Rattle.sf_step.specs.Routing.{left_input, right_input, part_input, wrap_value, kept_after}
 use Rattle.sf_parts.specs.Answering.{Rel}
 use Rattle.sf_step.proofs.Parts.{Single, single, Over, counted, Then, then_on, then_stop, Changed, with_change, Alike}
@@ -86,6 +86,10 @@ module _ (n : Network) where
   wrap_to d x (wraps_loop O) o k (counted (with_change G)) = of_loop O G
   wrap_to {L = []} d x wraps_initialized o k (counted (with_change G)) = of_initialized G
   wrap_to {L = s ∷ L} d x wraps_initialized o k (counted (with_change G)) = of_initialized G
+  wrap_to {L = []} d x wraps_replaced o k (counted (with_change {o = gave y r} G)) = of_replaced G
+  wrap_to {L = []} d x wraps_replaced o k (counted (with_change {o = faulted f} G)) = of_replaced G
+  wrap_to {L = s ∷ L} d x wraps_replaced o k (counted (with_change {o = gave y r} G)) = of_replaced G
+  wrap_to {L = s ∷ L} d x wraps_replaced o k (counted (with_change {o = faulted f} G)) = of_replaced G
 
   wrap_back : {w : Wrap} {t u : Term} {e : Environment} {m : Made} {L K : Life} (d : ℕ) (x : Data) → Wraps n w t e m L u K
       → (o : Outcome) (k : Cost) → Form n t e m (step d x) L o k → WrapRel w u e d x K o k
@@ -95,6 +99,10 @@ module _ (n : Network) where
       counted (with_change (subst (λ (zs : List Data). Gives n (closure t e) (fed v (step d x ∷ L) zs) q c) (once_loops n O' O) G))
   wrap_back {L = []} d x wraps_initialized o k (of_initialized G) = counted (with_change G)
   wrap_back {L = s ∷ L} d x wraps_initialized o k (of_initialized G) = counted (with_change G)
+  wrap_back {L = []} d x wraps_replaced (gave y r) k (of_replaced G) = counted (with_change {o = gave y r} G)
+  wrap_back {L = []} d x wraps_replaced (faulted f) k (of_replaced G) = counted (with_change {o = faulted f} G)
+  wrap_back {L = s ∷ L} d x wraps_replaced (gave y r) k (of_replaced G) = counted (with_change {o = gave y r} G)
+  wrap_back {L = s ∷ L} d x wraps_replaced (faulted f) k (of_replaced G) = counted (with_change {o = faulted f} G)
 
   pub wrap_alike : {w : Wrap} {t u : Term} {e : Environment} {m : Made} {L K : Life} (d : ℕ) (x : Data) → Wraps n w t e m L u K
       → Alike (WrapRel w u e d x K) (Form n t e m (step d x) L)
@@ -107,3 +115,5 @@ module _ (n : Network) where
   wraps_on d x wraps_second G = wraps_second
   wraps_on d x (wraps_loop O) G = wraps_loop (and_looped O G)
   wraps_on d x wraps_initialized G = wraps_initialized
+  wraps_on {L = []} d x wraps_replaced G = wraps_replaced
+  wraps_on {L = s ∷ L} d x wraps_replaced G = wraps_replaced

@@ -17,7 +17,7 @@ use Rattle.sf_law.specs.Arena.{network_of_plan}
 use Rattle.sf_state.specs.declared.state.State.{State}
 use Rattle.sf_state.specs.declared.state.Live.{items_hidden-the_row-State-1}
 use Rattle.sf_state.specs.declared.state.Live.TheVariants.{Pipeline as LPipeline}
-use Rattle.sf_state.specs.Standing.{Stands, itself, took_over, unborn, recalling, recalls, alive, watching, waits_so, recurs_so, keeping_on, keeps_so, was_frozen, Turned, fired_to, kept_to, ran, went_on, settles, Ready, ready, lives_pipeline, StagesStand, last_stands, stage_stands}
+use Rattle.sf_state.specs.Standing.{Stands, itself, took_over, unborn, recalling, recalls, alive, watching, waits_so, recurs_so, keeping_on, keeps_so, was_frozen, Turned, fired_to, kept_to, ran, went_on, was_alike, settles, Ready, ready, lives_pipeline, StagesStand, last_stands, stage_stands}
 use Rattle.sf_state.proofs.Copies.{pipeline_lives}
 use Rattle.sf_parts.specs.declared.meter.Meter.{Meter}
 use Rattle.sf_parts.specs.Answering.{Rel, Ticks, StopsFor, Answers, answers, fails, LiveSteps}
@@ -91,6 +91,7 @@ module _ (φ : AnswersByName) (p : Plan) where
   turned_gave (kept_to S O) = (_, O)
   turned_gave (ran h O) = (_, O)
   turned_gave (went_on O) = (_, O)
+  turned_gave (was_alike A O) = (_, O)
 
   state_gave : {a : State} {P : Process} {L : Life} → Stands φ p a P L → Gave P L
   state_gave (itself (unborn Q)) = ([], not_begun)

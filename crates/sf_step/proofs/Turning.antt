@@ -1,6 +1,8 @@
 -- What a process gives that gives way to another one, and what is left waiting by a switch.
 use Rattle.std.proofs.Common.{◌≡◌, ℕ, [], ◌∷◌, Option, Some, None, Result, Ok, Err, refl, sym, ap, subst}
 use Rattle.std.specs.Prelude.{IsErr, unwrap_or}
+use Rattle.sf_coincidence.proofs.Same.{alike_back}
+use Rattle.sf_coincidence.proofs.Main.{same}
 use Rattle.sf_value.specs.Values.{Name, Data}
 use Rattle.sf_value.specs.declared.fault.Fault.{Fault}
 use Rattle.sf_func.specs.Registries.{AnswersByName}
@@ -20,7 +22,7 @@ use Rattle.sf_state.specs.declared.state.Switch.{Switch}
 use Rattle.sf_state.specs.declared.state.Keeping.{Keeping}
 use Rattle.sf_state.specs.declared.state.Kept.{Kept}
 use Rattle.sf_state.specs.declared.env.Env.{Env}
-use Rattle.sf_state.specs.Standing.{IsNames, Turned, fired_to, kept_to, ran, went_on, Stands, itself, took_over, StandsItself, watching, keeping_on, was_frozen, kept_state, Waits, WaitsKeeping}
+use Rattle.sf_state.specs.Standing.{IsNames, Turned, fired_to, kept_to, ran, went_on, was_alike, Stands, itself, took_over, StandsItself, watching, keeping_on, was_frozen, kept_state, Waits, WaitsKeeping}
 use Rattle.sf_parts.specs.declared.opening.Begun.TheVariants as begun
 use Rattle.sf_parts.specs.declared.meter.Meter.{Meter}
 use Rattle.sf_parts.specs.Answering.{Rel, Ticks, StopsFor, Answers, answers, fails}
@@ -76,20 +78,23 @@ module _ (φ : AnswersByName) (p : Plan) where
   turned_to (kept_to S O) s o k G = gives O (of_form refl (of_keeping S (as_body G)))
   turned_to (ran h O) s o k G = gives O (of_form (ap as_made h) (of_reference G))
   turned_to (went_on O) s o k G = gives O (of_resumed G)
+  turned_to (was_alike A O) s o k G = same net (alike_back A) G
 
   turned_back : {P Q : Process} {L M : Life} → Turned net P L Q M → (s : Step) (o : Outcome) (k : Cost) → Gives net P (s ∷ L) o k → Gives net Q (s ∷ M) o k
   turned_back (fired_to {L = L} S O) s o k G = from_switch S (gives_form net s L refl G)
   turned_back (kept_to {L = L} S O) s o k G = from_keeping S (gives_form net s L refl G)
   turned_back (ran {s = r} {L = L} h O) s o k G = from_reference (gives_form net s (r ∷ L) (ap as_made h) G)
   turned_back (went_on O) s o k G = from_resumed G
+  turned_back (was_alike A O) s o k G = same net A G
 
   turned_on : {P Q : Process} {L M : Life} {s : Step} {y : Data} {r : Readings} {k : Cost} → Turned net P L Q M → Gives net P (s ∷ L) (gave y r) k → Turned net P (s ∷ L) Q (s ∷ M)
   turned_on (fired_to S O) G = fired_to (had_fired S) (gave_outputs net O G)
   turned_on (kept_to S O) G = kept_to (had_fired S) (gave_outputs net O G)
   turned_on (ran h O) G = ran h (gave_outputs net O G)
   turned_on (went_on O) G = went_on (gave_outputs net O G)
+  turned_on (was_alike A O) G = was_alike A (gave_outputs net O G)
 
-  took_answers : {P Q : Process} {L M : Life} {s : Step} {r : Result (State × Data) Fault} {m n : Meter} {depth : ℕ} → Turned net P L Q M → PartSteps φ p Q M s r m n depth → PartSteps φ p P L s r m n depth
+  pub took_answers : {P Q : Process} {L M : Life} {s : Step} {r : Result (State × Data) Fault} {m n : Meter} {depth : ℕ} → Turned net P L Q M → PartSteps φ p Q M s r m n depth → PartSteps φ p P L s r m n depth
   took_answers {s = s} T (answers G sp A) = let H = turned_to T s _ _ G in answers H sp (took_over (turned_on T H) A)
   took_answers {s = s} T (fails h) = fails (fails_alike (record { to = turned_to T s; back = turned_back T s }) h)
 

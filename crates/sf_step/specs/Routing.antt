@@ -4,7 +4,7 @@ use Rattle.sf_value.specs.Values.{Data, pair, first_of, second_of}
 use Rattle.sf_term.specs.declared.form.Join.{Join}
 use Rattle.sf_term.specs.declared.form.Join.TheVariants.{InSequence, InParallel, FannedOut}
 use Rattle.sf_state.specs.declared.state.Wrap.{Wrap}
-use Rattle.sf_state.specs.declared.state.Wrap.TheVariants.{First, Second, Loop, Initialized}
+use Rattle.sf_state.specs.declared.state.Wrap.TheVariants.{First, Second, Loop, Initialized, Replaced}
 
 -- ## Joins
 
@@ -28,6 +28,7 @@ part_input First x = first_of x
 part_input Second x = second_of x
 part_input (Loop v) x = pair x v
 part_input (Initialized o) x = x
+part_input (Replaced o) x = unwrap_or o x
 
 -- the form's value, from its input and the part's output
 abbrev pub wrap_value : Wrap → Data → Data → Data
@@ -35,6 +36,7 @@ wrap_value First x y = pair y (second_of x)
 wrap_value Second x y = pair (first_of x) y
 wrap_value (Loop v) x y = first_of y
 wrap_value (Initialized o) x y = unwrap_or o y
+wrap_value (Replaced o) x y = y
 
 -- what the form keeps, after the part's output
 abbrev pub kept_after : Wrap → Data → Wrap
@@ -42,3 +44,4 @@ kept_after First y = First
 kept_after Second y = Second
 kept_after (Loop v) y = Loop (second_of y)
 kept_after (Initialized o) y = Initialized None
+kept_after (Replaced o) y = Replaced None

@@ -434,6 +434,7 @@ fn step_live<R: Holds>(
             Wrap::Initialized(first) => step_initialized(
                 context, first, part, inside, value, meter,
             ),
+            Wrap::Replaced(first) => step_replaced(context, first, part, inside, value, meter),
         },
     }
 }
@@ -620,4 +621,22 @@ fn step_initialized<R: Holds>(
     step_state(context, part, inside, value, meter)?;
     put_first(first, value);
     Ok(())
+}
+
+// The next sample of a part whose first input is replaced by a value, likewise.
+#[cycle(step)]
+#[inline(never)]
+fn step_replaced<R: Holds>(
+    context: &SampleContext<R>,
+    initial: &mut Option<Value>,
+    part: &mut State,
+    inside: u64,
+    value: &mut Value,
+    meter: &mut Meter,
+) -> Result<(), Stop>
+    ensures { LiveSteps (R.answers context.now.functions.now) (plan_in context.now) (Live.Wrap (Wrap.Replaced initial.old) part.old) (step (dt_in context.now) value.old)
+        (left_or result (Live.Wrap (Wrap.Replaced initial.new) part.new, value.new) (fault_in meter.new)) meter.old meter.new inside }
+{
+    put_first(initial, value);
+    step_state(context, part, inside, value, meter)
 }

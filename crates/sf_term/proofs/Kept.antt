@@ -63,6 +63,7 @@ parts_needed p (nodes.Primitive (primitives.Bare k)) h = record { terms = omega 
 parts_needed p (nodes.Primitive (primitives.Never n)) h = record { terms = omega arith; expressions = omega arith; functions = omega arith; patterns = omega arith; names = omega arith; constants = omega (arith, constant_below p.expressions n h); arguments = omega arith }
 parts_needed p (nodes.Primitive (primitives.WithValue k e)) h = record { terms = omega arith; expressions = omega (arith, holds_below p.expressions e h); functions = omega arith; patterns = omega arith; names = omega arith; constants = omega arith; arguments = omega arith }
 parts_needed p (nodes.Primitive (primitives.Timed k q e)) h = record { terms = omega arith; expressions = omega (arith, holds_below p.expressions e h); functions = omega arith; patterns = omega arith; names = omega arith; constants = omega arith; arguments = omega arith }
+parts_needed p (nodes.Primitive (primitives.Selected k n)) h = record { terms = omega arith; expressions = omega arith; functions = omega arith; patterns = omega arith; names = omega arith; constants = omega arith; arguments = omega arith }
 parts_needed p (nodes.Primitive (primitives.Arrow f)) h = record { terms = omega arith; expressions = omega arith; functions = omega (arith, function_below p.expressions f h); patterns = omega arith; names = omega arith; constants = omega arith; arguments = omega arith }
 parts_needed p (nodes.Primitive (primitives.Accumulated k e f)) h = record { terms = omega arith; expressions = omega (arith, holds_below p.expressions e h.0); functions = omega (arith, function_below p.expressions f h.1); patterns = omega arith; names = omega arith; constants = omega arith; arguments = omega arith }
 parts_needed p (nodes.Named w k s) h = record { terms = omega arith; expressions = omega arith; functions = omega arith; patterns = omega arith; names = omega (arith, name_below p.expressions k h); constants = omega arith; arguments = omega arith }
@@ -102,6 +103,7 @@ node-made p (nodes.Primitive (primitives.Bare k)) = refl
 node-made p (nodes.Primitive (primitives.Never n)) = refl
 node-made p (nodes.Primitive (primitives.WithValue k e)) = refl
 node-made p (nodes.Primitive (primitives.Timed k q e)) = refl
+node-made p (nodes.Primitive (primitives.Selected k n)) = refl
 node-made p (nodes.Primitive (primitives.Arrow f)) = refl
 node-made p (nodes.Primitive (primitives.Accumulated k e f)) = refl
 node-made p (nodes.Named w k s) = refl
@@ -482,6 +484,7 @@ parts_held p t = of_node (term_entry (entries_of p.terms) t.0).node needed
     of_node (nodes.Primitive (primitives.Never n)) h = below_constant p.expressions n (omega (arith, h.constants))
     of_node (nodes.Primitive (primitives.WithValue k e)) h = below_holds p.expressions e (omega (arith, h.expressions))
     of_node (nodes.Primitive (primitives.Timed k q e)) h = below_holds p.expressions e (omega (arith, h.expressions))
+    of_node (nodes.Primitive (primitives.Selected k n)) h = tt
     of_node (nodes.Primitive (primitives.Arrow g)) h = below_function p.expressions g (omega (arith, h.functions))
     of_node (nodes.Primitive (primitives.Accumulated k e g)) h = (below_holds p.expressions e (omega (arith, h.expressions)), below_function p.expressions g (omega (arith, h.functions)))
     of_node (nodes.Named w k s) h = below_name p.expressions k (omega (arith, h.names))

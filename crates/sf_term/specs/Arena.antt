@@ -19,7 +19,7 @@ use Rattle.sf_term.specs.declared.node.Primitive.TheVariants as primitives
 use Rattle.sf_term.specs.declared.node.Node.{Node}
 use Rattle.sf_term.specs.declared.node.Node.TheVariants as nodes
 use Rattle.sf_term.specs.declared.program.Program.{Program}
-use Rattle.sf_term.specs.Trees.{Term, primitive, reference, call, Arguments, no_arguments, value_argument, process_argument, joined, sided, headed, switching, keeping, bare, never, with_value, timed, arrow, accumulated, named_term, term_depth, Template, Templates}
+use Rattle.sf_term.specs.Trees.{Term, primitive, reference, call, Arguments, no_arguments, value_argument, process_argument, joined, sided, headed, switching, keeping, bare, never, with_value, timed, selected, arrow, accumulated, named_term, term_depth, Template, Templates}
 use Rattle.sf_term.specs.Parameters.{parameters_of}
 use Rattle.sf_term.specs.Headers.{Header}
 use Rattle.sf_term.specs.Entries.{TermBase, absent_payload, term_entry, term_entered}
@@ -124,6 +124,7 @@ term_of p (nodes.Primitive (primitives.Bare k)) = primitive (bare k)
 term_of p (nodes.Primitive (primitives.Never n)) = primitive (never (absent_payload (literal_at (expressions_of p) n)))
 term_of p (nodes.Primitive (primitives.WithValue k e)) = primitive (with_value k (expression_under p e))
 term_of p (nodes.Primitive (primitives.Timed k q e)) = primitive (timed k q (expression_under p e))
+term_of p (nodes.Primitive (primitives.Selected k n)) = primitive (selected k n)
 term_of p (nodes.Primitive (primitives.Arrow f)) = primitive (arrow (function_in p f))
 term_of p (nodes.Primitive (primitives.Accumulated k e f)) = primitive (accumulated k (expression_under p e) (function_in p f))
 term_of p (nodes.Named w k s) = named_term w (name_at (expressions_of p) k)
@@ -185,6 +186,7 @@ HoldsTermParts p (nodes.Primitive (primitives.Bare k)) = Unit {0}
 HoldsTermParts p (nodes.Primitive (primitives.Never n)) = HoldsConstant (expressions_of p) n
 HoldsTermParts p (nodes.Primitive (primitives.WithValue k e)) = HoldsExpression p e
 HoldsTermParts p (nodes.Primitive (primitives.Timed k q e)) = HoldsExpression p e
+HoldsTermParts p (nodes.Primitive (primitives.Selected k n)) = Unit {0}
 HoldsTermParts p (nodes.Primitive (primitives.Arrow f)) = ProgramHoldsFunction p f
 HoldsTermParts p (nodes.Primitive (primitives.Accumulated k e f)) = HoldsExpression p e × ProgramHoldsFunction p f
 HoldsTermParts p (nodes.Named w k s) = HoldsName (expressions_of p) k

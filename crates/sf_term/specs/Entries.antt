@@ -14,7 +14,7 @@ use Rattle.sf_term.specs.declared.node.Argument.{Argument}
 use Rattle.sf_term.specs.declared.node.Argument.TheVariants as arguments
 use Rattle.sf_term.specs.declared.node.Node.{Node}
 use Rattle.sf_term.specs.declared.node.Node.TheVariants as nodes
-use Rattle.sf_term.specs.Trees.{Term, primitive, reference, call, Arguments, no_arguments, value_argument, process_argument, joined, sided, headed, switching, keeping, bare, never, with_value, timed, arrow, accumulated, named_term, term_depth}
+use Rattle.sf_term.specs.Trees.{Term, primitive, reference, call, Arguments, no_arguments, value_argument, process_argument, joined, sided, headed, switching, keeping, bare, never, with_value, timed, selected, arrow, accumulated, named_term, term_depth}
 
 -- What terms are made over beside terms: expressions, and the arguments of calls.
 pub record TermBase : Type 0 where
@@ -53,6 +53,7 @@ term_over b ts (nodes.Primitive (primitives.Bare k)) = primitive (bare k)
 term_over b ts (nodes.Primitive (primitives.Never n)) = primitive (never (absent_payload (literal_at b.expressions n)))
 term_over b ts (nodes.Primitive (primitives.WithValue k e)) = primitive (with_value k (expression b.expressions e))
 term_over b ts (nodes.Primitive (primitives.Timed k q e)) = primitive (timed k q (expression b.expressions e))
+term_over b ts (nodes.Primitive (primitives.Selected k n)) = primitive (selected k n)
 term_over b ts (nodes.Primitive (primitives.Arrow f)) = primitive (arrow (function_at b.expressions f))
 term_over b ts (nodes.Primitive (primitives.Accumulated k e f)) = primitive (accumulated k (expression b.expressions e) (function_at b.expressions f))
 term_over b ts (nodes.Named w k s) = named_term w (name_at b.expressions k)
@@ -92,6 +93,7 @@ needs_expressions b (nodes.Primitive (primitives.Bare k)) = 0
 needs_expressions b (nodes.Primitive (primitives.Never n)) = 0
 needs_expressions b (nodes.Primitive (primitives.WithValue k e)) = suc (id_number e)
 needs_expressions b (nodes.Primitive (primitives.Timed k q e)) = suc (id_number e)
+needs_expressions b (nodes.Primitive (primitives.Selected k n)) = 0
 needs_expressions b (nodes.Primitive (primitives.Arrow f)) = 0
 needs_expressions b (nodes.Primitive (primitives.Accumulated k e f)) = suc (id_number e)
 needs_expressions b (nodes.Named w k s) = 0
@@ -108,6 +110,7 @@ needs_functions (nodes.Primitive (primitives.Bare k)) = 0
 needs_functions (nodes.Primitive (primitives.Never n)) = 0
 needs_functions (nodes.Primitive (primitives.WithValue k e)) = 0
 needs_functions (nodes.Primitive (primitives.Timed k q e)) = 0
+needs_functions (nodes.Primitive (primitives.Selected k n)) = 0
 needs_functions (nodes.Primitive (primitives.Arrow f)) = suc f.0
 needs_functions (nodes.Primitive (primitives.Accumulated k e f)) = suc f.0
 needs_functions (nodes.Named w k s) = 0
@@ -146,6 +149,7 @@ constants_needed (nodes.Primitive (primitives.Bare k)) = 0
 constants_needed (nodes.Primitive (primitives.Never n)) = suc n.0
 constants_needed (nodes.Primitive (primitives.WithValue k e)) = 0
 constants_needed (nodes.Primitive (primitives.Timed k q e)) = 0
+constants_needed (nodes.Primitive (primitives.Selected k n)) = 0
 constants_needed (nodes.Primitive (primitives.Arrow f)) = 0
 constants_needed (nodes.Primitive (primitives.Accumulated k e f)) = 0
 constants_needed (nodes.Named w k s) = 0

@@ -4,9 +4,10 @@ use Rattle.sf_value.specs.Values.{Name, Kind}
 use Rattle.sf_expr.specs.Expressions.{Pattern, Expression, Function, pattern_depth, depth as expression_depth, size as expression_size, function_depth, function_size}
 use Rattle.sf_term.specs.declared.form.Bare.{Bare}
 use Rattle.sf_term.specs.declared.form.WithValue.{WithValue}
-use Rattle.sf_term.specs.declared.form.WithValue.TheVariants.{Constant, InitialPre, InitializedPre, Now, Hold}
+use Rattle.sf_term.specs.declared.form.WithValue.TheVariants.{Constant, Initially, InitialPre, InitializedPre, Now, InitialEdge, EdgeTag, Hold, DelayedHold}
 use Rattle.sf_term.specs.declared.form.Accumulation.{Accumulation}
 use Rattle.sf_term.specs.declared.form.Timing.{Timing}
+use Rattle.sf_term.specs.declared.form.Selection.{Selection}
 use Rattle.sf_term.specs.declared.form.Join.{Join}
 use Rattle.sf_term.specs.declared.form.Side.{Side}
 use Rattle.sf_term.specs.declared.form.Heading.{Heading}
@@ -32,6 +33,7 @@ pub data Primitive : Type 0 where
   never : Kind → Primitive
   with_value : WithValue → Expression → Primitive
   timed : Timing → ℤ → Expression → Primitive
+  selected : Selection → ℤ → Primitive
   arrow : Function → Primitive
   accumulated : Accumulation → Expression → Function → Primitive
   fused : Chain → Primitive
@@ -98,6 +100,7 @@ primitive_depth (probe k) = 0
 primitive_depth (never t) = 0
 primitive_depth (with_value k e) = expression_depth e
 primitive_depth (timed k q e) = expression_depth e
+primitive_depth (selected k n) = 0
 primitive_depth (arrow f) = function_depth f
 primitive_depth (accumulated k e f) = max (expression_depth e) (function_depth f)
 primitive_depth (fused f) = 64
@@ -129,10 +132,14 @@ abbrev mutual
 -- how many terms a primitive with a value is made of: in `-->(e, pre)`, `pre` is one too
 abbrev pub terms_with_value : WithValue → ℕ
 terms_with_value Constant = 1
+terms_with_value Initially = 1
 terms_with_value InitialPre = 1
 terms_with_value InitializedPre = 2
 terms_with_value Now = 1
+terms_with_value InitialEdge = 1
+terms_with_value EdgeTag = 1
 terms_with_value Hold = 1
+terms_with_value DelayedHold = 1
 
 -- how many terms a primitive is made of
 abbrev pub terms_in_primitive : Primitive → ℕ
@@ -141,6 +148,7 @@ terms_in_primitive (probe k) = 1
 terms_in_primitive (never t) = 1
 terms_in_primitive (with_value k e) = terms_with_value k
 terms_in_primitive (timed k q e) = 1
+terms_in_primitive (selected k n) = 1
 terms_in_primitive (arrow f) = 1
 terms_in_primitive (accumulated k e f) = 1
 terms_in_primitive (fused f) = 1
@@ -176,6 +184,7 @@ expressions_in_primitive (probe k) = 0
 expressions_in_primitive (never t) = 0
 expressions_in_primitive (with_value k e) = expression_size e
 expressions_in_primitive (timed k q e) = expression_size e
+expressions_in_primitive (selected k n) = 0
 expressions_in_primitive (arrow f) = function_size f
 expressions_in_primitive (accumulated k e f) = expression_size e + function_size f
 expressions_in_primitive (fused f) = 0

@@ -13,6 +13,8 @@ pub enum Bare {
     Edge,
     /// `notYet`: no event at the first sample, then the input.
     NotYet,
+    /// `once`: the first event alone.
+    Once,
     /// `count`: at an event, how many there were so far.
     Count,
     /// `pre`: the input before. It stands behind `-->` alone, and makes one primitive with it.
@@ -24,14 +26,23 @@ pub enum Bare {
 pub enum WithValue {
     /// `constant e`: the value.
     Constant,
+    /// `initially e`: the value first, then the input.
+    Initially,
     /// `iPre e`: the value first, then the input before.
     InitialPre,
     /// `-->(e, pre)`: the same.
     InitializedPre,
     /// `now e`: an event of the value at the first sample alone.
     Now,
+    /// `iEdge e`: an event where the input is true and the one before was false, which the value stands for at the first
+    /// sample.
+    InitialEdge,
+    /// `edgeTag e`: an event of the value where the input is true and the one before was false.
+    EdgeTag,
     /// `hold e`: the last payload so far, or the value where there was none.
     Hold,
+    /// `dHold e`: the last payload before this sample, or the value where there was none.
+    DelayedHold,
 }
 
 /// A primitive with a value and a function, which makes the next value of the one so far and of what comes.
@@ -50,6 +61,19 @@ pub enum Accumulation {
 pub enum Timing {
     /// `after q e`: an event of the value once q milliseconds have passed since the first sample.
     After,
+    /// `repeatedly q e`: an event of the value at each sample in whose time a multiple of q milliseconds lies.
+    Repeatedly,
+    /// `delay q e`: the newest input that is at least q milliseconds old, or the value where none is.
+    Delay,
+}
+
+/// A primitive with a number, which goes by how many events there were before.
+#[derive(Clone, Copy, Debug, PartialEq, Eq)]
+pub enum Selection {
+    /// `takeEvents n`: the first n events.
+    TakeEvents,
+    /// `dropEvents n`: the events after the first n.
+    DropEvents,
 }
 
 /// Two terms joined.
@@ -115,4 +139,6 @@ pub enum Heading {
     LoopPre,
     /// `-->(e, t)`: the value of `e` at the first sample, then those of `t`.
     Initialized,
+    /// `>--(e, t)`: the values of `t`, with that of `e` in the place of its first input.
+    Replaced,
 }

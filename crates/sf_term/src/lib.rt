@@ -10,8 +10,8 @@ mod refusal;
 mod template;
 
 pub use form::{
-    Accumulation, Bare, Heading, Join, Naming, Observation, Side, Start, Switching, Timing,
-    WithValue,
+    Accumulation, Bare, Heading, Join, Naming, Observation, Selection, Side, Start, Switching,
+    Timing, WithValue,
 };
 pub use node::{Argument, ArgumentsId, Node, Primitive, TermId};
 pub use program::Program;

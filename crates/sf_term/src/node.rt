@@ -1,7 +1,8 @@
 //! Nodes of an arena of terms.
 
 use crate::form::{
-    Accumulation, Bare, Heading, Join, Naming, Observation, Side, Switching, Timing, WithValue,
+    Accumulation, Bare, Heading, Join, Naming, Observation, Selection, Side, Switching, Timing,
+    WithValue,
 };
 use sf_expr::{ConstantId, ExprId, FunctionId, NameId, PatternId, Spot};
 
@@ -47,6 +48,8 @@ pub enum Primitive {
     Arrow(FunctionId),
     /// A primitive with a time, in milliseconds, and a value.
     Timed(Timing, i64, ExprId),
+    /// A primitive with a number of events.
+    Selected(Selection, i64),
     /// A primitive with a value and a function.
     Accumulated(Accumulation, ExprId, FunctionId),
 }

@@ -105,7 +105,9 @@ impl Program {
         ensures { result ≡ depth_of (term_of self.now node) }
     {
         match node {
-            Node::Primitive(Primitive::Bare(_) | Primitive::Never(_)) | Node::Named(_, _, _) => 1,
+            Node::Primitive(Primitive::Bare(_) | Primitive::Never(_) | Primitive::Selected(_, _)) =>
+                1,
+            Node::Named(_, _, _) => 1,
             Node::Primitive(Primitive::WithValue(_, value) | Primitive::Timed(_, _, value)) => {
                 1 + self.expressions.depth(value)
             }

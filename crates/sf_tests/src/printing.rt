@@ -37,3 +37,25 @@ fn keys_that_are_texts_do(rt: HostRuntime) -> Result<(), Fail> {
     assert!(rt; text.as_slice() == wanted.as_slice());
     Ok(())
 }
+
+#[test]
+fn forms_that_remember_are_printed(rt: HostRuntime) -> Result<(), Fail> {
+    let written =
+        b"network 1;template main():(Event Int,Bool)~>(Int,(Event Unit,Event Text))=((once>>>(dHold -3>>>initially 07))***(iEdge false&&&edgeTag \"up\"));";
+    let wanted =
+        b"network 1;\ntemplate main(): (Event Int, Bool) ~> (Int, (Event Unit, Event Text)) = ((once >>> (dHold -3 >>> initially 7)) *** (iEdge false &&& edgeTag \"up\"));\n";
+    let text = printed(rt.alloc(), written)?;
+    assert!(rt; text.as_slice() == wanted.as_slice());
+    Ok(())
+}
+
+#[test]
+fn numbers_of_events_are_printed(rt: HostRuntime) -> Result<(), Fail> {
+    let written =
+        b"network 1;template main():Event Int~>Event Int=(takeEvents 007>>>dropEvents -0);";
+    let wanted =
+        b"network 1;\ntemplate main(): Event Int ~> Event Int = (takeEvents 7 >>> dropEvents 0);\n";
+    let text = printed(rt.alloc(), written)?;
+    assert!(rt; text.as_slice() == wanted.as_slice());
+    Ok(())
+}

@@ -8,6 +8,7 @@ use Rattle.sf_term.specs.declared.form.Bare.{Bare}
 use Rattle.sf_term.specs.declared.form.WithValue.{WithValue}
 use Rattle.sf_term.specs.declared.form.WithValue.TheVariants as values
 use Rattle.sf_term.specs.declared.form.Timing.{Timing}
+use Rattle.sf_term.specs.declared.form.Selection.{Selection}
 use Rattle.sf_term.specs.declared.form.Accumulation.{Accumulation}
 use Rattle.sf_term.specs.declared.form.Join.{Join}
 use Rattle.sf_term.specs.declared.form.Side.{Side}
@@ -21,7 +22,7 @@ use Rattle.sf_term.specs.declared.node.Argument.{Argument}
 use Rattle.sf_term.specs.declared.program.Program.{Program}
 use Rattle.sf_term.specs.declared.refusal.BuildRefusal.{BuildRefusal}
 use Rattle.sf_term.specs.declared.refusal.BuildRefusal.TheVariants as refusals
-use Rattle.sf_term.specs.Trees.{terms_with_value, Term, primitive, bare, never, with_value, timed, arrow, accumulated, named_term, joined, sided, switching, keeping, reference, call, no_arguments, term_depth, terms_in, expressions_in}
+use Rattle.sf_term.specs.Trees.{terms_with_value, Term, primitive, bare, never, with_value, timed, selected, arrow, accumulated, named_term, joined, sided, switching, keeping, reference, call, no_arguments, term_depth, terms_in, expressions_in}
 use Rattle.sf_term.specs.Names.{HasNames}
 use Rattle.sf_term.specs.Parameters.{NameKind}
 use Rattle.sf_term.specs.Arena.{tree, arguments_of, term_of, term_node_at, expression_under as expression_in, function_in, term_count, expression_count, KeepsProgram, AddsTerm}
@@ -33,7 +34,7 @@ use Rattle.sf_grammar.specs.declared.ty.Version.{Version}
 use Rattle.sf_grammar.specs.declared.ty.Version.TheVariants as versions
 use Rattle.sf_parse.specs.declared.stop.Stop.{Stop}
 use Rattle.sf_grammar.specs.Spelling.{stands_initially, head_makes}
-use Rattle.sf_grammar.specs.Reading.{parse_number, parse_never, parse_timed, Read, got, Counts, counts_with, counts_with_expression, parse_symbol, parse_inner_type, parse_pattern, parse_expression, parse_function, parse_value, parse_arrow, parse_accumulated, parse_sided, parse_headed, parse_body, parse_switching, parse_name, parse_named, parse_keeping, parse_listed, parse_arguments, parse_call, parse_name_kind, parse_parameter, term_read, parse_join, parse_joined, parse_term}
+use Rattle.sf_grammar.specs.Reading.{parse_number, parse_never, parse_timed, parse_selected, Read, got, Counts, counts_with, counts_with_expression, parse_symbol, parse_inner_type, parse_pattern, parse_expression, parse_function, parse_value, parse_arrow, parse_accumulated, parse_sided, parse_headed, parse_body, parse_switching, parse_name, parse_named, parse_keeping, parse_listed, parse_arguments, parse_call, parse_name_kind, parse_parameter, term_read, parse_join, parse_joined, parse_term}
 use Rattle.sf_parse.specs.Answers.{StopsReading, FoundExpression, FoundFunction, counts_of, stop_for, built_as}
 use Rattle.sf_text.specs.Answers.{FoundTerm, ReadsTermInto, FoundBody, FoundArguments}
 use Rattle.sf_grammar.proofs.Words.{IsLone, named_alone}
@@ -133,6 +134,13 @@ timed_ready v {old} {mid} {start} {r0} {rest} {q} {n} {e} {k} d tokens small tim
       terms = omega (arith, f.terms);
       expressions = omega (arith, f.expressions);
     }
+
+-- a primitive with a number of events
+pub selected_ready : {old : Program} {start rest : List Tok} {n m : ℤ} {k : Selection} (tokens : List Tok) → parse_number tokens ≡ got n rest → m ≡ n
+    → Ready old old (primitive (selected k m)) start rest (parse_selected (counts_of old) k start tokens)
+unfolding parse_selected
+selected_ready {n = n} {k = k} tokens counted number =
+    record { term = primitive (selected k n); is = rw counted refl; same = ap (λ (z : ℤ). primitive (selected k z)) number; shallow = omega arith; terms = omega arith; expressions = omega arith }
 
 -- a function as a primitive
 pub arrow_ready : (v : Version) {old mid : Program} {start rest : List Tok} {g : FunctionId} (d : ℕ) (tokens : List Tok) → d ≤ 63 → FoundFunction old mid g rest (parse_function d v (counts_of old) tokens)

@@ -17,6 +17,7 @@ use Rattle.sf_term.specs.declared.form.Bare.TheVariants as bares
 use Rattle.sf_term.specs.declared.form.WithValue.{WithValue}
 use Rattle.sf_term.specs.declared.form.WithValue.TheVariants as values
 use Rattle.sf_term.specs.declared.form.Timing.{Timing}
+use Rattle.sf_term.specs.declared.form.Selection.{Selection}
 use Rattle.sf_term.specs.declared.form.Accumulation.{Accumulation}
 use Rattle.sf_term.specs.declared.form.Join.{Join}
 use Rattle.sf_term.specs.declared.form.Side.{Side}
@@ -50,7 +51,7 @@ use Rattle.sf_grammar.specs.Reading.{got, parse_inner_type, parse_parameter, par
 use Rattle.sf_parse.specs.Answers.{toks}
 use Rattle.sf_grammar.proofs.Takes.{TookType, inner_type_takes, parameter_takes, TookSignature, signature_takes}
 use Rattle.sf_lex.specs.declared.token.PlacedToken.{PlacedToken}
-use Rattle.sf_grammar.specs.Placing.{around, PatternPlaced, ExpressionPlaced, FunctionPlaced, TermStands, TermPlaced, bare_placed, never_placed, with_value_placed, initialized_placed, timed_placed, arrow_placed, accumulated_placed, joined_placed, sided_placed, headed_placed, switching_placed, named_placed, keeping_placed, call_placed, ArgumentsPlaced, no_arguments_placed, some_arguments_placed, EachArgumentPlaced, no_argument_placed, argument_placed, ArgumentPlaced, value_argument_placed, process_argument_placed, ParameterPlaced, EachParameterPlaced, ParametersPlaced, no_parameters_placed, some_parameters_placed, TemplatePlaced, TemplatesPlaced, none_placed, template_placed, NetworkPlaced, IsPlacedIn}
+use Rattle.sf_grammar.specs.Placing.{around, PatternPlaced, ExpressionPlaced, FunctionPlaced, TermStands, TermPlaced, bare_placed, never_placed, with_value_placed, initialized_placed, timed_placed, selected_placed, arrow_placed, accumulated_placed, joined_placed, sided_placed, headed_placed, switching_placed, named_placed, keeping_placed, call_placed, ArgumentsPlaced, no_arguments_placed, some_arguments_placed, EachArgumentPlaced, no_argument_placed, argument_placed, ArgumentPlaced, value_argument_placed, process_argument_placed, ParameterPlaced, EachParameterPlaced, ParametersPlaced, no_parameters_placed, some_parameters_placed, TemplatePlaced, TemplatesPlaced, none_placed, template_placed, NetworkPlaced, IsPlacedIn}
 use Rattle.sf_text.specs.Progress.{IsSpelled}
 use Rattle.sf_text.proofs.Whole.{toks_same}
 use Rattle.sf_parse.specs.Consuming.{places, BehindOne, BehindSome, NamePlaced, Consumes, Parted}
@@ -74,6 +75,7 @@ mutual
   term_keeps v old new k id xs (initialized_placed opening comma word closing front s value) =
       initialized_placed opening comma word closing front (term_stays old new k _ _ _ s) (expression_keeps v old new k _ _ value)
   term_keeps v old new k id xs (timed_placed time s value) = timed_placed time (term_stays old new k _ _ _ s) (expression_keeps v old new k _ _ value)
+  term_keeps v old new k id xs (selected_placed number s) = selected_placed number (term_stays old new k _ _ _ s)
   term_keeps v old new k id xs (arrow_placed s function) = arrow_placed (term_stays old new k _ _ _ s) (function_keeps v old new k _ _ function)
   term_keeps v old new k id xs (accumulated_placed opening comma closing s value function) =
       accumulated_placed opening comma closing (term_stays old new k _ _ _ s) (expression_keeps v old new k _ _ value) (function_keeps v old new k _ _ function)
@@ -140,6 +142,11 @@ pub timed_read : {v : Version} {mid new : Program} {id : TermId} {k : Timing} {q
 timed_read {v} {mid} {new} {id} {k} {q} {e} {t} {spot} added time value =
     behind_opening time (behind_first value (λ xs p. timed_placed time.at (term_stands mid new id _ t spot added) (expression_keeps v mid new added.kept.trees e xs p)))
 
+pub selected_read : {v : Version} {old new : Program} {id : TermId} {k : Selection} {n : ℤ} {t : Term} {spot : Spot} {r rest : List Spot} → AddsTerm old new id (nodes.Primitive (primitives.Selected k n)) t spot
+    → BehindOne r rest → Consumes (TermPlaced v new id) (spot ∷ r) rest
+selected_read {v} {old} {new} {id} {k} {n} {t} {spot} added number =
+    record { front = spot ∷ number.at ∷ []; split = ap (λ ts. spot ∷ ts) number.split; holds = selected_placed number.at (term_stands old new id _ t spot added) }
+
 pub arrow_read : {v : Version} {mid new : Program} {id : TermId} {f : FunctionId} {t : Term} {spot : Spot} {r0 rest : List Spot} → AddsTerm mid new id (nodes.Primitive (primitives.Arrow f)) t spot
     → Consumes (FunctionPlaced v mid f) r0 rest → Consumes (TermPlaced v new id) (spot ∷ r0) rest
 arrow_read {v} {mid} {new} {id} {f} {t} {spot} added function =
@@ -186,6 +193,7 @@ bare_places is (never_placed s counted) = absurd (let e = sym s.node ∙ is in c
 bare_places is (with_value_placed behind s value) = absurd (let e = sym s.node ∙ is in cc)
 bare_places is (initialized_placed opening comma word closing front s value) = absurd (let e = sym s.node ∙ is in cc)
 bare_places is (timed_placed time s value) = absurd (let e = sym s.node ∙ is in cc)
+bare_places is (selected_placed number s) = absurd (let e = sym s.node ∙ is in cc)
 bare_places is (arrow_placed s function) = absurd (let e = sym s.node ∙ is in cc)
 bare_places is (accumulated_placed opening comma closing s value function) = absurd (let e = sym s.node ∙ is in cc)
 bare_places is (joined_placed between closing s one two) = absurd (let e = sym s.node ∙ is in cc)

@@ -7,7 +7,7 @@ ghost use Rattle.sf_text.specs.Answers.{ReadsTerm, ReadsTermForm, ReadsBody, Rea
 ghost use Rattle.sf_grammar.specs.Placing.{PatternPlaced, TermPlaced, ArgumentPlaced, EachArgumentPlaced, ArgumentsPlaced};
 ghost use Rattle.sf_parse.specs.Consuming.{spots_ahead, BehindOne, StandsOn, StandsFrom, Parted};
 ghost use Rattle.sf_text.specs.Consuming.{headed_node, HasValueSo};
-ghost use Rattle.sf_grammar.specs.Reading.{begins_term, begins_fresh, head_at, too_deep, term_read, parse_never, parse_value, parse_timed, parse_arrow, parse_accumulated, parse_sided, parse_headed, parse_body, parse_switching, parse_named, parse_keeping, parse_argument, parse_arguments, parse_listed, parse_call, parse_join, parse_joined, parse_form, parse_behind_head, parse_term};
+ghost use Rattle.sf_grammar.specs.Reading.{begins_term, begins_fresh, head_at, too_deep, term_read, parse_never, parse_value, parse_timed, parse_selected, parse_arrow, parse_accumulated, parse_sided, parse_headed, parse_body, parse_switching, parse_named, parse_keeping, parse_argument, parse_arguments, parse_listed, parse_call, parse_join, parse_joined, parse_form, parse_behind_head, parse_term};
 ghost use Rattle.sf_term.specs.Arena.{HoldsExpression, HoldsTerm, HoldsTermParts, term_node_at};
 ghost use Rattle.sf_grammar.specs.Spelling.{stands_initially};
 
@@ -19,7 +19,7 @@ use sf_parse::{Cursor, First, Mark, Reader, Stop};
 use sf_refusal::Rule;
 use sf_term::{
     Accumulation, Argument, Bare, Heading, Join, Naming, Node, Observation, Primitive, Program,
-    Side, Start, Switching, TermId, Timing, WithValue,
+    Selection, Side, Start, Switching, TermId, Timing, WithValue,
 };
 
 /// A term would be 65 deep here.
@@ -115,6 +115,17 @@ fn timed(
     let time = reader.cursor.number()?;
     let value = reader.expression(version, left)?;
     let node = Node::Primitive(Primitive::Timed(kind, time, value));
+    start.built(reader.program.add(node, start.spot))
+}
+
+/// A primitive with a number of events, behind its word.
+#[tactic(auto, unfolding(sf_grammar::specs::Reading::parse_selected))]
+fn selected(reader: &mut Reader, start: Mark, kind: Selection) -> Result<TermId, Stop>
+    ensures reads { ReadsTermForm reader.old reader.new start result (parse_selected (counts_of reader.old.program) kind) }
+    ensures placed { (version : Version) → StandsFrom start (TermPlaced version reader.new.program) result reader.old.cursor reader.new.cursor }
+{
+    let count = reader.cursor.number()?;
+    let node = Node::Primitive(Primitive::Selected(kind, count));
     start.built(reader.program.add(node, start.spot))
 }
 
@@ -229,6 +240,7 @@ fn behind_head<'a>(
         Head::Never => never(reader, version, start, left),
         Head::WithValue(kind) => with_value(reader, version, start, kind, left),
         Head::Timed(kind) => timed(reader, version, start, kind, left),
+        Head::Selected(kind) => selected(reader, start, kind),
         Head::Arrow => arrow(reader, version, start, left),
         Head::Accumulated(kind) => accumulated(reader, version, start, kind, left),
         Head::Joined => joined(reader, version, start, left),
@@ -270,7 +282,7 @@ fn head_node(program: &Program, heading: Heading, value: ExprId, part: TermId) -
     ensures held { HoldsTermParts program.now result }
 {
     match heading {
-        Heading::LoopPre => Node::Headed(heading, value, part),
+        Heading::LoopPre | Heading::Replaced => Node::Headed(heading, value, part),
         Heading::Initialized => match program.node(part) {
             Node::Primitive(Primitive::Bare(Bare::Pre)) => {
                 Node::Primitive(Primitive::WithValue(WithValue::InitializedPre, value))

@@ -7,6 +7,7 @@ use Rattle.sf_func.specs.Registries.{TypesByName, AnswersByName, types_shown}
 use Rattle.sf_player.specs.Telling.{Plays}
 use Rattle.sf_player.specs.declared.end.PlayEnd.{PlayEnd}
 use Rattle.sfplay.specs.Functions.{types_offered, AreOffered}
+use Rattle.sfplay.specs.Tasks.{Checks}
 
 -- the types after one more function
 pub types_more : {old new ts : TypesByName} {from to f t : Kind} (name : Name) → old ≡ ts → new ≡ old ++ (name, types_shown from to) ∷ [] → from ≡ f → to ≡ t → new ≡ ts ++ (name, types_shown f t) ∷ []
@@ -32,3 +33,7 @@ pub offered_plays : {probes : Bool} {types : TypesByName} {answers : AnswersByNa
     → (f : AnswersByName) × AreOffered f × Plays probes types_offered f net before after held holds e
 offered_plays {probes = probes} {answers = answers} {net = net} {before = before} {after = after} {held = held} {holds = holds} {e = e} told is offered =
     (answers, offered, subst (λ (ts : TypesByName). Plays probes ts answers net before after held holds e) is told)
+
+-- what was checked with functions of these types
+pub offered_checks : {types : TypesByName} {net : List ℕ} {held holds : Option (List ℕ)} {e : PlayEnd} → Checks types net held holds e → types ≡ types_offered → Checks types_offered net held holds e
+offered_checks {net = net} {held = held} {holds = holds} {e = e} checked is = subst (λ (ts : TypesByName). Checks ts net held holds e) is checked

@@ -1,20 +1,15 @@
-//! Plays the lines of standard input through a network.
+//! Plays the lines of standard input through a network, checks its text or writes it anew.
 #![tactic(auto)]
 
-ghost use Rattle.std.specs.Prelude.{◌≡◌, ◌≢◌, ◌-◌, ◌<◌, ◌^◌, [], ◌∷◌, ◌++◌, IfOk};
-ghost use Rattle.sf_value.specs.Values.{Name, Data, int_kind, pair_kind};
-ghost use Rattle.sf_func.specs.Registries.{AnswersByName, KeepsTypes, types_shown};
-ghost use Rattle.sf_player.specs.Counting.{failures_of, inner_of};
-ghost use Rattle.sf_player.specs.Telling.{Plays};
-ghost use Rattle.sfplay.specs.Functions.{types_offered, AreOffered};
+mod functions;
+mod task;
 
+use crate::task::{Task, perform};
 use clap::{Arg, ArgAction, ArgMatches, Command, Error};
-use sf_func::{Absolute, Function, Greatest, Holds, Int1, Int2, Least, Registry, Sign};
-use sf_player::{Counted, Options, PlayEnd, Refusal, play};
-use sf_value::Ty;
+use sf_player::{Counted, Options, PlayEnd, Refusal};
 use std::alloc::{AllocError, Global};
 use std::fs::File;
-use std::io::{Read, Write};
+use std::io::Read;
 use std::process::ExitCode;
 use std::rt::{Env, Files};
 use std::{env, io};
@@ -51,14 +46,26 @@ const PLAIN: &str =
 
 const PROBES: &str = "Writes what probes record, before the value of each sample";
 
+const CHECK: &str = "Writes `ok` where the network is accepted, and runs nothing; wins over --dump";
+
+const DUMP: &str = "Writes the canonical text of the network, accepted or not, and runs nothing";
+
 const STATUSES: &str = "\
 Exit statuses:
-  0  the whole input was played
+  0  the whole input was played, or the network was checked or dumped
   2  the words of the command line are refused, or ask for help or the version
   3  a sample had a fault; the last line is `! TIME FAULT`
   4  an input line was refused; the last line is `! line NUMBER REFUSAL`
   5  the network was refused; standard error names the rule and its place
   6  the network or the input could not be read, or the output not be written";
+
+/// A word that asks for something by standing there.
+fn flag<'a>(alloc: Global, name: &'a str, help: &'a str) -> Arg<'a> {
+    Arg::new(alloc, name)
+        .long(name)
+        .help(help)
+        .action(ArgAction::SetTrue)
+}
 
 /// What the words of the command line ask for.
 fn matches<'a>(alloc: Global, words: &'a [String]) -> Result<ArgMatches<'a>, Error> {
@@ -73,18 +80,10 @@ fn matches<'a>(alloc: Global, words: &'a [String]) -> Result<ArgMatches<'a>, Err
                 .required(true)
                 .action(ArgAction::Set),
         )?
-        .arg(
-            Arg::new(alloc, "plain")
-                .long("plain")
-                .help(PLAIN)
-                .action(ArgAction::SetTrue),
-        )?
-        .arg(
-            Arg::new(alloc, "probes")
-                .long("probes")
-                .help(PROBES)
-                .action(ArgAction::SetTrue),
-        )?
+        .arg(flag(alloc, "plain", PLAIN))?
+        .arg(flag(alloc, "probes", PROBES))?
+        .arg(flag(alloc, "check", CHECK))?
+        .arg(flag(alloc, "dump", DUMP))?
         .try_get_matches_from(words)
 }
 
@@ -106,65 +105,18 @@ fn network<R: Files + Alloc<A = Global>>(rt: &R, path: &str) -> io::Result<Vec<u
     Ok(text)
 }
 
-/// The type of a pair of numbers.
-fn numbers(alloc: Global) -> Result<Ty, AllocError>
-    ensures { IfOk result (λ ty. ty ≡ pair_kind int_kind int_kind) }
-{
-    match Ty::pair(alloc, Ty::int(), Ty::int()) {
-        Ok(ty) => Ok(ty),
-        Err(_) => Err(AllocError),
+/// What the words ask for: a check wins over the canonical text, and both over the input.
+fn asked(matches: &ArgMatches) -> Task {
+    if matches.get_flag("check") {
+        return Task::Check;
     }
-}
-
-/// The functions that networks may call with one more, of a name that none of them has.
-fn offered(
-    alloc: Global,
-    functions: Registry,
-    name: &str,
-    from: Ty,
-    to: Ty,
-    function: Box<dyn Function>,
-) -> Result<Registry, AllocError>
-    requires { KeepsTypes from to (answers function) }
-    ensures types { IfOk result (λ more. ⟦<Registry as Holds>⟧.types more ≡ ⟦<Registry as Holds>⟧.types functions ++ (name.now, types_shown from to) ∷ []) }
-    ensures answers { IfOk result (λ more. (d : Data) → ⟦<Registry as Holds>⟧.answers more name.now d ≡ answers function d) }
-    ensures others { IfOk result (λ more. (n : Name) (d : Data) → n ≢ name.now → ⟦<Registry as Holds>⟧.answers more n d ≡ ⟦<Registry as Holds>⟧.answers functions n d) }
-{
-    let mut functions = functions;
-    match functions.add(alloc, name, from, to, function) {
-        Ok(()) => Ok(functions),
-        Err(_) => Err(AllocError),
+    if matches.get_flag("dump") {
+        return Task::Dump;
     }
-}
-
-/// Plays the lines of an input through the network that a text is, which may call `abs`, `sign`, `max` and `min`. The
-/// error is want of memory for these functions.
-fn play_lines<R: Read, W: Write>(
-    alloc: Global,
-    net: &[u8],
-    reader: &mut Counted<R>,
-    writer: &mut Counted<W>,
-    options: Options,
-) -> Result<PlayEnd, AllocError>
-    requires reads { failures_of reader.old < 2 ^ 64 - 1 }
-    requires writes { failures_of writer.old < 2 ^ 64 - 1 }
-    // What was read and written, by the meaning of the network with these functions.
-    ensures { IfOk result (λ end. (answers : AnswersByName) × AreOffered answers × Plays options.probes types_offered answers net.now
-        (R.remaining (inner_of reader.old)) (R.remaining (inner_of reader.new))
-        (W.contents (inner_of writer.old)) (W.contents (inner_of writer.new)) end) }
-{
-    let abs: Box<dyn Function> = Box::new(alloc, Int1::new(Absolute))?;
-    let functions = Registry::new(alloc);
-    let functions = offered(alloc, functions, "abs", Ty::int(), Ty::int(), abs)?;
-    let sign: Box<dyn Function> = Box::new(alloc, Int1::new(Sign))?;
-    let functions = offered(alloc, functions, "sign", Ty::int(), Ty::int(), sign)?;
-    let max: Box<dyn Function> = Box::new(alloc, Int2::new(Greatest))?;
-    let from = numbers(alloc)?;
-    let functions = offered(alloc, functions, "max", from, Ty::int(), max)?;
-    let min: Box<dyn Function> = Box::new(alloc, Int2::new(Least))?;
-    let from = numbers(alloc)?;
-    let functions = offered(alloc, functions, "min", from, Ty::int(), min)?;
-    Ok(play(alloc, net, reader, writer, functions, options))
+    Task::Play(Options {
+        plain: matches.get_flag("plain"),
+        probes: matches.get_flag("probes"),
+    })
 }
 
 fn main(rt: HostRuntime) -> ExitCode {
@@ -182,17 +134,14 @@ fn main(rt: HostRuntime) -> ExitCode {
     let Some(path) = matches.get_str("NET") else {
         return ExitCode::from(WORDS_REFUSED);
     };
-    let options = Options {
-        plain: matches.get_flag("plain"),
-        probes: matches.get_flag("probes"),
-    };
     let Ok(net) = network(&rt, path) else {
         let _ = eprintln!(&rt; "sfplay: read fault");
         return ExitCode::from(UNREADABLE);
     };
     let mut reader = Counted::new(rt.reader());
     let mut writer = Counted::new(io::writer(&rt));
-    let end = match play_lines(alloc, net.as_slice(), &mut reader, &mut writer, options) {
+    let task = asked(&matches);
+    let end = match perform(alloc, net.as_slice(), task, &mut reader, &mut writer) {
         Ok(end) => end,
         Err(AllocError) => PlayEnd::Network(Refusal::Memory),
     };

@@ -6,11 +6,11 @@ use Rattle.std.proofs.lemmas.List.{length-map}
 use Rattle.std.proofs.lemmas.Slice.Zip.{Zip-more, either_empty_from_Zip}
 use Rattle.sf_refusal.specs.declared.rule.Rule.TheVariants.{Mismatch}
 use Rattle.sf_refusal.specs.Refusals.{broken, no_memory}
-use Rattle.sf_check.specs.Breaking.{keeping_inside, initialized_part, sequence_left, fan_left, fan_right, parallel_input, side_input, switch_source, keeping_source}
+use Rattle.sf_check.specs.Breaking.{keeping_inside, initialized_part, replaced_part, sequence_left, fan_left, fan_right, parallel_input, side_input, switch_source, keeping_source}
 use Rattle.sf_term.specs.Arena.{term_number, expressions_of, term_spot_at, arguments_under, ArgumentBelow}
 use Rattle.sf_check.specs.Standing.{inside_names}
 use Rattle.sf_check.specs.Contexts.{context_in}
-use Rattle.sf_check.proofs.Terms.{part_refused, err_answers, memory_answers, named_there, sided_there, pair_differs, mismatch_refused, primitive_answers, probe_answers, sequence_answers, fan_answers, left_reached, right_reached, first_reached, second_reached, parallel_answers, first_answers, second_answers, start_answers, initialized_answers, fed_refused, loop_reached, loop_answers, answers_under, body_under, err_body, pattern_stops, within_stops, body_answered, switch_answers, source_answers, source_wants, input_answers, first_term_reached, input_wants, watched_answers, observer_reached, observer_answers, keeping_answers}
+use Rattle.sf_check.proofs.Terms.{part_refused, err_answers, memory_answers, named_there, sided_there, pair_differs, mismatch_refused, primitive_answers, probe_answers, sequence_answers, fan_answers, left_reached, right_reached, first_reached, second_reached, parallel_answers, first_answers, second_answers, start_answers, initialized_answers, replaced_answers, replaced_refused, fed_refused, loop_reached, loop_answers, answers_under, body_under, err_body, pattern_stops, within_stops, body_answered, switch_answers, source_answers, source_wants, input_answers, first_term_reached, input_wants, watched_answers, observer_reached, observer_answers, keeping_answers}
 use Rattle.sf_term.specs.ParameterView.{kind_of_form}
 use Rattle.sf_check.specs.Contexts.{program_in}
 use Rattle.sf_check.proofs.Calls.{err_argument, value_refused, value_answers, misplaced, term_stops, process_answers, no_template_answers, other_number_answers, none_absent, all_so, so_next, so_end, next_so, answer_for, argument_answers, differs_answers, call_answers}
@@ -124,6 +124,24 @@ pub initialized_output-returns : goal.initialized_output-returns
 initialized_output-returns t c =
     let wanted = c.wanted_output.ensures in
     initialized_answers _ _ _ _ _ c.spot-spot.ensures _ _ c.requires.there _ c.in_ok-given.ensures _ c.in_ok-output.ensures _ c.requires.fits wanted.same wanted.ok wanted.err
+
+-- ## `>--`
+
+pub replaced_output-returns-in_err-given : goal.replaced_output-returns-in_err-given
+replaced_output-returns-in_err-given t c =
+    err_answers _ _ _ _ _ _ c.from_residual.ensures.1 (start_answers _ _ _ _ _ c.spot-spot.ensures _ _ _ c.requires.there _ refl _ c.in_err-given.ensures)
+
+pub replaced_output-returns-in_err-output : goal.replaced_output-returns-in_err-output
+replaced_output-returns-in_err-output t c =
+    err_answers _ _ _ _ _ _ c.from_residual-in_err-output.ensures.1 (part_refused _ _ _ _ _ c.requires.there _ _ _ (replaced_part c.in_ok-given.ensures) c.in_err-output.ensures)
+
+pub replaced_output-returns-in_err-same : goal.replaced_output-returns-in_err-same
+replaced_output-returns-in_err-same t c =
+    err_answers _ _ _ _ _ _ c.from_residual-in_err-same.ensures.1 (replaced_refused _ _ _ _ _ c.spot-spot.ensures _ _ c.requires.there _ c.in_ok-given.ensures _ c.in_ok-output.ensures _ c.in_err-same.ensures.err.0 c.in_err-same.ensures.err.1)
+
+pub replaced_output-returns : goal.replaced_output-returns
+replaced_output-returns t c =
+    replaced_answers _ _ _ _ _ c.spot-spot.ensures _ _ c.requires.there _ c.in_ok-given.ensures _ c.in_ok-output.ensures c.requires.fits c.in_ok-same.ensures.ok
 
 -- ## Bodies
 

@@ -23,6 +23,9 @@ decreases-looped_output l = 6 * term_number l.term + 2
 abbrev pub decreases-initialized_output : goal.decreases-initialized_output
 decreases-initialized_output l = 6 * term_number l.term + 2
 
+abbrev pub decreases-replaced_output : goal.decreases-replaced_output
+decreases-replaced_output l = 6 * term_number l.term + 2
+
 abbrev pub decreases-switching_output : goal.decreases-switching_output
 decreases-switching_output l = 6 * term_number l.term + 2
 

@@ -1,13 +1,10 @@
-use Rattle.std.proofs.Common.{◌≡◌, true, ◌∷◌, ap, subst, ◌∙◌}
-use mathlib.Core.Path.{ap₂}
-use Rattle.std.specs.Prelude.{List}
+use Rattle.std.proofs.Common.{◌≡◌, true, ◌∷◌, refl, ap, subst, ◌∙◌}
 use Rattle.sf_expr.specs.declared.exprs.ExprId.{ExprId}
 use Rattle.sf_expr.specs.Arena.{expression, pattern_at, body_at}
-use Rattle.sf_expr.specs.Expressions.{Pattern}
 use Rattle.sf_expr.specs.Patterns.{PlacedPattern, pattern_of}
 use Rattle.sf_code.specs.CodeView.{code_of}
 use Rattle.sf_code.specs.Compiling.{is_closed, code_under}
-use Rattle.sf_code.specs.PlaceView.{patterns_of, around_pattern}
+use Rattle.sf_code.specs.PlaceView.{around_pattern}
 use Rattle.sf_code.proofs.Worth.{is_code_of_function}
 use Rattle.sf_code.proofs.function.function_code.Goals as goal
 
@@ -17,10 +14,11 @@ returns-clause-code c =
     let around = c.in_ok-around.around in
     let own = pattern_of (pattern_at x c.args.id) in
     let whole = expression x (body_at x c.args.id) in
-    let only : patterns_of c.within.result ≡ own ∷ around_pattern around =
-    c.within.ensures ∙ ap₂ (λ (p : PlacedPattern) (ps : List Pattern). pattern_of p ∷ ps) c.pattern-pattern.ensures c.around-outside.ensures in
+    let is : c.in_ok-frame.frame.pattern.now ≡ pattern_at x c.args.id = c.in_ok-frame.ensures ∙ c.pattern-pattern.ensures in
     let closed : is_closed (own ∷ around_pattern around) whole ≡ true =
-    subst (λ (p : PlacedPattern). is_closed (pattern_of p ∷ around_pattern around) whole ≡ true) c.pattern-pattern.ensures
-    (subst (λ (i : ExprId). is_closed (pattern_of c.pattern-pattern.result.now ∷ around_pattern around) (expression x i) ≡ true) c.body-body.ensures.value c.in_ok-around.ensures.closed) in
-    let made : code_of c.in_ok-code.code ≡ code_under (patterns_of c.within.result) whole = c.in_ok-code.ensures ∙ ap (λ (i : ExprId). code_under (patterns_of c.within.result) (expression x i)) c.body-body.ensures.value in
-    is_code_of_function own whole _ (patterns_of c.within.result) only closed made
+    subst (λ (p : PlacedPattern). is_closed (pattern_of p ∷ around_pattern around) whole ≡ true) is
+    (subst (λ (i : ExprId). is_closed (pattern_of c.in_ok-frame.frame.pattern.now ∷ around_pattern around) (expression x i) ≡ true) c.body-body.ensures.value c.in_ok-around.ensures.closed) in
+    let made : code_of c.in_ok-code.code ≡ code_under (own ∷ around_pattern around) whole = c.in_ok-code.ensures
+    ∙ ap (λ (p : PlacedPattern). code_under (pattern_of p ∷ around_pattern around) (expression x c.body-body.result)) is
+    ∙ ap (λ (i : ExprId). code_under (own ∷ around_pattern around) (expression x i)) c.body-body.ensures.value in
+    is_code_of_function own whole _ (own ∷ around_pattern around) refl closed made

@@ -9,15 +9,15 @@ use Rattle.sf_law.proofs.plain_plan.plain.Goals as goal
 
 pub returns : goal.returns
 returns c =
-    let q = c.with_main.result in
+    let q = c.in_ok-listed.listed in
     let p = c.program-program.result.now in
     let program = c.program-program.ensures.program in
-    let shows : ShowsTerms p q = λ t. c.with_main.ensures.trees (plan_id t) ∙ c.in_ok-plan.ensures.terms t in
-    let headers = c.with_main.ensures.templates ∙ c.in_ok-plan.ensures.templates in
-    let expressions = c.with_main.ensures.expressions ∙ c.in_ok-plan.ensures.expressions in
+    let shows : ShowsTerms p q = λ t. c.in_ok-listed.ensures.trees (plan_id t) ∙ c.with_main.ensures.trees (plan_id t) ∙ c.in_ok-plan.ensures.terms t in
+    let headers = c.in_ok-listed.ensures.templates ∙ c.with_main.ensures.templates ∙ c.in_ok-plan.ensures.templates in
+    let expressions = c.in_ok-listed.ensures.expressions ∙ c.with_main.ensures.expressions ∙ c.in_ok-plan.ensures.expressions in
     let held = subst (λ ms. AllZip (CopiesTemplate (plan_expressions c.in_ok-empty.empty)) (program_headers p) ms) (sym headers) c.in_ok-empty.ensures.copied in
     let copied = subst (λ y. AllZip (CopiesTemplate y) (program_headers p) (plan_headers q)) (sym expressions) held in
     record {
       network = λ f. same_network f p q shows copied ∙ ap (network_of f) program;
-      main = ap (λ a. plan_tree q a) (c.with_main.ensures.main ∙ c.plan_id.ensures) ∙ shows c.main.result ∙ ap (λ p. term p c.main.result) program ∙ c.main.ensures.term;
+      main = ap (λ a. plan_tree q a) (c.in_ok-listed.ensures.main ∙ c.with_main.ensures.main ∙ c.plan_id.ensures) ∙ shows c.main.result ∙ ap (λ p. term p c.main.result) program ∙ c.main.ensures.term;
     }

@@ -1,7 +1,7 @@
 use Rattle.std.proofs.Common.{w64}
 use Rattle.std.proofs.lemmas.Int.{to_z-of_z}
 use Rattle.sf_law.specs.Copies.{copies_bare, copies_never, copies_with_value, copies_arrow, copies_accumulated}
-use Rattle.sf_law.proofs.Copied.{timed_copied}
+use Rattle.sf_law.proofs.Copied.{timed_copied, selected_copied}
 use Rattle.sf_law.proofs.plain_plan.plan_primitive.Goals as goal
 
 pub returns-in-Bare-clause-same : goal.returns-in-Bare-clause-same
@@ -21,3 +21,6 @@ returns-in_ok-code-in-Accumulated-clause-same c = rw c.in-Accumulated.is copies_
 
 pub returns-in_ok-code-in-Timed-clause-same : goal.returns-in_ok-code-in-Timed-clause-same
 returns-in_ok-code-in-Timed-clause-same c = rw c.in-Timed.is (timed_copied (to_z-of_z w64 c.in-Timed.time search))
+
+pub returns-in-Selected-clause-same : goal.returns-in-Selected-clause-same
+returns-in-Selected-clause-same c = rw c.in-Selected.is (selected_copied (to_z-of_z w64 c.in-Selected.count search))

@@ -33,7 +33,7 @@ pub returns-in-Keeping : goal.returns-in-Keeping
 returns-in-Keeping g c =
     let φ = g.R.Holds.answers c.args.context.now.functions.now in
     let p = c.args.context.now.plan.now in
-    open_builds_keeping φ p c.in-Keeping.shown c.in-Keeping.source c.in-Keeping.observer c.in-Keeping.body c.in-Keeping.name c.in-Keeping.pattern _ c.args.names.now _ (rw c.in-Keeping.is at c.node.ensures.builds) (c.keeping.ensures φ p)
+    open_builds_keeping φ p c.in-Keeping.shown c.in-Keeping.source c.in-Keeping.observer c.in-Keeping.body c.in-Keeping.name c.in-Keeping.pattern _ c.args.names.now _ (rw c.in-Keeping.is at c.node.ensures.builds) (c.keeping.ensures φ)
 
 pub returns-in-Started : goal.returns-in-Started
 returns-in-Started g c = c.referred.ensures _ (rw c.in-Started.is at c.node.ensures.builds)

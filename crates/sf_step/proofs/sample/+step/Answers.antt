@@ -1,7 +1,7 @@
 use Rattle.std.proofs.Common.{◌≡◌, length, Ok, Err, refl, ap, ◌∙◌, subst, arith}
 use Rattle.std.specs.Vec.{with_items}
 use Rattle.std.proofs.lemmas.List.{with_items_is}
-use Rattle.sf_state.specs.declared.state.Wrap.TheVariants.{First, Second, Loop, Initialized}
+use Rattle.sf_state.specs.declared.state.Wrap.TheVariants.{First, Second, Loop, Initialized, Replaced}
 use Rattle.sf_term.specs.declared.form.Join.TheVariants.{InSequence, InParallel, FannedOut}
 use Rattle.sf_value.specs.Values.{first_of, second_of}
 use Rattle.sf_value.specs.declared.value.Pair.{Pair}
@@ -16,7 +16,7 @@ use Rattle.sf_parts.proofs.Costs.{memory_exit, early_memory}
 use Rattle.sf_step.specs.Sampling.{StateSteps}
 use Rattle.sf_step.proofs.Parts.{pass_exit, failed}
 use Rattle.sf_step.proofs.Stages.{StagesStep, continues_first, continues_next, continues_fails, continues_last, pipeline_steps, pipeline_fails}
-use Rattle.sf_step.proofs.Exits.{ticked_by, tick_fails, first_memory, join_left_fails, join_right_fails, join_steps, join_last, wrap_fails, wrap_steps, late_memory, primitive_counted, live_counted, own_steps, primitive_is, live_is, switch_is, keeping_is, counted_steps, begun_steps, begun_runs, begun_fails}
+use Rattle.sf_step.proofs.Exits.{ticked_by, tick_fails, first_memory, join_left_fails, join_right_fails, join_steps, join_last, wrap_fails, wrap_steps, wrap_last, late_memory, primitive_counted, live_counted, own_steps, primitive_is, live_is, switch_is, keeping_is, counted_steps, begun_steps, begun_runs, begun_fails}
 use Rattle.sf_step.proofs.Recurring.{run_fails, run_memory, new_fails, new_runs, runs_alone}
 use Rattle.sf_step.proofs.Switches.{source_fails, switch_memory, switch_waits_on, body_fails, body_takes_over}
 use Rattle.sf_step.proofs.Keeping.{runs_alike, kept_fails, kept_memory, observer_fails, observer_memory, keeps_on, kept_body_fails, kept_body_takes_over, some_occurs, none_occurs}
@@ -400,6 +400,13 @@ pub step_initialized-returns : goal.step_initialized-returns
 step_initialized-returns g t c =
     wrap_steps (g.R.Holds.answers c.args.context.now.functions.now) c.args.context.now.plan.now (Initialized c.args.first.now) c.args.part.now c.args.meter.now c.step_state.new.meter c.args.inside c.args.context.now.dt c.args.value.now _ refl
     c.step_state.new.state (Initialized c.put_first.new.first) c.step_state.new.value c.put_first.new.value (ap Initialized c.put_first.ensures.first) c.put_first.ensures.value c.in_ok-step_state.ensures
+
+-- ## step_replaced
+
+pub step_replaced-returns : goal.step_replaced-returns
+step_replaced-returns g t c =
+    wrap_last (g.R.Holds.answers c.args.context.now.functions.now) c.args.context.now.plan.now (Replaced c.args.initial.now) c.args.part.now c.args.meter.now c.step_state.new.meter c.args.inside c.args.context.now.dt c.args.value.now c.put_first.new.value c.put_first.ensures.value
+    c.step_state.new.state (Replaced c.put_first.new.first) c.step_state.new.value c.step_state.new.value c.step_state.result _ (ap Replaced c.put_first.ensures.first) refl c.step_state.ensures
 
 -- ## A switch that keeps its source, and a frozen state
 

@@ -31,6 +31,9 @@ decreases-step_loop g l = 10 * (1600 - l.inside) + 6
 abbrev pub decreases-step_initialized : goal.decreases-step_initialized
 decreases-step_initialized g l = 10 * (1600 - l.inside) + 6
 
+abbrev pub decreases-step_replaced : goal.decreases-step_replaced
+decreases-step_replaced g l = 10 * (1600 - l.inside) + 6
+
 abbrev pub decreases-step_live : goal.decreases-step_live
 decreases-step_live g l = 10 * (1600 - l.inside) + 7
 

@@ -1,5 +1,5 @@
 use Rattle.std.proofs.Common.{refl}
-use Rattle.sf_prim.specs.Keeping.{keeps_nothing, keeps_time, keeps_area, keeps_low, keeps_begun, keeps_count, keeps_pre}
+use Rattle.sf_prim.specs.Keeping.{keeps_nothing, keeps_time, keeps_area, keeps_low, keeps_begun, keeps_first_left, keeps_count, keeps_pre}
 use Rattle.sf_prim.proofs.prim_state.PrimState.bare.Goals as goal
 
 pub returns-in-Identity : goal.returns-in-Identity
@@ -9,13 +9,16 @@ pub returns-in-LocalTime : goal.returns-in-LocalTime
 returns-in-LocalTime c = λ s. rw c.in-LocalTime.is (keeps_time refl)
 
 pub returns-in-Integral : goal.returns-in-Integral
-returns-in-Integral c = λ s. rw c.in-Integral.is (keeps_area refl refl)
+returns-in-Integral c = λ s. rw c.in-Integral.is (keeps_area c.born.ensures)
 
 pub returns-in-Edge : goal.returns-in-Edge
 returns-in-Edge c = λ s. rw c.in-Edge.is (keeps_low refl)
 
 pub returns-in-NotYet : goal.returns-in-NotYet
 returns-in-NotYet c = λ s. rw c.in-NotYet.is (keeps_begun refl)
+
+pub returns-in-Once : goal.returns-in-Once
+returns-in-Once c = λ s. rw c.in-Once.is (keeps_first_left refl)
 
 pub returns-in-Count : goal.returns-in-Count
 returns-in-Count c = λ s. rw c.in-Count.is (keeps_count refl)

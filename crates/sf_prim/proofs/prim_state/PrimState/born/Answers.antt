@@ -3,7 +3,7 @@ use Rattle.std.proofs.lemmas.Int.{to_z-of_z}
 use Rattle.sf_prim.specs.Keeping.{begins, keeps_no_event}
 use Rattle.sf_law.specs.Entries.{chain_over}
 use Rattle.sf_prim.proofs.Linked.{fused_begins}
-use Rattle.sf_prim.proofs.Primitives.{begins_exit, timed_exit, timed_as, memory_exit, accumulated_made, accumulated_fails}
+use Rattle.sf_prim.proofs.Primitives.{begins_exit, timed_exit, timed_as, selected_keeps, memory_exit, accumulated_made, accumulated_fails}
 use Rattle.sf_prim.proofs.prim_state.PrimState.born.Goals as goal
 
 pub returns-in-Bare : goal.returns-in-Bare
@@ -26,6 +26,9 @@ returns-in_ok-timed-in-Timed g c = λ x h. rw c.in-Timed.is (begins (timed_as _ 
 
 pub returns-in_err-timed-in-Timed : goal.returns-in_err-timed-in-Timed
 returns-in_err-timed-in-Timed g c = λ x h. memory_exit _ _ _ c.from_residual-in_err-timed-in-Timed.ensures.1
+
+pub returns-in-Selected : goal.returns-in-Selected
+returns-in-Selected g c = λ x h. rw c.in-Selected.is (begins (selected_keeps _ _ _ _ _ c.events_in.ensures (to_z-of_z w64 c.in-Selected.count search)))
 
 pub returns-in_ok-arrow-in-Arrow : goal.returns-in_ok-arrow-in-Arrow
 returns-in_ok-arrow-in-Arrow g c = λ x h. rw c.in-Arrow.is (begins (c.in_ok-arrow-in-Arrow.ensures.kept (g.R.Holds.answers c.args.functions.now) _ (rw c.in-Arrow.is at h)))

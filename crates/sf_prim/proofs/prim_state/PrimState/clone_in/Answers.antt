@@ -1,6 +1,6 @@
 use Rattle.std.proofs.Common.{ap, ◌∙◌}
 use Rattle.sf_prim.proofs.Linked.{fused_follows}
-use Rattle.sf_prim.proofs.Primitives.{arrow_follows, closed_follows, accumulated_follows, timer_follows}
+use Rattle.sf_prim.proofs.Primitives.{arrow_follows, closed_follows, accumulated_follows, timer_follows, ticker_follows, line_follows}
 use Rattle.sf_prim.proofs.prim_state.PrimState.clone_in.Goals as goal
 
 pub returns-in_ok-shared-in-Arrow : goal.returns-in_ok-shared-in-Arrow
@@ -16,7 +16,19 @@ pub returns-in_ok-copy-in-Timed : goal.returns-in_ok-copy-in-Timed
 returns-in_ok-copy-in-Timed c = λ q scope L k.
     let is = c.in_ok-copy-in-Timed.ensures.ok in
     let kept = rw c.deref-in-Timed.ensures at c.in_ok-kept-in-Timed.ensures in
-    timer_follows c.in-Timed.timer c.in_ok-copy-in-Timed.copy (ap (λ t. t.due) is ∙ kept.due) (ap (λ t. t.begun) is ∙ kept.begun) (ap (λ t. t.left) is ∙ kept.left) q scope L (rw c.in-Timed.is at k)
+    timer_follows c.in-Timed.timer c.in_ok-copy-in-Timed.copy (rw is kept) q scope L (rw c.in-Timed.is at k)
+
+pub returns-in_ok-copy-in-Ticked : goal.returns-in_ok-copy-in-Ticked
+returns-in_ok-copy-in-Ticked c = λ q scope L k.
+    let is = c.in_ok-copy-in-Ticked.ensures.ok in
+    let kept = rw c.deref-in-Ticked.ensures at c.in_ok-kept-in-Ticked.ensures in
+    ticker_follows c.in-Ticked.ticker c.in_ok-copy-in-Ticked.copy (rw is kept) q scope L (rw c.in-Ticked.is at k)
+
+pub returns-in_ok-copy-in-Delayed : goal.returns-in_ok-copy-in-Delayed
+returns-in_ok-copy-in-Delayed c = λ q scope L k.
+    let is = c.in_ok-copy-in-Delayed.ensures.ok in
+    let kept = rw c.deref-in-Delayed.ensures at c.in_ok-kept-in-Delayed.ensures in
+    line_follows c.in-Delayed.line c.in_ok-copy-in-Delayed.copy (rw is kept) q scope L (rw c.in-Delayed.is at k)
 
 pub returns-in_ok-same-in-Fused : goal.returns-in_ok-same-in-Fused
 returns-in_ok-same-in-Fused c = λ q scope L k. fused_follows c.in-Fused.links _ c.in_ok-same-in-Fused.ensures.cases q scope L (rw c.in-Fused.is at k)

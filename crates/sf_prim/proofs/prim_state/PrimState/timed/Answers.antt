@@ -1,11 +1,22 @@
-use Rattle.std.proofs.Common.{ap, ◌∙◌, w64}
+use Rattle.std.proofs.Common.{w64, subst}
+use Rattle.std.specs.Prelude.{ℤ, []}
 use Rattle.std.proofs.lemmas.Int.{to_z-of_z}
-use Rattle.sf_prim.specs.Keeping.{span}
-use Rattle.sf_prim.proofs.Primitives.{timer_keeps}
+use Rattle.sf_delay.specs.Waits.{RunsDown, TicksOn}
+use Rattle.sf_delay.specs.Delays.{Delays}
+use Rattle.sf_prim.specs.Keeping.{keeps_timer, keeps_ticker, keeps_line}
 use Rattle.sf_prim.proofs.prim_state.PrimState.timed.Goals as goal
 
-pub returns : goal.returns
-returns c = λ s e h.
-    let is = c.in_ok-timer.ensures.ok in
-    let left = ap (λ t. t.left) is ∙ c.born.ensures.left ∙ ap span (to_z-of_z w64 c.args.time c.ranges.time) in
-    timer_keeps s c.args.form c.args.time e c.in_ok-timer.timer c.args.value (ap (λ t. t.due) is ∙ c.born.ensures.due) (ap (λ t. t.begun) is ∙ c.born.ensures.begun) left h
+pub returns-in_ok-timer-in-After : goal.returns-in_ok-timer-in-After
+returns-in_ok-timer-in-After c = λ s e h.
+    let is = c.in_ok-timer-in-After.ensures.ok in
+    rw (c.in-After.is, is) (keeps_timer h (subst (λ (z : ℤ). RunsDown c.born.result z c.args.value []) (to_z-of_z w64 c.args.time c.ranges.time) c.born.ensures))
+
+pub returns-in_ok-ticker-in-Repeatedly : goal.returns-in_ok-ticker-in-Repeatedly
+returns-in_ok-ticker-in-Repeatedly c = λ s e h.
+    let is = c.in_ok-ticker-in-Repeatedly.ensures.ok in
+    rw (c.in-Repeatedly.is, is) (keeps_ticker h (subst (λ (z : ℤ). TicksOn c.born-in-Repeatedly.result z c.args.value []) (to_z-of_z w64 c.args.time c.ranges.time) c.born-in-Repeatedly.ensures))
+
+pub returns-in_ok-line-in-Delay : goal.returns-in_ok-line-in-Delay
+returns-in_ok-line-in-Delay c = λ s e h.
+    let is = c.in_ok-line-in-Delay.ensures.ok in
+    rw (c.in-Delay.is, is) (keeps_line h (subst (λ (z : ℤ). Delays c.born-in-Delay.result z c.args.value []) (to_z-of_z w64 c.args.time c.ranges.time) c.born-in-Delay.ensures))

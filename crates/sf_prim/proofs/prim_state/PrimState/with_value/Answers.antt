@@ -1,9 +1,12 @@
-use Rattle.sf_prim.specs.Keeping.{keeps_value, keeps_previous, keeps_initialized, keeps_first, keeps_last}
+use Rattle.sf_prim.specs.Keeping.{keeps_value, keeps_previous, keeps_initialized, keeps_first, keeps_first_low, keeps_tag, keeps_initial, keeps_last, keeps_last_before}
 use Rattle.std.proofs.Common.{refl}
 use Rattle.sf_prim.proofs.prim_state.PrimState.with_value.Goals as goal
 
 pub returns-in-Constant : goal.returns-in-Constant
 returns-in-Constant c = λ s e h. rw c.in-Constant.is (keeps_value h)
+
+pub returns-in-Initially : goal.returns-in-Initially
+returns-in-Initially c = λ s e h. rw c.in-Initially.is (keeps_initial h)
 
 pub returns-in-InitialPre : goal.returns-in-InitialPre
 returns-in-InitialPre c = λ s e h. rw c.in-InitialPre.is (keeps_previous h refl)
@@ -14,5 +17,14 @@ returns-in-InitializedPre c = λ s e h. rw c.in-InitializedPre.is (keeps_initial
 pub returns-in-Now : goal.returns-in-Now
 returns-in-Now c = λ s e h. rw c.in-Now.is (keeps_first h)
 
+pub returns-in-InitialEdge : goal.returns-in-InitialEdge
+returns-in-InitialEdge c = λ s e h. rw c.in-InitialEdge.is (keeps_first_low h c.is_low.ensures)
+
+pub returns-in-EdgeTag : goal.returns-in-EdgeTag
+returns-in-EdgeTag c = λ s e h. rw c.in-EdgeTag.is (keeps_tag h refl)
+
 pub returns-in-Hold : goal.returns-in-Hold
 returns-in-Hold c = λ s e h. rw c.in-Hold.is (keeps_last h refl)
+
+pub returns-in-DelayedHold : goal.returns-in-DelayedHold
+returns-in-DelayedHold c = λ s e h. rw c.in-DelayedHold.is (keeps_last_before h refl)

@@ -1,5 +1,6 @@
+use Rattle.sf_coincidence.proofs.Same.{alike_itself}
 use Rattle.sf_state.specs.Standing.{is_empty, itself, unborn, is_closure}
 use Rattle.sf_state.proofs.state.State.unborn.Goals as goal
 
 pub returns : goal.returns
-returns c = λ φ p. itself (unborn (is_closure is_empty))
+returns c = λ φ p. itself (unborn (is_closure (alike_itself _) is_empty))

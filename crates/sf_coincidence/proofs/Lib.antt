@@ -1,0 +1,4 @@
+pub mod Worth
+pub mod Same
+pub mod Opening
+pub mod Main

@@ -1,0 +1,113 @@
+-- What forms are made with, in environments that are alike.
+use Rattle.std.proofs.Common.{◌≡◌, inl, inr, [], ◌∷◌, refl, ap, subst, Option, Some, None}
+use Rattle.sf_value.specs.Values.{Name, Data}
+use Rattle.sf_value.specs.declared.fault.ValueFault.{ValueFault}
+use Rattle.sf_func.specs.Registries.{AnswersByName}
+use Rattle.sf_expr.specs.Expressions.{Expression}
+use Rattle.sf_expr.specs.Evaluation.{Evaluated, answer, failed, ◌>>=◌, eval}
+use Rattle.sf_term.specs.Parameters.{Bindings}
+use Rattle.sf_term.specs.Trees.{Term, primitive, Reference, reference, started, call, Arguments, no_arguments, value_argument, process_argument, closed_argument, template_named, joined, sided, headed, switching, keeping, staged, Template}
+use Rattle.sf_mean.specs.Lives.{Process, closure, Environment, empty, known, running, scope_around}
+use Rattle.sf_mean.specs.Meaning.{Network, Made, nothing_made, value_made, process_made, process_referred, argument_process, argued, process_called, referred, make}
+use Rattle.sf_coincidence.specs.Mentions.{ExpressionMentions, Mentions, ReferenceMentions, ArgumentsMention}
+use Rattle.sf_coincidence.specs.Alike.{Alike, of_closures, AlikeAt}
+use Rattle.sf_coincidence.proofs.Worth.{same_worth}
+use Rattle.sf_coincidence.proofs.Same.{AlikeFor, scopes_agree, alike_passing, at_empty, at_known, at_running, alike_started}
+
+-- two answers that are related, or one fault
+pub data Likewise {A : Type 0} (R : A → A → Type 0) : Evaluated A → Evaluated A → Type 0 where
+  both_answer : {a b : A} → R a b → Likewise R (answer a) (answer b)
+  both_fail : {x : ValueFault} → Likewise R (failed x) (failed x)
+
+then_likewise : {A B : Type 0} {R : A → A → Type 0} {S : B → B → Type 0} {p q : Evaluated A} (f g : A → Evaluated B)
+    → ((a b : A) → R a b → Likewise S (f a) (g b)) → Likewise R p q → Likewise S (p >>= f) (q >>= g)
+then_likewise f g h (both_answer r) = h _ _ r
+then_likewise f g h both_fail = both_fail
+
+after_each : {A B : Type 0} {S : B → B → Type 0} (p : Evaluated A) (f g : A → Evaluated B) → ((a : A) → Likewise S (f a) (g a)) → Likewise S (p >>= f) (p >>= g)
+after_each (answer a) f g h = h a
+after_each (failed x) f g h = both_fail
+
+-- what is done with an expression's worth
+after_worth : {B : Type 0} {S : B → B → Type 0} (φ : AnswersByName) (i : Expression) {e d : Environment} → AlikeFor (ExpressionMentions i) e d
+    → (f g : Data → Evaluated B) → ((v : Data) → Likewise S (f v) (g v)) → Likewise S (eval i (scope_around φ e) >>= f) (eval i (scope_around φ d) >>= g)
+after_worth {B} {S} φ i {e} {d} E f g h =
+    let N : Evaluated Data → Type 0 = λ p. Likewise S (eval i (scope_around φ e) >>= f) (p >>= g) in
+    subst N (same_worth i (scope_around φ e) (scope_around φ d) (scopes_agree φ E)) (after_each (eval i (scope_around φ e)) f g h)
+
+-- ## Arguments
+
+alike_referred : {e d : Environment} (r : Reference) → AlikeFor (ReferenceMentions r) e d → Alike (process_referred r e) (process_referred r d)
+alike_referred (started w k) E = alike_started w (E k refl)
+alike_referred (call g vs) E = of_closures E
+
+alike_argument : {e d : Environment} (t : Term) → AlikeFor (Mentions t) e d → Alike (argument_process t e) (argument_process t d)
+alike_argument (primitive p) E = of_closures E
+alike_argument (reference r) E = alike_referred r E
+alike_argument (joined j f g) E = of_closures E
+alike_argument (sided a t) E = of_closures E
+alike_argument (headed h i t) E = of_closures E
+alike_argument (switching w t p u) E = of_closures E
+alike_argument (keeping w t q k p u) E = of_closures E
+alike_argument (staged x f g) E = of_closures E
+
+-- every name stands for alike
+abbrev AlikeNames : Environment → Environment → Type 0
+AlikeNames e d = (x : Name) → AlikeAt x e d
+
+module _ (φ : AnswersByName) {e e' : Environment} where
+  alike_argued : (qs : Bindings) (vs : Arguments) → AlikeFor (ArgumentsMention vs) e e' → (d d' : Environment) → AlikeNames d d' → Likewise AlikeNames (argued φ qs vs e d) (argued φ qs vs e' d')
+  alike_argued [] vs E d d' D = both_answer D
+  alike_argued (q ∷ qs) no_arguments E d d' D = both_answer D
+  alike_argued (q ∷ qs) (value_argument i vs) E d d' D =
+      after_worth φ i (λ x h. E x (inl h)) (λ v. argued φ qs vs e (known q.0 v d)) (λ v. argued φ qs vs e' (known q.0 v d'))
+      (λ v. alike_argued qs vs (λ x h. E x (inr h)) (known q.0 v d) (known q.0 v d') (λ x. at_known q.0 v (λ h. D x)))
+  alike_argued (q ∷ qs) (process_argument t vs) E d d' D =
+      let A : Alike (argument_process t e) (argument_process t e') = alike_argument t (λ x h. E x (inl h)) in
+      alike_argued qs vs (λ x h. E x (inr h)) (running q.0 (argument_process t e) d) (running q.0 (argument_process t e') d') (λ x. at_running q.0 A (λ h. D x))
+  alike_argued (q ∷ qs) (closed_argument t vs) E d d' D =
+      let A : Alike (closure t e) (closure t e') = of_closures (λ x h. E x (inl h)) in
+      alike_argued qs vs (λ x h. E x (inr h)) (running q.0 (closure t e) d) (running q.0 (closure t e') d') (λ x. at_running q.0 A (λ h. D x))
+
+  alike_called : (t : Option Template) (vs : Arguments) → AlikeFor (ArgumentsMention vs) e e' → Likewise Alike (process_called φ t vs e) (process_called φ t vs e')
+  alike_called None vs E = both_answer alike_passing
+  alike_called (Some t) vs E =
+      then_likewise (λ d. answer (closure t.body d)) (λ d. answer (closure t.body d)) (λ d d' D. both_answer (of_closures (λ x h. D x)))
+      (alike_argued t.parameters vs E empty empty at_empty)
+
+-- ## What a form is made with
+
+pub data AlikeMade : Made → Made → Type 0 where
+  same_nothing : AlikeMade nothing_made nothing_made
+  same_value : {v : Data} → AlikeMade (value_made v) (value_made v)
+  alike_made : {P Q : Process} → Alike P Q → AlikeMade (process_made P) (process_made Q)
+
+module _ (n : Network) {e d : Environment} where
+  referred_alike : (r : Reference) → AlikeFor (ReferenceMentions r) e d → Likewise Alike (referred n r e) (referred n r d)
+  referred_alike (started w k) E = both_answer (alike_started w (E k refl))
+  referred_alike (call g vs) E = alike_called n.functions (template_named g n.templates) vs E
+
+  pub made_alike : (t : Term) (v : Data) → AlikeFor (Mentions t) e d → Likewise AlikeMade (make n t e v) (make n t d v)
+  made_alike (primitive p) v E = both_answer same_nothing
+  made_alike (reference r) v E = then_likewise (λ P. answer (process_made P)) (λ P. answer (process_made P)) (λ P Q A. both_answer (alike_made A)) (referred_alike r E)
+  made_alike (joined j f g) v E = both_answer same_nothing
+  made_alike (sided a t) v E = both_answer same_nothing
+  made_alike (headed h i t) v E =
+      after_worth n.functions i (λ x h. E x (inl h)) (λ w. answer (value_made w)) (λ w. answer (value_made w)) (λ w. both_answer same_value)
+  made_alike (switching w t p u) v E = both_answer same_nothing
+  made_alike (keeping w t q k p u) v E = both_answer same_nothing
+  made_alike (staged x f g) v E = both_answer same_nothing
+
+-- ## What is like an answer or a fault
+
+abbrev answer_or : {A : Type 0} → A → Evaluated A → A
+answer_or a (answer b) = b
+answer_or a (failed x) = a
+
+pub like_answer : {A : Type 0} {R : A → A → Type 0} {a : A} {p q : Evaluated A} → p ≡ answer a → Likewise R p q → (b : A) × R a b × (q ≡ answer b)
+like_answer {R = R} {a = a} h (both_answer {b = b} r) = (b, subst (λ c. R c b) (ap (answer_or a) h) r, refl)
+like_answer h both_fail = absurd cc
+
+pub like_fault : {A : Type 0} {R : A → A → Type 0} {x : ValueFault} {p q : Evaluated A} → p ≡ failed x → Likewise R p q → q ≡ failed x
+like_fault h (both_answer r) = absurd cc
+like_fault h both_fail = h

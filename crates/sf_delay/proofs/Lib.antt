@@ -1,0 +1,4 @@
+pub mod Widths
+pub mod Lasting
+pub mod Ticking
+pub mod Turns

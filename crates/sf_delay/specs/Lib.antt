@@ -1,0 +1,4 @@
+pub mod Gifts
+pub mod Lately
+pub mod Waits
+pub mod Delays

@@ -1,0 +1,38 @@
+use Rattle.std.proofs.Common.{sym, ap, ◌∙◌, subst}
+use Rattle.std.specs.Prelude.{◌≢◌}
+use Rattle.std.proofs.lemmas.Result.{on_ok_weaker}
+use Rattle.sf_value.specs.Values.{Name}
+use Rattle.sf_expr.specs.declared.exprs.Exprs.{Exprs}
+use Rattle.sf_expr.specs.Patterns.{PlacedPattern, pattern_of}
+use Rattle.sf_expr.specs.Arena.{name_at, placed_at}
+use Rattle.sf_coincidence.specs.Mentions.{BindsOthers}
+use Rattle.sf_law.proofs.Naming.{ok_both}
+use Rattle.sf_law.proofs.Covering.{covers_primitive, covers_headed, covers_keeping, covers_pipeline}
+use Rattle.sf_law.proofs.mentioned.Mentioned.add_node.Goals as goal
+
+pub returns-in-Primitive : goal.returns-in-Primitive
+returns-in-Primitive c = λ t B. covers_primitive c.args.plan.now c.add_primitive.result c.add_primitive.new.self (rw c.in-Primitive.is at B) c.add_primitive.ensures
+
+pub returns-in_ok-add_code-in-Headed : goal.returns-in_ok-add_code-in-Headed
+returns-in_ok-add_code-in-Headed c = λ t B.
+    ok_both c.add_part-in-Headed.result
+    (λ kept added. covers_headed c.args.plan.now c.add_part-in-Headed.new.self (rw c.in-Headed.is at B) (λ x h. kept x (c.in_ok-add_code-in-Headed.ensures.added x h)) (λ x h. added x (c.requires c.in-Headed.part x h)))
+    c.add_part-in-Headed.ensures.kept c.add_part-in-Headed.ensures.added
+
+pub returns-in_ok-left-in-Keeping : goal.returns-in_ok-left-in-Keeping
+returns-in_ok-left-in-Keeping c = λ t B.
+    let p = c.args.plan.now in
+    let k = c.in-Keeping in
+    let exprs = c.expressions-exprs.ensures in
+    let placed = c.placed-in-Keeping.ensures ∙ ap (λ (x : Exprs). placed_at x k.pattern) exprs in
+    let name = c.name_of-in-Keeping.ensures ∙ ap (λ (x : Exprs). name_at x k.name) exprs in
+    let first = c.in_ok-add_part-in-Keeping.ensures in
+    let second = c.in_ok-add_part-in-Keeping-2.ensures in
+    ok_both c.add_all-in-Keeping.result
+    (λ kept added. covers_keeping p c.add_all-in-Keeping.new.self (rw k.is at B) (λ x h. kept x (second.kept x (first.added x (c.requires k.first x h)))) (λ x h. kept x (second.added x (c.requires k.observer x h)))
+    (λ x h free other. added x (c.in_ok-left-in-Keeping.ensures x (c.in_ok-within-in-Keeping.ensures x (c.requires k.body x h) (subst (λ (q : PlacedPattern). BindsOthers (pattern_of q) x) (sym placed) free)) (subst (λ (n : Name). n ≢ x) (sym name) other))))
+    c.add_all-in-Keeping.ensures.kept c.add_all-in-Keeping.ensures.added
+
+pub returns-in-Pipeline : goal.returns-in-Pipeline
+returns-in-Pipeline c = λ t B. let e = c.add_parts.ensures in let d = c.deref-in-Pipeline.ensures.value in
+    on_ok_weaker c.add_parts.result (λ covers. covers_pipeline c.args.plan.now c.add_parts.new.self (rw c.in-Pipeline.is at B) covers) (rw d at e)
