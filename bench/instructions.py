@@ -49,7 +49,7 @@ def right_spine(term, count):
 TEMPLATE = "template passed(n: Int): Int ~> Int = identity;"
 # Each with its type, its term, and as it is written the nodes that a sample enters, the most instructions a node (of the last
 # one, a sample) and allocations a sample.
-PAIRED, ADDED = "arr x => (x, x)", "arr x => (x + 1)"
+PAIRED, ADDED, HAPPENING = "arr x => (x, x)", "arr x => (x + 1)", "arr x => event x"
 NETWORKS = {
     "identity": ("Int ~> Int", "identity", 1, None, None),
     "50 identity": ("Int ~> Int", chain("identity", 50), 99, 60, 0),
@@ -63,6 +63,14 @@ NETWORKS = {
     "50 run processes": ("Int ~> Int", chain("kSwitch(identity, now (), k, _ => run k)", 50), 99, 60, 0),
     "50 called templates": ("Int ~> Int", chain("passed(1)", 50), 99, 60, 0),
     "50 probes": ("Int ~> Int", chain("probe p", 50), 99, None, None),
+    "50 initially 0": ("Int ~> Int", chain("initially 0", 50), 99, 120, 0),
+    "50 delay 100 0": ("Int ~> Int", chain("delay 100 0", 50), 99, 120, None),
+    "50 repeatedly 9 0": ("Int ~> Event Int", chain("repeatedly 9 0", 50), 99, 120, None),
+    "50 once": ("Int ~> Event Int", f"({HAPPENING} >>> {chain('once', 50)})", 101, 120, None),
+    "50 takeEvents": ("Int ~> Event Int", f"({HAPPENING} >>> {chain('takeEvents 1000000', 50)})", 101, 120, None),
+    "50 dropEvents": ("Int ~> Event Int", f"({HAPPENING} >>> {chain('dropEvents 1', 50)})", 101, 120, None),
+    "50 dHold of an event": ("Int ~> Int", chain("(repeatedly 9 0 >>> dHold 0)", 50), 199, 120, None),
+    "50 >-- identity": ("Int ~> Int", chain(">--(0, identity)", 50), 149, 120, 0),
     "50 iPre 0 to freeze": ("Int ~> Int", f"kSwitch({chain('iPre 0', 50)}, never Int, k, _ => identity)", 101, 260, 2),
     "running total": ("Int ~> Int", TIMED["total"], None, 2000, 4),
 }
