@@ -2,8 +2,9 @@
 
 There are a delay of numbers, a loop over pairs, one of texts, events and tables with functions inside, one that calls stored
 functions, one that switches, one that freezes a process and runs it twice, one whose state is saved and returned to, one of templates
-that are given values and processes, one with a probe in what is begun anew, and one of forms that remember; and then networks that
-laws rewrite. Last, a text of all these and of further forms is checked and written anew.
+that are given values and processes, one with a probe in what is begun anew, one of forms that remember, and one of forms that go by
+time and by numbers of events; and then networks that laws rewrite. Last, a text of all these and of further forms is checked and
+written anew.
 
     python3 rows/refuse_growths.py --exe PATH
 
@@ -60,6 +61,9 @@ RUNS = [
      ' = ((once &&& dHold "-") *** ((iEdge false &&& edgeTag "up") &&& initially false))',
      samples(['(event "a",true)', '(event "b",false)', '(none,true)'],
              ['((event "a","-"),((event (),none),false))', '((none,"a"),((none,none),false))', '((none,"b"),((event (),event "up"),true))'])),
+    ("Int ~> (((Int, Event Int), Event Int), Int)"
+     " = (((delay 20 0 &&& repeatedly 30 1) &&& (arr x => event x >>> takeEvents 2)) &&& >--(9, identity))",
+     samples(["1", "2", "3"], ["(((0,none),event 1),9)", "(((0,none),event 2),2)", "(((1,event 1),none),3)"])),
     # functions that are neighbours, of which two share their input
     ("Int ~> (Int, Int) = ((arr x => (x + 1) >>> arr x => (x * 2)) >>> (arr x => (x - 3) &&& arr x => (x + 3)))",
      samples(["1", "2", "3"], ["(1,7)", "(3,9)", "(5,11)"])),
