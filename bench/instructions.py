@@ -50,6 +50,7 @@ TEMPLATE = "template passed(n: Int): Int ~> Int = identity;"
 # Each with its type, its term, and as it is written the nodes that a sample enters, the most instructions a node (of the last
 # one, a sample) and allocations a sample.
 PAIRED, ADDED, HAPPENING = "arr x => (x, x)", "arr x => (x + 1)", "arr x => event x"
+ABOVE_ZERO, OCCURS = "arr x => (x > 0)", "arr e => isEvent(e)"
 NETWORKS = {
     "identity": ("Int ~> Int", "identity", 1, None, None),
     "50 identity": ("Int ~> Int", chain("identity", 50), 99, 60, 0),
@@ -66,6 +67,9 @@ NETWORKS = {
     "50 initially 0": ("Int ~> Int", chain("initially 0", 50), 99, 120, 0),
     "50 delay 100 0": ("Int ~> Int", chain("delay 100 0", 50), 99, 120, None),
     "50 repeatedly 9 0": ("Int ~> Event Int", chain("repeatedly 9 0", 50), 99, 120, None),
+    "50 iEdge, truths": ("Int ~> Bool", f"({ABOVE_ZERO} >>> {chain(f'(iEdge true >>> {OCCURS})', 50)})", 201, 120, None),
+    "50 edgeTag, truths": ("Int ~> Bool", f"({ABOVE_ZERO} >>> {chain(f'(edgeTag 1 >>> {OCCURS})', 50)})", 201, 120, None),
+    "50 edgeBy and hold": ("Int ~> Int", chain("(edgeBy(0, (x, y) => gate(event y, (x != y))) >>> hold 0)", 50), 199, None, None),
     "50 once": ("Int ~> Event Int", f"({HAPPENING} >>> {chain('once', 50)})", 101, 120, None),
     "50 takeEvents": ("Int ~> Event Int", f"({HAPPENING} >>> {chain('takeEvents 1000000', 50)})", 101, 120, None),
     "50 dropEvents": ("Int ~> Event Int", f"({HAPPENING} >>> {chain('dropEvents 1', 50)})", 101, 120, None),

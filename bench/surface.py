@@ -32,7 +32,7 @@ NO_CODE = re.compile(r"//[^\n]*|\"(?:[^\"\\]|\\.)*\"|'(?:[^'\\\n]|\\[^\n]{1,8}?)
 ITEM = re.compile(r"^[ \t]*(pub )?((fn|struct|enum|trait|impl)\b)", re.MULTILINE)
 END = re.compile(r"\s(?:requires|ensures|decreases|where)\s|[{;]")
 # What a crate's root hands out.
-USE = re.compile(r"^pub use (\w+)::(?:\w+::)*(?:(\w+)|\{([^}]*)\});", re.MULTILINE)
+USE = re.compile(r"^pub use (\w+)::(?:\w+::)*(?:(\w+(?: as \w+)?)|\{([^}]*)\});", re.MULTILINE)
 
 
 def code_of(path):
@@ -105,16 +105,23 @@ def items_of(text):
 def handed_out(crate):
     """The public items of a crate that its root hands out."""
     source = os.path.join(CRATES, crate, "src")
-    named = set()
+    # What an item is called in its module, with what the root calls it.
+    named = {}
     for _, one, more in USE.findall(code_of(os.path.join(source, "lib.rt"))):
-        named.update([one] if one else parts(more))
+        for item in [one] if one else parts(more):
+            name, _, handed = item.partition(" as ")
+            named[name] = handed or name
     found = {}
     for folder, _, files in os.walk(source):
         for file in sorted(files):
             if not file.endswith("tests.rt"):
                 for path, *item in items_of(code_of(os.path.join(folder, file))):
-                    if path.partition("::")[0] in named or file == "lib.rt":
-                        found[path] = item
+                    owner, colons, name = path.partition("::")
+                    if owner in named or file == "lib.rt":
+                        found[named.get(owner, owner) + colons + name] = item
+    # Heads say what the root calls them.
+    for item in found.values():
+        item[0] = re.sub(r"\w+", lambda word: named.get(word.group(), word.group()), item[0])
     return found
 
 

@@ -28,6 +28,7 @@ OTHERS = [
     "pairs(): (Event Int, Event Int) ~> (Event (Int, Int), (Bool, Event Int)) = arr e => (attach(fst(e), 1), (isEvent(snd(e)), rMerge(fst(e), snd(e))))",
     "counted(): Event Int ~> Event Int = (((notYet >>> takeEvents 5) >>> dropEvents 1) >>> count)",
     "summed(): Event Int ~> (Event Int, (Int, Event Int)) = (accumBy(0, (s, x) => (s + x)) &&& (accumHoldBy(0, (s, x) => (s + x)) &&& sscan(none Int, (_, e) => e)))",
+    "compared(): Int ~> Event Int = edgeBy(0, (old, new) => gate(event (new - old), (old != new)))",
     "timed(): Int ~> (Int, Event Int) = (>--(3, delay 10 0) &&& (-->(1, pre) >>> repeatedly 20 2))",
     "switched(): (Int, Event Int) ~> Int = (drSwitch(identity, x => constant x) >>> switch((identity &&& never Unit), _ => identity))",
     "kept(f: Int ~> Int): Int ~> Int = dkSwitch(run f, arr (_, x) => gate(event (), (x > 2)), k, _ => kept(sf run k))",

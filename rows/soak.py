@@ -5,7 +5,8 @@ memory stays flat, and whether what they let go of is let go of at the end, at a
 
 What is written is compared line by line with what the network's meaning gives. Where memory is to stay flat, the longer run may have
 held at most 512 KiB more than the shorter one. A network that makes chains of processes is played once more with a save at its first
-sample and a return to it behind its last, on the ordinary stack and on an eighth of it. The last line is `N passed, M failed`.
+sample and a return to it behind its last, on the ordinary stack and on an eighth of it. A network that is to be about as quick as
+another is played on 100,000 samples as well, and so is the other. The last line is `N passed, M failed`.
 """
 
 import argparse
@@ -17,13 +18,14 @@ import sys
 import tempfile
 import threading
 from dataclasses import dataclass
-from typing import Callable
+from typing import Callable, Optional
 
 
 @dataclass
 class Run:
     """A network with its inputs, over and over again, and what it gives to the sample of a number from 0 on; a sample is 1 millisecond
-    long. A network that makes chains hands itself processes at its events; one that keeps them grows by its meaning."""
+    long. A network that makes chains hands itself processes at its events; one that keeps them grows by its meaning. Another may keep
+    less, and take no less time for it."""
 
     name: str
     network: str
@@ -31,18 +33,48 @@ class Run:
     wanted: Callable
     makes_chains: bool = False
     grows: bool = False
+    as_quick_as: Optional["Run"] = None
 
 
 # How many KiB more a run may hold that is ten times as long. Runs of one length differ by some 260 from each other, whatever the length;
 # what grows by a byte a sample would hold 879 more.
 MOST_GROWN = 512
+# How many times the processor time of another network one may take that is to be as quick.
+MOST_SLOWER = 3
 # The most samples in a million lines, of which one saves, one returns and one has a sample more.
 MOST_RETURNED = 999_997
 # An event at each sample but the first.
 EVENT = "(constant event () >>> notYet)"
 GAME = "(Int, Event Unit) ~> Int"
 
+
+def waiting(samples, **others):
+    """A delay of so many samples, which may be frozen at each."""
+    return Run(
+        f"keeps {samples:,} samples in what may be frozen",
+        f"Int ~> Int = kSwitch(delay {samples} 0, never Unit, k, _ => identity)",
+        ["1", "2", "3", "4", "5", "6", "7"],
+        lambda number: (number - samples) % 7 + 1 if number >= samples else 0,
+        **others,
+    )
+
+
+def going_on(samples, **others):
+    """The same delay, which is frozen again and again, and goes on."""
+    return Run(
+        f"keeps {samples:,} samples in what is frozen again and again",
+        f"Int ~> Int = go(sf delay {samples} 0);\n"
+        f"template go(f: Int ~> Int): Int ~> Int = kSwitch(run f, {EVENT}, k, _ => go(sf run k))",
+        ["1", "2", "3", "4", "5", "6", "7"],
+        lambda number: (number - samples) % 7 + 1 if number >= samples else 0,
+        makes_chains=True,
+        **others,
+    )
+
+
 RUNS = [
+    waiting(1000, as_quick_as=waiting(10)),
+    going_on(1000, as_quick_as=going_on(10)),
     Run(
         "begins anew at every third sample",
         "(Int, Event Int) ~> Int = rSwitch(identity, c => (integral >>> arr x => (x + c)))",
@@ -161,7 +193,8 @@ def held_by(child):
 
 
 def play(words, run, samples, returns, stack):
-    """Whether the output is what is wanted, and the most memory that the run held before its input ended, in KiB."""
+    """Whether the output is what is wanted, the most memory that the run held before its input ended, in KiB, and the seconds of the
+    processor that it took."""
     from_writer, to_program = os.pipe()
     from_program, to_reader = os.pipe()
     child = os.fork()
@@ -194,8 +227,8 @@ def play(words, run, samples, returns, stack):
         with contextlib.suppress(BrokenPipeError):
             given.close()
         good = good and not lines.read()
-    _, status = os.waitpid(child, 0)
-    return good and written == len(numbers) and status == 0, most
+    _, status, usage = os.wait4(child, 0)
+    return good and written == len(numbers) and status == 0, most, usage.ru_utime + usage.ru_stime
 
 
 def looks(words, run):
@@ -203,7 +236,7 @@ def looks(words, run):
     ordinary = 8 << 20
     held = []
     for samples in (100_000, 1_000_000):
-        good, most = play(words, run, samples, False, ordinary)
+        good, most, _ = play(words, run, samples, False, ordinary)
         held.append(most)
         yield None if good else f"another output in {samples:,} samples"
     if not run.grows:
@@ -211,8 +244,22 @@ def looks(words, run):
         yield None if is_flat else f"{held[0]:,} KiB held in 100,000 samples and {held[1]:,} KiB in 1,000,000"
     if run.makes_chains:
         for stack in (ordinary, ordinary // 8):
-            good, _ = play(words, run, MOST_RETURNED, True, stack)
+            good, _, _ = play(words, run, MOST_RETURNED, True, stack)
             yield None if good else f"another output in {MOST_RETURNED:,} samples and a return, on a stack of {stack >> 10:,} KiB"
+
+
+def is_slower(exe, network, mode, run):
+    """Nothing where a network takes about as long as the other, the least of three runs each; else what it takes."""
+    least = []
+    for one in (run, run.as_quick_as):
+        write_network(network, one)
+        least.append(min(play([exe, network, *mode], one, 100_000, False, 8 << 20)[2] for _ in range(3)))
+    return f"{least[0]:.2f} s on the processor, and {least[1]:.2f} s where it {run.as_quick_as.name}" if least[0] > MOST_SLOWER * least[1] else None
+
+
+def write_network(path, run):
+    with open(path, "w") as file:
+        file.write(f"network 1;\ntemplate main(): {run.network};\n")
 
 
 def main():
@@ -224,10 +271,11 @@ def main():
     with tempfile.TemporaryDirectory() as place:
         network = os.path.join(place, "network")
         for run in RUNS:
-            with open(network, "w") as file:
-                file.write(f"network 1;\ntemplate main(): {run.network};\n")
             for mode in ([], ["--plain"]):
+                write_network(network, run)
                 found = list(looks([exe, network, *mode], run))
+                if run.as_quick_as:
+                    found.append(is_slower(exe, network, mode, run))
                 passed, failed = passed + found.count(None), failed + len(found) - found.count(None)
                 for fault in filter(None, found):
                     print(f"what {run.name} {' '.join(mode)}: {fault}")

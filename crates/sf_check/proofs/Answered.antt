@@ -16,7 +16,7 @@ use Rattle.sf_expr.specs.Expressions.{Pattern, unnamed, named, both}
 use Rattle.sf_expr.specs.Typing.{Fits, type_of_name, Binds, HasType}
 use Rattle.sf_expr.specs.Inference.{NamesFit}
 use Rattle.sf_operator.proofs.Refusing.{kind_answered}
-use Rattle.sf_expr.proofs.Answered.{bound_or, answered, function_answered}
+use Rattle.sf_expr.proofs.Judged.{bound_or, answered, function_answered}
 use Rattle.sf_expr.specs.declared.exprs.FunctionId.{FunctionId}
 use Rattle.sf_expr.specs.declared.exprs.NameId.{NameId}
 use Rattle.sf_expr.specs.declared.exprs.PatternId.{PatternId}
@@ -100,9 +100,9 @@ selected_answered x Γ k n a s b h f true e = inl (_, selected_takes h e f)
 accumulation_answered : (x : Exprs) (Γ : Context) (k : Accumulation) (v : ExprId) (f : FunctionId) (a : Kind) (s : Spot) → NamesFit (names_of_values Γ) → (t : Kind) → HasType (names_of_values Γ) (expression x v) t → PrimitiveAnswered x Γ (primitives.Accumulated k v f) a s
 accumulation_answered x Γ k v f a s fit t h = elim (kind_answered (accumulated_argument k t a) s) [
   | inr r ↦ inr (r.0, accumulation_breaks h (argument_refused r.1))
-  | inl c ↦ elim (function_answered x (names_of_values Γ) f c.0 s fit c.2) [
+  | inl c ↦ elim (function_answered x (names_of_values Γ) f c.0 s c.2) [
     | inr r ↦ inr (r.0, accumulation_breaks h (accumulator_refused c.1 c.2 r.1))
-    | inl u ↦ elim (kind_answered (accumulated_kind k t u.0) s) [
+    | inl u ↦ elim (kind_answered (accumulated_kind k t a u.0) s) [
       | inr r ↦ inr (r.0, accumulation_breaks h (made_refused c.1 u.1 r.1))
       | inl b ↦ inl (b.0, accumulated_takes h c.1 u.1 b.1 b.2)
     ]
@@ -116,11 +116,11 @@ bare_answered x Γ k a s = elim (kind_answered (bare_kind k a) s) [ inl t ↦ in
 primitive_answered : (x : Exprs) (Γ : Context) (q : Primitive) (a : Kind) (s : Spot) → NamesFit (names_of_values Γ) → Fits a → PrimitiveAnswered x Γ q a s
 primitive_answered x Γ (primitives.Bare k) a s fit f = bare_answered x Γ k a s
 primitive_answered x Γ (primitives.Never n) a s fit f = elim (kind_answered (Some (event_kind (absent_payload (literal_at x n)))) s) [ inl t ↦ inl (_, never_takes (subst Fits (sym (same_Some _ _ t.1)) t.2)) | inr r ↦ inr (r.0, never_refused r.1) ]
-primitive_answered x Γ (primitives.WithValue k v) a s fit f = elim (answered x (names_of_values Γ) fit v) [ inl t ↦ value_answered x Γ k v a s t.0 t.1 | inr r ↦ inr (_, value_refused r.1) ]
-primitive_answered x Γ (primitives.Timed k q v) a s fit f = elim (answered x (names_of_values Γ) fit v) [ inl t ↦ timed_answered x Γ k q v a s t.0 t.1 (takes_input k t.0 a) (takes_time k q) refl refl | inr r ↦ inr (_, timed_value_refused r.1) ]
+primitive_answered x Γ (primitives.WithValue k v) a s fit f = elim (answered x (names_of_values Γ) v) [ inl t ↦ value_answered x Γ k v a s t.0 t.1 | inr r ↦ inr (_, value_refused r.1) ]
+primitive_answered x Γ (primitives.Timed k q v) a s fit f = elim (answered x (names_of_values Γ) v) [ inl t ↦ timed_answered x Γ k q v a s t.0 t.1 (takes_input k t.0 a) (takes_time k q) refl refl | inr r ↦ inr (_, timed_value_refused r.1) ]
 primitive_answered x Γ (primitives.Selected k n) a s fit f = elim (kind_answered (selected_kind a) s) [ inl t ↦ selected_answered x Γ k n a s t.0 t.1 t.2 (takes_number n) refl | inr r ↦ inr (r.0, selected_refused r.1) ]
-primitive_answered x Γ (primitives.Accumulated k v g) a s fit f = elim (answered x (names_of_values Γ) fit v) [ inl t ↦ accumulation_answered x Γ k v g a s fit t.0 t.1 | inr r ↦ inr (_, start_value_refused r.1) ]
-primitive_answered x Γ (primitives.Arrow g) a s fit f = elim (function_answered x (names_of_values Γ) g a s fit f) [ inl t ↦ inl (t.0, arrow_takes t.1) | inr r ↦ inr (_, function_refused r.1) ]
+primitive_answered x Γ (primitives.Accumulated k v g) a s fit f = elim (answered x (names_of_values Γ) v) [ inl t ↦ accumulation_answered x Γ k v g a s fit t.0 t.1 | inr r ↦ inr (_, start_value_refused r.1) ]
+primitive_answered x Γ (primitives.Arrow g) a s fit f = elim (function_answered x (names_of_values Γ) g a s f) [ inl t ↦ inl (t.0, arrow_takes t.1) | inr r ↦ inr (_, function_refused r.1) ]
 
 -- ## Terms
 
@@ -234,7 +234,7 @@ module _ (p : Program) (Γ : Context) (around : ContextFits Γ) where
       ]
 
   of_loop : (t : TermId) (v : ExprId) (f : TermId) (a : Kind) → term_node_at p t ≡ nodes.Headed LoopPre v f → Fits a → ((b : Kind) → Fits b → IsAnswered p Γ f b) → IsAnswered p Γ t a
-  of_loop t v f a is k F = elim (answered (expressions_of p) (names_of_values Γ) names v) [
+  of_loop t v f a is k F = elim (answered (expressions_of p) (names_of_values Γ) v) [
     | inr r ↦ broken t _ a is k (start_refused r.1)
     | inl c ↦ elim (cases_lt 256 (nodes_of (pair_kind a c.0))) [
       | inl q ↦ broken t _ a is k (fed_exceeds c.1 q)
@@ -246,7 +246,7 @@ module _ (p : Program) (Γ : Context) (around : ContextFits Γ) where
   ]
 
   of_initialized : (t : TermId) (v : ExprId) (f : TermId) (a : Kind) → term_node_at p t ≡ nodes.Headed Initialized v f → Fits a → IsAnswered p Γ f a → IsAnswered p Γ t a
-  of_initialized t v f a is k F = elim (answered (expressions_of p) (names_of_values Γ) names v) [
+  of_initialized t v f a is k F = elim (answered (expressions_of p) (names_of_values Γ) v) [
     | inr r ↦ broken t _ a is k (start_refused r.1)
     | inl c ↦ elim F [
       | inr r ↦ in_part t _ a is k (initialized_part c.1) r.1
@@ -258,7 +258,7 @@ module _ (p : Program) (Γ : Context) (around : ContextFits Γ) where
   ]
 
   of_replaced : (t : TermId) (v : ExprId) (f : TermId) (a : Kind) → term_node_at p t ≡ nodes.Headed Replaced v f → Fits a → IsAnswered p Γ f a → IsAnswered p Γ t a
-  of_replaced t v f a is k F = elim (answered (expressions_of p) (names_of_values Γ) names v) [
+  of_replaced t v f a is k F = elim (answered (expressions_of p) (names_of_values Γ) v) [
     | inr r ↦ broken t _ a is k (start_refused r.1)
     | inl c ↦ elim F [
       | inr r ↦ in_part t _ a is k (replaced_part c.1) r.1
@@ -393,7 +393,7 @@ module _ (p : Program) (Γ : Context) (around : ContextFits Γ) where
       of_arguments [] [] fit so below fits = all_known fit so (kinds_or a g.input)
       of_arguments [] (r ∷ rs) fit so below fits = absurd (omega (arith, rest_length so.left))
       of_arguments (v ∷ ws) [] fit so below fits = absurd (omega (arith, rest_length so.left))
-      of_arguments (arguments.Value e ∷ ws) ((x, q) ∷ rs) fit so below fits = elim (answered (expressions_of p) (names_of_values Γ) names e) [
+      of_arguments (arguments.Value e ∷ ws) ((x, q) ∷ rs) fit so below fits = elim (answered (expressions_of p) (names_of_values Γ) e) [
         | inr r ↦ breaks_call named (argument_breaks so.left (argument_refused r.1))
         | inl u ↦ of_arguments ws rs (fit && fits_kind u.0 q) (next_so fit (fits_kind u.0 q) so (value_keeps u.1) (kind_fits e u.0 u.1 q)) (All-tail (ArgumentBelow (term_number t)) (arguments.Value e) ws below) (All-tail FitsIn (x, q) rs fits)
       ]

@@ -7,7 +7,7 @@ use Rattle.sf_refusal.specs.declared.spot.Spot.{Spot}
 use Rattle.sf_refusal.specs.declared.refusal.Breach.{Breach}
 use Rattle.sf_expr.specs.Typing.{HasType}
 use Rattle.sf_expr.proofs.Judged.{refused_untyped}
-use Rattle.sf_expr.proofs.Once.{refused_once}
+use Rattle.sf_expr.proofs.Judged.{refused_once}
 use Rattle.sf_term.specs.declared.node.TermId.{TermId}
 use Rattle.sf_term.specs.declared.node.Argument.{Argument}
 use Rattle.sf_term.specs.declared.node.Argument.TheVariants as arguments

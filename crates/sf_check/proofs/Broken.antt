@@ -47,10 +47,10 @@ pub answer_one : {R : Names} {f : Function} {a b u v : Kind} → a ≡ b → Fun
 answer_one {R} {f} same F G = same_Some _ _ (sym (takes_output F) ∙ ap (function_output R f) same ∙ takes_output G)
 
 accumulation_untyped : {x : Exprs} {R : Names} {s : Spot} {k : Accumulation} {f : FunctionId} {t a c u b : Kind} {e : Breach}
-    → AccumulationBreaks x R s k f t a e → accumulated_argument k t a ≡ Some c → FunctionTakes R (function_at x f) c u → accumulated_kind k t u ≡ Some b → Fits b → ⊥
+    → AccumulationBreaks x R s k f t a e → accumulated_argument k t a ≡ Some c → FunctionTakes R (function_at x f) c u → accumulated_kind k t a u ≡ Some b → Fits b → ⊥
 accumulation_untyped {s = s} (argument_refused q) h F g fits = kind_refused _ s _ q h (argument_fits F)
 accumulation_untyped {x = x} {R = R} {f = f} {u = u} (accumulator_refused h' fits' q) h F g fits = refused_takes_none q (subst (λ c. FunctionTakes R (function_at x f) c u) (same_Some _ _ (sym h ∙ h')) F)
-accumulation_untyped {s = s} {k = k} {t = t} (made_refused h' F' q) h F g fits = kind_refused _ s _ q (ap (accumulated_kind k t) (answer_one (same_Some _ _ (sym h' ∙ h)) F' F) ∙ g) fits
+accumulation_untyped {s = s} {k = k} {t = t} {a = a} (made_refused h' F' q) h F g fits = kind_refused _ s _ q (ap (accumulated_kind k t a) (answer_one (same_Some _ _ (sym h' ∙ h)) F' F) ∙ g) fits
 
 bare_untyped : (k : Bare) (s : Spot) (a : Kind) (r : Breach) {b : Kind} → BareRefused k a s r → bare_kind k a ≡ Some b → Fits b → ⊥
 bare_untyped Pre s a r q e f = absurd cc

@@ -18,7 +18,7 @@ use Rattle.sf_expr.specs.Arena.{function_at, placed_at}
 use Rattle.sf_expr.specs.Typing.{Names, FunctionTakes}
 use Rattle.sf_expr.specs.Refusals.{PatternRefused, FunctionRefused}
 use Rattle.sf_expr.proofs.Judged.{refused_untyped, refused_takes_none}
-use Rattle.sf_expr.proofs.Once.{pattern_once, refused_once, function_refused_once}
+use Rattle.sf_expr.proofs.Judged.{pattern_once, refused_once, function_refused_once}
 use Rattle.sf_term.specs.declared.node.TermId.{TermId}
 use Rattle.sf_term.specs.declared.node.Argument.TheVariants as arguments
 use Rattle.sf_term.specs.declared.node.Primitive.{Primitive}
@@ -53,7 +53,7 @@ accumulation_once {x = x} {R = R} {s = s} {f = f} {g = g} (accumulator_refused h
 accumulation_once {x = x} {R = R} {f = f} (accumulator_refused h fits q) (made_refused {u = u} k F p) = absurd (refused_takes_none q (subst (λ c. FunctionTakes R (function_at x f) c u) (same_Some _ _ (sym k ∙ h)) F))
 accumulation_once {s = s} (made_refused h F p) (argument_refused q) = absurd (kind_refused _ s _ q h (argument_fits F))
 accumulation_once {x = x} {R = R} {f = f} (made_refused {u = u} k F p) (accumulator_refused h fits q) = absurd (refused_takes_none q (subst (λ c. FunctionTakes R (function_at x f) c u) (same_Some _ _ (sym k ∙ h)) F))
-accumulation_once {s = s} {k = w} {t = t} {g = g} (made_refused h F q) (made_refused k G p) = kind_once _ s q (subst (λ u. KindRefused (accumulated_kind w t u) s g) (answer_one (same_Some _ _ (sym k ∙ h)) G F) p)
+accumulation_once {s = s} {k = w} {t = t} {a = a} {g = g} (made_refused h F q) (made_refused k G p) = kind_once _ s q (subst (λ u. KindRefused (accumulated_kind w t a u) s g) (answer_one (same_Some _ _ (sym k ∙ h)) G F) p)
 
 bare_once : (k : Bare) (s : Spot) (a : Kind) (e f : Breach) → BareRefused k a s e → BareRefused k a s f → e ≡ f
 bare_once Pre s a e f h k = h ∙ sym k

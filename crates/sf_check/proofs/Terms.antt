@@ -19,7 +19,6 @@ use Rattle.sf_refusal.specs.Refusals.{breach_of, broken, OrMemory, because, no_m
 use Rattle.sf_refusal.proofs.Explained.{or_memory, breaks_at}
 use Rattle.sf_operator.specs.Kinds.{same_kind, payload_of}
 use Rattle.sf_operator.specs.Breaches.{AnswersKind}
-use Rattle.sf_operator.proofs.Answering.{none_only}
 use Rattle.sf_operator.proofs.SameKinds.{same_is, is_same, payload_is}
 use Rattle.sf_expr.specs.Expressions.{Pattern}
 use Rattle.sf_expr.specs.Refusals.{Refused, Judges, JudgesFunction, PatternRefused, PairRefused, AnswersPair}
@@ -30,7 +29,6 @@ use Rattle.sf_term.specs.declared.form.WithValue.{WithValue}
 use Rattle.sf_term.specs.declared.form.Timing.{Timing}
 use Rattle.sf_term.specs.declared.form.Selection.{Selection}
 use Rattle.sf_term.specs.declared.form.Accumulation.{Accumulation}
-use Rattle.sf_term.specs.declared.form.Accumulation.TheVariants.{AccumBy, AccumHoldBy, Scan}
 use Rattle.sf_term.specs.declared.form.Join.TheVariants.{InSequence, InParallel, FannedOut}
 use Rattle.sf_term.specs.declared.form.Side.{Side}
 use Rattle.sf_term.specs.declared.form.Side.TheVariants.{First, Second}
@@ -398,15 +396,9 @@ module _ (x : Exprs) (Γ : Context) (k : Accumulation) (v : ExprId) (f : Functio
       pub accumulator_answers : (r : Refusal) → JudgesFunction x (names_of_values Γ) f c s (Err r) → OrMemory (PrimitiveBreaks x Γ s (primitives.Accumulated k v f) a) r
       accumulator_answers r h = or_memory (λ b q. accumulation_breaks typed (accumulator_refused argument.0 argument.1 q)) h
 
-      pub made_answers : (u : Kind) (r : Result Kind Refusal) → JudgesFunction x (names_of_values Γ) f c s (Ok u) → AnswersKind (accumulated_kind k t u) s r → AnswersPrimitive x Γ (primitives.Accumulated k v f) a s r
+      pub made_answers : (u : Kind) (r : Result Kind Refusal) → JudgesFunction x (names_of_values Γ) f c s (Ok u) → AnswersKind (accumulated_kind k t a u) s r → AnswersPrimitive x Γ (primitives.Accumulated k v f) a s r
       made_answers u (Ok b) made h = accumulated_takes typed argument.0 made h.0 h.1
       made_answers u (Err e) made h = or_memory (λ b q. accumulation_breaks typed (made_refused argument.0 made q)) h
-
--- values of another type than the one so far make no accumulation
-pub none_made : (k : Accumulation) (v u : Kind) → same_kind u v ≡ false → accumulated_kind k v u ≡ None
-none_made AccumBy v u h = none_only u v v (Some (event_kind v)) refl h
-none_made AccumHoldBy v u h = none_only u v v (Some v) refl h
-none_made Scan v u h = none_only u v v (Some v) refl h
 
 -- ## Under an equal context
 

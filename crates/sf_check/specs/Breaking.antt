@@ -88,7 +88,7 @@ BareRefused k a s r = KindRefused (bare_kind k a) s r
 pub data AccumulationBreaks (x : Exprs) (R : Names) (s : Spot) (k : Accumulation) (f : FunctionId) (t a : Kind) : Breach → Type 0 where
   argument_refused : {r : Breach} → KindRefused (accumulated_argument k t a) s r → AccumulationBreaks x R s k f t a r
   accumulator_refused : {c : Kind} {r : Breach} → accumulated_argument k t a ≡ Some c → Fits c → FunctionRefused x R f c s r → AccumulationBreaks x R s k f t a r
-  made_refused : {c u : Kind} {r : Breach} → accumulated_argument k t a ≡ Some c → FunctionTakes R (function_at x f) c u → KindRefused (accumulated_kind k t u) s r → AccumulationBreaks x R s k f t a r
+  made_refused : {c u : Kind} {r : Breach} → accumulated_argument k t a ≡ Some c → FunctionTakes R (function_at x f) c u → KindRefused (accumulated_kind k t a u) s r → AccumulationBreaks x R s k f t a r
 
 -- On inputs of a type, a primitive at a spot breaks a rule, at a place. An expression or a function that is refused
 -- has its own place.

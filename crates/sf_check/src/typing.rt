@@ -298,27 +298,43 @@ fn accumulated_argument_type(
     ensures { AnswersKind (accumulated_argument kind given.now input.now) spot result }
 {
     match kind {
+        Accumulation::EdgeBy => pair_of(alloc, input, input, spot),
         Accumulation::AccumBy => pair_of(alloc, given, payload(input, spot)?, spot),
         Accumulation::AccumHoldBy => pair_of(alloc, given, payload(input, spot)?, spot),
         Accumulation::Scan => pair_of(alloc, given, input, spot),
     }
 }
 
-/// The type of the outputs of an accumulation with a value of a type, where its function makes values of a type. Refused
-/// at the spot with `Mismatch` where these are not the same, then with `TypeTooLarge`, and with `Memory`.
+/// The type of the outputs of an accumulation with a value of a type on inputs of a type, where its function makes values
+/// of a type. Refused at the spot with `Mismatch` where it makes none of these, then with `TypeTooLarge`, and with `Memory`.
 fn accumulated_type(
     alloc: Global,
     kind: Accumulation,
     given: Ty,
-    made: &Ty,
+    input: &Ty,
+    made: Ty,
     spot: Spot,
 ) -> Result<Ty, Refusal>
-    ensures { AnswersKind (accumulated_kind kind given made.now) spot result }
+    ensures { AnswersKind (accumulated_kind kind given input.now made) spot result }
 {
-    same(made, &given, spot)?;
     match kind {
-        Accumulation::AccumBy => event_type(alloc, &given, spot),
-        Accumulation::AccumHoldBy | Accumulation::Scan => Ok(given),
+        Accumulation::EdgeBy => {
+            same(input, &given, spot)?;
+            payload(&made, spot)?;
+            Ok(made)
+        }
+        Accumulation::AccumBy => {
+            same(&made, &given, spot)?;
+            event_type(alloc, &given, spot)
+        }
+        Accumulation::AccumHoldBy => {
+            same(&made, &given, spot)?;
+            Ok(given)
+        }
+        Accumulation::Scan => {
+            same(&made, &given, spot)?;
+            Ok(given)
+        }
     }
 }
 
@@ -337,7 +353,7 @@ fn accumulated_output(
     let given = constant_type(alloc, context, value)?;
     let argument = accumulated_argument_type(alloc, kind, &given, input, spot)?;
     let made = answer_type(alloc, context, function, &argument, spot)?;
-    accumulated_type(alloc, kind, given, &made, spot)
+    accumulated_type(alloc, kind, given, input, made, spot)
 }
 
 /// The type of the outputs of a primitive on inputs of a type.

@@ -3,6 +3,7 @@ pub mod Compiled
 pub mod Named
 pub mod Outside
 pub mod Worth
+pub mod Typed
 pub mod Rows
 pub mod Sized
 pub mod Operands

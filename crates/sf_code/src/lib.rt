@@ -6,6 +6,8 @@
 //! name's text when it runs: names are looked for where it is made, constants stand in it as values, and its parts stand in
 //! boxes. The first fault of its operations is the answer, from left to right; of `if` and
 //! `match` the chosen branch alone is run, and the second operand of `and` and `or` only where the first does not decide.
+//!
+//! `eval` does both at once, for an expression that is evaluated once.
 #![tactic(auto)]
 
 mod argument;
@@ -13,9 +15,11 @@ mod arithmetic;
 mod around;
 mod code;
 mod compiler;
+mod evaluation;
 mod frames;
 mod function;
 mod laws;
+mod name_list;
 mod names;
 mod open;
 mod pattern;
@@ -25,7 +29,9 @@ mod running;
 
 pub use arithmetic::{Calculation, is_arithmetic};
 pub use code::Code;
+pub use evaluation::{eval, evaluate_among};
 pub use function::{apply, apply_in_place, evaluate, expression_code, function_code};
 pub use laws::compiled_expression;
+pub use name_list::{NamedValue, NamedValues};
 pub use names::Names;
 pub use open::{Closure, OpenCode};

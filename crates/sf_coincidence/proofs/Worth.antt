@@ -10,9 +10,10 @@ use Rattle.sf_operator.specs.FunctionForms.{mapped_value, folded_value}
 use Rattle.sf_expr.specs.Expressions.{Pattern, unnamed, named, both, Expression, variable, literal, paired, applied, operation, conditional, mapped, folded, called, Function, function}
 use Rattle.sf_expr.specs.Evaluation.{Evaluated, answer, ◌>>=◌, Scope, functions_in, value_of, bound_in, unless_decided, granted, known as if_known, eval, apply}
 use Rattle.sf_term.specs.declared.form.Accumulation.{Accumulation}
+use Rattle.sf_term.specs.declared.form.Accumulation.TheVariants.{EdgeBy, AccumBy, AccumHoldBy, Scan}
 use Rattle.sf_term.specs.Trees.{Chain, lone, chained, on_side, on_both, fanned, Primitive, bare, probe, never, with_value, timed, selected, arrow, accumulated, fused}
 use Rattle.sf_mean.specs.Lives.{Step, input_of, Life}
-use Rattle.sf_mean.specs.Formulas.{side_of, with_side, value_formula, timed_formula, coming, next_value, accumulation, displayed, apply_chain, formula}
+use Rattle.sf_mean.specs.Formulas.{side_of, with_side, value_formula, timed_formula, before, occurring, next_value, accumulation, event_where, accumulated_formula, apply_chain, formula}
 use Rattle.sf_coincidence.specs.Mentions.{BindsOthers, ExpressionMentions, FunctionMentions, ChainMentions, PrimitiveMentions}
 
 -- ## Inside a pattern
@@ -93,10 +94,16 @@ same_next : (f : Function) (s t : Scope) → Agrees (FunctionMentions f) s t →
 same_next f s t A w None = refl
 same_next f s t A w (Some x) = same_answer f (pair w x) s t A
 
-same_accumulation : (k : Accumulation) (f : Function) (s t : Scope) → Agrees (FunctionMentions f) s t → (v : Data) (L : Life) → accumulation k f s v L ≡ accumulation k f t v L
-same_accumulation k f s t A v [] = refl
-same_accumulation k f s t A v (r ∷ L) =
-    ap₂ (λ (a : Evaluated Data) (g : Data → Evaluated Data). a >>= g) (same_accumulation k f s t A v L) (fun_ext (λ w. same_next f s t A w (coming k (input_of r))))
+same_accumulation : (coming : Data → Option Data) (f : Function) (s t : Scope) → Agrees (FunctionMentions f) s t → (v : Data) (L : Life) → accumulation coming f s v L ≡ accumulation coming f t v L
+same_accumulation coming f s t A v [] = refl
+same_accumulation coming f s t A v (r ∷ L) =
+    ap₂ (λ (a : Evaluated Data) (g : Data → Evaluated Data). a >>= g) (same_accumulation coming f s t A v L) (fun_ext (λ w. same_next f s t A w (coming (input_of r))))
+
+same_accumulated : (k : Accumulation) (f : Function) (s t : Scope) → Agrees (FunctionMentions f) s t → (v : Data) (r : Step) (L : Life) → accumulated_formula k f s v r L ≡ accumulated_formula k f t v r L
+same_accumulated EdgeBy f s t A v r L = same_answer f (pair (before v L) (input_of r)) s t A
+same_accumulated AccumBy f s t A v r L = ap (λ (a : Evaluated Data). a >>= λ w. answer (event_where (occurring (input_of r)) w)) (same_accumulation occurring f s t A v (r ∷ L))
+same_accumulated AccumHoldBy f s t A v r L = same_accumulation occurring f s t A v (r ∷ L)
+same_accumulated Scan f s t A v r L = same_accumulation Some f s t A v (r ∷ L)
 
 pub same_formula : (p : Primitive) (s t : Scope) → Agrees (PrimitiveMentions p) s t → (r : Step) (L : Life) → formula p s r L ≡ formula p t r L
 same_formula (bare k) s t A r L = refl
@@ -107,6 +114,5 @@ same_formula (timed k q i) s t A r L = ap (λ (a : Evaluated Data). a >>= λ v. 
 same_formula (selected k n) s t A r L = refl
 same_formula (arrow f) s t A r L = same_answer f (input_of r) s t A
 same_formula (accumulated k i f) s t A r L =
-    ap₂ (λ (a : Evaluated Data) (g : Data → Evaluated Data). a >>= λ v. g v >>= λ w. answer (displayed k (coming k (input_of r)) w))
-    (same_worth i s t (fewer (λ x h. inl h) A)) (fun_ext (λ v. same_accumulation k f s t (fewer (λ x h. inr h) A) v (r ∷ L)))
+    ap₂ (λ (a : Evaluated Data) (g : Data → Evaluated Data). a >>= g) (same_worth i s t (fewer (λ x h. inl h) A)) (fun_ext (λ v. same_accumulated k f s t (fewer (λ x h. inr h) A) v r L))
 same_formula (fused f) s t A r L = same_chain f (input_of r) s t A

@@ -43,7 +43,7 @@ module _ (t : Ticker) (q : ℤ) (v : Data) (d : ℕ) (x : Data) (L : Life) (n : 
   pub ticks_on : (left : ℕ) → left ≡ t.left - n → (t.period ≡ 0) ⊎ (n < t.left) → TicksOn (record t { begun = true; left = left }) q v (step d x ∷ L) × (repeated_formula q v (step d x) L ≡ no_event)
   ticks_on left h short =
       let none = none_lies (span q) (time L) n (time (step d x ∷ L)) time_is (elim short [ inl e ↦ inl (sym k.period ∙ e) | inr l ↦ inr (omega (arith, k.left, l)) ]) in (
-        record { value = k.value; begun = refl; period = k.period; left = h ∙ ap (λ l. l - n) k.left ∙ none.0 },
+        record { event = k.event; begun = refl; period = k.period; left = h ∙ ap (λ l. l - n) k.left ∙ none.0 },
         ap (λ b. cond b (event v) no_event) none.1,
       )
 
@@ -51,6 +51,6 @@ module _ (t : Ticker) (q : ℤ) (v : Data) (d : ℕ) (x : Data) (L : Life) (n : 
   pub ticks_over : (left : ℕ) → left ≡ t.period - (n - t.left) % t.period → 0 < t.period → t.left ≤ n → TicksOn (record t { begun = true; left = left }) q v (step d x ∷ L) × (repeated_formula q v (step d x) L ≡ event v)
   ticks_over left h some over =
       let one = one_lies (span q) (time L) n (time (step d x ∷ L)) t.left time_is (omega (arith, k.period, some)) k.left over in (
-        record { value = k.value; begun = refl; period = k.period; left = h ∙ ap (λ p. p - (n - t.left) % p) k.period ∙ one.0 },
+        record { event = k.event; begun = refl; period = k.period; left = h ∙ ap (λ p. p - (n - t.left) % p) k.period ∙ one.0 },
         ap (λ b. cond b (event v) no_event) one.1,
       )

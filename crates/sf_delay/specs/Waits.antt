@@ -1,6 +1,6 @@
 -- What sums and timers keep of their lives.
 use Rattle.std.specs.Prelude.{◌≡◌, ℕ, ◌-◌, ◌%◌, nat_le, Bool, cond, ℤ, pos, Some, None}
-use Rattle.sf_value.specs.Values.{Data, number}
+use Rattle.sf_value.specs.Values.{Data, number, event}
 use Rattle.sf_mean.specs.Lives.{Life, time}
 use Rattle.sf_mean.specs.Formulas.{before, level, area, has_passed, span}
 use Rattle.sf_delay.specs.Lately.{has_steps, waited}
@@ -25,7 +25,7 @@ pub record RunsDown (t : Timer) (q : ℤ) (v : Data) (L : Life) : Type 0 where
 
 -- A ticker keeps what `repeatedly` needs of a life, with a time and the value of its events.
 pub record TicksOn (t : Ticker) (q : ℤ) (v : Data) (L : Life) : Type 0 where
-  pub value : t.value ≡ v
+  pub event : t.event ≡ event v
   pub begun : t.begun ≡ has_steps L
   pub period : t.period ≡ span q
   pub left : t.left ≡ span q - time L % span q

@@ -7,7 +7,7 @@ ghost use Rattle.sf_mean.specs.Lives.{Life, step};
 ghost use Rattle.sf_mean.specs.Formulas.{repeated_formula};
 ghost use Rattle.sf_delay.specs.Gifts.{gift};
 
-use crate::timer::{milliseconds, waited};
+use crate::timer::{span_of, waited};
 use sf_operator::EvalFault;
 use sf_value::Value;
 use std::alloc::{AllocError, Global};
@@ -15,8 +15,8 @@ use std::alloc::{AllocError, Global};
 /// `repeatedly q e` that has lived through some samples.
 #[derive(Drop)]
 pub struct Ticker {
-    /// The value of each event.
-    pub value: Value,
+    /// The event that it gives, which all of them share.
+    pub event: Value,
     /// Whether there was a sample before.
     pub begun: bool,
     /// The milliseconds from one multiple of the time to the next; at 0 there is no event.
@@ -28,17 +28,18 @@ pub struct Ticker {
 impl Ticker {
     ghost use Rattle.sf_delay.specs.Waits.{TicksOn};
 
-    /// A ticker before its first sample. A time below 0 is as one of 0, and has no event.
-    pub fn born(time: i64, value: Value) -> Ticker
-        ensures { TicksOn result time value [] }
+    /// A ticker before its first sample. A time below 0 is as one of 0, and has no event. The error is a want of memory.
+    pub fn born(alloc: Global, time: i64, value: Value) -> Result<Ticker, AllocError>
+        ensures { IfOk result (λ ticker. TicksOn ticker time value []) }
     {
-        let period = milliseconds(time);
-        Ticker {
-            value,
+        let period = span_of(time);
+        let event = Value::event(alloc, value)?;
+        Ok(Ticker {
+            event,
             begun: false,
             period,
             left: period,
-        }
+        })
     }
 
     /// A copy; the error is a want of memory.
@@ -46,7 +47,7 @@ impl Ticker {
         ensures { IfOk result (λ copy. (q : ℤ) (v : Data) (L : Life) → TicksOn self.now q v L → TicksOn copy q v L) }
     {
         Ok(Ticker {
-            value: self.value.clone_in(alloc)?,
+            event: self.event.clone_in(alloc)?,
             begun: self.begun,
             period: self.period,
             left: self.left,
@@ -71,7 +72,7 @@ impl Ticker {
             return Ok(());
         }
         self.left = self.period - (waited - self.left) % self.period;
-        *value = Value::event(alloc, self.value.clone_in(alloc)?)?;
+        *value = self.event.clone_in(alloc)?;
         Ok(())
     }
 }

@@ -25,11 +25,11 @@ pub struct Timer {
     pub left: u64,
 }
 
-/// How many milliseconds a time has. One below 0 has none.
-pub(crate) fn milliseconds(time: i64) -> u64
-    ensures { result ≡ span time }
+/// How many milliseconds, or events, a number says. One below 0 says none.
+pub fn span_of(number: i64) -> u64
+    ensures { result ≡ span number }
 {
-    if time < 0 { 0 } else { time.unsigned_abs() }
+    if number < 0 { 0 } else { number.unsigned_abs() }
 }
 
 /// The milliseconds since the sample before; none where there was none.
@@ -63,7 +63,7 @@ impl Timer {
         Timer {
             due: Some(value),
             begun: false,
-            left: milliseconds(time),
+            left: span_of(time),
         }
     }
 

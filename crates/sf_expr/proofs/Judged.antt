@@ -1,452 +1,428 @@
--- Expressions have at most one type, and one that is refused has none.
-use Rattle.std.proofs.Common.{◌≡◌, [], Some, refl, sym, ◌∙◌, ap, subst, arith, IsTrue, Result, Ok, Err, IsErrAnd}
-use Rattle.std.specs.Prelude.{ℤ}
+-- The type that is judged is the one that an expression has, and what code answers.
+use Rattle.std.proofs.Common.{◌≡◌, ℕ, zero, suc, ◌≤◌, ◌<◌, Bool, true, false, cond, IsTrue, List, [], ◌++◌, length, slice_index_or, IsErrAnd, ◌⊎◌, inl, inr, Option, Some, None, Result, Ok, Err, OnOk, ◌↔◌, refl, sym, ap, ◌∙◌, subst, arith}
+use Rattle.std.specs.Prelude.{nat_le, bytes_eq, ◌&&◌}
 use mathlib.Core.Path.{ap₂}
-use Rattle.sf_value.specs.Values.{Name, Kind, unit_kind, bool_kind, int_kind, pair_kind, is_narrow, nodes as nodes_of}
-use Rattle.sf_operator.specs.Kinds.{unary_kind, binary_kind, conditional_kind, mapped_argument, mapped_kind, folded_argument, folded_kind}
-use Rattle.sf_func.specs.Registries.{types_named}
-use Rattle.sf_operator.specs.Breaches.{KindRefused, AnswersKind}
-use Rattle.sf_expr.specs.declared.exprs.ExprId.{ExprId}
-use Rattle.sf_expr.specs.declared.exprs.NameId.{NameId}
-use Rattle.sf_expr.specs.declared.exprs.ConstantId.{ConstantId}
-use Rattle.sf_expr.specs.declared.exprs.PatternId.{PatternId}
+use Rattle.std.proofs.lemmas.Option.{same_Some}
+use Rattle.std.proofs.lemmas.Bool.Decides.{nat_tests}
+use Rattle.std.proofs.lemmas.List.{get_or_append_left}
+use Rattle.sf_value.specs.Values.{Name, Kind, int_kind, unit_kind, bool_kind, pair_kind, nodes as nodes_of}
+use Rattle.sf_refusal.specs.declared.spot.Spot.{Spot}
+use Rattle.sf_refusal.specs.declared.rule.Rule.{Rule}
+use Rattle.sf_refusal.specs.declared.rule.Rule.TheVariants.{TypeTooLarge}
+use Rattle.sf_refusal.specs.declared.refusal.Breach.{Breach}
+use Rattle.sf_refusal.specs.declared.refusal.Refusal.{Refusal}
+use Rattle.sf_refusal.specs.declared.refusal.Refusal.TheVariants.{Broken, Memory}
+use Rattle.sf_refusal.specs.Refusals.{breach_of, broken, OrMemory, because, no_memory}
+use Rattle.sf_refusal.proofs.Explained.{or_memory}
+use Rattle.sf_arena.specs.declared.entry.Entry.{Entry}
+use Rattle.sf_arena.specs.Arenas.{entries_of}
+use Rattle.sf_arena.specs.Folded.{tree_at}
+use Rattle.sf_arena.proofs.Grown.{tree_made}
+use Rattle.sf_operator.specs.Kinds.{unary_kind, binary_kind, conditional_kind, mapped_argument, mapped_kind, called_kind, folded_argument, folded_kind}
 use Rattle.sf_operator.specs.declared.operator.Operator.{Operator}
 use Rattle.sf_operator.specs.declared.operator.Unary.{Unary}
 use Rattle.sf_operator.specs.declared.operator.Mapping.{Mapping}
 use Rattle.sf_operator.specs.declared.operator.Folding.{Folding}
+use Rattle.sf_operator.specs.Breaches.{KindRefused, AnswersKind}
+use Rattle.sf_func.specs.Registries.{FunctionTypes, types_named}
+use Rattle.sf_expr.specs.declared.exprs.ExprId.{ExprId}
+use Rattle.sf_expr.specs.declared.exprs.FunctionId.{FunctionId}
+use Rattle.sf_expr.specs.declared.exprs.ExprNode.{ExprNode}
 use Rattle.sf_expr.specs.declared.exprs.ExprNode.TheVariants as nodes
 use Rattle.sf_expr.specs.declared.exprs.Exprs.{Exprs}
-use Rattle.sf_refusal.specs.declared.spot.Spot.{Spot}
-use Rattle.sf_refusal.specs.declared.rule.Rule.TheVariants.{TypeTooLarge}
-use Rattle.sf_refusal.specs.declared.refusal.Breach.{Breach}
-use Rattle.sf_refusal.specs.declared.refusal.Refusal.{Refusal}
-use Rattle.sf_refusal.specs.declared.refusal.Refusal.TheVariants.{Memory}
-use Rattle.sf_refusal.specs.Refusals.{breach_of, OrMemory, no_memory}
-use Rattle.sf_refusal.proofs.Explained.{or_memory}
-use Rattle.sf_expr.specs.Expressions.{Pattern, names_in, Literal, unit_literal, truth_literal, int_literal, Expression, variable, literal, paired, applied, operation, conditional, mapped, folded, called, function}
+use Rattle.sf_expr.specs.Expressions.{Pattern, Expression, names_in}
 use Rattle.sf_expr.specs.Patterns.{PlacedPattern, pattern_of}
-use Rattle.sf_expr.specs.Arena.{expression, node_at, name_at, literal_at, spot_at, placed_at, Builds}
-use Rattle.sf_expr.specs.Inference.{is_valued}
-use Rattle.sf_expr.specs.Typing.{Names, Fits, type_of_name, named_in, functions_of, call_kind, literal_kind, AllDifferent, AddsNames, adds_nothing, adds_name, adds_both, Binds, HasType, variable_has, literal_has, pair_has, applied_has, operation_has, conditional_has, mapped_has, folded_has, called_has, FunctionTakes, function_takes}
-use Rattle.sf_expr.specs.Refusals.{Types, TypesFunction, Refused, no_variable, literal_too_large, first_part, second_part, pair_too_large, left_operand, right_operand, no_operation, operand, no_application, condition, then_branch, else_branch, no_choice, PatternRefused, repeats, fits_not, of_mapped, no_argument, mapped_part, no_mapping, first_folded, second_folded, no_folded_argument, folded_part, no_folding, called_part, no_call, CallRefused, AnswersCall, NameRefused, AnswersName, PartRefused, by_pattern, by_body, JudgesPart, Judges, RepeatRefused, BindRefused, AnswersPair}
-use Rattle.sf_expr.proofs.Apart.{repeated_apart}
-use Rattle.sf_expr.proofs.Entered.{node_builds}
-use Rattle.sf_expr.proofs.Literals.{valued_has}
-use Rattle.sf_operator.proofs.Refusing.{kind_refused}
-use Rattle.std.proofs.lemmas.Option.{same_Some}
-use Rattle.sf_expr.proofs.Typed.{is_unit, is_truth, is_constant, is_int, is_name, is_pair, is_applied, is_operation, is_conditional, is_mapped, is_folded, is_called}
-use Rattle.sf_expr.proofs.Called.{call_refused}
-use Rattle.sf_expr.proofs.Naming.{type_meant, type_named, name_refused}
+use Rattle.sf_expr.specs.Entries.{needs, has_narrow, zero_entry}
+use Rattle.sf_expr.specs.Arena.{id_number, expression, expression_of, node_at, name_at, literal_at, spot_at, entry_of, pattern_at, body_at, function_at, placed_at, PartsBelow}
+use Rattle.sf_expr.specs.Typing.{Names, only_functions, typed_name, Fits, type_of_name, named_in, functions_of, call_kind, literal_kind, AllDifferent, AddsNames, adds_nothing, adds_name, adds_both, Binds, HasType, FunctionTakes, function_takes}
+use Rattle.sf_expr.specs.Inference.{found_then, fitting, are_different, names_with, names_bound, NamesFit, pair_type, applied_type, operation_type, conditional_type, expression_type}
+use Rattle.sf_expr.specs.Judging.{◌>>=◌, matching_at, fitting_at, naming_at, calling_at, seen_with, binding_at, Judge, bound_judged, form_judged, zero_judged, entry_judged, judged, function_judged, Stops, GivesFound}
+use Rattle.sf_expr.specs.Refusals.{Types, TypesFunction, BindRefused, PatternRefused, Refused, Judges, AnswersPair, FunctionRefused, JudgesFunction}
+use Rattle.sf_expr.proofs.Entered.{expression_node, parts_below, narrow_node, literal_valued}
+use Rattle.sf_expr.proofs.Inferred.{test_fits, fitting_is, different, different_test, with_adds, adds_with, found_typed, typed_found}
+use Rattle.sf_expr.proofs.Naming.{type_meant, type_named}
+use Rattle.sf_expr.proofs.Apart.{Apart, apart_seen}
 
--- one of two by a truth, over types that are the same
-pub same_choice : {c d t v u w : Kind} → c ≡ d → t ≡ v → u ≡ w → conditional_kind c t u ≡ conditional_kind d v w
-same_choice {d = d} {t = t} {u = u} p q r = ap (λ (k : Kind). conditional_kind k t u) p ∙ ap₂ (λ (a b : Kind). conditional_kind d a b) q r
+-- ## The equations
 
--- a pattern adds one list of names
-pub one_scope : {p : Pattern} {t : Kind} {R S T : Names} → AddsNames p t R S → AddsNames p t R T → S ≡ T
-one_scope adds_nothing adds_nothing = refl
-one_scope adds_name adds_name = refl
-one_scope {S = S} (adds_both {q = q} {u = u} a b) (adds_both c d) = one_scope (subst (λ (R : Names). AddsNames q u R S) (one_scope a c) b) d
+-- what an expression is judged by are its parts alone
+local : (x : Exprs) (js more : List Judge) (entry : Entry ExprNode) → needs entry.node ≤ length js → entry_judged x (js ++ more) entry ≡ entry_judged x js entry
+local x js more entry = at_node entry.spot entry.node
+  where
+    one : (i : ExprId) → suc i.0 ≤ length js → slice_index_or (js ++ more) i.0 zero_judged ≡ slice_index_or js i.0 zero_judged
+    one i q = get_or_append_left js more zero_judged i.0 q
 
-pub bound_once : {p : Pattern} {t u : Kind} {R S T : Names} → t ≡ u → Binds p t R S → Binds p u R T → S ≡ T
-bound_once {p = p} {R = R} {S = S} e b c = one_scope (subst (λ (t : Kind). AddsNames p t R S) e b.adds) c.adds
+    at_node : (s : Spot) (n : ExprNode) → needs n ≤ length js → form_judged x (λ i. slice_index_or (js ++ more) i.0 zero_judged) s n ≡ form_judged x (λ i. slice_index_or js i.0 zero_judged) s n
+    at_node s nodes.Unit h = refl
+    at_node s (nodes.Truth b) h = refl
+    at_node s (nodes.Int z) h = refl
+    at_node s (nodes.Constant n) h = refl
+    at_node s (nodes.Name n) h = refl
+    at_node s (nodes.Pair i j) h = ap₂ {C = Judge} (λ (f g : Judge) (R : Names). f R >>= λ t. g R >>= λ u. fitting_at s (Some (pair_kind t u))) (one i (omega arith)) (one j (omega arith))
+    at_node s (nodes.Applied o i) h = ap {B = Judge} (λ (f : Judge) (R : Names). f R >>= λ t. fitting_at s (unary_kind o t)) (one i (omega arith))
+    at_node s (nodes.Operation i op j) h = ap₂ {C = Judge} (λ (f g : Judge) (R : Names). f R >>= λ t. g R >>= λ u. fitting_at s (binary_kind op t u)) (one i (omega arith)) (one j (omega arith))
+    at_node s (nodes.Conditional i j k) h =
+        ap₂ {C = Judge} (λ (f : Judge) (g : Judge × Judge) (R : Names). f R >>= λ c. g.0 R >>= λ t. g.1 R >>= λ u. fitting_at s (conditional_kind c t u)) (one i (omega arith)) (ap₂ (λ (f g : Judge). (f, g)) (one j (omega arith)) (one k (omega arith)))
+    at_node s (nodes.Mapped i m p j) h =
+        ap₂ {C = Judge} (λ (f g : Judge) (R : Names). f R >>= λ t. fitting_at s (mapped_argument m t) >>= λ a. (binding_at s (placed_at x p) a R >>= g) >>= λ u. fitting_at s (mapped_kind m t u)) (one i (omega arith)) (one j (omega arith))
+    at_node s (nodes.Folded i o j p k) h =
+        ap₂ {C = Judge} (λ (f : Judge) (g : Judge × Judge) (R : Names). f R >>= λ t. g.0 R >>= λ u. fitting_at s (folded_argument o t u) >>= λ a. (binding_at s (placed_at x p) a R >>= g.1) >>= λ v. fitting_at s (folded_kind o t u v))
+        (one i (omega arith)) (ap₂ (λ (f g : Judge). (f, g)) (one j (omega arith)) (one k (omega arith)))
+    at_node s (nodes.Called g n i) h = ap {B = Judge} (λ (f : Judge) (R : Names). f R >>= λ t. calling_at n s (types_named (name_at x g) (functions_of R)) t) (one i (omega arith))
 
--- the tables of forms with a function, over types that are the same
-pub same_argument : (o : Folding) {t u v w : Kind} → t ≡ v → u ≡ w → folded_argument o t u ≡ folded_argument o v w
-same_argument o p q = ap₂ (λ (a b : Kind). folded_argument o a b) p q
+-- an expression is judged by its node
+pub judged_form : (x : Exprs) (i : ExprId) → judged x i ≡ form_judged x (judged x) (spot_at x i) (node_at x i)
+unfolding judged tree_at spot_at node_at
+judged_form x i = tree_made (entry_judged x) (λ e. needs e.node) zero_entry (local x) (entries_of x.arena) zero_judged (λ js. refl) x.ordered.in_order i.0
 
-pub same_folded : (o : Folding) {t u v x y z : Kind} → t ≡ x → u ≡ y → v ≡ z → folded_kind o t u v ≡ folded_kind o x y z
-same_folded o {u = u} {v = v} {x = x} p q r = ap (λ (k : Kind). folded_kind o k u v) p ∙ ap₂ (λ (a b : Kind). folded_kind o x a b) q r
+-- ## What code answers
+
+-- what stops at the first step stops
+pub stops_then : {A B : Type 0} (r : Refusal) (found : Result A Breach) (f : A → Result B Breach) → Stops r found → Stops r (found >>= f)
+stops_then (Broken b) found f h = ap (λ j. j >>= f) h
+stops_then Memory found f h = tt
+
+-- and what stops after a step
+pub goes_then : {A B : Type 0} (r : Refusal) (found : Result A Breach) (x : A) (f : A → Result B Breach) → found ≡ Ok x → Stops r (f x) → Stops r (found >>= f)
+goes_then r found x f is h = subst (λ j. Stops r (j >>= f)) (sym is) h
+
+-- what a `?` returns
+pub answers_on : {A : Type 0} (answer : Result A Refusal) (r : Refusal) (found : Result A Breach) → IsErrAnd answer (λ e. e ≡ r) → Stops r found → GivesFound answer found
+answers_on (Ok x) r found is h = absurd is
+answers_on (Err g) r found is h = subst (λ r. Stops r found) (sym is) h
+
+pub stops_broken : {A : Type 0} {r : Refusal} {rule : Rule} {at : Spot} {found : Result A Breach} → r ≡ broken rule at → found ≡ Err (breach_of rule at) → Stops r found
+stops_broken {found = found} is h = subst (λ r. Stops r found) (sym is) h
+
+pub answers_same : {A : Type 0} (r : Result A Refusal) {found other : Result A Breach} → found ≡ other → GivesFound r other → GivesFound r found
+answers_same r e h = subst (GivesFound r) (sym e) h
+
+pub fits_at : (at : Spot) (t : Kind) → Fits t → fitting_at at (Some t) ≡ Ok t
+fits_at at t h = ap (λ b. cond b (Ok t) (Err (breach_of TypeTooLarge at))) (test_fits t h)
+
+too_large : (t : Kind) → 256 < nodes_of t → nat_le (nodes_of t) 256 ≡ false
+too_large t h = grind (arith, nat_tests)
+
+-- a type that operators answer
+pub kind_answers : (o : Option Kind) (at : Spot) (r : Result Kind Refusal) → AnswersKind o at r → GivesFound r (fitting_at at o)
+kind_answers o at (Ok t) h = ap (fitting_at at) h.0 ∙ fits_at at t h.1
+kind_answers None at (Err (Broken b)) (because h) = ap Err (sym h)
+kind_answers (Some t) at (Err (Broken b)) (because h) = ap (λ c. cond c (Ok t) (Err (breach_of TypeTooLarge at))) (too_large t h.1) ∙ ap Err (sym h.0)
+kind_answers o at (Err Memory) h = tt
+
+pub kind_stops : (o : Option Kind) {at spot : Spot} (r : Refusal) → spot ≡ at → OrMemory (KindRefused o spot) r → Stops r (fitting_at at o)
+kind_stops o r same h = subst (λ at. Stops r (fitting_at at o)) same (kind_answers o _ (Err r) h)
+
+-- ## What expressions have
+
+abbrev pub accepted : {A : Type 0} → Result A Breach → Option A
+accepted (Ok x) = Some x
+accepted (Err b) = None
+
+pub accepted_ok : {A : Type 0} (r : Result A Breach) (x : A) → accepted r ≡ Some x → r ≡ Ok x
+accepted_ok (Ok y) x e = ap Ok (same_Some _ _ e)
+accepted_ok (Err b) x e = absurd cc
+
+fitting_found : (s : Spot) (o : Option Kind) → accepted (fitting_at s o) ≡ found_then o fitting
+fitting_found s None = refl
+fitting_found s (Some t) = each (nat_le (nodes_of t) 256)
+  where
+    each : (b : Bool) → accepted (cond b (Ok t) (Err (breach_of TypeTooLarge s))) ≡ cond b (Some t) None
+    each true = refl
+    each false = refl
+
+naming_found : (s : Spot) (o : Option (Option Kind)) → accepted (naming_at s o) ≡ found_then (type_meant o) fitting
+naming_found s None = refl
+naming_found s (Some o) = fitting_found s o
+
+calling_found : (n s : Spot) (o : Option FunctionTypes) (t : Kind) → accepted (calling_at n s o t) ≡ found_then (call_kind o t) fitting
+calling_found n s None t = refl
+calling_found n s (Some fs) t = fitting_found s (called_kind fs.from fs.to t)
+
+-- the names of a pattern that is bound
+binding_found : (s : Spot) (p : PlacedPattern) (t : Kind) (R : Names) → accepted (binding_at s p t R) ≡ cond (are_different (names_in (pattern_of p))) (names_with (pattern_of p) t R) None
+unfolding binding_at
+binding_found s p t R = each (apart_seen [] p tt)
+  where
+    fits : (o : Option Names) → accepted (matching_at s o) ≡ o
+    fits None = refl
+    fits (Some S) = refl
+
+    each : Apart [] p → accepted (seen_with [] p >>= λ seen. matching_at s (names_with (pattern_of p) t R)) ≡ cond (are_different (names_in (pattern_of p))) (names_with (pattern_of p) t R) None
+    each (inl h) = rw (h.0, different_test (names_in (pattern_of p)) h.1) (fits (names_with (pattern_of p) t R))
+    each (inr h) = rw (h.1, not_different (are_different (names_in (pattern_of p))) refl) refl
+      where
+        not_different : (b : Bool) → are_different (names_in (pattern_of p)) ≡ b → are_different (names_in (pattern_of p)) ≡ false
+        not_different true e = absurd (h.2 (different (names_in (pattern_of p)) e))
+        not_different false e = e
+
+module _ (s : Spot) where
+  pair_found : (r q : Result Kind Breach) → accepted (r >>= λ t. q >>= λ u. fitting_at s (Some (pair_kind t u))) ≡ pair_type (accepted r) (accepted q)
+  pair_found (Ok t) (Ok u) = fitting_found s (Some (pair_kind t u))
+  pair_found (Ok t) (Err b) = refl
+  pair_found (Err b) q = refl
+
+  applied_found : (o : Unary) (r : Result Kind Breach) → accepted (r >>= λ t. fitting_at s (unary_kind o t)) ≡ applied_type o (accepted r)
+  applied_found o (Ok t) = fitting_found s (unary_kind o t)
+  applied_found o (Err b) = refl
+
+  operation_found : (op : Operator) (r q : Result Kind Breach) → accepted (r >>= λ t. q >>= λ u. fitting_at s (binary_kind op t u)) ≡ operation_type op (accepted r) (accepted q)
+  operation_found op (Ok t) (Ok u) = fitting_found s (binary_kind op t u)
+  operation_found op (Ok t) (Err b) = refl
+  operation_found op (Err b) q = refl
+
+  conditional_found : (r q v : Result Kind Breach) → accepted (r >>= λ c. q >>= λ t. v >>= λ u. fitting_at s (conditional_kind c t u)) ≡ conditional_type (accepted r) (accepted q) (accepted v)
+  conditional_found (Ok c) (Ok t) (Ok u) = fitting_found s (conditional_kind c t u)
+  conditional_found (Ok c) (Ok t) (Err b) = refl
+  conditional_found (Ok c) (Err b) v = refl
+  conditional_found (Err b) q v = refl
+
+  call_found : (n : Spot) (o : Option FunctionTypes) (r : Result Kind Breach) → accepted (r >>= calling_at n s o) ≡ found_then (accepted r) (λ t. found_then (call_kind o t) fitting)
+  call_found n o (Ok t) = calling_found n s o t
+  call_found n o (Err b) = refl
+
+  -- what stands behind a pattern
+  module _ (p : PlacedPattern) (R : Names) (body : Judge) (found : Names → Option Kind) (same : (S : Names) → accepted (body S) ≡ found S) where
+    body_found : (r : Result Names Breach) (made : Kind → Option Kind) → accepted ((r >>= body) >>= λ u. fitting_at s (made u)) ≡ found_then (accepted r) (λ S. found_then (found S) (λ u. found_then (made u) fitting))
+    body_found (Ok S) made = each (body S) ∙ ap (λ o. found_then o (λ u. found_then (made u) fitting)) (same S)
+      where
+        each : (r : Result Kind Breach) → accepted (r >>= λ u. fitting_at s (made u)) ≡ found_then (accepted r) (λ u. found_then (made u) fitting)
+        each (Ok u) = fitting_found s (made u)
+        each (Err b) = refl
+    body_found (Err b) made = refl
+
+    bound_found : (o : Option Kind) (made : Kind → Option Kind) → accepted (fitting_at s o >>= λ a. bound_judged s p a body R >>= λ u. fitting_at s (made u))
+        ≡ found_then o (λ a. found_then (names_bound (pattern_of p) a R) (λ S. found_then (found S) (λ u. found_then (made u) fitting)))
+    bound_found None made = refl
+    bound_found (Some a) made = each (nat_le (nodes_of a) 256)
+      where
+        each : (b : Bool) → accepted (cond b (Ok a) (Err (breach_of TypeTooLarge s)) >>= λ a. bound_judged s p a body R >>= λ u. fitting_at s (made u))
+            ≡ found_then (cond (b && are_different (names_in (pattern_of p))) (names_with (pattern_of p) a R) None) (λ S. found_then (found S) (λ u. found_then (made u) fitting))
+        each true = body_found (binding_at s p a R) made ∙ ap (λ o. found_then o (λ S. found_then (found S) (λ u. found_then (made u) fitting))) (binding_found s p a R)
+        each false = refl
+
+    mapped_found : (m : Mapping) (r : Result Kind Breach) → accepted (r >>= λ t. fitting_at s (mapped_argument m t) >>= λ a. bound_judged s p a body R >>= λ u. fitting_at s (mapped_kind m t u))
+        ≡ found_then (accepted r) (λ t. found_then (mapped_argument m t) (λ a. found_then (names_bound (pattern_of p) a R) (λ S. found_then (found S) (λ u. found_then (mapped_kind m t u) fitting))))
+    mapped_found m (Ok t) = bound_found (mapped_argument m t) (mapped_kind m t)
+    mapped_found m (Err b) = refl
+
+    folded_found : (o : Folding) (r q : Result Kind Breach) → accepted (r >>= λ t. q >>= λ u. fitting_at s (folded_argument o t u) >>= λ a. bound_judged s p a body R >>= λ v. fitting_at s (folded_kind o t u v))
+        ≡ found_then (accepted r) (λ t. found_then (accepted q) (λ u. found_then (folded_argument o t u) (λ a. found_then (names_bound (pattern_of p) a R) (λ S. found_then (found S) (λ v. found_then (folded_kind o t u v) fitting)))))
+    folded_found o (Ok t) (Ok u) = bound_found (folded_argument o t u) (folded_kind o t u)
+    folded_found o (Ok t) (Err b) = refl
+    folded_found o (Err b) q = refl
+
+node_parts : (x : Exprs) (i : ExprId) → PartsBelow (node_at x i) (id_number i)
+unfolding node_at entry_of
+node_parts x i = parts_below x i
+
+node_narrow : (x : Exprs) (i : ExprId) → IsTrue (has_narrow (node_at x i))
+unfolding node_at entry_of
+node_narrow x i = narrow_node x i
+
+-- The type that is judged is the one that is found.
+module _ (x : Exprs) (i : ExprId) (R : Names) (part : (j : ExprId) → id_number j < id_number i → (S : Names) → accepted (judged x j S) ≡ expression_type S (expression x j)) where
+  form_found : (s : Spot) (n : ExprNode) → PartsBelow n (id_number i) → IsTrue (has_narrow n) → accepted (form_judged x (judged x) s n R) ≡ expression_type R (expression_of x n)
+  form_found s nodes.Unit p w = sym (fitting_is unit_kind (omega arith))
+  form_found s (nodes.Truth b) p w = sym (fitting_is bool_kind (omega arith))
+  form_found s (nodes.Int z) p w = sym (ap (λ b. cond b (fitting int_kind) None) w ∙ fitting_is int_kind (omega arith))
+  form_found s (nodes.Constant n) p w = fitting_found s (Some (literal_kind (literal_at x n))) ∙ sym (ap (λ b. cond b (fitting (literal_kind (literal_at x n))) None) (literal_valued x n))
+  form_found s (nodes.Name n) p w = naming_found s (named_in (name_at x n) R) ∙ ap (λ o. found_then o fitting) (sym (type_named (name_at x n) R))
+  form_found s (nodes.Pair a b) p w = pair_found s (judged x a R) (judged x b R) ∙ ap₂ pair_type (part a p.0 R) (part b p.1 R)
+  form_found s (nodes.Applied o a) p w = applied_found s o (judged x a R) ∙ ap (applied_type o) (part a p R)
+  form_found s (nodes.Operation a op b) p w = operation_found s op (judged x a R) (judged x b R) ∙ ap₂ (operation_type op) (part a p.0 R) (part b p.1 R)
+  form_found s (nodes.Conditional a b c) p w = rw (sym (part a p.0 R), sym (part b p.1 R), sym (part c p.2 R)) (conditional_found s (judged x a R) (judged x b R) (judged x c R))
+  form_found s (nodes.Mapped a m q b) p w = rw (sym (part a p.0 R)) (mapped_found s (placed_at x q) R (judged x b) (λ S. expression_type S (expression x b)) (part b p.1) m (judged x a R))
+  form_found s (nodes.Folded a o b q c) p w = rw (sym (part a p.0 R), sym (part b p.1 R)) (folded_found s (placed_at x q) R (judged x c) (λ S. expression_type S (expression x c)) (part c p.2) o (judged x a R) (judged x b R))
+  form_found s (nodes.Called g n a) p w = rw (sym (part a p R)) (call_found s n (types_named (name_at x g) (functions_of R)) (judged x a R))
+
+found_within : (x : Exprs) (fuel : ℕ) (i : ExprId) (R : Names) → id_number i < fuel → accepted (judged x i R) ≡ expression_type R (expression x i)
+found_within x zero i R h = absurd (omega arith)
+found_within x (suc fuel) i R h =
+    ap (λ (j : Judge). accepted (j R)) (judged_form x i)
+    ∙ form_found x i R (λ j k S. found_within x fuel j S (omega arith)) (spot_at x i) (node_at x i) (node_parts x i) (node_narrow x i)
+    ∙ ap (expression_type R) (sym (expression_node x i))
+
+judged_found : (x : Exprs) (i : ExprId) (R : Names) → accepted (judged x i R) ≡ expression_type R (expression x i)
+judged_found x i R = found_within x (suc (id_number i)) i R (omega arith)
+
+-- an expression has a type where it is judged to have it
+pub judged_typed : (x : Exprs) (R : Names) (i : ExprId) (t : Kind) → judged x i R ≡ Ok t → HasType R (expression x i) t
+judged_typed x R i t e = found_typed R (expression x i) t (sym (judged_found x i R) ∙ ap accepted e)
+
+pub typed_judged : (x : Exprs) (R : Names) (i : ExprId) (t : Kind) → HasType R (expression x i) t → judged x i R ≡ Ok t
+typed_judged x R i t h = accepted_ok (judged x i R) t (judged_found x i R ∙ typed_found h)
+
+pub judged_if_typed : (x : Exprs) (R : Names) (i : ExprId) (t : Kind) → HasType R (expression x i) t ↔ (judged x i R ≡ Ok t)
+judged_if_typed x R i t = (typed_judged x R i t, judged_typed x R i t)
 
 -- an expression has at most one type
 pub one_type : {R : Names} {e : Expression} {t u : Kind} → HasType R e t → HasType R e u → t ≡ u
-one_type (variable_has e f) (variable_has g h) = cc
-one_type (literal_has h f) (literal_has k g) = refl
-one_type (pair_has h i f) (pair_has k j g) = ap₂ pair_kind (one_type h k) (one_type i j)
-one_type (applied_has {o = o} h e f) (applied_has k g l) = same_Some _ _ (sym e ∙ ap (unary_kind o) (one_type h k) ∙ g)
-one_type (operation_has {op = op} h i e f) (operation_has k j g l) = same_Some _ _ (sym e ∙ ap₂ (binary_kind op) (one_type h k) (one_type i j) ∙ g)
-one_type (conditional_has {c = c} {t = t} {u = u} h i j e f) (conditional_has {c = d} {t = v} {u = w} k l m g n) =
-    let same : conditional_kind c t u ≡ conditional_kind d v w = same_choice (one_type h k) (one_type i l) (one_type j m) in
-    same_Some _ _ (sym e ∙ same ∙ g)
-one_type (mapped_has {j = j} {m = m} h e f b k g l) (mapped_has {u = u} h2 e2 f2 b2 k2 g2 l2) =
-    let first = one_type h h2 in
-    let argument = same_Some _ _ (sym e ∙ ap (mapped_argument m) first ∙ e2) in
-    let made = one_type k (subst (λ (S : Names). HasType S j u) (sym (bound_once argument b b2)) k2) in
-    same_Some _ _ (sym g ∙ ap₂ (mapped_kind m) first made ∙ g2)
-one_type (folded_has {k = j} {o = o} h i e f b k g l) (folded_has {v = v} h2 i2 e2 f2 b2 k2 g2 l2) =
-    let first = one_type h h2 in
-    let second = one_type i i2 in
-    let argument = same_Some _ _ (sym e ∙ same_argument o first second ∙ e2) in
-    let made = one_type k (subst (λ (S : Names). HasType S j v) (sym (bound_once argument b b2)) k2) in
-    same_Some _ _ (sym g ∙ same_folded o first second made ∙ g2)
-one_type (called_has h e f) (called_has k g l) = same_Some _ _ (sym e ∙ ap (call_kind _) (one_type h k) ∙ g)
+one_type h k = same_Some _ _ (sym (typed_found h) ∙ typed_found k)
 
-variable_typed : {R : Names} (e : Expression) (y : Name) {t : Kind} → e ≡ variable y → HasType R e t → type_of_name y R ≡ Some t
-variable_typed {R} e y {t} q h = inverted y (subst (λ (e : Expression). HasType R e t) q h)
+-- what is refused has no type
+pub refused_untyped : {x : Exprs} {R : Names} {i : ExprId} {r : Breach} {t : Kind} → Refused x R i r → HasType R (expression x i) t → ⊥
+refused_untyped {x} {R} {i} {r} {t} h k = let is = typed_judged x R i t k in let no = h.first in absurd cc
+
+-- one refusal at most
+pub refused_once : {x : Exprs} {R : Names} {i : ExprId} {r q : Breach} → Refused x R i r → Refused x R i q → r ≡ q
+refused_once h k = let a = h.first in let b = k.first in cc
+
+-- a type, or a refusal
+abbrev pub IsAnswered : Exprs → Names → ExprId → Type 0
+IsAnswered x R i = ((t : Kind) × HasType R (expression x i) t) ⊎ ((r : Breach) × Refused x R i r)
+
+pub answered : (x : Exprs) (R : Names) (i : ExprId) → IsAnswered x R i
+answered x R i = each (judged x i R) refl
   where
-    inverted : (y : Name) → HasType R (variable y) t → type_of_name y R ≡ Some t
-    inverted y (variable_has e f) = e
+    each : (j : Result Kind Breach) → judged x i R ≡ j → IsAnswered x R i
+    each (Ok t) e = inl (t, judged_typed x R i t e)
+    each (Err b) e = inr (b, record { first = e })
 
-literal_typed : {R : Names} (e : Expression) (l : Literal) {t : Kind} → e ≡ literal l → HasType R e t → Fits (literal_kind l)
-literal_typed {R} e l {t} q h = inverted l t (subst (λ (e : Expression). HasType R e t) q h)
+-- ## Patterns and functions
+
+pub binding_binds : (at : Spot) (p : PlacedPattern) (t : Kind) (R S : Names) → binding_at at p t R ≡ Ok S → Binds (pattern_of p) t R S
+binding_binds at p t R S e = each (are_different (names_in (pattern_of p))) refl (sym (binding_found at p t R) ∙ ap accepted e)
   where
-    inverted : (l : Literal) (t : Kind) → HasType R (literal l) t → Fits (literal_kind l)
-    inverted l t (literal_has h f) = f
+    each : (b : Bool) → are_different (names_in (pattern_of p)) ≡ b → cond b (names_with (pattern_of p) t R) None ≡ Some S → Binds (pattern_of p) t R S
+    each true d h = record { adds = with_adds (pattern_of p) t R S h; apart = different (names_in (pattern_of p)) d }
+    each false d h = absurd cc
 
--- the types of a pair's parts
-pair_typed : {R : Names} (e a b : Expression) {t : Kind} → e ≡ paired a b → HasType R e t → (u : Kind) × (v : Kind) × HasType R a u × HasType R b v × Fits (pair_kind u v)
-pair_typed {R} e a b {t} q h = inverted t (subst (λ (e : Expression). HasType R e t) q h)
-  where
-    inverted : (t : Kind) → HasType R (paired a b) t → (u : Kind) × (v : Kind) × HasType R a u × HasType R b v × Fits (pair_kind u v)
-    inverted t (pair_has {t = u} {u = v} h k f) = (u, v, h, k, f)
+pub binds_binding : (at : Spot) (p : PlacedPattern) {t : Kind} {R S : Names} → Binds (pattern_of p) t R S → binding_at at p t R ≡ Ok S
+binds_binding at p {t} {R} {S} b = accepted_ok (binding_at at p t R) S (binding_found at p t R ∙ ap (λ d. cond d (names_with (pattern_of p) t R) None) (different_test (names_in (pattern_of p)) b.apart) ∙ adds_with b.adds)
 
--- What an operator makes of its operands.
-record Made (R : Names) (a b : Expression) (op : Operator) (v : Kind) : Type 0 where
-  first : Kind
-  second : Kind
-  left : HasType R a first
-  right : HasType R b second
-  table : binary_kind op first second ≡ Some v
-  fits : Fits v
-
-operation_typed : {R : Names} (e a b : Expression) (op : Operator) {t : Kind} → e ≡ operation a op b → HasType R e t → Made R a b op t
-operation_typed {R} e a b op {t} q h = inverted t (subst (λ (e : Expression). HasType R e t) q h)
-  where
-    inverted : (t : Kind) → HasType R (operation a op b) t → Made R a b op t
-    inverted t (operation_has {t = u} {u = v} h k g f) = record { first = u; second = v; left = h; right = k; table = g; fits = f }
-
-record MadeOfOne (R : Names) (a : Expression) (o : Unary) (v : Kind) : Type 0 where
-  of : Kind
-  part : HasType R a of
-  table : unary_kind o of ≡ Some v
-  fits : Fits v
-
-applied_typed : {R : Names} (e a : Expression) (o : Unary) {t : Kind} → e ≡ applied o a → HasType R e t → MadeOfOne R a o t
-applied_typed {R} e a o {t} q h = inverted t (subst (λ (e : Expression). HasType R e t) q h)
-  where
-    inverted : (t : Kind) → HasType R (applied o a) t → MadeOfOne R a o t
-    inverted t (applied_has {t = u} h g f) = record { of = u; part = h; table = g; fits = f }
-
-record MadeOfThree (R : Names) (a b c : Expression) (v : Kind) : Type 0 where
-  truth : Kind
-  first : Kind
-  second : Kind
-  condition : HasType R a truth
-  then_branch : HasType R b first
-  else_branch : HasType R c second
-  table : conditional_kind truth first second ≡ Some v
-  fits : Fits v
-
-conditional_typed : {R : Names} (e a b c : Expression) {t : Kind} → e ≡ conditional a b c → HasType R e t → MadeOfThree R a b c t
-conditional_typed {R} e a b c {t} q h = inverted t (subst (λ (e : Expression). HasType R e t) q h)
-  where
-    inverted : (t : Kind) → HasType R (conditional a b c) t → MadeOfThree R a b c t
-    inverted t (conditional_has {c = d} {t = u} {u = v} h k l g f) = record { truth = d; first = u; second = v; condition = h; then_branch = k; else_branch = l; table = g; fits = f }
-
-record MadeByFunction (R : Names) (a : Expression) (m : Mapping) (p : Pattern) (b : Expression) (v : Kind) : Type 0 where
-  of : Kind
-  argument : Kind
-  made : Kind
-  inner : Names
-  part : HasType R a of
-  takes : mapped_argument m of ≡ Some argument
-  small : Fits argument
-  binds : Binds p argument R inner
-  body : HasType inner b made
-  table : mapped_kind m of made ≡ Some v
-  fits : Fits v
-
-mapped_typed : {R : Names} (e a b : Expression) (m : Mapping) (p : Pattern) {t : Kind} → e ≡ mapped a m p b → HasType R e t → MadeByFunction R a m p b t
-mapped_typed {R} e a b m p {t} q h = inverted t (subst (λ (e : Expression). HasType R e t) q h)
-  where
-    inverted : (t : Kind) → HasType R (mapped a m p b) t → MadeByFunction R a m p b t
-    inverted t (mapped_has {S = S} {t = d} {a = c} {u = u} h e f n k g l) = record { of = d; argument = c; made = u; inner = S; part = h; takes = e; small = f; binds = n; body = k; table = g; fits = l }
-
-record MadeOfTwo (R : Names) (a b : Expression) (o : Folding) (p : Pattern) (c : Expression) (w : Kind) : Type 0 where
-  first : Kind
-  second : Kind
-  argument : Kind
-  made : Kind
-  inner : Names
-  left : HasType R a first
-  right : HasType R b second
-  takes : folded_argument o first second ≡ Some argument
-  small : Fits argument
-  binds : Binds p argument R inner
-  body : HasType inner c made
-  table : folded_kind o first second made ≡ Some w
-  fits : Fits w
-
-folded_typed : {R : Names} (e a b c : Expression) (o : Folding) (p : Pattern) {t : Kind} → e ≡ folded a o b p c → HasType R e t → MadeOfTwo R a b o p c t
-folded_typed {R} e a b c o p {t} q h = inverted t (subst (λ (e : Expression). HasType R e t) q h)
-  where
-    inverted : (t : Kind) → HasType R (folded a o b p c) t → MadeOfTwo R a b o p c t
-    inverted t (folded_has {S = S} {t = d} {u = u} {a = n} {v = v} h i e f b k g l) = record { first = d; second = u; argument = n; made = v; inner = S; left = h; right = i; takes = e; small = f; binds = b; body = k; table = g; fits = l }
-
-record MadeByCall (R : Names) (g : Name) (a : Expression) (v : Kind) : Type 0 where
-  of : Kind
-  part : HasType R a of
-  table : call_kind (types_named g (functions_of R)) of ≡ Some v
-  fits : Fits v
-
-called_typed : {R : Names} (e a : Expression) (g : Name) {t : Kind} → e ≡ called g a → HasType R e t → MadeByCall R g a t
-called_typed {R} e a g {t} q h = inverted t (subst (λ (e : Expression). HasType R e t) q h)
-  where
-    inverted : (t : Kind) → HasType R (called g a) t → MadeByCall R g a t
-    inverted t (called_has {t = u} h k f) = record { of = u; part = h; table = k; fits = f }
-
--- a pattern that is refused is not bound
 pub pattern_unbound : {p : PlacedPattern} {t : Kind} {at : Spot} {r : Breach} {R S : Names} → PatternRefused p t at r → Binds (pattern_of p) t R S → ⊥
-pattern_unbound (repeats q) b = repeated_apart q.before q.name q.after (subst (λ ns. AllDifferent ns) q.names b.apart) q.stood
-pattern_unbound {R = R} {S = S} (fits_not apart none) b = none R S b.adds
+pattern_unbound {p} {at = at} {R = R} h b = let is = binds_binding at p b in let no = h.first R in absurd cc
 
-mutual
-  -- what is refused has no type
-  pub refused_untyped : {x : Exprs} {R : Names} {i : ExprId} {r : Breach} {t : Kind} → Refused x R i r → HasType R (expression x i) t → ⊥
-  refused_untyped {x} {R} {i} (no_variable {n = n} e q) h =
-      name_refused (named_in (name_at x n) R) (spot_at x i) _ q (sym (type_named (name_at x n) R) ∙ variable_typed (expression x i) _ (is_name (node_builds x i _ e)) h)
-  refused_untyped {x} {R} {i} (literal_too_large {n = n} e q) h =
-      let fits = literal_typed (expression x i) (literal_at x n) (is_constant (node_builds x i _ e)) h in omega arith
-  refused_untyped {x} {R} {i} (first_part {a = a} {b = b} e q) h =
-      let parts = pair_typed (expression x i) (expression x a) (expression x b) (is_pair (node_builds x i _ e)) h in refused_untyped q parts.2
-  refused_untyped {x} {R} {i} (second_part {a = a} {b = b} e k q) h =
-      let parts = pair_typed (expression x i) (expression x a) (expression x b) (is_pair (node_builds x i _ e)) h in refused_untyped q parts.3
-  refused_untyped {x} {R} {i} (pair_too_large {a = a} {b = b} {t = t} {u = u} e k l q) h =
-      let parts = pair_typed (expression x i) (expression x a) (expression x b) (is_pair (node_builds x i _ e)) h in
-      let fits : Fits (pair_kind t u) = subst (λ (v : Kind). Fits v) (ap₂ pair_kind (one_type parts.2 k) (one_type parts.3 l)) parts.4 in
-      omega arith
-  refused_untyped {x} {R} {i} (left_operand {a = a} {b = b} {op = op} e q) h =
-      let parts = operation_typed (expression x i) (expression x a) (expression x b) op (is_operation (node_builds x i _ e)) h in refused_untyped q parts.left
-  refused_untyped {x} {R} {i} (right_operand {a = a} {b = b} {op = op} e k q) h =
-      let parts = operation_typed (expression x i) (expression x a) (expression x b) op (is_operation (node_builds x i _ e)) h in refused_untyped q parts.right
-  refused_untyped {x} {R} {i} (no_operation {a = a} {b = b} {op = op} {t = t} {u = u} e k l q) h =
-      let parts = operation_typed (expression x i) (expression x a) (expression x b) op (is_operation (node_builds x i _ e)) h in
-      kind_refused (binary_kind op t u) _ _ q (ap₂ (binary_kind op) (one_type k parts.left) (one_type l parts.right) ∙ parts.table) parts.fits
-  refused_untyped {x} {R} {i} (operand {a = a} {o = o} e q) h =
-      let parts = applied_typed (expression x i) (expression x a) o (is_applied (node_builds x i _ e)) h in refused_untyped q parts.part
-  refused_untyped {x} {R} {i} (no_application {a = a} {o = o} {t = t} e k q) h =
-      let parts = applied_typed (expression x i) (expression x a) o (is_applied (node_builds x i _ e)) h in
-      kind_refused (unary_kind o t) _ _ q (ap (unary_kind o) (one_type k parts.part) ∙ parts.table) parts.fits
-  refused_untyped {x} {R} {i} (condition {a = a} {b = b} {c = c} e q) h =
-      let parts = conditional_typed (expression x i) (expression x a) (expression x b) (expression x c) (is_conditional (node_builds x i _ e)) h in refused_untyped q parts.condition
-  refused_untyped {x} {R} {i} (then_branch {a = a} {b = b} {c = c} e k q) h =
-      let parts = conditional_typed (expression x i) (expression x a) (expression x b) (expression x c) (is_conditional (node_builds x i _ e)) h in refused_untyped q parts.then_branch
-  refused_untyped {x} {R} {i} (else_branch {a = a} {b = b} {c = c} e k l q) h =
-      let parts = conditional_typed (expression x i) (expression x a) (expression x b) (expression x c) (is_conditional (node_builds x i _ e)) h in refused_untyped q parts.else_branch
-  refused_untyped {x} {R} {i} (no_choice {a = a} {b = b} {c = c} {t = t} {u = u} {v = v} e k l m q) h =
-      let parts = conditional_typed (expression x i) (expression x a) (expression x b) (expression x c) (is_conditional (node_builds x i _ e)) h in
-      let same : conditional_kind t u v ≡ conditional_kind parts.truth parts.first parts.second = same_choice (one_type k parts.condition) (one_type l parts.then_branch) (one_type m parts.else_branch) in
-      kind_refused (conditional_kind t u v) _ _ q (same ∙ parts.table) parts.fits
-  refused_untyped {x} {R} {i} (of_mapped {a = a} {b = b} {m = m} {p = p} e q) h =
-      let parts = mapped_typed (expression x i) (expression x a) (expression x b) m (pattern_of (placed_at x p)) (is_mapped (node_builds x i _ e)) h in refused_untyped q parts.part
-  refused_untyped {x} {R} {i} (no_argument {a = a} {b = b} {m = m} {p = p} {t = t} e k q) h =
-      let parts = mapped_typed (expression x i) (expression x a) (expression x b) m (pattern_of (placed_at x p)) (is_mapped (node_builds x i _ e)) h in
-      kind_refused (mapped_argument m t) _ _ q (ap (mapped_argument m) (one_type k parts.part) ∙ parts.takes) parts.small
-  refused_untyped {x} {R} {i} (mapped_part {a = a} {b = b} {m = m} {p = p} {t = t} {c = d} e k g f q) h =
-      let parts = mapped_typed (expression x i) (expression x a) (expression x b) m (pattern_of (placed_at x p)) (is_mapped (node_builds x i _ e)) h in
-      let argument : parts.argument ≡ d = same_Some _ _ (sym parts.takes ∙ ap (mapped_argument m) (sym (one_type k parts.part)) ∙ g) in
-      refused_takes_none q (function_takes f (subst (λ (t : Kind). Binds (pattern_of (placed_at x p)) t R parts.inner) argument parts.binds) parts.body)
-  refused_untyped {x} {R} {i} (no_mapping {a = a} {b = b} {m = m} {p = p} {t = t} {c = d} {u = u} e k g f n l q) h =
-      let parts = mapped_typed (expression x i) (expression x a) (expression x b) m (pattern_of (placed_at x p)) (is_mapped (node_builds x i _ e)) h in
-      let argument : parts.argument ≡ d = same_Some _ _ (sym parts.takes ∙ ap (mapped_argument m) (sym (one_type k parts.part)) ∙ g) in
-      let made = one_type l (subst (λ (S : Names). HasType S (expression x b) parts.made) (bound_once argument parts.binds n) parts.body) in
-      kind_refused (mapped_kind m t u) _ _ q (ap₂ (mapped_kind m) (one_type k parts.part) made ∙ parts.table) parts.fits
-  refused_untyped {x} {R} {i} (first_folded {a = a} {b = b} {c = c} {o = o} {p = p} e q) h =
-      let parts = folded_typed (expression x i) (expression x a) (expression x b) (expression x c) o (pattern_of (placed_at x p)) (is_folded (node_builds x i _ e)) h in refused_untyped q parts.left
-  refused_untyped {x} {R} {i} (second_folded {a = a} {b = b} {c = c} {o = o} {p = p} e k q) h =
-      let parts = folded_typed (expression x i) (expression x a) (expression x b) (expression x c) o (pattern_of (placed_at x p)) (is_folded (node_builds x i _ e)) h in refused_untyped q parts.right
-  refused_untyped {x} {R} {i} (no_folded_argument {a = a} {b = b} {c = c} {o = o} {p = p} {t = t} {u = u} e k l q) h =
-      let parts = folded_typed (expression x i) (expression x a) (expression x b) (expression x c) o (pattern_of (placed_at x p)) (is_folded (node_builds x i _ e)) h in
-      kind_refused (folded_argument o t u) _ _ q (same_argument o (one_type k parts.left) (one_type l parts.right) ∙ parts.takes) parts.small
-  refused_untyped {x} {R} {i} (folded_part {a = a} {b = b} {c = c} {o = o} {p = p} {d = d} e k l g f q) h =
-      let parts = folded_typed (expression x i) (expression x a) (expression x b) (expression x c) o (pattern_of (placed_at x p)) (is_folded (node_builds x i _ e)) h in
-      let argument : parts.argument ≡ d = same_Some _ _ (sym parts.takes ∙ same_argument o (sym (one_type k parts.left)) (sym (one_type l parts.right)) ∙ g) in
-      refused_takes_none q (function_takes f (subst (λ (t : Kind). Binds (pattern_of (placed_at x p)) t R parts.inner) argument parts.binds) parts.body)
-  refused_untyped {x} {R} {i} (no_folding {a = a} {b = b} {c = c} {o = o} {p = p} {t = t} {u = u} {d = d} {v = v} e k l g f n j q) h =
-      let parts = folded_typed (expression x i) (expression x a) (expression x b) (expression x c) o (pattern_of (placed_at x p)) (is_folded (node_builds x i _ e)) h in
-      let argument : parts.argument ≡ d = same_Some _ _ (sym parts.takes ∙ same_argument o (sym (one_type k parts.left)) (sym (one_type l parts.right)) ∙ g) in
-      let made = one_type j (subst (λ (S : Names). HasType S (expression x c) parts.made) (bound_once argument parts.binds n) parts.body) in
-      kind_refused (folded_kind o t u v) _ _ q (same_folded o (one_type k parts.left) (one_type l parts.right) made ∙ parts.table) parts.fits
-  refused_untyped {x} {R} {i} (called_part {a = a} {g = g} e q) h =
-      let parts = called_typed (expression x i) (expression x a) (name_at x g) (is_called (node_builds x i _ e)) h in refused_untyped q parts.part
-  refused_untyped {x} {R} {i} (no_call {a = a} {g = g} {t = t} e k q) h =
-      let parts = called_typed (expression x i) (expression x a) (name_at x g) (is_called (node_builds x i _ e)) h in
-      call_refused (types_named (name_at x g) (functions_of R)) t _ _ _ q (ap (call_kind _) (one_type k parts.part) ∙ parts.table) parts.fits
+pub pattern_once : {p : PlacedPattern} {t : Kind} {at : Spot} {r q : Breach} → PatternRefused p t at r → PatternRefused p t at q → r ≡ q
+pattern_once h k = let a = h.first (only_functions []) in let b = k.first (only_functions []) in cc
 
-  -- a function that is refused takes no value
-  pub refused_takes_none : {x : Exprs} {R : Names} {p : PlacedPattern} {i : ExprId} {a : Kind} {at : Spot} {r : Breach} {b : Kind} → PartRefused x R p i a at r → FunctionTakes R (function (pattern_of p) (expression x i)) a b → ⊥
-  refused_takes_none (by_pattern q) (function_takes fits binds h) = pattern_unbound q binds
-  refused_takes_none {x} {i = i} {b = b} (by_body binds q) (function_takes fits other h) = refused_untyped q (subst (λ (S : Names). HasType S (expression x i) b) (one_scope other.adds binds.adds) h)
+-- a pattern that fits a type adds names to any others
+adds_any : {p : Pattern} {t : Kind} {R S : Names} → AddsNames p t R S → (T : Names) → (U : Names) × AddsNames p t T U
+adds_any adds_nothing T = (T, adds_nothing)
+adds_any (adds_name {x = n} {t = t}) T = (typed_name n t T, adds_name)
+adds_any (adds_both a b) T =
+    let first = adds_any a T in
+    let second = adds_any b first.0 in
+    (second.0, adds_both first.1 second.1)
+
+-- what is refused is refused whatever names stand around
+pub refused_around : (at : Spot) (p : PlacedPattern) (t : Kind) (R : Names) (b : Breach) → binding_at at p t R ≡ Err b → PatternRefused p t at b
+unfolding binding_at
+refused_around at p t R b h = record { first = λ T. each T (seen_with [] p) (names_with (pattern_of p) t R) (names_with (pattern_of p) t T) refl refl h }
+  where
+    each : (T : Names) (seen : Result (List Name) Breach) (o q : Option Names) → names_with (pattern_of p) t R ≡ o → names_with (pattern_of p) t T ≡ q → (seen >>= λ ns. matching_at at o) ≡ Err b → (seen >>= λ ns. matching_at at q) ≡ Err b
+    each T (Err c) o q e f h = h
+    each T (Ok ns) None None e f h = h
+    each T (Ok ns) None (Some S) e f h = let other = adds_with (adds_any (with_adds (pattern_of p) t T S f) R).1 in absurd cc
+    each T (Ok ns) (Some S) q e f h = absurd cc
+
+-- the names that are added fit
+named_fit : (n : Name) (t : Kind) (R : Names) → Fits t → NamesFit R → NamesFit (typed_name n t R)
+named_fit n t R f fit y u = each (bytes_eq y n)
+  where
+    each : (b : Bool) → cond b (Some t) (type_of_name y R) ≡ Some u → Fits u
+    each true e = let is : t ≡ u = cc in subst (λ (t : Kind). Fits t) is f
+    each false e = fit y u e
+
+adds_fit : {p : Pattern} {t : Kind} {R S : Names} → AddsNames p t R S → Fits t → NamesFit R → NamesFit S
+adds_fit adds_nothing f fit = fit
+adds_fit (adds_name {x = n} {t = t} {R = R}) f fit = named_fit n t R f fit
+adds_fit (adds_both a b) f fit = adds_fit b (omega arith) (adds_fit a (omega arith) fit)
+
+-- a pattern is bound to a type, or refused
+abbrev pub IsBound : Names → PlacedPattern → Kind → Spot → Type 0
+IsBound R p t at = ((S : Names) × Binds (pattern_of p) t R S × NamesFit S) ⊎ ((r : Breach) × PatternRefused p t at r)
+
+pub bound_or : (R : Names) (p : PlacedPattern) (t : Kind) (at : Spot) → NamesFit R → Fits t → IsBound R p t at
+bound_or R p t at fit fits = each (binding_at at p t R) refl
+  where
+    each : (j : Result Names Breach) → binding_at at p t R ≡ j → IsBound R p t at
+    each (Ok S) e = let b = binding_binds at p t R S e in inl (S, b, adds_fit b.adds fits fit)
+    each (Err r) e = inr (r, refused_around at p t R r e)
+
+module _ (x : Exprs) (R : Names) (f : FunctionId) (at : Spot) (t u : Kind) where
+  pub function_typed : Fits t → function_judged x f at t R ≡ Ok u → FunctionTakes R (function_at x f) t u
+  unfolding function_judged
+  function_typed fits = each (binding_at at (pattern_at x f) t R) refl
+    where
+      each : (j : Result Names Breach) → binding_at at (pattern_at x f) t R ≡ j → (j >>= judged x (body_at x f)) ≡ Ok u → FunctionTakes R (function_at x f) t u
+      each (Ok S) e h = function_takes fits (binding_binds at (pattern_at x f) t R S e) (judged_typed x S (body_at x f) u h)
+      each (Err b) e h = absurd cc
+
+  pub takes_judged : FunctionTakes R (function_at x f) t u → function_judged x f at t R ≡ Ok u
+  unfolding function_judged
+  takes_judged (function_takes {S = S} fits binds h) = ap (λ j. j >>= judged x (body_at x f)) (binds_binding at (pattern_at x f) binds) ∙ typed_judged x S (body_at x f) u h
+
+pub refused_takes_none : {x : Exprs} {R : Names} {f : FunctionId} {a : Kind} {at : Spot} {r : Breach} {b : Kind} → FunctionRefused x R f a at r → FunctionTakes R (function_at x f) a b → ⊥
+refused_takes_none {x} {R} {f} {a} {at} {r} {b} h k = let is = takes_judged x R f at a b k in let no = h.first in absurd cc
+
+pub function_refused_once : {x : Exprs} {R : Names} {f : FunctionId} {a : Kind} {at : Spot} {r q : Breach} → FunctionRefused x R f a at r → FunctionRefused x R f a at q → r ≡ q
+function_refused_once h k = let a = h.first in let b = k.first in cc
+
+abbrev pub IsAnsweredFunction : Exprs → Names → FunctionId → Kind → Spot → Type 0
+IsAnsweredFunction x R f a at = ((b : Kind) × FunctionTakes R (function_at x f) a b) ⊎ ((r : Breach) × FunctionRefused x R f a at r)
+
+pub function_answered : (x : Exprs) (R : Names) (f : FunctionId) (a : Kind) (at : Spot) → Fits a → IsAnsweredFunction x R f a at
+function_answered x R f a at fits = each (function_judged x f at a R) refl
+  where
+    each : (j : Result Kind Breach) → function_judged x f at a R ≡ j → IsAnsweredFunction x R f a at
+    each (Ok b) e = inl (b, function_typed x R f at a b fits e)
+    each (Err r) e = inr (r, record { first = e })
+
+-- ## What is said of answers
+
+-- a refusal that stops is explained by what is found
+pub stops_so : {A : Type 0} {P : Breach → Type 0} (r : Refusal) (found : Result A Breach) → ((b : Breach) → found ≡ Err b → P b) → Stops r found → OrMemory P r
+stops_so (Broken b) found f h = because (f b h)
+stops_so Memory found f h = no_memory
+
+pub answers_judge : (x : Exprs) (R : Names) (i : ExprId) (r : Result Kind Refusal) → GivesFound r (judged x i R) → Judges x R i r
+answers_judge x R i (Ok t) h = judged_typed x R i t h
+answers_judge x R i (Err r) h = stops_so r (judged x i R) (λ b e. record { first = e }) h
 
 pub judged_types : (x : Exprs) (R : Names) (i : ExprId) (r : Result Kind Refusal) → Judges x R i r → Types R (expression x i) r
 judged_types x R i (Ok t) h = h
 judged_types x R i (Err r) h = or_memory (λ b k t l. refused_untyped k l) h
 
-on : (x : Exprs) (R : Names) (i : ExprId) (answer : Result Kind Refusal) (r : Refusal) → IsErrAnd answer (λ e. e ≡ r) → OrMemory (Refused x R i) r → Judges x R i answer
-on x R i (Ok t) r e h = absurd e
-on x R i (Err f) r e h = subst (λ (g : Refusal). OrMemory (Refused x R i) g) (sym e) h
+pub answers_types : (x : Exprs) (R : Names) (i : ExprId) (r : Result Kind Refusal) → GivesFound r (judged x i R) → Types R (expression x i) r
+answers_types x R i r h = judged_types x R i r (answers_judge x R i r h)
 
-pub first_judged : (x : Exprs) (R : Names) (i a b : ExprId) (answer : Result Kind Refusal) (r : Refusal) → node_at x i ≡ nodes.Pair a b → IsErrAnd answer (λ e. e ≡ r) → Judges x R a (Err r) → Judges x R i answer
-first_judged x R i a b answer r e q h = on x R i answer r q (or_memory (λ s k. first_part e k) h)
+pub answers_function : (x : Exprs) (f : FunctionId) (at : Spot) (t : Kind) (R : Names) {p : PlacedPattern} {i : ExprId} (r : Result Kind Refusal) → p ≡ pattern_at x f → i ≡ body_at x f → GivesFound r (bound_judged at p t (judged x i) R) → GivesFound r (function_judged x f at t R)
+unfolding function_judged
+answers_function x f at t R r e g h = answers_same r (sym (ap₂ (λ (p : PlacedPattern) (i : ExprId). bound_judged at p t (judged x i) R) e g)) h
 
-pub second_judged : (x : Exprs) (R : Names) (i a b : ExprId) (t : Kind) (answer : Result Kind Refusal) (r : Refusal) → node_at x i ≡ nodes.Pair a b → HasType R (expression x a) t → IsErrAnd answer (λ e. e ≡ r) → Judges x R b (Err r) → Judges x R i answer
-second_judged x R i a b t answer r e typed q h = on x R i answer r q (or_memory (λ s k. second_part e typed k) h)
+pub answers_judge_function : (x : Exprs) (R : Names) (f : FunctionId) (a : Kind) (at : Spot) (r : Result Kind Refusal) → OnOk r (Fits a) → GivesFound r (function_judged x f at a R) → JudgesFunction x R f a at r
+answers_judge_function x R f a at (Ok b) fits h = function_typed x R f at a b fits h
+answers_judge_function x R f a at (Err r) fits h = stops_so r (function_judged x f at a R) (λ b e. record { first = e }) h
 
-pub left_judged : (x : Exprs) (R : Names) (i a b : ExprId) (op : Operator) (answer : Result Kind Refusal) (r : Refusal) → node_at x i ≡ nodes.Operation a op b → IsErrAnd answer (λ e. e ≡ r) → Judges x R a (Err r) → Judges x R i answer
-left_judged x R i a b op answer r e q h = on x R i answer r q (or_memory (λ s k. left_operand e k) h)
-
-pub right_judged : (x : Exprs) (R : Names) (i a b : ExprId) (op : Operator) (t : Kind) (answer : Result Kind Refusal) (r : Refusal) → node_at x i ≡ nodes.Operation a op b → HasType R (expression x a) t → IsErrAnd answer (λ e. e ≡ r) → Judges x R b (Err r) → Judges x R i answer
-right_judged x R i a b op t answer r e typed q h = on x R i answer r q (or_memory (λ s k. right_operand e typed k) h)
-
--- the types of the forms of nodes
-pub literal_has_type : (x : Exprs) (R : Names) (i : ExprId) (l : Literal) → expression x i ≡ literal l → IsTrue (is_valued l) → Fits (literal_kind l) → HasType R (expression x i) (literal_kind l)
-literal_has_type x R i l e h f = subst (λ (e : Expression). HasType R e (literal_kind l)) (sym e) (literal_has (valued_has l h) f)
+pub judged_types_function : (x : Exprs) (R : Names) (f : FunctionId) (a : Kind) (at : Spot) (r : Result Kind Refusal) → JudgesFunction x R f a at r → TypesFunction R (function_at x f) a r
+judged_types_function x R f a at (Ok b) h = h
+judged_types_function x R f a at (Err r) h = or_memory (λ b k t l. refused_takes_none k l) h
 
 -- a type of pairs, as it is answered
 pub answers_pair : (t u : Kind) (s : Spot) (r : Result Kind Refusal) → AnswersKind (Some (pair_kind t u)) s r → AnswersPair t u s r
 answers_pair t u s (Ok w) h = (same_Some _ _ (sym h.0), h.1)
 answers_pair t u s (Err r) h = h
 
-pub unit_typed : (x : Exprs) (R : Names) (i : ExprId) → Builds x nodes.Unit (expression x i) → HasType R (expression x i) unit_kind
-unit_typed x R i b = literal_has_type x R i unit_literal (is_unit b) refl (omega arith)
+pub pair_answers : (t u : Kind) (s : Spot) (r : Result Kind Refusal) → AnswersPair t u s r → GivesFound r (fitting_at s (Some (pair_kind t u)))
+pair_answers t u s (Ok w) h = kind_answers (Some (pair_kind t u)) s (Ok w) (ap Some (sym h.0), h.1)
+pair_answers t u s (Err r) h = kind_answers (Some (pair_kind t u)) s (Err r) h
 
-pub truth_typed : (x : Exprs) (R : Names) (i : ExprId) (t : _) → Builds x (nodes.Truth t) (expression x i) → HasType R (expression x i) bool_kind
-truth_typed x R i t b = literal_has_type x R i (truth_literal t) (is_truth b) refl (omega arith)
+-- ## Patterns of code
 
-pub constant_judged : (x : Exprs) (R : Names) (i : ExprId) (n : ConstantId) (l : Literal) (s : Spot) (r : Result Kind Refusal) → node_at x i ≡ nodes.Constant n → l ≡ literal_at x n → IsTrue (is_valued l) → s ≡ spot_at x i → AnswersKind (Some (literal_kind l)) s r → Judges x R i r
-constant_judged x R i n l s (Ok t) e is h at answer =
-    let same : t ≡ literal_kind l = same_Some _ _ (sym answer.0) in
-    let fits : Fits (literal_kind l) = subst (λ (v : Kind). Fits v) same answer.1 in
-    subst (λ (v : Kind). HasType R (expression x i) v) (sym same) (literal_has_type x R i l (is_constant (node_builds x i _ e) ∙ ap literal (sym is)) h fits)
-constant_judged x R i n l s (Err r) e is h at answer =
-    or_memory (λ c q. subst (λ (c : Breach). Refused x R i c) (sym (q.0 ∙ ap (breach_of TypeTooLarge) at)) (literal_too_large e (omega (arith, ap (λ (l : Literal). nodes_of (literal_kind l)) is, q.1)))) answer
+-- a pattern that is refused, by its names or by the type
+pub names_refuse : (p : PlacedPattern) (t : Kind) (at : Spot) (r : Refusal) → Stops r (seen_with [] p) → OrMemory (PatternRefused p t at) r
+unfolding binding_at
+names_refuse p t at r h = stops_so r (seen_with [] p) (λ b e. record { first = λ R. ap (λ j. j >>= λ ns. matching_at at (names_with (pattern_of p) t R)) e }) h
 
-pub int_typed : (x : Exprs) (R : Names) (i : ExprId) (z : ℤ) → Builds x (nodes.Int z) (expression x i) → IsTrue (is_narrow z) → HasType R (expression x i) int_kind
-int_typed x R i z b h = literal_has_type x R i (int_literal z) (is_int b) h (omega arith)
+pub seen_differ : (p : PlacedPattern) {ns : List Name} → seen_with [] p ≡ Ok ns → AllDifferent (names_in (pattern_of p))
+seen_differ p e = elim (apart_seen [] p tt) [ inl h ↦ h.1 | inr h ↦ let no = h.1 in absurd cc ]
 
-pub name_typed : (x : Exprs) (R : Names) (i : ExprId) (n : NameId) (t : Kind) → Builds x (nodes.Name n) (expression x i) → type_of_name (name_at x n) R ≡ Some t → Fits t → HasType R (expression x i) t
-name_typed x R i n t b e f = subst (λ (e : Expression). HasType R e t) (sym (is_name b)) (variable_has e f)
-
-pub name_judged : (x : Exprs) (R : Names) (i : ExprId) (n : NameId) (s : Spot) (r : Result Kind Refusal) → node_at x i ≡ nodes.Name n → s ≡ spot_at x i → AnswersName (named_in (name_at x n) R) s r → Judges x R i r
-name_judged x R i n s (Ok t) e at answer = name_typed x R i n t (node_builds x i _ e) (type_named (name_at x n) R ∙ ap type_meant answer.0) answer.1
-name_judged x R i n s (Err r) e at answer = or_memory (λ b q. no_variable e (subst (λ (s : Spot). NameRefused (named_in (name_at x n) R) s b) at q)) answer
-
-pub pair_has_type : (x : Exprs) (R : Names) (i a b : ExprId) (t u : Kind) → Builds x (nodes.Pair a b) (expression x i) → HasType R (expression x a) t → HasType R (expression x b) u → Fits (pair_kind t u) → HasType R (expression x i) (pair_kind t u)
-pair_has_type x R i a b t u q h k f = subst (λ (e : Expression). HasType R e (pair_kind t u)) (sym (is_pair q)) (pair_has h k f)
-
-pub pair_judged : (x : Exprs) (R : Names) (i a b : ExprId) (t u : Kind) (s : Spot) (r : Result Kind Refusal) → node_at x i ≡ nodes.Pair a b → HasType R (expression x a) t → HasType R (expression x b) u → s ≡ spot_at x i → AnswersPair t u s r → Judges x R i r
-pair_judged x R i a b t u s (Ok w) e h k at answer =
-    let fits : Fits (pair_kind t u) = subst (λ (v : Kind). Fits v) answer.0 answer.1 in
-    subst (λ (v : Kind). HasType R (expression x i) v) (sym answer.0) (pair_has_type x R i a b t u (node_builds x i _ e) h k fits)
-pair_judged x R i a b t u s (Err r) e h k at answer = or_memory (λ c q. subst (λ (c : Breach). Refused x R i c) (sym (q.0 ∙ ap (breach_of TypeTooLarge) at)) (pair_too_large e h k q.1)) answer
-
-pub operation_has_type : (x : Exprs) (R : Names) (i a b : ExprId) (op : Operator) {t u v : Kind} → Builds x (nodes.Operation a op b) (expression x i) → HasType R (expression x a) t → HasType R (expression x b) u → binary_kind op t u ≡ Some v → Fits v → HasType R (expression x i) v
-operation_has_type x R i a b op {v = v} q h k e f = subst (λ (e : Expression). HasType R e v) (sym (is_operation q)) (operation_has h k e f)
-
-pub applied_has_type : (x : Exprs) (R : Names) (i a : ExprId) (o : Unary) {t v : Kind} → Builds x (nodes.Applied o a) (expression x i) → HasType R (expression x a) t → unary_kind o t ≡ Some v → Fits v → HasType R (expression x i) v
-applied_has_type x R i a o {v = v} q h e f = subst (λ (e : Expression). HasType R e v) (sym (is_applied q)) (applied_has h e f)
-
-pub conditional_has_type : (x : Exprs) (R : Names) (i a b c : ExprId) {t u v w : Kind} → Builds x (nodes.Conditional a b c) (expression x i) → HasType R (expression x a) t → HasType R (expression x b) u → HasType R (expression x c) v → conditional_kind t u v ≡ Some w → Fits w → HasType R (expression x i) w
-conditional_has_type x R i a b c {w = w} q h k l e f = subst (λ (e : Expression). HasType R e w) (sym (is_conditional q)) (conditional_has h k l e f)
-
-pub conditional_judged : (x : Exprs) (R : Names) (i a b c : ExprId) (t u v : Kind) (s : Spot) (r : Result Kind Refusal) → node_at x i ≡ nodes.Conditional a b c → HasType R (expression x a) t → HasType R (expression x b) u → HasType R (expression x c) v → s ≡ spot_at x i → AnswersKind (conditional_kind t u v) s r → Judges x R i r
-conditional_judged x R i a b c t u v s (Ok w) e h k l at answer = conditional_has_type x R i a b c (node_builds x i _ e) h k l answer.0 answer.1
-conditional_judged x R i a b c t u v s (Err r) e h k l at answer = or_memory (λ d q. no_choice e h k l (subst (λ (s : Spot). KindRefused (conditional_kind t u v) s d) at q)) answer
-
-pub condition_judged : (x : Exprs) (R : Names) (i a b c : ExprId) (answer : Result Kind Refusal) (r : Refusal) → node_at x i ≡ nodes.Conditional a b c → IsErrAnd answer (λ e. e ≡ r) → Judges x R a (Err r) → Judges x R i answer
-condition_judged x R i a b c answer r e q h = on x R i answer r q (or_memory (λ s k. condition e k) h)
-
-pub then_judged : (x : Exprs) (R : Names) (i a b c : ExprId) (t : Kind) (answer : Result Kind Refusal) (r : Refusal) → node_at x i ≡ nodes.Conditional a b c → HasType R (expression x a) t → IsErrAnd answer (λ e. e ≡ r) → Judges x R b (Err r) → Judges x R i answer
-then_judged x R i a b c t answer r e typed q h = on x R i answer r q (or_memory (λ s k. then_branch e typed k) h)
-
-pub else_judged : (x : Exprs) (R : Names) (i a b c : ExprId) (t u : Kind) (answer : Result Kind Refusal) (r : Refusal) → node_at x i ≡ nodes.Conditional a b c → HasType R (expression x a) t → HasType R (expression x b) u → IsErrAnd answer (λ e. e ≡ r) → Judges x R c (Err r) → Judges x R i answer
-else_judged x R i a b c t u answer r e typed second q h = on x R i answer r q (or_memory (λ s k. else_branch e typed second k) h)
-
-pub operation_judged : (x : Exprs) (R : Names) (i a b : ExprId) (op : Operator) (t u : Kind) (s : Spot) (r : Result Kind Refusal) → node_at x i ≡ nodes.Operation a op b → HasType R (expression x a) t → HasType R (expression x b) u → s ≡ spot_at x i → AnswersKind (binary_kind op t u) s r → Judges x R i r
-operation_judged x R i a b op t u s (Ok v) e h k at answer = operation_has_type x R i a b op (node_builds x i _ e) h k answer.0 answer.1
-operation_judged x R i a b op t u s (Err r) e h k at answer = or_memory (λ c q. no_operation e h k (subst (λ (s : Spot). KindRefused (binary_kind op t u) s c) at q)) answer
-
-pub applied_judged : (x : Exprs) (R : Names) (i a : ExprId) (o : Unary) (t : Kind) (s : Spot) (r : Result Kind Refusal) → node_at x i ≡ nodes.Applied o a → HasType R (expression x a) t → s ≡ spot_at x i → AnswersKind (unary_kind o t) s r → Judges x R i r
-applied_judged x R i a o t s (Ok v) e h at answer = applied_has_type x R i a o (node_builds x i _ e) h answer.0 answer.1
-applied_judged x R i a o t s (Err r) e h at answer = or_memory (λ c q. no_application e h (subst (λ (s : Spot). KindRefused (unary_kind o t) s c) at q)) answer
-
-pub part_judged : (x : Exprs) (R : Names) (i a : ExprId) (o : Unary) (answer : Result Kind Refusal) (r : Refusal) → node_at x i ≡ nodes.Applied o a → IsErrAnd answer (λ e. e ≡ r) → Judges x R a (Err r) → Judges x R i answer
-part_judged x R i a o answer r e q h = on x R i answer r q (or_memory (λ s k. operand e k) h)
-
--- ## Calls
-
-module _ (x : Exprs) (R : Names) (i a : ExprId) (g : NameId) (s : Spot) (e : node_at x i ≡ nodes.Called g s a) where
-  pub called_part_judged : (answer : Result Kind Refusal) (r : Refusal) → IsErrAnd answer (λ e. e ≡ r) → Judges x R a (Err r) → Judges x R i answer
-  called_part_judged answer r q h = on x R i answer r q (or_memory (λ s k. called_part e k) h)
-
-  pub called_judged : {t : Kind} (at : Spot) (r : Result Kind Refusal) → HasType R (expression x a) t → at ≡ spot_at x i → AnswersCall (types_named (name_at x g) (functions_of R)) t s at r → Judges x R i r
-  called_judged at (Ok v) typed is answer = subst (λ (e : Expression). HasType R e v) (sym (is_called (node_builds x i _ e))) (called_has typed answer.0 answer.1)
-  called_judged {t} at (Err r) typed is answer = or_memory (λ d q. no_call e typed (subst (λ (at : Spot). CallRefused (types_named (name_at x g) (functions_of R)) t s at d) is q)) answer
-
--- ## Forms with a function
-
--- what is bound by a pattern, and what is refused of a part, where the pattern and the place are these
-binds_there : {p q : PlacedPattern} {t : Kind} {R S : Names} → q ≡ p → Binds (pattern_of q) t R S → Binds (pattern_of p) t R S
-binds_there {t = t} {R} {S} is n = subst (λ (q : PlacedPattern). Binds (pattern_of q) t R S) is n
-
-part_there : {x : Exprs} {R : Names} {p q : PlacedPattern} {i : ExprId} {t : Kind} {s at : Spot} {r : Breach} → q ≡ p → s ≡ at → PartRefused x R q i t s r → PartRefused x R p i t at r
-part_there {x} {R} {p} {i = i} {t} {s} {r = r} is same h = subst (λ (s : Spot). PartRefused x R p i t s r) same (subst (λ (q : PlacedPattern). PartRefused x R q i t s r) is h)
-
-module _ (x : Exprs) (R : Names) (i a b : ExprId) (m : Mapping) (p : PatternId) (e : node_at x i ≡ nodes.Mapped a m p b) where
-  pub mapped_first_judged : (answer : Result Kind Refusal) (r : Refusal) → IsErrAnd answer (λ e. e ≡ r) → Judges x R a (Err r) → Judges x R i answer
-  mapped_first_judged answer r q h = on x R i answer r q (or_memory (λ s k. of_mapped e k) h)
-
-  pub mapped_argument_judged : {t : Kind} (s : Spot) (answer : Result Kind Refusal) (r : Refusal) → HasType R (expression x a) t → s ≡ spot_at x i → IsErrAnd answer (λ e. e ≡ r) → AnswersKind (mapped_argument m t) s (Err r) → Judges x R i answer
-  mapped_argument_judged {t} s answer r typed at q h = on x R i answer r q (or_memory (λ d k. no_argument e typed (subst (λ (s : Spot). KindRefused (mapped_argument m t) s d) at k)) h)
-
-  module _ {q : PlacedPattern} (is : q ≡ placed_at x p) (s : Spot) (at : s ≡ spot_at x i) {t c : Kind} (typed : HasType R (expression x a) t) (g : (mapped_argument m t ≡ Some c) × Fits c) where
-    pub mapped_part_judged : (answer : Result Kind Refusal) (r : Refusal) → IsErrAnd answer (λ e. e ≡ r) → JudgesPart x R q b c s (Err r) → Judges x R i answer
-    mapped_part_judged answer r k h = on x R i answer r k (or_memory (λ d k. mapped_part e typed g.0 g.1 (part_there is at k)) h)
-
-    pub mapped_judged : {u : Kind} (r : Result Kind Refusal) → FunctionTakes R (function (pattern_of q) (expression x b)) c u → AnswersKind (mapped_kind m t u) s r → Judges x R i r
-    mapped_judged (Ok v) (function_takes f n k) answer = subst (λ (e : Expression). HasType R e v) (sym (is_mapped (node_builds x i _ e))) (mapped_has typed g.0 f (binds_there is n) k answer.0 answer.1)
-    mapped_judged {u = u} (Err r) (function_takes f n k) answer = or_memory (λ d l. no_mapping e typed g.0 f (binds_there is n) k (subst (λ (s : Spot). KindRefused (mapped_kind m t u) s d) at l)) answer
-
-module _ (x : Exprs) (R : Names) (i a b c : ExprId) (o : Folding) (p : PatternId) (e : node_at x i ≡ nodes.Folded a o b p c) where
-  pub folded_first_judged : (answer : Result Kind Refusal) (r : Refusal) → IsErrAnd answer (λ e. e ≡ r) → Judges x R a (Err r) → Judges x R i answer
-  folded_first_judged answer r q h = on x R i answer r q (or_memory (λ s k. first_folded e k) h)
-
-  pub folded_second_judged : {t : Kind} (answer : Result Kind Refusal) (r : Refusal) → HasType R (expression x a) t → IsErrAnd answer (λ e. e ≡ r) → Judges x R b (Err r) → Judges x R i answer
-  folded_second_judged answer r typed q h = on x R i answer r q (or_memory (λ s k. second_folded e typed k) h)
-
-  module _ {t u : Kind} (left : HasType R (expression x a) t) (right : HasType R (expression x b) u) (s : Spot) (at : s ≡ spot_at x i) where
-    pub folded_argument_judged : (answer : Result Kind Refusal) (r : Refusal) → IsErrAnd answer (λ e. e ≡ r) → AnswersKind (folded_argument o t u) s (Err r) → Judges x R i answer
-    folded_argument_judged answer r q h = on x R i answer r q (or_memory (λ d k. no_folded_argument e left right (subst (λ (s : Spot). KindRefused (folded_argument o t u) s d) at k)) h)
-
-    module _ {q : PlacedPattern} (is : q ≡ placed_at x p) {d : Kind} (g : (folded_argument o t u ≡ Some d) × Fits d) where
-      pub folded_part_judged : (answer : Result Kind Refusal) (r : Refusal) → IsErrAnd answer (λ e. e ≡ r) → JudgesPart x R q c d s (Err r) → Judges x R i answer
-      folded_part_judged answer r k h = on x R i answer r k (or_memory (λ b k. folded_part e left right g.0 g.1 (part_there is at k)) h)
-
-      pub folded_judged : {v : Kind} (r : Result Kind Refusal) → FunctionTakes R (function (pattern_of q) (expression x c)) d v → AnswersKind (folded_kind o t u v) s r → Judges x R i r
-      folded_judged (Ok w) (function_takes f n k) answer = subst (λ (e : Expression). HasType R e w) (sym (is_folded (node_builds x i _ e))) (folded_has left right g.0 f (binds_there is n) k answer.0 answer.1)
-      folded_judged {v = v} (Err r) (function_takes f n k) answer = or_memory (λ b l. no_folding e left right g.0 f (binds_there is n) k (subst (λ (s : Spot). KindRefused (folded_kind o t u v) s b) at l)) answer
-
--- what is refused of a pattern
-pub repeats_refused : {p : PlacedPattern} {t : Kind} {at : Spot} {r : Refusal} → OrMemory (RepeatRefused [] p) r → OrMemory (PatternRefused p t at) r
-repeats_refused {p} {t} {at} h = or_memory (λ b k. subst (λ rule. PatternRefused p t at (breach_of rule b.spot)) (sym k.0) (repeats k.1)) h
-
-pub bind_refused : {p : PlacedPattern} {t : Kind} {at : Spot} {r : Refusal} → AllDifferent (names_in (pattern_of p)) → OrMemory (BindRefused (pattern_of p) t at) r → OrMemory (PatternRefused p t at) r
-bind_refused {p} {t} {at} apart h = or_memory (λ b k. subst (λ (b : Breach). PatternRefused p t at b) (sym k.0) (fits_not apart k.1)) h
-
--- ... and of the expression that it binds names for
-module _ (x : Exprs) (R : Names) (p : PlacedPattern) (i : ExprId) (t : Kind) (at : Spot) where
-  pub pattern_judged : (answer : Result Kind Refusal) (r : Refusal) → IsErrAnd answer (λ e. e ≡ r) → OrMemory (PatternRefused p t at) r → JudgesPart x R p i t at answer
-  pattern_judged (Ok u) r e h = absurd e
-  pattern_judged (Err g) r e h = subst (λ (k : Refusal). OrMemory (PartRefused x R p i t at) k) (sym e) (or_memory (λ b k. by_pattern k) h)
-
-  pub part_body_judged : (S : Names) (r : Result Kind Refusal) → Binds (pattern_of p) t R S → Fits t → Judges x S i r → JudgesPart x R p i t at r
-  part_body_judged S (Ok u) n f h = function_takes f n h
-  part_body_judged S (Err r) n f h = or_memory (λ b k. by_body n k) h
-
-pub memory_judged : (x : Exprs) (R : Names) (i : ExprId) (answer : Result Kind Refusal) → IsErrAnd answer (λ e. e ≡ Memory) → Judges x R i answer
-memory_judged x R i (Ok t) e = absurd e
-memory_judged x R i (Err r) e = subst (λ (r : Refusal). OrMemory (Refused x R i) r) (sym e) no_memory
-
-pub judged_types_part : (x : Exprs) (R : Names) (p : PlacedPattern) (i : ExprId) (a : Kind) (at : Spot) (r : Result Kind Refusal) → JudgesPart x R p i a at r → TypesFunction R (function (pattern_of p) (expression x i)) a r
-judged_types_part x R p i a at (Ok t) h = h
-judged_types_part x R p i a at (Err r) h = or_memory (λ b k t l. refused_takes_none k l) h
+pub type_refuses : (p : PlacedPattern) (t : Kind) (at : Spot) {r : Refusal} {ns : List Name} → seen_with [] p ≡ Ok ns → OrMemory (BindRefused (pattern_of p) t at) r → OrMemory (PatternRefused p t at) r
+unfolding binding_at
+type_refuses p t at seen = or_memory (λ b k. record { first = λ R. ap (λ j. j >>= λ ns. matching_at at (names_with (pattern_of p) t R)) seen ∙ each R (names_with (pattern_of p) t R) refl k })
+  where
+    each : (R : Names) {b : Breach} (o : Option Names) → names_with (pattern_of p) t R ≡ o → BindRefused (pattern_of p) t at b → matching_at at o ≡ Err b
+    each R None e k = ap Err (sym k.0)
+    each R (Some S) e k = absurd (k.1 R S (with_adds (pattern_of p) t R S e))

@@ -5,9 +5,6 @@ pub mod Bound
 pub mod Entered
 pub mod Typed
 pub mod Apart
-pub mod Called
 pub mod Naming
 pub mod Judged
 pub mod Inferred
-pub mod Answered
-pub mod Once

@@ -12,6 +12,7 @@ pub mod Meanings
 pub mod Scopes
 pub mod Entries
 pub mod Arena
+pub mod Judging
 pub mod Refusals
 pub mod Laws
 pub mod Inference

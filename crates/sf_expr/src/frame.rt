@@ -1,12 +1,13 @@
 //! Names that are put around an expression together.
-ghost use Rattle.std.specs.Prelude.{◌≡◌, ◌∷◌, ◌++◌, [], true, false, IfOk, OnOk, IfErr, IfSome, IfNone, Some, None, Contains, bytes_eq};
+ghost use Rattle.std.specs.Prelude.{◌≡◌, ◌∷◌, ◌++◌, [], true, not, IfOk, OnOk, IfErr, IfSome, IfNone, Some, None, Ok, bytes_eq};
 ghost use Rattle.std.specs.HashMap.{get_by};
 ghost use Rattle.sf_value.specs.Values.{Name};
 ghost use Rattle.sf_refusal.specs.Refusals.{OrMemory};
-ghost use Rattle.sf_expr.specs.Expressions.{names_in};
 ghost use Rattle.sf_expr.specs.Patterns.{pattern_of};
-ghost use Rattle.sf_expr.specs.Typing.{Fits, AddsNames, Binds, AllDifferent, only_functions};
-ghost use Rattle.sf_expr.specs.Refusals.{BindRefused, RepeatRefused, PatternRefused};
+ghost use Rattle.sf_expr.specs.Typing.{Fits, AddsNames, Binds, only_functions};
+ghost use Rattle.sf_expr.specs.Inference.{is_among};
+ghost use Rattle.sf_expr.specs.Judging.{seen_with, Stops};
+ghost use Rattle.sf_expr.specs.Refusals.{BindRefused, PatternRefused};
 ghost use Rattle.sf_expr.specs.Meanings.{of_value, of_process, meant, found_in, names_from, names_seen, last_place};
 
 use crate::meaning::{Meaning, Named};
@@ -127,8 +128,7 @@ impl<'a> Frame<'a> {
 
 /// Puts a name behind those that were seen, if it is none of them, and answers whether it is none.
 fn note<'a>(seen: &mut IndexSet<&'a str>, name: &'a str) -> Result<bool, AllocError>
-    ensures stood { IfOk result (λ new. new ≡ false → Contains (names_seen seen.old.keys) name.now) }
-    ensures new { IfOk result (λ new. new ≡ true → ¬ Contains (names_seen seen.old.keys) name.now) }
+    ensures new { IfOk result (λ new. new ≡ not (is_among name.now (names_seen seen.old.keys))) }
     ensures put { IfOk result (λ new. new ≡ true → names_seen seen.new.keys ≡ names_seen seen.old.keys ++ name.now ∷ []) }
 {
     Ok(seen.insert(name)?)
@@ -137,10 +137,8 @@ fn note<'a>(seen: &mut IndexSet<&'a str>, name: &'a str) -> Result<bool, AllocEr
 /// Puts the names of a pattern behind those that were seen. Refused with `DuplicateName` at the first name that was seen
 /// before, and with `Memory`; only some of the names may be there then.
 fn see<'a>(pattern: &'a Pat, seen: &mut IndexSet<&'a str>) -> Result<(), Refusal>
-    requires { AllDifferent (names_seen seen.old.keys) }
-    ensures seen { OnOk result (names_seen seen.new.keys ≡ names_seen seen.old.keys ++ names_in (pattern_of pattern.now)) }
-    ensures apart { OnOk result (AllDifferent (names_seen seen.new.keys)) }
-    ensures err { IfErr result (OrMemory (RepeatRefused (names_seen seen.old.keys) pattern.now)) }
+    ensures ok { OnOk result (seen_with (names_seen seen.old.keys) pattern.now ≡ Ok (names_seen seen.new.keys)) }
+    ensures err { IfErr result (λ r. Stops r (seen_with (names_seen seen.old.keys) pattern.now)) }
 {
     match pattern.form() {
         PatForm::Unnamed => Ok(()),

@@ -1,5 +1,5 @@
 //! What holds of expressions.
-ghost use Rattle.std.specs.Prelude.{◌≡◌, ◌↔◌, ◌⊎◌, Some};
+ghost use Rattle.std.specs.Prelude.{◌≡◌, ◌↔◌, ◌⊎◌, Some, Ok};
 ghost use Rattle.sf_value.specs.Values.{Kind};
 ghost use Rattle.sf_expr.specs.declared.exprs.Exprs.{Exprs};
 ghost use Rattle.sf_expr.specs.declared.exprs.ExprId.{ExprId};
@@ -7,9 +7,10 @@ ghost use Rattle.sf_expr.specs.declared.exprs.FunctionId.{FunctionId};
 ghost use Rattle.sf_refusal.specs.declared.spot.Spot.{Spot};
 ghost use Rattle.sf_refusal.specs.declared.refusal.Breach.{Breach};
 ghost use Rattle.sf_expr.specs.Expressions.{Expression, Function};
-ghost use Rattle.sf_expr.specs.Arena.{expression, function_at};
+ghost use Rattle.sf_expr.specs.Arena.{expression, function_at, spot_at, node_at};
 ghost use Rattle.sf_expr.specs.Typing.{Names, Fits, HasType, FunctionTakes};
-ghost use Rattle.sf_expr.specs.Inference.{expression_type, function_output, NamesFit};
+ghost use Rattle.sf_expr.specs.Inference.{expression_type, function_output};
+ghost use Rattle.sf_expr.specs.Judging.{form_judged, judged, function_judged};
 ghost use Rattle.sf_expr.specs.Refusals.{Refused, FunctionRefused};
 ghost use Rattle.sf_expr.specs.Laws.{EachExpressionYields, EachFunctionYields};
 ghost use Rattle.sf_expr.specs.Laws.{EachExpressionRefusedOnce, EachFunctionRefusedOnce};
@@ -28,12 +29,20 @@ pub fn found_type()
     ensures functions { (R : Names) (f : Function) (a b : Kind) → FunctionTakes R f a b ↔ (function_output R f a ≡ Some b) }
 {}
 
-/// Each expression has a type or is refused, where the types of names have at most 256 nodes; so has each function, for
-/// values of a type of at most 256 nodes.
+/// What is judged of an expression is what the equation of its form says of its parts. It is judged to have the type that it
+/// has; so is a function, for values of a type of at most 256 nodes.
+pub fn judged_type()
+    ensures forms { (x : Exprs) (i : ExprId) → judged x i ≡ form_judged x (judged x) (spot_at x i) (node_at x i) }
+    ensures expressions { (x : Exprs) (R : Names) (i : ExprId) (t : Kind) → HasType R (expression x i) t ↔ (judged x i R ≡ Ok t) }
+    ensures functions { (x : Exprs) (R : Names) (f : FunctionId) (at : Spot) (a b : Kind) → Fits a →
+        FunctionTakes R (function_at x f) a b ↔ (function_judged x f at a R ≡ Ok b) }
+{}
+
+/// Each expression has a type or is refused; so has each function, for values of a type of at most 256 nodes.
 pub fn some_type()
-    ensures expressions { (x : Exprs) (R : Names) (i : ExprId) → NamesFit R →
+    ensures expressions { (x : Exprs) (R : Names) (i : ExprId) →
         ((t : Kind) × HasType R (expression x i) t) ⊎ ((r : Breach) × Refused x R i r) }
-    ensures functions { (x : Exprs) (R : Names) (f : FunctionId) (a : Kind) (at : Spot) → NamesFit R → Fits a →
+    ensures functions { (x : Exprs) (R : Names) (f : FunctionId) (a : Kind) (at : Spot) → Fits a →
         ((b : Kind) × FunctionTakes R (function_at x f) a b) ⊎ ((r : Breach) × FunctionRefused x R f a at r) }
 {}
 

@@ -1,13 +1,12 @@
 //! The types of expressions.
-ghost use Rattle.std.specs.Prelude.{◌≡◌, ◌++◌, IsTrue, Some, None};
-ghost use Rattle.sf_expr.specs.Typing.{named_in, with_types, literal_kind};
-ghost use Rattle.sf_expr.specs.Inference.{is_valued};
-ghost use Rattle.sf_expr.specs.Arena.{expression, function_at, node_at, id_number, PartsBelow};
+ghost use Rattle.std.specs.Prelude.{◌++◌, OnOk, Some};
+ghost use Rattle.sf_expr.specs.Typing.{Fits, named_in, with_types, literal_kind};
+ghost use Rattle.sf_expr.specs.Arena.{expression, function_at, spot_at, id_number, PartsBelow};
 ghost use Rattle.sf_expr.specs.declared.exprs.ExprNode.TheVariants.{Conditional, Mapped, Folded};
 ghost use Rattle.sf_expr.specs.Meanings.{names_from};
 ghost use Rattle.sf_expr.specs.Scopes.{names_of, entries_in, entries_around};
-ghost use Rattle.sf_expr.specs.Refusals.{Types, TypesFunction, Judges, JudgesFunction, AnswersPair, AnswersCall, AnswersName, JudgesPart};
-ghost use Rattle.sf_operator.specs.Breaches.{AnswersKind};
+ghost use Rattle.sf_expr.specs.Judging.{fitting_at, naming_at, calling_at, bound_judged, form_judged, judged, function_judged, GivesFound};
+ghost use Rattle.sf_expr.specs.Refusals.{Types, TypesFunction, Judges, JudgesFunction, AnswersPair};
 ghost use Rattle.sf_func.specs.Registries.{types_named};
 ghost use Rattle.sf_func.specs.Signatures.{signatures_in};
 
@@ -36,8 +35,7 @@ pub fn pair_type(alloc: Global, first: Ty, second: Ty, at: Spot) -> Result<Ty, R
 
 /// The type of a constant; refused with `TypeTooLarge` at `at` where it would be made of more than 256 types.
 fn constant_type(alloc: Global, constant: &Constant, at: Spot) -> Result<Ty, Refusal>
-    ensures answers { AnswersKind (Some (literal_kind constant.now)) at result }
-    ensures valued { IsTrue (is_valued constant.now) }
+    ensures { GivesFound result (fitting_at at (Some (literal_kind constant.now))) }
 {
     match constant.form() {
         ConstantForm::Text(_) => Ok(Ty::text()),
@@ -55,7 +53,7 @@ fn call_type(
     place: Spot,
     at: Spot,
 ) -> Result<Ty, Refusal>
-    ensures { AnswersCall (types_named name.now (signatures_in functions.now)) part.now place at result }
+    ensures { GivesFound result (calling_at place at (types_named name.now (signatures_in functions.now)) part.now) }
 {
     match functions.find(name) {
         Some(types) => called_type(alloc, types.from(), types.to(), part, at),
@@ -66,7 +64,7 @@ fn call_type(
 /// The type of what a name stands for. Refused at `at` with `UnknownName` where it is not there and with `Mismatch` where
 /// it stands for no value, and with `Memory`.
 fn name_type(alloc: Global, names: &TypeScope, name: &str, at: Spot) -> Result<Ty, Refusal>
-    ensures { AnswersName (named_in name.now (names_of names.now)) at result }
+    ensures { GivesFound result (naming_at at (named_in name.now (names_of names.now))) }
 {
     match names.stands_for(name) {
         Some(Meaning::Value(ty)) => Ok(ty.clone_in(alloc)?),
@@ -84,9 +82,27 @@ fn judge(
     names: &TypeScope,
     functions: &Signatures,
 ) -> Result<Ty, Refusal>
-    ensures { Judges exprs.now (with_types (signatures_in functions.now) (names_of names.now)) id result }
+    ensures { GivesFound result (judged exprs.now id (with_types (signatures_in functions.now) (names_of names.now))) }
 {
-    match exprs.node(id) {
+    let node = exprs.node(id);
+    judge_form(alloc, exprs, id, node, names, functions)
+}
+
+/// The type of the form at an id, or the first refusal, parts first.
+#[cycle(judge)]
+#[tactic(auto, using(crate::proofs::Judged::stops_then, crate::proofs::Judged::kind_answers, crate::proofs::Judged::pair_answers))]
+fn judge_form(
+    alloc: Global,
+    exprs: &Exprs,
+    id: ExprId,
+    node: ExprNode,
+    names: &TypeScope,
+    functions: &Signatures,
+) -> Result<Ty, Refusal>
+    requires { PartsBelow node (id_number id) }
+    ensures { GivesFound result (form_judged exprs.now (judged exprs.now) (spot_at exprs.now id) node (with_types (signatures_in functions.now) (names_of names.now))) }
+{
+    match node {
         ExprNode::Unit => Ok(Ty::unit()),
         ExprNode::Truth(_) => Ok(Ty::bool()),
         ExprNode::Int(_) => Ok(Ty::int()),
@@ -131,6 +147,7 @@ fn judge(
 
 /// The type of the conditional at an id, with these parts, or why it has none.
 #[cycle(judge)]
+#[tactic(auto, using(crate::proofs::Judged::stops_then, crate::proofs::Judged::kind_answers))]
 fn judge_conditional(
     alloc: Global,
     exprs: &Exprs,
@@ -141,9 +158,8 @@ fn judge_conditional(
     names: &TypeScope,
     functions: &Signatures,
 ) -> Result<Ty, Refusal>
-    requires node { node_at exprs.now id ≡ Conditional condition first second }
-    requires below { PartsBelow (Conditional condition first second) (id_number id) }
-    ensures { Judges exprs.now (with_types (signatures_in functions.now) (names_of names.now)) id result }
+    requires { PartsBelow (Conditional condition first second) (id_number id) }
+    ensures { GivesFound result (form_judged exprs.now (judged exprs.now) (spot_at exprs.now id) (Conditional condition first second) (with_types (signatures_in functions.now) (names_of names.now))) }
 {
     let condition = judge(alloc, exprs, condition, names, functions)?;
     let first = judge(alloc, exprs, first, names, functions)?;
@@ -153,6 +169,7 @@ fn judge_conditional(
 
 /// The type of the mapping at an id, with these parts, or why it has none.
 #[cycle(judge)]
+#[tactic(auto, using(crate::proofs::Judged::stops_then, crate::proofs::Judged::kind_answers))]
 fn judge_mapped(
     alloc: Global,
     exprs: &Exprs,
@@ -164,9 +181,8 @@ fn judge_mapped(
     names: &TypeScope,
     functions: &Signatures,
 ) -> Result<Ty, Refusal>
-    requires node { node_at exprs.now id ≡ Mapped part mapping pattern body }
-    requires below { PartsBelow (Mapped part mapping pattern body) (id_number id) }
-    ensures { Judges exprs.now (with_types (signatures_in functions.now) (names_of names.now)) id result }
+    requires { PartsBelow (Mapped part mapping pattern body) (id_number id) }
+    ensures { GivesFound result (form_judged exprs.now (judged exprs.now) (spot_at exprs.now id) (Mapped part mapping pattern body) (with_types (signatures_in functions.now) (names_of names.now))) }
 {
     let part = judge(alloc, exprs, part, names, functions)?;
     let at = exprs.spot(id);
@@ -178,6 +194,7 @@ fn judge_mapped(
 
 /// The type of the fold at an id, with these parts, or why it has none.
 #[cycle(judge)]
+#[tactic(auto, using(crate::proofs::Judged::stops_then, crate::proofs::Judged::kind_answers))]
 fn judge_folded(
     alloc: Global,
     exprs: &Exprs,
@@ -190,9 +207,8 @@ fn judge_folded(
     names: &TypeScope,
     functions: &Signatures,
 ) -> Result<Ty, Refusal>
-    requires node { node_at exprs.now id ≡ Folded first folding second pattern body }
-    requires below { PartsBelow (Folded first folding second pattern body) (id_number id) }
-    ensures { Judges exprs.now (with_types (signatures_in functions.now) (names_of names.now)) id result }
+    requires { PartsBelow (Folded first folding second pattern body) (id_number id) }
+    ensures { GivesFound result (form_judged exprs.now (judged exprs.now) (spot_at exprs.now id) (Folded first folding second pattern body) (with_types (signatures_in functions.now) (names_of names.now))) }
 {
     let first = judge(alloc, exprs, first, names, functions)?;
     let second = judge(alloc, exprs, second, names, functions)?;
@@ -215,7 +231,8 @@ fn judge_part(
     functions: &Signatures,
     at: Spot,
 ) -> Result<Ty, Refusal>
-    ensures { JudgesPart exprs.now (with_types (signatures_in functions.now) (names_of around.now)) pattern.now body from.now at result }
+    ensures judged { GivesFound result (bound_judged at pattern.now from.now (judged exprs.now body) (with_types (signatures_in functions.now) (names_of around.now))) }
+    ensures fits { OnOk result (Fits from.now) }
 {
     let frame = Frame::of_pattern(alloc, pattern, from, at)?;
     judge_within(alloc, exprs, body, &frame, around, functions)
@@ -231,7 +248,7 @@ fn judge_within(
     around: &TypeScope,
     functions: &Signatures,
 ) -> Result<Ty, Refusal>
-    ensures { Judges exprs.now (with_types (signatures_in functions.now) (names_from (entries_in frame.now ++ entries_around around.now))) body result }
+    ensures { GivesFound result (judged exprs.now body (with_types (signatures_in functions.now) (names_from (entries_in frame.now ++ entries_around around.now)))) }
 {
     let names = (&*around).within(alloc, &*frame)?;
     judge(alloc, exprs, body, &names, functions)
@@ -242,7 +259,7 @@ fn judge_within(
 /// Both operands are typed before a mismatch in either is answered, and the argument of a call before its function is
 /// looked for. A name that is not there is refused with `UnknownName`, one that stands for no value with `Mismatch`. The
 /// place is that of such a name, else that of the first token of the form whose rule is broken.
-#[tactic(auto, using(crate::proofs::Judged::judged_types))]
+#[tactic(auto, using(crate::proofs::Judged::answers_judge, crate::proofs::Judged::answers_types))]
 pub fn type_of(
     alloc: Global,
     exprs: &Exprs,
@@ -252,6 +269,7 @@ pub fn type_of(
 ) -> Result<Ty, Refusal>
     ensures typed { Types (with_types (signatures_in functions.now) (names_of names.now)) (expression exprs.now id) result }
     ensures first { Judges exprs.now (with_types (signatures_in functions.now) (names_of names.now)) id result }
+    ensures judged { GivesFound result (judged exprs.now id (with_types (signatures_in functions.now) (names_of names.now))) }
 {
     judge(alloc, exprs, id, names, functions)
 }
@@ -272,6 +290,7 @@ pub fn function_type<'a>(
 ) -> Result<Ty, Refusal>
     ensures typed { TypesFunction (with_types (signatures_in functions.now) (names_of names.now)) (function_at exprs.now function) from.now result }
     ensures first { JudgesFunction exprs.now (with_types (signatures_in functions.now) (names_of names.now)) function from.now at result }
+    ensures judged { GivesFound result (function_judged exprs.now function at from.now (with_types (signatures_in functions.now) (names_of names.now))) }
 {
     judge_part(
         alloc,

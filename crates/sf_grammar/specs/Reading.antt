@@ -500,6 +500,7 @@ head_of (keyword words.TakeEvents) = Some (heads.Selected selections.TakeEvents)
 head_of (keyword words.DropEvents) = Some (heads.Selected selections.DropEvents)
 head_of (keyword words.Never) = Some heads.Never
 head_of (keyword words.Arr) = Some heads.Arrow
+head_of (keyword words.EdgeBy) = Some (heads.Accumulated accumulations.EdgeBy)
 head_of (keyword words.AccumBy) = Some (heads.Accumulated accumulations.AccumBy)
 head_of (keyword words.AccumHoldBy) = Some (heads.Accumulated accumulations.AccumHoldBy)
 head_of (keyword words.Sscan) = Some (heads.Accumulated accumulations.Scan)

@@ -99,6 +99,7 @@ selection_word selections.DropEvents = words.DropEvents
 
 -- the word of a primitive with a value and a function
 abbrev pub accumulation_word : Accumulation → Keyword
+accumulation_word accumulations.EdgeBy = words.EdgeBy
 accumulation_word accumulations.AccumBy = words.AccumBy
 accumulation_word accumulations.AccumHoldBy = words.AccumHoldBy
 accumulation_word accumulations.Scan = words.Sscan

@@ -105,6 +105,7 @@ pub fn head_of(token: &Token) -> Option<Head>
         Token::Keyword(Keyword::DropEvents) => Some(Head::Selected(Selection::DropEvents)),
         Token::Keyword(Keyword::Never) => Some(Head::Never),
         Token::Keyword(Keyword::Arr) => Some(Head::Arrow),
+        Token::Keyword(Keyword::EdgeBy) => Some(Head::Accumulated(Accumulation::EdgeBy)),
         Token::Keyword(Keyword::AccumBy) => Some(Head::Accumulated(Accumulation::AccumBy)),
         Token::Keyword(Keyword::AccumHoldBy) => Some(Head::Accumulated(Accumulation::AccumHoldBy)),
         Token::Keyword(Keyword::Sscan) => Some(Head::Accumulated(Accumulation::Scan)),

@@ -190,10 +190,10 @@ module _ {Γ : Context} where
       selected_found k n a made.0 b made.1 (takes_number n) refl made.2
   primitive_found (accumulated k e f) a b h =
       let R = names_of_values Γ in
-      let given = found_is (expression_type R e) (λ v. found_then (accumulated_argument k v a) (λ c. found_then (function_output R f c) (λ u. found_then (accumulated_kind k v u) fitting))) h in
-      let argument = found_is (accumulated_argument k given.0 a) (λ c. found_then (function_output R f c) (λ u. found_then (accumulated_kind k given.0 u) fitting)) given.2 in
-      let made = found_is (function_output R f argument.0) (λ u. found_then (accumulated_kind k given.0 u) fitting) argument.2 in
-      let whole = found_is (accumulated_kind k given.0 made.0) fitting made.2 in
+      let given = found_is (expression_type R e) (λ v. found_then (accumulated_argument k v a) (λ c. found_then (function_output R f c) (λ u. found_then (accumulated_kind k v a u) fitting))) h in
+      let argument = found_is (accumulated_argument k given.0 a) (λ c. found_then (function_output R f c) (λ u. found_then (accumulated_kind k given.0 a u) fitting)) given.2 in
+      let made = found_is (function_output R f argument.0) (λ u. found_then (accumulated_kind k given.0 a u) fitting) argument.2 in
+      let whole = found_is (accumulated_kind k given.0 a made.0) fitting made.2 in
       let fit = fitting_found whole.0 b whole.2 in
       accumulated_takes (found_typed R e given.0 given.1) argument.1 (output_takes R f argument.0 made.0 made.1) (whole.1 ∙ ap Some fit.is) (subst Fits fit.is fit.fits)
   primitive_found (fused f) a b h = elim (found_went (chain_output Γ f) fitting a b h) [
@@ -215,9 +215,9 @@ module _ {Γ : Context} where
       ap (λ o. found_then o (λ b. cond (takes_number n) (fitting b) None)) h ∙ ap (λ t. cond t (fitting b) None) g ∙ fitting_is b f
   primitive_is (accumulated_takes {k = k} {f = f} {v = v} {a = a} {c = c} {b = b} E q F h g) =
       let R = names_of_values Γ in
-      ap (λ o. found_then o (λ v. found_then (accumulated_argument k v a) (λ c. found_then (function_output R f c) (λ u. found_then (accumulated_kind k v u) fitting)))) (typed_found E)
-      ∙ ap (λ o. found_then o (λ c. found_then (function_output R f c) (λ u. found_then (accumulated_kind k v u) fitting))) q
-      ∙ ap (λ o. found_then o (λ u. found_then (accumulated_kind k v u) fitting)) (takes_output F)
+      ap (λ o. found_then o (λ v. found_then (accumulated_argument k v a) (λ c. found_then (function_output R f c) (λ u. found_then (accumulated_kind k v a u) fitting)))) (typed_found E)
+      ∙ ap (λ o. found_then o (λ c. found_then (function_output R f c) (λ u. found_then (accumulated_kind k v a u) fitting))) q
+      ∙ ap (λ o. found_then o (λ u. found_then (accumulated_kind k v a u) fitting)) (takes_output F)
       ∙ ap (λ o. found_then o fitting) h ∙ fitting_is b g
   primitive_is (fused_takes {b = b} F h) = ap (λ o. found_then o fitting) (chain_found F) ∙ fitting_is b h
 

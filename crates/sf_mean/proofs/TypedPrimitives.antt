@@ -17,14 +17,12 @@ use Rattle.sf_term.specs.declared.form.Timing.{Timing}
 use Rattle.sf_term.specs.declared.form.Timing.TheVariants.{After, Repeatedly, Delay}
 use Rattle.sf_term.specs.declared.form.Selection.{Selection}
 use Rattle.sf_term.specs.declared.form.Selection.TheVariants.{TakeEvents, DropEvents}
-use Rattle.sf_term.specs.declared.form.Accumulation.{Accumulation}
-use Rattle.sf_term.specs.declared.form.Accumulation.TheVariants.{AccumBy, AccumHoldBy, Scan}
 use Rattle.sf_mean.specs.Lives.{Step, input_of, Life, time}
-use Rattle.sf_mean.specs.Formulas.{span, aged, timed_formula, has_occurred, selected_formula, coming, displayed, before, at_first, area, event_if, occurring, occurrences, counted, last_payload, bare_formula, value_formula}
-use Rattle.sf_mean.specs.Typing.{bare_kind, value_kind, takes_input, timed_kind, selected_kind, accumulated_argument, accumulated_kind}
+use Rattle.sf_mean.specs.Formulas.{span, aged, timed_formula, has_occurred, selected_formula, event_where, before, at_first, area, event_if, occurring, occurrences, counted, last_payload, bare_formula, value_formula}
+use Rattle.sf_mean.specs.Typing.{bare_kind, value_kind, takes_input, timed_kind, selected_kind}
 use Rattle.sf_mean.specs.Soundness.{LifeHas, no_steps, more_steps}
 
-before_has : {v : Data} {a : Kind} {L : Life} → HasKind v a → LifeHas L a → HasKind (before v L) a
+pub before_has : {v : Data} {a : Kind} {L : Life} → HasKind v a → LifeHas L a → HasKind (before v L) a
 before_has h no_steps = h
 before_has h (more_steps i l) = i
 
@@ -133,7 +131,7 @@ pub data Comes : Option Data → Kind → Type 0 where
   comes_none : {p : Kind} → Comes None p
   comes_some : {x : Data} {p : Kind} → HasKind x p → Comes (Some x) p
 
-occurring_comes : {d : Data} {a p : Kind} → payload_of a ≡ Some p → HasKind d a → Comes (occurring d) p
+pub occurring_comes : {d : Data} {a p : Kind} → payload_of a ≡ Some p → HasKind d a → Comes (occurring d) p
 occurring_comes e h = each (payload_has e h)
   where
     each : {o : Option Data} {p : Kind} → HasPayload p o → Comes o p
@@ -145,24 +143,7 @@ pub event_comes : {d : Data} {p : Kind} → HasKind d (event_kind p) → Comes (
 event_comes has_no_event = comes_none
 event_comes (has_event h) = comes_some h
 
--- what the function takes is a pair of the value so far and of what comes
-pub coming_typed : (k : Accumulation) {v c : Kind} (a : Kind) → accumulated_argument k v a ≡ Some c → (p : Kind) × (c ≡ pair_kind v p) × ((x : Data) → HasKind x a → Comes (coming k x) p)
-coming_typed AccumBy {v} a e =
-    let found = found_is (payload_of a) (λ p. Some (pair_kind v p)) e in
-    (found.0, sym (same_Some _ _ found.2), λ x h. occurring_comes found.1 h)
-coming_typed AccumHoldBy {v} a e =
-    let found = found_is (payload_of a) (λ p. Some (pair_kind v p)) e in
-    (found.0, sym (same_Some _ _ found.2), λ x h. occurring_comes found.1 h)
-coming_typed Scan {v} a e = (a, sym (same_Some _ _ e), λ x h. comes_some h)
-
--- the function makes values of the type of the value so far
-pub made_typed : (k : Accumulation) {v u b : Kind} → accumulated_kind k v u ≡ Some b → u ≡ v
-made_typed AccumBy {v} {u} e = (only_is u v (Some (event_kind v)) e).0
-made_typed AccumHoldBy {v} {u} e = (only_is u v (Some v) e).0
-made_typed Scan {v} {u} e = (only_is u v (Some v) e).0
-
-pub shown_typed : (k : Accumulation) (v u : Kind) {b : Kind} {w : Data} (o : Option Data) → accumulated_kind k v u ≡ Some b → HasKind w v → HasKind (displayed k o w) b
-shown_typed AccumBy v u None e h = as_kind (same_Some _ _ (only_is u v (Some (event_kind v)) e).1) has_no_event
-shown_typed AccumBy v u (Some x) e h = as_kind (same_Some _ _ (only_is u v (Some (event_kind v)) e).1) (has_event h)
-shown_typed AccumHoldBy v u o e h = as_kind (same_Some _ _ (only_is u v (Some v) e).1) h
-shown_typed Scan v u o e h = as_kind (same_Some _ _ (only_is u v (Some v) e).1) h
+-- an event of a value where something comes
+pub event_has : {w : Data} {v : Kind} (o : Option Data) → HasKind w v → HasKind (event_where o w) (event_kind v)
+event_has None h = has_no_event
+event_has (Some x) h = has_event h

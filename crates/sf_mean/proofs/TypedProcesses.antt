@@ -4,12 +4,16 @@ use Rattle.std.specs.Prelude.{⊤, bytes_eq, slice_get}
 use Rattle.std.proofs.lemmas.Option.{same_Some}
 use Rattle.sf_value.specs.Values.{Name, Kind, pair_kind, event_kind, Data, pair, HasKind, has_pair, first_of, second_of, has_no_event}
 use mathlib.Core.Path.{subst₂}
+use Rattle.sf_operator.specs.Kinds.{found_then, only, payload_of}
+use Rattle.sf_operator.proofs.SameKinds.{only_is, found_is}
+use Rattle.sf_operator.proofs.Yielding.{as_kind, yields_as}
 use Rattle.sf_func.specs.Registries.{TypesByName, AnswersByName, KeepTheirTypes}
 use Rattle.sf_expr.specs.Expressions.{Pattern, Expression, Function}
 use Rattle.sf_expr.specs.Evaluation.{Evaluated, answer, failed, ◌>>=◌, Scope, eval, apply}
 use Rattle.sf_expr.specs.Typing.{Names, AddsNames, adds_nothing, adds_name, adds_both, HasType, FunctionTakes}
 use Rattle.sf_expr.specs.Soundness.{Yields, yields, fails, ScopeHas, has_no_names, has_name, has_other}
 use Rattle.sf_term.specs.declared.form.Accumulation.{Accumulation}
+use Rattle.sf_term.specs.declared.form.Accumulation.TheVariants.{EdgeBy, AccumBy, AccumHoldBy, Scan}
 use Rattle.sf_term.specs.declared.form.Side.TheVariants.{First, Second}
 use Rattle.sf_term.specs.declared.form.Observation.{Observation}
 use Rattle.sf_term.specs.declared.form.Start.{Start}
@@ -17,12 +21,12 @@ use Rattle.sf_term.specs.declared.form.Start.TheVariants.{Run, Fresh}
 use Rattle.sf_term.specs.declared.form.Observation.TheVariants.{Immediate, Delayed}
 use Rattle.sf_term.specs.Trees.{Chain, Primitive, Term, primitive, reference, started, call, Arguments, joined, sided, headed, switching, keeping, staged, Template, Templates, template_named}
 use Rattle.sf_mean.specs.Lives.{Step, wait_of, input_of, Life, Environment, scope_around, bind, Process, process_of, base, process_started, passing, closure, empty, known, frozen, first_input as input_at_first}
-use Rattle.sf_mean.specs.Formulas.{timed_formula, selected_formula, coming, next_value, accumulation, displayed, value_formula, with_side, apply_chain, formula}
+use Rattle.sf_mean.specs.Formulas.{timed_formula, selected_formula, before, occurring, next_value, accumulation, event_where, accumulated_formula, value_formula, with_side, apply_chain, formula}
 use Rattle.sf_mean.specs.Meaning.{Network, Outcome, gave, faulted, recorded, Cost, Made, value_made, process_made, argument_process, argued, process_called, referred, make, Watched, itself, observed, Takeover, Standing, waits, fired, stands_after, switched_value, body_of, event_beside, or_earlier, last_event, kept_before, since_event, what_runs, unless_faulted, Gives, gives, Outputs, not_begun, and_gave, Sample, of_constants, of_form, of_resumed, Form, of_primitive, of_reference, of_join, of_side, of_loop, of_initialized, of_replaced, of_switch, of_keeping, of_recurring, of_stages, Next, goes_on, stops, Loops, no_loop, and_looped, Sees, beside_values, by_observer, Since, at_start, watched, had_fired, SwitchTurn, while_waiting, as_body, Switched, after_fault, after_value, Fires, no_event_yet, event_now}
 use Rattle.sf_mean.specs.Contexts.{Signature, signature_of, signature_named, parameters_inside, value, process, Bindings, bindings_inside, values_in, types_of_process, process_named, context_with, Context, names_of_values}
-use Rattle.sf_mean.specs.Typing.{ChainTakes, lone_takes, chained_takes, on_first_takes, on_second_takes, on_both_takes, fanned_takes, PrimitiveTakes, bare_takes, probe_takes, never_takes, value_takes, timed_takes, selected_takes, accumulated_takes, arrow_takes, fused_takes, Takes, takes, FormTakes, primitive_takes, started_takes, call_takes, ArgumentsFit, no_argument_fits, value_fits, process_fits, closed_fits, sequence_takes, parallel_takes, fan_takes, first_takes, second_takes, loop_takes, initialized_takes, replaced_takes, switch_takes, keeping_takes, recurring_takes, stages_take}
+use Rattle.sf_mean.specs.Typing.{accumulated_argument, accumulated_kind, ChainTakes, lone_takes, chained_takes, on_first_takes, on_second_takes, on_both_takes, fanned_takes, PrimitiveTakes, bare_takes, probe_takes, never_takes, value_takes, timed_takes, selected_takes, accumulated_takes, arrow_takes, fused_takes, Takes, takes, FormTakes, primitive_takes, started_takes, call_takes, ArgumentsFit, no_argument_fits, value_fits, process_fits, closed_fits, sequence_takes, parallel_takes, fan_takes, first_takes, second_takes, loop_takes, initialized_takes, replaced_takes, switch_takes, keeping_takes, recurring_takes, stages_take}
 use Rattle.sf_mean.specs.Soundness.{NetworkIsTyped, Have, have_nothing, have_more, LifeHas, no_steps, more_steps, EnvironmentHas, has_nothing, has_value, has_process, ProcessTakes, closure_takes, resumed_takes, OutcomeHas}
-use Rattle.sf_mean.proofs.TypedPrimitives.{first_has, bare_typed, value_typed, timed_typed, selected_typed, event_comes, Comes, comes_none, comes_some, coming_typed, made_typed, shown_typed}
+use Rattle.sf_mean.proofs.TypedPrimitives.{before_has, first_has, bare_typed, value_typed, timed_typed, selected_typed, event_comes, Comes, comes_none, comes_some, occurring_comes, event_has}
 use Rattle.sf_mean.proofs.TypedLives.{first_is, second_is, with_inputs_has, with_first_has, after_has, fed_has, outcome_is, changed_has, combined_has, LifeIf, life_if, beside_if, relay_if}
 
 -- expressions and functions have values of their types, or faults
@@ -200,11 +204,37 @@ module _ (n : Network) (eval_is : EvalsTyped) (apply_is : AppliesTyped) where
   next_is scope in_scope F same h comes_none = yields h
   next_is {f = f} {w = w} scope in_scope F same h (comes_some {x = x} k) = subst (λ t. Yields t (apply f (pair w x) scope)) same (apply_is _ _ _ _ _ _ F (has_pair h k) in_scope)
 
-  accumulation_is : (k : Accumulation) {R : Names} {f : Function} {v a p u : Kind} {w : Data} {L : Life} (scope : Scope) → ScopeHas scope R → ((x : Data) → HasKind x a → Comes (coming k x) p)
-      → FunctionTakes R f (pair_kind v p) u → u ≡ v → HasKind w v → LifeHas L a → Yields v (accumulation k f scope w L)
-  accumulation_is k scope in_scope comes F same h no_steps = yields h
-  accumulation_is k {f = f} scope in_scope comes F same h (more_steps {s = s} i l) =
-      next_yields (λ w. next_value f scope w (coming k (input_of s))) (accumulation_is k scope in_scope comes F same h l) (λ w g. next_is scope in_scope F same g (comes _ i))
+  accumulation_is : (coming : Data → Option Data) {R : Names} {f : Function} {v a p u : Kind} {w : Data} {L : Life} (scope : Scope) → ScopeHas scope R → ((x : Data) → HasKind x a → Comes (coming x) p)
+      → FunctionTakes R f (pair_kind v p) u → u ≡ v → HasKind w v → LifeHas L a → Yields v (accumulation coming f scope w L)
+  accumulation_is coming scope in_scope comes F same h no_steps = yields h
+  accumulation_is coming {f = f} scope in_scope comes F same h (more_steps {s = s} i l) =
+      next_yields (λ w. next_value f scope w (coming (input_of s))) (accumulation_is coming scope in_scope comes F same h l) (λ w g. next_is scope in_scope F same g (comes _ i))
+
+  -- an accumulation of payloads
+  of_payloads : {R : Names} {f : Function} {v a c u : Kind} {w : Data} {L : Life} (scope : Scope) → ScopeHas scope R → found_then (payload_of a) (λ p. Some (pair_kind v p)) ≡ Some c
+      → FunctionTakes R f c u → u ≡ v → HasKind w v → LifeHas L a → Yields v (accumulation occurring f scope w L)
+  of_payloads {R = R} {f = f} {v = v} {a = a} {u = u} scope in_scope q F same h l =
+      let found = found_is (payload_of a) (λ p. Some (pair_kind v p)) q in
+      accumulation_is occurring scope in_scope (λ x i. occurring_comes found.1 i) (subst (λ c. FunctionTakes R f c u) (sym (same_Some _ _ found.2)) F) same h l
+
+  accumulated_is : (k : Accumulation) {R : Names} {f : Function} {v a c u b : Kind} {w : Data} (s : Step) {L : Life} (scope : Scope) → ScopeHas scope R → accumulated_argument k v a ≡ Some c
+      → FunctionTakes R f c u → accumulated_kind k v a u ≡ Some b → HasKind w v → HasKind (input_of s) a → LifeHas L a → Yields b (accumulated_formula k f scope w s L)
+  accumulated_is EdgeBy {R = R} {f = f} {v = v} {a = a} {u = u} {w = w} s {L = L} scope in_scope q F e g h l =
+      let same = only_is a v (found_then (payload_of u) (λ p. Some u)) e in
+      let made = found_is (payload_of u) (λ p. Some u) same.1 in
+      yields_as made.2
+      (apply_is _ _ _ _ _ _ (subst (λ c. FunctionTakes R f c u) (sym (same_Some _ _ q)) F) (has_pair (before_has (as_kind (sym same.0) g) l) h) in_scope)
+  accumulated_is AccumBy {v = v} {u = u} s scope in_scope q F e g h l =
+      let same = only_is u v (Some (event_kind v)) e in
+      yields_as same.1
+      (changed_yields (event_where (occurring (input_of s))) (λ w i. event_has (occurring (input_of s)) i) (of_payloads scope in_scope q F same.0 g (more_steps {s = s} h l)))
+  accumulated_is AccumHoldBy {v = v} {u = u} s scope in_scope q F e g h l =
+      let same = only_is u v (Some v) e in
+      yields_as same.1 (of_payloads scope in_scope q F same.0 g (more_steps {s = s} h l))
+  accumulated_is Scan {R = R} {f = f} {v = v} {u = u} s scope in_scope q F e g h l =
+      let same = only_is u v (Some v) e in
+      yields_as same.1
+      (accumulation_is Some scope in_scope (λ x i. comes_some i) (subst (λ c. FunctionTakes R f c u) (sym (same_Some _ _ q)) F) same.0 g (more_steps {s = s} h l))
 
   module _ {Γ : Context} (scope : Scope) (in_scope : ScopeHas scope (names_of_values Γ)) where
     chain_is : {f : Chain} {a b : Kind} (x : Data) → ChainTakes Γ f a b → HasKind x a → Yields b (apply_chain f x scope)
@@ -225,12 +255,8 @@ module _ (n : Network) (eval_is : EvalsTyped) (apply_is : AppliesTyped) where
     formula_is s (arrow_takes F) h l = apply_is _ _ _ _ _ _ F h in_scope
     formula_is s {L = L} (timed_takes {k = k} {q = q} I m w B f) h l = changed_yields (λ v. timed_formula k q v s L) (λ v i. timed_typed k q s L m B i h l) (eval_is _ _ _ _ I in_scope)
     formula_is s {L = L} (selected_takes {k = k} {n = n} e B f) h l = yields (selected_typed k n s L e h)
-    formula_is s {L = L} (accumulated_takes {k = k} {f = f} {v = t} {a = a} {u = u} I q F e B) h l =
-        let part = coming_typed k a q in
-        let same = made_typed k e in
-        next_yields (λ v. accumulation k f scope v (s ∷ L) >>= λ w. answer (displayed k (coming k (input_of s)) w)) (eval_is _ _ _ _ I in_scope) (λ v i.
-        changed_yields (displayed k (coming k (input_of s))) (λ w g. shown_typed k t u (coming k (input_of s)) e g)
-        (accumulation_is k scope in_scope part.2 (subst (λ c. FunctionTakes (names_of_values Γ) f c u) part.1 F) same i (more_steps {s = s} h l)))
+    formula_is s {L = L} (accumulated_takes {k = k} {f = f} I q F e B) h l =
+        next_yields (λ v. accumulated_formula k f scope v s L) (eval_is _ _ _ _ I in_scope) (λ v i. accumulated_is k s scope in_scope q F e i h l)
     formula_is s (fused_takes F B) h l = chain_is (input_of s) F h
 
   -- ## Calls

@@ -14,7 +14,7 @@ use Rattle.sf_term.specs.declared.form.Timing.TheVariants.{After, Repeatedly, De
 use Rattle.sf_term.specs.declared.form.Selection.{Selection}
 use Rattle.sf_term.specs.declared.form.Selection.TheVariants.{TakeEvents, DropEvents}
 use Rattle.sf_term.specs.declared.form.Accumulation.{Accumulation}
-use Rattle.sf_term.specs.declared.form.Accumulation.TheVariants.{AccumBy, AccumHoldBy, Scan}
+use Rattle.sf_term.specs.declared.form.Accumulation.TheVariants.{EdgeBy, AccumBy, AccumHoldBy, Scan}
 use Rattle.sf_term.specs.declared.form.Side.{Side}
 use Rattle.sf_term.specs.declared.form.Side.TheVariants.{First, Second}
 use Rattle.sf_term.specs.Trees.{Chain, lone, chained, on_side, on_both, fanned, Primitive, bare, probe, never, with_value, timed, selected, arrow, accumulated, fused}
@@ -151,28 +151,28 @@ timed_formula After q v s L = cond (has_passed q (s ∷ L) && not (has_passed q 
 timed_formula Repeatedly q v s L = repeated_formula q v s L
 timed_formula Delay q v s L = delayed_formula q v s L
 
--- what an accumulation goes on with: the payload of an event that occurs, or each input
-abbrev pub coming : Accumulation → Data → Option Data
-coming AccumBy x = occurring x
-coming AccumHoldBy x = occurring x
-coming Scan x = Some x
-
--- the next value, of the one so far and of what comes; the same where nothing comes
+-- the next value that a function makes, of the one so far and of what comes; the same where nothing comes
 abbrev pub next_value : Function → Scope → Data → Option Data → Evaluated Data
 next_value f scope w None = answer w
 next_value f scope w (Some x) = apply f (pair w x) scope
 
--- the value after a life, from v before it
-abbrev pub accumulation : Accumulation → Function → Scope → Data → Life → Evaluated Data
-accumulation k f scope v [] = answer v
-accumulation k f scope v (s ∷ L) = accumulation k f scope v L >>= λ w. next_value f scope w (coming k (input_of s))
+-- the value after a life, from v before it, by what comes of each input, if anything does
+abbrev pub accumulation : (Data → Option Data) → Function → Scope → Data → Life → Evaluated Data
+accumulation coming f scope v [] = answer v
+accumulation coming f scope v (s ∷ L) = accumulation coming f scope v L >>= λ w. next_value f scope w (coming (input_of s))
 
--- what an accumulation gives of its value: at an event an event of it, or the value itself
-abbrev pub displayed : Accumulation → Option Data → Data → Data
-displayed AccumBy None w = no_event
-displayed AccumBy (Some x) w = event w
-displayed AccumHoldBy o w = w
-displayed Scan o w = w
+-- an event of a value where there is a payload
+abbrev pub event_where : Option Data → Data → Data
+event_where None w = no_event
+event_where (Some x) w = event w
+
+-- primitives with the value v and a function: of the input before and this one, or of the value so far and of each payload
+-- or of each input
+abbrev pub accumulated_formula : Accumulation → Function → Scope → Data → Step → Life → Evaluated Data
+accumulated_formula EdgeBy f scope v s L = apply f (pair (before v L) (input_of s)) scope
+accumulated_formula AccumBy f scope v s L = accumulation occurring f scope v (s ∷ L) >>= λ w. answer (event_where (occurring (input_of s)) w)
+accumulated_formula AccumHoldBy f scope v s L = accumulation occurring f scope v (s ∷ L)
+accumulated_formula Scan f scope v s L = accumulation Some f scope v (s ∷ L)
 
 -- the side of the input that the part is given
 abbrev pub side_of : Side → Data → Data
@@ -201,5 +201,5 @@ formula (with_value k e) scope s L = eval e scope >>= λ v. answer (value_formul
 formula (arrow f) scope s L = apply f (input_of s) scope
 formula (timed k q e) scope s L = eval e scope >>= λ v. answer (timed_formula k q v s L)
 formula (selected k n) scope s L = answer (selected_formula k n s L)
-formula (accumulated k e f) scope s L = eval e scope >>= λ v. accumulation k f scope v (s ∷ L) >>= λ w. answer (displayed k (coming k (input_of s)) w)
+formula (accumulated k e f) scope s L = eval e scope >>= λ v. accumulated_formula k f scope v s L
 formula (fused f) scope s L = apply_chain f (input_of s) scope

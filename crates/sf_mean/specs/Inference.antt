@@ -88,7 +88,7 @@ primitive_output Γ (arrow f) a = function_output (names_of_values Γ) f a
 primitive_output Γ (timed k q e) a = found_then (expression_type (names_of_values Γ) e) (λ v. cond (takes_input k v a && takes_time k q) (found_then (timed_kind k v) fitting) None)
 primitive_output Γ (selected k n) a = found_then (selected_kind a) (λ b. cond (takes_number n) (fitting b) None)
 primitive_output Γ (accumulated k e f) a =
-    found_then (expression_type (names_of_values Γ) e) (λ v. found_then (accumulated_argument k v a) (λ c. found_then (function_output (names_of_values Γ) f c) (λ u. found_then (accumulated_kind k v u) fitting)))
+    found_then (expression_type (names_of_values Γ) e) (λ v. found_then (accumulated_argument k v a) (λ c. found_then (function_output (names_of_values Γ) f c) (λ u. found_then (accumulated_kind k v a u) fitting)))
 primitive_output Γ (fused f) a = found_then (chain_output Γ f a) fitting
 
 -- inputs and outputs have types of at most 256 nodes

@@ -13,7 +13,7 @@ use Rattle.sf_term.specs.declared.form.Timing.{Timing}
 use Rattle.sf_term.specs.declared.form.Timing.TheVariants.{After, Repeatedly, Delay}
 use Rattle.sf_term.specs.declared.form.Selection.{Selection}
 use Rattle.sf_term.specs.declared.form.Accumulation.{Accumulation}
-use Rattle.sf_term.specs.declared.form.Accumulation.TheVariants.{AccumBy, AccumHoldBy, Scan}
+use Rattle.sf_term.specs.declared.form.Accumulation.TheVariants.{EdgeBy, AccumBy, AccumHoldBy, Scan}
 use Rattle.sf_term.specs.declared.form.Join.TheVariants.{InSequence, InParallel, FannedOut}
 use Rattle.sf_term.specs.declared.form.Side.TheVariants.{First, Second}
 use Rattle.sf_term.specs.declared.form.Heading.TheVariants.{LoopPre, Initialized, Replaced}
@@ -85,18 +85,20 @@ takes_number n = int_le (pos 0) n && int_le n (pos 1000000000)
 abbrev pub selected_kind : Kind → Option Kind
 selected_kind a = found_then (payload_of a) (λ p. Some a)
 
--- the type of what the function of an accumulation takes, with a value of a type, on inputs of a type: pairs of the value
--- so far and what comes
-abbrev pub accumulated_argument : Accumulation → Kind → Kind → Option Kind
+-- the type of what the function of an accumulation takes, with a value of a type, on inputs of a type: pairs of two inputs,
+-- or of the value so far and what comes
+abbrev pub accumulated_argument : Accumulation → (value input : Kind) → Option Kind
+accumulated_argument EdgeBy v a = Some (pair_kind a a)
 accumulated_argument AccumBy v a = found_then (payload_of a) (λ p. Some (pair_kind v p))
 accumulated_argument AccumHoldBy v a = found_then (payload_of a) (λ p. Some (pair_kind v p))
 accumulated_argument Scan v a = Some (pair_kind v a)
 
 -- the type of the outputs of an accumulation, where its function makes values of a type
-abbrev pub accumulated_kind : Accumulation → Kind → Kind → Option Kind
-accumulated_kind AccumBy v u = only u v (Some (event_kind v))
-accumulated_kind AccumHoldBy v u = only u v (Some v)
-accumulated_kind Scan v u = only u v (Some v)
+abbrev pub accumulated_kind : Accumulation → (value input made : Kind) → Option Kind
+accumulated_kind EdgeBy v a u = only a v (found_then (payload_of u) (λ p. Some u))
+accumulated_kind AccumBy v a u = only u v (Some (event_kind v))
+accumulated_kind AccumHoldBy v a u = only u v (Some v)
+accumulated_kind Scan v a u = only u v (Some v)
 
 -- A primitive takes inputs of one type to outputs of another.
 pub data PrimitiveTakes (Γ : Context) : Primitive → Kind → Kind → Type 0 where
@@ -108,7 +110,7 @@ pub data PrimitiveTakes (Γ : Context) : Primitive → Kind → Kind → Type 0 
   timed_takes : {k : Timing} {q : ℤ} {e : Expression} {v a b : Kind} → HasType (names_of_values Γ) e v → IsTrue (takes_input k v a) → IsTrue (takes_time k q) → timed_kind k v ≡ Some b → Fits b → PrimitiveTakes Γ (timed k q e) a b
   selected_takes : {k : Selection} {n : ℤ} {a b : Kind} → selected_kind a ≡ Some b → IsTrue (takes_number n) → Fits b → PrimitiveTakes Γ (selected k n) a b
   accumulated_takes : {k : Accumulation} {e : Expression} {f : Function} {v a c u b : Kind}
-      → HasType (names_of_values Γ) e v → accumulated_argument k v a ≡ Some c → FunctionTakes (names_of_values Γ) f c u → accumulated_kind k v u ≡ Some b → Fits b → PrimitiveTakes Γ (accumulated k e f) a b
+      → HasType (names_of_values Γ) e v → accumulated_argument k v a ≡ Some c → FunctionTakes (names_of_values Γ) f c u → accumulated_kind k v a u ≡ Some b → Fits b → PrimitiveTakes Γ (accumulated k e f) a b
   fused_takes : {f : Chain} {a b : Kind} → ChainTakes Γ f a b → Fits b → PrimitiveTakes Γ (fused f) a b
 
 mutual

@@ -9,11 +9,10 @@ ghost use Rattle.sf_state.specs.Names.{values_around};
 ghost use Rattle.sf_parts.specs.Answering.{fault_from};
 ghost use Rattle.sf_parts.specs.Contexts.{plan_in};
 
-use sf_code::OpenCode;
+use sf_code::{OpenCode, evaluate_among};
 use sf_func::Holds;
 use sf_law::Plan;
 use sf_operator::EvalFault;
-use sf_prim::constant;
 use sf_state::{Env, NamesIn};
 use sf_value::{Fault, Value};
 use std::alloc::Global;
@@ -42,7 +41,7 @@ pub(crate) fn constant_in<R: Holds>(
 {
     let plan = context.plan;
     let around = NamesIn { plan, names };
-    constant(context.alloc, code, context.functions, &around)
+    evaluate_among(context.alloc, code, &around, context.functions)
 }
 
 /// The fault of an expression, as that of the sample.

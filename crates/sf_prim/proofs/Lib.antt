@@ -1,2 +1,3 @@
+pub mod Accumulating
 pub mod Primitives
 pub mod Linked

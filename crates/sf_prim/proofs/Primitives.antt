@@ -5,10 +5,10 @@ use Rattle.std.specs.Prelude.{nat_eq, nat_le, ◌&&◌, IsErrAnd, OnOk, IfErr}
 use Rattle.std.proofs.Math.Dec.{eqb-suc-zero, leb-suc-zero}
 use Rattle.std.specs.declared.alloc.Global.{Global}
 use Rattle.std.specs.declared.rc.Rc.{Rc}
-use Rattle.sf_value.specs.Values.{Data, no_event, event}
+use Rattle.sf_value.specs.Values.{Data, pair, no_event, event}
 use Rattle.sf_func.specs.Registries.{AnswersByName}
 use Rattle.sf_expr.specs.Expressions.{Expression, Function}
-use Rattle.sf_expr.specs.Evaluation.{Evaluated, Scope, functions_in, answer, ◌>>=◌, eval, apply}
+use Rattle.sf_expr.specs.Evaluation.{Evaluated, Scope, functions_in, answer, failed, ◌>>=◌, eval, apply}
 use Rattle.sf_code.specs.declared.open.OpenCode.{OpenCode}
 use Rattle.sf_code.specs.declared.open.Closure.{Closure}
 use Rattle.sf_code.specs.Worth.{IsCodeOfFunctionIn, IsClosureOf}
@@ -24,9 +24,10 @@ use Rattle.sf_term.specs.declared.form.Timing.TheVariants.{After, Repeatedly, De
 use Rattle.sf_term.specs.declared.form.Selection.{Selection}
 use Rattle.sf_term.specs.declared.form.Selection.TheVariants.{TakeEvents, DropEvents}
 use Rattle.sf_term.specs.declared.form.Accumulation.{Accumulation}
+use Rattle.sf_term.specs.declared.form.Accumulation.TheVariants.{EdgeBy, AccumBy, AccumHoldBy, Scan}
 use Rattle.sf_term.specs.Trees.{Primitive, with_value, timed, selected, accumulated}
 use Rattle.sf_mean.specs.Lives.{Step, step, input_of, Life, time}
-use Rattle.sf_mean.specs.Formulas.{span, coming, next_value, accumulation, displayed, at_first, area, is_high, is_low, event_if, occurring, count_up, occurrences, counted, last_payload, value_formula, timed_formula, has_occurred, selected_formula, formula}
+use Rattle.sf_mean.specs.Formulas.{span, next_value, event_where, accumulated_formula, at_first, area, is_high, is_low, event_if, occurring, count_up, occurrences, counted, last_payload, value_formula, timed_formula, has_occurred, selected_formula, formula}
 use Rattle.sf_delay.specs.Lately.{has_steps}
 use Rattle.sf_delay.specs.Waits.{Sums, RunsDown, TicksOn}
 use Rattle.sf_delay.specs.Delays.{Delays}
@@ -40,7 +41,7 @@ use Rattle.sf_prim.specs.declared.prim_state.PrimState.TheVariants.{Identity, Ne
 use Rattle.sf_delay.specs.Gifts.{gift}
 use Rattle.sf_prim.specs.Links.{closure_worth}
 use Rattle.std.proofs.lemmas.Result.{on_ok_weaker}
-use Rattle.sf_prim.specs.Keeping.{shown_after, time_after, last_time, count_after, counted_after, left_after, passed_on, Remembers, keeps_nothing, keeps_no_event, keeps_value, keeps_previous, keeps_initialized, keeps_pre, keeps_function, keeps_closure, keeps_accumulation, keeps_time, keeps_area, keeps_timer, keeps_ticker, keeps_line, keeps_left, keeps_low, keeps_first_low, keeps_tag, keeps_begun, keeps_first_left, keeps_count, keeps_first, keeps_passed, keeps_initial, keeps_later, keeps_last, keeps_last_before, Begins, begins_with_fault, begins_without_memory, GoesOn, goes_on, goes_on_with_fault, goes_on_without_memory}
+use Rattle.sf_prim.specs.Keeping.{carried, carried_after, shown_after, time_after, last_time, count_after, counted_after, left_after, passed_on, Remembers, keeps_nothing, keeps_no_event, keeps_value, keeps_previous, keeps_initialized, keeps_pre, keeps_function, keeps_closure, keeps_accumulation, keeps_time, keeps_area, keeps_timer, keeps_ticker, keeps_line, keeps_left, keeps_low, keeps_first_low, keeps_tag, keeps_begun, keeps_first_left, keeps_count, keeps_first, keeps_passed, keeps_initial, keeps_later, keeps_last, keeps_last_before, Begins, begins_with_fault, begins_without_memory, GoesOn, goes_on, goes_on_with_fault, goes_on_without_memory}
 
 -- a primitive with a value gives what its formula makes of it
 value_gives : (k : WithValue) (e : Expression) (scope : Scope) (v : Data) (s : Step) (L : Life)
@@ -262,45 +263,64 @@ pub hold_before_goes_on : {A : Type 0} (q : Primitive) (scope : Scope) (d : ℕ)
 hold_before_goes_on q scope d x L v u w r told kept (keeps_last_before {e = e} {v = given} h is) =
     goes_with r w (value_gives VDelayedHold e scope given (step d x) L h ∙ ap answer (sym is)) told (on_ok_weaker r (λ k. keeps_last_before h (k ∙ ap (payload_or (occurring x)) is)) kept)
 
--- an accumulation on a longer life
-accumulation_gives : (a : Accumulator) (e : Expression) (f : Function) (v : Data) (sc : Scope) (d : ℕ) (x : Data) (L : Life)
-    → eval e sc ≡ answer v → accumulation a.form f sc v L ≡ answer a.value → formula (accumulated a.form e f) sc (step d x) L ≡ shown_after a f sc x
-accumulation_gives a e f v sc d x L h k =
-    ap (λ r. r >>= λ v. accumulation a.form f sc v (step d x ∷ L) >>= λ w. answer (displayed a.form (coming a.form x) w)) h
-    ∙ ap (λ r. (r >>= λ w. next_value f sc w (coming a.form x)) >>= λ w. answer (displayed a.form (coming a.form x) w)) k
+-- an answer that is answered again
+as_it_is : (worth : Evaluated Data) → (worth >>= λ u. answer u) ≡ worth
+as_it_is (answer u) = refl
+as_it_is (failed x) = refl
 
-shown_so : {A : Type 0} (k : Accumulation) (o : Option Data) (u w : Data) (r : Result A EvalFault) (worth : Evaluated Data)
-    → Evaluates (gift r u) worth → OnOk r (w ≡ displayed k o u) → Evaluates (gift r w) (worth >>= λ w. answer (displayed k o w))
-shown_so k o u w (Ok y) worth goes shows = ap (λ r. r >>= λ w. answer (displayed k o w)) goes ∙ ap answer (sym shows)
-shown_so k o u w (Err (Value y)) worth goes shows = ap (λ r. r >>= λ w. answer (displayed k o w)) goes
-shown_so k o u w (Err Memory) worth goes shows = goes
+-- what is answered whatever was answered before
+whatever_was : (worth : Evaluated Data) (x u : Data) → (worth >>= λ w. answer x) ≡ answer u → answer x ≡ answer u
+whatever_was (answer w) x u h = h
+whatever_was (failed y) x u h = absurd cc
+
+-- an accumulation on a longer life gives this
+accumulation_gives : (k : Accumulation) (f : Function) (v w : Data) (sc : Scope) (d : ℕ) (x : Data) (L : Life)
+    → carried k f sc v L ≡ answer w → accumulated_formula k f sc v (step d x) L ≡ shown_after k f sc w x
+accumulation_gives EdgeBy f v w sc d x L h = ap (λ r. r >>= λ w. apply f (pair w x) sc) h ∙ sym (as_it_is (apply f (pair w x) sc))
+accumulation_gives AccumBy f v w sc d x L h = ap (λ r. (r >>= λ w. next_value f sc w (occurring x)) >>= λ u. answer (event_where (occurring x) u)) h
+accumulation_gives AccumHoldBy f v w sc d x L h = ap (λ r. r >>= λ w. next_value f sc w (occurring x)) h ∙ sym (as_it_is (next_value f sc w (occurring x)))
+accumulation_gives Scan f v w sc d x L h = ap (λ r. r >>= λ w. apply f (pair w x) sc) h ∙ sym (as_it_is (apply f (pair w x) sc))
+
+-- and keeps this
+accumulation_carries : (k : Accumulation) (f : Function) (v w u : Data) (sc : Scope) (d : ℕ) (x : Data) (L : Life)
+    → carried k f sc v L ≡ answer w → carried_after k f sc w x ≡ answer u → carried k f sc v (step d x ∷ L) ≡ answer u
+accumulation_carries EdgeBy f v w u sc d x L h g = whatever_was (apply f (pair w x) sc) x u g
+accumulation_carries AccumBy f v w u sc d x L h g = ap (λ r. r >>= λ w. next_value f sc w (occurring x)) h ∙ sym (as_it_is (next_value f sc w (occurring x))) ∙ g
+accumulation_carries AccumHoldBy f v w u sc d x L h g = ap (λ r. r >>= λ w. next_value f sc w (occurring x)) h ∙ sym (as_it_is (next_value f sc w (occurring x))) ∙ g
+accumulation_carries Scan f v w u sc d x L h g = ap (λ r. r >>= λ w. apply f (pair w x) sc) h ∙ sym (as_it_is (apply f (pair w x) sc)) ∙ g
 
 pub accumulated_goes_on : {A : Type 0} (φ : AnswersByName) (d : ℕ) (x : Data) (a b : Box Accumulator Global) (w : Data) (r : Result A EvalFault)
-    → ((s : Scope) → functions_in s ≡ φ → (f : Function) → IsClosureOf s f a.value.closure → Evaluates (gift r b.value.value) (next_value f s a.value.value (coming a.value.form x)))
-    → OnOk r (w ≡ displayed a.value.form (coming a.value.form x) b.value.value)
+    → ((s : Scope) → functions_in s ≡ φ → (f : Function) → IsClosureOf s f a.value.closure → Evaluates (gift r w) (shown_after a.value.form f s a.value.value x))
+    → ((s : Scope) → functions_in s ≡ φ → (f : Function) → IsClosureOf s f a.value.closure → OnOk r (carried_after a.value.form f s a.value.value x ≡ answer b.value.value))
     → OnOk r ((b.value.form ≡ a.value.form) × (b.value.closure ≡ a.value.closure))
     → (q : Primitive) (scope : Scope) (L : Life) → functions_in scope ≡ φ → Remembers (Accumulated a) q scope L → GoesOn q scope (step d x) L (Accumulated b) (gift r w)
-accumulated_goes_on φ d x a b w r goes shows same q scope L is (keeps_accumulation {e = e} {f = f} {v = v} h code k) =
-    goes_with r w (accumulation_gives a.value e f v scope d x L h k) (shown_so a.value.form (coming a.value.form x) b.value.value w r _ (goes scope is f code) shows) (keeps r (goes scope is f code) same)
+accumulated_goes_on φ d x a b w r shows carries same q scope L is (keeps_accumulation {e = e} {f = f} {v = v} h code k) =
+    goes_with r w (ap (λ o. o >>= λ v. accumulated_formula a.value.form f scope v (step d x) L) h ∙ accumulation_gives a.value.form f v a.value.value scope d x L k) (shows scope is f code) (keeps r (carries scope is f code) same)
   where
-    goes_so : b.value.form ≡ a.value.form → b.value.closure ≡ a.value.closure → next_value f scope a.value.value (coming a.value.form x) ≡ answer b.value.value → Remembers (Accumulated b) (accumulated a.value.form e f) scope (step d x ∷ L)
+    goes_so : b.value.form ≡ a.value.form → b.value.closure ≡ a.value.closure → carried_after a.value.form f scope a.value.value x ≡ answer b.value.value → Remembers (Accumulated b) (accumulated a.value.form e f) scope (step d x ∷ L)
     goes_so form code_same n =
-        let after : accumulation a.value.form f scope v (step d x ∷ L) ≡ answer b.value.value = ap (λ r. r >>= λ w. next_value f scope w (coming a.value.form x)) k ∙ n in
+        let after : carried a.value.form f scope v (step d x ∷ L) ≡ answer b.value.value = accumulation_carries a.value.form f v a.value.value b.value.value scope d x L k n in
         subst (λ m. Remembers (Accumulated b) (accumulated m e f) scope (step d x ∷ L)) form
-        (keeps_accumulation h (rw code_same code) (ap (λ m. accumulation m f scope v (step d x ∷ L)) form ∙ after))
+        (keeps_accumulation h (rw code_same code) (ap (λ m. carried m f scope v (step d x ∷ L)) form ∙ after))
 
-    keeps : {A : Type 0} (r : Result A EvalFault) → Evaluates (gift r b.value.value) (next_value f scope a.value.value (coming a.value.form x)) → OnOk r ((b.value.form ≡ a.value.form) × (b.value.closure ≡ a.value.closure)) → OnOk r (Remembers (Accumulated b) (accumulated a.value.form e f) scope (step d x ∷ L))
+    keeps : {A : Type 0} (r : Result A EvalFault) → OnOk r (carried_after a.value.form f scope a.value.value x ≡ answer b.value.value) → OnOk r ((b.value.form ≡ a.value.form) × (b.value.closure ≡ a.value.closure)) → OnOk r (Remembers (Accumulated b) (accumulated a.value.form e f) scope (step d x ∷ L))
     keeps (Ok y) n m = goes_so m.0 m.1 n
     keeps (Err y) n m = m
 
 -- a copy of an accumulation keeps the same
 pub accumulated_follows : (a b : Box Accumulator Global) → b.value.form ≡ a.value.form → ((s : Scope) (f : Function) → IsClosureOf s f a.value.closure → IsClosureOf s f b.value.closure) → b.value.value ≡ a.value.value → (q : Primitive) (scope : Scope) (L : Life) → Remembers (Accumulated a) q scope L → Remembers (Accumulated b) q scope L
 accumulated_follows a b form code value q scope L (keeps_accumulation {e = e} {f = f} {v = v} h c k) =
-    subst (λ m. Remembers (Accumulated b) (accumulated m e f) scope L) form (keeps_accumulation h (code scope f c) (ap (λ m. accumulation m f scope v L) form ∙ k ∙ ap answer (sym value)))
+    subst (λ m. Remembers (Accumulated b) (accumulated m e f) scope L) form (keeps_accumulation h (code scope f c) (ap (λ m. carried m f scope v L) form ∙ k ∙ ap answer (sym value)))
 
--- before its first sample
+-- before its first sample it keeps its value
+carried_at_first : (k : Accumulation) (f : Function) (sc : Scope) (v : Data) → carried k f sc v [] ≡ answer v
+carried_at_first EdgeBy f sc v = refl
+carried_at_first AccumBy f sc v = refl
+carried_at_first AccumHoldBy f sc v = refl
+carried_at_first Scan f sc v = refl
+
 pub accumulated_keeps : (sc : Scope) (e : Expression) (f : Function) (a : Box Accumulator Global) → IsClosureOf sc f a.value.closure → eval e sc ≡ answer a.value.value → Remembers (Accumulated a) (accumulated a.value.form e f) sc []
-accumulated_keeps sc e f a code h = keeps_accumulation h code refl
+accumulated_keeps sc e f a code h = keeps_accumulation h code (carried_at_first a.value.form f sc a.value.value)
 
 -- of these parts
 pub accumulated_made : (sc : Scope) (e : Expression) (f : Function) (b : Box Accumulator Global) (a : Accumulator) → b.value ≡ a → IsClosureOf sc f a.closure → eval e sc ≡ answer a.value → Remembers (Accumulated b) (accumulated a.form e f) sc []
@@ -310,7 +330,7 @@ accumulated_made sc e f b a is code h =
 pub accumulated_fails : (sc : Scope) (k : Accumulation) (e : Expression) (g : Function) (f : EvalFault) (r : Result PrimState EvalFault)
     → IsErrAnd r (λ e. e ≡ f) → Evaluates (Err f) (eval e sc) → Begins sc (accumulated k e g) r
 accumulated_fails sc k e g f r h w =
-    exit_so sc (accumulated k e g) f r h (constant_fails sc (accumulated k e g) e (λ s v. accumulation k g sc v (s ∷ []) >>= λ w. answer (displayed k (coming k (input_of s)) w)) (λ s. refl) f w)
+    exit_so sc (accumulated k e g) f r h (constant_fails sc (accumulated k e g) e (λ s v. accumulated_formula k g sc v s []) (λ s. refl) f w)
 
 -- the same code shared keeps the same
 pub arrow_follows : (c d : Rc OpenCode Global) → d.value ≡ c.value → (q : Primitive) (scope : Scope) (L : Life) → Remembers (Arrow c) q scope L → Remembers (Arrow d) q scope L

@@ -16,11 +16,13 @@ use Rattle.sf_operator.specs.declared.fault.EvalFault.TheVariants.{Value, Memory
 use Rattle.sf_term.specs.declared.form.Bare.TheVariants.{Identity as BIdentity, LocalTime, Integral, Edge as BEdge, NotYet as BNotYet, Once as BOnce, Count as BCount, Pre}
 use Rattle.sf_term.specs.declared.form.WithValue.TheVariants.{Constant as VConstant, Initially as VInitially, InitialPre, InitializedPre, Now as VNow, InitialEdge, EdgeTag, Hold as VHold, DelayedHold as VDelayedHold}
 use Rattle.sf_term.specs.declared.form.Timing.TheVariants.{After, Repeatedly, Delay}
+use Rattle.sf_term.specs.declared.form.Accumulation.{Accumulation}
+use Rattle.sf_term.specs.declared.form.Accumulation.TheVariants.{EdgeBy, AccumBy, AccumHoldBy, Scan}
 use Rattle.sf_term.specs.declared.form.Selection.{Selection}
 use Rattle.sf_term.specs.declared.form.Selection.TheVariants.{TakeEvents, DropEvents}
 use Rattle.sf_term.specs.Trees.{Chain, Primitive, bare, never, with_value, timed, selected, arrow, accumulated, fused}
 use Rattle.sf_mean.specs.Lives.{Step, Life, time}
-use Rattle.sf_mean.specs.Formulas.{span, coming, next_value, accumulation, displayed, before, is_low, occurrences, last_payload, formula}
+use Rattle.sf_mean.specs.Formulas.{span, occurring, next_value, accumulation, event_where, before, is_low, occurrences, last_payload, formula}
 use Rattle.sf_delay.specs.Lately.{has_steps}
 use Rattle.sf_delay.specs.Waits.{Sums, RunsDown, TicksOn}
 use Rattle.sf_delay.specs.Delays.{Delays}
@@ -65,9 +67,40 @@ abbrev pub counted_after : Option Data → ℤ → Evaluated Data
 counted_after None z = answer no_event
 counted_after (Some x) z = tested (pos 1 +ℤ z) >>= λ v. answer (event v)
 
--- what an accumulation gives on a further input, by its value so far
-abbrev pub shown_after : Accumulator → Function → Scope → Data → Evaluated Data
-shown_after a f scope x = next_value f scope a.value (coming a.form x) >>= λ w. answer (displayed a.form (coming a.form x) w)
+-- what an accumulation keeps of a life for its function: the newest input, or the value so far
+abbrev pub carried : Accumulation → Function → Scope → Data → Life → Evaluated Data
+carried EdgeBy f scope v L = answer (before v L)
+carried AccumBy f scope v L = accumulation occurring f scope v L
+carried AccumHoldBy f scope v L = accumulation occurring f scope v L
+carried Scan f scope v L = accumulation Some f scope v L
+
+-- what its function takes beside that of a further input: the payload of an event that occurs, or the input
+abbrev pub coming : Accumulation → Data → Option Data
+coming EdgeBy x = Some x
+coming AccumBy x = occurring x
+coming AccumHoldBy x = occurring x
+coming Scan x = Some x
+
+-- what it gives of what its function made: at an event an event of it, or that itself
+abbrev pub displayed : Accumulation → Option Data → Data → Data
+displayed EdgeBy o u = u
+displayed AccumBy o u = event_where o u
+displayed AccumHoldBy o u = u
+displayed Scan o u = u
+
+-- what it keeps then: the input, or what its function made
+abbrev pub retained : Accumulation → Data → Data → Data
+retained EdgeBy x u = x
+retained AccumBy x u = u
+retained AccumHoldBy x u = u
+retained Scan x u = u
+
+-- both on a further input, by what it has kept
+abbrev pub shown_after : Accumulation → Function → Scope → Data → Data → Evaluated Data
+shown_after k f scope w x = next_value f scope w (coming k x) >>= λ u. answer (displayed k (coming k x) u)
+
+abbrev pub carried_after : Accumulation → Function → Scope → Data → Data → Evaluated Data
+carried_after k f scope w x = next_value f scope w (coming k x) >>= λ u. answer (retained k x u)
 
 -- A state keeps what its primitive needs of a life.
 pub data Remembers : PrimState → Primitive → Scope → Life → Type 0 where
@@ -87,7 +120,7 @@ pub data Remembers : PrimState → Primitive → Scope → Life → Type 0 where
   keeps_chain : {c : Rc (Vec Link Global) Global} {f : Chain} {scope : Scope} {L : Life}
       → AreLinksOf scope f c.value.items → Remembers (Fused c) (fused f) scope L
   keeps_accumulation : {a : Box Accumulator Global} {e : Expression} {f : Function} {v : Data} {scope : Scope} {L : Life}
-      → eval e scope ≡ answer v → IsClosureOf scope f a.value.closure → accumulation a.value.form f scope v L ≡ answer a.value.value
+      → eval e scope ≡ answer v → IsClosureOf scope f a.value.closure → carried a.value.form f scope v L ≡ answer a.value.value
       → Remembers (Accumulated a) (accumulated a.value.form e f) scope L
   keeps_time : {t : Option ℤ} {scope : Scope} {L : Life} → t ≡ last_time L → Remembers (Clock t) (bare LocalTime) scope L
   keeps_area : {r : Sum} {scope : Scope} {L : Life}

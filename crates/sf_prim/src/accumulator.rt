@@ -3,10 +3,11 @@ ghost use Rattle.std.specs.Prelude.{◌≡◌, Option, is_some, IfOk, OnOk};
 ghost use Rattle.sf_value.specs.Values.{Data};
 ghost use Rattle.sf_operator.specs.Answers.{Evaluates};
 ghost use Rattle.sf_expr.specs.Expressions.{Function};
-ghost use Rattle.sf_expr.specs.Evaluation.{Scope, functions_in};
+ghost use Rattle.sf_expr.specs.Evaluation.{Scope, functions_in, answer};
 ghost use Rattle.sf_code.specs.Worth.{IsClosureOf};
-ghost use Rattle.sf_mean.specs.Formulas.{coming as what_comes, next_value, displayed as what_is_shown};
+ghost use Rattle.sf_mean.specs.Formulas.{next_value};
 ghost use Rattle.sf_delay.specs.Gifts.{gift};
+ghost use Rattle.sf_prim.specs.Keeping.{coming as what_comes, displayed as what_is_shown, retained as what_is_kept, shown_after, carried_after};
 
 use crate::events::occurs;
 use sf_code::{Closure, apply};
@@ -15,15 +16,16 @@ use sf_operator::EvalFault;
 use sf_term::Accumulation;
 use sf_value::Value;
 use std::alloc::{AllocError, Global};
+use std::mem;
 
 /// An accumulation that has lived through some samples.
 #[derive(Drop)]
 pub struct Accumulator {
-    /// What it goes on with, and what it gives.
+    /// What its function takes, what it gives, and what it keeps.
     pub form: Accumulation,
     /// Its function, whose code it shares with its plan.
     pub closure: Closure,
-    /// The value so far.
+    /// What it keeps for its function: the value so far, or the input before.
     pub value: Value,
 }
 
@@ -44,7 +46,7 @@ impl Accumulator {
     }
 }
 
-/// What an accumulation goes on with: the payload of an event that occurs, or each input.
+/// What the function of an accumulation takes of an input: the payload of an event that occurs, or the input.
 fn coming(alloc: Global, form: Accumulation, value: &Value) -> Result<Option<Value>, AllocError>
     ensures { IfOk result (λ o. o ≡ what_comes form value.now) }
 {
@@ -53,18 +55,57 @@ fn coming(alloc: Global, form: Accumulation, value: &Value) -> Result<Option<Val
             Some(payload) => Ok(Some(payload.clone_in(alloc)?)),
             None => Ok(None),
         },
-        Accumulation::Scan => Ok(Some(value.clone_in(alloc)?)),
+        Accumulation::EdgeBy | Accumulation::Scan => Ok(Some(value.clone_in(alloc)?)),
     }
 }
 
-/// What an accumulation gives of its value, by whether something came.
-fn shown(alloc: Global, form: Accumulation, comes: bool, value: &Value) -> Result<Value, AllocError>
-    ensures { (o : Option Data) → is_some o ≡ comes → IfOk result (λ v. v ≡ what_is_shown form o value.now) }
+/// What the function of an accumulation makes of what it has kept and of what comes; the same where nothing comes.
+fn make<R: Holds>(
+    alloc: Global,
+    accumulator: &Accumulator,
+    functions: &R,
+    came: Option<Value>,
+) -> Result<Value, EvalFault>
+    ensures { (s : Scope) → functions_in s ≡ R.answers functions.now → (f : Function) → IsClosureOf s f accumulator.now.closure →
+        Evaluates result (next_value f s accumulator.now.value came) }
+{
+    let kept = accumulator.value.clone_in(alloc)?;
+    match came {
+        Some(argument) => {
+            let both = Value::pair(alloc, kept, argument)?;
+            let closure = &accumulator.closure;
+            apply(
+                alloc,
+                &closure.function.code,
+                &closure.around,
+                &both,
+                functions,
+            )
+        }
+        None => Ok(kept),
+    }
+}
+
+/// What an accumulation gives of what its function made, by whether something came.
+fn shown(alloc: Global, form: Accumulation, comes: bool, made: &Value) -> Result<Value, AllocError>
+    ensures { (o : Option Data) → is_some o ≡ comes → IfOk result (λ v. v ≡ what_is_shown form o made.now) }
 {
     match form {
-        Accumulation::AccumBy if comes => Value::event(alloc, value.clone_in(alloc)?),
+        Accumulation::AccumBy if comes => Value::event(alloc, made.clone_in(alloc)?),
         Accumulation::AccumBy => Ok(Value::no_event()),
-        Accumulation::AccumHoldBy | Accumulation::Scan => value.clone_in(alloc),
+        Accumulation::EdgeBy | Accumulation::AccumHoldBy | Accumulation::Scan => {
+            made.clone_in(alloc)
+        }
+    }
+}
+
+/// What an accumulation keeps for the next input: this one, or what its function made.
+fn retain(form: Accumulation, input: Value, made: Value) -> Value
+    ensures { result ≡ what_is_kept form input made }
+{
+    match form {
+        Accumulation::EdgeBy => input,
+        Accumulation::AccumBy | Accumulation::AccumHoldBy | Accumulation::Scan => made,
     }
 }
 
@@ -77,28 +118,18 @@ pub(crate) fn accumulate<R: Holds>(
     functions: &R,
     value: &mut Value,
 ) -> Result<(), EvalFault>
-    ensures goes_on { (s : Scope) → functions_in s ≡ R.answers functions.now → (f : Function) → IsClosureOf s f accumulator.old.closure →
-        Evaluates (gift result accumulator.new.value) (next_value f s accumulator.old.value (what_comes accumulator.old.form value.old)) }
-    ensures shows { OnOk result (value.new ≡ what_is_shown accumulator.old.form (what_comes accumulator.old.form value.old) accumulator.new.value) }
+    ensures shows { (s : Scope) → functions_in s ≡ R.answers functions.now → (f : Function) → IsClosureOf s f accumulator.old.closure →
+        Evaluates (gift result value.new) (shown_after accumulator.old.form f s accumulator.old.value value.old) }
+    ensures carries { (s : Scope) → functions_in s ≡ R.answers functions.now → (f : Function) → IsClosureOf s f accumulator.old.closure →
+        OnOk result (carried_after accumulator.old.form f s accumulator.old.value value.old ≡ answer accumulator.new.value) }
     ensures same { OnOk result ((accumulator.new.form ≡ accumulator.old.form) × (accumulator.new.closure ≡ accumulator.old.closure)) }
 {
     let form = accumulator.form;
     let came = coming(alloc, form, value)?;
     let comes = came.is_some();
-    if let Some(argument) = came {
-        let before = accumulator.value.clone_in(alloc)?;
-        let both = Value::pair(alloc, before, argument)?;
-        let closure = &accumulator.closure;
-        let next = apply(
-            alloc,
-            &closure.function.code,
-            &closure.around,
-            &both,
-            functions,
-        )?;
-        accumulator.value = next;
-    }
-    let shown = shown(alloc, form, comes, &accumulator.value)?;
-    *value = shown;
+    let made = make(alloc, accumulator, functions, came)?;
+    let shown = shown(alloc, form, comes, &made)?;
+    let input = mem::replace(value, shown);
+    accumulator.value = retain(form, input, made);
     Ok(())
 }

@@ -5,7 +5,7 @@ ghost use Rattle.sf_value.specs.Values.{event, no_event};
 ghost use Rattle.sf_operator.specs.Outcomes.{answer, tested};
 ghost use Rattle.sf_operator.specs.Operations.{payload_or};
 ghost use Rattle.sf_operator.specs.Answers.{Computes, Evaluates};
-ghost use Rattle.sf_mean.specs.Formulas.{span, is_high, is_low, event_if, occurring};
+ghost use Rattle.sf_mean.specs.Formulas.{is_high, is_low, event_if, occurring};
 ghost use Rattle.sf_delay.specs.Gifts.{gift};
 ghost use Rattle.sf_prim.specs.Keeping.{counted_after, count_after, passed_on, left_after};
 
@@ -112,13 +112,6 @@ pub(crate) fn count_event(
         *value = Value::no_event();
     }
     Ok(())
-}
-
-/// How many events a number says: none where it is below 0.
-pub(crate) fn events_in(number: i64) -> u64
-    ensures { result ≡ span number }
-{
-    if number < 0 { 0 } else { number.unsigned_abs() }
 }
 
 /// The input stays, or there is no event in its place, by whether events of a number are left: of the first ones, which

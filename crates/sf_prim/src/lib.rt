@@ -9,4 +9,4 @@ mod time;
 
 pub use accumulator::Accumulator;
 pub use chain::Link;
-pub use prim_state::{PrimState, constant};
+pub use prim_state::PrimState;

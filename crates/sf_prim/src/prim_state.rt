@@ -2,9 +2,9 @@
 ghost use Rattle.std.specs.Prelude.{◌≡◌, [], OnOk, IfOk, IfErr};
 ghost use Rattle.sf_func.specs.Registries.{AnswersByName};
 ghost use Rattle.sf_expr.specs.Expressions.{Expression, Function};
-ghost use Rattle.sf_expr.specs.Evaluation.{Scope, functions_in, eval, apply as applied};
+ghost use Rattle.sf_expr.specs.Evaluation.{Scope, functions_in, apply as applied};
 ghost use Rattle.sf_code.specs.Names.{scope_with};
-ghost use Rattle.sf_code.specs.Worth.{IsCodeOf, IsCodeOfFunction, IsCodeOfFunctionIn};
+ghost use Rattle.sf_code.specs.Worth.{IsCodeOfFunction, IsCodeOfFunctionIn};
 ghost use Rattle.sf_operator.specs.Answers.{Evaluates};
 ghost use Rattle.sf_operator.specs.declared.fault.EvalFault.TheVariants.{Memory};
 ghost use Rattle.sf_delay.specs.Gifts.{gift};
@@ -12,12 +12,11 @@ ghost use Rattle.sf_delay.specs.Gifts.{gift};
 use crate::accumulator::{Accumulator, accumulate};
 use crate::chain::{Link, apply_closure, links_of, run_links};
 use crate::events::{
-    announce, count_event, events_in, hold, hold_before, is_low, pass_later, rise, rise_with,
-    select,
+    announce, count_event, hold, hold_before, is_low, pass_later, rise, rise_with, select,
 };
 use crate::time::tell_time;
-use sf_code::{Closure, Names, OpenCode, apply_in_place, evaluate};
-use sf_delay::{Line, Sum, Ticker, Timer};
+use sf_code::{Closure, Names, OpenCode, apply_in_place, evaluate_among};
+use sf_delay::{Line, Sum, Ticker, Timer, span_of};
 use sf_func::Holds;
 use sf_law::PlanPrimitive;
 use sf_operator::EvalFault;
@@ -132,24 +131,21 @@ impl PrimState {
             PlanPrimitive::Bare(form) => Ok(PrimState::bare(*form)),
             PlanPrimitive::Never(_) => Ok(PrimState::Never),
             PlanPrimitive::WithValue(form, _, code) => {
-                let value = constant(alloc, code, functions, names)?;
+                let value = evaluate_among(alloc, code, names, functions)?;
                 Ok(PrimState::with_value(*form, value))
             }
             PlanPrimitive::Timed(form, time, _, code) => {
-                let value = constant(alloc, code, functions, names)?;
+                let value = evaluate_among(alloc, code, names, functions)?;
                 Ok(PrimState::timed(alloc, *form, *time, value)?)
             }
-            PlanPrimitive::Selected(form, count) => Ok(PrimState::Selected(
-                *form,
-                events_in(*count),
-            )),
+            PlanPrimitive::Selected(form, count) => Ok(PrimState::Selected(*form, span_of(*count))),
             PlanPrimitive::Arrow(_, code) => Ok(PrimState::arrow(alloc, code, names)?),
             PlanPrimitive::Fused(chain) => {
                 let links = links_of(alloc, chain, names)?;
                 Ok(PrimState::Fused(Rc::new(alloc, links)?))
             }
             PlanPrimitive::Accumulated(form, _, start, _, code) => {
-                let value = constant(alloc, start, functions, names)?;
+                let value = evaluate_among(alloc, start, names, functions)?;
                 let closure = Closure::new(alloc, code, names)?;
                 let accumulator = Accumulator {
                     form: *form,
@@ -221,8 +217,9 @@ impl PrimState {
                 Ok(PrimState::Timed(timer))
             }
             Timing::Repeatedly => {
-                let ticker = Box::new(alloc, Ticker::born(time, value))?;
-                Ok(PrimState::Ticked(ticker))
+                let ticker = Ticker::born(alloc, time, value)?;
+                let ticking = Box::new(alloc, ticker)?;
+                Ok(PrimState::Ticked(ticking))
             }
             Timing::Delay => {
                 let line = Box::new(alloc, Line::born(alloc, time, value))?;
@@ -370,18 +367,4 @@ fn replace<R: Holds>(
         Evaluates (gift result value.new) (applied f value.old s) }
 {
     apply_in_place(alloc, &code.code, &None, functions, value)
-}
-
-/// The value of a constant with these names around it. The error is the first fault of its operations, or `Memory`.
-pub fn constant<R: Holds, N: Names>(
-    alloc: Global,
-    code: &OpenCode,
-    functions: &R,
-    names: &N,
-) -> Result<Value, EvalFault>
-    ensures { (e : Expression) → IsCodeOf e code.now →
-        Evaluates result (eval e (scope_with (N.values names.now) (R.answers functions.now))) }
-{
-    let around = code.frame(alloc, names)?;
-    evaluate(alloc, &code.code, &around, functions)
 }

@@ -94,6 +94,7 @@ pub(crate) fn accumulation_word(accumulation: Accumulation) -> Keyword
     ensures { result ≡ accumulation_word accumulation }
 {
     match accumulation {
+        Accumulation::EdgeBy => Keyword::EdgeBy,
         Accumulation::AccumBy => Keyword::AccumBy,
         Accumulation::AccumHoldBy => Keyword::AccumHoldBy,
         Accumulation::Scan => Keyword::Sscan,

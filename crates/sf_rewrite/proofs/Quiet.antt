@@ -19,12 +19,13 @@ use Rattle.sf_operator.specs.Operations.{truth_in, halves_in, payload_in, rows_i
 use Rattle.sf_expr.specs.Evaluation.{Evaluated, answer, ◌>>=◌, known, Scope, bound_in, unless_decided, eval, apply}
 use Rattle.sf_term.specs.declared.form.Bare.TheVariants.{Identity, LocalTime, Integral, Edge, NotYet, Once, Count, Pre}
 use Rattle.sf_term.specs.declared.form.Accumulation.{Accumulation}
+use Rattle.sf_term.specs.declared.form.Accumulation.TheVariants.{EdgeBy, AccumBy, AccumHoldBy, Scan}
 use Rattle.sf_term.specs.declared.form.Join.{Join}
 use Rattle.sf_term.specs.declared.form.Join.TheVariants.{InSequence, InParallel, FannedOut}
 use Rattle.sf_term.specs.declared.form.Heading.TheVariants.{LoopPre, Initialized, Replaced}
 use Rattle.sf_term.specs.Trees.{Chain, lone, chained as chained_functions, on_side, on_both, fanned, Primitive, bare, probe, never, with_value, timed, selected, arrow, accumulated, fused, Extent, Term, primitive, reference, joined, sided, headed, switching, keeping, staged}
 use Rattle.sf_mean.specs.Lives.{Step, step, wait_of, input_of, Life, Environment, scope_around, with_inputs, relay, fed}
-use Rattle.sf_mean.specs.Formulas.{at_first, with_first, timed_formula, coming, next_value, accumulation, displayed, side_of, with_side, apply_chain, value_formula, formula}
+use Rattle.sf_mean.specs.Formulas.{at_first, with_first, timed_formula, before, occurring, next_value, accumulation, event_where, accumulated_formula, side_of, with_side, apply_chain, value_formula, formula}
 use Rattle.sf_mean.specs.Meaning.{Readings, Outcome, gave, as_outcome, recorded, Cost, one_term, text_cost}
 use Rattle.sf_rewrite.specs.Quiet.{is_quiet_unary, is_quiet_operator, is_quiet_expression, is_quiet_function, is_quiet_chain, is_quiet_primitive, is_quiet}
 use Rattle.sf_rewrite.proofs.Parts.{Leaves, Part, part, Parts, begins, then_gave, At, at_primitive, at_join, at_stages, at_side, at_loop, at_initialized, at_replaced, then_part, Rounds, no_round, one_round, no_truth, OneLeaf, once_at}
@@ -168,9 +169,15 @@ quiet_next : (f : Function) → IsTrue (is_quiet_function f) → (sc : Scope) (w
 quiet_next f h sc w None = (w, refl)
 quiet_next f h sc w (Some x) = quiet_apply f h (pair w x) sc
 
-quiet_accumulation : (k : Accumulation) (f : Function) → IsTrue (is_quiet_function f) → (sc : Scope) (v : Data) (L : Life) → Answers (accumulation k f sc v L)
-quiet_accumulation k f h sc v [] = (v, refl)
-quiet_accumulation k f h sc v (s ∷ L) = next (accumulation k f sc v L) (λ w. next_value f sc w (coming k (input_of s))) (quiet_accumulation k f h sc v L) (λ w. quiet_next f h sc w (coming k (input_of s)))
+quiet_accumulation : (coming : Data → Option Data) (f : Function) → IsTrue (is_quiet_function f) → (sc : Scope) (v : Data) (L : Life) → Answers (accumulation coming f sc v L)
+quiet_accumulation coming f h sc v [] = (v, refl)
+quiet_accumulation coming f h sc v (s ∷ L) = next (accumulation coming f sc v L) (λ w. next_value f sc w (coming (input_of s))) (quiet_accumulation coming f h sc v L) (λ w. quiet_next f h sc w (coming (input_of s)))
+
+quiet_accumulated : (k : Accumulation) (f : Function) → IsTrue (is_quiet_function f) → (sc : Scope) (v : Data) (s : Step) (L : Life) → Answers (accumulated_formula k f sc v s L)
+quiet_accumulated EdgeBy f h sc v s L = quiet_apply f h (pair (before v L) (input_of s)) sc
+quiet_accumulated AccumBy f h sc v s L = next (accumulation occurring f sc v (s ∷ L)) (λ w. answer (event_where (occurring (input_of s)) w)) (quiet_accumulation occurring f h sc v (s ∷ L)) (λ w. (_, refl))
+quiet_accumulated AccumHoldBy f h sc v s L = quiet_accumulation occurring f h sc v (s ∷ L)
+quiet_accumulated Scan f h sc v s L = quiet_accumulation Some f h sc v (s ∷ L)
 
 quiet_formula : (p : Primitive) → IsTrue (is_quiet_primitive p) → (sc : Scope) (s : Step) (L : Life) → Answers (formula p sc s L)
 quiet_formula (bare Identity) h sc s L = (_, refl)
@@ -189,8 +196,7 @@ quiet_formula (timed k q i) h sc s L = next (eval i sc) (λ v. answer (timed_for
 quiet_formula (selected k n) h sc s L = (_, refl)
 quiet_formula (accumulated k i f) h sc s L =
     let both = both_true (is_quiet_expression i) (is_quiet_function f) h in
-    next (eval i sc) (λ v. accumulation k f sc v (s ∷ L) >>= λ w. answer (displayed k (coming k (input_of s)) w)) (quiet_eval i both.0 sc) (λ v.
-    next (accumulation k f sc v (s ∷ L)) (λ w. answer (displayed k (coming k (input_of s)) w)) (quiet_accumulation k f both.1 sc v (s ∷ L)) (λ w. (_, refl)))
+    next (eval i sc) (λ v. accumulated_formula k f sc v s L) (quiet_eval i both.0 sc) (λ v. quiet_accumulated k f both.1 sc v s L)
 quiet_formula (fused f) h sc s L = quiet_chain f h (input_of s) sc
 
 -- a quiet primitive has no readings

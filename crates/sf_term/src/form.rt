@@ -45,9 +45,11 @@ pub enum WithValue {
     DelayedHold,
 }
 
-/// A primitive with a value and a function, which makes the next value of the one so far and of what comes.
+/// A primitive with a value and a function of pairs: of the value so far and of what comes, or of the last two inputs.
 #[derive(Clone, Copy, Debug, PartialEq, Eq)]
 pub enum Accumulation {
+    /// `edgeBy(e, f)`: the event that the function makes of the input before, or `e`, and the input.
+    EdgeBy,
     /// `accumBy(e, f)`: at an event, an event of the next value, made of its payload.
     AccumBy,
     /// `accumHoldBy(e, f)`: the last value made of a payload, or `e`.

@@ -9,6 +9,8 @@ mod accepting;
 #[cfg(test)]
 mod calling;
 #[cfg(test)]
+mod evaluating;
+#[cfg(test)]
 mod library;
 #[cfg(test)]
 mod metering;

@@ -1,8 +1,6 @@
-use Rattle.sf_expr.proofs.Apart.{note_stood, note_new}
+use Rattle.std.proofs.Common.{◌∙◌, ap, not}
+use Rattle.sf_expr.proofs.Apart.{seen_among}
 use Rattle.sf_expr.proofs.frame.note.Goals as goal
 
-pub returns-clause-stood : goal.returns-clause-stood
-returns-clause-stood c = note_stood c.args.seen.now.keys c.args.name.now c.in_ok-insert.field-0 c.in_ok-insert.ensures.added
-
 pub returns-clause-new : goal.returns-clause-new
-returns-clause-new c = note_new c.args.seen.now.keys c.args.name.now c.in_ok-insert.field-0 c.in_ok-insert.ensures.added
+returns-clause-new c = c.in_ok-insert.ensures.added ∙ ap not (seen_among c.args.seen.now.keys c.args.name.now)

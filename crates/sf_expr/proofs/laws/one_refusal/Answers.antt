@@ -1,4 +1,4 @@
-use Rattle.sf_expr.proofs.Once.{refused_once, function_refused_once}
+use Rattle.sf_expr.proofs.Judged.{refused_once, function_refused_once}
 use Rattle.sf_expr.proofs.laws.one_refusal.Goals as goal
 
 pub returns-clause-expressions : goal.returns-clause-expressions

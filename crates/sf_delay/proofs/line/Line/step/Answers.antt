@@ -10,7 +10,7 @@ returns-clause-told c = λ q v L k.
       | then-self w ↦ w.after-is ∙ sym (ap (λ b. cond b c.args.dt c.args.self.now.delay) w.if-self.true)
       | else-self w ↦ w.after-is ∙ sym (ap (λ b. cond b c.args.dt c.args.self.now.delay) w.if-self.false)
     ] in
-    ap answer (held_is q v c.args.dt c.args.value.now L c.args.self.now _ c.pass.new.self _ c.in_ok-push_back.ensures.items refl refl refl refl c.replace-input.ensures.value after (rw c.waited-waited.ensures at c.pass.ensures.passes) c.pass.ensures.to_come k ∙ sym c.in_ok-value.ensures)
+    ap answer (held_is q v c.args.dt c.args.value.now L c.args.self.now _ c.pass.new.self _ c.in_ok-push_back.ensures.items refl refl refl refl refl c.replace-input.ensures.value after (rw c.waited-waited.ensures at c.in_ok-pass.ensures.passes) c.in_ok-pass.ensures.to_come k ∙ sym c.in_ok-value.ensures)
 
 pub returns-clause-kept : goal.returns-clause-kept
 returns-clause-kept c = λ q v L k.
@@ -18,4 +18,4 @@ returns-clause-kept c = λ q v L k.
       | then-self w ↦ w.after-is ∙ sym (ap (λ b. cond b c.args.dt c.args.self.now.delay) w.if-self.true)
       | else-self w ↦ w.after-is ∙ sym (ap (λ b. cond b c.args.dt c.args.self.now.delay) w.if-self.false)
     ] in
-    delays_on q v c.args.dt c.args.value.now L c.args.self.now _ c.pass.new.self _ c.in_ok-push_back.ensures.items refl refl refl refl c.replace-input.ensures.value after (rw c.waited-waited.ensures at c.pass.ensures.passes) c.pass.ensures.to_come k
+    delays_on q v c.args.dt c.args.value.now L c.args.self.now _ c.pass.new.self _ c.in_ok-push_back.ensures.items refl refl refl refl refl c.replace-input.ensures.value after (rw c.waited-waited.ensures at c.in_ok-pass.ensures.passes) c.in_ok-pass.ensures.to_come k

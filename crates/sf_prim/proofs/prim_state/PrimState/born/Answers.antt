@@ -28,7 +28,7 @@ pub returns-in_err-timed-in-Timed : goal.returns-in_err-timed-in-Timed
 returns-in_err-timed-in-Timed g c = λ x h. memory_exit _ _ _ c.from_residual-in_err-timed-in-Timed.ensures.1
 
 pub returns-in-Selected : goal.returns-in-Selected
-returns-in-Selected g c = λ x h. rw c.in-Selected.is (begins (selected_keeps _ _ _ _ _ c.events_in.ensures (to_z-of_z w64 c.in-Selected.count search)))
+returns-in-Selected g c = λ x h. rw c.in-Selected.is (begins (selected_keeps _ _ _ _ _ c.span_of.ensures (to_z-of_z w64 c.in-Selected.count search)))
 
 pub returns-in_ok-arrow-in-Arrow : goal.returns-in_ok-arrow-in-Arrow
 returns-in_ok-arrow-in-Arrow g c = λ x h. rw c.in-Arrow.is (begins (c.in_ok-arrow-in-Arrow.ensures.kept (g.R.Holds.answers c.args.functions.now) _ (rw c.in-Arrow.is at h)))

@@ -72,7 +72,7 @@ returns-in-NotYet g c = λ q scope L same k. not_yet_goes_on q scope _ _ L _ _ _
 pub returns-in-Accumulated : goal.returns-in-Accumulated
 returns-in-Accumulated g c =
     let at_first = c.deref_mut.ensures.value in
-    rw c.in-Accumulated.is (accumulated_goes_on (g.R.Holds.answers c.args.functions.now) _ _ c.in-Accumulated.accumulator _ _ _ (rw at_first at c.accumulate.ensures.goes_on) (rw at_first at c.accumulate.ensures.shows) (rw at_first at c.accumulate.ensures.same))
+    rw c.in-Accumulated.is (accumulated_goes_on (g.R.Holds.answers c.args.functions.now) _ _ c.in-Accumulated.accumulator _ _ _ (rw at_first at c.accumulate.ensures.shows) (rw at_first at c.accumulate.ensures.carries) (rw at_first at c.accumulate.ensures.same))
 
 pub returns-in-Fused : goal.returns-in-Fused
 returns-in-Fused g c = rw c.in-Fused.is (fused_goes_on (g.R.Holds.answers c.args.functions.now) c.in-Fused.links _ c.args.value.now c.run_links.new.value c.run_links.result (rw (c.deref-in-Fused-2.ensures.value, c.deref-in-Fused.ensures) at c.run_links.ensures))

@@ -11,10 +11,10 @@ returns-in_ok-timer-in-After c = λ s e h.
     let is = c.in_ok-timer-in-After.ensures.ok in
     rw (c.in-After.is, is) (keeps_timer h (subst (λ (z : ℤ). RunsDown c.born.result z c.args.value []) (to_z-of_z w64 c.args.time c.ranges.time) c.born.ensures))
 
-pub returns-in_ok-ticker-in-Repeatedly : goal.returns-in_ok-ticker-in-Repeatedly
-returns-in_ok-ticker-in-Repeatedly c = λ s e h.
-    let is = c.in_ok-ticker-in-Repeatedly.ensures.ok in
-    rw (c.in-Repeatedly.is, is) (keeps_ticker h (subst (λ (z : ℤ). TicksOn c.born-in-Repeatedly.result z c.args.value []) (to_z-of_z w64 c.args.time c.ranges.time) c.born-in-Repeatedly.ensures))
+pub returns-in_ok-ticking-in-Repeatedly : goal.returns-in_ok-ticking-in-Repeatedly
+returns-in_ok-ticking-in-Repeatedly c = λ s e h.
+    let is = c.in_ok-ticking-in-Repeatedly.ensures.ok in
+    rw (c.in-Repeatedly.is, is) (keeps_ticker h (subst (λ (z : ℤ). TicksOn c.in_ok-ticker-in-Repeatedly.ticker z c.args.value []) (to_z-of_z w64 c.args.time c.ranges.time) c.in_ok-ticker-in-Repeatedly.ensures))
 
 pub returns-in_ok-line-in-Delay : goal.returns-in_ok-line-in-Delay
 returns-in_ok-line-in-Delay c = λ s e h.
